@@ -1,0 +1,4 @@
+pub mod Numbers
+pub mod Instructions
+pub mod Bundles
+pub mod Walks

@@ -1,0 +1,47 @@
+use Rattle.std.proofs.Common.{◌≡◌, ℕ, Bool, [], ◌∷◌, refl}
+use Rattle.patmos_instr.specs.declared.specials.WritableSpecial.TheVariants as special
+use Rattle.patmos_sem.specs.declared.writes.Write.{Write}
+use Rattle.patmos_sem.specs.declared.writes.Write.TheVariants as write
+use Rattle.patmos_sem.specs.declared.registers.Regs.TheInside.{Inside}
+use Rattle.patmos_sem.specs.contracts.registers.Regs.{the_view, the_invariant}
+use Rattle.patmos_sem.specs.Writes.{register_by, pred_by, low_by, high_by, base_by, offset_by, after_writes}
+use Rattle.patmos_sem.proofs.Told.{parts_after, kept_registers, kept_preds}
+use Rattle.patmos_sem.proofs.registers.Regs.write.Goals as goal
+
+-- a write that names no general register and no predicate
+quiet : (w : Write) (r : Inside) → the_invariant r → ((n old : ℕ) → register_by n w old ≡ old) → ((n : ℕ) (old : Bool) → pred_by n w old ≡ old)
+    → record (the_view r) { sl = low_by w r.sl; sh = high_by w r.sh; srb = base_by w r.srb; sro = offset_by w r.sro } ≡ after_writes (w ∷ []) (the_view r)
+quiet w r fits g p = parts_after w (the_view r) r.general r.preds (kept_registers w r.general fits.zero (λ n old _. g n old)) (kept_preds w r.preds fits.always (λ n old _. p n old))
+
+pub returns-in-Nothing : goal.returns-in-Nothing
+returns-in-Nothing c = rw (c.in-Nothing.is, ← c.self.view_is) (quiet write.Nothing c.self.inside c.self.invariant (λ n old. refl) (λ n old. refl))
+
+pub returns-in-Register : goal.returns-in-Register
+returns-in-Register c = rw (c.in-Register.is, ← c.self.view_is)
+    (parts_after (write.Register c.in-Register.rd c.in-Register.value) (the_view c.self.inside) c.put_register.new.general c.self.inside.preds c.put_register.ensures
+    (kept_preds (write.Register c.in-Register.rd c.in-Register.value) c.self.inside.preds c.self.invariant.always (λ n old _. refl)))
+
+pub returns-in-Predicate : goal.returns-in-Predicate
+returns-in-Predicate c = rw (c.in-Predicate.is, ← c.self.view_is)
+    (parts_after (write.Predicate c.in-Predicate.pd c.in-Predicate.value) (the_view c.self.inside) c.self.inside.general c.put_pred.new.preds
+    (kept_registers (write.Predicate c.in-Predicate.pd c.in-Predicate.value) c.self.inside.general c.self.invariant.zero (λ n old _. refl)) c.put_pred.ensures)
+
+pub returns-in-S0 : goal.returns-in-S0
+returns-in-S0 c = rw (c.in-Special.is, c.in-S0.is, ← c.self.view_is)
+    (parts_after (write.Special special.S0 c.in-Special.value) (the_view c.self.inside) c.self.inside.general c.put_preds.new.preds
+    (kept_registers (write.Special special.S0 c.in-Special.value) c.self.inside.general c.self.invariant.zero (λ n old _. refl)) c.put_preds.ensures)
+
+pub returns-in-Sl : goal.returns-in-Sl
+returns-in-Sl c = rw (c.in-Special.is, c.in-Sl.is, ← c.self.view_is) (quiet (write.Special special.Sl c.in-Special.value) c.self.inside c.self.invariant (λ n old. refl) (λ n old. refl))
+
+pub returns-in-Sh : goal.returns-in-Sh
+returns-in-Sh c = rw (c.in-Special.is, c.in-Sh.is, ← c.self.view_is) (quiet (write.Special special.Sh c.in-Special.value) c.self.inside c.self.invariant (λ n old. refl) (λ n old. refl))
+
+pub returns-in-Srb : goal.returns-in-Srb
+returns-in-Srb c = rw (c.in-Special.is, c.in-Srb.is, ← c.self.view_is) (quiet (write.Special special.Srb c.in-Special.value) c.self.inside c.self.invariant (λ n old. refl) (λ n old. refl))
+
+pub returns-in-Sro : goal.returns-in-Sro
+returns-in-Sro c = rw (c.in-Special.is, c.in-Sro.is, ← c.self.view_is) (quiet (write.Special special.Sro c.in-Special.value) c.self.inside c.self.invariant (λ n old. refl) (λ n old. refl))
+
+pub returns-in-Product : goal.returns-in-Product
+returns-in-Product c = rw (c.in-Product.is, ← c.self.view_is) (quiet (write.Product c.in-Product.low c.in-Product.high) c.self.inside c.self.invariant (λ n old. refl) (λ n old. refl))

@@ -1,0 +1,33 @@
+//! What a bundle of Patmos does to a core's registers, and what it asks for.
+//!
+//! `exec` carries out one bundle: both slots read the registers before it, an instruction whose guard is
+//! false does nothing, and where two writes name one register the second slot's stands. A product and a
+//! load's value come one bundle late: they are pending until the next bundle has read its operands, and
+//! a write of that bundle's own wins over them. `r0` stays 0 and `p0` stays true. What lies outside the
+//! registers is answered as an `Effect`: a load, a store, an operation of the stack cache or a flow.
+//! `arrive` makes a load's value pending. `pick` and `merge` take a byte or a half out of a word and put
+//! it in.
+//!
+//! The definitions in `specs/` tell the registers after a bundle one by one, from small pieces that
+//! readers above put together in other ways. No call takes memory, and a bundle is constant work.
+#![tactic(auto)]
+
+mod effects;
+mod execution;
+mod files;
+mod laws;
+mod narrow;
+mod operations;
+mod pending;
+mod registers;
+mod writes;
+
+pub use effects::{Effect, FlowKind};
+pub use execution::{arrive, exec};
+pub use laws::{told_by_register, worked_values};
+pub use narrow::{merge, pick};
+pub use pending::Pending;
+pub use registers::Regs;
+
+#[cfg(test)]
+mod tests;

@@ -1,0 +1,13 @@
+pub mod ByCycles
+pub mod ByStamps
+pub mod Courses
+pub mod Determined
+pub mod Events
+pub mod Fits
+pub mod Lists
+pub mod Merged
+pub mod Merging
+pub mod Parts
+pub mod Runs
+pub mod Standing
+pub mod Words

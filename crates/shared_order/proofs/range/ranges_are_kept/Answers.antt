@@ -1,0 +1,14 @@
+use Rattle.shared_order.proofs.Fits.{good_kept, words_kept, operations_fit, fit-then}
+use Rattle.shared_order.proofs.range.ranges_are_kept.Goals as goal
+
+pub returns-clause-good : goal.returns-clause-good
+returns-clause-good g c = λ turn n words. good_kept turn n g.X.Ranged.in_range words
+
+pub returns-clause-words : goal.returns-clause-words
+returns-clause-words g c = λ turn n words. words_kept turn n g.X.Ranged.in_range words
+
+pub returns-clause-operations : goal.returns-clause-operations
+returns-clause-operations g c = λ turn n words. operations_fit turn n g.X.Ranged.in_range words
+
+pub returns-clause-in_parts : goal.returns-clause-in_parts
+returns-clause-in_parts g c = λ words front back. fit-then g.X.Ranged.in_range g.X.Ranged.in_range words front back

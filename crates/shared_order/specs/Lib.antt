@@ -1,0 +1,13 @@
+pub mod Apart
+pub mod Course
+pub mod Event
+pub mod Fit
+pub mod Machine
+pub mod Merge
+pub mod Operation
+pub mod Order
+pub mod Program
+pub mod Stamps
+pub mod Stands
+pub mod Two
+pub mod Words

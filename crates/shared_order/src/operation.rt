@@ -1,0 +1,28 @@
+use slot_arbiter::WordOp;
+
+/// One load or store of a shared word, and where it stands in the order of all cores' operations.
+#[derive(Clone, Copy, Debug, PartialEq, Eq)]
+pub struct Operation {
+    /// The stamp of the act that makes it: its cycle, its phase and its core in one number.
+    pub stamp: u64,
+    /// The word, whether it is stored, and the value that is loaded or stored.
+    pub act: WordOp,
+}
+
+#[cfg(test)]
+mod tests {
+    use super::*;
+
+    #[test]
+    fn an_operation_is_its_stamp_and_act(rt: HostRuntime) {
+        let act = WordOp {
+            word: 5,
+            write: true,
+            value: 7,
+        };
+        let stored = Operation { stamp: 8, act };
+        let (copy, later) = (stored, Operation { stamp: 10, act });
+        assert!(rt; copy == stored);
+        assert!(rt; later != stored);
+    }
+}

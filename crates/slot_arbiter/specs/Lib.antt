@@ -1,0 +1,5 @@
+pub mod Order
+pub mod Place
+pub mod Slot
+pub mod Stamp
+pub mod Table

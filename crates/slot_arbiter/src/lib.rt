@@ -1,0 +1,23 @@
+//! The slot arbiter of the platform: which core may use main memory at which cycle.
+//!
+//! Time is cut into slots of equal length, and a slot table that repeats for ever gives each
+//! slot to one core. A core's transaction moves its data in a slot of its own, so that no core
+//! can delay another.
+//!
+//! - [`Table`] holds a slot table, and [`Place`] what one core knows of its place among the others.
+//! - [`start_of`] is the first slot start of a core at or after a cycle, and [`gap_of`] the
+//!   greatest distance from one of its slot starts to the next.
+//! - [`stamp_of`] numbers what the cores do to shared words, so that all of it has one order.
+#![tactic(auto)]
+
+mod event;
+mod place;
+mod stamp;
+mod start;
+mod table;
+
+pub use event::{Access, Event, WordOp};
+pub use place::Place;
+pub use stamp::{stamp_of, stamps_in_order};
+pub use start::{gap_of, start_of, starts_in_turn};
+pub use table::Table;

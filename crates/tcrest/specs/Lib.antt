@@ -1,0 +1,4 @@
+pub mod Command
+pub mod FirstForm
+pub mod Answer
+pub mod Outcome

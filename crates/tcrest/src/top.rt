@@ -1,0 +1,114 @@
+ghost use Rattle.std.specs.Prelude.{◌≡◌, ◌⊎◌, [], IfSome};
+ghost use Rattle.tc_io.specs.Faults.{Rose};
+ghost use Rattle.tcrest.specs.Answer.{answer, command_answer, run_answer};
+ghost use Rattle.tcrest.specs.Command as commands;
+ghost use Rattle.tcrest.specs.Outcome.{Ends, IsAnswered, IsSent, IsTold};
+
+use crate::answers::job_answer;
+use crate::command::{Command, command_of};
+use std::alloc::Global;
+use std::sync::Wait;
+use std::thread::Threads;
+use tc_io::{Gate, ReadError, Sink, Source, read_all, write_all};
+use tc_word::Text;
+
+/// How many bytes a job text has at most.
+const MOST_BYTES: usize = 1_048_576;
+
+/// The status that says that memory was refused.
+pub const MEMORY: u8 = 7;
+
+const WRITE_FAULT: u8 = 6;
+
+const READ_FAULT: u8 = 5;
+
+/// Does what the words ask for: reads the job from `source` where they are a command that reads one,
+/// writes the answer to `sink`, and returns the status.
+///
+/// | status | meaning | written |
+/// |---|---|---|
+/// | 0 | the task is done | the report |
+/// | 1 | the words are no command | the usage line |
+/// | 2 | the job is refused | `job: ` and the fault |
+/// | 4 | a task is refused | `core 0: ` and the fault |
+/// | 5 | the source failed | `read fault` |
+/// | 6 | the sink failed | a proper front of the text that would have come |
+/// | 7 | memory was refused | nothing |
+///
+/// Status 3 comes with the first machine that can stop early. The runtime and the gate are for the
+/// workers of a machine with several cores.
+pub fn tcrest<R: Threads + Wait + Sync, S: Source, K: Sink, G: Gate + Sync>(
+    alloc: Global,
+    _rt: &R,
+    words: &[Text],
+    source: &mut S,
+    sink: &mut K,
+    _gate: &G,
+) -> u8
+    // Where nothing failed, the answer is written, or memory was refused and nothing is.
+    ensures answered { (Rose (S.faults source.old) (S.faults source.new) → ⊥) → (Rose (K.faults sink.old) (K.faults sink.new) → ⊥)
+        → IfSome (S.left source.old) (λ bytes. IsAnswered (answer words.now bytes) result (K.taken sink.old) (K.taken sink.new)) }
+
+    // Words that ask for no job leave the source alone, and are answered whatever it is.
+    ensures unread { commands.ReadsNothing (commands.command_of words.now) → source.new ≡ source.old }
+    ensures answered_unread { commands.ReadsNothing (commands.command_of words.now) → (Rose (K.faults sink.old) (K.faults sink.new) → ⊥)
+        → IsAnswered (answer words.now []) result (K.taken sink.old) (K.taken sink.new) }
+
+    // What was written, whatever failed.
+    ensures told { IfSome (S.left source.old) (λ bytes. IsTold (answer words.now bytes)
+        (Rose (S.faults source.old) (S.faults source.new)) result (K.taken sink.old) (K.taken sink.new)) }
+
+    // What each fault of the outside rests on.
+    ensures read_fault { result ≡ 5 → Rose (S.faults source.old) (S.faults source.new) }
+    ensures write_fault { result ≡ 6 → Rose (K.faults sink.old) (K.faults sink.new) }
+{
+    perform(alloc, command_of(words), source, sink)
+}
+
+fn perform<S: Source, K: Sink>(alloc: Global, command: Command, source: &mut S, sink: &mut K) -> u8
+    ensures ends { IfSome (S.left source.old) (λ bytes. Ends (command_answer command bytes)
+        (Rose (S.faults source.old) (S.faults source.new)) result
+        (K.faults sink.old) (K.faults sink.new) (K.taken sink.old) (K.taken sink.new)) }
+    ensures unread { commands.ReadsNothing command → source.new ≡ source.old }
+    ensures ends_unread { commands.ReadsNothing command → Ends (command_answer command []) ⊥ result
+        (K.faults sink.old) (K.faults sink.new) (K.taken sink.old) (K.taken sink.new) }
+    ensures read_fault { result ≡ 5 → Rose (S.faults source.old) (S.faults source.new) }
+    ensures write_fault { result ≡ 6 → Rose (K.faults sink.old) (K.faults sink.new) }
+{
+    match command {
+        Command::Run => run(alloc, source, sink),
+        Command::Usage => finish(sink, 1, b"usage: tcrest run|bound|asm|mean|gen N|bench N\n"),
+    }
+}
+
+/// Answers `run`: all bytes are read, and a text that is not too long is answered as a job.
+fn run<S: Source, K: Sink>(alloc: Global, source: &mut S, sink: &mut K) -> u8
+    ensures ends { IfSome (S.left source.old) (λ bytes. Ends (run_answer bytes)
+        (Rose (S.faults source.old) (S.faults source.new)) result
+        (K.faults sink.old) (K.faults sink.new) (K.taken sink.old) (K.taken sink.new)) }
+    ensures read_fault { result ≡ 5 → Rose (S.faults source.old) (S.faults source.new) }
+    ensures write_fault { result ≡ 6 → Rose (K.faults sink.old) (K.faults sink.new) }
+{
+    let bytes = match read_all(alloc, source, MOST_BYTES) {
+        Ok(bytes) => bytes,
+        Err(ReadError::ReadFault) => return finish(sink, READ_FAULT, b"read fault\n"),
+        Err(ReadError::TooLong) => return finish(sink, 2, b"job: TooLong\n"),
+        Err(ReadError::Memory) => return MEMORY,
+    };
+    match job_answer(alloc, bytes.as_slice()) {
+        Ok(answer) => finish(sink, answer.status, answer.text.as_slice()),
+        Err(_) => MEMORY,
+    }
+}
+
+/// Sends the text and answers its status, unless the sink fails.
+fn finish<K: Sink>(sink: &mut K, status: u8, text: &[u8]) -> u8
+    ensures sent { IsSent (record { status = status; text = text.now }) result
+        (K.faults sink.old) (K.faults sink.new) (K.taken sink.old) (K.taken sink.new) }
+    ensures status { (result ≡ status) ⊎ (result ≡ 6) }
+{
+    match write_all(sink, text) {
+        Ok(()) => status,
+        Err(_) => WRITE_FAULT,
+    }
+}
