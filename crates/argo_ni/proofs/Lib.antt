@@ -1,0 +1,5 @@
+pub mod Acts
+pub mod Course
+pub mod Kept
+pub mod Queue
+pub mod Windows

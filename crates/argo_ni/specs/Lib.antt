@@ -1,0 +1,11 @@
+pub mod Event
+pub mod Interface
+pub mod Line
+pub mod Packet
+pub mod Port
+pub mod Seen
+pub mod Sender
+pub mod Sound
+pub mod Start
+pub mod Turn
+pub mod Window

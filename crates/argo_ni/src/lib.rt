@@ -1,0 +1,31 @@
+//! The network interface of a core: transfers between the communication memories of the cores, over
+//! Argo, the time-division network of T-CREST (Schoeberl et al., 2015), by our own profile TP1.
+//!
+//! A core sets the source and the target word of a transfer and starts it. From then on its
+//! interface sends the words in packets of one or two, one packet in each window of the target, and
+//! each packet comes to its words nine cycles after it was sent. The windows are a fixed schedule:
+//! one begins every third cycle, and they go round the other cores. So no core can delay another.
+//!
+//! - [`Ni`] is the interface of one core: its registers, what it still has to send, and the packets
+//!   under way. [`Ni::next_after`] finds the next injection or delivery by arithmetic, and says that
+//!   nothing lies between.
+//! - [`interface_worked`] shows the definitions at work, and [`windows_by_cycles`] states the
+//!   schedule.
+#![tactic(auto)]
+
+mod event;
+mod ni;
+mod packet;
+mod port;
+mod run;
+mod under_way;
+mod window;
+mod worked;
+
+pub use event::{NiEvent, NiKind, Started};
+pub use ni::Ni;
+pub use packet::{Packet, Payload};
+pub use port::{Channel, Port};
+pub use run::interface_goes_on;
+pub use window::windows_by_cycles;
+pub use worked::interface_worked;

@@ -1,0 +1,4 @@
+pub mod Memory
+pub mod Moves
+pub mod Words
+pub mod Return

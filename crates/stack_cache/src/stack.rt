@@ -1,0 +1,228 @@
+ghost use Rattle.std.specs.Prelude.{◌≡◌, ℕ, ◌+◌, ◌-◌, ◌%◌, ◌<◌, ◌≤◌, ◌⊎◌, ◌↔◌, List, length, slice_index, slice_set, IfOk, IfNone, IsErrOf, IsSome, OnErr, OnOk, OnSome, SomeIff};
+ghost use Rattle.stack_cache.specs.Stack.{IsStack, Stack, empty, filled, freed, missing, reserved, spilled, with_spilled};
+
+use crate::fault::StackFault;
+use crate::slots::{self, SLOTS};
+use std::marker::Model;
+
+/// The lowest word of private memory that the stack may use.
+const LOWEST: u32 = 49_152;
+
+/// The word behind the stack, where it begins.
+const HIGHEST: u32 = 65_536;
+
+/// The words of the stack that stand in the cache, and its two pointers.
+#[derive(Debug, Drop)]
+pub struct StackCache {
+    st: u32,
+    ss: u32,
+    slots: [u32; 128],
+}
+
+impl Model for StackCache {
+    ghost use Rattle.stack_cache.specs.Slots.{shown, AreInRange};
+    ghost use Rattle.stack_cache.specs.Stack.{Stack};
+
+    ghost Value = { Stack };
+
+    ghost view = { λ c. shown c.st c.ss c.slots };
+
+    ghost invariant = { λ c. AreInRange c.st c.ss };
+}
+
+impl StackCache {
+    /// The cache of a task that begins: both pointers are 65,536, and no word is held.
+    #[tactic(auto, unfolding(crate::specs::Slots::held))]
+    pub fn new() -> StackCache
+        ensures { result ≡ empty }
+    {
+        StackCache {
+            st: HIGHEST,
+            ss: HIGHEST,
+            slots: [0; 128],
+        }
+    }
+
+    /// The top of the stack: the number of its first word.
+    pub fn st(&self) -> u32
+        ensures value { result ≡ self.now.st }
+        ensures stack { IsStack self.now }
+    {
+        self.st
+    }
+
+    /// The number of the first word that is not held: the stack from there on is in private memory.
+    pub fn ss(&self) -> u32
+        ensures value { result ≡ self.now.ss }
+        ensures stack { IsStack self.now }
+    {
+        self.ss
+    }
+
+    /// Puts `n` words on top of the stack, all 0, and gives how many words it spilled. Private
+    /// memory is changed in the spilled words alone.
+    pub fn reserve(&mut self, n: u32, private: &mut [u32]) -> Result<u32, StackFault>
+        requires { length private.old ≡ 65536 }
+        ensures over { IsErrOf result StackFault.Over ↔ (128 < n) }
+        ensures under { IsErrOf result StackFault.Under ↔ ((n ≤ 128) × (self.old.st < 49152 + n)) }
+        ensures stack { OnOk result (self.new ≡ reserved n self.old) }
+        ensures spilled { OnOk result (private.new ≡ with_spilled n self.old private.old) }
+        ensures moved { IfOk result (λ words. words ≡ length (spilled n self.old)) }
+        ensures few { IfOk result (λ words. words ≤ 128) }
+
+        // Word by word, whatever the result: the words from the new `ss` to before the old one are
+        // spilled, and all of private memory below and above them is as it was.
+        ensures own { (word : ℕ) → self.new.ss ≤ word → word < self.old.ss
+            → slice_index private.new word ≡ slice_index self.old.words (word - self.old.st) }
+        ensures others { (word : ℕ) → (word < self.new.ss) ⊎ (self.old.ss ≤ word)
+            → slice_index private.new word ≡ slice_index private.old word }
+        ensures refused { OnErr result (self.new ≡ self.old) }
+        ensures kept { OnErr result (private.new ≡ private.old) }
+    {
+        check(n, self.st - LOWEST)?;
+        let st = self.st - n;
+        let ss = self.ss.min(st + SLOTS);
+        let moved = self.ss - ss;
+        slots::spill(&self.slots, ss, self.ss, private);
+        slots::clear(&mut self.slots, st, self.st);
+        self.st = st;
+        self.ss = ss;
+        Ok(moved)
+    }
+
+    /// Brings words back from private memory until at least `n` are held, and gives how many.
+    pub fn ensure(&mut self, n: u32, private: &[u32]) -> Result<u32, StackFault>
+        requires { length private.now ≡ 65536 }
+        ensures over { IsErrOf result StackFault.Over ↔ (128 < n) }
+        ensures under { IsErrOf result StackFault.Under ↔ ((n ≤ 128) × (65536 < self.old.st + n)) }
+        ensures stack { OnOk result (self.new ≡ filled n private.now self.old) }
+        ensures moved { IfOk result (λ words. words ≡ missing n self.old) }
+        ensures few { IfOk result (λ words. words ≤ 128) }
+        ensures refused { OnErr result (self.new ≡ self.old) }
+    {
+        check(n, HIGHEST - self.st)?;
+        let ss = self.ss.max(self.st + n);
+        let moved = ss - self.ss;
+        slots::fill(&mut self.slots, self.ss, ss, private);
+        self.ss = ss;
+        Ok(moved)
+    }
+
+    /// Takes `n` words off the stack. It moves no data.
+    pub fn free(&mut self, n: u32) -> Result<(), StackFault>
+        ensures over { IsErrOf result StackFault.Over ↔ (128 < n) }
+        ensures under { IsErrOf result StackFault.Under ↔ ((n ≤ 128) × (65536 < self.old.st + n)) }
+        ensures stack { OnOk result (self.new ≡ freed n self.old) }
+        ensures refused { OnErr result (self.new ≡ self.old) }
+    {
+        check(n, HIGHEST - self.st)?;
+        self.st += n;
+        self.ss = self.ss.max(self.st);
+        Ok(())
+    }
+
+    /// The word `i` words above the top, or `None` exactly where it is not held.
+    pub fn get(&self, i: u32) -> Option<u32>
+        ensures { SomeIff result (self.now.st + i < self.now.ss) (slice_index self.now.words i) }
+    {
+        let slot = self.slot_of(i)?;
+        Some(self.slots[slot])
+    }
+
+    /// Changes the word `i` words above the top and no other, or nothing, with `None`, exactly
+    /// where it is not held.
+    pub fn set(&mut self, i: u32, value: u32) -> Option<()>
+        ensures held { IsSome result ↔ (self.old.st + i < self.old.ss) }
+        ensures word { OnSome result (self.new ≡ record self.old { words = slice_set self.old.words i value }) }
+        ensures refused { IfNone result (self.new ≡ self.old) }
+    {
+        let slot = self.slot_of(i)?;
+        self.slots[slot] = value;
+        Some(())
+    }
+
+    /// The slot of the word `i` words above the top, if it is held.
+    fn slot_of(&self, i: u32) -> Option<usize>
+        ensures { SomeIff result (self.now.st + i < self.now.ss) ((self.now.st + i) % 128) }
+    {
+        if i >= self.ss - self.st {
+            return None;
+        }
+        Some(((self.st + i) % SLOTS) as usize)
+    }
+}
+
+/// Refuses a count that is above 128, or for which a pointer has no room.
+fn check(n: u32, room: u32) -> Result<(), StackFault>
+    ensures over { IsErrOf result StackFault.Over ↔ (128 < n) }
+    ensures under { IsErrOf result StackFault.Under ↔ ((n ≤ 128) × (room < n)) }
+    ensures ok { OnOk result ((n ≤ 128) × (n ≤ room)) }
+{
+    if n > SLOTS {
+        Err(StackFault::Over)
+    } else if n > room {
+        Err(StackFault::Under)
+    } else {
+        Ok(())
+    }
+}
+
+/// What a call reserves and frees again, its caller finds as it was, once it ensures as many words
+/// as it had. A law: it does nothing.
+pub fn words_come_back()
+    ensures { (n : ℕ) (s : Stack) (private : List ℕ) → IsStack s → length private ≡ 65536
+        → n ≤ 128 → 49152 + n ≤ s.st
+        → filled (length s.words) (with_spilled n s private) (freed n (reserved n s)) ≡ s }
+{}
+
+#[cfg(test)]
+mod tests {
+    use super::*;
+    use std::alloc::{AllocError, Global};
+    use std::test::Fail;
+
+    fn zeros(alloc: Global, count: usize) -> Result<Vec<u32>, AllocError>
+        ensures { IfOk result (λ words. length words.items ≡ count) }
+    {
+        vec![in alloc; 0; count]
+    }
+
+    #[test]
+    fn spilled_words_come_back(rt: HostRuntime) -> Result<(), Fail> {
+        let mut private = zeros(rt.alloc(), 65_536)?;
+        let mut cache = StackCache::new();
+        assert_eq!(rt; (cache.st(), cache.ss()), (65_536, 65_536));
+        assert_eq!(rt; cache.reserve(100, private.as_mut_slice()), Ok(0));
+        assert_eq!(rt; (cache.set(99, 7), cache.set(100, 8)), (Some(()), None));
+        assert_eq!(rt; cache.reserve(60, private.as_mut_slice()), Ok(32));
+        assert_eq!(rt; (cache.st(), cache.ss()), (65_376, 65_504));
+        assert_eq!(rt; private.as_slice().get(65_535), Some(&7));
+        assert_eq!(rt; cache.free(60), Ok(()));
+        assert_eq!(rt; cache.get(99), None);
+        assert_eq!(rt; cache.ensure(100, private.as_slice()), Ok(32));
+        assert_eq!(rt; (cache.get(0), cache.get(99)), (Some(0), Some(7)));
+        assert_eq!(rt;
+            cache.reserve(129, private.as_mut_slice()),
+            Err(StackFault::Over)
+        );
+        Ok(())
+    }
+
+    #[test]
+    fn ends_of_the_region(rt: HostRuntime) -> Result<(), Fail> {
+        let mut private = zeros(rt.alloc(), 65_536)?;
+        let mut cache = StackCache::new();
+        assert_eq!(rt; cache.free(1), Err(StackFault::Under));
+        assert_eq!(rt; cache.ensure(1, private.as_slice()), Err(StackFault::Under));
+        for count in 0..128 {
+            let moved = if count == 0 { 0 } else { 128 };
+            assert_eq!(rt; cache.reserve(128, private.as_mut_slice()), Ok(moved));
+        }
+        assert_eq!(rt; (cache.st(), cache.ss()), (49_152, 49_280));
+        assert_eq!(rt;
+            cache.reserve(1, private.as_mut_slice()),
+            Err(StackFault::Under)
+        );
+        Ok(())
+    }
+}
