@@ -5,6 +5,8 @@ use Rattle.std.proofs.lemmas.List.{get_or-replicate, get_or_past, get_or-set_sam
 use Rattle.std.proofs.Math.ListN.{length-replicate}
 use Rattle.slot_arbiter.specs.Order.{IsNext}
 use Rattle.shared_order.specs.Program.{done, gets, sets, fed, first, others}
+use Rattle.argo_ni.specs.declared.packet.Payload.{Payload}
+use Rattle.argo_ni.specs.declared.packet.Payload.TheVariants.{One, Two}
 use Rattle.argo_ni.specs.declared.packet.Packet.{Packet}
 use Rattle.argo_ni.specs.declared.port.Channel.{Channel}
 use Rattle.argo_ni.specs.declared.port.Port.{Port}
@@ -177,7 +179,7 @@ pub record Sends (x : Interface) (cycle : ℕ) : Type 0 where
   pub several : 2 ≤ x.cores
   pub some : 0 < (port_to x (target_at x cycle)).channel.left
 
-sends_means : (x : Interface) (cycle : ℕ) → sends x cycle ≡ true → Sends x cycle
+pub sends_means : (x : Interface) (cycle : ℕ) → sends x cycle ≡ true → Sends x cycle
 sends_means x cycle here =
     let opens = each (cycle % 3 == 0) (is_used x.cores x.core x.ports (cycle / 3)) here in
     let used = each (nat_le 2 x.cores) (nat_lt 0 (port_to x (target_at x cycle)).channel.left) opens.1 in
@@ -264,3 +266,18 @@ same_acts x d half port below same =
       | true ↦ comes x (half / 2)
       | false ↦ (half / 2 % 3 == 0) && (nat_le 2 x.cores && nat_lt 0 c.left)
     ]) kept
+
+-- a packet that comes to its words leaves what follows
+sets_carried : {X : Type 0} (stamp word : ℕ) (load : Payload) (x : X) (values : List ℕ) → (fed stamp (sets word (carried load) (done x)) values).core ≡ x
+sets_carried stamp word (One a) x values = refl
+sets_carried stamp word (Two a b) x values = refl
+
+-- heard, a delivery leaves the interface without the packet
+pub heard_delivery : (s now : Standing) (p : Packet) (cycle stamp : ℕ) (values : List ℕ) → s ≡ now → IsFirstOf s p → IsNextAct now (2 * cycle) → (fed stamp (delivery cycle now.interface) values).core ≡ delivered cycle now.interface
+heard_delivery s now p cycle stamp values here first next_now =
+    let next : IsNextAct s (2 * cycle) = subst (λ z. IsNextAct z (2 * cycle)) (sym here) next_now in
+    let same : p.due ≡ cycle = next_comes s.interface.cores s.interface.core s.from cycle s.interface p next first in
+    subst (λ z. (fed stamp (delivery cycle z.interface) values).core ≡ delivered cycle z.interface) here
+    (subst (λ c. (fed stamp (delivery c s.interface) values).core ≡ delivered c s.interface) same
+    (ap (λ q. (fed stamp q values).core) (first_program s p first)
+    ∙ sets_carried stamp (comm_word p.target p.first) p.payload (delivered p.due s.interface) values))

@@ -23,12 +23,12 @@ use Rattle.argo_ni.proofs.Windows.{other_core}
 use Rattle.argo_ni.proofs.Acts.{IsSending, none_late, is_sending_now}
 use Rattle.argo_ni.proofs.Queue.{queue_from, queue_append, each_until, each_append, each_later, at_most_two, at_most_three}
 
-true_or_false : (b : Bool) → (b ≡ true) ⊎ (b ≡ false)
+pub true_or_false : (b : Bool) → (b ≡ true) ⊎ (b ≡ false)
 true_or_false true = inl refl
 true_or_false false = inr refl
 
 -- the channels lie within after a port was changed to one that does
-within_after : (ports : List Port) (d : ℕ) (port : Port) → d < length ports → ((e : ℕ) → IsWithin (port_at ports e).channel) → IsWithin port.channel → (e : ℕ) → IsWithin (port_at (set ports d port) e).channel
+pub within_after : (ports : List Port) (d : ℕ) (port : Port) → d < length ports → ((e : ℕ) → IsWithin (port_at ports e).channel) → IsWithin port.channel → (e : ℕ) → IsWithin (port_at (set ports d port) e).channel
 within_after ports d port below h here e = elim (cases_eq e d) [
   | inl same ↦ subst (λ p. IsWithin p.channel) (sym (ap (λ i. get_or (set ports d port) i unused) same ∙ get_or-set_same ports d port unused below)) here
   | inr other ↦ subst (λ p. IsWithin p.channel) (sym (get_or-set_other ports d e port unused other)) (h e)

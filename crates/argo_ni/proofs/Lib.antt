@@ -2,4 +2,5 @@ pub mod Acts
 pub mod Course
 pub mod Kept
 pub mod Queue
+pub mod Ranges
 pub mod Windows

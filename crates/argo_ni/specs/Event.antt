@@ -15,7 +15,8 @@ half_of e = elim e.kind [
   | Deliver target first count values ↦ 2 * e.cycle
 ]
 
--- the stamp of what core number `core`, of n, does in a half-cycle
+-- the stamp of what core number `core`, of n, does in a half-cycle: that of phase p of cycle q is in
+-- half-cycle 2 * q + p
 abbrev pub stamp_in : ℕ → ℕ → ℕ → ℕ
 stamp_in n core half = half * n + core
 

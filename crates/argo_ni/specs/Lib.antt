@@ -3,6 +3,7 @@ pub mod Interface
 pub mod Line
 pub mod Packet
 pub mod Port
+pub mod Range
 pub mod Seen
 pub mod Sender
 pub mod Sound

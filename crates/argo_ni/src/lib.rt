@@ -6,17 +6,23 @@
 //! each packet comes to its words nine cycles after it was sent. The windows are a fixed schedule:
 //! one begins every third cycle, and they go round the other cores. So no core can delay another.
 //!
+//! The crate promises that the interface is exactly the one that its definitions tell cycle by cycle, as
+//! programs on the words of the communication memories, while it looks at no cycle in which nothing
+//! happens. No call takes memory, and each is constant work.
+//!
 //! - [`Ni`] is the interface of one core: its registers, what it still has to send, and the packets
 //!   under way. [`Ni::next_after`] finds the next injection or delivery by arithmetic, and says that
 //!   nothing lies between.
-//! - [`interface_worked`] shows the definitions at work, and [`windows_by_cycles`] states the
-//!   schedule.
+//! - [`windows_by_cycles`] states the schedule, and [`interface_worked`] shows the definitions at work.
+//! - [`interface_goes_on`]: what an interface that is run apart does from act to act.
+//! - [`interface_keeps_ranges`]: it names only words that there are, and stores only words of 32 bits.
 #![tactic(auto)]
 
 mod event;
 mod ni;
 mod packet;
 mod port;
+mod range;
 mod run;
 mod under_way;
 mod window;
@@ -26,6 +32,7 @@ pub use event::{NiEvent, NiKind, Started};
 pub use ni::Ni;
 pub use packet::{Packet, Payload};
 pub use port::{Channel, Port};
+pub use range::interface_keeps_ranges;
 pub use run::interface_goes_on;
 pub use window::windows_by_cycles;
 pub use worked::interface_worked;

@@ -1,10 +1,10 @@
-ghost use Rattle.std.specs.Prelude.{◌≡◌, ℕ, ◌+◌, ◌*◌, ◌/◌, ◌<◌, ◌≤◌, ◌↔◌, [], true, false, IsNone, IfSome};
+ghost use Rattle.std.specs.Prelude.{◌≡◌, ℕ, ◌+◌, ◌*◌, ◌/◌, ◌<◌, ◌≤◌, ◌↔◌, List, [], true, false, IsNone, IfSome};
 ghost use Rattle.slot_arbiter.specs.Order.{IsNext};
 ghost use Rattle.shared_order.specs.Program.{fed};
 ghost use Rattle.argo_ni.specs.Interface.{Interface, Standing, IsTarget, new_interface, port_to};
-ghost use Rattle.argo_ni.specs.Start.{with_source, with_target, answer_to, standing_by};
+ghost use Rattle.argo_ni.specs.Start.{with_source, with_target, is_in_range, answer_to, started, standing_by};
 ghost use Rattle.argo_ni.specs.Sound.{IsFirstOf};
-ghost use Rattle.argo_ni.specs.Turn.{sends, injection, injected, delivered, acts};
+ghost use Rattle.argo_ni.specs.Turn.{sends, injection, injected, delivery, delivered, acts};
 ghost use Rattle.argo_ni.specs.Event.{half_of, stamp_in, IsDone, IsQuiet, IsNextAct, IsClear, IsPast, IsIdle};
 
 use crate::event::{NiEvent, NiKind, Started};
@@ -83,6 +83,15 @@ impl Ni {
         self.ports[d as usize].channel.left
     }
 
+    /// Whether `count` words can be sent to target `d` by its registers: some, and none past the 512
+    /// words of a communication memory. A start of any other count is refused.
+    pub fn accepts(&self, d: u32, count: u32) -> bool
+        requires target { IsTarget self.now.interface d }
+        ensures { result ≡ is_in_range (port_to self.now.interface d) count }
+    {
+        !matches!(self.ports[d as usize].answer_to(count), Started::Refused)
+    }
+
     /// Starts a transfer of `count` words to target `d` in a cycle, from the word in the source
     /// register to the word in the target register.
     pub fn start(&mut self, d: u32, count: u32, cycle: u64) -> Started
@@ -92,6 +101,7 @@ impl Ni {
         requires none_left { IsPast self.old cycle }
         ensures answer { result ≡ answer_to (port_to self.old.interface d) count }
         ensures state { self.new ≡ standing_by result d count cycle self.old }
+        ensures interface { self.new.interface ≡ started d count self.old.interface }
     {
         let answer = self.ports[d as usize].answer_to(count);
         match answer {
@@ -148,6 +158,8 @@ impl Ni {
         requires next { (cycle : ℕ) × IsNextAct self.old (2 * cycle) }
         ensures state { (cycle : ℕ) → IsNextAct self.old (2 * cycle)
             → self.new ≡ record { interface = delivered cycle self.old.interface; from = 2 * cycle + 1 } }
+        ensures heard { (cycle stamp : ℕ) (values : List ℕ) → IsNextAct self.old (2 * cycle)
+            → (fed stamp (delivery cycle self.old.interface) values).core ≡ self.new.interface }
     {
         let Some(packet) = self.under_way.first() else {
             unreachable!()
@@ -252,6 +264,7 @@ impl Ni {
 #[cfg(test)]
 mod tests {
     use super::*;
+    use crate::range::interface_keeps_ranges;
     use crate::run::interface_goes_on;
     use crate::window::windows_by_cycles;
     use crate::worked::interface_worked;
@@ -291,6 +304,7 @@ mod tests {
         assert_eq!(rt; Ni::new(&place).next_after(0), None);
         windows_by_cycles();
         interface_goes_on();
+        interface_keeps_ranges();
         interface_worked();
     }
 
@@ -304,6 +318,7 @@ mod tests {
         assert_eq!(rt; ni.start(1, 506, 10), Started::Refused);
         assert_eq!(rt; ni.start(1, 3, 10), Started::Begun);
         assert_eq!(rt; ni.start(1, 1, 10), Started::Dropped);
+        assert_eq!(rt; (ni.accepts(1, 505), ni.accepts(1, 506)), (true, false));
         assert_eq!(rt; ni.remaining(1), 3);
         assert_eq!(rt; ni.dropped(), 1);
         for want in [

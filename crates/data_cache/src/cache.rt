@@ -124,4 +124,18 @@ mod tests {
         cache.fill(0x44, [1, 2, 3, 4]);
         assert_eq!(rt; cache.probe(0x44), Some(2));
     }
+
+    #[test]
+    fn a_line_stays_stale_until_it_is_read_again(rt: HostRuntime) {
+        let mut memory = [1, 2, 3, 4];
+        let mut cache = DataCache::new();
+        cache.fill(0x100_0000, memory);
+        // Another core stores into the shared word.
+        memory[1] = 9;
+        assert_eq!(rt; cache.probe(0x100_0004), Some(2));
+        cache.fill(0x100_0400, [5, 6, 7, 8]);
+        assert_eq!(rt; cache.probe(0x100_0004), None);
+        cache.fill(0x100_0000, memory);
+        assert_eq!(rt; cache.probe(0x100_0004), Some(9));
+    }
 }

@@ -1,2 +1,15 @@
 pub mod Numbers
 pub mod Pieces
+pub mod Parts
+pub mod Ascii
+pub mod Labels
+pub mod Pushed
+pub mod Placed
+pub mod Steps
+pub mod Faultless
+pub mod Within
+pub mod WordSteps
+pub mod Answered
+pub mod Images
+pub mod Targets
+pub mod Noted

@@ -1,6 +1,6 @@
 -- The pieces of a statement of assembly text. Bytes are ASCII codes. Source: our own assembly text,
--- which docs/ASSEMBLY.md will state whole.
-use Rattle.std.specs.Prelude.{ℕ, ◌+◌, ◌-◌, ◌*◌, Bool, false, ◌&&◌, ◌||◌, ◌==◌, nat_le, if◌then◌else◌, List, [], ◌∷◌, take, drop, Option, Some, None}
+-- which docs/ASSEMBLY.md states.
+use Rattle.std.specs.Prelude.{ℕ, ◌+◌, ◌-◌, ◌*◌, ◌^◌, Bool, false, ◌&&◌, ◌||◌, ◌==◌, nat_le, if◌then◌else◌, List, [], ◌∷◌, length, take, drop, min, Option, Some, None, option_map}
 use Rattle.std.specs.List.{list_all}
 use Rattle.patmos_asm.specs.declared.readers.Radix.{Radix}
 use Rattle.patmos_asm.specs.declared.readers.Radix.TheVariants.{Decimal, Hexadecimal}
@@ -68,9 +68,13 @@ value_of radix [] = None
 value_of radix (b ∷ bs) = value_behind radix 0 (b ∷ bs)
 
 -- the number that the word writes: decimal digits, or `0x` and hexadecimal ones
+abbrev pub written_number : List ℕ → Option ℕ
+written_number (b ∷ c ∷ digits) = if b == 48 && c == 120 then value_of Hexadecimal digits else value_of Decimal (b ∷ c ∷ digits)
+written_number digits = value_of Decimal digits
+
+-- the same, where all numbers past a word, which no field takes, are one
 abbrev pub number_of : List ℕ → Option ℕ
-number_of (b ∷ c ∷ digits) = if b == 48 && c == 120 then value_of Hexadecimal digits else value_of Decimal (b ∷ c ∷ digits)
-number_of digits = value_of Decimal digits
+number_of word = option_map (min (2 ^ 32)) (written_number word)
 
 -- the number behind the letter of a register (r) or a predicate (p), which is written as numbers are
 abbrev pub numbered : ℕ → List ℕ → Option ℕ
@@ -81,10 +85,14 @@ numbered letter (b ∷ digits) = if b == letter then number_of digits else None
 abbrev pub word_at : List ℕ → List ℕ × List ℕ
 word_at text = let t = without_blanks text in (take (word_len t) t, drop (word_len t) t)
 
--- what stands behind this sign at the front
+-- what stands behind this sign at the front, with no blank before it, and with some
+abbrev pub sign_in_front : ℕ → List ℕ → Option (List ℕ)
+sign_in_front sign [] = None
+sign_in_front sign (b ∷ bs) = if b == sign then Some bs else None
+
 abbrev pub sign_at : ℕ → List ℕ → Option (List ℕ)
-sign_at sign text = behind sign (without_blanks text)
-  where
-    behind : ℕ → List ℕ → Option (List ℕ)
-    behind sign [] = None
-    behind sign (b ∷ bs) = if b == sign then Some bs else None
+sign_at sign text = sign_in_front sign (without_blanks text)
+
+-- nothing but blanks is left
+abbrev pub at_end : List ℕ → Bool
+at_end text = length (without_blanks text) == 0

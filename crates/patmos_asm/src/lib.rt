@@ -1,69 +1,43 @@
-//! The assembler's readers: a text cut into statements, and the words, numbers and registers of a
-//! statement.
+//! The assembler: texts and the code of a core's task.
 //!
-//! Each reader is proved to give exactly what a definition over lists of bytes gives. The assembler
-//! itself, from statements to code, is not built yet.
+//! A text is a list of statements: functions that begin, labels, and bundles of one or two instructions.
+//! `specs/` says what each of them is (`Readers`, `Operands` and `Forms` for an instruction, `Drafts` for a
+//! bundle, `Statements` and `Items` for the text, `Written` for how each of them is printed), and `specs/Assembly.antt` what the code of a text is:
+//! the names of its functions, the places of their first words, and the words of the image, in which each
+//! function's size stands before its words. A text without a code has a fault: that of its first faulty
+//! statement, and there the first in the order of `AsmKind`.
+//!
+//! `assemble` gives exactly that code or that fault. `image_of` makes of a code the image that a core is
+//! started with. A `Code` is always the code of some text. `print` writes a code exactly as
+//! `specs/Printed.antt` says: each function's name, labels named after the offsets that are branched to, and
+//! each bundle on a line of its own. That the printed text has the same code is shown by tests, not proved.
+//!
+//! The names of labels and functions stand in an `indexmap`, so that a text is assembled in time linear in
+//! its length.
 #![tactic(auto)]
 
+mod checks;
+mod codes;
+mod draft_types;
+mod drafts;
+mod faults;
+mod forms;
+mod items;
+mod laws;
+mod names;
+mod operands;
+mod ops;
+mod printing;
 mod readers;
+mod sizes;
 mod statements;
+mod words;
+mod writers;
 
-pub use readers::{is_name, number_of, numbered, sign_at, without_blanks, word_at};
-pub use statements::{Statement, Unread, next_statement};
+pub use codes::{Code, assemble, image_of};
+pub use faults::{AsmError, AsmFault, AsmKind};
+pub use laws::worked_texts;
+pub use printing::print;
 
 #[cfg(test)]
-mod tests {
-    use super::*;
-
-    /// The first statement of the text must be this, on this line, and so many more bytes follow.
-    fn first_is(text: &[u8], statement: &[u8], line: u64, left: usize) -> bool {
-        if text.len() > 100 {
-            return false;
-        }
-        match next_statement(Unread { line: 1, text }) {
-            Some((first, rest)) => first.text == statement
-                && first.line == line
-                && rest.text.len() == left,
-            None => false,
-        }
-    }
-
-    #[test]
-    fn texts_are_cut_into_statements(rt: HostRuntime) {
-        assert!(rt; first_is(b" ;\n# none ; here\n\tnop ;ret", b"nop ", 3, 3));
-        assert!(rt; first_is(b"{ nop ; nop } # both\nret", b"{ nop ; nop } ", 1, 3));
-        assert!(rt;
-            next_statement(Unread {
-                line: 1,
-                text: b" \t\r# only a comment"
-            })
-            .is_none()
-        );
-    }
-
-    #[test]
-    fn pieces_of_a_statement_are_read(rt: HostRuntime) {
-        let (word, rest) = word_at(b" addi r1 = r032, 0xFFf");
-        assert_eq!(rt; word, b"addi".as_slice());
-        assert_eq!(rt; rest, b" r1 = r032, 0xFFf".as_slice());
-        assert_eq!(rt; sign_at(b"\t= r0", b'='), Some(b" r0".as_slice()));
-        assert_eq!(rt;
-            (
-                number_of(b"0xFFf"),
-                number_of(b"0XF"),
-                number_of(b"12ab"),
-                number_of(b"0x")
-            ),
-            (Some(4095), None, None, None)
-        );
-        assert_eq!(rt;
-            (
-                numbered(b'r', b"r032"),
-                numbered(b'r', b"p1"),
-                number_of(b"99999999999999999999")
-            ),
-            (Some(32), None, Some(0x1_0000_0000))
-        );
-        assert!(rt; is_name(b"_a1") && !is_name(b"1a") && !is_name(b".func") && !is_name(b""));
-    }
-}
+mod tests;

@@ -135,7 +135,8 @@ impl Radix {
 /// The number that the word writes: decimal digits, or `0x` and hexadecimal ones. A number from 2^32 on
 /// is told as 2^32.
 pub fn number_of(word: &[u8]) -> Option<u64>
-    ensures { result ≡ option_map (min (2 ^ 32)) (specs.number_of word.now) }
+    ensures value { result ≡ specs.number_of word.now }
+    ensures small { IfSome result (λ n. n ≤ 2 ^ 32) }
 {
     match word {
         [b'0', b'x', digits @ ..] => Radix::Hexadecimal.value_of(digits),
@@ -146,10 +147,18 @@ pub fn number_of(word: &[u8]) -> Option<u64>
 /// The number behind the letter of a register (`r`) or of a predicate (`p`). A number from 2^32 on is
 /// told as 2^32.
 pub fn numbered(letter: u8, word: &[u8]) -> Option<u64>
-    ensures { result ≡ option_map (min (2 ^ 32)) (specs.numbered letter word.now) }
+    ensures value { result ≡ specs.numbered letter word.now }
+    ensures small { IfSome result (λ n. n ≤ 2 ^ 32) }
 {
     match word {
         [first, digits @ ..] if *first == letter => number_of(digits),
         _ => None,
     }
+}
+
+/// Whether nothing but blanks is left.
+pub fn at_end(text: &[u8]) -> bool
+    ensures { result ≡ specs.at_end text.now }
+{
+    without_blanks(text).is_empty()
 }

@@ -99,6 +99,7 @@ pub fn next_statement(unread: Unread<'_>) -> Option<(Statement<'_>, Unread<'_>)>
         (λ x. specs.statements_of unread.entry.line unread.entry.text.now
         ≡ (x.0.line, x.0.text.now) ∷ specs.statements_of x.1.line x.1.text.now) }
     ensures shorter { IfSome result (λ x. length x.1.text.now < length unread.entry.text.now) }
+    ensures within { IfSome result (λ x. x.0.line < unread.entry.line + length unread.entry.text.now) }
     ensures lines { IfSome result (λ x. x.1.line + length x.1.text.now ≤ unread.entry.line + length unread.entry.text.now) }
 {
     let mut unread = unread;

@@ -153,7 +153,7 @@ fn ask_by(regs: &Regs, op: &Op) -> Effect
             space,
             width,
             rd,
-            address: address(regs.general(ra), imm.number(), bytes_of(width)),
+            address: address(regs.general(ra), imm.number(), load_bytes(width)),
         },
         Op::Store {
             space,
@@ -164,7 +164,7 @@ fn ask_by(regs: &Regs, op: &Op) -> Effect
         } => Effect::Store {
             space,
             width,
-            address: address(regs.general(ra), imm.number(), store_bytes_of(width)),
+            address: address(regs.general(ra), imm.number(), store_bytes(width)),
             value: regs.general(rs),
         },
         Op::Branch { offset } => Effect::Flow {
@@ -199,8 +199,8 @@ fn address(base: u32, imm: u32, bytes: u32) -> u32
     base.wrapping_add(imm.wrapping_mul(bytes))
 }
 
-// the bytes of a load
-fn bytes_of(width: Width) -> u32
+/// The bytes of a load.
+pub fn load_bytes(width: Width) -> u32
     ensures { result ≡ width_bytes width }
 {
     match width {
@@ -210,8 +210,8 @@ fn bytes_of(width: Width) -> u32
     }
 }
 
-// the bytes of a store
-fn store_bytes_of(width: StoreWidth) -> u32
+/// The bytes of a store.
+pub fn store_bytes(width: StoreWidth) -> u32
     ensures { result ≡ store_bytes width }
 {
     match width {

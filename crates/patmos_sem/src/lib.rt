@@ -6,7 +6,7 @@
 //! a write of that bundle's own wins over them. `r0` stays 0 and `p0` stays true. What lies outside the
 //! registers is answered as an `Effect`: a load, a store, an operation of the stack cache or a flow.
 //! `arrive` makes a load's value pending. `pick` and `merge` take a byte or a half out of a word and put
-//! it in.
+//! it in; `load_bytes` and `store_bytes` say how many bytes an access has.
 //!
 //! The definitions in `specs/` tell the registers after a bundle one by one, from small pieces that
 //! readers above put together in other ways. No call takes memory, and a bundle is constant work.
@@ -23,7 +23,7 @@ mod registers;
 mod writes;
 
 pub use effects::{Effect, FlowKind};
-pub use execution::{arrive, exec};
+pub use execution::{arrive, exec, load_bytes, store_bytes};
 pub use laws::{told_by_register, worked_values};
 pub use narrow::{merge, pick};
 pub use pending::Pending;

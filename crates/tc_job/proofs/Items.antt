@@ -1,14 +1,19 @@
--- An array with no item or several has no lone table.
-use Rattle.std.proofs.Common.{◌≡◌, ◌<◌, ◌≤◌, List, [], ◌∷◌, length, refl, arith, Some, None}
-use Rattle.toml.specs.View.{items_view}
+-- What is found in each item of an array, while a loop goes over it.
+use Rattle.std.proofs.Common.{◌≡◌, ℕ, ◌+◌, ◌<◌, List, [], ◌∷◌, ◌++◌, length, get_or, drop, Option, Some, None, refl, sym, ◌∙◌}
+use Rattle.toml.proofs.Views.{items_view-drop}
+use Rattle.toml.specs.Data.{Data}
+use Rattle.toml.specs.View.{view, items_view}
 use Rattle.toml.specs.declared.value.Value.{Value}
-use Rattle.tc_job.specs.Members.{lone_table}
+use Rattle.tc_job.specs.Values.{each_item}
+use Rattle.tc_job.proofs.Each.{behind, behind_more}
 
-pub lone_table_of_none : (vs : List Value) → length vs < 1 → lone_table (Some (items_view vs)) ≡ None
-lone_table_of_none [] none = refl
-lone_table_of_none (v ∷ vs) none = absurd (omega arith)
+pub more_items : {A : Type 0} (f : Data → Option A) (vs : List Value) (i : ℕ) (v : Value) (front : List A) (y : A) (all : Option (List A)) → i < length vs → f (view (get_or vs i v)) ≡ Some y
+    → behind front (each_item f (items_view (drop i vs))) ≡ all → behind (front ++ y ∷ []) (each_item f (items_view (drop (i + 1) vs))) ≡ all
+more_items f vs i v front y all within found held =
+    sym (behind_more front y (each_item f (items_view (drop (i + 1) vs))))
+    ∙ sym (rw (items_view-drop vs i v within, found) refl)
+    ∙ held
 
-pub lone_table_of_many : (vs : List Value) → 2 ≤ length vs → lone_table (Some (items_view vs)) ≡ None
-lone_table_of_many [] many = refl
-lone_table_of_many (v ∷ []) many = absurd (omega arith)
-lone_table_of_many (v ∷ w ∷ vs) many = refl
+pub no_item : {A : Type 0} (f : Data → Option A) (vs : List Value) (i : ℕ) (v : Value) (front : List A) (all : Option (List A)) → i < length vs → f (view (get_or vs i v)) ≡ None
+    → behind front (each_item f (items_view (drop i vs))) ≡ all → all ≡ None
+no_item f vs i v front all within found held = sym held ∙ rw (items_view-drop vs i v within, found) refl

@@ -1,2 +1,4 @@
+pub mod Each
 pub mod Items
+pub mod Tasks
 pub mod Tree

@@ -1,45 +1,53 @@
--- The job that bytes stand for. The tree of the bytes is the meaning that `toml` gives them.
-use Rattle.std.specs.Prelude.{ℕ, Bool, ◌||◌, if◌then◌else◌, List, codes, bytes_eq, Option, None, Result, Ok, Err}
+-- The job that bytes stand for, or the first of their faults. The tree of the bytes is the meaning that
+-- `toml` gives them. The form is our own; docs/JOBS_AND_REPORTS.md explains it to users.
+use Rattle.std.specs.Prelude.{ℕ, ◌==◌, if◌then◌else◌, List, [], codes, Option, None, Result, Ok}
 use Rattle.std.specs.Str.{is_utf8}
-use Rattle.toml.specs.Data.{Members}
+use Rattle.slot_arbiter.specs.Table.{in_turn}
+use Rattle.toml.specs.Data.{Data, Members, get_member}
 use Rattle.toml.specs.Parse.{parse_document}
 use Rattle.tc_job.specs.declared.fault.JobFault.{JobFault}
-use Rattle.tc_job.specs.declared.fault.JobFault.TheVariants.{Later}
+use Rattle.tc_job.specs.declared.fault.JobFault.TheVariants as faults
 use Rattle.tc_job.specs.declared.job.Job.{Job}
-use Rattle.tc_job.specs.declared.job.Level.{Level}
-use Rattle.tc_job.specs.declared.job.Level.TheVariants.{OfJob, OfTask}
-use Rattle.tc_job.specs.Members.{◌>>=◌, given, known_keys, number_at, string_at, lone_table_at}
+use Rattle.tc_job.specs.declared.platform.Platform.{Platform}
+use Rattle.tc_job.specs.Fault.{Fault, ◌>>=◌, at_key}
+use Rattle.tc_job.specs.Keys.{known_keys, level_of}
+use Rattle.tc_job.specs.SlotTable.{slot_table}
+use Rattle.tc_job.specs.Task.{tasks_from}
+use Rattle.tc_job.specs.Values.{given, number_of, number_or, tables_of}
 
 -- the tree of the bytes, where they are TOML
 unfoldable pub tree_of : List ℕ → Option Members
 tree_of bytes = if is_utf8 bytes then parse_document bytes else None
 
--- the keys of a job, and those of a task
-abbrev pub is_key : Level → List ℕ → Bool
-is_key OfJob key = bytes_eq key (codes "version") || bytes_eq key (codes "cores") || bytes_eq key (codes "slot")
-    || bytes_eq key (codes "cycles") || bytes_eq key (codes "task")
-is_key OfTask key = bytes_eq key (codes "core") || bytes_eq key (codes "lang") || bytes_eq key (codes "source")
+-- the most cores of a job of that version
+abbrev pub most_cores : ℕ → ℕ
+most_cores version = if version == 2 then 16 else 8
 
--- the source of a task in assembly on core 0
-unfoldable pub source_in : Members → Result (List ℕ) JobFault
-source_in ms = do
-  known ← known_keys (is_key OfTask) ms
-  core ← number_at (codes "core") 0 0 ms
-  lang ← string_at (codes "lang") ms
-  source ← string_at (codes "source") ms
-  if bytes_eq lang (codes "asm") then Ok source else Err Later
+-- a job of version 2 states its slot table, and in one of version 1 the cores take their slots in turn
+abbrev pub table_in : ℕ → ℕ → Option Data → Result (List ℕ) JobFault
+table_in version cores stated = if version == 2 then slot_table cores stated else Ok (in_turn cores)
 
--- a job of one core: exactly these keys, each in its range
-unfoldable pub job_in : Members → Result Job JobFault
+-- the platform, or the fault of the first of its keys, in this order, that is at fault
+unfoldable pub platform_in : Members → Result Platform Fault
+platform_in ms = do
+  version ← at_key None (codes "version") (number_of 1 2 (get_member (codes "version") ms))
+  cores ← at_key None (codes "cores") (number_of 1 (most_cores version) (get_member (codes "cores") ms))
+  slot ← at_key None (codes "slot") (number_of 6 64 (get_member (codes "slot") ms))
+  table ← at_key None (codes "table") (table_in version cores (get_member (codes "table") ms))
+  Ok (record { version = version; cores = cores; slot = slot; table = table })
+
+-- the job: unknown keys are at fault before any other, then the keys of the platform, and then these
+unfoldable pub job_in : Members → Result Job Fault
 job_in ms = do
-  known ← known_keys (is_key OfJob) ms
-  version ← number_at (codes "version") 1 1 ms
-  cores ← number_at (codes "cores") 1 1 ms
-  slot ← number_at (codes "slot") 6 64 ms
-  cycles ← number_at (codes "cycles") 1 20000000 ms
-  task ← lone_table_at (codes "task") ms
-  source ← source_in task
-  Ok (record { slot = slot; cycles = cycles; source = source })
+  known ← known_keys (level_of (get_member (codes "version") ms)) None ms
+  platform ← platform_in ms
+  cycles ← at_key None (codes "cycles") (number_of 1 20000000 (get_member (codes "cycles") ms))
+  trace ← at_key None (codes "trace") (number_or 0 0 65536 (get_member (codes "trace") ms))
+  workers ← at_key None (codes "workers") (number_or platform.cores 1 platform.cores (get_member (codes "workers") ms))
+  tables ← at_key None (codes "task") (tables_of (get_member (codes "task") ms))
+  tasks ← tasks_from platform.cores [] tables
+  Ok (record { version = platform.version; cores = platform.cores; slot = platform.slot; table = platform.table; cycles = cycles; trace = trace; workers = workers; tasks = tasks })
 
-unfoldable pub job_of : List ℕ → Result Job JobFault
-job_of bytes = given (tree_of bytes) >>= job_in
+-- the job of bytes
+unfoldable pub job_of : List ℕ → Result Job Fault
+job_of bytes = at_key None [] (given faults.Toml (tree_of bytes)) >>= job_in

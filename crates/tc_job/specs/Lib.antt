@@ -1,2 +1,8 @@
-pub mod Members
+pub mod Fault
+pub mod Values
+pub mod SlotTable
+pub mod Input
+pub mod Keys
+pub mod Task
 pub mod Job
+pub mod Ranges

@@ -1,112 +1,94 @@
-ghost use Rattle.std.specs.Prelude.{◌≡◌, ◌≤◌, IfOk};
+ghost use Rattle.std.specs.Prelude.{◌≡◌, [], IfOk};
 ghost use Rattle.toml.specs.View.{table_view};
-ghost use Rattle.tc_job.specs.Members.{Gives, given, known_keys};
+ghost use Rattle.tc_job.specs.Fault.{Gives, at_key};
 ghost use Rattle.tc_job.specs.Job as specs;
+ghost use Rattle.tc_job.specs.Ranges.{KeepsRanges};
+ghost use Rattle.tc_job.specs.Values.{given};
 
-use crate::fault::JobError;
-use crate::members::{LATER, lone_table_at, number_at, string_at};
+use crate::fault::{JobError, JobFault};
+use crate::keys::Level;
+use crate::platform::platform_in;
+use crate::section::Section;
+use crate::task::{Task, tasks_of};
+use crate::values::tables_of;
 use std::alloc::Global;
-use tc_word::Text;
+use tc_word::{List, Text};
 use toml::Table;
 
-/// A job of one core: its platform, its cycle limit, and the source of its task.
-///
-/// `slot` is 6 to 64 cycles, `cycles` is 1 to 20,000,000.
+/// A job: the platform, the limit, and the tasks.
 #[derive(Debug, Drop)]
 pub struct Job {
-    pub slot: u64,
+    /// 1, or 2 where the job states its slot table.
+    pub version: u32,
+    /// How many cores the platform has, 1 to 8 in version 1 and 1 to 16 in version 2.
+    pub cores: u32,
+    /// The length of a slot in cycles, 6 to 64.
+    pub slot: u32,
+    /// The owners of the slots of one period: in version 1 the cores in turn.
+    pub table: List<u32>,
+    /// The cycle limit, 1 to 20,000,000.
     pub cycles: u64,
-    pub source: Text,
+    /// How many transactions of each core are listed at most, 0 to 65,536; 0 where the job states none.
+    pub trace: u32,
+    /// How many workers run the cores, 1 to `cores`; `cores` where the job states none.
+    pub workers: u32,
+    /// The tasks, each on a core of its own, in the order of the text.
+    pub tasks: List<Task>,
 }
 
-/// The table whose keys are told.
-#[derive(Clone, Copy)]
-enum Level {
-    OfJob,
-    OfTask,
-}
-
-/// The job that the bytes stand for.
+/// The job that the bytes stand for, or the first of their faults.
 #[tactic(auto, unfolding(crate::specs::Job::job_of))]
 pub fn read_job(alloc: Global, bytes: &[u8]) -> Result<Job, JobError>
     ensures job { Gives (λ job. job) result (specs.job_of bytes.now) }
-    ensures slot { IfOk result (λ job. job.slot ≤ 64) }
-    ensures cycles { IfOk result (λ job. job.cycles ≤ 20000000) }
+    ensures ranges { IfOk result KeepsRanges }
 {
     let table = tree_of(alloc, bytes)?;
     job_in(alloc, &table)
 }
 
+/// The tree of the bytes.
 #[tactic(auto, using(crate::proofs::Tree::tree_of_text, crate::proofs::Tree::tree_of_no_text))]
 fn tree_of(alloc: Global, bytes: &[u8]) -> Result<Table, JobError>
-    ensures { Gives (λ table. table_view table) result (given (specs.tree_of bytes.now)) }
+    ensures { Gives (λ table. table_view table) result (at_key None [] (given JobFault.Toml (specs.tree_of bytes.now))) }
 {
     match toml::table_from_slice(alloc, bytes) {
         Ok(table) => Ok(table),
         Err(error) if error.is_memory() => Err(JobError::Memory),
-        Err(_) => Err(LATER),
+        Err(_) => Err(JobError::Fault {
+            kind: JobFault::Toml,
+            task: None,
+            key: Text::of(String::new(alloc)),
+        }),
     }
 }
 
+/// The job of a tree.
 #[tactic(auto, unfolding(crate::specs::Job::job_in))]
 fn job_in(alloc: Global, table: &Table) -> Result<Job, JobError>
     ensures job { Gives (λ job. job) result (specs.job_in (table_view table.now)) }
-    ensures slot { IfOk result (λ job. job.slot ≤ 64) }
-    ensures cycles { IfOk result (λ job. job.cycles ≤ 20000000) }
+    ensures ranges { IfOk result KeepsRanges }
 {
-    only_known_keys(table, Level::OfJob)?;
-    number_at(table, "version", 1, 1)?;
-    number_at(table, "cores", 1, 1)?;
-    let slot = number_at(table, "slot", 6, 64)?;
-    let cycles = number_at(table, "cycles", 1, 20_000_000)?;
-    let source = source_in(lone_table_at(table, "task")?)?;
-    let source = Text::of(String::from_str(alloc, source)?);
+    let top = Section {
+        alloc,
+        table,
+        task: None,
+    };
+    top.knows_keys(Level::of_job(top.value("version")))?;
+    let platform = platform_in(&top)?;
+    let cores = platform.cores;
+    let cycles = top.number("cycles", 1, 20_000_000)?;
+    let trace = top.number_or("trace", 0, 0, 65_536)?;
+    let workers = top.number_or("workers", cores, 1, cores)?;
+    let tables = top.told("task", tables_of(alloc, top.value("task")))?;
+    let tasks = tasks_of(alloc, tables.as_slice(), cores)?;
     Ok(Job {
-        slot,
-        cycles,
-        source,
+        version: platform.version,
+        cores,
+        slot: platform.slot,
+        table: platform.table,
+        cycles: u64::from(cycles),
+        trace,
+        workers,
+        tasks,
     })
-}
-
-#[tactic(auto, unfolding(crate::specs::Job::source_in))]
-fn source_in(table: &Table) -> Result<&str, JobError>
-    ensures { Gives (λ s. s.now) result (specs.source_in (table_view table.now)) }
-{
-    only_known_keys(table, Level::OfTask)?;
-    number_at(table, "core", 0, 0)?;
-    let lang = string_at(table, "lang")?;
-    let source = string_at(table, "source")?;
-    if lang == "asm" {
-        Ok(source)
-    } else {
-        Err(LATER)
-    }
-}
-
-fn only_known_keys(table: &Table, level: Level) -> Result<(), JobError>
-    ensures { Gives (λ _. tt) result (known_keys (specs.is_key level) (table_view table.now)) }
-{
-    'keys: for (key, _value) in table.iter() {
-        if !level.has(key.as_str()) {
-            return Err(LATER);
-        }
-    }
-    Ok(())
-}
-
-impl Level {
-    fn has(self, key: &str) -> bool
-        ensures { result ≡ specs.is_key self key.now }
-    {
-        match self {
-            Level::OfJob => {
-                key == "version"
-                    || key == "cores"
-                    || key == "slot"
-                    || key == "cycles"
-                    || key == "task"
-            }
-            Level::OfTask => key == "core" || key == "lang" || key == "source",
-        }
-    }
 }

@@ -1,30 +1,32 @@
 //! Jobs: what a text in TOML asks the emulator to run.
 //!
-//! A job of the form that the emulator takes today has one core and one task in assembly. `read_job` is
-//! proved to give exactly the job that the definition in `specs/Job.antt` finds in the tree that `toml`
-//! makes of the bytes, and to refuse exactly what is no such job.
+//! A job states the platform, which is its cores and the slots in which they use main memory, how many
+//! cycles it may take, and the tasks, at most one for each core. Version 1 has up to 8 cores that take
+//! their slots in turn. Version 2 has up to 16, and states its slot table.
+//!
+//! - [`read_job`] gives exactly the job that the definition in `specs/Job.antt` finds in the tree that
+//!   `toml` makes of the bytes, or the first fault of that tree: [`JobError`] says which, in which task
+//!   and at which key. Only want of memory may come besides.
+//! - [`Job`], [`Task`] and [`Lang`] are what a job says. Every number of a job that was read is in its
+//!   range, its table is a slot table for its cores, and each task has a core of its own.
+//! - [`put_fault`] appends the line in which a fault is told.
 #![tactic(auto)]
 
 mod fault;
+mod input;
 mod job;
-mod members;
+mod keys;
+mod platform;
+mod section;
+mod slots;
+mod task;
+mod values;
+mod worked;
 
-pub use fault::{JobError, JobFault};
+pub use fault::{JobError, JobFault, put_fault};
 pub use job::{Job, read_job};
+pub use task::{Lang, Task};
+pub use worked::jobs_worked;
 
 #[cfg(test)]
-mod tests {
-    use super::*;
-    use std::test::Fail;
-
-    #[test]
-    fn a_job_of_one_core_is_read(rt: HostRuntime) -> Result<(), Fail> {
-        let text =
-            b"version = 1\ncores = 1\nslot = 6\ncycles = 100000\n[[task]]\ncore = 0\nlang = \"asm\"\nsource = \"ret\"\n";
-        let job = read_job(rt.alloc(), text)?;
-        assert_eq!(rt; (job.slot, job.cycles), (6, 100_000));
-        assert_eq!(rt; job.source.as_str(), "ret");
-        assert!(rt; read_job(rt.alloc(), b"version = 2\n").is_err());
-        Ok(())
-    }
-}
+mod tests;

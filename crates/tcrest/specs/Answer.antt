@@ -1,20 +1,22 @@
 -- What is written for the words of a command line and the bytes of the input: a status and a text.
-use Rattle.std.specs.Prelude.{ℕ, ◌+◌, ◌*◌, ◌/◌, pos, nat_lt, nat_le, if◌then◌else◌, List, [], ◌∷◌, ◌++◌, length, codes, Option, Some, None, Result, Ok, Err}
+use Rattle.std.specs.Prelude.{ℕ, pos, nat_lt, if◌then◌else◌, List, ◌++◌, length, codes, Result, Ok, Err}
 use Rattle.std.specs.Fmt.{signed_decimal}
-use Rattle.std.specs.Int.{w32, cast_signed}
+use Rattle.tc_job.specs.Fault.{Fault, fault_text}
 use Rattle.tc_job.specs.Job.{job_of}
-use Rattle.tc_job.specs.declared.fault.JobFault.{JobFault}
 use Rattle.tc_job.specs.declared.job.Job.{Job}
+use Rattle.tc_report.specs.declared.rows.Row.{Row}
+use Rattle.tc_report.specs.Report.{report_text}
 use Rattle.tcrest.specs.declared.answers.Answer.{Answer}
 use Rattle.tcrest.specs.declared.command.Command.{Command}
-use Rattle.tcrest.specs.declared.command.Command.TheVariants.{Run, Usage}
-use Rattle.tcrest.specs.declared.steps.Step.{Step}
+use Rattle.tcrest.specs.declared.command.Command.TheVariants.{Job as OfJob, Usage}
+use Rattle.tcrest.specs.declared.command.JobCommand.{JobCommand}
+use Rattle.tcrest.specs.declared.command.JobCommand.TheVariants.{Run, Asm}
+use Rattle.tcrest.specs.declared.refusal.CoreRefusal.{CoreRefusal}
 use Rattle.tcrest.specs.Command.{command_of}
-use Rattle.tcrest.specs.FirstForm.{task_of, value_of}
-
--- every line ends with one newline
-abbrev pub line : List ℕ → List ℕ
-line text = text ++ 10 ∷ []
+use Rattle.tcrest.specs.Line.{line}
+use Rattle.tcrest.specs.Listing.{listings}
+use Rattle.tcrest.specs.Rows.{report_rows, rows_from}
+use Rattle.tcrest.specs.Tasks.{refusal_text}
 
 -- an answer of one line
 abbrev pub lone_line : ℕ → List ℕ → Answer
@@ -34,48 +36,39 @@ most_bytes = 1048576
 abbrev pub too_long : Answer
 too_long = lone_line 2 (codes "job: TooLong")
 
-abbrev pub no_job : Answer
-no_job = lone_line 2 (codes "job: Later")
+-- the bytes are no job
+abbrev pub no_job : Fault → Answer
+no_job fault = lone_line 2 (fault_text fault.kind fault.task fault.key)
 
-abbrev pub no_task : Answer
-no_task = lone_line 4 (codes "core 0: Later")
+-- the task of a core is refused
+abbrev pub no_task : CoreRefusal → Answer
+no_task r = lone_line 4 (codes "core " ++ signed_decimal (pos r.core) ++ codes ": " ++ refusal_text r.refusal)
 
--- The cycle at which a function of so many words ends on the one core of its platform, where every slot
--- is its own: first its words and its size word are read, four in a slot, and then each word is a bundle
--- of one cycle.
-abbrev pub end_of : ℕ → ℕ → ℕ
-end_of slot words = slot * ((words + 4) / 4) + words
+-- a whole text, or a refused task
+abbrev pub text_or : Result (List ℕ) CoreRefusal → Answer
+text_or (Ok text) = record { status = 0; text = text }
+text_or (Err refusal) = no_task refusal
 
--- the platform, whose period is its one slot, and the task with its value in signed decimal
-abbrev pub platform_line : ℕ → List ℕ
-platform_line slot = line (codes "platform cores 1 slot " ++ signed_decimal (pos slot) ++ codes " period " ++ signed_decimal (pos slot))
+abbrev pub report_or : Job → Result (List Row) CoreRefusal → Answer
+report_or job (Ok rows) = record { status = 0; text = report_text (report_rows job rows) }
+report_or job (Err refusal) = no_task refusal
 
-abbrev pub done_line : ℕ → ℕ → List ℕ
-done_line value cycles = line (codes "core 0 done " ++ signed_decimal (cast_signed w32 value) ++ codes " cycles " ++ signed_decimal (pos cycles))
+-- what is written for a job
+abbrev pub answer_by : JobCommand → Job → Answer
+answer_by Run job = report_or job (rows_from job 0 job.cores)
+answer_by Asm job = text_or (listings job.tasks 0 job.cores)
 
-abbrev pub report : ℕ → ℕ → ℕ → Answer
-report slot value cycles = record { status = 0; text = platform_line slot ++ done_line value cycles }
+abbrev pub job_answer : JobCommand → Result Job Fault → Answer
+job_answer command (Err fault) = no_job fault
+job_answer command (Ok job) = answer_by command job
 
--- steps are done where they end by the cycle limit
-abbrev pub steps_answer : ℕ → ℕ → List Step → Answer
-steps_answer slot limit steps = let cycles = end_of slot (length steps) in
-    if nat_le cycles limit then report slot (value_of steps) cycles else no_task
-
-abbrev pub task_answer : Job → Option (List Step) → Answer
-task_answer job None = no_task
-task_answer job (Some steps) = steps_answer job.slot job.cycles steps
-
-abbrev pub job_answer : Result Job JobFault → Answer
-job_answer (Err fault) = no_job
-job_answer (Ok job) = task_answer job (task_of job.source)
-
-unfoldable pub run_answer : List ℕ → Answer
-run_answer bytes = if nat_lt most_bytes (length bytes) then too_long else job_answer (job_of bytes)
+unfoldable pub bytes_answer : JobCommand → List ℕ → Answer
+bytes_answer command bytes = if nat_lt most_bytes (length bytes) then too_long else job_answer command (job_of bytes)
 
 abbrev pub command_answer : Command → List ℕ → Answer
-command_answer Run bytes = run_answer bytes
+command_answer (OfJob command) bytes = bytes_answer command bytes
 command_answer Usage bytes = usage
 
--- the one order of refusals: words, reading, length, job, task
+-- the one order of refusals: words, reading, length, job, tasks by core number
 abbrev pub answer : List (List ℕ) → List ℕ → Answer
 answer words bytes = command_answer (command_of words) bytes

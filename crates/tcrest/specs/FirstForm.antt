@@ -1,80 +1,55 @@
--- The one form of source that is run today: one function of `addi` and `nop` around one `ret`, with
--- exactly three statements after it. Each statement is a bundle of one word.
-use Rattle.std.specs.Prelude.{ℕ, ◌+◌, ◌%◌, ◌^◌, Bool, true, false, ◌&&◌, not, ◌==◌, nat_lt, nat_le, if◌then◌else◌, List, [], ◌∷◌, length, fold, replicate, slice_index, slice_set, codes, bytes_eq, Option, Some, None, Result, Ok, Err, ◌≡◌}
+-- The one form of code that is run today: one function of `addi` and `nop` around one `ret`, with
+-- exactly three bundles after it, each of one word.
+use Rattle.std.specs.Prelude.{ℕ, ◌+◌, ◌*◌, ◌/◌, ◌%◌, ◌^◌, Bool, true, false, ◌&&◌, not, ◌==◌, if◌then◌else◌, List, [], ◌∷◌, length, fold, replicate, slice_index, slice_set, Option, Some, None}
 use Rattle.std.specs.List.{list_any}
-use Rattle.patmos_asm.specs.Readers.{◌>>=◌, is_name, number_of, numbered, sign_at, without_blanks, word_at}
-use Rattle.patmos_asm.specs.Statements.{Piece, statements_of}
-use Rattle.tcrest.specs.declared.steps.TaskError.{TaskError}
-use Rattle.tcrest.specs.declared.steps.TaskError.TheVariants.{Later, Memory}
+use Rattle.patmos_instr.specs.Bundles.{Slots}
+use Rattle.patmos_instr.specs.declared.guards.Guard.{Guard}
+use Rattle.patmos_instr.specs.declared.functions.ImmFunc.TheVariants as imm
+use Rattle.patmos_instr.specs.declared.instructions.Instr.{Instr}
+use Rattle.patmos_instr.specs.declared.instructions.Op.{Op}
+use Rattle.patmos_instr.specs.declared.instructions.Op.TheVariants as op
+use Rattle.patmos_code.specs.Decoding.{bundle_at}
 use Rattle.tcrest.specs.declared.steps.Step.{Step}
 use Rattle.tcrest.specs.declared.steps.Step.TheVariants.{Add, Return}
 
--- what a call answered is what is found, unless memory ran out
-abbrev pub Finds : {A B : Type 0} → (A → B) → Result A TaskError → Option B → Type 0
-Finds view (Ok x) found = found ≡ Some (view x)
-Finds view (Err Later) found = found ≡ None
-Finds view (Err Memory) found = Unit {0}
+infixl 10 ◌>>=◌
+-- goes on with the value, where there is one
+abbrev pub ◌>>=◌ : {A B : Type 0} → Option A → (A → Option B) → Option B
+None >>= f = None
+(Some x) >>= f = f x
 
--- the number, where it is below the limit of its field
-abbrev pub below : ℕ → ℕ → Option ℕ
-below limit n = if nat_lt n limit then Some n else None
+-- the step of an operation under a guard that is always true
+abbrev pub step_by : Op → Option Step
+step_by (op.AluImm imm.Add rd ra number) = Some (Add rd ra number)
+step_by op.Return = Some Return
+step_by _ = None
 
--- a register or a number of 12 bits at the front, and what stands behind it
-unfoldable pub register_at : List ℕ → Option (ℕ × List ℕ)
-register_at text = do
-  n ← numbered 114 (word_at text).0
-  r ← below 32 n
-  Some (r, (word_at text).1)
+abbrev pub is_always : Guard → Bool
+is_always guard = not guard.negated && (guard.pred == 0)
 
-unfoldable pub immediate_at : List ℕ → Option (ℕ × List ℕ)
-immediate_at text = do
-  n ← number_of (word_at text).0
-  imm ← below 4096 n
-  Some (imm, (word_at text).1)
+abbrev pub step_of_instr : Instr → Option Step
+step_of_instr i = if is_always i.guard then step_by i.op else None
 
--- nothing but blanks is left
-abbrev pub is_over : List ℕ → Bool
-is_over text = length (without_blanks text) == 0
+-- the step of a bundle of one instruction
+abbrev pub lone_step : Instr → Option Instr → Option Step
+lone_step first None = step_of_instr first
+lone_step first (Some second) = None
 
--- the step, where the statement ends here
-abbrev pub at_end : Step → List ℕ → Option Step
-at_end step text = if is_over text then Some step else None
+abbrev pub step_of_bundle : Option Slots → Option Step
+step_of_bundle None = None
+step_of_bundle (Some b) = lone_step b.first b.second
 
--- what follows the word `addi`
-unfoldable pub addition_of : List ℕ → Option Step
-addition_of text = do
-  rd ← register_at text
-  ra_text ← sign_at 61 rd.1
-  ra ← register_at ra_text
-  imm_text ← sign_at 44 ra.1
-  imm ← immediate_at imm_text
-  at_end (Add rd.0 ra.0 imm.0) imm.1
+-- the step for which a word of code stands by itself
+abbrev pub step_of : ℕ → Option Step
+step_of word = step_of_bundle (bundle_at word 0)
 
-unfoldable pub step_of : List ℕ → Option Step
-step_of text = let word = word_at text in
-    if bytes_eq word.0 (codes "addi") then addition_of word.1
-    else (if bytes_eq word.0 (codes "nop") then at_end (Add 0 0 0) word.1
-    else (if bytes_eq word.0 (codes "ret") then at_end Return word.1 else None))
-
--- every statement is a step
-unfoldable pub steps_of : List Piece → Option (List Step)
+-- every word is a step
+abbrev pub steps_of : List ℕ → Option (List Step)
 steps_of [] = Some []
-steps_of (p ∷ ps) = do
-  step ← step_of p.1
-  steps ← steps_of ps
-  Some (step ∷ steps)
-
--- `.func NAME`
-abbrev pub is_header : List ℕ → Bool
-is_header text = let word = word_at text in let name = word_at word.1 in
-    bytes_eq word.0 (codes ".func") && is_name name.0 && is_over name.1
-
-abbrev pub body_of : List Piece → Option (List Step)
-body_of [] = None
-body_of (p ∷ ps) = if is_header p.1 then steps_of ps else None
+steps_of (word ∷ words) = step_of word >>= λ step. steps_of words >>= λ steps. Some (step ∷ steps)
 
 abbrev pub is_return : Step → Bool
-is_return (Add rd ra imm) = false
+is_return (Add rd ra number) = false
 is_return Return = true
 
 -- the first return has exactly three steps behind it, and none of them is a return
@@ -82,17 +57,27 @@ abbrev pub returns_once : List Step → Bool
 returns_once [] = false
 returns_once (step ∷ steps) = if is_return step then length steps == 3 && not (list_any is_return steps) else returns_once steps
 
--- the steps of a source of this form, of which a function has at most 4,096
-unfoldable pub task_of : List ℕ → Option (List Step)
-task_of source = do
-  steps ← (if list_any (λ b. b == 35) source then None else body_of (statements_of 1 source))
-  if returns_once steps && nat_le (length steps) 4096 then Some steps else None
+-- the steps of an image of one function, whose words stand behind its size
+abbrev pub body_of : List ℕ → Option (List Step)
+body_of [] = None
+body_of (size ∷ words) = steps_of words
+
+unfoldable pub task_of : List ℕ → List ℕ → Option (List Step)
+task_of starts words = (if length starts == 1 then body_of words else None) >>= λ steps.
+    if returns_once steps then Some steps else None
 
 -- the 32 registers after a step; register 0 stays 0
 abbrev pub registers_after : List ℕ → Step → List ℕ
 registers_after regs Return = regs
-registers_after regs (Add rd ra imm) = if rd == 0 then regs else slice_set regs rd ((slice_index regs ra + imm) % 2 ^ 32)
+registers_after regs (Add rd ra number) =
+    if rd == 0 then regs else slice_set regs rd ((slice_index regs ra + number) % 2 ^ 32)
 
 -- register 1 after all steps in order
 abbrev pub value_of : List Step → ℕ
 value_of steps = slice_index (fold registers_after (replicate 32 0) steps) 1
+
+-- The cycle at which a function of so many words ends on the one core of its platform, where every slot
+-- is its own: first its words and its size word are read, four in a slot, and then each word is a bundle
+-- of one cycle.
+abbrev pub end_of : ℕ → ℕ → ℕ
+end_of slot words = slot * ((words + 4) / 4) + words

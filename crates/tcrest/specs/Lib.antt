@@ -1,4 +1,10 @@
+pub mod Line
 pub mod Command
+pub mod Tasks
+pub mod Gives
+pub mod Finds
 pub mod FirstForm
+pub mod Listing
+pub mod Rows
 pub mod Answer
 pub mod Outcome

@@ -8,7 +8,11 @@
 mod answers;
 mod command;
 mod laws;
+mod listing;
+mod refusal;
+mod rows;
 mod steps;
+mod tasks;
 #[cfg(test)]
 mod tests;
 mod top;

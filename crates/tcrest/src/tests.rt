@@ -10,12 +10,36 @@ use tc_word::Text;
 const JOB: &[u8] =
     b"version = 1\ncores = 1\nslot = 6\ncycles = 100000\n[[task]]\ncore = 0\nlang = \"asm\"\nsource = \".func main; addi r1 = r0, 7; ret; nop; nop; nop\"\n";
 
-/// The same job with a limit of 16 cycles, and with a comment in its source.
+/// The same job with a limit of 16 cycles.
 const SHORT_JOB: &[u8] =
     b"version = 1\ncores = 1\nslot = 6\ncycles = 16\n[[task]]\ncore = 0\nlang = \"asm\"\nsource = \".func main; addi r1 = r0, 7; ret; nop; nop; nop\"\n";
 
-const COMMENTED_JOB: &[u8] =
-    b"version = 1\ncores = 1\nslot = 6\ncycles = 100000\n[[task]]\ncore = 0\nlang = \"asm\"\nsource = \".func main; addi r1 = r0, 7; ret; nop; nop; nop # seven\"\n";
+/// Of two cores, core 0 stores 5 in a word of shared memory, and core 1 loads it twice. The task of core 1
+/// is written first.
+const SHARING: &[u8] =
+    b"version = 1\ncores = 2\nslot = 6\ncycles = 100000\n[[task]]\ncore = 1\nlang = \"asm\"\nsource = \".func main; addl r2 = r0, 0x01000000; lwm r3 = [r2 + 0]; nop; lwm r4 = [r2 + 0]; ret; sli r3 = r3, 4; add r1 = r3, r4; nop\"\n[[task]]\ncore = 0\nlang = \"asm\"\nstart = 12\nsource = \".func main; addl r2 = r0, 0x01000000; addi r3 = r0, 5; swm [r2 + 0] = r3; ret; nop; nop; nop\"\n";
+
+const LISTINGS: &[u8] =
+    b"core 0 words 9\n00000008\n85840000\n01000000\n00060005\n04462180\n05400000\n00000000\n00000000\n00000000\ncore 1 words 10\n00000009\n85840000\n01000000\n04062180\n00000000\n04082180\n05400000\n00c63004\n02023200\n00000000\n";
+
+/// A job with every key that a job may have.
+const EVERY_KEY: &[u8] =
+    b"version = 2\ncores = 2\nslot = 8\ntable = [0, 1, 0]\ncycles = 1000\ntrace = 4\nworkers = 1\n[[task]]\ncore = 1\nlang = \"asm\"\nsource = \".func main; lws r1 = [r0 + 0]; ret; nop; nop; nop\"\ninput = [-1, 7]\nstart = 24\n";
+
+const ONE_LISTING: &[u8] =
+    b"core 1 words 6\n00000005\n04020000\n05400000\n00000000\n00000000\n00000000\n";
+
+/// A job of two cores in slots of 64 cycles, without tasks.
+const IDLE_JOB: &[u8] = b"version = 1\ncores = 2\nslot = 64\ncycles = 1\n";
+
+/// Core 1 has a C task, and core 0 a text with a fault on its second line. The task of core 1 is written
+/// first.
+const FAULTY_JOB: &[u8] =
+    b"version = 1\ncores = 2\nslot = 6\ncycles = 9\n[[task]]\ncore = 1\nlang = \"c\"\nsource = \"\"\n[[task]]\ncore = 0\nlang = \"asm\"\nsource = \".func main\\nfoo r1\"\n";
+
+/// Core 1 has a C task, and core 0 none.
+const C_JOB: &[u8] =
+    b"version = 1\ncores = 2\nslot = 6\ncycles = 9\n[[task]]\ncore = 1\nlang = \"c\"\nsource = \"\"\n";
 
 const REPORT: &[u8] = b"platform cores 1 slot 6 period 6\ncore 0 done 7 cycles 17\n";
 
@@ -37,7 +61,7 @@ fn answer_to<R: Threads + Wait + Sync>(
     input: &[u8],
 ) -> Result<(u8, SureGather), Fail> {
     let mut source = SureBytes::new(Vec::from_slice(alloc, input)?);
-    let mut sink = SureGather::new(alloc, 200)?;
+    let mut sink = SureGather::new(alloc, 400)?;
     let words = words_of(alloc, given)?;
     let status = tcrest(
         alloc,
@@ -79,18 +103,51 @@ fn run_failing<R: Threads + Wait + Sync>(
 const NEVER: u32 = 1_000_000;
 
 #[test]
-fn run_writes_the_report(rt: HostRuntime) -> Result<(), Fail> {
-    let (status, sink) = answer_to(&rt, rt.alloc(), &["run"], JOB)?;
-    assert_eq!(rt; status, 0);
-    assert_eq!(rt; sink.kept(), REPORT);
+fn jobs_are_answered(rt: HostRuntime) -> Result<(), Fail> {
+    for (word, input, want, text) in [
+        ("run", JOB, 0, REPORT),
+        ("run", SHORT_JOB, 4, b"core 0: Later\n".as_slice()),
+        ("run", SHARING, 4, b"core 0: Later\n".as_slice()),
+        (
+            "run",
+            IDLE_JOB,
+            0,
+            b"platform cores 2 slot 64 period 128\ncore 0 idle\ncore 1 idle\n".as_slice(),
+        ),
+        (
+            "run",
+            FAULTY_JOB,
+            4,
+            b"core 0: Mnemonic line 2\n".as_slice(),
+        ),
+        ("run", b"=".as_slice(), 2, b"job: Toml\n".as_slice()),
+        ("run", EVERY_KEY, 4, b"core 1: Later\n".as_slice()),
+        ("asm", SHARING, 0, LISTINGS),
+        ("asm", EVERY_KEY, 0, ONE_LISTING),
+        (
+            "asm",
+            FAULTY_JOB,
+            4,
+            b"core 0: Mnemonic line 2\n".as_slice(),
+        ),
+        ("asm", C_JOB, 4, b"core 1: Later\n".as_slice()),
+        (
+            "asm",
+            b"".as_slice(),
+            2,
+            b"job: Missing version\n".as_slice(),
+        ),
+    ] {
+        let (status, sink) = answer_to(&rt, rt.alloc(), &[word], input)?;
+        assert_eq!(rt; status, want);
+        assert_eq!(rt; sink.kept(), text);
+    }
     Ok(())
 }
 
 #[test]
 fn other_words_are_answered_with_usage(rt: HostRuntime) -> Result<(), Fail> {
-    for word in [
-        "gen", "bench", "asm", "bound", "mean", "run x", "Run", "--help",
-    ] {
+    for word in ["gen", "bench", "bound", "mean", "run x", "Run", "--help"] {
         let (status, sink) = answer_to(&rt, rt.alloc(), &[word], JOB)?;
         assert_eq!(rt; status, 1);
         assert_eq!(rt; sink.kept(), USAGE);
@@ -98,21 +155,6 @@ fn other_words_are_answered_with_usage(rt: HostRuntime) -> Result<(), Fail> {
     let (two, _) = answer_to(&rt, rt.alloc(), &["run", "x"], JOB)?;
     let (none, _) = answer_to(&rt, rt.alloc(), &[], JOB)?;
     assert_eq!(rt; (two, none), (1, 1));
-    Ok(())
-}
-
-#[test]
-fn other_jobs_come_later(rt: HostRuntime) -> Result<(), Fail> {
-    for input in [b"".as_slice(), b"=".as_slice(), b"version = 1".as_slice()] {
-        let (status, sink) = answer_to(&rt, rt.alloc(), &["run"], input)?;
-        assert_eq!(rt; status, 2);
-        assert_eq!(rt; sink.kept(), b"job: Later\n".as_slice());
-    }
-    for input in [SHORT_JOB, COMMENTED_JOB] {
-        let (status, sink) = answer_to(&rt, rt.alloc(), &["run"], input)?;
-        assert_eq!(rt; status, 4);
-        assert_eq!(rt; sink.kept(), b"core 0: Later\n".as_slice());
-    }
     Ok(())
 }
 
@@ -125,7 +167,7 @@ fn a_job_text_has_a_limit(rt: HostRuntime) -> Result<(), Fail> {
     let spaces = vec![in rt.alloc(); b' '; 1_048_576]?;
     let (status, sink) = answer_to(&rt, rt.alloc(), &["run"], spaces.as_slice())?;
     assert_eq!(rt; status, 2);
-    assert_eq!(rt; sink.kept(), b"job: Later\n".as_slice());
+    assert_eq!(rt; sink.kept(), b"job: Missing version\n".as_slice());
     Ok(())
 }
 

@@ -1,11 +1,11 @@
 ghost use Rattle.std.specs.Prelude.{◌≡◌, ◌⊎◌, [], IfSome};
 ghost use Rattle.tc_io.specs.Faults.{Rose};
-ghost use Rattle.tcrest.specs.Answer.{answer, command_answer, run_answer};
+ghost use Rattle.tcrest.specs.Answer.{answer, command_answer, bytes_answer};
 ghost use Rattle.tcrest.specs.Command as commands;
 ghost use Rattle.tcrest.specs.Outcome.{Ends, IsAnswered, IsSent, IsTold};
 
 use crate::answers::job_answer;
-use crate::command::{Command, command_of};
+use crate::command::{Command, JobCommand, command_of};
 use std::alloc::Global;
 use std::sync::Wait;
 use std::thread::Threads;
@@ -27,10 +27,10 @@ const READ_FAULT: u8 = 5;
 ///
 /// | status | meaning | written |
 /// |---|---|---|
-/// | 0 | the task is done | the report |
+/// | 0 | the command did what it says | the report, or the listings |
 /// | 1 | the words are no command | the usage line |
 /// | 2 | the job is refused | `job: ` and the fault |
-/// | 4 | a task is refused | `core 0: ` and the fault |
+/// | 4 | a task is refused | `core C: ` and the fault, of the least such core |
 /// | 5 | the source failed | `read fault` |
 /// | 6 | the sink failed | a proper front of the text that would have come |
 /// | 7 | memory was refused | nothing |
@@ -76,14 +76,20 @@ fn perform<S: Source, K: Sink>(alloc: Global, command: Command, source: &mut S, 
     ensures write_fault { result ≡ 6 → Rose (K.faults sink.old) (K.faults sink.new) }
 {
     match command {
-        Command::Run => run(alloc, source, sink),
+        Command::Job(command) => answer_job(alloc, command, source, sink),
         Command::Usage => finish(sink, 1, b"usage: tcrest run|bound|asm|mean|gen N|bench N\n"),
     }
 }
 
-/// Answers `run`: all bytes are read, and a text that is not too long is answered as a job.
-fn run<S: Source, K: Sink>(alloc: Global, source: &mut S, sink: &mut K) -> u8
-    ensures ends { IfSome (S.left source.old) (λ bytes. Ends (run_answer bytes)
+/// Answers a command about a job: all bytes are read, and a text that is not too long is answered as a
+/// job.
+fn answer_job<S: Source, K: Sink>(
+    alloc: Global,
+    command: JobCommand,
+    source: &mut S,
+    sink: &mut K,
+) -> u8
+    ensures ends { IfSome (S.left source.old) (λ bytes. Ends (bytes_answer command bytes)
         (Rose (S.faults source.old) (S.faults source.new)) result
         (K.faults sink.old) (K.faults sink.new) (K.taken sink.old) (K.taken sink.new)) }
     ensures read_fault { result ≡ 5 → Rose (S.faults source.old) (S.faults source.new) }
@@ -95,7 +101,7 @@ fn run<S: Source, K: Sink>(alloc: Global, source: &mut S, sink: &mut K) -> u8
         Err(ReadError::TooLong) => return finish(sink, 2, b"job: TooLong\n"),
         Err(ReadError::Memory) => return MEMORY,
     };
-    match job_answer(alloc, bytes.as_slice()) {
+    match job_answer(alloc, command, bytes.as_slice()) {
         Ok(answer) => finish(sink, answer.status, answer.text.as_slice()),
         Err(_) => MEMORY,
     }

@@ -1,0 +1,11 @@
+pub mod Asked
+pub mod Calls
+pub mod Ends
+pub mod Lists
+pub mod Looked
+pub mod Moved
+pub mod Order
+pub mod Seats
+pub mod Steps
+pub mod Telling
+pub mod TwoEnds

@@ -1,0 +1,8 @@
+pub mod Board
+pub mod End
+pub mod Plays
+pub mod Record
+pub mod Rule
+pub mod Told
+pub mod Two
+pub mod View

@@ -1,0 +1,4 @@
+pub mod Loaded
+pub mod Machine
+pub mod Pairs
+pub mod Range

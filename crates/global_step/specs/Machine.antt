@@ -1,0 +1,59 @@
+-- The machine of all cores, cycle by cycle (Schoeberl et al., T-CREST, 2015; the order within a cycle is
+-- our own profile TP1's). What its cycles and the order of its operations are stands in shared_order,
+-- and what a core does in a cycle in patmos_core.
+use Rattle.std.specs.Prelude.{ℕ, List, [], length, None, Some, slice_get}
+use Rattle.shared_order.specs.declared.operation.Operation.{Operation}
+use Rattle.shared_order.specs.Operation.{loads, part}
+use Rattle.shared_order.specs.Machine.{State, cycled}
+use Rattle.patmos_code.specs.Images.{Parts}
+use Rattle.patmos_core.specs.declared.state.CoreState.{CoreState}
+use Rattle.patmos_core.specs.State.{Core}
+use Rattle.patmos_core.specs.Begin.{begun, idle}
+use Rattle.patmos_core.specs.Cycle.{turn}
+use Rattle.patmos_core.specs.Apart.{site_of, followed}
+use Rattle.patmos_core.specs.Outcome.{state_at}
+use Rattle.global_step.specs.declared.loaded.LoadedCore.{LoadedCore}
+use Rattle.global_step.specs.Loaded.{Machine}
+
+-- the image of a core without a task
+abbrev pub no_code : Parts
+no_code = record { words = []; starts = []; initial = []; input_at = 4; input_room = 0 }
+
+-- a core before the first cycle
+abbrev pub first_core : LoadedCore → Core
+first_core c = elim c.image [
+  | None ↦ idle (site_of c.place no_code)
+  | Some image ↦ begun (site_of c.place image) c.input
+]
+
+-- the core with a number; where there is none, one that does nothing
+abbrev pub core_among : List LoadedCore → ℕ → Core
+core_among cores k = elim (slice_get cores k) [
+  | None ↦ idle (record { cores = 1; core = 0; slot = 0; table = []; start = 0; image = no_code })
+  | Some c ↦ first_core c
+]
+
+-- the machine after the cycles 0 to t - 1
+unfoldable pub machine : Machine → ℕ → State Core
+machine m t = cycled turn (length m.cores) (core_among m.cores) t
+
+-- the machine at its limit, from which on nothing changes
+abbrev pub at_limit : Machine → State Core
+at_limit m = machine m m.limit
+
+-- how far a core has come there
+abbrev pub outcome_of : Machine → ℕ → CoreState
+outcome_of m core = state_at m.limit ((at_limit m).cores core).plain
+
+-- every load and store of a shared or a communication word, in the order of stamps, and those of one
+-- core
+abbrev pub all_operations : Machine → List Operation
+all_operations m = (at_limit m).made
+
+abbrev pub operations_of : Machine → ℕ → List Operation
+operations_of m core = part (length m.cores) core (all_operations m)
+
+-- those of the core's task itself, without those of its interface
+abbrev pub task_operations : Machine → ℕ → List Operation
+task_operations m core =
+    (followed (length m.cores) core (core_among m.cores core) (loads (operations_of m core)) m.limit).own

@@ -1,0 +1,20 @@
+//! The machine of all cores: what is loaded, and what it does cycle by cycle.
+//!
+//! - [`Loaded`] holds the cores of one platform with their places, images and inputs, the cycle limit, how
+//!   much of a trace is told, and the number of workers; [`Loaded::new`] accepts exactly what is one.
+//! - `specs/Machine.antt` has the machine: in each cycle all deliveries by sender number, then each core in
+//!   order with its injection and its own part, up to the limit; all operations and those of a core, of a
+//!   task itself; and how far a core has come.
+//! - [`machine_keeps_ranges`]: the cores of a machine that is loaded with words stay in range, and so do its
+//!   loads and stores.
+//! - [`worked_platform`], [`worked_shared`] and [`worked_network`] show it on cores that meet, computed by
+//!   the checker.
+#![tactic(auto)]
+
+mod loaded;
+mod range;
+mod worked;
+
+pub use loaded::{Loaded, LoadedCore};
+pub use range::machine_keeps_ranges;
+pub use worked::{worked_network, worked_platform, worked_shared};

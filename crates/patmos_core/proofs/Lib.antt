@@ -1,0 +1,15 @@
+pub mod Branches
+pub mod Granted
+pub mod MainCells
+pub mod Memories
+pub mod Parts
+pub mod Places
+pub mod Spills
+pub mod Traces
+pub mod CoreRanges
+pub mod Leaves
+pub mod CellRanges
+pub mod NarrowWords
+pub mod Constants
+pub mod HeldWords
+pub mod RegisterWords

@@ -1,0 +1,19 @@
+-- How far a core has come at a cycle limit: what its state says once all cycles before the limit are
+-- done.
+use Rattle.std.specs.Prelude.{ℕ, ◌-◌, true, false, ◌&&◌, nat_le, slice_index}
+use Rattle.patmos_core.specs.declared.state.Status.TheVariants as status
+use Rattle.patmos_core.specs.declared.state.CoreState.{CoreState}
+use Rattle.patmos_core.specs.declared.state.CoreState.TheVariants.{Idle, Running, Done, Trapped}
+use Rattle.patmos_core.specs.State.{Plain, has_ended}
+
+-- the task is done where its end is at the limit or before it; a load of the last delay slot is not
+-- seen, since it is still pending
+abbrev pub state_at : ℕ → Plain → CoreState
+state_at limit x = elim x.status [
+  | status.Idle ↦ Idle
+  | status.Running ↦ elim (has_ended x && nat_le x.free limit) [
+    | true ↦ Done (slice_index x.regs.general 1) (slice_index x.regs.general 2) (x.free - x.site.start)
+    | false ↦ Running
+  ]
+  | status.Trapped trap at ↦ Trapped trap at
+]

@@ -1,0 +1,73 @@
+-- What the core may do at a point of its run.
+use Rattle.std.specs.Prelude.{◌≡◌, ℕ, ◌+◌, ◌*◌, ◌%◌, ◌≤◌, ◌<◌, ◌≢◌, true, None}
+use Rattle.slot_arbiter.specs.declared.place.Place.{Place}
+use Rattle.local_store.specs.declared.map.Cell.{Cell}
+use Rattle.local_store.specs.declared.map.Cell.TheVariants as cell
+use Rattle.local_store.specs.Map.{IsInRange}
+use Rattle.argo_ni.specs.Interface.{Standing}
+use Rattle.argo_ni.specs.Event.{IsPast}
+use Rattle.patmos_sem.specs.declared.effects.Effect.{Effect}
+use Rattle.patmos_sem.specs.declared.effects.Effect.TheVariants as effect
+use Rattle.patmos_sem.specs.declared.pending.Pending.TheVariants as pending
+use Rattle.patmos_sem.specs.Effects.{width_bytes, store_bytes}
+use Rattle.patmos_sem.specs.Registers.{Registers}
+use Rattle.patmos_core.specs.declared.transfer.Then.{Then}
+use Rattle.patmos_core.specs.declared.transfer.Then.TheVariants as moved
+use Rattle.patmos_core.specs.State.{Plain}
+use Rattle.patmos_core.specs.Checks.{load_fault, store_fault, has_room}
+
+-- another core of the platform
+pub record IsOther (place : Place) (target : ℕ) : Type 0 where
+  pub among : target < place.cores
+  pub other : target ≢ place.core
+
+-- a cell that there is; of the interface's registers those for another core
+abbrev pub IsReadable : Place → Cell → Type 0
+IsReadable place c = IsInRange c × elim c [
+  | cell.Scratch word ↦ Unit {0}
+  | cell.Comm word ↦ Unit {0}
+  | cell.Port target register ↦ IsOther place target
+  | cell.Private word ↦ Unit {0}
+  | cell.Shared word ↦ Unit {0}
+]
+
+-- all that the interface did before the own part of a cycle is done
+pub record IsReady (cycle : ℕ) (ni : Standing) : Type 0 where
+  pub early : cycle ≤ 20000000
+  pub after : ni.from ≤ 2 * cycle + 2
+  pub past : IsPast ni cycle
+
+-- no check on what a bundle asks for fails, but for that on flows
+abbrev pub IsGranted : Effect → Plain → Type 0
+IsGranted asked x = elim asked [
+  | effect.Nothing ↦ Unit {0}
+  | effect.Flow kind ↦ Unit {0}
+  | effect.Load space width rd address ↦ load_fault x space width address ≡ None
+  | effect.Store space width address value ↦ store_fault x space width address value ≡ None
+  | effect.StackOp func count ↦ has_room func count x.stack ≡ true
+]
+
+-- a load's value can come into its register: nothing else is on its way, and the address is a multiple of
+-- the load's bytes
+pub record IsAwaited (regs : Registers) (bytes address : ℕ) : Type 0 where
+  pub pending : regs.pending ≡ pending.Nothing
+  pub aligned : address % bytes ≡ 0
+
+-- what comes of words that are moved can be done
+abbrev pub CanMove : Registers → Then → Type 0
+CanMove regs then_on = elim then_on [
+  | moved.Nothing ↦ Unit {0}
+  | moved.Load rd width address ↦ IsAwaited regs (width_bytes width) address
+  | moved.Line rd width address ↦ IsAwaited regs (width_bytes width) address
+  | moved.Store cached width address value ↦ address % store_bytes width ≡ 0
+]
+
+-- the first cell of a line: all four of its words are there
+abbrev pub IsLine : Cell → Type 0
+IsLine c = elim c [
+  | cell.Scratch word ↦ Unit {0}
+  | cell.Comm word ↦ Unit {0}
+  | cell.Port target register ↦ Unit {0}
+  | cell.Private word ↦ word + 3 < 65536
+  | cell.Shared word ↦ Unit {0}
+]

@@ -1,0 +1,56 @@
+ghost use Rattle.std.specs.Prelude.{◌≡◌, option_map};
+ghost use Rattle.toml.specs.View.{view};
+ghost use Rattle.tc_job.specs.Keys as specs;
+
+use toml::Value;
+
+/// The table whose keys are told.
+#[derive(Clone, Copy)]
+pub enum Level {
+    /// The top level of a job without a slot table.
+    OfJob,
+    /// The top level of a job with one.
+    OfTabledJob,
+    OfTask,
+}
+
+impl Level {
+    /// The top level of a job of that version: it has a slot table where that is the integer 2.
+    pub fn of_job(version: Option<&Value>) -> Level
+        ensures { result ≡ specs.level_of (option_map (λ v. view v.now) version.entry) }
+    {
+        match version.and_then(Value::as_integer) {
+            Some(2) => Level::OfTabledJob,
+            _ => Level::OfJob,
+        }
+    }
+
+    /// Whether the level has this key.
+    pub fn has(self, key: &str) -> bool
+        ensures { result ≡ specs.is_key self key.now }
+    {
+        match self {
+            Level::OfJob => is_job_key(key),
+            Level::OfTabledJob => is_job_key(key) || key == "table",
+            Level::OfTask => is_task_key(key),
+        }
+    }
+}
+
+fn is_job_key(key: &str) -> bool
+    ensures { result ≡ specs.is_job_key key.now }
+{
+    key == "version"
+        || key == "cores"
+        || key == "slot"
+        || key == "cycles"
+        || key == "trace"
+        || key == "workers"
+        || key == "task"
+}
+
+fn is_task_key(key: &str) -> bool
+    ensures { result ≡ specs.is_task_key key.now }
+{
+    key == "core" || key == "lang" || key == "source" || key == "input" || key == "start"
+}

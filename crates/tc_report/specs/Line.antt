@@ -1,0 +1,60 @@
+-- The pieces of a report's lines.
+use Rattle.std.specs.Prelude.{ℕ, ◌+◌, ◌==◌, Bool, true, false, if◌then◌else◌, List, [], ◌∷◌, ◌++◌, codes, Option, Some, None}
+use Rattle.std.specs.Fmt.{decimal, signed_decimal}
+use Rattle.std.specs.Int.{w32, cast_signed}
+use Rattle.slot_arbiter.specs.declared.event.Access.{Access}
+use Rattle.tc_report.specs.declared.rows.RowState.{RowState}
+use Rattle.tc_report.specs.declared.rows.RowState.TheVariants as states
+
+-- every line ends with one newline
+abbrev pub line : List ℕ → List ℕ
+line text = text ++ 10 ∷ []
+
+-- how a line about a core begins
+abbrev pub about : ℕ → List ℕ
+about core = codes "core " ++ decimal core ++ codes " "
+
+-- a word in decimal, read as signed (two's complement) or as unsigned
+abbrev pub signed_word : ℕ → List ℕ
+signed_word word = signed_decimal (cast_signed w32 word)
+
+abbrev pub word_text : Bool → ℕ → List ℕ
+word_text unsigned word = if unsigned then decimal word else signed_word word
+
+-- what became of the core's task
+abbrev pub state_text : RowState → List ℕ
+state_text states.Idle = codes "idle"
+state_text states.Limit = codes "limit"
+state_text (states.Done value cycles) = codes "done " ++ signed_word value ++ codes " cycles " ++ decimal cycles
+state_text (states.Trap trap at) = codes "trap " ++ decimal trap ++ codes " at " ++ decimal at
+
+abbrev pub is_done : RowState → Bool
+is_done (states.Done value cycles) = true
+is_done _ = false
+
+-- words that stand in a line only where something holds
+abbrev pub where_so : Bool → List ℕ → List ℕ
+where_so holds words = if holds then words else []
+
+-- What is told of a C task on the same line: its bound, which no other task has, whether it is alone with
+-- its shared data, and whether a loop of it, now done, ran past its count.
+abbrev pub bound_text : Option ℕ → Bool → Bool → List ℕ
+bound_text None alone overrun = []
+bound_text (Some bound) alone overrun = codes " bound " ++ decimal bound ++ where_so alone (codes " alone") ++ where_so overrun (codes " overrun")
+
+-- a word of a done task's array `out`, and all of them from an index on
+abbrev pub out_line : ℕ → Bool → ℕ → ℕ → List ℕ
+out_line core unsigned index word = line (about core ++ codes "out " ++ decimal index ++ codes " " ++ word_text unsigned word)
+
+abbrev pub outs_from : ℕ → Bool → ℕ → List ℕ → List ℕ
+outs_from core unsigned index [] = []
+outs_from core unsigned index (word ∷ words) = out_line core unsigned index word ++ outs_from core unsigned (index + 1) words
+
+-- how many starts of transfers were dropped, where any was
+abbrev pub dropped_lines : ℕ → ℕ → List ℕ
+dropped_lines core dropped = if dropped == 0 then [] else line (about core ++ codes "dropped " ++ decimal dropped)
+
+-- the cycle at which a transaction's data moved, which way, and how many words
+abbrev pub access_line : ℕ → Access → List ℕ
+access_line core access =
+    line (about core ++ codes "access " ++ decimal access.cycle ++ (if access.write then codes " write " else codes " read ") ++ decimal access.words)

@@ -1,0 +1,16 @@
+ghost use Rattle.std.specs.Prelude.{◌≡◌, ◌-◌, ◌^◌, [], true, false, codes};
+ghost use Rattle.tc_report.specs.Line.{access_line, bound_text, dropped_lines, line, state_text, word_text};
+
+use crate::rows::RowState;
+
+/// The definitions at work: the pieces of some lines.
+pub fn report_worked()
+    ensures done { state_text (RowState.Done (2 ^ 32 - 7) 17) ≡ codes "done -7 cycles 17" }
+    ensures trap { state_text (RowState.Trap 2 7) ≡ codes "trap 2 at 7" }
+    ensures bound { bound_text (Some 45) true false ≡ codes " bound 45 alone" }
+    ensures no_bound { bound_text None true true ≡ [] }
+    ensures unsigned { word_text true (2 ^ 32 - 7) ≡ codes "4294967289" }
+    ensures dropped { dropped_lines 0 1 ≡ line (codes "core 0 dropped 1") }
+    ensures nothing_dropped { dropped_lines 0 0 ≡ [] }
+    ensures access { access_line 2 (record { cycle = 12; write = false; words = 4 }) ≡ line (codes "core 2 access 12 read 4") }
+{}
