@@ -14,7 +14,7 @@ unfolding code_of code_in
 no_statement text [] is e = rw (← is) refl
 no_statement text (i ∷ items) is e = let z : length (i ∷ items) ≡ 0 = grind (arith, nat_tests) in absurd (omega arith)
 
-answered : (is : List Item) (fault : Option AsmFault) → length is == 0 ≡ false → first_fault (place_of (functions_from 0 is)) (place_of []) nothing is ≡ fault →
+pub answered : (is : List Item) (fault : Option AsmFault) → length is == 0 ≡ false → first_fault (place_of (functions_from 0 is)) (place_of []) nothing is ≡ fault →
     code_in is ≡ code_or fault (parts_in is)
 unfolding code_in
 answered [] fault some e = cc

@@ -105,7 +105,7 @@ is_part functions labels before (bundle line b ∷ is) e small large =
 is_part functions labels before (faulty line fault ∷ is) e small large = cc
 
 -- a text without a fault begins with a function
-first_is_function : (functions : Lookup) (is : List Item) → first_fault functions (place_of []) nothing is ≡ None → 0 < length is →
+pub first_is_function : (functions : Lookup) (is : List Item) → first_fault functions (place_of []) nothing is ≡ None → 0 < length is →
     (0 < length (functions_from 0 is)) × (size_from is ≡ 0)
 first_is_function functions [] e some = absurd (omega arith)
 first_is_function functions (function line n ∷ is) e some = (omega arith, refl)

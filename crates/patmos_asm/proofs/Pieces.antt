@@ -20,14 +20,14 @@ line_after-inside line b Braces inside = rw inside refl
 line_after-inside line b Comment inside = rw inside refl
 
 -- a byte that ends its piece, one of a comment, and one of the piece
-pieces_of-end : (line b : ℕ) (at : Where) (bs : List ℕ) → ends_statement at b ≡ true → pieces_of line at (b ∷ bs) ≡ (line, []) ∷ pieces_of (line_after line b) Plain bs
+pub pieces_of-end : (line b : ℕ) (at : Where) (bs : List ℕ) → ends_statement at b ≡ true → pieces_of line at (b ∷ bs) ≡ (line, []) ∷ pieces_of (line_after line b) Plain bs
 pieces_of-end line b at bs ends = rw ends refl
 
 pieces_of-comment : (line b : ℕ) (at : Where) (bs : List ℕ) → ends_statement at b ≡ false → is_comment (after_byte at b) ≡ true
     → pieces_of line at (b ∷ bs) ≡ pieces_of line (after_byte at b) bs
 pieces_of-comment line b at bs goes_on comment = ap (λ l. with_byte line at b (pieces_of l (place_after at b) bs)) (line_after-inside line b at goes_on) ∙ rw (goes_on, comment) refl
 
-pieces_of-byte : (line b : ℕ) (at : Where) (bs : List ℕ) → ends_statement at b ≡ false → is_comment (after_byte at b) ≡ false
+pub pieces_of-byte : (line b : ℕ) (at : Where) (bs : List ℕ) → ends_statement at b ≡ false → is_comment (after_byte at b) ≡ false
     → pieces_of line at (b ∷ bs) ≡ put_before (b ∷ []) (pieces_of line (after_byte at b) bs)
 pieces_of-byte line b at bs goes_on text = ap (λ l. with_byte line at b (pieces_of l (place_after at b) bs)) (line_after-inside line b at goes_on) ∙ rw (goes_on, text) refl
 

@@ -10,7 +10,7 @@
 //! `assemble` gives exactly that code or that fault. `image_of` makes of a code the image that a core is
 //! started with. A `Code` is always the code of some text. `print` writes a code exactly as
 //! `specs/Printed.antt` says: each function's name, labels named after the offsets that are branched to, and
-//! each bundle on a line of its own. That the printed text has the same code is shown by tests, not proved.
+//! each bundle on a line of its own. The printed text has the same code.
 //!
 //! The names of labels and functions stand in an `indexmap`, so that a text is assembled in time linear in
 //! its length.

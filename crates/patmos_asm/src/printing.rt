@@ -1,6 +1,7 @@
-ghost use Rattle.std.specs.Prelude.{◌≡◌, ◌≤◌, ◌<◌, ◌^◌, ◌++◌, ◌||◌, ◌+◌, ◌+ℤ◌, pos, ℕ, ◌==◌, List, [], ◌∷◌, map, length, take, drop, slice_index, if◌then◌else◌, string_bytes, unwrap_or, IfOk, OnOk, codes};
+ghost use Rattle.std.specs.Prelude.{◌≡◌, ◌≤◌, ◌<◌, ◌^◌, ◌++◌, ◌||◌, ◌+◌, ◌+ℤ◌, pos, ℕ, ◌==◌, List, [], ◌∷◌, map, length, take, drop, slice_index, if◌then◌else◌, string_bytes, unwrap_or, IfOk, OnOk, Ok, codes};
 ghost use Rattle.std.specs.List.{zip};
 ghost use Rattle.patmos_instr.specs.Bundles.{Slots};
+ghost use Rattle.patmos_asm.specs.Assembly.{code_of};
 ghost use Rattle.patmos_asm.specs.Printed as specs;
 ghost use Rattle.patmos_asm.specs.Written.{bundle_text, instr_text};
 ghost use Rattle.patmos_asm.specs.Targets.{branched_in, name_in, name_or};
@@ -300,10 +301,11 @@ fn write_functions(
 }
 
 /// A text whose code is this one, with a label at each place that is branched to and each bundle on a line
-/// of its own.
-#[tactic(auto, unfolding(crate::specs::Printed::printed))]
+/// of its own: the code of that text is this code.
+#[tactic(auto, unfolding(crate::specs::Printed::printed), using(crate::proofs::RoundTrip::text_comes_back))]
 pub fn print(alloc: Global, code: &Code) -> Result<Vec<u8>, OutOfMemory>
-    ensures { IfOk result (λ text. text.items ≡ specs.printed code.now) }
+    ensures layout { IfOk result (λ text. text.items ≡ specs.printed code.now) }
+    ensures comes_back { IfOk result (λ text. code_of text.items ≡ Ok code.now) }
 {
     let functions = functions_of(alloc, code.starts(), code.names())?;
     let text = write_functions(alloc, &functions, code.words(), code.starts(), code.names())?;
