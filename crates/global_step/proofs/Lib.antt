@@ -1,1 +1,5 @@
 pub mod MachineRanges
+pub mod PlainEvery
+pub mod PlainPerform
+pub mod PlainLeast
+pub mod PlainCourse

@@ -5,18 +5,21 @@ use Rattle.std.proofs.lemmas.Bool.{cases_lt}
 use Rattle.std.proofs.lemmas.Nat.{mul-le}
 use Rattle.std.proofs.lemmas.Option.{slice_get_past}
 use Rattle.shared_order.specs.Fit.{Fits}
+use Rattle.shared_order.specs.Apart.{apart}
+use Rattle.shared_order.specs.Course.{IsCourse}
+use Rattle.shared_order.proofs.Courses.{is_course}
 use Rattle.shared_order.proofs.Fits.{good_kept, words_kept, operations_fit}
 use Rattle.slot_arbiter.specs.declared.place.Place.{Place}
 use Rattle.argo_ni.specs.Packet.{comm_word}
 use Rattle.patmos_code.specs.Images.{Parts}
-use Rattle.patmos_core.specs.Begin.{begun, idle}
+use Rattle.patmos_core.specs.Begin.{begun, idle, no_code}
 use Rattle.patmos_core.specs.Cycle.{turn}
 use Rattle.patmos_core.specs.Apart.{site_of}
 use Rattle.patmos_core.specs.Range.{IsWord, HasCode, InRange}
 use Rattle.patmos_core.proofs.CoreRanges.{core_keeps, begun_in_range, idle_in_range}
 use Rattle.global_step.specs.declared.loaded.LoadedCore.{LoadedCore}
 use Rattle.global_step.specs.Loaded.{Machine, IsBeside, AreOnePlatform}
-use Rattle.global_step.specs.Machine.{no_code, first_core, core_among, machine, all_operations}
+use Rattle.global_step.specs.Machine.{first_core, core_among, machine, all_operations}
 use Rattle.global_step.specs.Range.{HoldsWords, IsOfWords, board_words}
 
 -- the place is that of one of n cores
@@ -82,3 +85,11 @@ unfolding machine
 operations_keep m h =
     let room : 2 * m.limit * length m.cores ≤ 2 ^ 64 = room_for m.limit (length m.cores) h.loaded.most_cycles h.few in
     operations_fit turn (length m.cores) (InRange (board_words m)) (board_words m) (core_among m.cores) m.limit (core_keeps (board_words m)) (first_fits m h) room
+
+-- so the machine's list is a course of its cores
+pub machine_course : (m : Machine) → IsOfWords m → IsCourse (length m.cores) (board_words m) (all_operations m) (λ core values. (apart turn (length m.cores) core (core_among m.cores core) values m.limit).made)
+unfolding machine
+machine_course m h =
+    let some : 0 < length m.cores = omega (arith, h.loaded.some_worker, h.loaded.most_workers) in
+    let room : 2 * m.limit * length m.cores ≤ 2 ^ 64 = room_for m.limit (length m.cores) h.loaded.most_cycles h.few in
+    is_course turn (length m.cores) (board_words m) (InRange (board_words m)) (core_among m.cores) m.limit some room (core_keeps (board_words m)) (first_fits m h)

@@ -5,19 +5,14 @@ use Rattle.std.specs.Prelude.{ℕ, List, [], length, None, Some, slice_get}
 use Rattle.shared_order.specs.declared.operation.Operation.{Operation}
 use Rattle.shared_order.specs.Operation.{loads, part}
 use Rattle.shared_order.specs.Machine.{State, cycled}
-use Rattle.patmos_code.specs.Images.{Parts}
 use Rattle.patmos_core.specs.declared.state.CoreState.{CoreState}
 use Rattle.patmos_core.specs.State.{Core}
-use Rattle.patmos_core.specs.Begin.{begun, idle}
+use Rattle.patmos_core.specs.Begin.{begun, idle, no_code}
 use Rattle.patmos_core.specs.Cycle.{turn}
 use Rattle.patmos_core.specs.Apart.{site_of, followed}
 use Rattle.patmos_core.specs.Outcome.{state_at}
 use Rattle.global_step.specs.declared.loaded.LoadedCore.{LoadedCore}
 use Rattle.global_step.specs.Loaded.{Machine}
-
--- the image of a core without a task
-abbrev pub no_code : Parts
-no_code = record { words = []; starts = []; initial = []; input_at = 4; input_room = 0 }
 
 -- a core before the first cycle
 abbrev pub first_core : LoadedCore → Core

@@ -7,14 +7,20 @@
 //!   task itself; and how far a core has come.
 //! - [`machine_keeps_ranges`]: the cores of a machine that is loaded with words stay in range, and so do its
 //!   loads and stores.
+//! - [`machine_is_a_course`]: all operations of such a machine are a course, which is what a board that lets
+//!   the cores act in the order of their stamps has to know.
 //! - [`worked_platform`], [`worked_shared`] and [`worked_network`] show it on cores that meet, computed by
 //!   the checker.
 #![tactic(auto)]
 
+mod course;
 mod loaded;
+mod plain;
 mod range;
 mod worked;
 
+pub use course::machine_is_a_course;
 pub use loaded::{Loaded, LoadedCore};
+pub use plain::plain_run;
 pub use range::machine_keeps_ranges;
 pub use worked::{worked_network, worked_platform, worked_shared};

@@ -71,8 +71,25 @@ impl Loaded {
     /// The cores, in the order of their numbers.
     pub fn cores(&self) -> &[LoadedCore]
         ensures value { result.now ≡ self.now.cores }
+        ensures kept { IsLoaded self.now.cores self.now.limit self.now.trace self.now.workers }
     {
         self.cores.as_slice()
+    }
+
+    /// The cycle limit.
+    pub fn limit(&self) -> u64
+        ensures value { result ≡ self.now.limit }
+        ensures kept { IsLoaded self.now.cores self.now.limit self.now.trace self.now.workers }
+    {
+        self.limit
+    }
+
+    /// How many transactions of each core are told.
+    pub fn trace(&self) -> u32
+        ensures value { result ≡ self.now.trace }
+        ensures kept { IsLoaded self.now.cores self.now.limit self.now.trace self.now.workers }
+    {
+        self.trace
     }
 }
 
@@ -110,6 +127,7 @@ fn is_beside(count: usize, k: usize, other: &Place, place: &Place) -> bool
 #[cfg(test)]
 mod tests {
     use super::*;
+    use crate::course::machine_is_a_course;
     use crate::range::machine_keeps_ranges;
     use crate::worked::{worked_network, worked_platform, worked_shared};
     use std::alloc::{AllocError, Global};
@@ -140,6 +158,7 @@ mod tests {
         worked_shared();
         worked_network();
         machine_keeps_ranges();
+        machine_is_a_course();
         let two = [(2, 0, 6), (2, 1, 6)];
         for (places, limit, trace, workers, want) in [
             (two.as_slice(), 20_000_000, 65_536, 2, true),

@@ -25,6 +25,10 @@ site_of place image = record {
   image = image;
 }
 
+-- the core that began as x after so many cycles, where its loads give these values
+abbrev pub apart_from : Core → List ℕ → ℕ → Alone Core
+apart_from x values cycles = apart turn x.plain.site.cores x.plain.site.core x values cycles
+
 -- the core at a place with an image and an input after so many cycles, where its loads give these values
 abbrev pub apart_at : Place → Parts → List ℕ → List ℕ → ℕ → Alone Core
 apart_at place image input values cycles =

@@ -68,3 +68,7 @@ idle site = record {
   plain = fresh Idle site zeros;
   seen = record { misses = []; cached = []; accesses = []; sendings = [] };
 }
+
+-- the image of a core without one
+abbrev pub no_code : Parts
+no_code = record { words = []; starts = []; initial = []; input_at = 4; input_room = 0 }

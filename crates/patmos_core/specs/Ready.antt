@@ -1,18 +1,21 @@
 -- What the core may do at a point of its run.
-use Rattle.std.specs.Prelude.{◌≡◌, ℕ, ◌+◌, ◌*◌, ◌%◌, ◌≤◌, ◌<◌, ◌≢◌, true, None}
+use Rattle.std.specs.Prelude.{◌≡◌, ℕ, ◌+◌, ◌*◌, ◌%◌, ◌≤◌, ◌<◌, ◌≢◌, true, None, Option, IfSome}
 use Rattle.slot_arbiter.specs.declared.place.Place.{Place}
 use Rattle.local_store.specs.declared.map.Cell.{Cell}
 use Rattle.local_store.specs.declared.map.Cell.TheVariants as cell
 use Rattle.local_store.specs.Map.{IsInRange}
-use Rattle.argo_ni.specs.Interface.{Standing}
+use Rattle.argo_ni.specs.Interface.{Interface, Standing, port_to}
 use Rattle.argo_ni.specs.Event.{IsPast}
 use Rattle.patmos_sem.specs.declared.effects.Effect.{Effect}
 use Rattle.patmos_sem.specs.declared.effects.Effect.TheVariants as effect
 use Rattle.patmos_sem.specs.declared.pending.Pending.TheVariants as pending
 use Rattle.patmos_sem.specs.Effects.{width_bytes, store_bytes}
 use Rattle.patmos_sem.specs.Registers.{Registers}
+use Rattle.argo_ni.specs.Packet.{comm_word}
+use Rattle.patmos_core.specs.declared.asks.Owed.{Owed}
 use Rattle.patmos_core.specs.declared.transfer.Then.{Then}
 use Rattle.patmos_core.specs.declared.transfer.Then.TheVariants as moved
+use Rattle.patmos_core.specs.declared.body.Body.{Body}
 use Rattle.patmos_core.specs.State.{Plain}
 use Rattle.patmos_core.specs.Checks.{load_fault, store_fault, has_room}
 
@@ -62,6 +65,23 @@ CanMove regs then_on = elim then_on [
   | moved.Store cached width address value ↦ address % store_bytes width ≡ 0
 ]
 
+-- nothing comes of words that are still to be moved, and the core waits for no later cycle than one can
+-- reach
+pub record IsAtRest (b : Body) : Type 0 where
+  pub idle : b.transfer.then ≡ moved.Nothing
+  pub near : b.free ≤ 20000064
+
+-- what is to be moved can be: what comes of the words can be done, nothing comes where no words are left,
+-- and the core waits for no later cycle than one can reach
+pub record CanGoOn (b : Body) : Type 0 where
+  pub can : CanMove b.regs b.transfer.then
+  pub idle : b.transfer.words ≡ 0 → b.transfer.then ≡ moved.Nothing
+  pub near : b.free ≤ 20000064
+
+-- what is owed is a store in a word of the board
+abbrev pub OwesWithin : Place → Option Owed → Type 0
+OwesWithin place owed = IfSome owed (λ o. o.word < comm_word place.cores 0)
+
 -- the first cell of a line: all four of its words are there
 abbrev pub IsLine : Cell → Type 0
 IsLine c = elim c [
@@ -71,3 +91,11 @@ IsLine c = elim c [
   | cell.Private word ↦ word + 3 < 65536
   | cell.Shared word ↦ Unit {0}
 ]
+
+-- the interfaces are those of the same core, and have the same registers for each target; what their
+-- channels have still to send, and which packets are under way, may differ
+pub record HasRegisters (x y : Interface) : Type 0 where
+  pub cores : x.cores ≡ y.cores
+  pub core : x.core ≡ y.core
+  pub source : (d : ℕ) → (port_to x d).source ≡ (port_to y d).source
+  pub target : (d : ℕ) → (port_to x d).target ≡ (port_to y d).target

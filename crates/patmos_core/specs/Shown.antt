@@ -52,3 +52,8 @@ pub record SameBut (b b' : Body) : Type 0 where
   pub plain : plain_of b' ≡ record (plain_of b) { stack = b'.stack; private = slice_index b'.store.private }
   pub ni : b'.ni ≡ b.ni
   pub shows : (h : History) → Shows b h → Shows b' h
+
+-- the core has the same place, and its trace the same room
+pub record IsFramed (b b' : Body) : Type 0 where
+  pub place : b'.place ≡ b.place
+  pub room : b'.room ≡ b.room

@@ -7,3 +7,18 @@ pub struct Owed {
     /// What it is to hold.
     pub value: u32,
 }
+
+/// What a core's own part of a cycle asks of the board.
+#[derive(Clone, Copy, Debug, PartialEq, Eq)]
+pub enum Ask {
+    /// Nothing.
+    Nothing,
+    /// A word is loaded.
+    Load { word: u32 },
+    /// Four words are loaded, by rising number from this one on.
+    Line { word: u32 },
+    /// A value is stored in a word.
+    Store { word: u32, value: u32 },
+    /// A part of a word is stored: the word is loaded, and what it is to hold is then owed.
+    Change { word: u32 },
+}

@@ -48,13 +48,16 @@ pub struct Body {
 
 impl Body {
     ghost use Rattle.patmos_core.specs.State.{History, stopped};
-    ghost use Rattle.patmos_core.specs.Shown.{Shows, plain_of};
+    ghost use Rattle.patmos_core.specs.Ready.{CanGoOn};
+    ghost use Rattle.patmos_core.specs.Shown.{Shows, IsFramed, plain_of};
 
     /// Stops the core in a cycle.
     pub fn stop(&mut self, trap: Trap, cycle: u64)
         ensures stopped { plain_of self.new ≡ stopped trap cycle (plain_of self.old) }
         ensures shows { (h : History) → Shows self.old h → Shows self.new h }
         ensures ni { self.new.ni ≡ self.old.ni }
+        ensures can { CanGoOn self.old → CanGoOn self.new }
+        ensures frame { IsFramed self.old self.new }
     {
         self.status = Status::Trapped { trap, at: cycle };
     }

@@ -17,8 +17,8 @@ impl Body {
     ghost use Rattle.shared_order.specs.Program.{Prog};
     ghost use Rattle.patmos_core.specs.State.{History};
     ghost use Rattle.patmos_core.specs.Cells.{Acted};
-    ghost use Rattle.patmos_core.specs.Ready.{IsReadable, IsReady, IsOther};
-    ghost use Rattle.patmos_core.specs.Shown.{Shows, IsAt, IsActed, core_of, plain_of};
+    ghost use Rattle.patmos_core.specs.Ready.{OwesWithin, IsReadable, IsReady, IsOther, IsAtRest};
+    ghost use Rattle.patmos_core.specs.Shown.{Shows, IsAt, IsActed, IsFramed, core_of, plain_of};
 
     /// The word in a cell: that of the board is the first of the values heard.
     pub fn read(&self, cell: Option<Cell>, values: &[u32]) -> u32
@@ -52,6 +52,9 @@ impl Body {
         ensures stored { (s : ℕ) (h : History) → Shows self.old h
             → IsActed self.new result (fed s (cells.writing cell width address value (core_of self.old h)) values.now).core }
         ensures ready { IsReady cycle self.new.ni }
+        ensures rest { IsAtRest self.old → IsAtRest self.new }
+        ensures frame { IsFramed self.old self.new }
+        ensures owes { OwesWithin self.old.place result }
     {
         match cell {
             None => None,
@@ -84,6 +87,8 @@ impl Body {
         ensures plain { plain_of self.new ≡ record (plain_of self.old) { scratch = put word value (slice_index self.old.store.scratch) } }
         ensures shows { (h : History) → Shows self.old h → Shows self.new h }
         ensures ni { self.new.ni ≡ self.old.ni }
+        ensures rest { IsAtRest self.old → IsAtRest self.new }
+        ensures frame { IsFramed self.old self.new }
     {
         self.store.write(Cell::Scratch(word), value);
     }
@@ -95,6 +100,8 @@ impl Body {
         ensures plain { plain_of self.new ≡ record (plain_of self.old) { private = put word value (slice_index self.old.store.private) } }
         ensures shows { (h : History) → Shows self.old h → Shows self.new h }
         ensures ni { self.new.ni ≡ self.old.ni }
+        ensures rest { IsAtRest self.old → IsAtRest self.new }
+        ensures frame { IsFramed self.old self.new }
     {
         self.store.write(Cell::Private(word), value);
     }
@@ -105,6 +112,8 @@ impl Body {
         requires ready { IsReady cycle self.old.ni }
         ensures set { (h : History) → Shows self.old h → IsAt self.new (cells.port_set core register value (core_of self.old h)) }
         ensures ready { IsReady cycle self.new.ni }
+        ensures rest { IsAtRest self.old → IsAtRest self.new }
+        ensures frame { IsFramed self.old self.new }
     {
         match register {
             0 => self.ni.set_source(core, value),
@@ -128,7 +137,8 @@ pub fn comm_word(core: u32, word: u32) -> u32
 // what is still to be stored in a word of the board, of which the first value heard is the old one
 fn owed(word: u32, width: StoreWidth, address: u32, value: u32, values: &[u32]) -> Option<Owed>
     requires aligned { address % store_bytes width ≡ 0 }
-    ensures { (s : ℕ) (c : Core) → (fed s (cells.storing word width address value c) values.now).core ≡ record { core = c; owed = result } }
+    ensures owes { (s : ℕ) (c : Core) → (fed s (cells.storing word width address value c) values.now).core ≡ record { core = c; owed = result } }
+    ensures within { IfSome result (λ o. o.word ≡ word) }
 {
     match width {
         StoreWidth::Word => None,

@@ -22,8 +22,8 @@ impl Body {
     ghost use Rattle.patmos_core.specs.Transfers.{writes};
     ghost use Rattle.patmos_core.specs.Checks.{load_fault, store_fault, is_held};
     ghost use Rattle.patmos_core.specs.Cells.{with_value};
-    ghost use Rattle.patmos_core.specs.Ready.{IsReady, IsGranted};
-    ghost use Rattle.patmos_core.specs.Shown.{Shows, IsAt, IsActed, core_of, plain_of};
+    ghost use Rattle.patmos_core.specs.Ready.{OwesWithin, IsReady, IsGranted, IsAtRest, CanGoOn};
+    ghost use Rattle.patmos_core.specs.Shown.{Shows, IsAt, IsActed, IsFramed, core_of, plain_of};
 
     /// Does a bundle of so many words, unless a check fails.
     pub fn perform(
@@ -35,9 +35,14 @@ impl Body {
     ) -> Option<Owed>
         requires within { self.old.offset + words < 2 ^ 32 }
         requires ready { IsReady cycle self.old.ni }
+        requires unmoved { self.old.transfer.words ≡ 0 }
+        requires can { CanGoOn self.old }
         ensures done { (s : ℕ) (h : History) → Shows self.old h
             → IsActed self.new result (fed s (bundles.performed words bundle.now cycle (core_of self.old h)) values.now).core }
         ensures ready { IsReady cycle self.new.ni }
+        ensures can { CanGoOn self.new }
+        ensures frame { IsFramed self.old self.new }
+        ensures owes { OwesWithin self.old.place result }
     {
         let mut regs = self.regs;
         let effect = exec(&mut regs, bundle, self.stack.st(), self.stack.ss());
@@ -60,6 +65,8 @@ impl Body {
         ensures shows { (h : History) → Shows self.old h → Shows self.new h }
         ensures ni { self.new.ni ≡ self.old.ni }
         ensures stack { self.new.stack ≡ self.old.stack }
+        ensures rest { IsAtRest self.old → IsAtRest self.new }
+        ensures frame { IsFramed self.old self.new }
     {
         self.flow = match self.flow {
             Some(flow) => Some(Flow {
@@ -73,14 +80,19 @@ impl Body {
     }
 
     // does what the bundle asked for, which no check fails
+    #[tactic(auto, using(crate::proofs::Rests::can_at_rest))]
     fn answer(&mut self, effect: &Effect, cycle: u64, values: &[u32]) -> Option<Owed>
         requires fits { IsGranted effect.now (plain_of self.old) }
         requires stack { IsStack self.old.stack }
         requires pending { OnLoad effect.now (self.old.regs.pending ≡ pending.Nothing) }
         requires ready { IsReady cycle self.old.ni }
+        requires rest { IsAtRest self.old }
         ensures done { (s : ℕ) (h : History) → Shows self.old h
             → IsActed self.new result (fed s (bundles.answered effect.now cycle (core_of self.old h)) values.now).core }
         ensures ready { IsReady cycle self.new.ni }
+        ensures can { CanGoOn self.new }
+        ensures frame { IsFramed self.old self.new }
+        ensures owes { OwesWithin self.old.place result }
     {
         match *effect {
             Effect::Nothing | Effect::Flow { .. } => {
@@ -110,13 +122,17 @@ impl Body {
     }
 
     // a load
+    #[tactic(auto, using(crate::proofs::Rests::can_at_rest))]
     fn load(&mut self, space: Mem, width: Width, rd: Reg, address: u32, cycle: u64, values: &[u32])
         requires fits { load_fault (plain_of self.old) space width address ≡ None }
         requires pending { self.old.regs.pending ≡ pending.Nothing }
         requires ready { IsReady cycle self.old.ni }
+        requires rest { IsAtRest self.old }
         ensures done { (s : ℕ) (h : History) → Shows self.old h
             → IsActed self.new None (fed s (bundles.loaded space width rd address cycle (core_of self.old h)) values.now).core }
         ensures ni { self.new.ni ≡ self.old.ni }
+        ensures can { CanGoOn self.new }
+        ensures frame { IsFramed self.old self.new }
     {
         match space {
             Mem::S => {
@@ -140,22 +156,29 @@ impl Body {
         requires aligned { address % width_bytes width ≡ 0 }
         requires pending { self.old.regs.pending ≡ pending.Nothing }
         requires ready { IsReady cycle self.old.ni }
+        requires rest { IsAtRest self.old }
         ensures plain { plain_of self.new ≡ bundles.ends cycle (with_value rd width address word (plain_of self.old)) }
         ensures shows { (h : History) → Shows self.old h → Shows self.new h }
         ensures ni { self.new.ni ≡ self.old.ni }
+        ensures rest { IsAtRest self.new }
+        ensures frame { IsFramed self.old self.new }
     {
         arrive(&mut self.regs, rd, pick(width, address, word));
         self.end(cycle);
     }
 
     // a cached load: of a word that the cache has, or else of its line
+    #[tactic(auto, using(crate::proofs::Rests::can_at_rest))]
     fn load_cached(&mut self, rd: Reg, width: Width, address: u32, cycle: u64)
         requires aligned { address % width_bytes width ≡ 0 }
         requires pending { self.old.regs.pending ≡ pending.Nothing }
         requires ready { IsReady cycle self.old.ni }
+        requires rest { IsAtRest self.old }
         ensures done { (h : History) → Shows self.old h
             → IsAt self.new (bundles.cache_loaded rd width address cycle (core_of self.old h)) }
         ensures ni { self.new.ni ≡ self.old.ni }
+        ensures can { CanGoOn self.new }
+        ensures frame { IsFramed self.old self.new }
     {
         match self.cache.probe(address) {
             Some(word) => self.load_value(rd, width, address, word, cycle),
@@ -167,6 +190,7 @@ impl Body {
     }
 
     // a store
+    #[tactic(auto, using(crate::proofs::Rests::can_at_rest))]
     fn store(
         &mut self,
         space: Mem,
@@ -178,9 +202,13 @@ impl Body {
     ) -> Option<Owed>
         requires fits { store_fault (plain_of self.old) space width address value ≡ None }
         requires ready { IsReady cycle self.old.ni }
+        requires rest { IsAtRest self.old }
         ensures done { (s : ℕ) (h : History) → Shows self.old h
             → IsActed self.new result (fed s (bundles.stored space width address value cycle (core_of self.old h)) values.now).core }
         ensures ready { IsReady cycle self.new.ni }
+        ensures can { CanGoOn self.new }
+        ensures frame { IsFramed self.old self.new }
+        ensures owes { OwesWithin self.old.place result }
     {
         match space {
             Mem::S => {
@@ -207,9 +235,13 @@ impl Body {
     // a store to main memory, whose word moves later
     fn store_later(&mut self, cached: bool, width: StoreWidth, address: u32, value: u32, cycle: u64)
         requires ready { IsReady cycle self.old.ni }
+        requires aligned { address % store_bytes width ≡ 0 }
+        requires rest { IsAtRest self.old }
         ensures plain { plain_of self.new ≡ bundles.moves (writes 1 (then_on.Store cached width address value)) cycle (plain_of self.old) }
         ensures shows { (h : History) → Shows self.old h → Shows self.new h }
         ensures ni { self.new.ni ≡ self.old.ni }
+        ensures can { CanGoOn self.new }
+        ensures frame { IsFramed self.old self.new }
     {
         let then = Then::Store {
             cached,
@@ -227,6 +259,8 @@ impl Body {
         ensures plain { plain_of self.new ≡ record (plain_of self.old) { stack = bundles.stack_set width address value self.old.stack } }
         ensures shows { (h : History) → Shows self.old h → Shows self.new h }
         ensures ni { self.new.ni ≡ self.old.ni }
+        ensures rest { IsAtRest self.old → IsAtRest self.new }
+        ensures frame { IsFramed self.old self.new }
     {
         let Some(old) = self.stack.get(address / 4) else {
             unreachable!()

@@ -4,18 +4,25 @@ use crate::transfer::{Then, Transfer};
 use crate::trap::Trap;
 
 impl Body {
-    ghost use Rattle.std.specs.Prelude.{◌≡◌, ◌≤◌, ◌<◌, ◌+◌, ◌-◌, IfSome, IsTrue};
+    ghost use Rattle.std.specs.Prelude.{◌≡◌, ◌≤◌, ◌<◌, ◌+◌, ◌-◌, IfSome, IsTrue, None, true};
     ghost use Rattle.std.specs.Option.{SomeIff};
     ghost use Rattle.patmos_core.specs.declared.flow.Goal.{Goal};
-    ghost use Rattle.patmos_core.specs.State.{History};
+    ghost use Rattle.patmos_core.specs.State.{History, is_running};
     ghost use Rattle.patmos_core.specs.Site.{size_at, has_place};
     ghost use Rattle.patmos_core.specs.Flows as flows;
-    ghost use Rattle.patmos_core.specs.Shown.{Shows, IsAt, core_of};
+    ghost use Rattle.patmos_core.specs.Plan.{IsSettled};
+    ghost use Rattle.patmos_core.specs.Ready.{CanGoOn};
+    ghost use Rattle.patmos_core.specs.Shown.{Shows, IsAt, IsFramed, core_of, plain_of};
 
     /// A flow without a delay slot left takes effect, if the core is free in the cycle.
     #[tactic(auto, unfolding(crate::specs::Flows::flowed))]
     pub fn flow(&mut self, cycle: u64)
-        ensures { (h : History) → Shows self.old h → IsAt self.new (flows.flowed cycle (core_of self.old h)) }
+        requires can { CanGoOn self.old }
+        ensures at { (h : History) → Shows self.old h → IsAt self.new (flows.flowed cycle (core_of self.old h)) }
+        ensures settled { is_running (plain_of self.new) ≡ true → IsSettled cycle (plain_of self.new) }
+        ensures can { CanGoOn self.new }
+        ensures ni { self.new.ni ≡ self.old.ni }
+        ensures frame { IsFramed self.old self.new }
     {
         if self.transfer.words != 0 || self.free != cycle {
             return;
@@ -28,7 +35,12 @@ impl Body {
 
     // the flow takes effect
     fn take(&mut self, goal: Goal, cycle: u64)
-        ensures { (h : History) → Shows self.old h → IsAt self.new (flows.taken cycle goal (core_of self.old h)) }
+        requires can { CanGoOn self.old }
+        ensures at { (h : History) → Shows self.old h → IsAt self.new (flows.taken cycle goal (core_of self.old h)) }
+        ensures gone { is_running (plain_of self.new) ≡ true → self.new.flow ≡ None }
+        ensures can { CanGoOn self.new }
+        ensures ni { self.new.ni ≡ self.old.ni }
+        ensures frame { IsFramed self.old self.new }
     {
         match goal {
             Goal::Within { offset } => self.branch(offset, cycle),
@@ -46,7 +58,12 @@ impl Body {
 
     // goes to an offset of the same function
     fn branch(&mut self, offset: u32, cycle: u64)
-        ensures { (h : History) → Shows self.old h → IsAt self.new (flows.taken cycle (Goal.Within offset) (core_of self.old h)) }
+        requires can { CanGoOn self.old }
+        ensures at { (h : History) → Shows self.old h → IsAt self.new (flows.taken cycle (Goal.Within offset) (core_of self.old h)) }
+        ensures gone { is_running (plain_of self.new) ≡ true → self.new.flow ≡ None }
+        ensures can { CanGoOn self.new }
+        ensures ni { self.new.ni ≡ self.old.ni }
+        ensures frame { IsFramed self.old self.new }
     {
         if offset < self.size {
             self.offset = offset;
@@ -58,7 +75,12 @@ impl Body {
 
     // goes to an offset of the function that starts at the base
     fn go(&mut self, base: u32, offset: u32, cycle: u64)
-        ensures { (h : History) → Shows self.old h → IsAt self.new (flows.taken cycle (Goal.Return base offset) (core_of self.old h)) }
+        requires can { CanGoOn self.old }
+        ensures at { (h : History) → Shows self.old h → IsAt self.new (flows.taken cycle (Goal.Return base offset) (core_of self.old h)) }
+        ensures gone { is_running (plain_of self.new) ≡ true → self.new.flow ≡ None }
+        ensures can { CanGoOn self.new }
+        ensures ni { self.new.ni ≡ self.old.ni }
+        ensures frame { IsFramed self.old self.new }
     {
         match self.place(base, offset) {
             Some(size) => self.enter(base, offset, size),
@@ -80,7 +102,12 @@ impl Body {
     fn enter(&mut self, base: u32, offset: u32, size: u32)
         requires size { size ≡ size_at self.old.image base }
         requires small { size ≤ 4096 }
-        ensures { (h : History) → Shows self.old h → IsAt self.new (flows.entered base offset (core_of self.old h)) }
+        requires near { self.old.free ≤ 20000064 }
+        ensures at { (h : History) → Shows self.old h → IsAt self.new (flows.entered base offset (core_of self.old h)) }
+        ensures gone { self.new.flow ≡ None }
+        ensures can { CanGoOn self.new }
+        ensures ni { self.new.ni ≡ self.old.ni }
+        ensures frame { IsFramed self.old self.new }
     {
         let transactions = self.methods.touch(base, size);
         self.transfer = if transactions == 0 {

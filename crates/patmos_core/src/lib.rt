@@ -13,39 +13,68 @@
 //! - [`run_apart_is_followed`]: telling the task's operations from its interface's changes nothing.
 //! - [`core_keeps_ranges`]: a core in range (`Range`) names only words of the board, stores only words of 32
 //!   bits, and stays in range.
+//! - [`core_is_at_its_place`]: a core stands for a run apart at its own place.
 //! - [`CoreState`], [`Status`], [`Trap`], [`Flow`], [`Goal`], [`Transfer`], [`Then`], [`Fetched`] and
 //!   [`Owed`] are the types of a core's state, for code and definitions both.
 //!
-//! Inside the crate a core's fields (`body`) fetch and do a bundle, take a flow and move the words of a slot
-//! exactly as the definitions say. What joins these steps to a core that jumps from event to event is not
-//! built yet.
+//! [`Core`] is a core that is stepped by itself. [`Core::next`] gives the next use that its run apart makes of
+//! the board's words, whatever its loads will give, or says that none comes before a limit, and what the
+//! core then is; [`Core::resume`] tells it what its loads gave. A public relation (`Position`) says for which run
+//! apart a core stands. The definition waits cycle by cycle; the code does private bundles one after another
+//! (`turning`, `phases`) and goes over waiting by arithmetic on slots, windows and due cycles (`wakes`). No
+//! call but [`Core::new`] takes memory.
 #![tactic(auto)]
 
+mod acting;
 mod apart;
+mod asking;
 mod asks;
 mod body;
 mod cells;
 mod checks;
+mod cpu;
+mod events;
 mod executing;
 mod fetch;
 mod fetching;
 mod flow;
 mod flowing;
+mod kind;
+mod kinds;
+mod making;
+mod part;
+mod phases;
+mod place;
+mod plan;
+mod planning;
 mod range;
+mod resuming;
+mod sending;
 mod stacking;
 mod state;
+mod stepping;
+mod tasked;
+mod telling;
 mod transacting;
 mod transfer;
 mod trap;
+mod turning;
 mod values;
+mod wakes;
+mod window;
 mod worked;
 
 pub use apart::run_apart_is_followed;
 pub use asks::Owed;
+pub use cpu::{Core, Next};
 pub use fetch::Fetched;
 pub use flow::{Flow, Goal};
+pub use place::core_is_at_its_place;
 pub use range::core_keeps_ranges;
 pub use state::{CoreState, Status};
 pub use transfer::{Then, Transfer};
 pub use trap::Trap;
 pub use worked::{worked_flows, worked_memory, worked_task, worked_traps};
+
+#[cfg(test)]
+mod tests;

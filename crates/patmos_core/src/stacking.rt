@@ -3,22 +3,26 @@ use crate::transfer::{Then, Transfer};
 use patmos_instr::StackFunc;
 
 impl Body {
-    ghost use Rattle.std.specs.Prelude.{◌≡◌, ◌^◌, ◌<◌, true, length, slice_index};
+    ghost use Rattle.std.specs.Prelude.{◌≡◌, ◌≤◌, true, length, slice_index};
     ghost use Rattle.patmos_instr.specs.declared.functions.StackFunc.TheVariants.{Sres, Sens, Sfree};
     ghost use Rattle.stack_cache.specs.Stack.{IsStack, reserved, spilled, missing};
     ghost use Rattle.patmos_core.specs.State.{History};
     ghost use Rattle.patmos_core.specs.Checks.{has_room};
     ghost use Rattle.patmos_core.specs.Bundle.{stacked, moves, ends, with_words, refilled};
-    ghost use Rattle.patmos_core.specs.Shown.{Shows, SameBut, plain_of};
+    ghost use Rattle.patmos_core.specs.Ready.{IsAtRest, CanGoOn, CanMove};
+    ghost use Rattle.patmos_core.specs.Shown.{Shows, SameBut, IsFramed, plain_of};
 
     /// Carries out a stack instruction that has room for so many words.
     pub fn stack_op(&mut self, func: StackFunc, count: u32, cycle: u64)
         requires stack { IsStack self.old.stack }
         requires room { has_room func count self.old.stack ≡ true }
-        requires early { cycle < 2 ^ 62 }
+        requires early { cycle ≤ 20000000 }
+        requires rest { IsAtRest self.old }
         ensures plain { plain_of self.new ≡ stacked func count cycle (plain_of self.old) }
         ensures shows { (h : History) → Shows self.old h → Shows self.new h }
         ensures ni { self.new.ni ≡ self.old.ni }
+        ensures can { CanGoOn self.new }
+        ensures frame { IsFramed self.old self.new }
     {
         match func {
             StackFunc::Sres => self.reserve(count, cycle),
@@ -30,10 +34,13 @@ impl Body {
     fn reserve(&mut self, count: u32, cycle: u64)
         requires stack { IsStack self.old.stack }
         requires room { has_room Sres count self.old.stack ≡ true }
-        requires early { cycle < 2 ^ 62 }
+        requires early { cycle ≤ 20000000 }
+        requires rest { IsAtRest self.old }
         ensures plain { plain_of self.new ≡ stacked Sres count cycle (plain_of self.old) }
         ensures shows { (h : History) → Shows self.old h → Shows self.new h }
         ensures ni { self.new.ni ≡ self.old.ni }
+        ensures can { CanGoOn self.new }
+        ensures frame { IsFramed self.old self.new }
     {
         let moved = self.spill(count);
         self.moves(Transfer::write(moved, Then::Nothing), cycle);
@@ -47,7 +54,9 @@ impl Body {
         ensures moved { result ≡ length (spilled count self.old.stack) }
         ensures stack { self.new.stack ≡ reserved count self.old.stack }
         ensures private { slice_index self.new.store.private ≡ with_words (reserved count self.old.stack).ss (spilled count self.old.stack) (slice_index self.old.store.private) }
-        ensures rest { SameBut self.old self.new }
+        ensures same { SameBut self.old self.new }
+        ensures rest { IsAtRest self.old → IsAtRest self.new }
+        ensures frame { IsFramed self.old self.new }
     {
         let private = self.store.private();
         let Ok(moved) = self.stack.reserve(count, private) else {
@@ -59,10 +68,13 @@ impl Body {
     fn ensure(&mut self, count: u32, cycle: u64)
         requires stack { IsStack self.old.stack }
         requires room { has_room Sens count self.old.stack ≡ true }
-        requires early { cycle < 2 ^ 62 }
+        requires early { cycle ≤ 20000000 }
+        requires rest { IsAtRest self.old }
         ensures plain { plain_of self.new ≡ stacked Sens count cycle (plain_of self.old) }
         ensures shows { (h : History) → Shows self.old h → Shows self.new h }
         ensures ni { self.new.ni ≡ self.old.ni }
+        ensures can { CanGoOn self.new }
+        ensures frame { IsFramed self.old self.new }
     {
         let moved = self.refill(count);
         self.moves(Transfer::read(moved, Then::Nothing), cycle);
@@ -76,7 +88,9 @@ impl Body {
         ensures moved { result ≡ missing count self.old.stack }
         ensures stack { self.new.stack ≡ refilled count (slice_index self.old.store.private) self.old.stack }
         ensures private { slice_index self.new.store.private ≡ slice_index self.old.store.private }
-        ensures rest { SameBut self.old self.new }
+        ensures same { SameBut self.old self.new }
+        ensures rest { IsAtRest self.old → IsAtRest self.new }
+        ensures frame { IsFramed self.old self.new }
     {
         let private = self.store.private();
         let Ok(moved) = self.stack.ensure(count, private) else {
@@ -85,13 +99,17 @@ impl Body {
         moved
     }
 
+    #[tactic(auto, using(crate::proofs::Rests::can_at_rest))]
     fn free_words(&mut self, count: u32, cycle: u64)
         requires stack { IsStack self.old.stack }
         requires room { has_room Sfree count self.old.stack ≡ true }
-        requires early { cycle < 2 ^ 62 }
+        requires early { cycle ≤ 20000000 }
+        requires rest { IsAtRest self.old }
         ensures plain { plain_of self.new ≡ stacked Sfree count cycle (plain_of self.old) }
         ensures shows { (h : History) → Shows self.old h → Shows self.new h }
         ensures ni { self.new.ni ≡ self.old.ni }
+        ensures can { CanGoOn self.new }
+        ensures frame { IsFramed self.old self.new }
     {
         let Ok(()) = self.stack.free(count) else {
             unreachable!()
@@ -101,20 +119,28 @@ impl Body {
 
     /// The bundle ends with its cycle.
     pub fn end(&mut self, cycle: u64)
-        requires early { cycle < 2 ^ 62 }
+        requires early { cycle ≤ 20000000 }
+        requires rest { IsAtRest self.old }
         ensures plain { plain_of self.new ≡ ends cycle (plain_of self.old) }
         ensures shows { (h : History) → Shows self.old h → Shows self.new h }
         ensures ni { self.new.ni ≡ self.old.ni }
+        ensures rest { IsAtRest self.new }
+        ensures frame { IsFramed self.old self.new }
     {
         self.free = cycle + 1;
     }
 
     /// The bundle ends with the last of its words, or with its cycle if it has none to move.
+    #[tactic(auto, using(crate::proofs::Rests::can_at_rest))]
     pub fn moves(&mut self, transfer: Transfer, cycle: u64)
-        requires early { cycle < 2 ^ 62 }
+        requires early { cycle ≤ 20000000 }
+        requires can { CanMove self.old.regs transfer.then }
+        requires rest { IsAtRest self.old }
         ensures plain { plain_of self.new ≡ moves transfer cycle (plain_of self.old) }
         ensures shows { (h : History) → Shows self.old h → Shows self.new h }
         ensures ni { self.new.ni ≡ self.old.ni }
+        ensures can { CanGoOn self.new }
+        ensures frame { IsFramed self.old self.new }
     {
         if transfer.words == 0 {
             self.end(cycle);

@@ -26,17 +26,20 @@ impl Body {
     ghost use Rattle.data_cache.specs.Accesses.{place_of};
     ghost use Rattle.patmos_core.specs.Cells.{reading_line, with_value};
     ghost use Rattle.patmos_core.specs.Transaction as specs;
-    ghost use Rattle.patmos_core.specs.Ready.{IsReady, IsAwaited, CanMove};
-    ghost use Rattle.patmos_core.specs.Shown.{Shows, IsAt, IsActed, core_of, plain_of};
+    ghost use Rattle.patmos_core.specs.Ready.{OwesWithin, IsReady, IsAwaited, CanMove, IsAtRest, CanGoOn};
+    ghost use Rattle.patmos_core.specs.Shown.{Shows, IsAt, IsActed, IsFramed, core_of, plain_of};
 
     /// Moves the words of a slot that starts in this cycle.
-    #[tactic(auto, unfolding(crate::specs::Transaction::transaction))]
+    #[tactic(auto, using(crate::proofs::Rests::can_at_rest), unfolding(crate::specs::Transaction::transaction))]
     pub fn transact(&mut self, cycle: u64, values: &[u32]) -> Option<Owed>
-        requires can { CanMove self.old.regs self.old.transfer.then }
+        requires can { CanGoOn self.old }
         requires ready { IsReady cycle self.old.ni }
         ensures done { (s : ℕ) (h : History) → Shows self.old h
             → IsActed self.new result (fed s (specs.transaction cycle (core_of self.old h)) values.now).core }
         ensures ready { IsReady cycle self.new.ni }
+        ensures can { CanGoOn self.new }
+        ensures frame { IsFramed self.old self.new }
+        ensures owes { OwesWithin self.old.place result }
     {
         let then = self.transfer.then;
         self.transact_then(&then, cycle, values)
@@ -48,6 +51,9 @@ impl Body {
         ensures done { (s : ℕ) (h : History) → Shows self.old h
             → IsActed self.new result (fed s (specs.transaction_then then.now cycle (core_of self.old h)) values.now).core }
         ensures ready { IsReady cycle self.new.ni }
+        ensures rest { IsAtRest self.new }
+        ensures frame { IsFramed self.old self.new }
+        ensures owes { OwesWithin self.old.place result }
     {
         match *then {
             Then::Nothing => {
@@ -86,6 +92,8 @@ impl Body {
         ensures shows { (h : History) → Shows self.old h → Shows self.new (specs.accessed self.old.transfer cycle h) }
         ensures ni { self.new.ni ≡ self.old.ni }
         ensures regs { self.new.regs ≡ self.old.regs }
+        ensures rest { IsAtRest self.new }
+        ensures frame { IsFramed self.old self.new }
     {
         if self.trace.len() < self.room {
             let access = Access {
@@ -106,6 +114,8 @@ impl Body {
         ensures plain { plain_of self.new ≡ with_value rd width address word (plain_of self.old) }
         ensures shows { (h : History) → Shows self.old h → Shows self.new h }
         ensures ni { self.new.ni ≡ self.old.ni }
+        ensures rest { IsAtRest self.old → IsAtRest self.new }
+        ensures frame { IsFramed self.old self.new }
     {
         arrive(&mut self.regs, rd, pick(width, address, word));
     }
@@ -134,6 +144,8 @@ impl Body {
         ensures plain { plain_of self.new ≡ with_value rd width address (slice_index words (place_of address)) (plain_of self.old) }
         ensures shows { (h : History) → Shows self.old h → Shows self.new (specs.with_line address words h) }
         ensures ni { self.new.ni ≡ self.old.ni }
+        ensures rest { IsAtRest self.old → IsAtRest self.new }
+        ensures frame { IsFramed self.old self.new }
     {
         self.arrive(rd, width, address, words[(address / 4 % 4) as usize]);
         self.cache.fill(address, words);
@@ -145,6 +157,8 @@ impl Body {
         requires ready { IsReady cycle self.old.ni }
         ensures at { (h : History) → Shows self.old h → IsAt self.new (specs.line_taken rd width address words (specs.counted cycle (core_of self.old h))) }
         ensures ni { self.new.ni ≡ self.old.ni }
+        ensures rest { IsAtRest self.new }
+        ensures frame { IsFramed self.old self.new }
     {
         self.count(cycle);
         self.fill_line(rd, width, address, words);
@@ -157,6 +171,8 @@ impl Body {
         ensures shows { (h : History) → Shows self.old h → Shows self.new (specs.with_store cached width address value h) }
         ensures ni { self.new.ni ≡ self.old.ni }
         ensures place { self.new.place ≡ self.old.place }
+        ensures rest { IsAtRest self.old → IsAtRest self.new }
+        ensures frame { IsFramed self.old self.new }
     {
         if cached {
             let old = self.cache.probe(address).unwrap_or(0);

@@ -76,6 +76,7 @@ pub fn worked_traps()
 mod tests {
     use super::*;
     use crate::apart::run_apart_is_followed;
+    use crate::place::core_is_at_its_place;
     use crate::range::core_keeps_ranges;
     use crate::trap::Trap;
 
@@ -87,6 +88,7 @@ mod tests {
         worked_traps();
         run_apart_is_followed();
         core_keeps_ranges();
+        core_is_at_its_place();
         assert_eq!(rt; (Trap::Access.number(), Trap::Align.number()), (1, 2));
         assert_eq!(rt; (Trap::Decode.number(), Trap::Flow.number()), (3, 4));
         assert_eq!(rt; (Trap::Stack.number(), Trap::Interface.number()), (5, 6));

@@ -2,5 +2,6 @@ pub mod Listings
 pub mod Outcomes
 pub mod Periods
 pub mod Pieces
-pub mod RowsFound
-pub mod StepsFound
+pub mod CoresFound
+pub mod RowsTold
+pub mod TasksFound

@@ -7,8 +7,10 @@ use Rattle.tc_job.specs.Job.{job_of}
 use Rattle.tc_job.specs.declared.fault.JobFault.{JobFault}
 use Rattle.tc_job.specs.declared.fault.JobFault.TheVariants as faults
 use Rattle.tc_job.specs.declared.job.Job.{Job}
+use Rattle.std.specs.List.{list_any}
+use Rattle.patmos_core.specs.State.{Core}
 use Rattle.tc_report.specs.declared.rows.Row.{Row}
-use Rattle.std.specs.Prelude.{Result, Ok, Err}
+use Rattle.std.specs.Prelude.{Result, Ok, Err, Bool, true, false}
 use Rattle.tcrest.specs.declared.answers.Answer.{Answer}
 use Rattle.tcrest.specs.declared.command.Command.{Command}
 use Rattle.tcrest.specs.declared.command.Command.TheVariants.{Job as OfJob, Usage}
@@ -17,7 +19,8 @@ use Rattle.tcrest.specs.declared.command.JobCommand.TheVariants.{Run, Asm}
 use Rattle.tcrest.specs.declared.refusal.CoreRefusal.{CoreRefusal}
 use Rattle.tcrest.specs.Command.{command_of}
 use Rattle.tcrest.specs.Listing.{listings}
-use Rattle.tcrest.specs.Rows.{rows_from}
+use Rattle.tcrest.specs.Machine.{cores_from, machine_of}
+use Rattle.tcrest.specs.Rows.{rows_of, is_early, status_of}
 use Rattle.tcrest.specs.Answer.{read_fault, too_long, most_bytes, no_job, text_or, report_or, answer_by, job_answer, bytes_answer, command_answer, answer, usage}
 use Rattle.tcrest.specs.Outcome.{IsSent, Ends, IsTold}
 
@@ -29,12 +32,19 @@ text_or-status : (text : Result (List ℕ) CoreRefusal) → IsOfTasks (text_or t
 text_or-status (Ok text) = (omega arith, omega arith, omega arith)
 text_or-status (Err refusal) = (omega arith, omega arith, omega arith)
 
-report_or-status : (job : Job) (rows : Result (List Row) CoreRefusal) → IsOfTasks (report_or job rows).status
-report_or-status job (Ok rows) = (omega arith, omega arith, omega arith)
+status_of-is : (rows : List Row) → IsOfTasks (status_of rows)
+status_of-is rows = by (list_any (λ r. is_early r.state) rows)
+  where
+    by : (early : Bool) → IsOfTasks (elim early [ true ↦ 3 | false ↦ 0 ])
+    by true = (omega arith, omega arith, omega arith)
+    by false = (omega arith, omega arith, omega arith)
+
+report_or-status : (job : Job) (cores : Result (List Core) CoreRefusal) → IsOfTasks (report_or job cores).status
+report_or-status job (Ok cores) = status_of-is (rows_of job.cores job.cycles job.trace (machine_of job cores))
 report_or-status job (Err refusal) = (omega arith, omega arith, omega arith)
 
 answer_by-status : (command : JobCommand) (job : Job) → IsOfTasks (answer_by command job).status
-answer_by-status Run job = report_or-status job (rows_from job 0 job.cores)
+answer_by-status Run job = report_or-status job (cores_from job 0 job.cores)
 answer_by-status Asm job = text_or-status (listings job.tasks 0 job.cores)
 
 -- no fault of a job is told as the length of its text is: at the latest their eighth bytes differ

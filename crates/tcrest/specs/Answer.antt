@@ -1,6 +1,7 @@
 -- What is written for the words of a command line and the bytes of the input: a status and a text.
 use Rattle.std.specs.Prelude.{ℕ, pos, nat_lt, if◌then◌else◌, List, ◌++◌, length, codes, Result, Ok, Err}
 use Rattle.std.specs.Fmt.{signed_decimal}
+use Rattle.patmos_core.specs.State.{Core}
 use Rattle.tc_job.specs.Fault.{Fault, fault_text}
 use Rattle.tc_job.specs.Job.{job_of}
 use Rattle.tc_job.specs.declared.job.Job.{Job}
@@ -15,7 +16,8 @@ use Rattle.tcrest.specs.declared.refusal.CoreRefusal.{CoreRefusal}
 use Rattle.tcrest.specs.Command.{command_of}
 use Rattle.tcrest.specs.Line.{line}
 use Rattle.tcrest.specs.Listing.{listings}
-use Rattle.tcrest.specs.Rows.{report_rows, rows_from}
+use Rattle.tcrest.specs.Machine.{cores_from, machine_of}
+use Rattle.tcrest.specs.Rows.{rows_of, status_of, report_rows}
 use Rattle.tcrest.specs.Tasks.{refusal_text}
 
 -- an answer of one line
@@ -49,13 +51,22 @@ abbrev pub text_or : Result (List ℕ) CoreRefusal → Answer
 text_or (Ok text) = record { status = 0; text = text }
 text_or (Err refusal) = no_task refusal
 
-abbrev pub report_or : Job → Result (List Row) CoreRefusal → Answer
-report_or job (Ok rows) = record { status = 0; text = report_text (report_rows job rows) }
+-- the report of rows, under their status
+abbrev pub told : Job → List Row → Answer
+told job rows = record { status = status_of rows; text = report_text (report_rows job rows) }
+
+-- what is told of the machine of these cores, at its limit alone
+abbrev pub report_of : Job → List Core → Answer
+report_of job cores = told job (rows_of job.cores job.cycles job.trace (machine_of job cores))
+
+-- a report, or a refused task
+abbrev pub report_or : Job → Result (List Core) CoreRefusal → Answer
+report_or job (Ok cores) = report_of job cores
 report_or job (Err refusal) = no_task refusal
 
 -- what is written for a job
 abbrev pub answer_by : JobCommand → Job → Answer
-answer_by Run job = report_or job (rows_from job 0 job.cores)
+answer_by Run job = report_or job (cores_from job 0 job.cores)
 answer_by Asm job = text_or (listings job.tasks 0 job.cores)
 
 abbrev pub job_answer : JobCommand → Result Job Fault → Answer

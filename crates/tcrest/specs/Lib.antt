@@ -2,9 +2,10 @@ pub mod Line
 pub mod Command
 pub mod Tasks
 pub mod Gives
-pub mod Finds
-pub mod FirstForm
 pub mod Listing
+pub mod Machine
+pub mod Loading
 pub mod Rows
 pub mod Answer
 pub mod Outcome
+pub mod Worked

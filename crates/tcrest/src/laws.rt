@@ -1,11 +1,18 @@
-ghost use Rattle.std.specs.Prelude.{◌≡◌, ℕ, ◌<◌, ◌↔◌, List, [], ◌∷◌, length, codes, Some};
+ghost use Rattle.std.specs.Prelude.{◌≡◌, ℕ, ◌<◌, ◌↔◌, false, List, [], ◌∷◌, length, map, codes};
+ghost use Rattle.patmos_core.specs.State.{Core};
+ghost use Rattle.global_step.specs.Loaded.{Machine};
+ghost use Rattle.global_step.specs.Machine.{at_limit};
+ghost use Rattle.tc_job.specs.declared.job.Job.{Job as JobParts};
+ghost use Rattle.tc_report.specs.declared.rows.RowState.TheVariants.{Limit, Done};
 ghost use Rattle.tcrest.specs.declared.command.Command.TheVariants.{Job, Usage};
 ghost use Rattle.tcrest.specs.declared.command.JobCommand.{JobCommand};
 ghost use Rattle.tcrest.specs.declared.command.JobCommand.TheVariants.{Run, Asm};
-ghost use Rattle.tcrest.specs.declared.steps.Step.TheVariants.{Add, Return};
 ghost use Rattle.tcrest.specs.Answer.{answer, bytes_answer, too_long, usage};
 ghost use Rattle.tcrest.specs.Command.{command_of};
-ghost use Rattle.tcrest.specs.FirstForm.{task_of, value_of, end_of};
+ghost use Rattle.tcrest.specs.Loading.{IsLoadedFor};
+ghost use Rattle.tcrest.specs.Machine.{machine_of};
+ghost use Rattle.tcrest.specs.Rows.{status_of};
+ghost use Rattle.tcrest.specs.Worked.{lone_rows};
 
 /// When the answers of usage and of a text that is too long come.
 pub fn refusals_in_order()
@@ -18,11 +25,19 @@ pub fn refusals_in_order()
     ensures too_long { (command : JobCommand) (bytes : List ℕ) → (bytes_answer command bytes ≡ too_long) ↔ (1048576 < length bytes) }
 {}
 
-/// The form of code that is run today, on an example: five words, of which the fills end at cycle 12.
-#[tactic(auto, unfolding(crate::specs::FirstForm::task_of, patmos_code::specs::Decoding::bundle_at))]
-pub fn worked_code()
-    ensures steps { task_of (1 ∷ []) (5 ∷ 0x00020007 ∷ 0x05400000 ∷ 0 ∷ 0 ∷ 0 ∷ [])
-        ≡ Some (Add 1 0 7 ∷ Return ∷ Add 0 0 0 ∷ Add 0 0 0 ∷ Add 0 0 0 ∷ []) }
-    ensures value { value_of (Add 1 0 7 ∷ Return ∷ Add 0 0 0 ∷ Add 0 0 0 ∷ Add 0 0 0 ∷ []) ≡ 7 }
-    ensures end { end_of 6 5 ≡ 17 }
+/// The rows of a small job, computed by the checker: its task ends at cycle 17, behind two transactions.
+#[tactic(auto, unfolding(crate::specs::Machine::machine_of, patmos_code::specs::Codes::code, patmos_code::specs::Decoding::bundle_at, patmos_core::specs::Flows::flowed, patmos_core::specs::Checks::fault_of, patmos_core::specs::Bundle::fetched_at, patmos_core::specs::Transaction::transaction))]
+pub fn worked_run()
+    ensures done { map (λ row. row.state) (lone_rows 17) ≡ Done 7 17 ∷ [] }
+    ensures accesses { map (λ row. row.accesses) (lone_rows 17) ≡
+        (record { cycle = 0; write = false; words = 4 } ∷ record { cycle = 6; write = false; words = 2 } ∷ []) ∷ [] }
+    ensures limit { map (λ row. row.state) (lone_rows 16) ≡ Limit ∷ [] }
+    ensures status { status_of (lone_rows 17) ≡ 0 }
+    ensures early { status_of (lone_rows 16) ≡ 3 }
+{}
+
+/// A machine that was loaded with the cores of a job, and its numbers, is the job's machine. A law: it does
+/// nothing.
+pub fn loaded_machine_is_the_jobs()
+    ensures { (job : JobParts) (cores : List Core) (m : Machine) → IsLoadedFor job cores m → at_limit m ≡ machine_of job cores }
 {}

@@ -9,9 +9,11 @@ mod answers;
 mod command;
 mod laws;
 mod listing;
+mod loading;
+#[cfg(test)]
+mod machine_tests;
 mod refusal;
 mod rows;
-mod steps;
 mod tasks;
 #[cfg(test)]
 mod tests;

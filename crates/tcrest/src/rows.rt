@@ -1,117 +1,82 @@
-ghost use Rattle.std.specs.Prelude.{◌≡◌, ◌+◌, ◌^◌, ◌<◌, ◌≤◌, length, option_map, IfOk};
+ghost use Rattle.std.specs.Prelude.{◌≡◌, ℕ, ◌+◌, ◌^◌, ◌<◌, ◌≤◌, length, IfOk};
+ghost use Rattle.std.specs.List.{list_any};
 ghost use Rattle.slot_arbiter.specs.Slot.{period};
 ghost use Rattle.tc_report.specs.Report.{report_text};
 ghost use Rattle.tc_job.specs.Ranges.{KeepsRanges};
+ghost use Rattle.global_step.specs.Loaded.{Machine};
+ghost use Rattle.global_step.specs.Machine.{at_limit};
+ghost use Rattle.tc_run.specs.Final.{IsFinalCore, AreFinal};
 ghost use Rattle.tcrest.specs.Rows as specs;
-ghost use Rattle.tcrest.specs.Gives.{Gives};
 
-use crate::listing::on_core;
-use crate::refusal::{CoreRefusal, Halt, Refusal};
-use crate::steps::{Step, task_of, value_of};
-use crate::tasks::{code_by, task_on};
-use patmos_asm::Code;
+use patmos_core::{Core, CoreState};
 use std::alloc::Global;
-use tc_job::{Job, Task};
+use tc_job::Job;
 use tc_report::{Row, RowState, Rows, report};
+use tc_run::{accesses_of, dropped_of, outcome_of};
 use tc_word::{List, OutOfMemory};
 
-/// The rows of all cores of a job.
-#[tactic(auto, using(crate::proofs::RowsFound::next_row, crate::proofs::RowsFound::all_rows))]
-pub fn rows_of(alloc: Global, job: &Job) -> Result<Vec<Row>, Halt<CoreRefusal>>
-    requires { KeepsRanges job.now }
-    ensures { Gives (λ rows. rows.items) result (specs.rows_from job.now 0 job.now.cores) }
+/// The rows of the cores of a machine at its limit.
+pub fn rows_of(alloc: Global, cores: &[Core]) -> Result<Vec<Row>, OutOfMemory>
+    ensures { IfOk result (λ rows. (m : Machine) → AreFinal m cores.now
+        → rows.items ≡ specs.rows_of (length m.cores) m.limit m.trace (at_limit m)) }
 {
     let mut rows = Vec::new(alloc);
-    for core in 0..job.cores {
-        let row = match row_on(alloc, job, task_on(job.tasks.as_slice(), core), core) {
-            Ok(row) => row,
-            Err(halt) => return Err(halt),
-        };
-        if rows.push(row).is_err() {
-            return Err(Halt::Memory);
-        }
+    for core in cores {
+        rows.push(row_of(alloc, core)?)?;
     }
     Ok(rows)
 }
 
-// the row of a core, with its task if it has one
-fn row_on(
-    alloc: Global,
-    job: &Job,
-    task: Option<&Task>,
-    core: u32,
-) -> Result<Row, Halt<CoreRefusal>>
-    requires { KeepsRanges job.now }
-    ensures { Gives (λ row. row) result (specs.row_on job.now core (option_map (λ t. t.now) task.entry)) }
+// the row of one of them
+fn row_of(alloc: Global, core: &Core) -> Result<Row, OutOfMemory>
+    ensures { IfOk result (λ row. (m : Machine) (k : ℕ) → IsFinalCore m k core.now
+        → row ≡ specs.row_of m.limit m.trace ((at_limit m).cores k)) }
 {
-    let Some(task) = task else {
-        return Ok(lone_row(alloc, RowState::Idle));
-    };
-    match task_row(alloc, job, task) {
-        Ok(row) => Ok(row),
-        Err(halt) => Err(on_core(core, halt)),
-    }
-}
-
-// the row of a task
-fn task_row(alloc: Global, job: &Job, task: &Task) -> Result<Row, Halt<Refusal>>
-    requires { KeepsRanges job.now }
-    ensures { Gives (λ row. row) result (specs.task_row job.now task.now) }
-{
-    let code = code_by(alloc, task)?;
-    code_row(alloc, job, task, &code)
-}
-
-fn code_row(alloc: Global, job: &Job, task: &Task, code: &Code) -> Result<Row, Halt<Refusal>>
-    requires { KeepsRanges job.now }
-    ensures { Gives (λ row. row) result (specs.code_row job.now task.now code.now) }
-{
-    if !is_first_form(job, task) {
-        return Err(Halt::Refused(Refusal::Later));
-    }
-    match task_of(alloc, code.starts(), code.words()) {
-        Ok(Some(steps)) => steps_row(alloc, job, steps.as_slice()),
-        Ok(None) => Err(Halt::Refused(Refusal::Later)),
-        Err(_) => Err(Halt::Memory),
-    }
-}
-
-// whether neither the job nor the task asks for more than can be told today
-fn is_first_form(job: &Job, task: &Task) -> bool
-    ensures { result ≡ specs.is_first_form job.now task.now }
-{
-    job.cores == 1 && job.trace == 0 && task.start == 0 && task.input.as_slice().is_empty()
-}
-
-// the row of steps that end by the cycle limit
-fn steps_row(alloc: Global, job: &Job, steps: &[Step]) -> Result<Row, Halt<Refusal>>
-    requires { KeepsRanges job.now }
-    ensures { Gives (λ row. row) result (specs.steps_row job.now steps.now) }
-{
-    let words = steps.len() as u128;
-    let cycles = u128::from(job.slot) * ((words + 4) / 4) + words;
-    if cycles > u128::from(job.cycles) {
-        return Err(Halt::Refused(Refusal::Later));
-    }
-    let cycles = cycles as u64;
-    let value = value_of(steps);
-    Ok(lone_row(alloc, RowState::Done { value, cycles }))
-}
-
-// a core of which only its state is told
-fn lone_row(alloc: Global, state: RowState) -> Row
-    ensures { result ≡ specs.lone_row state }
-{
-    Row {
-        state,
+    let accesses = Vec::from_slice(alloc, accesses_of(core))?;
+    Ok(Row {
+        state: row_state(outcome_of(core)),
         bound: None,
         alone: false,
         overrun: false,
         outs: List::of(Vec::new(alloc)),
         outs_unsigned: false,
-        dropped: 0,
-        accesses: List::of(Vec::new(alloc)),
+        dropped: dropped_of(core),
+        accesses: List::of(accesses),
+    })
+}
+
+// what became of a task
+fn row_state(outcome: CoreState) -> RowState
+    ensures { result ≡ specs.row_state outcome }
+{
+    match outcome {
+        CoreState::Idle => RowState::Idle,
+        CoreState::Running => RowState::Limit,
+        CoreState::Done { value, cycles, .. } => RowState::Done { value, cycles },
+        CoreState::Trapped { trap, at } => RowState::Trap {
+            trap: trap.number(),
+            at,
+        },
     }
+}
+
+/// The status that says whether a task was stopped, or has not ended by the limit.
+pub fn status_of(rows: &[Row]) -> u8
+    ensures { result ≡ specs.status_of rows.now }
+{
+    if has_early(rows) { 3 } else { 0 }
+}
+
+fn has_early(rows: &[Row]) -> bool
+    ensures { result ≡ list_any (λ r. specs.is_early r.state) rows.now }
+{
+    rows.iter().any(|row| is_early(row.state))
+}
+
+fn is_early(state: RowState) -> bool
+    ensures { result ≡ specs.is_early state }
+{
+    matches!(state, RowState::Limit | RowState::Trap { .. })
 }
 
 /// The report of the rows of all cores.

@@ -43,6 +43,15 @@ const C_JOB: &[u8] =
 
 const REPORT: &[u8] = b"platform cores 1 slot 6 period 6\ncore 0 done 7 cycles 17\n";
 
+const SHORT_REPORT: &[u8] = b"platform cores 1 slot 6 period 6\ncore 0 limit\n";
+
+const SHARING_REPORT: &[u8] =
+    b"platform cores 2 slot 6 period 12\ncore 0 done 0 cycles 46\ncore 1 done 5 cycles 64\n";
+
+/// Core 1 has its slots at 8, 32 and 56, and its stack is empty.
+const EVERY_KEY_REPORT: &[u8] =
+    b"platform cores 2 slot 8 period 24\ncore 0 idle\ncore 1 trap 5 at 64\ncore 1 access 32 read 4\ncore 1 access 56 read 2\n";
+
 const USAGE: &[u8] = b"usage: tcrest run|bound|asm|mean|gen N|bench N\n";
 
 fn words_of(alloc: Global, given: &[&str]) -> Result<Vec<Text>, Fail> {
@@ -54,14 +63,14 @@ fn words_of(alloc: Global, given: &[&str]) -> Result<Vec<Text>, Fail> {
 }
 
 /// The status and the bytes written, over an input and an output that never fail.
-fn answer_to<R: Threads + Wait + Sync>(
+pub fn answer_to<R: Threads + Wait + Sync>(
     rt: &R,
     alloc: Global,
     given: &[&str],
     input: &[u8],
 ) -> Result<(u8, SureGather), Fail> {
     let mut source = SureBytes::new(Vec::from_slice(alloc, input)?);
-    let mut sink = SureGather::new(alloc, 400)?;
+    let mut sink = SureGather::new(alloc, 1_000)?;
     let words = words_of(alloc, given)?;
     let status = tcrest(
         alloc,
@@ -106,8 +115,8 @@ const NEVER: u32 = 1_000_000;
 fn jobs_are_answered(rt: HostRuntime) -> Result<(), Fail> {
     for (word, input, want, text) in [
         ("run", JOB, 0, REPORT),
-        ("run", SHORT_JOB, 4, b"core 0: Later\n".as_slice()),
-        ("run", SHARING, 4, b"core 0: Later\n".as_slice()),
+        ("run", SHORT_JOB, 3, SHORT_REPORT),
+        ("run", SHARING, 0, SHARING_REPORT),
         (
             "run",
             IDLE_JOB,
@@ -121,7 +130,8 @@ fn jobs_are_answered(rt: HostRuntime) -> Result<(), Fail> {
             b"core 0: Mnemonic line 2\n".as_slice(),
         ),
         ("run", b"=".as_slice(), 2, b"job: Toml\n".as_slice()),
-        ("run", EVERY_KEY, 4, b"core 1: Later\n".as_slice()),
+        ("run", EVERY_KEY, 3, EVERY_KEY_REPORT),
+        ("run", C_JOB, 4, b"core 1: Later\n".as_slice()),
         ("asm", SHARING, 0, LISTINGS),
         ("asm", EVERY_KEY, 0, ONE_LISTING),
         (

@@ -30,20 +30,20 @@ const READ_FAULT: u8 = 5;
 /// | 0 | the command did what it says | the report, or the listings |
 /// | 1 | the words are no command | the usage line |
 /// | 2 | the job is refused | `job: ` and the fault |
+/// | 3 | a task was stopped, or has not ended by the limit | the report |
 /// | 4 | a task is refused | `core C: ` and the fault, of the least such core |
 /// | 5 | the source failed | `read fault` |
 /// | 6 | the sink failed | a proper front of the text that would have come |
 /// | 7 | memory was refused | nothing |
 ///
-/// Status 3 comes with the first machine that can stop early. The runtime and the gate are for the
-/// workers of a machine with several cores.
+/// The runtime and the gate are for the workers of a machine with several cores.
 pub fn tcrest<R: Threads + Wait + Sync, S: Source, K: Sink, G: Gate + Sync>(
     alloc: Global,
-    _rt: &R,
+    rt: &R,
     words: &[Text],
     source: &mut S,
     sink: &mut K,
-    _gate: &G,
+    gate: &G,
 ) -> u8
     // Where nothing failed, the answer is written, or memory was refused and nothing is.
     ensures answered { (Rose (S.faults source.old) (S.faults source.new) → ⊥) → (Rose (K.faults sink.old) (K.faults sink.new) → ⊥)
@@ -62,10 +62,17 @@ pub fn tcrest<R: Threads + Wait + Sync, S: Source, K: Sink, G: Gate + Sync>(
     ensures read_fault { result ≡ 5 → Rose (S.faults source.old) (S.faults source.new) }
     ensures write_fault { result ≡ 6 → Rose (K.faults sink.old) (K.faults sink.new) }
 {
-    perform(alloc, command_of(words), source, sink)
+    perform(alloc, rt, command_of(words), source, sink, gate)
 }
 
-fn perform<S: Source, K: Sink>(alloc: Global, command: Command, source: &mut S, sink: &mut K) -> u8
+fn perform<R: Threads + Wait + Sync, S: Source, K: Sink, G: Gate + Sync>(
+    alloc: Global,
+    rt: &R,
+    command: Command,
+    source: &mut S,
+    sink: &mut K,
+    gate: &G,
+) -> u8
     ensures ends { IfSome (S.left source.old) (λ bytes. Ends (command_answer command bytes)
         (Rose (S.faults source.old) (S.faults source.new)) result
         (K.faults sink.old) (K.faults sink.new) (K.taken sink.old) (K.taken sink.new)) }
@@ -76,18 +83,20 @@ fn perform<S: Source, K: Sink>(alloc: Global, command: Command, source: &mut S, 
     ensures write_fault { result ≡ 6 → Rose (K.faults sink.old) (K.faults sink.new) }
 {
     match command {
-        Command::Job(command) => answer_job(alloc, command, source, sink),
+        Command::Job(command) => answer_job(alloc, rt, command, source, sink, gate),
         Command::Usage => finish(sink, 1, b"usage: tcrest run|bound|asm|mean|gen N|bench N\n"),
     }
 }
 
 /// Answers a command about a job: all bytes are read, and a text that is not too long is answered as a
 /// job.
-fn answer_job<S: Source, K: Sink>(
+fn answer_job<R: Threads + Wait + Sync, S: Source, K: Sink, G: Gate + Sync>(
     alloc: Global,
+    rt: &R,
     command: JobCommand,
     source: &mut S,
     sink: &mut K,
+    gate: &G,
 ) -> u8
     ensures ends { IfSome (S.left source.old) (λ bytes. Ends (bytes_answer command bytes)
         (Rose (S.faults source.old) (S.faults source.new)) result
@@ -101,7 +110,7 @@ fn answer_job<S: Source, K: Sink>(
         Err(ReadError::TooLong) => return finish(sink, 2, b"job: TooLong\n"),
         Err(ReadError::Memory) => return MEMORY,
     };
-    match job_answer(alloc, command, bytes.as_slice()) {
+    match job_answer(alloc, rt, command, bytes.as_slice(), gate) {
         Ok(answer) => finish(sink, answer.status, answer.text.as_slice()),
         Err(_) => MEMORY,
     }

@@ -1,11 +1,8 @@
-use Rattle.std.proofs.Common.{◌+◌, ◌-◌, ◌∙◌, ap, arith}
-use Rattle.tcrest.specs.Tasks.{task_on}
-use Rattle.tcrest.specs.Rows.{rows_from}
-use Rattle.tcrest.proofs.RowsFound.{stopped_row}
+use Rattle.std.proofs.Common.{rules}
+use Rattle.tcrest.proofs.RowsTold.{next_row}
 use Rattle.tcrest.proofs.rows.rows_of.Goals as goal
 
-pub returns-in-Err : goal.returns-in-Err
-returns-in-Err c =
-    stopped_row c.args.job.now c.loop-core.core (c.args.job.now.cores - c.loop-core.core) (c.args.job.now.cores - (c.loop-core.core + 1)) c.loop-core.rows.items c.in-Err.halt
-    (rows_from c.args.job.now 0 c.args.job.now.cores) (omega arith)
-    (rw (c.task_on.ensures ∙ ap (λ tasks. task_on tasks c.loop-core.core) c.as_slice.ensures) at c.in-Err.ensures) c.loop-core.invariant
+pub loop-core-preserved : goal.loop-core-preserved
+loop-core-preserved c =
+    next_row c.args.cores.now c.loop-core.core-index c.core-item.result c.loop-core.rows.items c.push.new.self.items c.in_ok-row_of.field-0
+    (search rules) (search rules) c.in_ok-push.ensures.items c.loop-core.invariant c.in_ok-row_of.ensures

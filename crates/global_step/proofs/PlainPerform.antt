@@ -1,0 +1,105 @@
+-- How an event is made, one access after another.
+use Rattle.std.proofs.Common.{◌≡◌, ℕ, zero, suc, ◌+◌, ◌<◌, ◌≤◌, ◌==◌, Bool, true, false, true≢false, List, [], ◌∷◌, ◌++◌, length, take, drop, get_or, slice_index, slice_set, refl, sym, ap, subst, ◌∙◌, append_assoc, append-nil, eq-eqb, eqb-true, drop-cons, arith}
+use Rattle.std.specs.List.{AllByRecursion as Each}
+use Rattle.std.proofs.lemmas.List.{get_or-set_same, get_or-set_other, take_more_set, take-append-drop, drop_all}
+use Rattle.slot_arbiter.specs.declared.event.WordOp.{WordOp}
+use Rattle.shared_order.specs.declared.operation.Operation.{Operation}
+use Rattle.shared_order.specs.Operation.{load, store}
+use Rattle.shared_order.specs.Words.{put, after}
+use Rattle.shared_order.specs.Program.{played}
+use Rattle.shared_order.specs.Event.{filled}
+use Rattle.shared_order.proofs.Words.{after-append}
+use Rattle.global_step.specs.PlainEvent.{accesses}
+
+-- the accesses before `rest` are made: their loads gave the values, and the words are those after them
+pub record IsPartlyMade (s : ℕ) (acts rest : List WordOp) (begun words : ℕ → ℕ) (values : List ℕ) : Type 0 where
+  pub front : List Operation
+  pub asked : (more : List ℕ) → filled s acts (values ++ more) ≡ front ++ filled s rest more
+  pub made : (played s (accesses acts) begun).ops ≡ front ++ (played s (accesses rest) words).ops
+  pub after : words ≡ after front begun
+
+pub none_made : (s : ℕ) (acts : List WordOp) (words : ℕ → ℕ) → IsPartlyMade s acts acts words words []
+none_made s acts words = record { front = []; asked = λ more. refl; made = refl; after = refl }
+
+filled_store : (s : ℕ) (a : WordOp) (rest : List WordOp) (more : List ℕ) → a.write ≡ true → filled s (a ∷ rest) more ≡ store s a.word a.value ∷ filled s rest more
+filled_store s a rest more e = rw e refl
+
+filled_load : (s : ℕ) (a : WordOp) (rest : List WordOp) (v : ℕ) (more : List ℕ) → a.write ≡ false → filled s (a ∷ rest) (v ∷ more) ≡ load s a.word v ∷ filled s rest more
+filled_load s a rest v more e = rw e refl
+
+played_store : (s : ℕ) (a : WordOp) (rest : List WordOp) (words : ℕ → ℕ) → a.write ≡ true → (played s (accesses (a ∷ rest)) words).ops ≡ store s a.word a.value ∷ (played s (accesses rest) (put a.word a.value words)).ops
+played_store s a rest words e = rw e refl
+
+played_load : (s : ℕ) (a : WordOp) (rest : List WordOp) (words : ℕ → ℕ) → a.write ≡ false → (played s (accesses (a ∷ rest)) words).ops ≡ load s a.word (words a.word) ∷ (played s (accesses rest) words).ops
+played_load s a rest words e = rw e refl
+
+pub store_made : (s : ℕ) (acts : List WordOp) (a : WordOp) (rest : List WordOp) (begun words words' : ℕ → ℕ) (values : List ℕ) → a.write ≡ true → words' ≡ put a.word a.value words → IsPartlyMade s acts (a ∷ rest) begun words values → IsPartlyMade s acts rest begun words' values
+store_made s acts a rest begun words words' values e put_is h =
+    let o : Operation = store s a.word a.value in
+    record {
+      front = h.front ++ o ∷ [];
+      asked = λ more. h.asked more ∙ ap (λ l. h.front ++ l) (filled_store s a rest more e) ∙ sym (append_assoc h.front (o ∷ []) (filled s rest more));
+      made = h.made ∙ ap (λ l. h.front ++ l) (played_store s a rest words e)
+          ∙ ap (λ f. h.front ++ (o ∷ (played s (accesses rest) f).ops)) (sym put_is)
+          ∙ sym (append_assoc h.front (o ∷ []) (played s (accesses rest) words').ops);
+      after = put_is ∙ ap (λ f. put a.word a.value f) h.after ∙ sym (after-append h.front (o ∷ []) begun);
+    }
+
+pub load_made : (s : ℕ) (acts : List WordOp) (a : WordOp) (rest : List WordOp) (begun words : ℕ → ℕ) (values : List ℕ) → a.write ≡ false → IsPartlyMade s acts (a ∷ rest) begun words values → IsPartlyMade s acts rest begun words (values ++ words a.word ∷ [])
+load_made s acts a rest begun words values e h =
+    let v : ℕ = words a.word in
+    let o : Operation = load s a.word v in
+    record {
+      front = h.front ++ o ∷ [];
+      asked = λ more. ap (λ l. filled s acts l) (append_assoc values (v ∷ []) more) ∙ h.asked (v ∷ more)
+          ∙ ap (λ l. h.front ++ l) (filled_load s a rest v more e) ∙ sym (append_assoc h.front (o ∷ []) (filled s rest more));
+      made = h.made ∙ ap (λ l. h.front ++ l) (played_load s a rest words e)
+          ∙ sym (append_assoc h.front (o ∷ []) (played s (accesses rest) words).ops);
+      after = h.after ∙ sym (after-append h.front (o ∷ []) begun);
+    }
+
+-- with nothing left, the event is made
+pub all_made : (s : ℕ) (acts : List WordOp) (begun words : ℕ → ℕ) (values more : List ℕ) → IsPartlyMade s acts [] begun words values
+    → (filled s acts (values ++ more) ≡ (played s (accesses acts) begun).ops) × ((w : ℕ) → words w ≡ after (played s (accesses acts) begun).ops begun w)
+all_made s acts begun words values more h =
+    let whole : h.front ≡ (played s (accesses acts) begun).ops = sym (append-nil h.front) ∙ sym h.made in
+    (h.asked more ∙ append-nil h.front ∙ whole, λ w i. (h.after ∙ ap (λ l. after l begun) whole) i w)
+
+-- ---- by the index of the next access
+
+words_put : (ws : List ℕ) (at value : ℕ) → at < length ws → slice_index (slice_set ws at value) ≡ put at value (slice_index ws)
+words_put ws at value within = λ k w. by w (at == w) refl k
+  where
+    by : (w : ℕ) (b : Bool) → (at == w) ≡ b → slice_index (slice_set ws at value) w ≡ put at value (slice_index ws) w
+    by w true e = rw e (ap (λ u. get_or (slice_set ws at value) u 0) (sym (eqb-true at w e)) ∙ get_or-set_same ws at value 0 within)
+    by w false e = rw e (get_or-set_other ws at w value 0 (λ same. true≢false (sym (eq-eqb at w (sym same)) ∙ e)))
+
+dropped : (acts : List WordOp) (i : ℕ) (d : WordOp) → i < length acts → drop i acts ≡ get_or acts i d ∷ drop (i + 1) acts
+dropped acts i d below = let next : i + 1 ≡ suc i = omega arith in drop-cons acts i d below ∙ (λ k. get_or acts i d ∷ drop (sym next k) acts)
+
+pub store_next : (s : ℕ) (acts : List WordOp) (begun : ℕ → ℕ) (i : ℕ) (d : WordOp) (ws ws' values : List ℕ) → i < length acts → (get_or acts i d).write ≡ true → (get_or acts i d).word < length ws
+    → ws' ≡ slice_set ws (get_or acts i d).word (get_or acts i d).value → IsPartlyMade s acts (drop i acts) begun (slice_index ws) values → IsPartlyMade s acts (drop (i + 1) acts) begun (slice_index ws') values
+store_next s acts begun i d ws ws' values below store within set_is h =
+    let a : WordOp = get_or acts i d in
+    store_made s acts a (drop (i + 1) acts) begun (slice_index ws) (slice_index ws') values store
+    (ap slice_index set_is ∙ words_put ws a.word a.value within)
+    (subst (λ l. IsPartlyMade s acts l begun (slice_index ws) values) (dropped acts i d below) h)
+
+pub load_next : (s : ℕ) (acts : List WordOp) (begun : ℕ → ℕ) (i : ℕ) (d : WordOp) (ws values values' : List ℕ) (j : ℕ) → i < length acts → (get_or acts i d).write ≡ false → j < length values
+    → values' ≡ slice_set values j (slice_index ws (get_or acts i d).word) → IsPartlyMade s acts (drop i acts) begun (slice_index ws) (take j values) → IsPartlyMade s acts (drop (i + 1) acts) begun (slice_index ws) (take (j + 1) values')
+load_next s acts begun i d ws values values' j below load within set_is h =
+    let a : WordOp = get_or acts i d in
+    subst (λ l. IsPartlyMade s acts (drop (i + 1) acts) begun (slice_index ws) l) (sym (ap (take (j + 1)) set_is ∙ take_more_set values j (slice_index ws a.word) within))
+    (load_made s acts a (drop (i + 1) acts) begun (slice_index ws) (take j values) load
+    (subst (λ l. IsPartlyMade s acts l begun (slice_index ws) (take j values)) (dropped acts i d below) h))
+
+pub each_at : (P : WordOp → Type 0) (acts : List WordOp) (i : ℕ) (d : WordOp) → Each P acts → i < length acts → P (get_or acts i d)
+each_at P [] i d h below = absurd (omega (arith, below))
+each_at P (x ∷ xs) zero d h below = h.0
+each_at P (x ∷ xs) (suc i) d h below = each_at P xs i d h.1 (omega (arith, below))
+
+pub made_whole : (s : ℕ) (acts : List WordOp) (ws values : List ℕ) (begun : ℕ → ℕ) (i j : ℕ) → length acts ≤ i → IsPartlyMade s acts (drop i acts) begun (slice_index ws) (take j values)
+    → (filled s acts values ≡ (played s (accesses acts) begun).ops) × ((w : ℕ) → slice_index ws w ≡ after (played s (accesses acts) begun).ops begun w)
+made_whole s acts ws values begun i j end h =
+    let all = all_made s acts begun (slice_index ws) (take j values) (drop j values) (subst (λ l. IsPartlyMade s acts l begun (slice_index ws) (take j values)) (drop_all i acts end) h) in
+    (ap (filled s acts) (sym (take-append-drop j values)) ∙ all.0, all.1)

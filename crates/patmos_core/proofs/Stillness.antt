@@ -1,0 +1,100 @@
+-- Cycles in which nothing happens.
+use Rattle.std.proofs.Common.{◌≡◌, ℕ, ◌+◌, ◌*◌, ◌<◌, ◌≤◌, true, List, Option, None, Some, IfSome, IsNone, true≢false, ◌-◌, refl, sym, ap, ◌∙◌, subst, arith}
+use Rattle.shared_order.specs.declared.operation.Operation.{Operation}
+use Rattle.shared_order.specs.Stamps.{act_at}
+use Rattle.shared_order.specs.Stands.{Stands}
+use Rattle.shared_order.proofs.Standing.{skips_cycles}
+use Rattle.shared_order.specs.Program.{done, and_then}
+use Rattle.argo_ni.specs.Interface.{Standing}
+use Rattle.argo_ni.specs.Turn.{acts, delivery, injection, turn as interface_turn}
+use Rattle.argo_ni.specs.Event.{half_of, IsNextAct, IsInjection}
+use Rattle.patmos_core.specs.declared.window.Window.{Window}
+use Rattle.patmos_core.specs.Events.{SendsIn}
+use Rattle.argo_ni.specs.declared.event.NiEvent.{NiEvent}
+use Rattle.argo_ni.specs.declared.event.NiKind.TheVariants.{Inject, Deliver}
+use Rattle.patmos_core.specs.State.{Core}
+use Rattle.patmos_core.specs.Cells.{now}
+use Rattle.patmos_core.specs.Cycle.{with_interface, own, settled, turn}
+use Rattle.patmos_core.specs.declared.part.Part.{Part}
+use Rattle.patmos_core.specs.declared.part.Part.TheVariants.{Delivery, Act}
+use Rattle.patmos_core.specs.Position.{IsThere}
+use Rattle.patmos_core.proofs.Moving.{delivery_passed}
+use Rattle.patmos_core.specs.Progress.{IsUpTo, half_at, TellsNext, IsQuietAt}
+
+-- neither the interface nor the core does something
+still : (u : ℕ) (y : Core) → delivery u y.plain.interface ≡ done y.plain.interface → injection u y.plain.interface ≡ done y.plain.interface → own u y ≡ now y → IsQuietAt u y
+still u y none_comes none_goes rests = record {
+  first = ap (λ p. and_then p (λ i. done (with_interface y i))) none_comes;
+  second = ap (λ p. and_then (and_then p (λ i. own u (with_interface y i))) settled) none_goes ∙ ap (λ p. and_then p settled) rests;
+}
+
+-- the cycle of an event is that of its half-cycle
+pub half_bounds : (e : NiEvent) → (2 * e.cycle ≤ half_of e) × (half_of e ≤ 2 * e.cycle + 1)
+half_bounds e = elim e.kind as (λ k. (2 * e.cycle ≤ elim k [ Inject target first count ↦ 2 * e.cycle + 1 | Deliver target first count values ↦ 2 * e.cycle ]) × (elim k [ Inject target first count ↦ 2 * e.cycle + 1 | Deliver target first count values ↦ 2 * e.cycle ] ≤ 2 * e.cycle + 1)) [
+  | Inject target first count ↦ (omega arith, omega arith)
+  | Deliver target first count values ↦ (omega arith, omega arith)
+]
+
+-- before the interface's next act and before the core wakes
+pub quiet_before : (s : Standing) (next : Option NiEvent) (y : Core) (u : ℕ) → TellsNext s next → y.plain.interface ≡ s.interface → s.from ≤ 2 * u → IfSome next (λ e. u < e.cycle) → own u y ≡ now y → IsQuietAt u y
+quiet_before s None y u tells same from before rests =
+    still u y (subst (λ i. delivery u i ≡ done i) (sym same) (tells.quiet refl (2 * u + 2) u 0 (omega arith) (omega (arith, from)) (omega arith)))
+    (subst (λ i. injection u i ≡ done i) (sym same) (tells.quiet refl (2 * u + 2) u 1 (omega arith) (omega (arith, from)) (omega arith))) rests
+quiet_before s (Some e) y u tells same from before rests =
+    let bounds : (2 * e.cycle ≤ half_of e) × (half_of e ≤ 2 * e.cycle + 1) = half_bounds e in
+    still u y (subst (λ i. delivery u i ≡ done i) (sym same) (tells.between u 0 (omega arith) (omega (arith, from)) (omega (arith, before, bounds.0))))
+    (subst (λ i. injection u i ≡ done i) (sym same) (tells.between u 1 (omega arith) (omega (arith, from)) (omega (arith, before, bounds.0)))) rests
+
+-- nothing of the interface is left before its next act
+pub nothing_before : (s : Standing) (next : Option NiEvent) (cycle half : ℕ) → TellsNext s next → IfSome next (λ e. cycle ≤ e.cycle) → s.from ≤ half → acts s.interface half ≡ true → 2 * cycle ≤ half
+nothing_before s None cycle half tells within from is = absurd (true≢false (sym is ∙ tells.never refl half))
+nothing_before s (Some e) cycle half tells within from is = omega (arith, within, (half_bounds e).0, tells.is.least half from is)
+
+-- a core goes over quiet cycles as it is
+pub there_skipped : (n core : ℕ) (x : Core) (made : List Operation) (y : Core) (cycle later : ℕ) (part : Part) → part ≡ Delivery → core < n → cycle ≤ later → ((u : ℕ) → cycle ≤ u → u < later → IsQuietAt u y) → IsThere n core cycle part x made y → IsThere n core later part x made y
+there_skipped n core x made y cycle later part is among on quiet there =
+    let far : cycle + (later - cycle) ≡ later = omega (arith, on) in
+    subst (λ p. IsThere n core later p x made y) (sym is)
+    (subst (λ q. Stands (act_at turn n) n core x made (2 * q * n) y) far
+    (skips_cycles turn n core x made cycle y (later - cycle) among (λ u from below. let still : IsQuietAt u y = quiet u from (omega (arith, below, far)) in (still.first, still.second))
+    (subst (λ p. IsThere n core cycle p x made y) is there)))
+
+-- what is done before a cycle
+pub up_to_cycle : (ni : Standing) (cycle : ℕ) (part : Part) → part ≡ Delivery → IsUpTo (half_at cycle part) ni → IsUpTo (2 * cycle) ni
+up_to_cycle ni cycle part is up = subst (λ p. IsUpTo (half_at cycle p) ni) is up
+
+-- an act that is none of the cycle comes after it
+pub comes_later : (s : Standing) (next : Option NiEvent) (e : NiEvent) (cycle : ℕ) → TellsNext s next → next ≡ Some e → IsUpTo (2 * cycle) s → cycle ≤ e.cycle
+comes_later s next e cycle tells is up =
+    let told : IfSome (Some e) (λ e. IsNextAct s (half_of e)) = subst (λ n. IfSome n (λ e. IsNextAct s (half_of e))) is tells.is in
+    omega (arith, up.past (half_of e) told.from told.passes, (half_bounds e).1)
+
+-- without a packet that is due nothing is delivered, and outside its windows nothing is injected
+pub quiet_phase : (s : Standing) (next : Option NiEvent) (cycle phase : ℕ) → phase ≤ 1 → TellsNext s next → s.from ≤ 2 * cycle + phase → IfSome next (λ e. 2 * cycle + phase < half_of e) → interface_turn phase cycle s.interface ≡ done s.interface
+quiet_phase s None cycle phase low tells from later = tells.quiet refl (2 * cycle + phase + 1) cycle phase low from (omega arith)
+quiet_phase s (Some e) cycle phase low tells from later = tells.between cycle phase low from later
+
+pub quiet_delivery : (s : Standing) (next : Option NiEvent) (cycle : ℕ) (y : Core) → y.plain.interface ≡ s.interface → TellsNext s next → s.from ≤ 2 * cycle → IfSome next (λ e. 2 * cycle < half_of e) → turn 0 cycle y ≡ done y
+quiet_delivery s next cycle y same tells from later =
+    ap (λ p. and_then p (λ i. done (with_interface y i)))
+    (subst (λ i. delivery cycle i ≡ done i) (sym same) (quiet_phase s next cycle 0 (omega arith) tells (omega (arith, from)) (sooner next later)))
+  where
+    sooner : (next : Option NiEvent) → IfSome next (λ e. 2 * cycle < half_of e) → IfSome next (λ e. 2 * cycle + 0 < half_of e)
+    sooner None h = h
+    sooner (Some e) h = omega (arith, h)
+
+pub there_passed : (n core : ℕ) (x : Core) (made : List Operation) (y : Core) (cycle : ℕ) (part : Part) → part ≡ Delivery → core < n → turn 0 cycle y ≡ done y → IsThere n core cycle part x made y → IsThere n core cycle Act x made y
+there_passed n core x made y cycle part is among quiet there =
+    delivery_passed n core x cycle among made y quiet (subst (λ p. IsThere n core cycle p x made y) is there)
+
+-- where the interface sends nothing in the cycle, its next act is a later one
+pub no_window : (s : Standing) (next : Option NiEvent) (cycle : ℕ) (part : Part) → part ≡ Act → IsUpTo (half_at cycle part) s → TellsNext s next → IfSome next (λ e. 2 * cycle + 1 < half_of e) → injection cycle s.interface ≡ done s.interface
+no_window s next cycle part is up tells later =
+    let here : IsUpTo (2 * cycle + 1) s = subst (λ p. IsUpTo (half_at cycle p) s) is up in
+    quiet_phase s next cycle 1 (omega arith) tells here.after later
+
+-- so the interface sends the packet that was found, or none
+pub sends_so : (s : Standing) (next : Option NiEvent) (window : Option Window) (cycle : ℕ) (part : Part) → part ≡ Act → IsUpTo (half_at cycle part) s → TellsNext s next
+    → IfSome window (λ w. IsInjection s.interface cycle w.target w.first w.count) → (IsNone window → IfSome next (λ e. 2 * cycle + 1 < half_of e)) → SendsIn s.interface cycle window
+sends_so s next None cycle part is up tells packet none = no_window s next cycle part is up tells (none refl)
+sends_so s next (Some w) cycle part is up tells packet none = packet

@@ -1,0 +1,12 @@
+use Rattle.patmos_core.proofs.NextUp.{next_if, whole_if, task_made_all}
+use Rattle.patmos_core.proofs.kind.Kind.run.Goals as goal
+
+pub returns-in-Tasked-clause-next : goal.returns-in-Tasked-clause-next
+returns-in-Tasked-clause-next c = next_if c.run.new.self c.run.result c.args.limit c.run.ensures.asked c.run.ensures.below
+
+pub returns-in-Tasked-clause-whole : goal.returns-in-Tasked-clause-whole
+returns-in-Tasked-clause-whole c = whole_if c.run.new.self c.run.result c.args.limit c.run.ensures.asked c.run.ensures.below
+
+pub returns-in-Tasked-clause-all : goal.returns-in-Tasked-clause-all
+returns-in-Tasked-clause-all c = λ none x made on.
+    task_made_all c.run.new.self x made c.args.limit (c.run.ensures.through none) (c.run.ensures.whole (c.run.ensures.through none)) on

@@ -1,0 +1,23 @@
+use Rattle.std.proofs.Common.{◌≡◌, ◌++◌, ap, ◌∙◌}
+use Rattle.patmos_core.specs.Asks.{ops_of}
+use Rattle.patmos_core.specs.Events.{asked_of, window_asks}
+use Rattle.patmos_core.specs.Shown.{core_of}
+use Rattle.patmos_core.specs.Waiting.{phase_of}
+use Rattle.patmos_core.proofs.AskedFor.{act_asks, act_leaves, not_delivery, stamp_of_part}
+use Rattle.patmos_core.proofs.tasked.Tasked.act_event.Goals as goal
+
+pub returns-clause-asked : goal.returns-clause-asked
+returns-clause-asked c =
+    let all : asked_of c.ask_own.new.event ≡ window_asks c.args.self.now.body.place.core c.args.window ++ ops_of c.args.ask =
+    c.ask_own.ensures.asks ∙ ap (λ l. l ++ ops_of c.args.ask) (c.ask_window.ensures.asks
+    ∙ ap (λ l. l ++ window_asks c.args.self.now.body.place.core c.args.window) c.event_at-event.ensures.asks) in
+    record {
+      stamp = stamp_of_part c.args.self.now.body.place.cores c.args.self.now.body.place.core c.args.self.now.cycle 1 c.ask_own.new.event.stamp c.args.self.now.part
+          (ap phase_of c.requires.act) (c.ask_own.ensures.stamp ∙ c.ask_window.ensures.stamp ∙ c.event_at-event.ensures.stamp ∙ c.stamp_of.ensures.number);
+      asks = λ h shows. act_asks c.args.self.now.cycle (core_of c.args.self.now.body h) c.ask_own.new.event c.args.window c.args.ask c.args.self.now.part c.requires.act c.requires.sends
+          (λ i same. c.requires.follows h i shows same) c.args.self.now.body.port.core all;
+      leaves = λ h shows. act_leaves c.args.self.now.cycle (core_of c.args.self.now.body h) c.ask_own.new.event c.args.window c.args.ask c.args.self.now.part c.requires.act c.requires.sends
+          (λ i same. c.requires.follows h i shows same) all;
+      early = c.requires.early;
+      delivers = λ is. absurd (not_delivery c.args.self.now.part c.requires.act is);
+    }

@@ -1,0 +1,170 @@
+-- How far a core that is stepped by itself has come: which run apart it stands for, and what it asks for.
+use Rattle.std.specs.Prelude.{◌≡◌, ℕ, suc, ◌+◌, ◌*◌, ◌%◌, ◌≤◌, ◌<◌, List, [], ◌∷◌, ◌++◌, Option, None, Some}
+use Rattle.slot_arbiter.specs.Stamp.{stamp}
+use Rattle.slot_arbiter.specs.declared.place.Place.{Place}
+use Rattle.slot_arbiter.specs.declared.event.Event.{Event}
+use Rattle.local_store.specs.declared.map.Cell.{Cell}
+use Rattle.local_store.specs.declared.map.Cell.TheVariants as cell
+use Rattle.shared_order.specs.declared.operation.Operation.{Operation}
+use Rattle.shared_order.specs.Operation.{store, loads}
+use Rattle.shared_order.specs.Order.{GoesOn}
+use Rattle.shared_order.specs.Event.{asked_by}
+use Rattle.shared_order.specs.Stamps.{act_at}
+use Rattle.shared_order.specs.Stands.{Stands, Midway}
+use Rattle.argo_ni.specs.Packet.{comm_word}
+use Rattle.patmos_code.specs.Images.{Parts}
+use Rattle.patmos_core.specs.declared.asks.Owed.{Owed as Store}
+use Rattle.patmos_core.specs.declared.tasked.Tasked.{Tasked}
+use Rattle.patmos_core.specs.declared.part.Part.{Part}
+use Rattle.patmos_core.specs.declared.part.Part.TheVariants.{Delivery, Act, Owed}
+use Rattle.patmos_core.specs.declared.cpu.Core.{Core as Cpu}
+use Rattle.patmos_core.specs.declared.kind.Kind.{Kind}
+use Rattle.patmos_core.specs.declared.kind.Kind.TheVariants.{Idle, Tasked as WithTask}
+use Rattle.patmos_core.specs.declared.cpu.Next.{Next}
+use Rattle.patmos_core.specs.declared.cpu.Next.TheVariants as next
+use Rattle.patmos_core.specs.declared.state.CoreState.{CoreState}
+use Rattle.patmos_core.specs.declared.state.CoreState.TheVariants as states
+use Rattle.patmos_core.specs.State.{Plain, Core, History}
+use Rattle.patmos_core.specs.Begin.{idle}
+use Rattle.patmos_core.specs.Cycle.{turn, settled}
+use Rattle.patmos_core.specs.Apart.{site_of, apart_from}
+use Rattle.patmos_core.specs.Events.{AllBelow, asked_of, EndsBefore}
+use Rattle.patmos_core.specs.Shown.{Shows, IsFramed, core_of}
+
+-- the parts of a cycle in their order, and how many are done, three a cycle
+abbrev pub part_number : Part → ℕ
+part_number part = elim part [ Delivery ↦ 0 | Act ↦ 1 | Owed owed ↦ 2 ]
+
+abbrev pub parts_done : ℕ → Part → ℕ
+parts_done cycle part = 3 * cycle + part_number part
+
+-- Core number `core` of n that began as x and made these operations is y before a part of a cycle.
+abbrev pub IsThere : ℕ → ℕ → ℕ → Part → Core → List Operation → Core → Type 0
+IsThere n core cycle part x made y = elim part [
+  | Delivery ↦ Stands (act_at turn n) n core x made (2 * cycle * n) y
+  | Act ↦ Midway (act_at turn n) n core x made (stamp n core cycle 1) (turn 1 cycle y)
+  | Owed owed ↦ Midway (act_at turn n) n core x made (stamp n core cycle 1)
+      (settled (record { core = y; owed = Some owed }))
+]
+
+-- a core with a task stands for the run apart of the core that began as x, in which it made these
+-- operations
+pub record IsOn (t : Tasked) (x : Core) (made : List Operation) : Type 0 where
+  pub seen : History
+  pub shows : Shows t.body seen
+  pub cores : x.plain.site.cores ≡ t.body.place.cores
+  pub core : x.plain.site.core ≡ t.body.place.core
+  pub there : IsThere t.body.place.cores t.body.place.core t.cycle t.part x made (core_of t.body seen)
+
+-- the core goes on: it stands for the same, has kept its place, and has no fewer parts behind it
+pub record GoesOnAs (t t' : Tasked) : Type 0 where
+  pub stands : (x : Core) (made : List Operation) → IsOn t x made → IsOn t' x made
+  pub frame : IsFramed t.body t'.body
+  pub parts : parts_done t.cycle t.part ≤ parts_done t'.cycle t'.part
+
+-- so does a core without one, which made none
+pub record IsResting (place : Place) (x : Core) (made : List Operation) : Type 0 where
+  pub image : Parts
+  pub is : x ≡ idle (site_of place image)
+  pub none : made ≡ []
+
+-- what is at a place stands for the run apart of the core that began as x, in which it made these operations
+abbrev pub StandsAt : Kind → Core → List Operation → Type 0
+StandsAt kind x made = elim kind [ Idle place ↦ IsResting place x made | WithTask t ↦ IsOn t x made ]
+
+-- its place, how many transactions it keeps, and how many parts of cycles it has behind it, three a cycle
+abbrev pub place_at : Kind → Place
+place_at kind = elim kind [ Idle place ↦ place | WithTask t ↦ t.body.place ]
+
+abbrev pub room_at : Kind → ℕ
+room_at kind = elim kind [ Idle place ↦ 0 | WithTask t ↦ t.body.room ]
+
+abbrev pub parts_at : Kind → ℕ
+parts_at kind = elim kind [ Idle place ↦ 0 | WithTask t ↦ parts_done t.cycle t.part ]
+
+-- the cycles below the limit are done
+abbrev pub IsThroughTo : ℕ → Kind → Type 0
+IsThroughTo limit kind = elim kind [ Idle place ↦ Unit {0} | WithTask t ↦ (t.cycle ≡ limit) × (t.part ≡ Delivery) ]
+
+-- the same of a core, and the event that it waits to be told, and the last limit
+abbrev pub StandsFor : Cpu → Core → List Operation → Type 0
+StandsFor k x made = StandsAt k.kind x made
+
+abbrev pub place_of : Cpu → Place
+place_of k = place_at k.kind
+
+abbrev pub room_of : Cpu → ℕ
+room_of k = room_at k.kind
+
+abbrev pub parts_of : Cpu → ℕ
+parts_of k = parts_at k.kind
+
+abbrev pub waiting_of : Cpu → Option Event
+waiting_of k = k.waiting
+
+abbrev pub limit_of : Cpu → ℕ
+limit_of k = k.limit
+
+abbrev pub IsThrough : Cpu → Type 0
+IsThrough k = IsThroughTo k.limit k.kind
+
+-- the event of an answer
+abbrev pub event_of : Next → Option Event
+event_of answer = elim answer [ next.Event e ↦ Some e | next.Limit ↦ None | next.Ended ↦ None ]
+
+-- the answer where no event comes before the limit, by how far the task has come there
+abbrev pub rest_as : CoreState → Next
+rest_as state = elim state [
+  | states.Idle ↦ next.Ended
+  | states.Running ↦ next.Limit
+  | states.Done value flag cycles ↦ next.Ended
+  | states.Trapped trap at ↦ next.Ended
+]
+
+-- whatever its loads to come give, the core that began as x and made these operations makes those of the
+-- event next, and then only such at its stamp or later
+abbrev pub IsNextOf : Core → List Operation → ℕ → Event → Type 0
+IsNextOf x made limit e = (more : List ℕ) →
+    GoesOn e.stamp (made ++ asked_by e more) (apart_from x (loads made ++ more) limit).made
+
+-- These operations are what an event leaves of its stamp: none; or, where it ends with the load of a narrow
+-- store, the one store that is then owed, into the word that the event loads last.
+pub record IsLeftBy (e : Event) (rest : List Operation) : Type 0 where
+  pub owed : Option Store
+  pub only : rest ≡ elim owed [ None ↦ [] | Some o ↦ store e.stamp o.word o.value ∷ [] ]
+  pub narrow : EndsBefore e owed
+
+-- After the operations that were made, all that are made begin with those of the event when its loads give
+-- these values and with what the event leaves of its stamp; the others are at later stamps.
+pub record IsWholeIn (made all : List Operation) (e : Event) (values : List ℕ) : Type 0 where
+  pub rest : List Operation
+  pub left : IsLeftBy e rest
+  pub goes_on : GoesOn (suc e.stamp) (made ++ (asked_by e values ++ rest)) all
+
+-- whatever its loads to come give, the event has all that the core that began as x and made these operations
+-- makes at its stamp; but what is left of a narrow store comes in an event of its own
+abbrev pub IsWholeOf : Core → List Operation → ℕ → Event → Type 0
+IsWholeOf x made limit e = (more : List ℕ) →
+    IsWholeIn made (apart_from x (loads made ++ more) limit).made e more
+
+-- the operations are all that the core makes before the limit, whatever other values there are
+abbrev pub HasMadeAll : Core → List Operation → ℕ → Type 0
+HasMadeAll x made limit = (more : List ℕ) → apart_from x (loads made ++ more) limit
+    ≡ record { core = (apart_from x (loads made) limit).core; left = more; made = made }
+
+-- the event is one of the core at the place before the limit, on words of the board, and not of none
+pub record EventFits (place : Place) (limit : ℕ) (e : Event) : Type 0 where
+  pub core : e.stamp % place.cores ≡ place.core
+  pub below : e.stamp < 2 * limit * place.cores
+  pub some : 1 ≤ e.count
+  pub words : AllBelow (comm_word place.cores 0) (asked_of e)
+
+-- the word of a cell of the core's own memories
+abbrev pub word_in : Cell → Plain → ℕ
+word_in c x = elim c [
+  | cell.Scratch word ↦ x.scratch word
+  | cell.Private word ↦ x.private word
+  | cell.Comm word ↦ 0
+  | cell.Port core register ↦ 0
+  | cell.Shared word ↦ 0
+]

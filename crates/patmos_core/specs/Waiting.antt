@@ -1,0 +1,99 @@
+-- What a core waits to be told.
+use Rattle.std.specs.Prelude.{◌≡◌, ℕ, ◌*◌, ◌%◌, ◌≤◌, ◌<◌, List, Option, None, Some, IsSome}
+use Rattle.std.proofs.Props.{props}
+use Rattle.slot_arbiter.specs.Stamp.{stamp}
+use Rattle.slot_arbiter.specs.declared.place.Place.{Place}
+use Rattle.slot_arbiter.specs.declared.event.Event.{Event}
+use Rattle.shared_order.specs.Program.{fed}
+use Rattle.shared_order.specs.Event.{IsAskedBy}
+use Rattle.argo_ni.specs.Packet.{comm_word}
+use Rattle.argo_ni.specs.Event.{IsNextAct}
+use Rattle.patmos_core.specs.declared.asks.Owed.{Owed as Store}
+use Rattle.patmos_core.specs.declared.tasked.Tasked.{Tasked}
+use Rattle.patmos_core.specs.declared.part.Part.{Part}
+use Rattle.patmos_core.specs.declared.part.Part.TheVariants.{Delivery, Act, Owed}
+use Rattle.patmos_core.specs.declared.kind.Kind.{Kind}
+use Rattle.patmos_core.specs.declared.kind.Kind.TheVariants.{Idle, Tasked as WithTask}
+use Rattle.patmos_core.specs.State.{Core, History}
+use Rattle.patmos_core.specs.Cycle.{turn, acted, settled}
+use Rattle.patmos_core.specs.Events.{AllBelow, asked_of, EndsBefore}
+use Rattle.patmos_core.specs.Shown.{Shows, core_of}
+
+-- the phase of a part of a cycle
+abbrev pub phase_of : Part → ℕ
+phase_of part = elim part [ Delivery ↦ 0 | Act ↦ 1 | Owed owed ↦ 1 ]
+
+-- the event is what the core asks for in a part of a cycle, whatever its loads give
+abbrev pub AsksIn : Part → ℕ → Core → Event → Type 0
+AsksIn part cycle y e = elim part [
+  | Delivery ↦ IsAskedBy e (turn 0 cycle y)
+  | Act ↦ IsAskedBy e (acted cycle y)
+  | Owed owed ↦ IsAskedBy e (settled (record { core = y; owed = Some owed }))
+]
+
+-- what the event leaves of the second phase, whatever its loads give, is no more than a store into the word
+-- that it loads last
+abbrev pub LeavesIn : Part → ℕ → Core → Event → Type 0
+LeavesIn part cycle y e = elim part [
+  | Delivery ↦ Unit {0}
+  | Act ↦ (values : List ℕ) → EndsBefore e (fed e.stamp (acted cycle y) values).core.owed
+  | Owed owed ↦ Unit {0}
+]
+
+-- it is what the core asks for where it stands, before the latest limit; and where packets come to their
+-- words, the interface is about to deliver them
+pub record IsAskedAt (t : Tasked) (e : Event) : Type 0 where
+  pub stamp : e.stamp ≡ stamp t.body.place.cores t.body.place.core t.cycle (phase_of t.part)
+  pub asks : (h : History) → Shows t.body h → AsksIn t.part t.cycle (core_of t.body h) e
+  pub leaves : (h : History) → Shows t.body h → LeavesIn t.part t.cycle (core_of t.body h) e
+  pub early : t.cycle < 20000000
+  pub delivers : t.part ≡ Delivery → IsNextAct t.body.ni (2 * t.cycle)
+
+-- the event is one of the core at the place, on words of the board, and not of none
+pub record IsOfPlace (place : Place) (e : Event) : Type 0 where
+  pub core : e.stamp % place.cores ≡ place.core
+  pub some : 1 ≤ e.count
+  pub words : AllBelow (comm_word place.cores 0) (asked_of e)
+
+-- what waits at a place, if anything does
+abbrev pub WaitsAt : Kind → Option Event → Type 0
+WaitsAt kind waiting = elim waiting [
+  | None ↦ Unit {0}
+  | Some e ↦ elim kind [ Idle place ↦ ⊥ | WithTask t ↦ IsAskedAt t e ]
+]
+
+-- the core has not gone past the limit, and is not midway in a cycle there; where it waits, it is before it
+pub record IsUpToLimit (t : Tasked) (limit : ℕ) (waiting : Option Event) : Type 0 where
+  pub within : t.cycle ≤ limit
+  pub whole : t.cycle ≡ limit → t.part ≡ Delivery
+  pub before : IsSome waiting → t.cycle < limit
+
+abbrev pub KeepsLimit : Kind → ℕ → Option Event → Type 0
+KeepsLimit kind limit waiting = elim kind [ Idle place ↦ Unit {0} | WithTask t ↦ IsUpToLimit t limit waiting ]
+
+-- these hold in one way only
+asks_in_once : (part : Part) (cycle : ℕ) (y : Core) (e : Event) → IsProp (AsksIn part cycle y e)
+asks_in_once Delivery cycle y e = Prim.hlevel props
+asks_in_once Act cycle y e = Prim.hlevel props
+asks_in_once (Owed owed) cycle y e = Prim.hlevel props
+
+ends_once : (e : Event) (owed : Option Store) → IsProp (EndsBefore e owed)
+ends_once e None = Prim.hlevel props
+ends_once e (Some o) = Prim.hlevel props
+
+leaves_in_once : (part : Part) (cycle : ℕ) (y : Core) (e : Event) → IsProp (LeavesIn part cycle y e)
+leaves_in_once Delivery cycle y e = Prim.hlevel props
+leaves_in_once Act cycle y e = Prim.hlevel (props, ends_once)
+leaves_in_once (Owed owed) cycle y e = Prim.hlevel props
+
+asked_once : (t : Tasked) (e : Event) → IsProp (IsAskedAt t e)
+asked_once t e = Prim.hlevel (props, asks_in_once, leaves_in_once)
+
+pub waits_once : (kind : Kind) (waiting : Option Event) → IsProp (WaitsAt kind waiting)
+waits_once kind None = Prim.hlevel props
+waits_once (Idle place) (Some e) = Prim.hlevel props
+waits_once (WithTask t) (Some e) = asked_once t e
+
+pub limit_once : (kind : Kind) (limit : ℕ) (waiting : Option Event) → IsProp (KeepsLimit kind limit waiting)
+limit_once (Idle place) limit waiting = Prim.hlevel props
+limit_once (WithTask t) limit waiting = Prim.hlevel props

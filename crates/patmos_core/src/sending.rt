@@ -1,0 +1,44 @@
+ghost use Rattle.std.specs.Prelude.{◌≡◌, ℕ, ◌+◌, ◌*◌, ◌<◌, ◌≤◌, true, IfSome, IsNone};
+ghost use Rattle.argo_ni.specs.Turn.{acts};
+ghost use Rattle.argo_ni.specs.Event.{half_of, IsNextAct, IsInjection};
+ghost use Rattle.patmos_core.specs.Progress.{TellsNext, IsUpTo};
+
+use crate::window::Window;
+use argo_ni::{Ni, NiEvent, NiKind};
+
+/// What the interface does next, if anything is left.
+pub fn next_act(ni: &Ni) -> Option<NiEvent>
+    requires cores { 0 < ni.now.interface.cores }
+    requires some { (half : ℕ) → ni.now.from ≤ half → acts ni.now.interface half ≡ true → 1 ≤ half }
+    ensures { TellsNext ni.now result }
+{
+    ni.next_after(0)
+}
+
+/// The packet that the interface sends in the cycle; without one, its next act comes later.
+#[tactic(auto, using(crate::proofs::Told::comes_in_phase))]
+pub fn window_in(ni: &Ni, next: Option<NiEvent>, cycle: u64) -> Option<Window>
+    requires next { TellsNext ni.now next }
+    requires up_to { IsUpTo (2 * cycle + 1) ni.now }
+    ensures due { IfSome result (λ w. IsNextAct ni.now (2 * cycle + 1)) }
+    ensures packet { IfSome result (λ w. IsInjection ni.now.interface cycle w.target w.first w.count) }
+    ensures none { IsNone result → IfSome next (λ e. 2 * cycle + 1 < half_of e) }
+{
+    let act = next?;
+    let NiKind::Inject {
+        target,
+        first,
+        count,
+    } = act.kind
+    else {
+        return None;
+    };
+    if act.cycle != cycle {
+        return None;
+    }
+    Some(Window {
+        target,
+        first,
+        count,
+    })
+}

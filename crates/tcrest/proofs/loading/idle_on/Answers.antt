@@ -1,0 +1,9 @@
+use Rattle.std.proofs.Common.{ap}
+use Rattle.patmos_core.specs.Begin.{idle, no_code}
+use Rattle.tcrest.proofs.loading.idle_on.Goals as goal
+
+pub returns-clause-core : goal.returns-clause-core
+returns-clause-core c = ap idle (c.place_of.ensures.site no_code)
+
+pub returns-clause-placed : goal.returns-clause-placed
+returns-clause-placed c = c.place_of.ensures.placed _ _
