@@ -1,0 +1,9 @@
+pub mod Coming
+pub mod Going
+pub mod IdleCores
+pub mod NoWords
+pub mod Performing
+pub mod Pieces
+pub mod Several
+pub mod Sights
+pub mod Turns

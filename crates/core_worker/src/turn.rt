@@ -1,0 +1,28 @@
+ghost use Rattle.std.specs.Prelude.{◌≡◌, ◌↔◌, IsTrue};
+
+/// What came of one turn of a worker.
+#[derive(Clone, Copy, Debug, PartialEq, Eq)]
+pub enum Turn {
+    /// It made its next event.
+    Moved,
+    /// It waits: a look at this core's clock showed a stamp below that of its next event.
+    Blocked { core: u32, seen: u64, wanted: u64 },
+    /// No event is left below the limit.
+    Ended,
+}
+
+impl Turn {
+    /// Whether it made its next event.
+    pub fn has_moved(&self) -> bool
+        ensures { IsTrue result ↔ (self.now ≡ Turn.Moved) }
+    {
+        matches!(self, Turn::Moved)
+    }
+
+    /// Whether no event is left below the limit.
+    pub fn has_ended(&self) -> bool
+        ensures { IsTrue result ↔ (self.now ≡ Turn.Ended) }
+    {
+        matches!(self, Turn::Ended)
+    }
+}

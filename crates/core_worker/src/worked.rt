@@ -1,0 +1,109 @@
+//! A worked example: the workers of two cores without tasks, which share words and never use them. It shows
+//! how workers are made, run and taken apart.
+ghost use Rattle.std.specs.Prelude.{◌≡◌, ℕ, ◌≤◌, ◌<◌, [], length, IfOk, slice_index};
+ghost use Rattle.clock_board.specs.Record.{empty};
+ghost use Rattle.clock_board.specs.View.{own, IsGiven, IsMaker};
+ghost use Rattle.clock_board.specs.Board.{IsPassOf};
+ghost use Rattle.core_worker.specs.Worker.{IsOn, IsDone};
+
+use crate::rounds::run_all;
+use crate::worker::Worker;
+use clock_board::{Board, Course, Pass};
+use patmos_core::Core;
+use slot_arbiter::Place;
+use std::alloc::Global;
+use std::slice::from_mut;
+use std::sync::Wait;
+use std::thread::{Threads, join};
+use tc_io::FreeGate;
+use tc_word::{List as Words, OutOfMemory};
+
+/// The course of two cores that share words and use none of them.
+pub struct NoOperations;
+
+impl Course for NoOperations {
+    ghost use Rattle.std.specs.Prelude.{[]};
+
+    ghost cores = { λ _. 2 };
+
+    ghost all = { λ _. [] };
+
+    ghost asked = { λ _ _ _. [] };
+}
+
+/// The worker of core number `core` of two.
+fn idle_worker(pass: Pass<NoOperations>, core: u32, limit: u64) -> Worker<NoOperations>
+    requires two { core < 2 }
+    requires given { IsGiven pass.view }
+    requires fresh { own pass.view ≡ empty core }
+    requires cores { pass.view.cores ≡ 2 }
+    requires course { pass.view.course ≡ [] }
+    requires most { limit ≤ 20000000 }
+    ensures pass { result.pass ≡ pass }
+{
+    let Some(place) = Place::new(2, core, 6, 0) else {
+        unreachable!()
+    };
+    Worker::new(Core::idle(place), pass, limit)
+}
+
+/// Runs a worker to its end and gives its pass back.
+fn run_to_end<R: Wait>(
+    rt: &R,
+    board: &Board<NoOperations>,
+    mut worker: Worker<NoOperations>,
+) -> Pass<NoOperations>
+    requires of { IsOn board.now worker }
+    ensures of { IsPassOf board.now result }
+    ensures given { IsGiven result.view }
+{
+    worker.run(rt, board, &FreeGate);
+    let (_, pass) = worker.finish();
+    pass
+}
+
+/// The workers of two cores without tasks run to a limit, one after the other, on a board of `words` words:
+/// what the words are then.
+pub fn two_idle_cores<R: Wait>(
+    rt: &R,
+    alloc: Global,
+    words: u32,
+    limit: u64,
+) -> Result<Words<u32>, OutOfMemory>
+    requires most { limit ≤ 20000000 }
+    ensures { IfOk result (λ r. (length r ≡ words) × ((w : ℕ) → w < words → slice_index r w ≡ 0)) }
+{
+    let (board, mut maker) = Board::new(alloc, &NoOperations, 2, words)?;
+    let zero = idle_worker(board.give(rt, &mut maker, 0), 0, limit);
+    let mut one = idle_worker(board.give(rt, &mut maker, 1), 1, limit);
+    let zero = run_to_end(rt, &board, zero);
+    run_all(rt, from_mut(&mut one), &board, &FreeGate);
+    let (_, one) = one.finish();
+    board.take_back(&mut maker, zero);
+    board.take_back(&mut maker, one);
+    Ok(board.close(maker))
+}
+
+/// The same, each worker in a thread of its own.
+pub fn two_idle_cores_at_once<R: Threads + Wait + Sync>(
+    rt: &R,
+    alloc: Global,
+    words: u32,
+    limit: u64,
+) -> Result<Words<u32>, OutOfMemory>
+    requires most { limit ≤ 20000000 }
+    ensures { IfOk result (λ r. (length r ≡ words) × ((w : ℕ) → w < words → slice_index r w ≡ 0)) }
+{
+    let (board, mut maker) = Board::new(alloc, &NoOperations, 2, words)?;
+    let zero = idle_worker(board.give(rt, &mut maker, 0), 0, limit);
+    let one = idle_worker(board.give(rt, &mut maker, 1), 1, limit);
+    let shared = &board;
+    let (zero, one) = join(
+        rt,
+        || run_to_end(rt, shared, zero),
+        || run_to_end(rt, shared, one),
+    );
+    board.take_back(&mut maker, zero);
+    board.take_back(&mut maker, one);
+    Ok(board.close(maker))
+}
