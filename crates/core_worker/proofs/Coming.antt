@@ -1,9 +1,8 @@
 -- What comes next in a core's run apart, and so in the course's list of it.
-use Rattle.std.proofs.Common.{◌≡◌, ℕ, zero, suc, ◌+◌, ◌*◌, ◌<◌, ◌≤◌, true, false, List, [], ◌∷◌, ◌++◌, length, take, drop, refl, sym, ap, ◌∙◌, subst, append_assoc, append-nil, inl, inr, ◌-◌, arith}
+use Rattle.std.proofs.Common.{◌≡◌, ℕ, zero, suc, ◌+◌, ◌*◌, ◌<◌, ◌≤◌, true, false, List, [], ◌∷◌, ◌++◌, length, take, drop, refl, sym, ap, ◌∙◌, subst, append_assoc, append-nil, ◌-◌, arith}
 use Rattle.std.specs.List.{AllByRecursion as Each}
 use Rattle.std.proofs.Math.Nat.{mul-le-mul_right}
 use Rattle.std.proofs.lemmas.List.{length-take}
-use Rattle.std.proofs.lemmas.Bool.{cases_lt}
 use Rattle.slot_arbiter.specs.Stamp.{stamp}
 use Rattle.slot_arbiter.specs.declared.event.WordOp.{WordOp}
 use Rattle.slot_arbiter.specs.declared.event.Event.{Event}
@@ -28,13 +27,6 @@ use Rattle.core_worker.specs.Pieces.{stamp_from}
 -- they rise with the cycles
 pub stamps_rise : (n a b : ℕ) → a ≤ b → stamp_from n a ≤ stamp_from n b
 stamps_rise n a b h = let twice : 2 * a ≤ 2 * b = omega (arith, h) in mul-le-mul_right n twice
-
--- and only with them
-pub stamps_below : (n a b : ℕ) → stamp_from n a < stamp_from n b → a < b
-stamps_below n a b h = elim (cases_lt a b) [
-  | inl low ↦ low
-  | inr high ↦ absurd (let k : stamp_from n b ≤ stamp_from n a = stamps_rise n b a high in omega (arith, h, k))
-]
 
 -- an act is not before its cycle
 act_late : (n core t u phase : ℕ) → t ≤ u → stamp_from n t ≤ stamp n core u phase
@@ -95,7 +87,7 @@ next_of_limit x made end limit e within below next = λ more.
 pub fits_limit : (place : Place) (end limit : ℕ) (e : Event) → end ≤ limit → EventFits place end e → EventFits place limit e
 fits_limit place end limit e within fits =
     let k : stamp_from place.cores end ≤ stamp_from place.cores limit = stamps_rise place.cores end limit within in
-    record { core = fits.core; below = omega (arith, fits.below, k); some = fits.some; words = fits.words }
+    record { core = fits.core; below = omega (arith, fits.below, k); some = fits.some; words = fits.words; unread = fits.unread }
 
 -- ---- in a list that is made and then left
 

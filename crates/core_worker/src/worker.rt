@@ -11,6 +11,7 @@ use crate::progress::Progress;
 use crate::turn::Turn;
 use clock_board::{Board, Course, Pass};
 use patmos_core::Core;
+use slot_arbiter::Place;
 use std::marker::Model;
 use std::sync::Wait;
 use std::thread::yield_now;
@@ -63,6 +64,13 @@ impl<C> Worker<C> {
                 ended: false,
             },
         }
+    }
+
+    /// The place of its core.
+    pub fn place(&self) -> Place
+        ensures { result ≡ place_of self.now.core }
+    {
+        self.progress.core.place()
     }
 
     /// Gives the core and the pass back.

@@ -18,9 +18,6 @@ pub record IsPartlyMade (s : ℕ) (acts rest : List WordOp) (begun words : ℕ �
   pub made : (played s (accesses acts) begun).ops ≡ front ++ (played s (accesses rest) words).ops
   pub after : words ≡ after front begun
 
-pub none_made : (s : ℕ) (acts : List WordOp) (words : ℕ → ℕ) → IsPartlyMade s acts acts words words []
-none_made s acts words = record { front = []; asked = λ more. refl; made = refl; after = refl }
-
 filled_store : (s : ℕ) (a : WordOp) (rest : List WordOp) (more : List ℕ) → a.write ≡ true → filled s (a ∷ rest) more ≡ store s a.word a.value ∷ filled s rest more
 filled_store s a rest more e = rw e refl
 

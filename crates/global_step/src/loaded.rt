@@ -91,6 +91,14 @@ impl Loaded {
     {
         self.trace
     }
+
+    /// Among how many workers the cores are divided.
+    pub fn workers(&self) -> u32
+        ensures value { result ≡ self.now.workers }
+        ensures kept { IsLoaded self.now.cores self.now.limit self.now.trace self.now.workers }
+    {
+        self.workers
+    }
 }
 
 // whether the cores are those of one platform, all of them, in the order of their numbers

@@ -56,6 +56,7 @@ fits_at t e x limit early asked of_place = record {
   below = omega (arith, asked.stamp, stamp_below t.body.place.cores t.body.place.core x t.cycle t.body.place.in_range.among limit early (phase_of t.part) (phase_low t.part));
   some = of_place.some;
   words = of_place.words;
+  unread = of_place.unread;
 }
 
 -- at the limit a core has made all

@@ -1,5 +1,5 @@
 -- Events: what a core asks for at one stamp.
-use Rattle.std.specs.Prelude.{◌≡◌, ℕ, zero, suc, ◌+◌, ◌<◌, true, List, [], ◌∷◌, take, Option, None, Some}
+use Rattle.std.specs.Prelude.{◌≡◌, ℕ, zero, suc, ◌+◌, ◌<◌, true, false, List, [], ◌∷◌, take, Option, None, Some}
 use Rattle.std.specs.List.{AllByRecursion as Each}
 use Rattle.slot_arbiter.specs.declared.event.WordOp.{WordOp}
 use Rattle.slot_arbiter.specs.declared.event.Event.{Event}
@@ -46,6 +46,10 @@ EndsBefore e owed = elim owed [
 -- its words are below a number
 abbrev pub AllBelow : ℕ → List WordOp → Type 0
 AllBelow words acts = Each (λ o. o.word < words) acts
+
+-- what its loads will give is not known yet, and stands as 0
+abbrev pub AllUnread : List WordOp → Type 0
+AllUnread acts = Each (λ o. o.write ≡ false → o.value ≡ 0) acts
 
 -- the words of a packet that is sent, of a core's own communication memory
 abbrev pub window_asks : ℕ → Option Window → List WordOp

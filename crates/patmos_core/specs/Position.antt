@@ -28,7 +28,7 @@ use Rattle.patmos_core.specs.State.{Plain, Core, History}
 use Rattle.patmos_core.specs.Begin.{idle}
 use Rattle.patmos_core.specs.Cycle.{turn, settled}
 use Rattle.patmos_core.specs.Apart.{site_of, apart_from}
-use Rattle.patmos_core.specs.Events.{AllBelow, asked_of, EndsBefore}
+use Rattle.patmos_core.specs.Events.{AllBelow, AllUnread, asked_of, EndsBefore}
 use Rattle.patmos_core.specs.Shown.{Shows, IsFramed, core_of}
 
 -- the parts of a cycle in their order, and how many are done, three a cycle
@@ -152,12 +152,14 @@ abbrev pub HasMadeAll : Core → List Operation → ℕ → Type 0
 HasMadeAll x made limit = (more : List ℕ) → apart_from x (loads made ++ more) limit
     ≡ record { core = (apart_from x (loads made) limit).core; left = more; made = made }
 
--- the event is one of the core at the place before the limit, on words of the board, and not of none
+-- the event is one of the core at the place before the limit, on words of the board, and not of none; what its
+-- loads will give stands as 0 in it
 pub record EventFits (place : Place) (limit : ℕ) (e : Event) : Type 0 where
   pub core : e.stamp % place.cores ≡ place.core
   pub below : e.stamp < 2 * limit * place.cores
   pub some : 1 ≤ e.count
   pub words : AllBelow (comm_word place.cores 0) (asked_of e)
+  pub unread : AllUnread (asked_of e)
 
 -- the word of a cell of the core's own memories
 abbrev pub word_in : Cell → Plain → ℕ

@@ -16,7 +16,7 @@ use Rattle.patmos_core.specs.declared.kind.Kind.{Kind}
 use Rattle.patmos_core.specs.declared.kind.Kind.TheVariants.{Idle, Tasked as WithTask}
 use Rattle.patmos_core.specs.State.{Core, History}
 use Rattle.patmos_core.specs.Cycle.{turn, acted, settled}
-use Rattle.patmos_core.specs.Events.{AllBelow, asked_of, EndsBefore}
+use Rattle.patmos_core.specs.Events.{AllBelow, AllUnread, asked_of, EndsBefore}
 use Rattle.patmos_core.specs.Shown.{Shows, core_of}
 
 -- the phase of a part of a cycle
@@ -49,11 +49,13 @@ pub record IsAskedAt (t : Tasked) (e : Event) : Type 0 where
   pub early : t.cycle < 20000000
   pub delivers : t.part ≡ Delivery → IsNextAct t.body.ni (2 * t.cycle)
 
--- the event is one of the core at the place, on words of the board, and not of none
+-- the event is one of the core at the place, on words of the board, and not of none; what its loads will give
+-- stands as 0 in it
 pub record IsOfPlace (place : Place) (e : Event) : Type 0 where
   pub core : e.stamp % place.cores ≡ place.core
   pub some : 1 ≤ e.count
   pub words : AllBelow (comm_word place.cores 0) (asked_of e)
+  pub unread : AllUnread (asked_of e)
 
 -- what waits at a place, if anything does
 abbrev pub WaitsAt : Kind → Option Event → Type 0

@@ -1,7 +1,7 @@
-ghost use Rattle.std.specs.Prelude.{◌≡◌, ℕ, ◌+◌, ◌<◌, ◌≤◌, List, [], ◌∷◌, ◌++◌, take};
+ghost use Rattle.std.specs.Prelude.{◌≡◌, ℕ, ◌+◌, ◌<◌, ◌≤◌, List, [], ◌∷◌, ◌++◌, take, false};
 ghost use Rattle.patmos_core.specs.declared.asks.Ask.TheVariants as asks;
 ghost use Rattle.patmos_core.specs.Asks.{loading, ops_of, AskFits};
-ghost use Rattle.patmos_core.specs.Events.{storing, loads_from, stores_from, asked_of, AllBelow};
+ghost use Rattle.patmos_core.specs.Events.{storing, loads_from, stores_from, asked_of, AllBelow, AllUnread};
 
 use crate::asks::Ask;
 use slot_arbiter::{Event, WordOp};
@@ -12,6 +12,7 @@ pub fn event_at(stamp: u64) -> Event
     ensures count { result.count ≡ 0 }
     ensures asks { asked_of result ≡ [] }
     ensures below { (words : ℕ) → AllBelow words (asked_of result) }
+    ensures unread { AllUnread (asked_of result) }
 {
     Event {
         stamp,
@@ -43,11 +44,12 @@ fn store(word: u32, value: u32) -> WordOp
 }
 
 // the event asks for one more operation
-#[tactic(auto, using(crate::proofs::Eventful::one_more, crate::proofs::Eventful::one_more_below))]
+#[tactic(auto, using(crate::proofs::Eventful::one_more, crate::proofs::Eventful::one_more_below, crate::proofs::Eventful::one_more_unread))]
 fn push(event: &mut Event, op: WordOp)
     requires room { event.old.count < 8 }
     ensures asks { asked_of event.new ≡ asked_of event.old ++ op ∷ [] }
     ensures below { (words : ℕ) → AllBelow words (asked_of event.old) → op.word < words → AllBelow words (asked_of event.new) }
+    ensures unread { AllUnread (asked_of event.old) → (op.write ≡ false → op.value ≡ 0) → AllUnread (asked_of event.new) }
     ensures stamp { event.new.stamp ≡ event.old.stamp }
     ensures count { event.new.count ≡ event.old.count + 1 }
 {
@@ -63,6 +65,7 @@ pub fn ask_packet(event: &mut Event, first: u32, count: u32)
     requires small { first < 65536 }
     ensures asks { asked_of event.new ≡ asked_of event.old ++ loads_from first count }
     ensures below { (words : ℕ) → AllBelow words (asked_of event.old) → first + count ≤ words → AllBelow words (asked_of event.new) }
+    ensures unread { AllUnread (asked_of event.old) → AllUnread (asked_of event.new) }
     ensures stamp { event.new.stamp ≡ event.old.stamp }
     ensures count { event.new.count ≡ event.old.count + count }
 {
@@ -80,6 +83,7 @@ pub fn ask_delivery(event: &mut Event, first: u32, count: u32, values: [u32; 2])
     requires small { first < 65536 }
     ensures asks { asked_of event.new ≡ asked_of event.old ++ stores_from first (take count values) }
     ensures below { (words : ℕ) → AllBelow words (asked_of event.old) → first + count ≤ words → AllBelow words (asked_of event.new) }
+    ensures unread { AllUnread (asked_of event.old) → AllUnread (asked_of event.new) }
     ensures stamp { event.new.stamp ≡ event.old.stamp }
     ensures count { event.new.count ≡ event.old.count + count }
 {
@@ -94,6 +98,7 @@ pub fn ask_store(event: &mut Event, word: u32, value: u32)
     requires room { event.old.count < 8 }
     ensures asks { asked_of event.new ≡ asked_of event.old ++ storing word value ∷ [] }
     ensures below { (words : ℕ) → AllBelow words (asked_of event.old) → word < words → AllBelow words (asked_of event.new) }
+    ensures unread { AllUnread (asked_of event.old) → AllUnread (asked_of event.new) }
     ensures stamp { event.new.stamp ≡ event.old.stamp }
     ensures count { event.new.count ≡ event.old.count + 1 }
 {
@@ -106,6 +111,7 @@ pub fn ask_own(event: &mut Event, ask: Ask)
     requires fits { AskFits 65536 ask }
     ensures asks { asked_of event.new ≡ asked_of event.old ++ ops_of ask }
     ensures below { (words : ℕ) → AllBelow words (asked_of event.old) → AskFits words ask → AllBelow words (asked_of event.new) }
+    ensures unread { AllUnread (asked_of event.old) → AllUnread (asked_of event.new) }
     ensures stamp { event.new.stamp ≡ event.old.stamp }
     ensures count { event.old.count ≤ event.new.count }
     ensures some { (ask ≡ asks.Nothing → ⊥) → event.old.count < event.new.count }

@@ -23,7 +23,7 @@ impl Tasked {
     ghost use Rattle.patmos_core.specs.declared.part.Part.TheVariants.{Delivery, Act};
     ghost use Rattle.patmos_core.specs.State.{History, is_running};
     ghost use Rattle.patmos_core.specs.Asks.{FollowsAsk, AskFits};
-    ghost use Rattle.patmos_core.specs.Events.{SendsIn, AllBelow, asked_of, window_asks};
+    ghost use Rattle.patmos_core.specs.Events.{SendsIn, AllBelow, AllUnread, asked_of, window_asks};
     ghost use Rattle.patmos_core.specs.Cycle as cycles;
     ghost use Rattle.patmos_core.specs.Plan.{planned, IsSettled, PlanFits};
     ghost use Rattle.patmos_core.specs.Progress.{TellsNext};
@@ -136,6 +136,7 @@ impl Tasked {
         ensures asks { asked_of event.new ≡ asked_of event.old ++ window_asks self.now.body.place.core window }
         ensures below { AllBelow (packets.comm_word self.now.body.place.cores 0) (asked_of event.old)
             → AllBelow (packets.comm_word self.now.body.place.cores 0) (asked_of event.new) }
+        ensures unread { AllUnread (asked_of event.old) → AllUnread (asked_of event.new) }
         ensures stamp { event.new.stamp ≡ event.old.stamp }
         ensures count { event.new.count ≤ event.old.count + 2 }
         ensures some { IsSome window → 1 ≤ event.new.count }

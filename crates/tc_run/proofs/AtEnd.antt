@@ -29,14 +29,14 @@ there ls k below = elim (slice_get_cases ls k).1 [
   | inr past ↦ absurd (omega (arith, below, past.0))
 ]
 
-site_cores : (l : LoadedCore) → (first_core l).plain.site.cores ≡ l.place.cores
+pub site_cores : (l : LoadedCore) → (first_core l).plain.site.cores ≡ l.place.cores
 site_cores l = by l.image
   where
     by : (image : Option Parts) → (first_core (record { place = l.place; image = image; input = l.input })).plain.site.cores ≡ l.place.cores
     by None = refl
     by (Some image) = refl
 
-site_core : (l : LoadedCore) → (first_core l).plain.site.core ≡ l.place.core
+pub site_core : (l : LoadedCore) → (first_core l).plain.site.core ≡ l.place.core
 site_core l = by l.image
   where
     by : (image : Option Parts) → (first_core (record { place = l.place; image = image; input = l.input })).plain.site.core ≡ l.place.core

@@ -1,3 +1,9 @@
 pub mod Begins
 pub mod AtEnd
-pub mod Ends
+pub mod Words
+pub mod Workers
+pub mod Lists
+pub mod Taking
+pub mod AllTaken
+pub mod Carried
+pub mod Groups

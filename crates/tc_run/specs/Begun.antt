@@ -1,5 +1,5 @@
 -- The cores of a machine before the first cycle.
-use Rattle.std.specs.Prelude.{◌≡◌, ℕ, List, [], ◌∷◌, None, IfSome}
+use Rattle.std.specs.Prelude.{◌≡◌, ℕ, [], None, IfSome}
 use Rattle.patmos_core.specs.declared.cpu.Core.{Core as Cpu}
 use Rattle.patmos_core.specs.Position.{StandsFor, waiting_of, limit_of, place_of, room_of}
 use Rattle.global_step.specs.declared.loaded.LoadedCore.{LoadedCore}
@@ -13,10 +13,3 @@ pub record IsBegun (trace : ℕ) (l : LoadedCore) (c : Cpu) : Type 0 where
   pub limit : limit_of c ≡ 0
   pub place : place_of c ≡ l.place
   pub room : IfSome l.image (λ image. room_of c ≡ trace)
-
--- so does each of the cores, in their order
-abbrev pub AreBegun : ℕ → List LoadedCore → List Cpu → Type 0
-AreBegun trace [] [] = Unit {0}
-AreBegun trace [] (c ∷ cs) = ⊥
-AreBegun trace (l ∷ ls) [] = ⊥
-AreBegun trace (l ∷ ls) (c ∷ cs) = IsBegun trace l c × AreBegun trace ls cs

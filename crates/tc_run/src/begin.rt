@@ -1,25 +1,13 @@
-ghost use Rattle.std.specs.Prelude.{ℕ, ◌≡◌, ◌≤◌, length, slice_index, IfOk};
-ghost use Rattle.argo_ni.specs.Packet.{comm_word};
-ghost use Rattle.tc_run.specs.Begun.{IsBegun, AreBegun};
+ghost use Rattle.std.specs.Prelude.{◌≡◌, ◌≤◌, ◌<◌, length, IfOk};
+ghost use Rattle.tc_run.specs.Begun.{IsBegun};
 
 use global_step::{Loaded, LoadedCore};
 use patmos_core::Core;
 use std::alloc::Global;
 use tc_word::OutOfMemory;
 
-/// The cores of a machine before the first cycle.
-pub fn cores_of(alloc: Global, job: &Loaded) -> Result<Vec<Core>, OutOfMemory>
-    ensures { IfOk result (λ cores. AreBegun job.now.trace job.now.cores cores.items) }
-{
-    let mut cores = Vec::new(alloc);
-    for loaded in job.cores() {
-        cores.push(core_of(alloc, loaded, job.trace())?)?;
-    }
-    Ok(cores)
-}
-
 // the core that was loaded, with or without a task
-fn core_of(alloc: Global, loaded: &LoadedCore, trace: u32) -> Result<Core, OutOfMemory>
+pub(crate) fn core_of(alloc: Global, loaded: &LoadedCore, trace: u32) -> Result<Core, OutOfMemory>
     ensures { IfOk result (IsBegun trace loaded.now) }
 {
     match &loaded.image {
@@ -28,12 +16,13 @@ fn core_of(alloc: Global, loaded: &LoadedCore, trace: u32) -> Result<Core, OutOf
     }
 }
 
-/// The words of the board of so many cores before the first cycle, which all are 0.
-#[tactic(auto, using(crate::proofs::Begins::all_zero))]
-pub fn words_of(alloc: Global, cores: usize) -> Result<Vec<u32>, OutOfMemory>
-    requires { cores ≤ 16 }
-    ensures count { IfOk result (λ words. length words.items ≡ comm_word cores 0) }
-    ensures zero { IfOk result (λ words. (w : ℕ) → slice_index words.items w ≡ 0) }
+// how many cores there are, of which a platform has 16 at most
+pub(crate) fn count_of(job: &Loaded) -> usize
+    ensures count { result ≡ length job.now.cores }
+    ensures some { 0 < result }
+    ensures few { result ≤ 16 }
 {
-    vec![in alloc; 0; 4096 + 512 * cores]
+    let cores = job.cores();
+    let _most = cores[0].place.cores;
+    cores.len()
 }

@@ -1,20 +1,28 @@
-//! The run of a machine: its cores are made as they were loaded, with the words of the board, and are run
-//! up to the limit.
+//! The run of a machine in threads: each of its cores is made as it was loaded and gets a worker on one board of
+//! published clocks; the workers are run up to the limit, in threads of their own.
 //!
-//! - [`run_machine`] leaves a [`Final`]: each core is the one that the machine has at its limit, and so is
-//!   each word of the board. Want of memory comes before the first step, or not at all.
+//! - [`run_machine`] leaves a [`Final`]: for every interleaving of the workers each core is the one that the
+//!   machine has at its limit, and so is each word of the board. Want of memory comes before the first step, or
+//!   not at all.
 //! - [`outcome_of`], [`accesses_of`], [`dropped_of`] and [`own_word_of`] tell what such a core is in the
 //!   machine at its limit.
 //!
-//! All cores run on one thread, from event to event by their stamps.
+//! `making` makes the board and the workers in groups, `crew` runs the groups in threads and joins them, with the
+//! steps of `threads`, and `ending` gives the passes back and closes the board. That a step hands all workers on is
+//! said by `specs/Carried.antt`, and for which of the machine's cores a worker stands by `specs/Worked.antt`. That the
+//! run returns is not promised, nor that several threads run.
 #![tactic(auto)]
 
 mod begin;
+mod course;
+mod crew;
 mod ending;
 mod machine;
+mod making;
 mod telling;
 #[cfg(test)]
 mod tests;
+mod threads;
 
 pub use ending::Final;
 pub use machine::run_machine;

@@ -1,58 +1,48 @@
-ghost use Rattle.std.specs.Prelude.{ℕ, ◌≡◌, ◌≤◌, ◌<◌, length, slice_index, IfOk};
+ghost use Rattle.std.specs.Prelude.{ℕ, ◌≡◌, length, vec_len, slice_index, IfOk};
 ghost use Rattle.argo_ni.specs.Packet.{comm_word};
 ghost use Rattle.global_step.specs.Machine.{at_limit};
-ghost use Rattle.tc_run.specs.Begun.{AreBegun};
 ghost use Rattle.tc_run.specs.Final.{AreFinal};
 
-use crate::begin::{cores_of, words_of};
-use crate::ending::Final;
-use global_step::{Loaded, plain_run};
-use patmos_core::Core;
+use crate::begin::count_of;
+use crate::crew::{Crew, run_groups};
+use crate::ending::{Final, end_of};
+use crate::making::{board_of, groups_of};
+use global_step::Loaded;
 use std::alloc::Global;
 use std::sync::Wait;
+use std::sync::atomic::AtomicBool;
 use std::thread::Threads;
 use tc_io::Gate;
-use tc_word::{List, OutOfMemory};
+use tc_word::OutOfMemory;
 
-/// Runs a machine up to its limit. Memory is taken before the first step alone. The runtime and the gate
-/// are for workers in threads of their own: so far all cores run in the thread of the call.
+/// Runs a machine up to its limit, its cores in as many workers as the machine says, each in a thread of its
+/// own where one can be started. Memory is taken before the first step alone. The gate is told each event once.
 pub fn run_machine<R: Threads + Wait + Sync, G: Gate + Sync>(
     alloc: Global,
-    _rt: &R,
+    rt: &R,
     job: &Loaded,
-    _gate: &G,
+    gate: &G,
 ) -> Result<Final, OutOfMemory>
     ensures cores { IfOk result (λ end. AreFinal job.now end.cores) }
     ensures words { IfOk result (λ end. (w : ℕ) → slice_index end.words w ≡ (at_limit job.now).words w) }
     ensures board { IfOk result (λ end. length end.words ≡ comm_word (length job.now.cores) 0) }
 {
-    let mut cores = cores_of(alloc, job)?;
-    let mut words = words_of(alloc, count_of(job))?;
-    run_all(cores.as_mut_slice(), words.as_mut_slice(), job);
-    Ok(Final {
-        cores: List::of(cores),
-        words: List::of(words),
-    })
+    let (board, mut maker) = board_of(alloc, job)?;
+    let mut groups = groups_of(rt, alloc, job, &board, &mut maker)?;
+    let crew = Crew::with_last(alloc, &mut groups, count_of(job))?;
+    let refused = flags_of(alloc, groups.len())?;
+    let cores = Vec::with_capacity(alloc, count_of(job))?;
+    let workers = run_groups(rt, groups, crew, refused.as_slice(), &board, gate);
+    Ok(end_of(job, board, maker, workers, cores))
 }
 
-// runs the cores that were loaded, on the words of the board
-fn run_all(cores: &mut [Core], words: &mut [u32], job: &Loaded)
-    requires begun { AreBegun job.now.trace job.now.cores cores.old }
-    requires count { length words.old ≡ comm_word (length job.now.cores) 0 }
-    requires zero { (w : ℕ) → slice_index words.old w ≡ 0 }
-    ensures cores { AreFinal job.now cores.new }
-    ensures words { (w : ℕ) → slice_index words.new w ≡ (at_limit job.now).words w }
+// so many flags, each down
+fn flags_of(alloc: Global, count: usize) -> Result<Vec<AtomicBool>, OutOfMemory>
+    ensures { IfOk result (λ flags. vec_len flags ≡ count) }
 {
-    plain_run(cores, words, job.limit());
-}
-
-// how many cores there are, of which a platform has 16 at most
-fn count_of(job: &Loaded) -> usize
-    ensures count { result ≡ length job.now.cores }
-    ensures some { 0 < result }
-    ensures few { result ≤ 16 }
-{
-    let cores = job.cores();
-    let _most = cores[0].place.cores;
-    cores.len()
+    let mut flags = Vec::with_capacity(alloc, count)?;
+    for _k in 0..count {
+        flags.push_reserved(AtomicBool::new(false));
+    }
+    Ok(flags)
 }

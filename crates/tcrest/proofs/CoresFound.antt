@@ -1,5 +1,5 @@
 -- The cores of a job, one after another.
-use Rattle.std.proofs.Common.{◌≡◌, ℕ, zero, suc, ◌+◌, arith, List, [], ◌∷◌, ◌++◌, length, map, refl, sym, ap, ◌∙◌, subst, append_assoc, append-nil, Option, Some, None, IfSome, slice_get}
+use Rattle.std.proofs.Common.{◌≡◌, ℕ, zero, suc, ◌+◌, arith, List, [], ◌∷◌, ◌++◌, length, map, refl, sym, ap, ◌∙◌, subst, append_assoc, Option, Some, None, IfSome, slice_get}
 use Rattle.std.specs.Prelude.{Result, Ok, Err}
 use Rattle.slot_arbiter.specs.declared.place.Place.{Place}
 use Rattle.slot_arbiter.specs.Place.HasNumbers.{HasNumbers}
@@ -53,9 +53,6 @@ pub stopped_core : (job : Job) (core count more : ℕ) (front : List Core) (halt
 stopped_core job core count more front (Refused refusal) whole left is so_far =
     sym so_far ∙ ap (behind front) (at_core job core count more left ∙ ap (λ r. r >>= λ x. cores_from job (core + 1) more >>= λ xs. Ok (x ∷ xs)) is)
 stopped_core job core count more front Memory whole left is so_far = tt
-
-pub all_cores : (front : List Core) → behind front (Ok []) ≡ Ok front
-all_cores front = ap Ok (append-nil front)
 
 -- each of the cores is at its own place
 abbrev pub ArePlaced : Job → List LoadedCore → Type 0

@@ -5,26 +5,39 @@ use std::test::Fail;
 use std::thread::Threads;
 use tc_io::SureGather;
 
-/// One core and two, with slots of 6 cycles.
+/// One core, two and three, with slots of 6 cycles.
 const ONE: &str = "version = 1\ncores = 1\nslot = 6\ncycles = 100000";
 
-const TWO: &str = "version = 1\ncores = 2\nslot = 6\ncycles = 100000";
+pub const TWO: &str = "version = 1\ncores = 2\nslot = 6\ncycles = 100000";
+
+pub const THREE: &str = "version = 1\ncores = 3\nslot = 6\ncycles = 100000";
 
 /// A task of five bundles, whose 5 words and size word are fetched by two transactions.
 const FIVE: &str = "addi r1 = r0, 7; ret; nop; nop; nop";
 
 /// Stores 5 in the first word of shared memory.
-const STORE: &str =
+pub const STORE: &str =
     "addl r2 = r0, 0x01000000; addi r3 = r0, 5; swm [r2 + 0] = r3; ret; nop; nop; nop";
 
-/// The status and the report of a job: what stands at its top, and of each task the keys and the source
-/// behind `.func main; `.
-fn report_on<R: Threads + Wait + Sync>(
-    rt: &R,
-    alloc: Global,
-    head: &str,
-    tasks: &[(&str, &str)],
-) -> Result<(u8, SureGather), Fail> {
+/// Loads the first word of shared memory twice. The first value counts sixteen times in the result.
+pub const TWO_LOADS: &str =
+    "addl r2 = r0, 0x01000000; lwm r3 = [r2 + 0]; nop; lwm r4 = [r2 + 0]; ret; sli r3 = r3, 4; add r1 = r3, r4; nop";
+
+/// Stores 17 in the first byte of shared memory.
+pub const STORE_BYTE: &str =
+    "addl r2 = r0, 0x01000000; addi r3 = r0, 17; sbm [r2 + 0] = r3; ret; nop; nop; nop";
+
+/// Stores 34 in the second byte of shared memory, and loads the first word.
+pub const STORE_BYTE_AND_LOAD: &str =
+    "addl r2 = r0, 0x01000000; addi r3 = r0, 34; sbm [r2 + 1] = r3; lwm r1 = [r2 + 0]; ret; nop; nop; nop";
+
+/// Counts down from 10,000, and loads the first word of shared memory.
+const LATE_LOAD: &str =
+    "addl r2 = r0, 0x01000000; addl r3 = r0, 10000; top: subi r3 = r3, 1; cmpineq p1 = r3, 0; (p1) br top; nop; nop; lwm r1 = [r2 + 0]; ret; nop; nop; nop";
+
+/// The text of a job: what stands at its top, and of each task the keys and the source behind
+/// `.func main; `.
+pub fn job_of(alloc: Global, head: &str, tasks: &[(&str, &str)]) -> Result<String, Fail> {
     let mut job = format!(in alloc; "{head}\n")?;
     for (keys, source) in tasks {
         let task = format!(in alloc;
@@ -32,6 +45,17 @@ fn report_on<R: Threads + Wait + Sync>(
         )?;
         job.push_str(task.as_str())?;
     }
+    Ok(job)
+}
+
+/// The status and the report of such a job.
+fn report_on<R: Threads + Wait + Sync>(
+    rt: &R,
+    alloc: Global,
+    head: &str,
+    tasks: &[(&str, &str)],
+) -> Result<(u8, SureGather), Fail> {
+    let job = job_of(alloc, head, tasks)?;
     answer_to(rt, alloc, &["run"], job.as_bytes())
 }
 
@@ -242,7 +266,7 @@ fn cores_share_words(rt: HostRuntime) -> Result<(), Fail> {
         (
             "core = 0\nstart = 12",
             STORE,
-            "addl r2 = r0, 0x01000000; lwm r3 = [r2 + 0]; nop; lwm r4 = [r2 + 0]; ret; sli r3 = r3, 4; add r1 = r3, r4; nop",
+            TWO_LOADS,
             "core 0 done 0 cycles 46\ncore 1 done 5 cycles 64\n",
         ),
         (
@@ -253,8 +277,8 @@ fn cores_share_words(rt: HostRuntime) -> Result<(), Fail> {
         ),
         (
             "core = 0",
-            "addl r2 = r0, 0x01000000; addi r3 = r0, 17; sbm [r2 + 0] = r3; ret; nop; nop; nop",
-            "addl r2 = r0, 0x01000000; addi r3 = r0, 34; sbm [r2 + 1] = r3; lwm r1 = [r2 + 0]; ret; nop; nop; nop",
+            STORE_BYTE,
+            STORE_BYTE_AND_LOAD,
             "core 0 done 0 cycles 46\ncore 1 done 287440896 cycles 64\n",
         ),
         (
@@ -275,18 +299,34 @@ fn cores_share_words(rt: HostRuntime) -> Result<(), Fail> {
     Ok(())
 }
 
+/// When core 1 starts the task that stores 5, and which value core 0 loads then.
+pub const LATE_LOADS: [(u32, u32); 2] = [(50_012, 0), (50_000, 5)];
+
+/// Core 0 loads after 50,000 cycles a word that core 1 stores.
+pub fn late_load_job(alloc: Global, start: u32) -> Result<String, Fail> {
+    let keys = format!(in alloc; "core = 1\nstart = {start}")?;
+    job_of(
+        alloc,
+        TWO,
+        &[("core = 0", LATE_LOAD), (keys.as_str(), STORE)],
+    )
+}
+
+/// The report of that job.
+pub fn late_load_report(alloc: Global, value: u32) -> Result<String, Fail> {
+    let report = format!(in alloc;
+        "platform cores 2 slot 6 period 12\ncore 0 done {value} cycles 50062\ncore 1 done 0 cycles 56\n"
+    )?;
+    Ok(report)
+}
+
 #[test]
 fn a_load_meets_a_store_late(rt: HostRuntime) -> Result<(), Fail> {
-    let long =
-        "addl r2 = r0, 0x01000000; addl r3 = r0, 10000; top: subi r3 = r3, 1; cmpineq p1 = r3, 0; (p1) br top; nop; nop; lwm r1 = [r2 + 0]; ret; nop; nop; nop";
-    for (start, value) in [(50_012, 0), (50_000, 5)] {
+    for (start, value) in LATE_LOADS {
         let alloc = rt.alloc();
-        let keys = format!(in alloc; "core = 1\nstart = {start}")?;
-        let tasks = [("core = 0", long), (keys.as_str(), STORE)];
-        let (status, sink) = report_on(&rt, alloc, TWO, &tasks)?;
-        let want = format!(in alloc;
-            "platform cores 2 slot 6 period 12\ncore 0 done {value} cycles 50062\ncore 1 done 0 cycles 56\n"
-        )?;
+        let job = late_load_job(alloc, start)?;
+        let want = late_load_report(alloc, value)?;
+        let (status, sink) = answer_to(&rt, alloc, &["run"], job.as_bytes())?;
         assert_eq!(rt; status, 0);
         assert_eq!(rt; sink.kept(), want.as_bytes());
     }
@@ -307,9 +347,7 @@ fn a_start_of_a_transfer_is_dropped(rt: HostRuntime) -> Result<(), Fail> {
 
 /// Cores 0 and 1 each send a word to word 7 of core 2, where they come at 78 and at 105. Core 2 loads the
 /// word at 90 and at 108.
-#[test]
-fn two_cores_send_to_a_third(rt: HostRuntime) -> Result<(), Fail> {
-    let alloc = rt.alloc();
+pub fn sending_job(alloc: Global) -> Result<String, Fail> {
     let first = sending(alloc, 5)?;
     let second = sending(alloc, 6)?;
     let third =
@@ -319,12 +357,19 @@ fn two_cores_send_to_a_third(rt: HostRuntime) -> Result<(), Fail> {
         ("core = 1\nstart = 12", second.as_str()),
         ("core = 2\nstart = 20", third),
     ];
-    let head = "version = 1\ncores = 3\nslot = 6\ncycles = 100000";
-    let want =
-        "platform cores 3 slot 6 period 18\ncore 0 done 0 cycles 73\ncore 1 done 0 cycles 85\ncore 2 done 86 cycles 93\n";
-    let (status, sink) = report_on(&rt, alloc, head, &tasks)?;
+    job_of(alloc, THREE, &tasks)
+}
+
+/// The report of that job.
+pub const SENDING_REPORT: &[u8] =
+    b"platform cores 3 slot 6 period 18\ncore 0 done 0 cycles 73\ncore 1 done 0 cycles 85\ncore 2 done 86 cycles 93\n";
+
+#[test]
+fn two_cores_send_to_a_third(rt: HostRuntime) -> Result<(), Fail> {
+    let job = sending_job(rt.alloc())?;
+    let (status, sink) = answer_to(&rt, rt.alloc(), &["run"], job.as_bytes())?;
     assert_eq!(rt; status, 0);
-    assert_eq!(rt; sink.kept(), want.as_bytes());
+    assert_eq!(rt; sink.kept(), SENDING_REPORT);
     Ok(())
 }
 

@@ -17,6 +17,8 @@ mod rows;
 mod tasks;
 #[cfg(test)]
 mod tests;
+#[cfg(test)]
+mod thread_tests;
 mod top;
 
 use std::alloc::{AllocError, Global};

@@ -3,7 +3,7 @@ use std::alloc::Global;
 use std::sync::Wait;
 use std::test::Fail;
 use std::thread::Threads;
-use tc_io::{Bytes, FreeGate, Gather, SureBytes, SureGather};
+use tc_io::{Bytes, FreeGate, Gate, Gather, SureBytes, SureGather};
 use tc_word::Text;
 
 /// A job of one core whose task needs 17 cycles.
@@ -16,7 +16,7 @@ const SHORT_JOB: &[u8] =
 
 /// Of two cores, core 0 stores 5 in a word of shared memory, and core 1 loads it twice. The task of core 1
 /// is written first.
-const SHARING: &[u8] =
+pub const SHARING: &[u8] =
     b"version = 1\ncores = 2\nslot = 6\ncycles = 100000\n[[task]]\ncore = 1\nlang = \"asm\"\nsource = \".func main; addl r2 = r0, 0x01000000; lwm r3 = [r2 + 0]; nop; lwm r4 = [r2 + 0]; ret; sli r3 = r3, 4; add r1 = r3, r4; nop\"\n[[task]]\ncore = 0\nlang = \"asm\"\nstart = 12\nsource = \".func main; addl r2 = r0, 0x01000000; addi r3 = r0, 5; swm [r2 + 0] = r3; ret; nop; nop; nop\"\n";
 
 const LISTINGS: &[u8] =
@@ -45,7 +45,7 @@ const REPORT: &[u8] = b"platform cores 1 slot 6 period 6\ncore 0 done 7 cycles 1
 
 const SHORT_REPORT: &[u8] = b"platform cores 1 slot 6 period 6\ncore 0 limit\n";
 
-const SHARING_REPORT: &[u8] =
+pub const SHARING_REPORT: &[u8] =
     b"platform cores 2 slot 6 period 12\ncore 0 done 0 cycles 46\ncore 1 done 5 cycles 64\n";
 
 /// Core 1 has its slots at 8, 32 and 56, and its stack is empty.
@@ -69,17 +69,21 @@ pub fn answer_to<R: Threads + Wait + Sync>(
     given: &[&str],
     input: &[u8],
 ) -> Result<(u8, SureGather), Fail> {
+    answer_under(rt, alloc, given, input, &FreeGate)
+}
+
+/// The same, where a gate may hold the workers.
+pub fn answer_under<R: Threads + Wait + Sync, G: Gate + Sync>(
+    rt: &R,
+    alloc: Global,
+    given: &[&str],
+    input: &[u8],
+    gate: &G,
+) -> Result<(u8, SureGather), Fail> {
     let mut source = SureBytes::new(Vec::from_slice(alloc, input)?);
     let mut sink = SureGather::new(alloc, 1_000)?;
     let words = words_of(alloc, given)?;
-    let status = tcrest(
-        alloc,
-        rt,
-        words.as_slice(),
-        &mut source,
-        &mut sink,
-        &FreeGate,
-    );
+    let status = tcrest(alloc, rt, words.as_slice(), &mut source, &mut sink, gate);
     Ok((status, sink))
 }
 

@@ -25,4 +25,5 @@ returns-clause-fits c = record {
   some = omega (arith, c.ask_delivery.ensures.count, c.requires.packet.piece.some);
   words = c.ask_delivery.ensures.below (comm_word c.args.self.now.body.place.cores 0) (c.event_at-event.ensures.below (comm_word c.args.self.now.body.place.cores 0))
       (omega (arith, c.comm_word-word.ensures, c.requires.packet.piece.other.among, c.args.self.now.body.port.cores, c.requires.packet.piece.within));
+  unread = c.ask_delivery.ensures.unread c.event_at-event.ensures.unread;
 }

@@ -1,0 +1,20 @@
+use Rattle.std.proofs.Common.{◌++◌, arith}
+use Rattle.std.specs.List.{flat_map}
+use Rattle.tc_run.specs.Carried.{workers_of}
+use Rattle.tc_run.proofs.Carried.{beside_same}
+use Rattle.tc_run.proofs.crew.Crew.run_here.Goals as goal
+
+pub returns-clause-carries : goal.returns-clause-carries
+returns-clause-carries g c =
+    beside_same c.args.board.now c.args.self.now.here.items c.run_through.new.workers.items (flat_map (λ h. h.promise.was.value.items) c.args.self.now.away.items) c.run_through.ensures.carries
+
+pub returns-clause-ready : goal.returns-clause-ready
+returns-clause-ready g c = λ workers groups ready.
+    let b = c.args.board.now in let here = c.run_through.new.workers.items in let away = flat_map (λ h. h.promise.was.value.items) c.args.self.now.away.items in
+    let carries = beside_same b c.args.self.now.here.items here away c.run_through.ensures.carries in
+    record {
+      on = (beside_same b (workers_of c.args.self.now) (here ++ away) workers carries).on ready.on;
+      away = ready.away;
+      room = omega (arith, ready.room, carries.count, c.run_through.ensures.room);
+      threads = ready.threads;
+    }
