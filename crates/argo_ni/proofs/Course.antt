@@ -8,7 +8,7 @@ use Rattle.shared_order.specs.Program.{Prog, fed}
 use Rattle.shared_order.specs.Stamps.{act_at}
 use Rattle.shared_order.specs.Stands.{Stands}
 use Rattle.shared_order.proofs.ByStamps.{act_here}
-use Rattle.shared_order.proofs.Standing.{skips, reaches, passes, told}
+use Rattle.shared_order.proofs.Standing.{skips, reaches, passes, resumed}
 use Rattle.argo_ni.specs.Interface.{Interface, Standing}
 use Rattle.argo_ni.specs.Turn.{turn}
 use Rattle.argo_ni.specs.Event.{stamp_in, IsQuiet}
@@ -40,7 +40,7 @@ pub takes_turn : (n core : ℕ) (x : Interface) (made : List Operation) (cycle p
 takes_turn n core x made cycle phase y values among few stands =
     let at : ℕ = stamp n core cycle phase in
     let own : at % n ≡ core = mod-mul-add (2 * cycle + phase) n core among in
-    let there = told (act_at turn n) n core x made at y own (reaches turn n core x made cycle phase y among stands) values in
+    let there = resumed (act_at turn n) n core x made at y own (reaches turn n core x made cycle phase y among stands) values in
     let same : act_at turn n at y ≡ turn phase cycle y = act_here turn n core cycle phase among few y in
     passes turn n core x (made ++ (fed at (turn phase cycle y) values).ops) cycle phase (fed at (turn phase cycle y) values).core among
     (subst (λ (p : Prog Interface). Stands (act_at turn n) n core x (made ++ (fed at p values).ops) (suc at) (fed at p values).core) same there)

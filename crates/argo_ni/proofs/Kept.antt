@@ -21,7 +21,8 @@ use Rattle.argo_ni.specs.Start.{is_in_range, answer_to, begun, standing_by}
 use Rattle.argo_ni.specs.Turn.{target_at, sends, packet_of, moved_on, packet_size, injected, injected_to}
 use Rattle.argo_ni.proofs.Windows.{other_core}
 use Rattle.argo_ni.proofs.Acts.{IsSending, none_late, is_sending_now}
-use Rattle.argo_ni.proofs.Queue.{queue_from, queue_append, each_until, each_append, each_later, at_most_two, at_most_three}
+use Rattle.argo_ni.proofs.Queue.{queue_from, queue_append, each_until, at_most_two, at_most_three}
+use Rattle.shared_order.proofs.Lists.{each-append, each_drop}
 
 pub true_or_false : (b : Bool) → (b ≡ true) ⊎ (b ≡ false)
 true_or_false true = inl refl
@@ -116,7 +117,7 @@ is_injected s cycle values h sending near =
         channels = within_after x.ports target (moved_on port) below h.channels here;
         in_time = omega (arith, sum, h.in_time, sending.sends.some, length-append x.under_way (packet ∷ []));
         queue = queue_append x.cores x.core (2 * cycle + 2) (2 * cycle + 17) x.under_way packet queue before sent (omega arith) (omega arith);
-        sent = each_append (2 * cycle + 2 + 16) x.under_way packet (each_until (2 * cycle + 17) (2 * cycle + 2 + 16) x.under_way (omega arith) before) (omega arith);
+        sent = each-append (λ q. 2 * q.due ≤ 2 * cycle + 2 + 16) x.under_way (packet ∷ []) (each_until (2 * cycle + 17) (2 * cycle + 2 + 16) x.under_way (omega arith) before) (omega arith, tt);
       };
       room = at_most_two x.cores x.core cycle x.under_way queue before sending.sends.window;
     }
@@ -153,5 +154,5 @@ sound_delivered n core from ports packets p h first =
       channels = h.channels;
       in_time = omega (arith, h.in_time);
       queue = first.rest;
-      sent = each_until (from + 16) (2 * p.due + 1 + 16) (drop 1 packets) (omega (arith, first.after)) (each_later (from + 16) packets h.sent);
+      sent = each_until (from + 16) (2 * p.due + 1 + 16) (drop 1 packets) (omega (arith, first.after)) (each_drop (λ q. 2 * q.due ≤ from + 16) 1 packets h.sent);
     }

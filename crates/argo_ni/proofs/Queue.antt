@@ -4,6 +4,7 @@ use Rattle.std.specs.List.{list_any, AllByRecursion as Each}
 use Rattle.std.proofs.lemmas.Bool.{cases_eq, eq-eqb, ne_eqb}
 use Rattle.argo_ni.specs.declared.packet.Packet.{Packet}
 use Rattle.argo_ni.specs.Sound.{IsSent, IsQueue, IsFirst}
+use Rattle.shared_order.proofs.Lists.{each_map}
 
 -- no packet of the queue is due before it begins
 pub due_from : (n core from cycle : ℕ) (ps : List Packet) → IsQueue n core from ps → list_any (λ p. p.due == cycle) ps ≡ true → from ≤ 2 * cycle
@@ -74,12 +75,7 @@ queue_append n core from last (q ∷ ps) p h before sent after later =
     (h.0, h.1, queue_append n core (2 * q.due + 1) last ps p h.2 before.1 sent (omega (arith, before.0)) later)
 
 pub each_until : (last to : ℕ) (ps : List Packet) → last ≤ to → Each (λ q. 2 * q.due ≤ last) ps → Each (λ q. 2 * q.due ≤ to) ps
-each_until last to [] more h = tt
-each_until last to (p ∷ ps) more h = (omega (arith, h.0), each_until last to ps more h.1)
-
-pub each_append : (last : ℕ) (ps : List Packet) (p : Packet) → Each (λ q. 2 * q.due ≤ last) ps → 2 * p.due ≤ last → Each (λ q. 2 * q.due ≤ last) (ps ++ p ∷ [])
-each_append last [] p h here = (here, tt)
-each_append last (q ∷ ps) p h here = (h.0, each_append last ps p h.1 here)
+each_until last to ps more h = each_map (λ q. 2 * q.due ≤ last) (λ q. 2 * q.due ≤ to) (λ q early. omega (arith, early, more)) ps h
 
 -- in a cycle in which a window begins, at most two packets that were sent before are due later
 pub at_most_two : (n core cycle : ℕ) (ps : List Packet) → IsQueue n core (2 * cycle + 2) ps → Each (λ q. 2 * q.due ≤ 2 * cycle + 17) ps → cycle % 3 ≡ 0 → length ps < 3
@@ -101,7 +97,3 @@ at_most_three n core from (p ∷ q ∷ []) h before = omega arith
 at_most_three n core from (p ∷ q ∷ r ∷ []) h before = omega arith
 at_most_three n core from (p ∷ q ∷ r ∷ s ∷ ps) h before =
     absurd (omega (arith, h.0, h.1.window, h.2.0, h.2.1.window, h.2.2.0, h.2.2.1.window, h.2.2.2.0, h.2.2.2.1.window, before.1.1.1.0))
-
-pub each_later : (last : ℕ) (ps : List Packet) → Each (λ q. 2 * q.due ≤ last) ps → Each (λ q. 2 * q.due ≤ last) (drop 1 ps)
-each_later last [] h = tt
-each_later last (p ∷ ps) h = h.1

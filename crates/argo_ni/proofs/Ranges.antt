@@ -21,6 +21,7 @@ use Rattle.argo_ni.specs.Turn.{comes, delivered, delivery, sends, target_at, mov
 use Rattle.argo_ni.specs.Range.{IsBound, InRange}
 use Rattle.argo_ni.proofs.Acts.{sends_means}
 use Rattle.argo_ni.proofs.Kept.{true_or_false, within_after}
+use Rattle.shared_order.proofs.Lists.{each_filter, each-append}
 
 -- the words of the cores below n
 below_end : (n core word words : ℕ) → core < n → word < 512 → comm_word n 0 ≤ words → comm_word core word < words
@@ -37,22 +38,11 @@ fit_written n words [] rest bound room h = h
 fit_written n words (p ∷ ps) rest bound room h =
     fit_carried n p.target p.first words p.payload (written ps rest) bound.0.among bound.0.within bound.0.words room (fit_written n words ps rest bound.1 room h)
 
-each_filter : (n : ℕ) (test : Packet → Bool) (ps : List Packet) → Each (IsBound n) ps → Each (IsBound n) (filter test ps)
-each_filter n test [] h = tt
-each_filter n test (p ∷ ps) h = elim (true_or_false (test p)) [
-  | inl here ↦ rw here (h.0, each_filter n test ps h.1)
-  | inr other ↦ rw other (each_filter n test ps h.1)
-]
-
-each_bound_append : (n : ℕ) (ps : List Packet) (p : Packet) → Each (IsBound n) ps → IsBound n p → Each (IsBound n) (ps ++ p ∷ [])
-each_bound_append n [] p h here = (here, tt)
-each_bound_append n (q ∷ ps) p h here = (h.0, each_bound_append n ps p h.1 here)
-
 fit_delivery : (x : Interface) (cycle words : ℕ) → InRange x → comm_word x.cores 0 ≤ words → IsFit InRange words (delivery cycle x)
 fit_delivery x cycle words h room = elim (true_or_false (comes x cycle)) [
   | inl here ↦ subst (IsFit InRange words) (let e : written (filter (λ p. p.due == cycle) x.under_way) (done (delivered cycle x)) ≡ delivery cycle x = rw (here, delivery) refl in e)
-      (fit_written x.cores words (filter (λ p. p.due == cycle) x.under_way) (done (delivered cycle x)) (each_filter x.cores (λ p. p.due == cycle) x.under_way h.packets) room
-      (record { among = h.among; channels = h.channels; packets = each_filter x.cores (λ p. not (p.due == cycle)) x.under_way h.packets }))
+      (fit_written x.cores words (filter (λ p. p.due == cycle) x.under_way) (done (delivered cycle x)) (each_filter (IsBound x.cores) (λ p. p.due == cycle) x.under_way h.packets) room
+      (record { among = h.among; channels = h.channels; packets = each_filter (IsBound x.cores) (λ p. not (p.due == cycle)) x.under_way h.packets }))
   | inr none ↦ subst (IsFit InRange words) (let e : done x ≡ delivery cycle x = rw (none, delivery) refl in e) h
 ]
 
@@ -78,7 +68,7 @@ injected_in_range x cycle size values h here taken same small =
     record {
       among = h.among;
       channels = within_set x.ports target (moved_on port) h.channels kept;
-      packets = each_bound_append x.cores x.under_way (packet_of cycle target (payload port.channel.left values) port) h.packets bound;
+      packets = each-append (IsBound x.cores) x.under_way (packet_of cycle target (payload port.channel.left values) port ∷ []) h.packets (bound, tt);
     }
 
 fit_injection : (x : Interface) (cycle words : ℕ) → InRange x → comm_word x.cores 0 ≤ words → IsFit InRange words (injection cycle x)

@@ -8,6 +8,7 @@ use Rattle.slot_arbiter.specs.Order.{IsNext}
 use Rattle.argo_ni.specs.declared.port.Port.{Port}
 use Rattle.argo_ni.specs.Port.{port_at}
 use Rattle.argo_ni.specs.Window.{target_in, is_used, sends_in}
+use Rattle.slot_arbiter.proofs.Turns.{reach}
 
 both : (a b : Bool) → a ≡ true → b ≡ true → (a && b) ≡ true
 both a b p q = cc
@@ -38,13 +39,6 @@ used_here n core k ports several some = grind (arith, nat_tests)
 -- and one whose channel has none is not
 pub unused_here : (n core k : ℕ) (ports : List Port) → (port_at ports (target_in n core k)).channel.left ≤ 0 → is_used n core ports k ≡ false
 unused_here n core k ports none = grind (arith, nat_tests)
-
--- from any window on, each other core's turn comes within one round
-reach : (m first j : ℕ) → j < m → (k : ℕ) × ((k < m) × ((first + k) % m ≡ j))
-reach m first j h =
-    let away : ℕ = j + (m - first % m) in
-    let whole : first + (j + (m - first % m)) ≡ (first / m + 1) * m + j = omega (arith, div-add-mod' first m) in
-    (away % m, (mod_below away m (omega arith), add-mod-mod first away m ∙ ap (λ x. x % m) whole ∙ mod-mul-add (first / m + 1) m j h))
 
 -- so where nothing is sent in one round, nothing ever is
 pub none_used : (n core first : ℕ) (ports : List Port) → ((k : ℕ) → first ≤ k → k < first + (n - 1) → is_used n core ports k ≡ false) → (k : ℕ) → is_used n core ports k ≡ false

@@ -4,6 +4,7 @@ use Rattle.slot_arbiter.specs.Order.{IsNext}
 use Rattle.shared_order.specs.Program.{done, gets, sets}
 use Rattle.argo_ni.specs.declared.event.NiEvent.{NiEvent}
 use Rattle.argo_ni.specs.declared.event.NiKind.TheVariants.{Inject, Deliver}
+use Rattle.argo_ni.specs.declared.port.TheConstants.{COMM_WORDS}
 use Rattle.argo_ni.specs.Packet.{comm_word}
 use Rattle.argo_ni.specs.Interface.{Interface, Standing, IsTarget, port_to}
 use Rattle.argo_ni.specs.Turn.{injection, injected, delivery, delivered, turn, acts}
@@ -25,7 +26,7 @@ pub record IsPiece (x : Interface) (target first count : ℕ) : Type 0 where
   pub other : IsTarget x target
   pub some : 1 ≤ count
   pub most : count ≤ 2
-  pub within : first + count ≤ 512
+  pub within : first + count ≤ COMM_WORDS
 
 -- in the cycle the interface reads those words of its own communication memory and sends them
 pub record IsInjection (x : Interface) (cycle target first count : ℕ) : Type 0 where

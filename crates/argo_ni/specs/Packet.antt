@@ -5,11 +5,12 @@ use Rattle.shared_order.specs.Program.{Prog, sets, first, others}
 use Rattle.argo_ni.specs.declared.packet.Payload.{Payload}
 use Rattle.argo_ni.specs.declared.packet.Payload.TheVariants.{One, Two}
 use Rattle.argo_ni.specs.declared.packet.Packet.{Packet}
+use Rattle.argo_ni.specs.declared.port.TheConstants.{COMM_WORDS, SHARED_WORDS}
 
--- the number, among all shared words, of a word of a core's communication memory: the 4,096 words of
--- shared memory come first, and then 512 words for each core
+-- the number, among all shared words, of a word of a core's communication memory: the words of
+-- shared memory come first, and then those of each core
 abbrev pub comm_word : ℕ → ℕ → ℕ
-comm_word core word = 4096 + 512 * core + word
+comm_word core word = SHARED_WORDS + COMM_WORDS * core + word
 
 -- the words that are carried, in their order
 abbrev pub carried : Payload → List ℕ

@@ -5,6 +5,7 @@ use Rattle.std.specs.Prelude.{ℕ, ◌+◌, ◌≤◌, List, replicate, slice_in
 use Rattle.std.specs.List.{sum_by}
 use Rattle.argo_ni.specs.declared.port.Channel.{Channel}
 use Rattle.argo_ni.specs.declared.port.Port.{Port}
+use Rattle.argo_ni.specs.declared.port.TheConstants.{COMM_WORDS}
 
 -- a port that nothing was set in and nothing is sent through
 abbrev pub unused : Port
@@ -23,7 +24,7 @@ port_at ports d = slice_index_or ports d unused
 abbrev pub words_left : List Port → ℕ
 words_left ports = sum_by (λ p. p.channel.left) ports
 
--- the channel's words lie within the 512 words of a communication memory, on both sides
+-- the channel's words lie within the words of a communication memory, on both sides
 pub record IsWithin (c : Channel) : Type 0 where
-  pub source : c.source + c.left ≤ 512
-  pub target : c.target + c.left ≤ 512
+  pub source : c.source + c.left ≤ COMM_WORDS
+  pub target : c.target + c.left ≤ COMM_WORDS

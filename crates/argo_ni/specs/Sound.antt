@@ -3,6 +3,7 @@ use Rattle.std.specs.Prelude.{◌≡◌, ◌≢◌, ℕ, ◌+◌, ◌*◌, ◌%�
 use Rattle.std.specs.List.{AllByRecursion as Each}
 use Rattle.argo_ni.specs.declared.port.Port.{Port}
 use Rattle.argo_ni.specs.declared.packet.Packet.{Packet}
+use Rattle.argo_ni.specs.declared.port.TheConstants.{COMM_WORDS}
 use Rattle.argo_ni.specs.Port.{port_at, words_left, IsWithin}
 use Rattle.argo_ni.specs.Packet.{carried}
 use Rattle.argo_ni.specs.Interface.{Standing}
@@ -11,7 +12,7 @@ use Rattle.argo_ni.specs.Interface.{Standing}
 pub record IsSent (n core : ℕ) (p : Packet) : Type 0 where
   pub among : p.target < n
   pub other : p.target ≢ core
-  pub within : p.first + length (carried p.payload) ≤ 512
+  pub within : p.first + length (carried p.payload) ≤ COMM_WORDS
   pub window : p.due % 3 ≡ 0
 
 -- the packets are due one after another, from half-cycle `from` on

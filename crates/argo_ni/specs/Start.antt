@@ -3,6 +3,7 @@
 -- straight to the channel.
 use Rattle.std.specs.Prelude.{ℕ, ◌+◌, ◌-◌, ◌*◌, ◌^◌, min, true, false, Bool, ◌&&◌, ◌==◌, nat_lt, nat_le, slice_set}
 use Rattle.argo_ni.specs.declared.port.Port.{Port}
+use Rattle.argo_ni.specs.declared.port.TheConstants.{COMM_WORDS}
 use Rattle.argo_ni.specs.declared.event.Started.{Started}
 use Rattle.argo_ni.specs.declared.event.Started.TheVariants.{Begun, Dropped, Refused}
 use Rattle.argo_ni.specs.Interface.{Interface, Standing, port_to}
@@ -19,11 +20,11 @@ with_source d word x = with_port d (record (port_to x d) { source = word }) x
 abbrev pub with_target : ℕ → ℕ → Interface → Interface
 with_target d word x = with_port d (record (port_to x d) { target = word }) x
 
--- whether so many words can be sent by the port's registers: some, and none past the 512 words of a
+-- whether so many words can be sent by the port's registers: some, and none past the words of a
 -- communication memory
 abbrev pub is_in_range : Port → ℕ → Bool
 is_in_range port count =
-    nat_lt 0 count && nat_le (port.source + count) 512 && nat_le (port.target + count) 512
+    nat_lt 0 count && nat_le (port.source + count) COMM_WORDS && nat_le (port.target + count) COMM_WORDS
 
 -- the answer to a start: it is refused where it is out of range, and dropped where the channel still
 -- has words to inject

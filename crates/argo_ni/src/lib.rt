@@ -16,6 +16,8 @@
 //! - [`windows_by_cycles`] states the schedule, and [`interface_worked`] shows the definitions at work.
 //! - [`interface_goes_on`]: what an interface that is run apart does from act to act.
 //! - [`interface_keeps_ranges`]: it names only words that there are, and stores only words of 32 bits.
+//!
+//! What its words mean stands in [the glossary](../../../docs/GLOSSARY.md).
 #![tactic(auto)]
 
 mod event;
@@ -31,7 +33,7 @@ mod worked;
 pub use event::{NiEvent, NiKind, Started};
 pub use ni::Ni;
 pub use packet::{Packet, Payload};
-pub use port::{Channel, Port};
+pub use port::{COMM_WORDS, Channel, Port, SHARED_WORDS};
 pub use range::interface_keeps_ranges;
 pub use run::interface_goes_on;
 pub use window::windows_by_cycles;

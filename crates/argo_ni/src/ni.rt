@@ -12,7 +12,7 @@ use crate::packet::{Packet, Payload};
 use crate::port::{PACKET_WORDS, Port, UNUSED};
 use crate::under_way::UnderWay;
 use crate::window::{next_send, target_in};
-use slot_arbiter::Place;
+use slot_arbiter::{MOST_CYCLES, Place};
 use std::marker::Model;
 
 /// The network interface of one core.
@@ -83,8 +83,8 @@ impl Ni {
         self.ports[d as usize].channel.left
     }
 
-    /// Whether `count` words can be sent to target `d` by its registers: some, and none past the 512
-    /// words of a communication memory. A start of any other count is refused.
+    /// Whether `count` words can be sent to target `d` by its registers: some, and none past the
+    /// [`COMM_WORDS`] of a communication memory. A start of any other count is refused.
     pub fn accepts(&self, d: u32, count: u32) -> bool
         requires target { IsTarget self.now.interface d }
         ensures { result ≡ is_in_range (port_to self.now.interface d) count }
@@ -96,7 +96,7 @@ impl Ni {
     /// register to the word in the target register.
     pub fn start(&mut self, d: u32, count: u32, cycle: u64) -> Started
         requires target { IsTarget self.old.interface d }
-        requires most { cycle ≤ 20000000 }
+        requires most { cycle ≤ MOST_CYCLES }
         requires after { self.old.from ≤ 2 * cycle + 2 }
         requires none_left { IsPast self.old cycle }
         ensures answer { result ≡ answer_to (port_to self.old.interface d) count }
@@ -124,7 +124,7 @@ impl Ni {
         ensures above { IfSome result (λ e. stamp < stamp_in self.now.interface.cores self.now.interface.core (half_of e)) }
         ensures event { IfSome result (IsDone self.now.interface) }
         ensures between { IfSome result (λ e. IsQuiet self.now.interface self.now.from (half_of e)) }
-        ensures bounded { IfSome result (λ e. e.cycle ≤ 40000000) }
+        ensures bounded { IfSome result (λ e. e.cycle ≤ 2 * MOST_CYCLES) }
         ensures none { IsNone result ↔ IsIdle self.now.interface }
         ensures never { IsNone result → (half : ℕ) → acts self.now.interface half ≡ false }
         ensures quiet { IsNone result → (to : ℕ) → IsQuiet self.now.interface self.now.from to }
@@ -180,7 +180,7 @@ impl Ni {
     fn next(&self) -> Option<NiEvent>
         ensures next { IfSome result (λ e. IsNextAct self.now (half_of e)) }
         ensures event { IfSome result (IsDone self.now.interface) }
-        ensures bounded { IfSome result (λ e. e.cycle ≤ 40000000) }
+        ensures bounded { IfSome result (λ e. e.cycle ≤ 2 * MOST_CYCLES) }
         ensures none { IsNone result ↔ IsIdle self.now.interface }
         ensures never { IsNone result → (half : ℕ) → acts self.now.interface half ≡ false }
     {
@@ -202,7 +202,7 @@ impl Ni {
     fn next_send(&self) -> Option<u64>
         ensures next { IfSome result (IsNext (sends self.now.interface) (self.now.from / 2)) }
         ensures near { IfSome result (λ cycle. 2 * cycle + 1 < self.now.from + 90) }
-        ensures bounded { IfSome result (λ cycle. cycle ≤ 40000000) }
+        ensures bounded { IfSome result (λ cycle. cycle ≤ 2 * MOST_CYCLES) }
         ensures none { IsNone result → (cycle : ℕ) → sends self.now.interface cycle ≡ false }
         ensures left { IsNone result → (d : ℕ) → IsTarget self.now.interface d → (port_to self.now.interface d).channel.left ≡ 0 }
     {
@@ -213,7 +213,7 @@ impl Ni {
     #[tactic(auto, using(crate::proofs::Queue::is_first, crate::proofs::Queue::is_empty))]
     fn first_packet(&self) -> Option<Packet>
         ensures first { IfSome result (IsFirstOf self.now) }
-        ensures bounded { IfSome result (λ packet. packet.due ≤ 40000000) }
+        ensures bounded { IfSome result (λ packet. packet.due ≤ 2 * MOST_CYCLES) }
         ensures none { IsNone result → self.now.interface.under_way ≡ [] }
     {
         self.under_way.first()

@@ -7,8 +7,11 @@ ghost use Rattle.argo_ni.specs.Turn.{packet_of, moved_on};
 use crate::event::Started;
 use crate::packet::{Packet, Payload};
 
-/// How many words a communication memory has.
-const COMM_WORDS: u64 = 512;
+/// How many words the communication memory of a core has.
+pub const COMM_WORDS: u32 = 512;
+
+/// How many words the memory has that all cores share.
+pub const SHARED_WORDS: u32 = 4_096;
 
 /// How many words a packet carries at the most.
 pub const PACKET_WORDS: u32 = 2;
@@ -53,7 +56,8 @@ impl Port {
     {
         let source_end = u64::from(self.source) + u64::from(count);
         let target_end = u64::from(self.target) + u64::from(count);
-        if count == 0 || source_end > COMM_WORDS || target_end > COMM_WORDS {
+        let end = u64::from(COMM_WORDS);
+        if count == 0 || source_end > end || target_end > end {
             return Started::Refused;
         }
         if self.channel.left > 0 {

@@ -65,9 +65,9 @@ module _ (n : ℕ) (all : List Operation) (asked : ℕ → List ℕ → List Ope
       )
 
   -- what is told of the operation that was to be made is told of it by any name
-  told : (me : Place) (value : ℕ) (o : Operation) (left : List Operation) → todo me.0 ≡ o ∷ left → value ≡ o.act.value → value < 2 ^ 32
+  in_words : (me : Place) (value : ℕ) (o : Operation) (left : List Operation) → todo me.0 ≡ o ∷ left → value ≡ o.act.value → value < 2 ^ 32
       → makes me value (given me.0 (with_operation (own me.0) o), me.1)
-  told me value o left next is small o' left' next' =
+  in_words me value o left next is small o' left' next' =
       let same : o ≡ o' = (same_first o o' left left' (sym next ∙ next')).0 in
       (is ∙ ap (λ (q : Operation). q.act.value) same, small, λ i. (given me.0 (with_operation (own me.0) (same i)), me.1))
 
@@ -126,7 +126,7 @@ module _ (n : ℕ) (all : List Operation) (asked : ℕ → List ℕ → List Ope
           keeps,
           tt,
           subst (λ ws. Kept n all asked ws (set s.views id (given me.0 (with_operation (own me.0) o)))) (sym (set-get_or s.words i 0)) kept,
-          told me (get_or s.words i 0) o left (ap todo e ∙ next) found (subst (λ x. x < 2 ^ 32) (sym found) f.value),
+          in_words me (get_or s.words i 0) o left (ap todo e ∙ next) found (subst (λ x. x < 2 ^ 32) (sym found) f.value),
         )
 
     -- the words after the store
@@ -152,5 +152,5 @@ module _ (n : ℕ) (all : List Operation) (asked : ℕ → List ℕ → List Ope
           keeps,
           tt,
           subst (λ j. Kept n all asked (set s.words j value) (set s.views id (given me.0 (with_operation (own me.0) o)))) (sym (word_here s k at)) kept,
-          told me value o left (ap todo e ∙ next) refl f.value,
+          in_words me value o left (ap todo e ∙ next) refl f.value,
         )

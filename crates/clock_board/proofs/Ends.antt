@@ -9,10 +9,10 @@ use mathlib.Core.Option.{some, some-injective, some-ne-none}
 use lib.ListN.{get_elem?}
 use Rattle.atomic_table.specs.Table.{Final, Seen}
 use Rattle.shared_order.specs.declared.operation.Operation.{Operation}
-use Rattle.shared_order.specs.Operation.{part}
+use Rattle.shared_order.specs.Operation.{operations_of}
 use Rattle.shared_order.specs.Words.{stored_last}
 use Rattle.shared_order.specs.Fit.{Fits}
-use Rattle.shared_order.proofs.Lists.{each_map, each_first}
+use Rattle.shared_order.proofs.Lists.{each_map, each_first, each_rest, each_at}
 use Rattle.clock_board.specs.declared.known.Record.{Record}
 use Rattle.clock_board.specs.declared.known.View.{View}
 use Rattle.clock_board.specs.Record.{clock_of}
@@ -21,7 +21,6 @@ use Rattle.clock_board.specs.Rule.{clock, cell, IsTrueRecord, Kept}
 use Rattle.clock_board.specs.Board.{BoardFace}
 use Rattle.clock_board.specs.End.{IsEnd, AllPast}
 use Rattle.clock_board.proofs.Asked.{holds}
-use Rattle.clock_board.proofs.Steps.{each_rest}
 
 -- a word that was read is the one that the list has there
 pub read_at : (xs : List ℕ) (i x : ℕ) → get_elem? xs i ≡ some x → get_or xs i 0 ≡ x
@@ -44,12 +43,6 @@ stored_small shared word (o ∷ os) begun h small = stored_small shared word os 
     by : (b : Bool) → cond b o.act.value begun < 2 ^ 32
     by true = h.0.value
     by false = small
-
--- what holds of each element holds of the one at an index
-each_index : {A : Type 0} (Q : A → Type 0) (xs : List A) (i : ℕ) (x : A) → i < length xs → get_or xs i x ≡ x → Each Q xs → Q x
-each_index Q [] i x among at h = absurd (omega arith)
-each_index Q (y ∷ ys) zero x among at h = subst Q at h.0
-each_index Q (y ∷ ys) (suc i) x among at h = each_index Q ys i x (omega arith) at h.1
 
 module _ (n : ℕ) (all : List Operation) (asked : ℕ → List ℕ → List Operation) (words : List ℕ) (slots : List Unit) (id : ℕ) (v : View) (end : Final (Seen (holds n all asked) id v) words slots)
     (shared first : ℕ) (wide : length words ≡ n + n + shared) (at_first : first ≡ n + n) where
@@ -82,7 +75,7 @@ module _ (n : ℕ) (all : List Operation) (asked : ℕ → List ℕ → List Ope
       done = kept.done;
       rest = kept.rest;
       order = sym same_course ∙ kept.order;
-      made = each_map (IsTrueRecord n end.0.words kept.done) (λ (r : Record). r.made ≡ part b.cores r.core kept.done) (λ r t. t.made ∙ ap (λ c. part c r.core kept.done) same_cores) (back v) records;
+      made = each_map (IsTrueRecord n end.0.words kept.done) (λ (r : Record). r.made ≡ operations_of b.cores r.core kept.done) (λ r t. t.made ∙ ap (λ c. operations_of c r.core kept.done) same_cores) (back v) records;
       words = λ w within. let here : w < shared = omega (arith, within, same_words) in copied w here ∙ stored w here;
     }
 
@@ -97,7 +90,7 @@ module _ (n : ℕ) (all : List Operation) (asked : ℕ → List ℕ → List Ope
         let clocks : Each (λ (q : Operation). clock end.0.words (q.stamp % n) ≤ q.stamp) (o ∷ rest) = subst (Each (λ (q : Operation). clock end.0.words (q.stamp % n) ≤ q.stamp)) e kept.clocks in
         let found = past.past core among in
         let r : Record = found.1 in
-        let t : IsTrueRecord n end.0.words kept.done r = each_index (IsTrueRecord n end.0.words kept.done) (back v) found.0 r found.2 found.3 records in
+        let t : IsTrueRecord n end.0.words kept.done r = subst (IsTrueRecord n end.0.words kept.done) found.3 (each_at (IsTrueRecord n end.0.words kept.done) (back v) found.0 r records found.2) in
         let shows : clock end.0.words core ≡ clock_of r.published = ap (clock end.0.words) (sym found.4.0) ∙ t.shows in
         absurd (omega (arith, low, clocks.0, shows, found.4.1))
 

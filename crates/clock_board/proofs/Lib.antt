@@ -7,5 +7,5 @@ pub mod Moved
 pub mod Order
 pub mod Seats
 pub mod Steps
-pub mod Telling
+pub mod InWords
 pub mod TwoEnds

@@ -7,16 +7,6 @@ use mathlib.Core.Option.{some, some-injective, some-ne-none}
 use lib.ListN.{get_elem?}
 
 module _ {A : Type 0} where
-  -- from two facts of each element a third
-  pub each_zip : (P Q R : A → Type 0) → ((x : A) → P x → Q x → R x) → (xs : List A) → Each P xs → Each Q xs → Each R xs
-  each_zip P Q R f [] p q = tt
-  each_zip P Q R f (x ∷ xs) p q = (f x p.0 q.0, each_zip P Q R f xs p.1 q.1)
-
-  -- what holds of all holds of each
-  pub each_all : (P : A → Type 0) → ((x : A) → P x) → (xs : List A) → Each P xs
-  each_all P f [] = tt
-  each_all P f (x ∷ xs) = (f x, each_all P f xs)
-
   -- what holds of each element holds of the one that is read
   pub each_at : (P : A → Type 0) (xs : List A) (i : ℕ) (x : A) → Each P xs → get_elem? xs i ≡ some x → P x
   each_at P [] i x h e = absurd (some-ne-none x (sym e))

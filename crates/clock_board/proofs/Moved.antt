@@ -7,7 +7,7 @@ use mathlib.Core.Option.{some}
 use lib.ListN.{get_elem?}
 use Rattle.atomic_table.proofs.Lists.{at_set}
 use Rattle.shared_order.specs.declared.operation.Operation.{Operation}
-use Rattle.shared_order.specs.Operation.{part}
+use Rattle.shared_order.specs.Operation.{operations_of}
 use Rattle.shared_order.specs.Words.{stored_last}
 use Rattle.clock_board.specs.declared.known.Look.{Look}
 use Rattle.clock_board.specs.declared.known.Record.{Record}
@@ -16,8 +16,8 @@ use Rattle.clock_board.specs.declared.known.Holding.TheVariants.{Given, Spent}
 use Rattle.clock_board.specs.declared.known.View.{View}
 use Rattle.clock_board.specs.View.{records_of, given}
 use Rattle.clock_board.specs.Rule.{clock, claim, cell, is_of, in_view, IsTrueRecord, IsTrueView, IsClaimedOnce, Kept}
-use Rattle.clock_board.proofs.Lists.{each_zip, sum-set, terms_le, term_le, none_counts}
-use Rattle.shared_order.proofs.Lists.{each_map}
+use Rattle.clock_board.proofs.Lists.{sum-set, terms_le, term_le, none_counts}
+use Rattle.shared_order.proofs.Lists.{each_map, each_zip}
 
 -- a record counts for its core
 pub counts_own : (core : ℕ) (r : Record) → r.core ≡ core → is_of core r ≡ 1
@@ -47,7 +47,7 @@ pub record Moves (n : ℕ) (all : List Operation) (shared core : ℕ) (words wor
   pub claims : (c : ℕ) → c < n → claim n words' c ≡ claim n words c
   pub rises : (c : ℕ) → c < n → clock words c ≤ clock words' c
   pub others : (c : ℕ) → c < n → c ≢ core → clock words' c ≡ clock words c
-  pub parts : (c : ℕ) → c < n → c ≢ core → part n c done' ≡ part n c done
+  pub parts : (c : ℕ) → c < n → c ≢ core → operations_of n c done' ≡ operations_of n c done
   pub own : r'.core ≡ core
   pub mine : IsTrueRecord n words' done' r'
   pub clocks : Each (λ (o : Operation). clock words' (o.stamp % n) ≤ o.stamp) rest'

@@ -13,7 +13,7 @@ use Rattle.atomic_table.specs.Table.{State, keeps, Allows, Splits, Joins}
 use Rattle.atomic_table.proofs.Lists.{at_set, at_snoc, set_again}
 use Rattle.shared_order.specs.declared.operation.Operation.{Operation}
 use Rattle.shared_order.specs.Course.{IsCourse}
-use Rattle.shared_order.proofs.Lists.{each_map, each-append}
+use Rattle.shared_order.proofs.Lists.{each_map, each-append, each_all}
 use Rattle.clock_board.specs.declared.known.Look.{Look}
 use Rattle.clock_board.specs.declared.known.Record.{Record}
 use Rattle.clock_board.specs.declared.known.Holding.{Holding}
@@ -23,7 +23,7 @@ use Rattle.clock_board.specs.Record.{empty}
 use Rattle.clock_board.specs.View.{records_of, back_of, back, maker, claiming, given, joined, spent, IsMaker}
 use Rattle.clock_board.specs.Rule.{clock, claim, is_of, in_view, holders, IsTrueRecord, IsTrueView, IsClaimedOnce, Kept}
 use Rattle.clock_board.specs.Plays.{Place, claims}
-use Rattle.clock_board.proofs.Lists.{sum-set, each_all}
+use Rattle.clock_board.proofs.Lists.{sum-set}
 use Rattle.clock_board.proofs.Moved.{counts_own, counts_other}
 use Rattle.clock_board.proofs.Asked.{holds}
 

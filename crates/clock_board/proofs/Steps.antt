@@ -10,11 +10,11 @@ use Rattle.std.proofs.Math.ListN.{length-set}
 use mathlib.Core.Option.{some}
 use lib.ListN.{get_elem?}
 use Rattle.shared_order.specs.declared.operation.Operation.{Operation}
-use Rattle.shared_order.specs.Operation.{part}
+use Rattle.shared_order.specs.Operation.{operations_of}
 use Rattle.shared_order.specs.Order.{Rising}
 use Rattle.shared_order.specs.Words.{stored_last, Reads}
 use Rattle.shared_order.specs.Fit.{Fits}
-use Rattle.shared_order.proofs.Lists.{each_map, each-append}
+use Rattle.shared_order.proofs.Lists.{each_map, each-append, each_zip, each_rest}
 use Rattle.clock_board.specs.declared.known.Look.{Look}
 use Rattle.clock_board.specs.declared.known.Record.{Record}
 use Rattle.clock_board.specs.declared.known.Holding.TheVariants.{Given}
@@ -22,9 +22,8 @@ use Rattle.clock_board.specs.declared.known.View.{View}
 use Rattle.clock_board.specs.Record.{clock_of, greatest, with_look, with_stamp, with_operation}
 use Rattle.clock_board.specs.View.{own, given, todo}
 use Rattle.clock_board.specs.Rule.{clock, cell, IsTrueRecord, Kept}
-use Rattle.clock_board.proofs.Lists.{each_zip}
 use Rattle.clock_board.proofs.Looked.{greatest_le}
-use Rattle.clock_board.proofs.Order.{IsFirstOf, is_next, left_is_rest, reads_at, rising_rest, part_push, part_push_other, each_of_part}
+use Rattle.clock_board.proofs.Order.{IsFirstOf, is_next, left_is_rest, reads_at, rising_rest, operations_of-push, operations_of-push_other, each_of_core}
 use Rattle.clock_board.proofs.Moved.{Moves, mine_is_true, given_is_live}
 
 -- the clock shows the stamp that was published last
@@ -36,11 +35,6 @@ pub climbs_on : (published : List ℕ) (stamp : ℕ) → IsNonDecreasing publish
 climbs_on published stamp climbs late = IsNonDecreasingBy-push (λ x. x) published stamp climbs (λ d some.
     let e : get_or published (length published - 1) d ≡ clock_of published = get_or_default published (length published - 1) d 0 (omega arith) in
     omega (arith, e, late))
-
--- what holds of each holds of each that follows
-pub each_rest : {A : Type 0} (P : A → Type 0) (xs ys : List A) → Each P (xs ++ ys) → Each P ys
-each_rest P [] ys h = h
-each_rest P (x ∷ xs) ys h = each_rest P xs ys h.1
 
 module _ (n : ℕ) (all : List Operation) (asked : ℕ → List ℕ → List Operation) where
   -- ---- of the words and the views, where the view of number id is a core's with the record r
@@ -73,7 +67,7 @@ module _ (n : ℕ) (all : List Operation) (asked : ℕ → List ℕ → List Ope
     }
 
     -- a published stamp is at or past the clock, and not past what is left
-    module _ (stamp : ℕ) (late : clock_of r.published ≤ stamp) (left : Each (λ (o : Operation). stamp ≤ o.stamp) (part n r.core k.rest)) where
+    module _ (stamp : ℕ) (late : clock_of r.published ≤ stamp) (left : Each (λ (o : Operation). stamp ≤ o.stamp) (operations_of n r.core k.rest)) where
       -- its clock shows the stamp
       shows_stamp : clock (set words r.core stamp) r.core ≡ stamp
       shows_stamp = get_or-set_same words r.core stamp 0 (omega (arith, mine.among, k.wide))
@@ -116,18 +110,18 @@ module _ (n : ℕ) (all : List Operation) (asked : ℕ → List ℕ → List Ope
           looks = each_map (λ (l : Look). (l.core < n) × (l.seen ≤ clock words l.core)) (λ (l : Look). (l.core < n) × (l.seen ≤ clock (set words r.core stamp) l.core)) (λ l h. (h.0, omega (arith, h.1, rises_to l.core))) r.looks mine.looks;
         };
         clocks = each_zip (λ (o : Operation). clock words (o.stamp % n) ≤ o.stamp) (λ (o : Operation). o.stamp % n ≡ r.core → stamp ≤ o.stamp) (λ (o : Operation). clock (set words r.core stamp) (o.stamp % n) ≤ o.stamp)
-            not_past k.rest k.clocks (each_of_part n r.core (λ o. stamp ≤ o.stamp) k.rest left);
+            not_past k.rest k.clocks (each_of_core n r.core (λ o. stamp ≤ o.stamp) k.rest left);
         passed = each_map (λ (o : Operation). (d : ℕ) → d < n → d ≢ o.stamp % n → o.stamp ≤ clock words d) (λ (o : Operation). (d : ℕ) → d < n → d ≢ o.stamp % n → o.stamp ≤ clock (set words r.core stamp) d)
             (λ o h d among other. omega (arith, h d among other, rises_to d)) k.done k.passed;
         cells = λ w h. get_or-set_other words r.core (n + n + w) stamp 0 (omega (arith, mine.among)) ∙ k.cells w h;
       }
 
     -- what is left of the core's list is its part of the rest
-    pub left_here : todo (given v r) ≡ part n r.core k.rest
+    pub left_here : todo (given v r) ≡ operations_of n r.core k.rest
     left_here =
         let live = given_is_live v.holding r is in
         let seen = k.views id v at in
-        (λ i. drop (length r.made) (part (seen.cores live i) r.core (seen.course live i))) ∙ left_is_rest n r.core all k.done k.rest r.made k.order mine.made
+        (λ i. drop (length r.made) (operations_of (seen.cores live i) r.core (seen.course live i))) ∙ left_is_rest n r.core all k.done k.rest r.made k.order mine.made
 
     -- the operation that the core has to make next is the next of all
     module _ (o : Operation) (left : List Operation) (next : todo (given v r) ≡ o ∷ left) (seen : (d : ℕ) → d < n → d ≢ r.core → o.stamp ≤ greatest d r.looks) where
@@ -164,11 +158,11 @@ module _ (n : ℕ) (all : List Operation) (asked : ℕ → List ℕ → List Ope
             claims = λ c h. same (n + c) (omega (arith, h));
             rises = λ c h. omega (arith, known c h);
             others = λ c h other. known c h;
-            parts = λ c h other. part_push_other n c k.done o (λ e. other (sym e ∙ first.own));
+            parts = λ c h other. operations_of-push_other n c k.done o (λ e. other (sym e ∙ first.own));
             own = refl;
             mine = record {
               among = mine.among;
-              made = ap (λ l. l ++ o ∷ []) mine.made ∙ sym (part_push n r.core k.done o first.own);
+              made = ap (λ l. l ++ o ∷ []) mine.made ∙ sym (operations_of-push n r.core k.done o first.own);
               shows = known r.core mine.among ∙ mine.shows;
               climbs = mine.climbs;
               looks = each_map (λ (l : Look). (l.core < n) × (l.seen ≤ clock words l.core)) (λ (l : Look). (l.core < n) × (l.seen ≤ clock words' l.core)) (λ l h. (h.0, omega (arith, h.1, known l.core h.0))) r.looks mine.looks;

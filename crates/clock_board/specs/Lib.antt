@@ -3,6 +3,6 @@ pub mod End
 pub mod Plays
 pub mod Record
 pub mod Rule
-pub mod Told
+pub mod InWords
 pub mod Two
 pub mod View

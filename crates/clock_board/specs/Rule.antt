@@ -7,7 +7,7 @@ use Rattle.std.specs.List.Sorted.{IsNonDecreasing}
 use mathlib.Core.Option.{some}
 use lib.ListN.{get_elem?}
 use Rattle.shared_order.specs.declared.operation.Operation.{Operation}
-use Rattle.shared_order.specs.Operation.{part}
+use Rattle.shared_order.specs.Operation.{operations_of}
 use Rattle.shared_order.specs.Words.{stored_last}
 use Rattle.shared_order.specs.Course.{IsCourse}
 use Rattle.clock_board.specs.declared.known.Look.{Look}
@@ -44,7 +44,7 @@ holders core views = sum_by (in_view core) views
 -- a record tells what its core has made, published and seen, where `done` is all that was made
 pub record IsTrueRecord (n : ℕ) (words : List ℕ) (done : List Operation) (r : Record) : Type 0 where
   pub among : r.core < n
-  pub made : r.made ≡ part n r.core done
+  pub made : r.made ≡ operations_of n r.core done
   pub shows : clock words r.core ≡ clock_of r.published
   pub climbs : IsNonDecreasing r.published
   pub looks : Each (λ (l : Look). (l.core < n) × (l.seen ≤ clock words l.core)) r.looks
@@ -63,7 +63,7 @@ pub record IsClaimedOnce (n : ℕ) (words : List ℕ) (done : List Operation) (v
   pub bit : claim n words core ≤ 1
   pub one : holders core views ≡ claim n words core
   pub idle_clock : claim n words core ≡ 0 → clock words core ≡ 0
-  pub idle_made : claim n words core ≡ 0 → part n core done ≡ []
+  pub idle_made : claim n words core ≡ 0 → operations_of n core done ≡ []
 
 -- the rule, for a course of n cores: all its operations are those that were made, `done`, and then
 -- the rest

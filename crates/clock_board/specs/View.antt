@@ -1,7 +1,7 @@
 -- What a pass knows: how many cores there are, the course, and the records that it has.
 use Rattle.std.specs.Prelude.{◌≡◌, ◌≢◌, ℕ, ◌<◌, ◌≤◌, List, [], ◌∷◌, ◌++◌, length, drop}
 use Rattle.shared_order.specs.declared.operation.Operation.{Operation}
-use Rattle.shared_order.specs.Operation.{part}
+use Rattle.shared_order.specs.Operation.{operations_of}
 use Rattle.clock_board.specs.declared.known.Record.{Record}
 use Rattle.clock_board.specs.declared.known.Holding.{Holding}
 use Rattle.clock_board.specs.declared.known.Holding.TheVariants.{Maker, Claiming, Given, Spent}
@@ -67,7 +67,7 @@ spent = record { cores = 0; course = []; holding = Spent }
 
 -- the operations of the pass's core that it has still to make
 abbrev pub todo : View → List Operation
-todo v = drop (length (own v).made) (part v.cores (own v).core v.course)
+todo v = drop (length (own v).made) (operations_of v.cores (own v).core v.course)
 
 -- it is the pass that the board was made with
 abbrev pub IsMaker : View → Type 0
@@ -77,7 +77,7 @@ IsMaker v = v.holding ≡ Maker (back v)
 pub record IsGiven (v : View) : Type 0 where
   pub role : v.holding ≡ Given (own v)
   pub among : (own v).core < v.cores
-  pub whole : part v.cores (own v).core v.course ≡ (own v).made ++ todo v
+  pub whole : operations_of v.cores (own v).core v.course ≡ (own v).made ++ todo v
 
 -- this is the operation that it has to make next
 abbrev pub IsNext : View → Operation → Type 0

@@ -1,7 +1,7 @@
 //! The rule in words.
 ghost use Rattle.atomic_table.specs.Table.{State};
 ghost use Rattle.clock_board.specs.declared.known.View.{View};
-ghost use Rattle.clock_board.specs.Told.{IsTold};
+ghost use Rattle.clock_board.specs.InWords.{HoldsInWords};
 
 use crate::course::Course;
 use crate::known;
@@ -13,5 +13,5 @@ use atomic_table::TableRule;
 pub fn rule_in_words<C: Course>()
     ensures { (course : C) (s : State Unit View)
         → ⟦<Law<C> as TableRule<(), known::View, C>>⟧.holds course s
-        → IsTold (C.cores course) (C.all course) s.words s.views }
+        → HoldsInWords (C.cores course) (C.all course) s.words s.views }
 {}

@@ -24,6 +24,8 @@
 //!
 //! What is not promised: that a core gets on, that waiting ends, that no two cores wait for one
 //! another, or that threads run at the same time.
+//!
+//! What its words mean stands in [the glossary](../../../docs/GLOSSARY.md).
 #![tactic(auto)]
 
 mod board;

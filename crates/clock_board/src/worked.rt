@@ -2,7 +2,7 @@
 //! caller of the board is written: publish the stamp of the next operation, look at the other clocks
 //! until they are at or past it, make it, and at the end publish a stamp past the course.
 ghost use Rattle.std.specs.Prelude.{◌≡◌, ◌≤◌, ◌<◌, [], ◌∷◌, IfOk, slice_index};
-ghost use Rattle.shared_order.specs.Operation.{load, store, part};
+ghost use Rattle.shared_order.specs.Operation.{load, store, operations_of};
 ghost use Rattle.clock_board.specs.Record.{clock_of, greatest, empty, with_look, with_operation};
 ghost use Rattle.clock_board.specs.View.{own, todo, maker as new_maker, given, IsGiven};
 ghost use Rattle.clock_board.specs.Board.{IsPassOf};
@@ -182,8 +182,8 @@ pub fn two_cores_at_once<R: Threads + Wait + Sync>(
 /// What the definitions say of this course: the parts of its cores, what core 1 has still to make
 /// after its first load, what its clock shows, and what it has seen at most. A law: it does nothing.
 pub fn worked_records()
-    ensures parts { (part 2 0 two ≡ store 8 5 7 ∷ [])
-        × (part 2 1 two ≡ load 5 5 0 ∷ load 13 5 7 ∷ []) }
+    ensures parts { (operations_of 2 0 two ≡ store 8 5 7 ∷ [])
+        × (operations_of 2 1 two ≡ load 5 5 0 ∷ load 13 5 7 ∷ []) }
     ensures left { todo (given (new_maker 2 two) (with_operation (empty 1) (load 5 5 0)))
         ≡ load 13 5 7 ∷ [] }
     ensures clock { (clock_of [] ≡ 0) × (clock_of (5 ∷ 13 ∷ []) ≡ 13) }

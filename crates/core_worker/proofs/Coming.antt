@@ -2,7 +2,7 @@
 use Rattle.std.proofs.Common.{◌≡◌, ℕ, zero, suc, ◌+◌, ◌*◌, ◌<◌, ◌≤◌, true, false, List, [], ◌∷◌, ◌++◌, length, take, drop, refl, sym, ap, ◌∙◌, subst, append_assoc, append-nil, ◌-◌, arith}
 use Rattle.std.specs.List.{AllByRecursion as Each}
 use Rattle.std.proofs.Math.Nat.{mul-le-mul_right}
-use Rattle.std.proofs.lemmas.List.{length-take}
+use Rattle.std.proofs.lemmas.List.{length-take, append_cancel_left}
 use Rattle.slot_arbiter.specs.Stamp.{stamp}
 use Rattle.slot_arbiter.specs.declared.event.WordOp.{WordOp}
 use Rattle.slot_arbiter.specs.declared.event.Event.{Event}
@@ -15,12 +15,13 @@ use Rattle.shared_order.specs.Event.{filled, asked_by}
 use Rattle.shared_order.specs.Apart.{Alone, turn_apart, apart}
 use Rattle.shared_order.proofs.Lists.{loads-append, each_map, each-append}
 use Rattle.shared_order.proofs.Runs.{stamps_fed}
-use Rattle.patmos_core.specs.State.{Core}
-use Rattle.patmos_core.specs.Cycle.{turn}
-use Rattle.patmos_core.specs.Apart.{apart_from}
-use Rattle.patmos_core.specs.Position.{IsNextOf, HasMadeAll, EventFits}
-use Rattle.core_worker.specs.Runs.{Makes}
+use Rattle.patmos_model.specs.State.{Core}
+use Rattle.patmos_model.specs.Cycle.{turn}
+use Rattle.patmos_model.specs.Apart.{apart_from}
+use Rattle.patmos_core.specs.Position.{IsNextOf, IsWholeOf, HasMadeAll, EventFits}
+use Rattle.core_worker.specs.Runs.{Makes, IsNextWhole}
 use Rattle.core_worker.specs.Pieces.{stamp_from}
+use Rattle.shared_order.proofs.Events.{stamps_filled, first_at}
 
 -- ---- stamps of cycles
 
@@ -78,41 +79,32 @@ goes_further s u made all more h one two = record {
 }
 
 -- what is next before the end of a piece is next before the limit
-pub next_of_limit : (x : Core) (made : List Operation) (end limit : ℕ) (e : Event) → end ≤ limit → e.stamp < stamp_from x.plain.site.cores end → IsNextOf x made end e → IsNextOf x made limit e
+next_of_limit : (x : Core) (made : List Operation) (end limit : ℕ) (e : Event) → end ≤ limit → e.stamp < stamp_from x.plain.site.cores end → IsNextOf x made end e → IsNextOf x made limit e
 next_of_limit x made end limit e within below next = λ more.
     goes_further e.stamp (stamp_from x.plain.site.cores end) (made ++ asked_by e more) (apart_from x (loads made ++ more) end).made (apart_from x (loads made ++ more) limit).made
     (omega (arith, below)) (next more) (apart_later turn x.plain.site.cores x.plain.site.core x (loads made ++ more) end limit within)
 
--- and fits there
+-- and what is whole before the end of the piece is whole before the limit
+whole_of_limit : (x : Core) (made : List Operation) (end limit : ℕ) (e : Event) → end ≤ limit → e.stamp < stamp_from x.plain.site.cores end → IsWholeOf x made end e → IsWholeOf x made limit e
+whole_of_limit x made end limit e within below whole = λ more. record {
+  rest = (whole more).rest;
+  left = (whole more).left;
+  goes_on = goes_further (suc e.stamp) (stamp_from x.plain.site.cores end) (made ++ (asked_by e more ++ (whole more).rest)) (apart_from x (loads made ++ more) end).made (apart_from x (loads made ++ more) limit).made
+      (omega (arith, below)) (whole more).goes_on (apart_later turn x.plain.site.cores x.plain.site.core x (loads made ++ more) end limit within);
+}
+
+-- so that both hold there
+pub next_whole : (x : Core) (made : List Operation) (end limit : ℕ) (e : Event) → end ≤ limit → e.stamp < stamp_from x.plain.site.cores end → IsNextOf x made end e → IsWholeOf x made end e → IsNextWhole x made limit e
+next_whole x made end limit e within below next whole =
+    record { next = next_of_limit x made end limit e within below next; whole = whole_of_limit x made end limit e within below whole }
+
+-- and it fits there
 pub fits_limit : (place : Place) (end limit : ℕ) (e : Event) → end ≤ limit → EventFits place end e → EventFits place limit e
 fits_limit place end limit e within fits =
     let k : stamp_from place.cores end ≤ stamp_from place.cores limit = stamps_rise place.cores end limit within in
-    record { core = fits.core; below = omega (arith, fits.below, k); some = fits.some; words = fits.words; unread = fits.unread }
+    record { core = fits.core; below = omega (arith, fits.below, k); some = fits.some; words = fits.words; unread = fits.unread; loads_first = fits.loads_first }
 
 -- ---- in a list that is made and then left
-
--- two lists that begin with the same go on with the same
-cancel : (xs ys zs : List Operation) → xs ++ ys ≡ xs ++ zs → ys ≡ zs
-cancel [] ys zs e = e
-cancel (x ∷ xs) ys zs e = cancel xs ys zs (ap (drop 1) e)
-
--- an event's operations have its stamp
-pub stamps_filled : (s : ℕ) (acts : List WordOp) (values : List ℕ) → Each (λ o. o.stamp ≡ s) (filled s acts values)
-stamps_filled s [] values = tt
-stamps_filled s (a ∷ acts) values =
-    elim a.write as (λ b. Each (λ o. o.stamp ≡ s) (elim b as (λ _. List Operation) [ true ↦ store s a.word a.value ∷ filled s acts values | false ↦ load s a.word (first values) ∷ filled s acts (others values) ])) [
-      | true ↦ (refl, stamps_filled s acts values)
-      | false ↦ (refl, stamps_filled s acts (others values))
-    ]
-
--- so no stamp that they are at or past is past it
-first_at : (s t : ℕ) (acts : List WordOp) (values : List ℕ) (later : List Operation) → 0 < length acts → Each (λ o. s ≤ o.stamp) (filled t acts values ++ later) → s ≤ t
-first_at s t [] values later some h = absurd (omega (arith, some))
-first_at s t (a ∷ acts) values later some h =
-    elim a.write as (λ b. Each (λ o. s ≤ o.stamp) (elim b as (λ _. List Operation) [ true ↦ store t a.word a.value ∷ filled t acts values | false ↦ load t a.word (first values) ∷ filled t acts (others values) ] ++ later) → s ≤ t) [
-      | true ↦ λ k. k.0
-      | false ↦ λ k. k.0
-    ] h
 
 module _ (x : Core) (made left list : List Operation) (limit : ℕ) (makes : Makes x list limit) (whole : list ≡ made ++ left) where
   -- its run apart on the list's own values
@@ -125,7 +117,7 @@ module _ (x : Core) (made left list : List Operation) (limit : ℕ) (makes : Mak
       let h : GoesOn e.stamp (made ++ asked_by e (loads left)) (apart_from x (loads made ++ loads left) limit).made = next (loads left) in
       record {
         later = h.later;
-        whole = cancel made left (asked_by e (loads left) ++ h.later) (sym makes_whole ∙ h.whole ∙ append_assoc made (asked_by e (loads left)) h.later);
+        whole = append_cancel_left made left (asked_by e (loads left) ++ h.later) (sym makes_whole ∙ h.whole ∙ append_assoc made (asked_by e (loads left)) h.later);
         from = h.from;
       }
 
@@ -149,8 +141,8 @@ module _ (x : Core) (made left list : List Operation) (limit : ℕ) (makes : Mak
       let far : GoesOn (stamp_from x.plain.site.cores end) (apart_from x (loads made ++ loads left) end).made (apart_from x (loads made ++ loads left) limit).made =
       apart_later turn x.plain.site.cores x.plain.site.core x (loads made ++ loads left) end limit within in
       subst (Each (λ o. stamp_from x.plain.site.cores end ≤ o.stamp))
-      (sym (cancel made left far.later (sym makes_whole ∙ far.whole ∙ ap (λ a. a.made ++ far.later) (all (loads left))))) far.from
+      (sym (append_cancel_left made left far.later (sym makes_whole ∙ far.whole ∙ ap (λ a. a.made ++ far.later) (all (loads left))))) far.from
 
   -- and at the limit nothing is left
   pub none_left : HasMadeAll x made limit → left ≡ []
-  none_left all = cancel made left [] (sym makes_whole ∙ ap (λ a. a.made) (all (loads left)) ∙ sym (append-nil made))
+  none_left all = append_cancel_left made left [] (sym makes_whole ∙ ap (λ a. a.made) (all (loads left)) ∙ sym (append-nil made))

@@ -9,13 +9,13 @@ use Rattle.clock_board.specs.declared.known.Look.{Look}
 use Rattle.clock_board.specs.declared.known.View.{View}
 use Rattle.clock_board.specs.Record.{clock_of}
 use Rattle.clock_board.specs.View.{own, todo, IsGiven}
-use Rattle.clock_board.proofs.Steps.{each_rest}
 use Rattle.patmos_core.specs.declared.cpu.Core.{Core as Cpu}
-use Rattle.patmos_core.specs.State.{Core}
-use Rattle.patmos_core.specs.Position.{StandsFor, waiting_of, limit_of, place_of, room_of, IsNextOf}
-use Rattle.core_worker.specs.Runs.{listed, RunsAs, GoesOnAs, with_made, with_published, with_looks}
+use Rattle.patmos_model.specs.State.{Core}
+use Rattle.patmos_core.specs.Position.{StandsFor, waiting_of, limit_of, place_of, room_of}
+use Rattle.core_worker.specs.Runs.{listed, RunsAs, GoesOnAs, IsNextWhole, with_made, with_published, with_looks}
 use Rattle.core_worker.specs.Kept.{IsShown, HasEnded, IsKept}
 use Rattle.core_worker.proofs.Coming.{comes_first}
+use Rattle.shared_order.proofs.Lists.{each_rest}
 
 -- ---- later than later
 
@@ -91,14 +91,14 @@ module _ (limit reached : ℕ) (ended : Bool) (k : Cpu) (v : View) (kept : IsKep
   pub shown_event : IsShown (place_of k) limit (own v).published e
   shown_event = let h : IfSome (Some e) (IsShown (place_of k) limit (own v).published) = subst (λ w. IfSome w (IsShown (place_of k) limit (own v).published)) waits kept.waits in h
 
-  -- it comes next in the run
-  pub next_event : (x : Core) → RunsAs x limit k v → IsNextOf x (own v).made limit e
-  next_event x r = let h : IfSome (Some e) (IsNextOf x (own v).made limit) = subst (λ w. IfSome w (IsNextOf x (own v).made limit)) waits r.next in h
+  -- it comes next in the run, and is whole
+  pub next_event : (x : Core) → RunsAs x limit k v → IsNextWhole x (own v).made limit e
+  next_event x r = let h : IfSome (Some e) (IsNextWhole x (own v).made limit) = subst (λ w. IfSome w (IsNextWhole x (own v).made limit)) waits r.next in h
 
   -- what is left begins with its operations
   pub begins_left : (later : List Operation) × (todo v ≡ asked_by e (loads (todo v)) ++ later)
   begins_left =
-      let h = comes_first kept.run.0 (own v).made (todo v) (listed v) limit kept.run.1.makes kept.given.whole e (next_event kept.run.0 kept.run.1) in
+      let h = comes_first kept.run.0 (own v).made (todo v) (listed v) limit kept.run.1.makes kept.given.whole e (next_event kept.run.0 kept.run.1).next in
       (h.later, h.whole)
 
   -- it is made and told
@@ -119,7 +119,7 @@ module _ (limit reached : ℕ) (ended : Bool) (k : Cpu) (v : View) (kept : IsKep
       runs = λ x r. record {
         stands = subst (StandsFor k' x) (sym made_is) (stands_so x (own v).made r.stands);
         makes = r.makes;
-        next = subst (λ w. IfSome w (IsNextOf x made limit)) (sym free) tt;
+        next = subst (λ w. IfSome w (IsNextWhole x made limit)) (sym free) tt;
       };
       place = place;
       room = room;
@@ -129,8 +129,8 @@ module _ (limit reached : ℕ) (ended : Bool) (k : Cpu) (v : View) (kept : IsKep
     }
 
     -- and keeps what a worker keeps
-    told_kept : IsKept limit reached ended k' (with_made v made)
-    told_kept = record {
+    resumed_kept : IsKept limit reached ended k' (with_made v made)
+    resumed_kept = record {
       given = given';
       cores = ap (λ p. p.cores) place ∙ kept.cores;
       core = ap (λ p. p.core) place ∙ kept.core;
@@ -147,13 +147,13 @@ module _ (limit reached : ℕ) (ended : Bool) (k : Cpu) (v : View) (kept : IsKep
     }
 
   -- told of a pass that differs in what it made alone
-  pub kept_told : (k' : Cpu) (v' : View) (values : List ℕ) → IsGiven v' → v' ≡ with_made v (own v').made → (own v').made ≡ (own v).made ++ asked_by e values → todo v ≡ asked_by e values ++ todo v'
+  pub kept_resumed : (k' : Cpu) (v' : View) (values : List ℕ) → IsGiven v' → v' ≡ with_made v (own v').made → (own v').made ≡ (own v).made ++ asked_by e values → todo v ≡ asked_by e values ++ todo v'
       → IfSome (waiting_of k) (λ f. (x : Core) (made : List Operation) → StandsFor k x made → StandsFor k' x (made ++ asked_by f values))
       → waiting_of k' ≡ None → limit_of k' ≡ limit_of k → place_of k' ≡ place_of k → room_of k' ≡ room_of k
       → IsKept limit reached ended k' v' × GoesOnAs limit k v k' v'
-  kept_told k' v' values given' same made_is left_is stands free at place room =
+  kept_resumed k' v' values given' same made_is left_is stands free at place room =
       let given'' : IsGiven (with_made v (own v').made) = subst IsGiven same given' in
       let left'' : todo v ≡ asked_by e values ++ todo (with_made v (own v').made) = left_is ∙ ap (λ u. asked_by e values ++ todo u) same in (
-        subst (IsKept limit reached ended k') (sym same) (told_kept k' values (own v').made given'' made_is left'' stands free at place room),
+        subst (IsKept limit reached ended k') (sym same) (resumed_kept k' values (own v').made given'' made_is left'' stands free at place room),
         subst (GoesOnAs limit k v k') (sym same) (made_goes_on k' values (own v').made given'' made_is left'' stands free at place room),
       )

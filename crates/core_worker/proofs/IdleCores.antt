@@ -3,10 +3,10 @@ use Rattle.std.proofs.Common.{◌≡◌, ℕ, List, [], sym, ap, subst}
 use Rattle.slot_arbiter.specs.declared.place.Place.{Place}
 use Rattle.shared_order.specs.declared.operation.Operation.{Operation}
 use Rattle.shared_order.proofs.ByCycles.{stands_by_cycles}
-use Rattle.patmos_core.specs.Begin.{idle, no_code}
-use Rattle.patmos_core.specs.Cycle.{turn}
-use Rattle.patmos_core.specs.Apart.{site_of}
-use Rattle.patmos_core.proofs.Idle.{idle_stands}
+use Rattle.patmos_model.specs.Begin.{idle, no_code}
+use Rattle.patmos_model.specs.Cycle.{turn}
+use Rattle.patmos_model.specs.Apart.{site_of}
+use Rattle.patmos_model.proofs.Idle.{idle_stands}
 use Rattle.core_worker.specs.Runs.{Makes}
 
 pub idle_makes : (place : Place) (list : List Operation) (limit : ℕ) → list ≡ [] → Makes (idle (site_of place no_code)) list limit

@@ -14,10 +14,10 @@ use Rattle.core_worker.specs.Runs.{with_made}
 -- the accesses before `rest` are made: their loads gave the values; what was made and what is left changed by
 -- their operations; and what is left begins with those of the rest
 pub record IsPartlyMade (s : ℕ) (acts rest : List WordOp) (made left made' left' : List Operation) (values : List ℕ) : Type 0 where
-  pub front : List Operation
-  pub asked : (more : List ℕ) → filled s acts (values ++ more) ≡ front ++ filled s rest more
-  pub made_is : made' ≡ made ++ front
-  pub left_is : left ≡ front ++ left'
+  pub prefix : List Operation
+  pub asked : (more : List ℕ) → filled s acts (values ++ more) ≡ prefix ++ filled s rest more
+  pub made_is : made' ≡ made ++ prefix
+  pub left_is : left ≡ prefix ++ left'
   pub later : List Operation
   pub next : left' ≡ filled s rest (loads left') ++ later
 
@@ -40,20 +40,20 @@ module _ (s : ℕ) (acts : List WordOp) (a : WordOp) (rest : List WordOp) (made 
 
   module _ (o : Operation) (made'' left'' : List Operation) (more_made : made'' ≡ made' ++ o ∷ []) (less_left : left' ≡ o ∷ left'') where
     -- what is made grows by it
-    made_so : made'' ≡ made ++ (h.front ++ o ∷ [])
-    made_so = more_made ∙ ap (λ l. l ++ o ∷ []) h.made_is ∙ append_assoc made h.front (o ∷ [])
+    made_so : made'' ≡ made ++ (h.prefix ++ o ∷ [])
+    made_so = more_made ∙ ap (λ l. l ++ o ∷ []) h.made_is ∙ append_assoc made h.prefix (o ∷ [])
 
     -- and what is left shrinks
-    left_so : left ≡ (h.front ++ o ∷ []) ++ left''
-    left_so = h.left_is ∙ ap (λ l. h.front ++ l) less_left ∙ sym (append_assoc h.front (o ∷ []) left'')
+    left_so : left ≡ (h.prefix ++ o ∷ []) ++ left''
+    left_so = h.left_is ∙ ap (λ l. h.prefix ++ l) less_left ∙ sym (append_assoc h.prefix (o ∷ []) left'')
 
   -- the store is made
   store_made : (made'' left'' : List Operation) → a.write ≡ true → made'' ≡ made' ++ store s a.word a.value ∷ [] → left' ≡ store s a.word a.value ∷ left'' → IsPartlyMade s acts rest made left made'' left'' values
   store_made made'' left'' e more_made less_left =
       let o : Operation = store s a.word a.value in
       record {
-        front = h.front ++ o ∷ [];
-        asked = λ more. h.asked more ∙ ap (λ l. h.front ++ l) (filled_store s a rest more e) ∙ sym (append_assoc h.front (o ∷ []) (filled s rest more));
+        prefix = h.prefix ++ o ∷ [];
+        asked = λ more. h.asked more ∙ ap (λ l. h.prefix ++ l) (filled_store s a rest more e) ∙ sym (append_assoc h.prefix (o ∷ []) (filled s rest more));
         made_is = made_so o made'' left'' more_made less_left;
         left_is = left_so o made'' left'' more_made less_left;
         later = h.later;
@@ -65,9 +65,9 @@ module _ (s : ℕ) (acts : List WordOp) (a : WordOp) (rest : List WordOp) (made 
   load_made v made'' left'' e more_made less_left =
       let o : Operation = load s a.word v in
       record {
-        front = h.front ++ o ∷ [];
+        prefix = h.prefix ++ o ∷ [];
         asked = λ more. ap (λ l. filled s acts l) (append_assoc values (v ∷ []) more) ∙ h.asked (v ∷ more)
-            ∙ ap (λ l. h.front ++ l) (filled_load s a rest (v ∷ more) e) ∙ sym (append_assoc h.front (o ∷ []) (filled s rest more));
+            ∙ ap (λ l. h.prefix ++ l) (filled_load s a rest (v ∷ more) e) ∙ sym (append_assoc h.prefix (o ∷ []) (filled s rest more));
         made_is = made_so o made'' left'' more_made less_left;
         left_is = left_so o made'' left'' more_made less_left;
         later = h.later;
@@ -101,9 +101,9 @@ pub all_done : (s : ℕ) (acts : List WordOp) (made left made' left' : List Oper
     → (made' ≡ made ++ filled s acts values) × (left ≡ filled s acts values ++ left')
 all_done s acts made left made' left' values i j end h =
     let k : IsPartlyMade s acts [] made left made' left' (take j values) = subst (λ l. IsPartlyMade s acts l made left made' left' (take j values)) (drop_all i acts end) h in
-    let front : filled s acts values ≡ k.front = ap (filled s acts) (sym (take-append-drop j values)) ∙ k.asked (drop j values) ∙ append-nil k.front in
-    (k.made_is ∙ ap (λ l. made ++ l) (sym front), k.left_is ∙ ap (λ l. l ++ left') (sym front))
+    let prefix : filled s acts values ≡ k.prefix = ap (filled s acts) (sym (take-append-drop j values)) ∙ k.asked (drop j values) ∙ append-nil k.prefix in
+    (k.made_is ∙ ap (λ l. made ++ l) (sym prefix), k.left_is ∙ ap (λ l. l ++ left') (sym prefix))
 
 -- but for what it made the pass knows what it knew
 pub same_made : (v0 v v' : View) (o : Operation) → v ≡ with_made v0 (own v).made → v' ≡ given v (with_operation (own v) o) → v' ≡ with_made v0 (own v').made
-same_made v0 v v' o was told = told ∙ ap (λ u. given u (with_operation (own u) o)) was ∙ ap (with_made v0) (sym (ap (λ u. (own u).made) told))
+same_made v0 v v' o was resumed = resumed ∙ ap (λ u. given u (with_operation (own u) o)) was ∙ ap (with_made v0) (sym (ap (λ u. (own u).made) resumed))

@@ -10,15 +10,15 @@ use Rattle.clock_board.specs.Record.{clock_of, with_stamp}
 use Rattle.clock_board.specs.View.{own, todo, given, IsGiven}
 use Rattle.clock_board.proofs.Steps.{clock-push}
 use Rattle.patmos_core.specs.declared.cpu.Core.{Core as Cpu}
-use Rattle.patmos_core.specs.State.{Core}
-use Rattle.patmos_core.specs.Position.{StandsFor, waiting_of, limit_of, place_of, room_of, IsThrough, IsNextOf, HasMadeAll, EventFits, event_of}
+use Rattle.patmos_model.specs.State.{Core}
+use Rattle.patmos_core.specs.Position.{StandsFor, waiting_of, limit_of, place_of, room_of, IsThrough, IsNextOf, IsWholeOf, HasMadeAll, EventFits, event_of}
 use Rattle.patmos_core.specs.declared.cpu.Next.{Next}
 use Rattle.patmos_core.specs.declared.cpu.Next.TheVariants as next
 use Rattle.patmos_core.proofs.Sites.{sited}
-use Rattle.core_worker.specs.Runs.{listed, RunsAs, GoesOnAs}
+use Rattle.core_worker.specs.Runs.{listed, RunsAs, GoesOnAs, IsNextWhole}
 use Rattle.core_worker.specs.Pieces.{piece_end, stamp_from}
 use Rattle.core_worker.specs.Kept.{IsShown, HasEnded, IsKept}
-use Rattle.core_worker.proofs.Coming.{stamps_rise, next_of_limit, fits_limit, none_before, not_before, all_late, none_left}
+use Rattle.core_worker.proofs.Coming.{stamps_rise, next_whole, fits_limit, none_before, not_before, all_late, none_left}
 
 module _ (limit reached : ℕ) (ended : Bool) (k k' : Cpu) (v : View) (kept : IsKept limit reached ended k v)
     (stands : (x : Core) (made : List Operation) → StandsFor k x made → StandsFor k' x made) (place : place_of k' ≡ place_of k) (room : room_of k' ≡ room_of k)
@@ -38,21 +38,22 @@ module _ (limit reached : ℕ) (ended : Bool) (k k' : Cpu) (v : View) (kept : Is
   -- ---- it has an event there
 
   module _ (e : Event) (waits : waiting_of k' ≡ Some e) (fits : EventFits (place_of k) (end) e) (sized : length e.ops ≡ 8)
-      (next : (x : Core) (made : List Operation) → StandsFor k x made → IsNextOf x made (end) e) where
-    -- it comes next in the run up to the limit
-    next_at_limit : (x : Core) → RunsAs x limit k v → IsNextOf x (own v).made limit e
+      (next : (x : Core) (made : List Operation) → StandsFor k x made → IsNextOf x made end e)
+      (whole : (x : Core) (made : List Operation) → StandsFor k x made → IsWholeOf x made end e) where
+    -- it comes next in the run up to the limit, and is whole
+    next_at_limit : (x : Core) → RunsAs x limit k v → IsNextWhole x (own v).made limit e
     next_at_limit x r =
         let below : e.stamp < stamp_from x.plain.site.cores end = subst (λ n. e.stamp < stamp_from n end) (sym (sited k x (own v).made r.stands).0) fits.below in
-        next_of_limit x (own v).made end limit e end_within below (next x (own v).made r.stands)
+        next_whole x (own v).made end limit e end_within below (next x (own v).made r.stands) (whole x (own v).made r.stands)
 
     -- nothing that is left is before it
     pub event_left : Each (λ o. e.stamp ≤ o.stamp) (todo v)
-    event_left = none_before kept.run.0 (own v).made (todo v) (listed v) limit kept.run.1.makes kept.given.whole e (next_at_limit kept.run.0 kept.run.1)
+    event_left = none_before kept.run.0 (own v).made (todo v) (listed v) limit kept.run.1.makes kept.given.whole e (next_at_limit kept.run.0 kept.run.1).next
 
     -- the clock is not past it
     pub event_late : clock_of (own v).published ≤ e.stamp
     event_late =
-        not_before kept.run.0 (own v).made (todo v) (listed v) limit kept.run.1.makes kept.given.whole (clock_of (own v).published) e (next_at_limit kept.run.0 kept.run.1) fits.some sized kept.left
+        not_before kept.run.0 (own v).made (todo v) (listed v) limit kept.run.1.makes kept.given.whole (clock_of (own v).published) e (next_at_limit kept.run.0 kept.run.1).next fits.some sized kept.left
 
     -- once its stamp is published the worker goes on as the same
     pub event_goes_on : GoesOnAs limit k v k' (given v (with_stamp (own v) e.stamp))
@@ -60,7 +61,7 @@ module _ (limit reached : ℕ) (ended : Bool) (k k' : Cpu) (v : View) (kept : Is
       runs = λ x r. record {
         stands = stands x (own v).made r.stands;
         makes = r.makes;
-        next = subst (λ w. IfSome w (IsNextOf x (own v).made limit)) (sym waits) (next_at_limit x r);
+        next = subst (λ w. IfSome w (IsNextWhole x (own v).made limit)) (sym waits) (next_at_limit x r);
       };
       place = place;
       room = room;
@@ -107,7 +108,7 @@ module _ (limit reached : ℕ) (ended : Bool) (k k' : Cpu) (v : View) (kept : Is
       runs = λ x r. record {
         stands = stands x (own v).made r.stands;
         makes = r.makes;
-        next = subst (λ w. IfSome w (IsNextOf x (own v).made limit)) (sym waits) tt;
+        next = subst (λ w. IfSome w (IsNextWhole x (own v).made limit)) (sym waits) tt;
       };
       place = place;
       room = room;

@@ -64,7 +64,7 @@ module _ (wanted core d : ℕ) (before after : List Look) (h : IsLooking wanted 
 
     -- it showed less than the stamp
     pub looks_low : s < wanted → SawOne wanted d s before after'
-    looks_low low = record { front = h.new; looked = has_looked; high = h.high; low = low }
+    looks_low low = record { prefix = h.new; looked = has_looked; high = h.high; low = low }
 
     -- it did not, and the worker looks on
     pub looks_more : wanted ≤ s → greatest d after' ≡ max (greatest d after) s → ((e : ℕ) → e ≢ d → greatest e after' ≡ greatest e after) → IsLooking wanted core (d + 1) before after'
@@ -81,4 +81,4 @@ module _ (wanted core d : ℕ) (before after : List Look) (h : IsLooking wanted 
 
 -- but for the looks the pass knows what it knew
 pub same_look : (v0 v v' : View) (d s : ℕ) → v ≡ with_looks v0 (own v).looks → v' ≡ given v (with_look (own v) d s) → v' ≡ with_looks v0 (own v').looks
-same_look v0 v v' d s was told = told ∙ ap (λ u. given u (with_look (own u) d s)) was ∙ ap (with_looks v0) (sym (ap (λ u. (own u).looks) told))
+same_look v0 v v' d s was resumed = resumed ∙ ap (λ u. given u (with_look (own u) d s)) was ∙ ap (with_looks v0) (sym (ap (λ u. (own u).looks) resumed))

@@ -6,9 +6,9 @@ use Rattle.shared_order.specs.Event.{asked_by}
 use Rattle.clock_board.specs.View.{own, HasSeen}
 use Rattle.clock_board.specs.Board.{PassFace}
 use Rattle.patmos_core.specs.declared.cpu.Core.{Core as Cpu}
-use Rattle.patmos_core.specs.State.{Core}
-use Rattle.patmos_core.specs.Position.{waiting_of, place_of, IsNextOf, EventFits}
-use Rattle.core_worker.specs.Runs.{RunsAs, GoesOnAs, with_made, with_published, with_looks}
+use Rattle.patmos_model.specs.State.{Core}
+use Rattle.patmos_core.specs.Position.{waiting_of, place_of, EventFits}
+use Rattle.core_worker.specs.Runs.{RunsAs, GoesOnAs, IsNextWhole, with_made, with_published, with_looks}
 use Rattle.core_worker.specs.Pieces.{EndsWith}
 use Rattle.core_worker.specs.Looked.{SawAll, SawOne}
 use Rattle.core_worker.specs.Kept.{IsShown, IsKept}
@@ -22,11 +22,11 @@ module _ (limit limit' reached : ℕ) (ended : Bool) (k k' : Cpu) (p p' : PassFa
     shown : IsShown (place_of k') limit' (own p'.view).published e
     shown = shown_event limit' reached ended k' p'.view kept e waits
 
-    -- it comes next in the run, as it stood before the turn
-    next_in : (x : Core) → RunsAs x limit k p.view → IsNextOf x (own p.view).made limit e
+    -- it comes next in the run, as it stood before the turn, and is whole
+    next_in : (x : Core) → RunsAs x limit k p.view → IsNextWhole x (own p.view).made limit e
     next_in x r =
-        let h : IfSome (Some e) (IsNextOf x (own p'.view).made limit) = subst (λ w. IfSome w (IsNextOf x (own p'.view).made limit)) waits (goes_on.runs x r).next in
-        subst (λ made. IsNextOf x made limit e) (made_kept p.view p'.view same) h
+        let h : IfSome (Some e) (IsNextWhole x (own p'.view).made limit) = subst (λ w. IfSome w (IsNextWhole x (own p'.view).made limit)) waits (goes_on.runs x r).next in
+        subst (λ made. IsNextWhole x made limit e) (made_kept p.view p'.view same) h
 
     -- where the core waited before the turn, it is what it waited for
     the_same : (w : Option Event) → IfSome w (λ f. Some e ≡ Some f) → IfSome w (λ f. e ≡ f)
@@ -38,7 +38,8 @@ module _ (limit limit' reached : ℕ) (ended : Bool) (k k' : Cpu) (p p' : PassFa
     is_next = record {
       fits = subst₂ (λ place most. EventFits place most e) goes_on.place limit_is shown.fits;
       sized = shown.sized;
-      next = next_in;
+      next = λ x r. (next_in x r).next;
+      whole = λ x r. (next_in x r).whole;
       waits = the_same (waiting_of k) before;
     }
 
@@ -57,12 +58,12 @@ module _ (limit limit' reached : ℕ) (ended : Bool) (k k' : Cpu) (p p' : PassFa
     -- no look did, and it was made
     pub moved_turn : (k'' : Cpu) (p'' p''' : PassFace) (limit'' : ℕ) → p''.view ≡ with_looks p'.view (own p''.view).looks → SawAll e.stamp (own p'.view).looks (own p''.view).looks → HasSeen p''.view e.stamp
         → p'''.view ≡ with_made p''.view (own p'''.view).made → (values : List ℕ) × ((own p'''.view).made ≡ (own p''.view).made ++ asked_by e values) → HasMoved (face k p limit) (face k'' p''' limit'')
-    moved_turn k'' p'' p''' limit'' looked high seen told made = record {
+    moved_turn k'' p'' p''' limit'' looked high seen resumed made = record {
       event = e;
       is = is_next;
       values = made.0;
       made = made.1 ∙ ap (λ l. l ++ asked_by e made.0) (ap (λ u. (own u).made) looked ∙ made_kept p.view p'.view same);
-      last = subst (EndsWith e.stamp) (sym (ap (λ u. (own u).published) told ∙ ap (λ u. (own u).published) looked)) shown.shown;
-      seen = subst (λ u. HasSeen u e.stamp) (sym told) seen;
-      looks = subst₂ (SawAll e.stamp) (looks_kept p.view p'.view same) (sym (ap (λ u. (own u).looks) told)) high;
+      last = subst (EndsWith e.stamp) (sym (ap (λ u. (own u).published) resumed ∙ ap (λ u. (own u).published) looked)) shown.shown;
+      seen = subst (λ u. HasSeen u e.stamp) (sym resumed) seen;
+      looks = subst₂ (SawAll e.stamp) (looks_kept p.view p'.view same) (sym (ap (λ u. (own u).looks) resumed)) high;
     }

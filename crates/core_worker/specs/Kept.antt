@@ -1,13 +1,14 @@
 -- What a worker keeps between its steps.
 use Rattle.std.specs.Prelude.{◌≡◌, ℕ, ◌*◌, ◌%◌, ◌<◌, ◌≤◌, Bool, List, None, length, IfSome, IsTrue}
 use Rattle.std.specs.List.{AllByRecursion as Each, Contains}
+use Rattle.slot_arbiter.specs.declared.place.TheConstants.{MOST_CYCLES}
 use Rattle.slot_arbiter.specs.declared.place.Place.{Place}
 use Rattle.slot_arbiter.specs.declared.event.Event.{Event}
 use Rattle.clock_board.specs.declared.known.View.{View}
 use Rattle.clock_board.specs.Record.{clock_of}
 use Rattle.clock_board.specs.View.{own, todo, IsGiven}
 use Rattle.patmos_core.specs.declared.cpu.Core.{Core as Cpu}
-use Rattle.patmos_core.specs.State.{Core}
+use Rattle.patmos_model.specs.State.{Core}
 use Rattle.patmos_core.specs.Position.{waiting_of, limit_of, place_of, IsThrough, EventFits}
 use Rattle.core_worker.specs.Runs.{listed, RunsAs}
 use Rattle.core_worker.specs.Pieces.{piece_end, stamp_from, EndsWith}
@@ -33,7 +34,7 @@ pub record IsKept (limit reached : ℕ) (ended : Bool) (k : Cpu) (v : View) : Ty
   pub given : IsGiven v
   pub cores : (place_of k).cores ≡ v.cores
   pub core : (place_of k).core ≡ (own v).core
-  pub most : limit ≤ 20000000
+  pub most : limit ≤ MOST_CYCLES
   pub within : reached ≤ limit
   pub asked : limit_of k ≤ piece_end limit reached
   pub clock : clock_of (own v).published ≤ stamp_from v.cores (piece_end limit reached)

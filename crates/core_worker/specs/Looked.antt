@@ -23,7 +23,7 @@ pub record SawAll (wanted : ℕ) (before after : List Look) : Type 0 where
 
 -- the last of them, and no other, showed less: this core's clock, and this stamp
 pub record SawOne (wanted core seen : ℕ) (before after : List Look) : Type 0 where
-  pub front : List Look
-  pub looked : HasLooked wanted before after (front ++ look core seen ∷ [])
-  pub high : Each (λ l. wanted ≤ l.seen) front
+  pub prefix : List Look
+  pub looked : HasLooked wanted before after (prefix ++ look core seen ∷ [])
+  pub high : Each (λ l. wanted ≤ l.seen) prefix
   pub low : seen < wanted

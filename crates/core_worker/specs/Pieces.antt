@@ -14,7 +14,7 @@ stamp_from n cycle = 2 * cycle * n
 
 -- the list ends with the stamp
 abbrev pub EndsWith : ℕ → List ℕ → Type 0
-EndsWith stamp list = (front : List ℕ) × (list ≡ front ++ stamp ∷ [])
+EndsWith stamp list = (prefix : List ℕ) × (list ≡ prefix ++ stamp ∷ [])
 
 -- the end of each piece that lies before the clock was published
 abbrev pub ShowsPieces : ℕ → List ℕ → Type 0

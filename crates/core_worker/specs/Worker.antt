@@ -5,8 +5,8 @@ use Rattle.shared_order.specs.Event.{asked_by}
 use Rattle.clock_board.specs.View.{own, HasSeen}
 use Rattle.clock_board.specs.Board.{BoardFace, PassFace, IsPassOf}
 use Rattle.patmos_core.specs.declared.cpu.Core.{Core as Cpu}
-use Rattle.patmos_core.specs.State.{Core}
-use Rattle.patmos_core.specs.Position.{waiting_of, place_of, IsNextOf, EventFits}
+use Rattle.patmos_model.specs.State.{Core}
+use Rattle.patmos_core.specs.Position.{waiting_of, place_of, IsNextOf, IsWholeOf, EventFits}
 use Rattle.core_worker.specs.declared.turn.Turn.{Turn}
 use Rattle.core_worker.specs.declared.turn.Turn.TheVariants.{Moved, Blocked, Ended}
 use Rattle.core_worker.specs.Runs.{RunsAs, GoesOnAs}
@@ -25,11 +25,13 @@ abbrev pub face : Cpu → PassFace → ℕ → WorkerFace
 face core pass limit = record { core = core; pass = pass; limit = limit }
 
 -- the event, which is of one operation or more, comes next in the run of the worker's core, whichever core's
--- it is, below the limit; where the core waits to be told one, it is that
+-- it is, below the limit, and is all of that stamp but for the store of a narrow store; where the core waits to
+-- be told one, it is that
 pub record IsNextEvent (w : WorkerFace) (e : Event) : Type 0 where
   pub fits : EventFits (place_of w.core) w.limit e
   pub sized : length e.ops ≡ 8
   pub next : (x : Core) → RunsAs x w.limit w.core w.pass.view → IsNextOf x (own w.pass.view).made w.limit e
+  pub whole : (x : Core) → RunsAs x w.limit w.core w.pass.view → IsWholeOf x (own w.pass.view).made w.limit e
   pub waits : IfSome (waiting_of w.core) (λ f. e ≡ f)
 
 -- it made its next event, and nothing else: its stamp was published last, every other clock was seen at or

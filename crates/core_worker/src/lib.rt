@@ -14,6 +14,8 @@
 //! Contracts tell of the core for whose run apart a worker stands (`specs/Runs.antt`), of the stamps that it
 //! has published (`specs/Pieces.antt`), and of its looks (`specs/Looked.antt`); what each turn did stands in
 //! `specs/Worker.antt`. That a worker which waits ever goes on is not promised.
+//!
+//! What its words mean stands in [the glossary](../../../docs/GLOSSARY.md).
 #![tactic(auto)]
 
 mod looking;

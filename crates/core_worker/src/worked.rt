@@ -10,7 +10,7 @@ use crate::rounds::run_all;
 use crate::worker::Worker;
 use clock_board::{Board, Course, Pass};
 use patmos_core::Core;
-use slot_arbiter::Place;
+use slot_arbiter::{MOST_CYCLES, Place};
 use std::alloc::Global;
 use std::slice::from_mut;
 use std::sync::Wait;
@@ -38,7 +38,7 @@ fn idle_worker(pass: Pass<NoOperations>, core: u32, limit: u64) -> Worker<NoOper
     requires fresh { own pass.view ≡ empty core }
     requires cores { pass.view.cores ≡ 2 }
     requires course { pass.view.course ≡ [] }
-    requires most { limit ≤ 20000000 }
+    requires most { limit ≤ MOST_CYCLES }
     ensures pass { result.pass ≡ pass }
 {
     let Some(place) = Place::new(2, core, 6, 0) else {
@@ -70,7 +70,7 @@ pub fn two_idle_cores<R: Wait>(
     words: u32,
     limit: u64,
 ) -> Result<Words<u32>, OutOfMemory>
-    requires most { limit ≤ 20000000 }
+    requires most { limit ≤ MOST_CYCLES }
     ensures { IfOk result (λ r. (length r ≡ words) × ((w : ℕ) → w < words → slice_index r w ≡ 0)) }
 {
     let (board, mut maker) = Board::new(alloc, &NoOperations, 2, words)?;
@@ -91,7 +91,7 @@ pub fn two_idle_cores_at_once<R: Threads + Wait + Sync>(
     words: u32,
     limit: u64,
 ) -> Result<Words<u32>, OutOfMemory>
-    requires most { limit ≤ 20000000 }
+    requires most { limit ≤ MOST_CYCLES }
     ensures { IfOk result (λ r. (length r ≡ words) × ((w : ℕ) → w < words → slice_index r w ≡ 0)) }
 {
     let (board, mut maker) = Board::new(alloc, &NoOperations, 2, words)?;

@@ -2,7 +2,7 @@
 ghost use Rattle.std.specs.Prelude.{◌≡◌, ◌≤◌, [], None};
 ghost use Rattle.clock_board.specs.Record.{empty};
 ghost use Rattle.clock_board.specs.View.{own, IsGiven};
-ghost use Rattle.patmos_core.specs.State as state;
+ghost use Rattle.patmos_model.specs.State as state;
 ghost use Rattle.patmos_core.specs.Position.{StandsFor, waiting_of, limit_of, place_of};
 ghost use Rattle.core_worker.specs.Runs.{listed, Makes};
 ghost use Rattle.core_worker.specs.Worker.{face, HasTurned, IsLater, IsOn, IsDone, HasPieces};
@@ -11,7 +11,7 @@ use crate::progress::Progress;
 use crate::turn::Turn;
 use clock_board::{Board, Course, Pass};
 use patmos_core::Core;
-use slot_arbiter::Place;
+use slot_arbiter::{MOST_CYCLES, Place};
 use std::marker::Model;
 use std::sync::Wait;
 use std::thread::yield_now;
@@ -43,7 +43,7 @@ impl<C> Model for Worker<C> {
 
 impl<C> Worker<C> {
     /// The worker of a core that was not stepped yet and of that core's new pass, on a board with as many
-    /// cores as the core's platform has. What the core makes below the limit, at most 20,000,000 cycles, when
+    /// cores as the core's platform has. What the core makes below the limit, at most [`MOST_CYCLES`], when
     /// its loads have the course's values, is the course's list of it.
     pub fn new(core: Core, pass: Pass<C>, limit: u64) -> Worker<C>
         requires waiting { waiting_of core ≡ None }
@@ -51,7 +51,7 @@ impl<C> Worker<C> {
         requires given { IsGiven pass.view }
         requires fresh { own pass.view ≡ empty (place_of core).core }
         requires cores { pass.view.cores ≡ (place_of core).cores }
-        requires most { limit ≤ 20000000 }
+        requires most { limit ≤ MOST_CYCLES }
         requires course { (x : state.Core) × StandsFor core x [] × Makes x (listed pass.view) limit }
         ensures { result ≡ face core pass limit }
     {

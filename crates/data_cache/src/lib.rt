@@ -4,6 +4,8 @@
 //! load brings a line in; a cached store changes a line that is there and brings none in. Nothing else
 //! looks at the cache, so that its words may be stale: they are what this core read, changed by what
 //! it stored itself.
+//!
+//! What its words mean stands in [the glossary](../../../docs/GLOSSARY.md).
 #![tactic(auto)]
 
 mod cache;

@@ -12,11 +12,11 @@ use Rattle.shared_order.proofs.Fits.{good_kept, words_kept, operations_fit}
 use Rattle.slot_arbiter.specs.declared.place.Place.{Place}
 use Rattle.argo_ni.specs.Packet.{comm_word}
 use Rattle.patmos_code.specs.Images.{Parts}
-use Rattle.patmos_core.specs.Begin.{begun, idle, no_code}
-use Rattle.patmos_core.specs.Cycle.{turn}
-use Rattle.patmos_core.specs.Apart.{site_of}
-use Rattle.patmos_core.specs.Range.{IsWord, HasCode, InRange}
-use Rattle.patmos_core.proofs.CoreRanges.{core_keeps, begun_in_range, idle_in_range}
+use Rattle.patmos_model.specs.Begin.{begun, idle, no_code}
+use Rattle.patmos_model.specs.Cycle.{turn}
+use Rattle.patmos_model.specs.Apart.{site_of}
+use Rattle.patmos_model.specs.Range.{IsWord, HasCode, InRange}
+use Rattle.patmos_model.proofs.CoreRanges.{core_keeps, begun_in_range, idle_in_range}
 use Rattle.global_step.specs.declared.loaded.LoadedCore.{LoadedCore}
 use Rattle.global_step.specs.Loaded.{Machine, IsBeside, AreOnePlatform}
 use Rattle.global_step.specs.Machine.{first_core, core_among, machine, all_operations}

@@ -1,12 +1,12 @@
 -- The events of the cores, made in the order of their stamps, make the machine's list.
 use Rattle.std.proofs.Common.{◌≡◌, ◌≢◌, ℕ, zero, suc, ◌+◌, ◌-◌, ◌*◌, ◌%◌, ◌<◌, ◌≤◌, true, false, true≢false, List, [], ◌∷◌, ◌++◌, None, Some, Option, IsSome, IsNone, IfSome, option_map, is_some, slice_get, slice_set, slice_index, length, get_or, map, take, drop, refl, sym, ap, subst, subst₂, ◌∙◌, append_assoc, append-nil, arith}
 use Rattle.std.specs.List.{AllByRecursion as Each}
-use Rattle.std.proofs.lemmas.List.{length-take}
+use Rattle.std.proofs.lemmas.List.{length-take, append_cancel_left}
 use Rattle.std.proofs.lemmas.Option.{none-some, same_Some, slice_get-map}
 use Rattle.slot_arbiter.specs.declared.event.WordOp.{WordOp}
 use Rattle.slot_arbiter.specs.declared.event.Event.{Event}
 use Rattle.shared_order.specs.declared.operation.Operation.{Operation}
-use Rattle.shared_order.specs.Operation.{load, store, loads, part, asking}
+use Rattle.shared_order.specs.Operation.{load, store, loads, operations_of, asking}
 use Rattle.shared_order.specs.Order.{GoesOn}
 use Rattle.shared_order.specs.Words.{put, after, zeros, Reads}
 use Rattle.shared_order.specs.Program.{Prog, get, set, played, first, others}
@@ -16,33 +16,20 @@ use Rattle.shared_order.specs.Apart.{apart}
 use Rattle.shared_order.specs.Merge.{IsMerging, IsMerge}
 use Rattle.shared_order.proofs.Lists.{loads-append}
 use Rattle.shared_order.proofs.Words.{after-append}
-use Rattle.shared_order.proofs.Events.{filled_again}
-use Rattle.shared_order.proofs.Merging.{begins, next, played_reads, part_grows, part_stays}
+use Rattle.shared_order.proofs.Events.{filled_again, first_at}
+use Rattle.shared_order.proofs.Merging.{begins, next, played_reads, operations_grow, operations_stay}
 use Rattle.shared_order.proofs.ByCycles.{merge_is_all, merge_words}
-use Rattle.patmos_core.specs.State.{Core}
-use Rattle.patmos_core.specs.Cycle.{turn}
-use Rattle.patmos_core.specs.Apart.{apart_from}
+use Rattle.patmos_model.specs.State.{Core}
+use Rattle.patmos_model.specs.Cycle.{turn}
+use Rattle.patmos_model.specs.Apart.{apart_from}
 use Rattle.patmos_core.specs.declared.cpu.Core.{Core as Cpu}
-use Rattle.patmos_core.specs.Position.{StandsFor, waiting_of, place_of, parts_of, IsThrough, IsNextOf, HasMadeAll, EventFits}
+use Rattle.patmos_core.specs.Position.{StandsFor, waiting_of, place_of, phases_of, IsThrough, IsNextOf, HasMadeAll, EventFits}
 use Rattle.global_step.specs.PlainEvent.{accesses, made_on}
 use Rattle.global_step.specs.PlainRun.{Every, IsSeated, IsReady, HasNext, stamp_of, Precedes}
 use Rattle.patmos_core.proofs.Sites.{sited}
 use Rattle.global_step.proofs.PlainEvery.{every_at, every_core, every_from, every_set, any}
 
 -- ---- the next event of a core is not before its last one
-
-cancel : (xs ys zs : List Operation) → xs ++ ys ≡ xs ++ zs → ys ≡ zs
-cancel [] ys zs e = e
-cancel (x ∷ xs) ys zs e = cancel xs ys zs (ap (drop 1) e)
-
--- what is asked for has its stamp
-first_at : (s t : ℕ) (acts : List WordOp) (values : List ℕ) (later : List Operation) → 0 < length acts → Each (λ o. s ≤ o.stamp) (filled t acts values ++ later) → s ≤ t
-first_at s t [] values later some h = absurd (omega (arith, some))
-first_at s t (a ∷ acts) values later some h =
-    elim a.write as (λ b. Each (λ o. s ≤ o.stamp) (elim b as (λ _. List Operation) [ true ↦ store t a.word a.value ∷ filled t acts values | false ↦ load t a.word (first values) ∷ filled t acts (others values) ] ++ later) → s ≤ t) [
-      | true ↦ λ k. k.0
-      | false ↦ λ k. k.0
-    ] h
 
 asks_made : (s : ℕ) (acts : List WordOp) (words : ℕ → ℕ) → map asking (played s (accesses acts) words).ops ≡ asks_of s acts
 asks_made s [] words = refl
@@ -67,7 +54,7 @@ later_stamp run made ops e f asks one two some =
     let both : (made ++ ops) ++ (asked_by f [] ++ second_one.later) ≡ (made ++ ops) ++ first_one.later =
     sym (append_assoc (made ++ ops) (asked_by f []) second_one.later) ∙ sym second_one.whole ∙ ap run same ∙ first_one.whole ∙ ap (λ l. (made ++ l) ++ first_one.later) again in
     first_at e.stamp f.stamp (take f.count f.ops) [] second_one.later some
-    (subst (Each (λ o. e.stamp ≤ o.stamp)) (sym (cancel (made ++ ops) (asked_by f [] ++ second_one.later) first_one.later both)) first_one.from)
+    (subst (Each (λ o. e.stamp ≤ o.stamp)) (sym (append_cancel_left (made ++ ops) (asked_by f [] ++ second_one.later) first_one.later both)) first_one.from)
 
 pub not_before : (x : Core) (made : List Operation) (most : ℕ) (e f : Event) (words : ℕ → ℕ) → IsNextOf x made most e → IsNextOf x (made ++ made_on e words) most f → 0 < length (take f.count f.ops) → e.stamp ≤ f.stamp
 not_before x made most e f words one two some =
@@ -87,7 +74,7 @@ pub record Followed (n most : ℕ) (x : ℕ → Core) (cores : List Cpu) (words 
   pub last : ℕ
   pub merging : IsMerging made last
   pub left : words ≡ after made zeros
-  pub due : Every (λ k. IsDue (x k) (part n k made) last most) cores
+  pub due : Every (λ k. IsDue (x k) (operations_of n k made) last most) cores
 
 each_some : (P Q : Cpu → Type 0) → ((c : Cpu) → P c → Q c) → (r : Option Cpu) → IfSome r P → IfSome r Q
 each_some P Q f None h = tt
@@ -127,7 +114,7 @@ module _ (n most : ℕ) (x : ℕ → Core) (cores : List Cpu) (k : ℕ) (c c' : 
     last = e.stamp;
     merging = next h.made ops h.last e.stamp h.merging not_earlier at reads;
     left = (λ i w. words_are w i) ∙ ap (after ops) h.left ∙ sym (after-append h.made ops zeros);
-    due = every_set (λ j. IsDue (x j) (part n j h.made) h.last most) (λ j. IsDue (x j) (part n j (h.made ++ ops)) e.stamp most) cores k c' below h.due here others;
+    due = every_set (λ j. IsDue (x j) (operations_of n j h.made) h.last most) (λ j. IsDue (x j) (operations_of n j (h.made ++ ops)) e.stamp most) cores k c' below h.due here others;
   }
     where
       ops : List Operation
@@ -142,26 +129,26 @@ module _ (n most : ℕ) (x : ℕ → Core) (cores : List Cpu) (k : ℕ) (c c' : 
       at : Each (λ o. o.stamp ≡ e.stamp) ops
       at = both.1
 
-      mine : IsDue (x k) (part n k h.made) h.last most (get_or cores k c)
-      mine = every_at (λ j. IsDue (x j) (part n j h.made) h.last most) cores k c h.due below
+      mine : IsDue (x k) (operations_of n k h.made) h.last most (get_or cores k c)
+      mine = every_at (λ j. IsDue (x j) (operations_of n j h.made) h.last most) cores k c h.due below
 
-      one : IsNextOf (x k) (part n k h.made) most e
-      one = subst (λ r. IfSome r (IsNextOf (x k) (part n k h.made) most)) waits mine.has.next
+      one : IsNextOf (x k) (operations_of n k h.made) most e
+      one = subst (λ r. IfSome r (IsNextOf (x k) (operations_of n k h.made) most)) waits mine.has.next
 
       not_earlier : h.last ≤ e.stamp
       not_earlier = let late : IfSome (Some e) (λ f. 0 < length (take f.count f.ops) → h.last ≤ f.stamp) = subst (λ r. IfSome r (λ f. 0 < length (take f.count f.ops) → h.last ≤ f.stamp)) waits mine.later in late some
 
-      grown : part n k (h.made ++ ops) ≡ part n k h.made ++ ops
-      grown = subst (λ j. part n j (h.made ++ ops) ≡ part n j h.made ++ ops) own (part_grows n h.made ops e.stamp at)
+      grown : operations_of n k (h.made ++ ops) ≡ operations_of n k h.made ++ ops
+      grown = subst (λ j. operations_of n j (h.made ++ ops) ≡ operations_of n j h.made ++ ops) own (operations_grow n h.made ops e.stamp at)
 
-      here : IsDue (x k) (part n k (h.made ++ ops)) e.stamp most c'
+      here : IsDue (x k) (operations_of n k (h.made ++ ops)) e.stamp most c'
       here =
-          let has : HasNext (x k) (part n k h.made ++ ops) most c' = next_of (x k) (part n k h.made) mine.has.stands in
-          subst (λ l. IsDue (x k) l e.stamp most c') (sym grown) (record { has = has; later = later_of (x k) (part n k h.made) most e words one (waiting_of c') has.next })
+          let has : HasNext (x k) (operations_of n k h.made ++ ops) most c' = next_of (x k) (operations_of n k h.made) mine.has.stands in
+          subst (λ l. IsDue (x k) l e.stamp most c') (sym grown) (record { has = has; later = later_of (x k) (operations_of n k h.made) most e words one (waiting_of c') has.next })
 
-      others : (j : ℕ) (o : Cpu) → j < length cores → o ≡ get_or cores j o → j ≢ k → IsDue (x j) (part n j h.made) h.last most o → IsDue (x j) (part n j (h.made ++ ops)) e.stamp most o
+      others : (j : ℕ) (o : Cpu) → j < length cores → o ≡ get_or cores j o → j ≢ k → IsDue (x j) (operations_of n j h.made) h.last most o → IsDue (x j) (operations_of n j (h.made ++ ops)) e.stamp most o
       others j o low is other due =
-          let same : part n j (h.made ++ ops) ≡ part n j h.made = part_stays n j h.made ops e.stamp (λ q. other (sym q ∙ own)) at in
+          let same : operations_of n j (h.made ++ ops) ≡ operations_of n j h.made = operations_stay n j h.made ops e.stamp (λ q. other (sym q ∙ own)) at in
           let before : Precedes (stamp_of (get_or cores k c)) (stamp_of o) = subst₂ (λ a b. Precedes (stamp_of a) (stamp_of b)) (any cores k o c below) (sym is) (least j o low) in
           subst (λ l. IsDue (x j) l e.stamp most o) (sym same) (record {
             has = due.has;
@@ -189,12 +176,12 @@ core_at (c ∷ cs) (suc k) below = core_at cs k (omega (arith, below))
 
 module _ (n most : ℕ) (x : ℕ → Core) (cores : List Cpu) (words : ℕ → ℕ) (some : 0 < n) (count : length cores ≡ n)
     (seated : Every (IsSeated n) cores) (none : Every (λ k c. waiting_of c ≡ None) cores) (h : Followed n most x cores words) where
-  made_all : (k : ℕ) (c : Cpu) → IsSeated n k c → waiting_of c ≡ None → IsDue (x k) (part n k h.made) h.last most c → (apart turn n k (x k) (loads (part n k h.made)) most).made ≡ part n k h.made
+  made_all : (k : ℕ) (c : Cpu) → IsSeated n k c → waiting_of c ≡ None → IsDue (x k) (operations_of n k h.made) h.last most c → (apart turn n k (x k) (loads (operations_of n k h.made)) most).made ≡ operations_of n k h.made
   made_all k c seat free due =
-      let site : (((x k).plain.site.cores ≡ (place_of c).cores) × ((x k).plain.site.core ≡ (place_of c).core)) = sited c (x k) (part n k h.made) due.has.stands in
-      let all : HasMadeAll (x k) (part n k h.made) most = due.has.all (ap is_some free) in
-      subst₂ (λ m core. (apart turn m core (x k) (loads (part n k h.made)) most).made ≡ part n k h.made) (site.0 ∙ seat.cores) (site.1 ∙ seat.core)
-      (ap (λ l. (apart_from (x k) l most).made) (sym (append-nil (loads (part n k h.made)))) ∙ ap (λ a. a.made) (all []))
+      let site : (((x k).plain.site.cores ≡ (place_of c).cores) × ((x k).plain.site.core ≡ (place_of c).core)) = sited c (x k) (operations_of n k h.made) due.has.stands in
+      let all : HasMadeAll (x k) (operations_of n k h.made) most = due.has.all (ap is_some free) in
+      subst₂ (λ m core. (apart turn m core (x k) (loads (operations_of n k h.made)) most).made ≡ operations_of n k h.made) (site.0 ∙ seat.cores) (site.1 ∙ seat.core)
+      (ap (λ l. (apart_from (x k) l most).made) (sym (append-nil (loads (operations_of n k h.made)))) ∙ ap (λ a. a.made) (all []))
 
   merge : IsMerge turn n x most h.made
   merge = record {
@@ -204,15 +191,15 @@ module _ (n most : ℕ) (x : ℕ → Core) (cores : List Cpu) (words : ℕ → �
         let below : k < length cores = omega (arith, among, count) in
         let there = core_at cores k below in
         made_all k there.0 (every_core (IsSeated n) cores k there.0 seated below there.1) (every_core (λ k c. waiting_of c ≡ None) cores k there.0 none below there.1)
-        (every_core (λ k. IsDue (x k) (part n k h.made) h.last most) cores k there.0 h.due below there.1);
+        (every_core (λ k. IsDue (x k) (operations_of n k h.made) h.last most) cores k there.0 h.due below there.1);
   }
 
   pub followed_words : (w : ℕ) → words w ≡ (cycled turn n x most).words w
   followed_words w = ap (λ f. f w) (h.left ∙ sym (merge_words turn n x most h.made some merge))
 
-  pub followed_cores : Every (λ k c. StandsFor c (x k) (part n k (cycled turn n x most).made)) cores
-  followed_cores k = each_some (IsDue (x k) (part n k h.made) h.last most) (λ c. StandsFor c (x k) (part n k (cycled turn n x most).made))
-      (λ c due. subst (λ l. StandsFor c (x k) (part n k l)) (merge_is_all turn n x most h.made some merge) due.has.stands) (slice_get cores k) (h.due k)
+  pub followed_cores : Every (λ k c. StandsFor c (x k) (operations_of n k (cycled turn n x most).made)) cores
+  followed_cores k = each_some (IsDue (x k) (operations_of n k h.made) h.last most) (λ c. StandsFor c (x k) (operations_of n k (cycled turn n x most).made))
+      (λ c due. subst (λ l. StandsFor c (x k) (operations_of n k l)) (merge_is_all turn n x most h.made some merge) due.has.stands) (slice_get cores k) (h.due k)
 
 -- ---- places, and how far the cores have come
 
@@ -229,9 +216,9 @@ seated_still n cores' cores same h k =
 -- how many parts of cycles all cores have before them at most
 abbrev pub parts_left : ℕ → List Cpu → ℕ
 parts_left most [] = 0
-parts_left most (c ∷ cs) = (3 * most - parts_of c) + parts_left most cs
+parts_left most (c ∷ cs) = (3 * most - phases_of c) + parts_left most cs
 
-pub fewer_left : (most : ℕ) (cores : List Cpu) (k : ℕ) (c c' : Cpu) → k < length cores → parts_of (get_or cores k c) < parts_of c' → parts_of (get_or cores k c) < 3 * most → parts_left most (slice_set cores k c') < parts_left most cores
+pub fewer_left : (most : ℕ) (cores : List Cpu) (k : ℕ) (c c' : Cpu) → k < length cores → phases_of (get_or cores k c) < phases_of c' → phases_of (get_or cores k c) < 3 * most → parts_left most (slice_set cores k c') < parts_left most cores
 fewer_left most [] k c c' below further before = absurd (omega (arith, below))
 fewer_left most (o ∷ os) zero c c' below further before = omega (arith, further, before)
 fewer_left most (o ∷ os) (suc k) c c' below further before = omega (arith, fewer_left most os k c c' (omega (arith, below)) further before)

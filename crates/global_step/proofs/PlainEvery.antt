@@ -5,7 +5,7 @@ use Rattle.std.proofs.lemmas.Option.{slice_get-get_or, slice_get_past}
 use Rattle.std.proofs.lemmas.List.{length-set, get_or-set_same, get_or-set_other}
 use Rattle.patmos_core.specs.declared.cpu.Core.{Core as Cpu}
 use Rattle.shared_order.specs.declared.operation.Operation.{Operation}
-use Rattle.patmos_core.specs.State.{Core}
+use Rattle.patmos_model.specs.State.{Core}
 use Rattle.patmos_core.specs.Position.{StandsFor}
 use Rattle.global_step.specs.PlainRun.{Every, Begins, IsReady, HasNext}
 

@@ -8,15 +8,15 @@ use Rattle.shared_order.specs.Operation.{load, store}
 use Rattle.shared_order.specs.Words.{put, after}
 use Rattle.shared_order.specs.Program.{played}
 use Rattle.shared_order.specs.Event.{filled}
-use Rattle.shared_order.proofs.Words.{after-append}
+use Rattle.shared_order.proofs.Words.{after-append, words_put}
 use Rattle.global_step.specs.PlainEvent.{accesses}
 
 -- the accesses before `rest` are made: their loads gave the values, and the words are those after them
 pub record IsPartlyMade (s : ℕ) (acts rest : List WordOp) (begun words : ℕ → ℕ) (values : List ℕ) : Type 0 where
-  pub front : List Operation
-  pub asked : (more : List ℕ) → filled s acts (values ++ more) ≡ front ++ filled s rest more
-  pub made : (played s (accesses acts) begun).ops ≡ front ++ (played s (accesses rest) words).ops
-  pub after : words ≡ after front begun
+  pub prefix : List Operation
+  pub asked : (more : List ℕ) → filled s acts (values ++ more) ≡ prefix ++ filled s rest more
+  pub made : (played s (accesses acts) begun).ops ≡ prefix ++ (played s (accesses rest) words).ops
+  pub after : words ≡ after prefix begun
 
 filled_store : (s : ℕ) (a : WordOp) (rest : List WordOp) (more : List ℕ) → a.write ≡ true → filled s (a ∷ rest) more ≡ store s a.word a.value ∷ filled s rest more
 filled_store s a rest more e = rw e refl
@@ -34,12 +34,12 @@ pub store_made : (s : ℕ) (acts : List WordOp) (a : WordOp) (rest : List WordOp
 store_made s acts a rest begun words words' values e put_is h =
     let o : Operation = store s a.word a.value in
     record {
-      front = h.front ++ o ∷ [];
-      asked = λ more. h.asked more ∙ ap (λ l. h.front ++ l) (filled_store s a rest more e) ∙ sym (append_assoc h.front (o ∷ []) (filled s rest more));
-      made = h.made ∙ ap (λ l. h.front ++ l) (played_store s a rest words e)
-          ∙ ap (λ f. h.front ++ (o ∷ (played s (accesses rest) f).ops)) (sym put_is)
-          ∙ sym (append_assoc h.front (o ∷ []) (played s (accesses rest) words').ops);
-      after = put_is ∙ ap (λ f. put a.word a.value f) h.after ∙ sym (after-append h.front (o ∷ []) begun);
+      prefix = h.prefix ++ o ∷ [];
+      asked = λ more. h.asked more ∙ ap (λ l. h.prefix ++ l) (filled_store s a rest more e) ∙ sym (append_assoc h.prefix (o ∷ []) (filled s rest more));
+      made = h.made ∙ ap (λ l. h.prefix ++ l) (played_store s a rest words e)
+          ∙ ap (λ f. h.prefix ++ (o ∷ (played s (accesses rest) f).ops)) (sym put_is)
+          ∙ sym (append_assoc h.prefix (o ∷ []) (played s (accesses rest) words').ops);
+      after = put_is ∙ ap (λ f. put a.word a.value f) h.after ∙ sym (after-append h.prefix (o ∷ []) begun);
     }
 
 pub load_made : (s : ℕ) (acts : List WordOp) (a : WordOp) (rest : List WordOp) (begun words : ℕ → ℕ) (values : List ℕ) → a.write ≡ false → IsPartlyMade s acts (a ∷ rest) begun words values → IsPartlyMade s acts rest begun words (values ++ words a.word ∷ [])
@@ -47,29 +47,22 @@ load_made s acts a rest begun words values e h =
     let v : ℕ = words a.word in
     let o : Operation = load s a.word v in
     record {
-      front = h.front ++ o ∷ [];
+      prefix = h.prefix ++ o ∷ [];
       asked = λ more. ap (λ l. filled s acts l) (append_assoc values (v ∷ []) more) ∙ h.asked (v ∷ more)
-          ∙ ap (λ l. h.front ++ l) (filled_load s a rest v more e) ∙ sym (append_assoc h.front (o ∷ []) (filled s rest more));
-      made = h.made ∙ ap (λ l. h.front ++ l) (played_load s a rest words e)
-          ∙ sym (append_assoc h.front (o ∷ []) (played s (accesses rest) words).ops);
-      after = h.after ∙ sym (after-append h.front (o ∷ []) begun);
+          ∙ ap (λ l. h.prefix ++ l) (filled_load s a rest v more e) ∙ sym (append_assoc h.prefix (o ∷ []) (filled s rest more));
+      made = h.made ∙ ap (λ l. h.prefix ++ l) (played_load s a rest words e)
+          ∙ sym (append_assoc h.prefix (o ∷ []) (played s (accesses rest) words).ops);
+      after = h.after ∙ sym (after-append h.prefix (o ∷ []) begun);
     }
 
 -- with nothing left, the event is made
 pub all_made : (s : ℕ) (acts : List WordOp) (begun words : ℕ → ℕ) (values more : List ℕ) → IsPartlyMade s acts [] begun words values
     → (filled s acts (values ++ more) ≡ (played s (accesses acts) begun).ops) × ((w : ℕ) → words w ≡ after (played s (accesses acts) begun).ops begun w)
 all_made s acts begun words values more h =
-    let whole : h.front ≡ (played s (accesses acts) begun).ops = sym (append-nil h.front) ∙ sym h.made in
-    (h.asked more ∙ append-nil h.front ∙ whole, λ w i. (h.after ∙ ap (λ l. after l begun) whole) i w)
+    let whole : h.prefix ≡ (played s (accesses acts) begun).ops = sym (append-nil h.prefix) ∙ sym h.made in
+    (h.asked more ∙ append-nil h.prefix ∙ whole, λ w i. (h.after ∙ ap (λ l. after l begun) whole) i w)
 
 -- ---- by the index of the next access
-
-words_put : (ws : List ℕ) (at value : ℕ) → at < length ws → slice_index (slice_set ws at value) ≡ put at value (slice_index ws)
-words_put ws at value within = λ k w. by w (at == w) refl k
-  where
-    by : (w : ℕ) (b : Bool) → (at == w) ≡ b → slice_index (slice_set ws at value) w ≡ put at value (slice_index ws) w
-    by w true e = rw e (ap (λ u. get_or (slice_set ws at value) u 0) (sym (eqb-true at w e)) ∙ get_or-set_same ws at value 0 within)
-    by w false e = rw e (get_or-set_other ws at w value 0 (λ same. true≢false (sym (eq-eqb at w (sym same)) ∙ e)))
 
 dropped : (acts : List WordOp) (i : ℕ) (d : WordOp) → i < length acts → drop i acts ≡ get_or acts i d ∷ drop (i + 1) acts
 dropped acts i d below = let next : i + 1 ≡ suc i = omega arith in drop-cons acts i d below ∙ (λ k. get_or acts i d ∷ drop (sym next k) acts)
@@ -89,11 +82,6 @@ load_next s acts begun i d ws values values' j below load within set_is h =
     subst (λ l. IsPartlyMade s acts (drop (i + 1) acts) begun (slice_index ws) l) (sym (ap (take (j + 1)) set_is ∙ take_more_set values j (slice_index ws a.word) within))
     (load_made s acts a (drop (i + 1) acts) begun (slice_index ws) (take j values) load
     (subst (λ l. IsPartlyMade s acts l begun (slice_index ws) (take j values)) (dropped acts i d below) h))
-
-pub each_at : (P : WordOp → Type 0) (acts : List WordOp) (i : ℕ) (d : WordOp) → Each P acts → i < length acts → P (get_or acts i d)
-each_at P [] i d h below = absurd (omega (arith, below))
-each_at P (x ∷ xs) zero d h below = h.0
-each_at P (x ∷ xs) (suc i) d h below = each_at P xs i d h.1 (omega (arith, below))
 
 pub made_whole : (s : ℕ) (acts : List WordOp) (ws values : List ℕ) (begun : ℕ → ℕ) (i j : ℕ) → length acts ≤ i → IsPartlyMade s acts (drop i acts) begun (slice_index ws) (take j values)
     → (filled s acts values ≡ (played s (accesses acts) begun).ops) × ((w : ℕ) → slice_index ws w ≡ after (played s (accesses acts) begun).ops begun w)

@@ -1,5 +1,7 @@
 -- What a machine is started with.
 use Rattle.std.specs.Prelude.{◌≡◌, ℕ, ◌<◌, ◌≤◌, List, length, slice_get, IfSome}
+use Rattle.slot_arbiter.specs.declared.event.TheConstants.{MOST_TRACE}
+use Rattle.slot_arbiter.specs.declared.place.TheConstants.{MOST_CYCLES}
 use Rattle.slot_arbiter.specs.declared.place.Place.{Place}
 use Rattle.global_step.specs.declared.loaded.LoadedCore.{LoadedCore}
 
@@ -30,7 +32,7 @@ AreOnePlatform cores = IfSome (slice_get cores 0) (λ first. AreBeside first.pla
 pub record IsLoaded (cores : List LoadedCore) (limit trace workers : ℕ) : Type 0 where
   pub platform : AreOnePlatform cores
   pub some_cycle : 1 ≤ limit
-  pub most_cycles : limit ≤ 20000000
-  pub most_trace : trace ≤ 65536
+  pub most_cycles : limit ≤ MOST_CYCLES
+  pub most_trace : trace ≤ MOST_TRACE
   pub some_worker : 1 ≤ workers
   pub most_workers : workers ≤ length cores

@@ -1,16 +1,16 @@
 -- The machine of all cores, cycle by cycle (Schoeberl et al., T-CREST, 2015; the order within a cycle is
 -- our own profile TP1's). What its cycles and the order of its operations are stands in shared_order,
--- and what a core does in a cycle in patmos_core.
+-- and what a core does in a cycle in patmos_model.
 use Rattle.std.specs.Prelude.{ℕ, List, [], length, None, Some, slice_get}
 use Rattle.shared_order.specs.declared.operation.Operation.{Operation}
-use Rattle.shared_order.specs.Operation.{loads, part}
+use Rattle.shared_order.specs.Operation.{loads, operations_of as operations_among}
 use Rattle.shared_order.specs.Machine.{State, cycled}
-use Rattle.patmos_core.specs.declared.state.CoreState.{CoreState}
-use Rattle.patmos_core.specs.State.{Core}
-use Rattle.patmos_core.specs.Begin.{begun, idle, no_code}
-use Rattle.patmos_core.specs.Cycle.{turn}
-use Rattle.patmos_core.specs.Apart.{site_of, followed}
-use Rattle.patmos_core.specs.Outcome.{state_at}
+use Rattle.patmos_model.specs.declared.state.CoreState.{CoreState}
+use Rattle.patmos_model.specs.State.{Core}
+use Rattle.patmos_model.specs.Begin.{begun, idle, no_code}
+use Rattle.patmos_model.specs.Cycle.{turn}
+use Rattle.patmos_model.specs.Apart.{site_of, followed}
+use Rattle.patmos_model.specs.Outcome.{state_at}
 use Rattle.global_step.specs.declared.loaded.LoadedCore.{LoadedCore}
 use Rattle.global_step.specs.Loaded.{Machine}
 
@@ -46,7 +46,7 @@ abbrev pub all_operations : Machine → List Operation
 all_operations m = (at_limit m).made
 
 abbrev pub operations_of : Machine → ℕ → List Operation
-operations_of m core = part (length m.cores) core (all_operations m)
+operations_of m core = operations_among (length m.cores) core (all_operations m)
 
 -- those of the core's task itself, without those of its interface
 abbrev pub task_operations : Machine → ℕ → List Operation

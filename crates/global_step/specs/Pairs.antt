@@ -6,11 +6,11 @@ use Rattle.patmos_instr.specs.declared.memories.Mem.{Mem}
 use Rattle.patmos_instr.specs.declared.memories.Mem.TheVariants.{L, M}
 use Rattle.patmos_instr.specs.declared.memories.StoreWidth.TheVariants as store
 use Rattle.patmos_instr.specs.declared.instructions.Op.TheVariants.{Store}
-use Rattle.patmos_core.specs.declared.state.CoreState.{CoreState}
-use Rattle.patmos_core.specs.State.{Core}
-use Rattle.patmos_core.specs.Cycle.{turn}
-use Rattle.patmos_core.specs.Outcome.{state_at}
-use Rattle.patmos_core.specs.Programs.{alone, nops, ret, addi, sli, addl, add, lw, sw, core_of, tabled, resting, seven}
+use Rattle.patmos_model.specs.declared.state.CoreState.{CoreState}
+use Rattle.patmos_model.specs.State.{Core}
+use Rattle.patmos_model.specs.Cycle.{turn}
+use Rattle.patmos_model.specs.Outcome.{state_at}
+use Rattle.patmos_model.specs.Programs.{alone, nops, ret, addi, sli, addl, add, lw, sw, core_of, tabled, resting, seven}
 
 -- n cores after the cycles below a limit, and how far one of them has come
 abbrev pub ran : ℕ → (ℕ → Core) → ℕ → State Core

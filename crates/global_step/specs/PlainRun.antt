@@ -2,8 +2,8 @@
 use Rattle.std.specs.Prelude.{◌≡◌, ℕ, ◌*◌, ◌<◌, ◌≤◌, List, [], Option, None, Some, IsSome, IsNone, IfSome, option_map, slice_get}
 use Rattle.shared_order.specs.declared.operation.Operation.{Operation}
 use Rattle.patmos_core.specs.declared.cpu.Core.{Core as Cpu}
-use Rattle.patmos_core.specs.State.{Core}
-use Rattle.patmos_core.specs.Position.{StandsFor, waiting_of, limit_of, place_of, parts_of, IsThrough, IsNextOf, HasMadeAll, EventFits}
+use Rattle.patmos_model.specs.State.{Core}
+use Rattle.patmos_core.specs.Position.{StandsFor, waiting_of, limit_of, place_of, phases_of, IsThrough, IsNextOf, HasMadeAll, EventFits}
 
 -- each of the cores, by its number
 abbrev pub Every : (ℕ → Cpu → Type 0) → List Cpu → Type 0
@@ -27,7 +27,7 @@ Begins x cores = Every (λ k c. StandsFor c (x k) []) cores
 pub record IsReady (most : ℕ) (c : Cpu) : Type 0 where
   pub limit : limit_of c ≡ most
   pub fits : IfSome (waiting_of c) (EventFits (place_of c) most)
-  pub before : IsSome (waiting_of c) → parts_of c < 3 * most
+  pub before : IsSome (waiting_of c) → phases_of c < 3 * most
   pub through : IsNone (waiting_of c) → IsThrough c
 
 -- so it is of the core that began as x and made these operations

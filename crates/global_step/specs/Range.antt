@@ -2,7 +2,7 @@
 use Rattle.std.specs.Prelude.{ℕ, ◌≤◌, length, IfSome, slice_get}
 use Rattle.std.specs.List.{AllByRecursion as Each}
 use Rattle.argo_ni.specs.Packet.{comm_word}
-use Rattle.patmos_core.specs.Range.{IsWord, HasCode}
+use Rattle.patmos_model.specs.Range.{IsWord, HasCode}
 use Rattle.global_step.specs.declared.loaded.LoadedCore.{LoadedCore}
 use Rattle.global_step.specs.Loaded.{Machine, IsLoaded}
 

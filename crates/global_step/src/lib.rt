@@ -11,6 +11,8 @@
 //!   the cores act in the order of their stamps has to know.
 //! - [`worked_platform`], [`worked_shared`] and [`worked_network`] show it on cores that meet, computed by
 //!   the checker.
+//!
+//! What its words mean stands in [the glossary](../../../docs/GLOSSARY.md).
 #![tactic(auto)]
 
 mod course;

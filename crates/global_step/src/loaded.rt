@@ -4,15 +4,9 @@ ghost use Rattle.global_step.specs.Loaded as specs;
 ghost use Rattle.global_step.specs.Loaded.{IsLoaded, IsBeside, AreBeside, AreOnePlatform};
 
 use patmos_code::Image;
-use slot_arbiter::Place;
+use slot_arbiter::{MOST_CYCLES, MOST_TRACE, Place};
 use std::marker::Model;
 use tc_word::List;
-
-/// The latest cycle limit.
-const MOST_CYCLES: u64 = 20_000_000;
-
-/// The most transactions of a core that a report tells.
-const MOST_TRACE: u32 = 65_536;
 
 /// A core as it is before the first cycle: its place, the image of its task if it has one, and the
 /// words of the task's input.
@@ -23,8 +17,8 @@ pub struct LoadedCore {
     pub input: List<u32>,
 }
 
-/// What a machine runs: its cores, all of one platform, the cycle limit (1 to 20,000,000), how many
-/// transactions of each core are told (at most 65,536), and among how many workers the cores are
+/// What a machine runs: its cores, all of one platform, the cycle limit (1 to [`MOST_CYCLES`]), how many
+/// transactions of each core are told (at most [`MOST_TRACE`]), and among how many workers the cores are
 /// divided (1 to the number of cores).
 #[derive(Debug, Drop)]
 pub struct Loaded {

@@ -2,19 +2,19 @@ ghost use Rattle.std.specs.Prelude.{◌≡◌, ℕ, false, ◌<◌, ◌≤◌, �
 ghost use Rattle.std.specs.List.{AllByRecursion as Each};
 ghost use Rattle.argo_ni.specs.Packet.{comm_word};
 ghost use Rattle.shared_order.specs.declared.operation.Operation.{Operation};
-ghost use Rattle.shared_order.specs.Operation.{part};
+ghost use Rattle.shared_order.specs.Operation.{operations_of};
 ghost use Rattle.shared_order.specs.Words.{after};
 ghost use Rattle.shared_order.specs.Machine.{cycled};
-ghost use Rattle.patmos_core.specs.Cycle.{turn};
+ghost use Rattle.patmos_model.specs.Cycle.{turn};
 ghost use Rattle.shared_order.specs.Event.{asked_by};
-ghost use Rattle.patmos_core.specs.State as state;
+ghost use Rattle.patmos_model.specs.State as state;
 ghost use Rattle.patmos_core.specs.declared.cpu.Core.{Core as Cpu};
-ghost use Rattle.patmos_core.specs.Position.{StandsFor, waiting_of, limit_of, place_of, room_of, parts_of, IsThrough};
+ghost use Rattle.patmos_core.specs.Position.{StandsFor, waiting_of, limit_of, place_of, room_of, phases_of, IsThrough};
 ghost use Rattle.global_step.specs.PlainEvent.{made_on};
 ghost use Rattle.global_step.specs.PlainRun.{Every, IsFree, Begins, IsSeated, IsReady, HasNext, stamp_of, Precedes};
 
 use patmos_core::Core;
-use slot_arbiter::Event;
+use slot_arbiter::{Event, MOST_CYCLES};
 
 /// Makes an event on the words of the board: what its loads give, in their order.
 fn perform(event: &Event, words: &mut [u32]) -> [u32; 8]
@@ -54,10 +54,10 @@ fn is_before(one: &Core, other: &Core) -> bool
 fn ask(core: &mut Core, limit: u64)
     requires free { waiting_of core.old ≡ None }
     requires later { limit_of core.old ≤ limit }
-    requires most { limit ≤ 20000000 }
+    requires most { limit ≤ MOST_CYCLES }
     ensures ready { IsReady limit core.new }
     ensures next { (x : state.Core) (made : List Operation) → StandsFor core.old x made → HasNext x made limit core.new }
-    ensures parts { parts_of core.old ≤ parts_of core.new }
+    ensures parts { phases_of core.old ≤ phases_of core.new }
     ensures place { place_of core.new ≡ place_of core.old }
     ensures room { room_of core.new ≡ room_of core.old }
 {
@@ -69,14 +69,14 @@ fn make(core: &mut Core, words: &mut [u32], limit: u64)
     requires waiting { IsSome (waiting_of core.old) }
     requires ready { IsReady limit core.old }
     requires words { comm_word (place_of core.old).cores 0 ≤ length words.old }
-    requires most { limit ≤ 20000000 }
+    requires most { limit ≤ MOST_CYCLES }
     ensures ready { IsReady limit core.new }
     ensures sized { IfSome (waiting_of core.old) (λ e. length e.ops ≡ 8) }
     ensures next { IfSome (waiting_of core.old) (λ e. (x : state.Core) (made : List Operation) → StandsFor core.old x made
         → HasNext x (made ++ made_on e (slice_index words.old)) limit core.new) }
     ensures words { IfSome (waiting_of core.old) (λ e. (w : ℕ) → slice_index words.new w
         ≡ after (made_on e (slice_index words.old)) (slice_index words.old) w) }
-    ensures parts { parts_of core.old < parts_of core.new }
+    ensures parts { phases_of core.old < phases_of core.new }
     ensures place { place_of core.new ≡ place_of core.old }
     ensures room { room_of core.new ≡ room_of core.old }
 {
@@ -112,7 +112,7 @@ fn least(cores: &[Core]) -> Option<usize>
 /// Asks each core for its first event before the limit.
 fn begin(cores: &mut [Core], limit: u64)
     requires free { Every (λ k. IsFree limit) cores.old }
-    requires most { limit ≤ 20000000 }
+    requires most { limit ≤ MOST_CYCLES }
     ensures ready { Every (λ k. IsReady limit) cores.new }
     ensures next { (x : ℕ → state.Core) → Begins x cores.old → Every (λ k. HasNext (x k) [] limit) cores.new }
     ensures places { map place_of cores.new ≡ map place_of cores.old }
@@ -131,10 +131,10 @@ pub fn plain_run(cores: &mut [Core], words: &mut [u32], limit: u64)
     requires free { Every (λ k. IsFree limit) cores.old }
     requires words { length words.old ≡ comm_word (length cores.old) 0 }
     requires zero { (w : ℕ) → slice_index words.old w ≡ 0 }
-    requires most { limit ≤ 20000000 }
+    requires most { limit ≤ MOST_CYCLES }
     ensures stands { (x : ℕ → state.Core) → Begins x cores.old
         → let n = length cores.old in
-        Every (λ k c. StandsFor c (x k) (part n k (cycled turn n x limit).made)) cores.new }
+        Every (λ k c. StandsFor c (x k) (operations_of n k (cycled turn n x limit).made)) cores.new }
     ensures words { (x : ℕ → state.Core) → Begins x cores.old
         → (w : ℕ) → slice_index words.new w ≡ (cycled turn (length cores.old) x limit).words w }
     ensures through { Every (λ k. IsThrough) cores.new }

@@ -1,7 +1,7 @@
 ghost use Rattle.std.specs.Prelude.{ℕ, ◌<◌, ◌^◌};
 ghost use Rattle.std.specs.List.{AllByRecursion as Each};
 ghost use Rattle.shared_order.specs.Fit.{Fits};
-ghost use Rattle.patmos_core.specs.Range.{InRange};
+ghost use Rattle.patmos_model.specs.Range.{InRange};
 ghost use Rattle.global_step.specs.Loaded.{Machine};
 ghost use Rattle.global_step.specs.Machine.{machine, all_operations};
 ghost use Rattle.global_step.specs.Range.{IsOfWords, board_words};

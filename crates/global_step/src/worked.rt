@@ -1,13 +1,13 @@
-#![tactic(auto, unfolding(patmos_code::specs::Codes::code, patmos_code::specs::Decoding::bundle_at, patmos_core::specs::Flows::flowed, patmos_core::specs::Checks::fault_of, patmos_core::specs::Bundle::fetched_at, patmos_core::specs::Transaction::transaction))]
+#![tactic(auto, unfolding(patmos_code::specs::Codes::code, patmos_code::specs::Decoding::bundle_at, patmos_model::specs::Flows::flowed, patmos_model::specs::Checks::fault_of, patmos_model::specs::Bundle::fetched_at, patmos_model::specs::Transaction::transaction))]
 
 ghost use Rattle.std.specs.Prelude.{◌≡◌, ◌∷◌, [], false};
 ghost use Rattle.shared_order.specs.Operation.{load, store};
 ghost use Rattle.patmos_instr.specs.declared.memories.Mem.TheVariants.{C, L, M};
 ghost use Rattle.patmos_instr.specs.declared.memories.StoreWidth.TheVariants.{Byte};
 ghost use Rattle.patmos_instr.specs.declared.instructions.Op.TheVariants.{Store};
-ghost use Rattle.patmos_core.specs.declared.state.CoreState.TheVariants.{Idle, Done, Trapped};
-ghost use Rattle.patmos_core.specs.declared.trap.Trap.TheVariants as trap;
-ghost use Rattle.patmos_core.specs.Programs.{alone, sw};
+ghost use Rattle.patmos_model.specs.declared.state.CoreState.TheVariants.{Idle, Done, Trapped};
+ghost use Rattle.patmos_model.specs.declared.trap.Trap.TheVariants as trap;
+ghost use Rattle.patmos_model.specs.Programs.{alone, sw};
 ghost use Rattle.global_step.specs.Pairs as pairs;
 ghost use Rattle.global_step.specs.Pairs.{ran, outcome};
 

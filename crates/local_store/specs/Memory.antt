@@ -2,6 +2,7 @@
 use Rattle.std.specs.Prelude.{ℕ, ◌<◌, List, ◌++◌, length, take, drop, replicate, slice_index, slice_set}
 use Rattle.local_store.specs.declared.map.Cell.{Cell}
 use Rattle.local_store.specs.declared.map.Cell.TheVariants.{Scratch, Comm, Port, Private, Shared}
+use Rattle.local_store.specs.declared.store.TheConstants.{PRIVATE_WORDS, SCRATCH_WORDS}
 
 -- the words of the scratchpad and of private memory
 pub record Memory : Type 0 where
@@ -14,16 +15,16 @@ zeros count = replicate count 0
 
 -- the memories of a core before its task
 abbrev pub cleared : Memory
-cleared = record { scratch = zeros 2048; private = zeros 65536 }
+cleared = record { scratch = zeros SCRATCH_WORDS; private = zeros PRIVATE_WORDS }
 
 -- as many words as before: the new ones, and the old ones where there are fewer
 abbrev pub refilled : List ℕ → List ℕ → List ℕ
 refilled old words = take (length old) (words ++ drop (length words) old)
 
--- the cell is a word of these memories: 2,048 of scratchpad, 65,536 of private memory
+-- the cell is a word of the scratchpad or of private memory
 abbrev pub IsOwn : Cell → Type 0
-IsOwn (Scratch word) = word < 2048
-IsOwn (Private word) = word < 65536
+IsOwn (Scratch word) = word < SCRATCH_WORDS
+IsOwn (Private word) = word < PRIVATE_WORDS
 IsOwn (Comm word) = ⊥
 IsOwn (Port core register) = ⊥
 IsOwn (Shared word) = ⊥

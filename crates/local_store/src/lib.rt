@@ -2,10 +2,12 @@
 //!
 //! [`where_is`] is the memory map: it names the cell that stands at an address of one of the two spaces,
 //! and answers `None` exactly where nothing does. [`Store`] is a core's scratchpad and private memory.
+//!
+//! What its words mean stands in [the glossary](../../../docs/GLOSSARY.md).
 #![tactic(auto)]
 
 mod map;
 mod store;
 
-pub use map::{Cell, Space, where_is};
-pub use store::{Store, words_of_a_store};
+pub use map::{COMM_WORDS, Cell, SHARED_WORDS, Space, where_is};
+pub use store::{PRIVATE_WORDS, SCRATCH_WORDS, Store, words_of_a_store};

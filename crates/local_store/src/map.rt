@@ -1,6 +1,12 @@
 ghost use Rattle.std.specs.Prelude.{◌≡◌, ◌%◌, IfSome};
 ghost use Rattle.local_store.specs.Map as specs;
 
+/// How many words the communication memory of a core has.
+pub const COMM_WORDS: u32 = 512;
+
+/// How many words the memory has that all cores share.
+pub const SHARED_WORDS: u32 = 4_096;
+
 /// The address space of an access.
 #[derive(Clone, Copy, Debug, PartialEq, Eq)]
 pub enum Space {
@@ -13,16 +19,16 @@ pub enum Space {
 /// A word that an address can name. Words are numbered from 0 in each memory.
 #[derive(Clone, Copy, Debug, PartialEq, Eq)]
 pub enum Cell {
-    /// A word of the scratchpad, 0 to 2,047.
+    /// A word of the scratchpad, below [`crate::SCRATCH_WORDS`].
     Scratch(u32),
-    /// A word of the core's communication memory, 0 to 511.
+    /// A word of the core's communication memory, below [`COMM_WORDS`].
     Comm(u32),
     /// A register of the network interface for a target core, 0 to 15, by its place in bytes: 0 is the
     /// source word, 4 the target word, 8 the count, and 12 the words not yet injected.
     Port { core: u32, register: u32 },
-    /// A word of the core's private memory, 0 to 65,535.
+    /// A word of the core's private memory, below [`crate::PRIVATE_WORDS`].
     Private(u32),
-    /// A word of the memory that all cores share, 0 to 4,095.
+    /// A word of the memory that all cores share, below [`SHARED_WORDS`].
     Shared(u32),
 }
 

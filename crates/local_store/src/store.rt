@@ -6,11 +6,11 @@ use std::alloc::Global;
 use std::marker::Model;
 use tc_word::OutOfMemory;
 
-/// How many words the scratchpad has.
-const SCRATCH_WORDS: usize = 2048;
+/// How many words the scratchpad of a core has.
+pub const SCRATCH_WORDS: usize = 2_048;
 
-/// How many words a core's private memory has.
-const PRIVATE_WORDS: usize = 65536;
+/// How many words the private memory of a core has.
+pub const PRIVATE_WORDS: usize = 65_536;
 
 /// The scratchpad and the private memory of one core.
 #[derive(Debug, Drop)]

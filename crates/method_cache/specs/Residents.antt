@@ -3,14 +3,15 @@
 use Rattle.std.specs.Prelude.{◌≡◌, ℕ, ◌+◌, ◌/◌, Bool, ◌&&◌, ◌==◌, nat_le, if◌then◌else◌, List, [], ◌∷◌, ◌++◌, length, sum_by}
 use Rattle.std.specs.List.{list_any}
 use Rattle.method_cache.specs.declared.cache.Method.{Method}
+use Rattle.method_cache.specs.declared.cache.TheConstants.{MOST_METHODS, METHOD_CACHE_WORDS}
 
 -- how many words the functions have together
 abbrev pub words_of : List Method → ℕ
 words_of methods = sum_by (λ m. m.words) methods
 
--- the functions fit into the cache together: they are at most 16, and have at most 4,096 words
+-- the functions fit into the cache together: neither too many nor of too many words
 abbrev pub fits : List Method → Bool
-fits methods = nat_le (length methods) 16 && nat_le (words_of methods) 4096
+fits methods = nat_le (length methods) MOST_METHODS && nat_le (words_of methods) METHOD_CACHE_WORDS
 
 -- the functions in the cache after these misses, the oldest first: the longest suffix of the misses that fits
 abbrev pub resident : List Method → List Method

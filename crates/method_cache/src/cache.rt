@@ -4,10 +4,10 @@ ghost use Rattle.method_cache.specs.Residents.{fill_of, fits, is_among, resident
 use std::marker::Model;
 
 /// The most functions that stand in the cache.
-const MOST_METHODS: usize = 16;
+pub const MOST_METHODS: usize = 16;
 
-/// The most words that the functions in the cache have together.
-const MOST_WORDS: u32 = 4096;
+/// The most words that the functions in the cache have together, their size words not counted.
+pub const METHOD_CACHE_WORDS: u32 = 4_096;
 
 /// How many words a transaction moves.
 const BURST: u32 = 4;
@@ -61,7 +61,7 @@ impl MethodCache {
     /// known by its number; its size counts where it is brought in.
     #[tactic(auto, using(crate::proofs::Suffix::resident_push))]
     pub fn touch(&mut self, function: u32, size: u32) -> u32
-        requires { size ≤ 4096 }
+        requires { size ≤ METHOD_CACHE_WORDS }
         ensures transactions { result ≡ (if is_among function self.old then 0 else fill_of size) }
 
         // Whichever misses the cache is what they leave: it then is what they and this touch leave.
@@ -95,7 +95,7 @@ impl MethodCache {
     /// Puts a function in behind the others, and before that the oldest ones out until it fits.
     #[tactic(auto, using(crate::proofs::Suffix::resident_keeps))]
     fn put_in(&mut self, method: Method)
-        requires { method.words ≤ 4096 }
+        requires { method.words ≤ METHOD_CACHE_WORDS }
         ensures { self.new ≡ resident (self.old ++ method ∷ []) }
     {
         while !self.has_room(method) {
@@ -106,10 +106,10 @@ impl MethodCache {
 
     /// Whether the function fits beside those that are there.
     fn has_room(&self, method: Method) -> bool
-        requires { method.words ≤ 4096 }
+        requires { method.words ≤ METHOD_CACHE_WORDS }
         ensures { result ≡ fits (self.now ++ method ∷ []) }
     {
-        self.count < MOST_METHODS && self.words + method.words <= MOST_WORDS
+        self.count < MOST_METHODS && self.words + method.words <= METHOD_CACHE_WORDS
     }
 
     /// Puts the oldest function out, and gives it.

@@ -1,12 +1,12 @@
 -- What a text is answered with.
 use Rattle.std.proofs.Common.{arith, ◌≡◌, ◌∙◌, ℕ, ◌==◌, true, false, List, [], ◌∷◌, length, refl, sym, ap, Option, Err}
 use Rattle.std.proofs.lemmas.Bool.Decides.{nat_tests}
-use Rattle.patmos_asm.specs.declared.faults.AsmKind.TheVariants.{NoFunction}
+use Rattle.patmos_syntax.specs.declared.faults.AsmKind.TheVariants.{NoFunction}
 use Rattle.patmos_asm.specs.declared.faults.AsmFault.{AsmFault}
-use Rattle.patmos_asm.specs.declared.items.Item as code
-use Rattle.patmos_asm.specs.Items.{Item, items_of}
+use Rattle.patmos_syntax.specs.declared.items.Item as code
+use Rattle.patmos_syntax.specs.Items.{Item, items_of}
 use Rattle.patmos_asm.specs.Assembly.{place_of, functions_from, nothing, first_fault, parts_in, code_or, code_in, code_of}
-use Rattle.patmos_asm.specs.Shown.{shown_items}
+use Rattle.patmos_syntax.specs.Shown.{shown_items}
 
 pub no_statement : (text : List ℕ) (items : List code.Item) → shown_items items ≡ items_of text → length items == 0 ≡ true →
     code_of text ≡ Err (record { fault = NoFunction; line = 1 })

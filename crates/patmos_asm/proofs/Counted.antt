@@ -6,11 +6,11 @@ use Rattle.std.proofs.lemmas.Bool.Decides.{nat_tests}
 use Rattle.patmos_instr.specs.Instructions.{is_long}
 use Rattle.patmos_instr.specs.declared.instructions.Op.{Op}
 use Rattle.patmos_instr.specs.declared.instructions.Op.TheVariants as op
-use Rattle.patmos_asm.specs.declared.forms.Flow.TheVariants.{Branch, Call, BranchFill}
-use Rattle.patmos_asm.specs.Readers.{is_digit, is_in_name, is_name}
-use Rattle.patmos_asm.specs.Drafts.{Draft, ready, to, DraftBundle, is_long_draft}
-use Rattle.patmos_asm.specs.Items.{Item, function, label, bundle, faulty}
-use Rattle.patmos_asm.specs.Assembly.{Lookup, size_of, size_from, place_of, labels_from, functions_from, names_from, placed_op, placed}
+use Rattle.patmos_syntax.specs.declared.forms.Flow.TheVariants.{Branch, Call, BranchFill}
+use Rattle.patmos_syntax.specs.Readers.{is_digit, is_in_name, is_name}
+use Rattle.patmos_syntax.specs.Drafts.{Draft, ready, to, DraftBundle, is_long_draft, size_of}
+use Rattle.patmos_syntax.specs.Items.{Item, function, label, bundle, faulty}
+use Rattle.patmos_asm.specs.Assembly.{Lookup, size_from, place_of, labels_from, functions_from, names_from, placed_op, placed}
 use Rattle.patmos_asm.specs.Printed.{label_name, name_at, named_op, named}
 use Rattle.patmos_asm.proofs.Lines.{both}
 use Rattle.patmos_asm.proofs.Placed.{bytes_eq_same}

@@ -3,15 +3,16 @@ use Rattle.std.proofs.Common.{arith, ◌≡◌, ℕ, ◌+◌, ◌≤◌, Bool, t
 use Rattle.std.specs.Str.{bytes_eq}
 use Rattle.std.specs.Option.{option_or}
 use Rattle.std.proofs.lemmas.Bool.Decides.{nat_tests}
-use Rattle.patmos_asm.specs.declared.faults.AsmKind.{AsmKind}
-use Rattle.patmos_asm.specs.declared.faults.AsmKind.TheVariants.{NoLabel, LabelTwice, TooLarge}
+use Rattle.patmos_syntax.specs.declared.faults.AsmKind.{AsmKind}
+use Rattle.patmos_syntax.specs.declared.faults.AsmKind.TheVariants.{NoLabel, LabelTwice, TooLarge}
 use Rattle.patmos_asm.specs.declared.faults.AsmFault.{AsmFault}
-use Rattle.patmos_asm.specs.Items.{Item, function, label, bundle, faulty}
+use Rattle.patmos_syntax.specs.Items.{Item, function, label, bundle, faulty}
 use Rattle.patmos_asm.specs.Bounds.{InBounds}
-use Rattle.patmos_asm.specs.Assembly.{Lookup, Before, size_of, place_of, labels_from, size_from, functions_from, is_among, is_known, no_function, fault_of, labels_after, after, told, first_fault, offset_after}
+use Rattle.patmos_asm.specs.Assembly.{Lookup, Before, place_of, labels_from, size_from, functions_from, is_among, is_known, no_function, fault_of, labels_after, after, reported, first_fault, offset_after}
+use Rattle.patmos_syntax.specs.Drafts.{size_of}
 
 -- where there is no first fault, the first statement has none, nor has the rest
-pub no_fault_first : (i : Item) (fault : Option AsmKind) (rest : Option AsmFault) → option_or (told i fault) rest ≡ None → (fault ≡ None) × (rest ≡ None)
+pub no_fault_first : (i : Item) (fault : Option AsmKind) (rest : Option AsmFault) → option_or (reported i fault) rest ≡ None → (fault ≡ None) × (rest ≡ None)
 no_fault_first i None rest e = (refl, e)
 no_fault_first i (Some f) rest e = cc
 

@@ -13,14 +13,14 @@ use Rattle.patmos_instr.specs.declared.specials.WritableSpecial.TheVariants as w
 use Rattle.patmos_instr.specs.declared.guards.Guard.{Guard}
 use Rattle.patmos_instr.specs.declared.instructions.Op.{Op}
 use Rattle.patmos_instr.specs.declared.instructions.Op.TheVariants as op
-use Rattle.patmos_asm.specs.declared.forms.Flow.{Flow}
-use Rattle.patmos_asm.specs.declared.forms.Flow.TheVariants.{Branch, Call, BranchFill}
-use Rattle.patmos_asm.specs.declared.forms.Form.{Form}
-use Rattle.patmos_asm.specs.declared.forms.Form.TheVariants.{AluReg, AluImm, AluLong, Mul, Cmp, CmpImm, Comb, ToSpecial, FromSpecial, Stack, Load, Store}
-use Rattle.patmos_asm.specs.Readers.{is_digit, begins_name, is_in_name, is_name}
-use Rattle.patmos_asm.specs.Operands.{Token, register, predicate, negation, number, offset, special, writable, sign, special_names}
-use Rattle.patmos_asm.specs.Forms.{mnemonic, flow_name, operands}
-use Rattle.patmos_asm.specs.Drafts.{to, DraftInstr}
+use Rattle.patmos_syntax.specs.declared.forms.Flow.{Flow}
+use Rattle.patmos_syntax.specs.declared.forms.Flow.TheVariants.{Branch, Call, BranchFill}
+use Rattle.patmos_syntax.specs.declared.forms.Form.{Form}
+use Rattle.patmos_syntax.specs.declared.forms.Form.TheVariants.{AluReg, AluImm, AluLong, Mul, Cmp, CmpImm, Comb, ToSpecial, FromSpecial, Stack, Load, Store}
+use Rattle.patmos_syntax.specs.Readers.{is_digit, begins_name, is_in_name, is_name}
+use Rattle.patmos_syntax.specs.Operands.{Token, register, predicate, negation, number, offset, special, writable, sign, special_names}
+use Rattle.patmos_syntax.specs.Forms.{mnemonic, flow_name, operands}
+use Rattle.patmos_syntax.specs.Drafts.{to, DraftInstr}
 use Rattle.patmos_asm.specs.Written.{sign_text, token_text, written, form_text, flag, op_text, draft_text, guard_text, is_nop, instr_text}
 use Rattle.patmos_asm.proofs.Lines.{is_harmless, both}
 use Rattle.patmos_asm.proofs.ReadWords.{IsNumeral, decimal_numeral}

@@ -11,10 +11,10 @@ use Rattle.patmos_instr.specs.declared.instructions.Op.TheVariants.{AluLong}
 use Rattle.patmos_code.specs.Codes.{code, words, second_word, instr_code}
 use Rattle.patmos_code.specs.Images as images
 use Rattle.patmos_asm.specs.declared.faults.AsmFault.{AsmFault}
-use Rattle.patmos_asm.specs.declared.forms.Flow.TheVariants.{Branch, Call, BranchFill}
-use Rattle.patmos_asm.specs.Items.{Item, function, label, bundle, faulty, items_of}
-use Rattle.patmos_asm.specs.Drafts.{Draft, ready, to, DraftBundle, is_long_draft}
-use Rattle.patmos_asm.specs.Assembly.{Lookup, Before, nothing, size_of, place_of, labels_from, size_from, functions_from, is_among, is_known, no_function, fault_of, after, first_fault, placed, words_from, CodeParts, parts_in, code_or, code_in, code_of}
+use Rattle.patmos_syntax.specs.declared.forms.Flow.TheVariants.{Branch, Call, BranchFill}
+use Rattle.patmos_syntax.specs.Items.{Item, function, label, bundle, faulty, items_of}
+use Rattle.patmos_syntax.specs.Drafts.{Draft, ready, to, DraftBundle, is_long_draft, size_of}
+use Rattle.patmos_asm.specs.Assembly.{Lookup, Before, nothing, place_of, labels_from, size_from, functions_from, is_among, is_known, no_function, fault_of, after, first_fault, placed, words_from, CodeParts, parts_in, code_or, code_in, code_of}
 use Rattle.patmos_asm.specs.SomeText.{IsCode}
 use Rattle.patmos_asm.proofs.Faultless.{no_fault_first, bundle_small, function_small, size_left}
 
@@ -44,17 +44,17 @@ pub code_size : (functions labels : Lookup) (at : ℕ) (b : DraftBundle) → len
 code_size functions labels at b = draft_size functions labels at b.first.guard b.first.draft b.second
 
 -- the walk over an image's words skips the words of a function
-skip_starts : (front rest : List ℕ) (at n k : ℕ) → n ≡ length front + k → images.starts_from at n (front ++ rest) ≡ images.starts_from (at + length front) k rest
+skip_starts : (prefix rest : List ℕ) (at n k : ℕ) → n ≡ length prefix + k → images.starts_from at n (prefix ++ rest) ≡ images.starts_from (at + length prefix) k rest
 skip_starts [] rest at n k e = let z : n ≡ k = omega (arith, e) in rw (z, add-zero) refl
 skip_starts (w ∷ ws) rest at zero k e = absurd (omega arith)
 skip_starts (w ∷ ws) rest at (suc n) k e = skip_starts ws rest (at + 1) n k (omega (arith, e)) ∙ ap (λ a. images.starts_from a k rest) (omega arith)
 
-skip_lacking : (front rest : List ℕ) (n k : ℕ) → n ≡ length front + k → images.lacking_from n (front ++ rest) ≡ images.lacking_from k rest
+skip_lacking : (prefix rest : List ℕ) (n k : ℕ) → n ≡ length prefix + k → images.lacking_from n (prefix ++ rest) ≡ images.lacking_from k rest
 skip_lacking [] rest n k e = let z : n ≡ k = omega (arith, e) in rw z refl
 skip_lacking (w ∷ ws) rest zero k e = absurd (omega arith)
 skip_lacking (w ∷ ws) rest (suc n) k e = skip_lacking ws rest n k (omega (arith, e))
 
-skip_sizes : (front rest : List ℕ) (n k : ℕ) → n ≡ length front + k → images.sizes_from n (front ++ rest) ≡ images.sizes_from k rest
+skip_sizes : (prefix rest : List ℕ) (n k : ℕ) → n ≡ length prefix + k → images.sizes_from n (prefix ++ rest) ≡ images.sizes_from k rest
 skip_sizes [] rest n k e = let z : n ≡ k = omega (arith, e) in rw z refl
 skip_sizes (w ∷ ws) rest zero k e = absurd (omega arith)
 skip_sizes (w ∷ ws) rest (suc n) k e = skip_sizes ws rest n k (omega (arith, e))
@@ -66,12 +66,12 @@ pub record IsPart (at skip : ℕ) (ws starts : List ℕ) : Type 0 where
   pub small : All (λ size. size ≤ 4096) (images.sizes_from skip ws)
   pub within : at + length ws ≤ 32768
 
-part_behind : (front rest : List ℕ) (at n k : ℕ) (starts : List ℕ) → n ≡ length front + k → IsPart (at + length front) k rest starts → IsPart at n (front ++ rest) starts
-part_behind front rest at n k starts e p = record {
-  starts_are = skip_starts front rest at n k e ∙ p.starts_are;
-  whole = skip_lacking front rest n k e ∙ p.whole;
-  small = subst (All (λ size. size ≤ 4096)) (sym (skip_sizes front rest n k e)) p.small;
-  within = omega (arith, p.within, length-append front rest);
+part_behind : (prefix rest : List ℕ) (at n k : ℕ) (starts : List ℕ) → n ≡ length prefix + k → IsPart (at + length prefix) k rest starts → IsPart at n (prefix ++ rest) starts
+part_behind prefix rest at n k starts e p = record {
+  starts_are = skip_starts prefix rest at n k e ∙ p.starts_are;
+  whole = skip_lacking prefix rest n k e ∙ p.whole;
+  small = subst (All (λ size. size ≤ 4096)) (sym (skip_sizes prefix rest n k e)) p.small;
+  within = omega (arith, p.within, length-append prefix rest);
 }
 
 part_of_function : (at size : ℕ) (rest starts : List ℕ) → size ≤ 4096 → IsPart (at + 1) size rest starts → IsPart at 0 (size ∷ rest) ((at + 1) ∷ starts)

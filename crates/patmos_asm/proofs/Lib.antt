@@ -1,9 +1,3 @@
-pub mod Numbers
-pub mod Pieces
-pub mod Parts
-pub mod Ascii
-pub mod Labels
-pub mod Pushed
 pub mod Placed
 pub mod Steps
 pub mod Faultless

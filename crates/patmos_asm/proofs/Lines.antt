@@ -1,40 +1,45 @@
 -- A printed text is read line by line.
-use Rattle.std.proofs.Common.{arith, ◌≡◌, ◌∙◌, ℕ, ◌+◌, ◌==◌, ◌&&◌, ◌||◌, not, Bool, true, false, cond, zero, suc, List, [], ◌∷◌, ◌++◌, drop, refl, ap, Option, Some, None, option_map}
+use Rattle.std.proofs.Common.{arith, ◌≡◌, ◌∙◌, ℕ, ◌+◌, ◌==◌, ◌&&◌, ◌||◌, not, Bool, true, false, cond, zero, suc, List, [], ◌∷◌, ◌++◌, drop, refl, sym, ap, Option, Some, None, option_map}
 use Rattle.std.specs.List.{list_all}
 use Rattle.std.proofs.lemmas.Bool.Decides.{nat_tests}
-use Rattle.patmos_asm.specs.declared.statements.Where.{Where}
-use Rattle.patmos_asm.specs.declared.statements.Where.TheVariants.{Plain, Braces, Comment}
-use Rattle.patmos_asm.specs.Readers.{is_blank, without_blanks, word_len, word_at, is_name, sign_in_front, sign_at}
-use Rattle.patmos_asm.specs.Statements.{ends_statement, after_byte, is_comment, put_before, pieces_of, kept, not_blank, statements_of}
-use Rattle.patmos_asm.specs.Items.{label_at}
-use Rattle.patmos_asm.proofs.Pieces.{pieces_of-end, pieces_of-byte}
+use Rattle.patmos_syntax.specs.declared.statements.Where.{Where}
+use Rattle.patmos_syntax.specs.declared.statements.Where.TheVariants.{Plain, Braces, Comment}
+use Rattle.patmos_syntax.specs.Readers.{is_blank, without_blanks, word_len, word_at, is_name, sign_in_front, sign_at}
+use Rattle.patmos_syntax.specs.Statements.{put_before, kept, not_blank, statements_of}
+use Rattle.patmos_syntax.specs.Where.{is_end, after_byte, is_comment}
+use Rattle.patmos_syntax.specs.Items.{label_at}
+use Rattle.patmos_syntax.proofs.Scanned.{scanned, statements_scanned}
+use Rattle.patmos_syntax.proofs.Pieces.{scanned-end, scanned-byte}
 
 -- no byte of the line ends a statement or begins a comment
 abbrev pub stays : Where → List ℕ → Bool
 stays at [] = true
-stays at (b ∷ bs) = not (ends_statement at b) && (not (is_comment (after_byte at b)) && stays (after_byte at b) bs)
+stays at (b ∷ bs) = not (is_end at b) && (not (is_comment (after_byte at b)) && stays (after_byte at b) bs)
 
 both_not : (a b c : Bool) → not a && (not b && c) ≡ true → (a ≡ false) × (b ≡ false) × (c ≡ true)
 both_not true b c e = cc
 both_not false true c e = cc
 both_not false false c e = (refl, refl, e)
 
-newline_ends : (at : Where) → ends_statement at 10 ≡ true
+newline_ends : (at : Where) → is_end at 10 ≡ true
 newline_ends Plain = refl
 newline_ends Braces = refl
 newline_ends Comment = refl
 
 -- such a line is one piece, and the next begins on the next line
 pub line_read : (line : ℕ) (at : Where) (text rest : List ℕ) → stays at text ≡ true →
-    pieces_of line at (text ++ 10 ∷ rest) ≡ (line, text) ∷ pieces_of (line + 1) Plain rest
-line_read line at [] rest e = pieces_of-end line 10 at rest (newline_ends at)
+    scanned line at (text ++ 10 ∷ rest) ≡ (line, text) ∷ scanned (line + 1) Plain rest
+line_read line at [] rest e = scanned-end line 10 at rest (newline_ends at)
 line_read line at (b ∷ bs) rest e =
-    let t = both_not (ends_statement at b) (is_comment (after_byte at b)) (stays (after_byte at b) bs) e in
-    pieces_of-byte line b at (bs ++ 10 ∷ rest) t.0 t.1 ∙ ap (put_before (b ∷ [])) (line_read line (after_byte at b) bs rest t.2)
+    let t = both_not (is_end at b) (is_comment (after_byte at b)) (stays (after_byte at b) bs) e in
+    scanned-byte line b at (bs ++ 10 ∷ rest) t.0 t.1 ∙ ap (put_before (b ∷ [])) (line_read line (after_byte at b) bs rest t.2)
 
 pub line_stated : (line : ℕ) (text rest : List ℕ) → stays Plain text ≡ true →
     statements_of line (text ++ 10 ∷ rest) ≡ kept line text (statements_of (line + 1) rest)
-line_stated line text rest e = ap not_blank (line_read line Plain text rest e)
+line_stated line text rest e =
+    statements_scanned line (text ++ 10 ∷ rest)
+    ∙ ap not_blank (line_read line Plain text rest e)
+    ∙ ap (kept line text) (sym (statements_scanned (line + 1) rest))
 
 -- bytes that mean nothing to the cutting of a text
 abbrev pub is_harmless : ℕ → Bool

@@ -4,16 +4,16 @@ use Rattle.std.specs.Option.{ok_or, option_map}
 use Rattle.patmos_instr.specs.Instructions.{FitsOp, is_second_kind}
 use Rattle.patmos_instr.specs.declared.guards.Guard.{Guard}
 use Rattle.patmos_instr.specs.declared.instructions.Instr.{Instr}
-use Rattle.patmos_asm.specs.declared.faults.AsmKind.{AsmKind}
-use Rattle.patmos_asm.specs.declared.faults.AsmKind.TheVariants.{Mnemonic, Operand, Slot}
-use Rattle.patmos_asm.specs.declared.forms.Flow.{Flow}
-use Rattle.patmos_asm.specs.Faults.{◌>>=◌}
-use Rattle.patmos_asm.specs.Readers.{word_at, is_name, sign_at, at_end}
-use Rattle.patmos_asm.specs.Operands.{read}
-use Rattle.patmos_asm.specs.Forms.{flow_of, form_of, operands, op_of, op_in, guard_at, guard_of}
-use Rattle.patmos_asm.specs.Drafts.{Draft, ready, to, DraftInstr, DraftBundle, name_in, jump_in, plain_in, draft_in, instr_of, second_of, is_long_draft, pair_of, cut_at, parts_of, two_parts, both_of, halves_of, is_closed, braces_of, bundle_of}
-use Rattle.patmos_asm.specs.Statements.{Piece, statements_of}
-use Rattle.patmos_asm.specs.Items.{Item, function, label, bundle, faulty, label_at, function_item, bundle_item, statement_of, items_behind, items_in, items_from, items_of}
+use Rattle.patmos_syntax.specs.declared.faults.AsmKind.{AsmKind}
+use Rattle.patmos_syntax.specs.declared.faults.AsmKind.TheVariants.{Mnemonic, Operand, Slot}
+use Rattle.patmos_syntax.specs.declared.forms.Flow.{Flow}
+use Rattle.patmos_syntax.specs.Faults.{◌>>=◌}
+use Rattle.patmos_syntax.specs.Readers.{word_at, is_name, sign_at, at_end}
+use Rattle.patmos_syntax.specs.Operands.{read}
+use Rattle.patmos_syntax.specs.Forms.{flow_of, form_of, operands, op_of, op_in, guard_at, guard_of}
+use Rattle.patmos_syntax.specs.Drafts.{Draft, ready, to, DraftInstr, DraftBundle, name_in, jump_in, plain_in, draft_in, instr_of, second_of, is_long_draft, pair_of, cut_at, parts_of, two_parts, both_of, halves_of, is_closed, braces_of, bundle_of}
+use Rattle.patmos_syntax.specs.Statements.{Piece, statements_of}
+use Rattle.patmos_syntax.specs.Items.{Item, function, label, bundle, faulty, label_at, function_item, bundle_item, statement_of, items_behind, items_in, items_from, items_of}
 use Rattle.patmos_asm.proofs.ReadBundles.{IsPrintableDraft, IsPrintable}
 use Rattle.patmos_asm.proofs.ParsedFits.{bind_ok, guard_ok, op_fits}
 

@@ -7,8 +7,8 @@ use Rattle.patmos_instr.specs.Instructions.{FitsOp, is_second_kind}
 use Rattle.patmos_instr.specs.declared.instructions.Instr.{Instr}
 use Rattle.patmos_instr.specs.declared.instructions.Op.{Op}
 use Rattle.patmos_instr.specs.declared.instructions.Op.TheVariants as op
-use Rattle.patmos_asm.specs.Readers.{is_name, sign_at}
-use Rattle.patmos_asm.specs.Drafts.{Draft, ready, to, DraftInstr, DraftBundle, instr_of, is_long_draft, pair_of, cut_at, parts_of, braces_of, bundle_of}
+use Rattle.patmos_syntax.specs.Readers.{is_name, sign_at}
+use Rattle.patmos_syntax.specs.Drafts.{Draft, ready, to, DraftInstr, DraftBundle, instr_of, is_long_draft, pair_of, cut_at, parts_of, braces_of, bundle_of}
 use Rattle.patmos_asm.specs.Written.{draft_text, instr_text, plain_text, bundle_text}
 use Rattle.patmos_asm.proofs.Lines.{both, lacks, harmless_lacks, lacks_sign}
 use Rattle.patmos_asm.proofs.Harmless.{AreHarmless, op_harmless, jump_harmless, instr_harmless}
@@ -59,11 +59,11 @@ abbrev pub drafted : Instr → DraftInstr
 drafted i = record { guard = i.guard; draft = ready i.op }
 
 -- where a text is cut
-cut_front : (s : ℕ) (front rest : List ℕ) → lacks s front ≡ true → cut_at s (front ++ s ∷ rest) ≡ (front, Some rest)
-cut_front s [] rest e = let same : s == s ≡ true = grind (arith, nat_tests) in rw same refl
-cut_front s (b ∷ bs) rest e =
+cut_prefix : (s : ℕ) (prefix rest : List ℕ) → lacks s prefix ≡ true → cut_at s (prefix ++ s ∷ rest) ≡ (prefix, Some rest)
+cut_prefix s [] rest e = let same : s == s ≡ true = grind (arith, nat_tests) in rw same refl
+cut_prefix s (b ∷ bs) rest e =
     let t = both (not (b == s)) (lacks s bs) e in
-    rw (not_true (b == s) t.0, cut_front s bs rest t.1) refl
+    rw (not_true (b == s) t.0, cut_prefix s bs rest t.1) refl
   where
     not_true : (a : Bool) → not a ≡ true → a ≡ false
     not_true true h = cc
@@ -104,7 +104,7 @@ braces_text a b = simp append_assoc
 braces_steps : (one two : List ℕ) (first second : DraftInstr) → lacks 125 (one ++ 59 ∷ two) ≡ true → lacks 59 one ≡ true → lacks 59 two ≡ true →
     instr_of one ≡ Ok first → instr_of two ≡ Ok second → braces_of ((one ++ 59 ∷ two) ++ 125 ∷ []) ≡ pair_of first second
 unfolding braces_of
-braces_steps one two first second c e f r s = rw (cut_front 125 (one ++ 59 ∷ two) [] c, two_parts_only one two e f, r, s) refl
+braces_steps one two first second c e f r s = rw (cut_prefix 125 (one ++ 59 ∷ two) [] c, two_parts_only one two e f, r, s) refl
 
 braced : (text : List ℕ) → bundle_of (123 ∷ text) ≡ braces_of text
 unfolding bundle_of

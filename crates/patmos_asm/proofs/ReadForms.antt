@@ -1,10 +1,10 @@
 -- Printed mnemonics and operations are read back.
-use Rattle.std.proofs.Common.{arith, ◌≡◌, ◌∙◌, ℕ, ◌^◌, ◌<◌, ◌≤◌, ◌==◌, ◌&&◌, Bool, true, false, cond, List, [], ◌∷◌, ◌++◌, length, refl, ap, append_assoc, Option, Some, None, Ok, slice_get, codes}
+use Rattle.std.proofs.Common.{arith, ◌≡◌, ◌∙◌, ℕ, ◌^◌, ◌<◌, ◌≤◌, ◌==◌, ◌&&◌, Bool, true, false, cond, List, [], ◌∷◌, ◌++◌, length, refl, ap, append_assoc, Option, Some, None, Ok, codes}
 use Rattle.std.specs.List.{list_all}
 use Rattle.std.specs.Option.{ok_or}
 use Rattle.std.proofs.lemmas.Bool.Decides.{nat_tests}
 use Rattle.patmos_instr.specs.Instructions.{FitsOp}
-use Rattle.patmos_instr.specs.Specials.{special_number, specials, writable_special_number, writable_specials}
+use Rattle.patmos_instr.specs.Specials.{special_number, writable_special_number}
 use Rattle.patmos_instr.specs.declared.functions.ImmFunc.TheVariants as imm
 use Rattle.patmos_instr.specs.declared.functions.AluFunc.TheVariants as alu
 use Rattle.patmos_instr.specs.declared.functions.CmpFunc.TheVariants as cmp
@@ -13,27 +13,24 @@ use Rattle.patmos_instr.specs.declared.functions.StackFunc.TheVariants as stack
 use Rattle.patmos_instr.specs.declared.memories.Mem.TheVariants as mem
 use Rattle.patmos_instr.specs.declared.memories.Width.TheVariants as load
 use Rattle.patmos_instr.specs.declared.memories.StoreWidth.TheVariants as store
-use Rattle.patmos_instr.specs.declared.specials.Special.{Special}
-use Rattle.patmos_instr.specs.declared.specials.Special.TheVariants as special_register
-use Rattle.patmos_instr.specs.declared.specials.WritableSpecial.{WritableSpecial}
-use Rattle.patmos_instr.specs.declared.specials.WritableSpecial.TheVariants as writable_register
 use Rattle.patmos_instr.specs.declared.guards.Guard.{Guard}
 use Rattle.patmos_instr.specs.declared.instructions.Op.{Op}
 use Rattle.patmos_instr.specs.declared.instructions.Op.TheVariants as op
-use Rattle.patmos_asm.specs.declared.faults.AsmKind.TheVariants.{Operand}
-use Rattle.patmos_asm.specs.declared.forms.Flow.{Flow}
-use Rattle.patmos_asm.specs.declared.forms.Flow.TheVariants.{Branch, Call, BranchFill}
-use Rattle.patmos_asm.specs.declared.forms.Form.{Form}
-use Rattle.patmos_asm.specs.declared.forms.Form.TheVariants.{AluReg, AluImm, AluLong, Mul, Cmp, CmpImm, Comb, ToSpecial, FromSpecial, Stack, Load, Store, Return, Nop}
-use Rattle.patmos_asm.specs.Faults.{◌>>=◌}
-use Rattle.patmos_asm.specs.Readers.{is_in_word, begins_name, is_in_name, is_name, word_at, at_end}
-use Rattle.patmos_asm.specs.Drafts.{Draft, ready, to, name_in, draft_in}
-use Rattle.patmos_asm.specs.Operands.{Token, register, predicate, negation, number, offset, special, writable, sign, read}
-use Rattle.patmos_asm.specs.Forms.{mnemonic, flow_name, flow_of, form_of, operands, below, guard_of, op_of, op_in}
+use Rattle.patmos_syntax.specs.declared.faults.AsmKind.TheVariants.{Operand}
+use Rattle.patmos_syntax.specs.declared.forms.Flow.{Flow}
+use Rattle.patmos_syntax.specs.declared.forms.Flow.TheVariants.{Branch, Call, BranchFill}
+use Rattle.patmos_syntax.specs.declared.forms.Form.{Form}
+use Rattle.patmos_syntax.specs.declared.forms.Form.TheVariants.{AluReg, AluImm, AluLong, Mul, Cmp, CmpImm, Comb, ToSpecial, FromSpecial, Stack, Load, Store, Return, Nop}
+use Rattle.patmos_syntax.specs.Faults.{◌>>=◌}
+use Rattle.patmos_syntax.specs.Readers.{is_in_word, begins_name, is_in_name, is_name, word_at, at_end}
+use Rattle.patmos_syntax.specs.Drafts.{Draft, ready, to, name_in, draft_in}
+use Rattle.patmos_syntax.specs.Operands.{Token, register, predicate, negation, number, offset, special, writable, sign, read}
+use Rattle.patmos_syntax.specs.Forms.{mnemonic, flow_name, flow_of, form_of, operands, below, guard_of, op_of, op_in}
 use Rattle.patmos_asm.specs.Written.{written, form_text, op_text, draft_text, flag}
 use Rattle.patmos_asm.proofs.Lines.{is_harmless}
 use Rattle.patmos_asm.proofs.ReadWords.{ends_word, both, some_word_read}
 use Rattle.patmos_asm.proofs.ReadOperands.{is_row, AreValues, read_written}
+use Rattle.patmos_code.proofs.Numbers.{special_small, special_back, writable_special_small, writable_special_back}
 
 -- an operation that is written with a name
 abbrev pub is_flow : Op → Bool
@@ -88,18 +85,6 @@ flag_small false = omega arith
 
 pub guard_back : (g : Guard) → g.pred < 8 → guard_of (flag g.negated) g.pred ≡ Ok g
 guard_back g h = rw (below_fits 8 g.pred h, flag_back g.negated) refl
-
-writable_small : (s : WritableSpecial) → writable_special_number s < 5
-writable_small s = grind arith
-
-writable_back : (s : WritableSpecial) → slice_get writable_specials (writable_special_number s) ≡ Some s
-writable_back s = elim s as (λ y. slice_get writable_specials (writable_special_number y) ≡ Some y) [ writable_register.S0 ↦ refl | _ ↦ refl ]
-
-special_small : (s : Special) → special_number s < 7
-special_small s = grind arith
-
-special_back : (s : Special) → slice_get specials (special_number s) ≡ Some s
-special_back s = elim s as (λ y. slice_get specials (special_number y) ≡ Some y) [ special_register.S0 ↦ refl | _ ↦ refl ]
 
 -- what stands behind a mnemonic, where nothing but blanks follows it
 pub record Trails (trail : List ℕ) : Type 0 where
@@ -175,7 +160,7 @@ op_back trail (op.Comb f d a b) t h j =
     (rw (below_fits 8 d h.0, guard_back a h.1, guard_back b h.2) refl)
 op_back trail (op.ToSpecial s a) t h j =
     row_read trail ToSpecial writable (sign 61 ∷ register ∷ []) (writable_special_number s ∷ a ∷ []) (op.ToSpecial s a) refl t refl
-    (writable_small s, (wide a 32 (omega arith) h, tt)) (rw (writable_back s, below_fits 32 a h) refl)
+    (writable_special_small s, (wide a 32 (omega arith) h, tt)) (rw (writable_special_back s, below_fits 32 a h) refl)
 op_back trail (op.FromSpecial d s) t h j =
     row_read trail FromSpecial register (sign 61 ∷ special ∷ []) (d ∷ special_number s ∷ []) (op.FromSpecial d s) refl t refl
     (wide d 32 (omega arith) h, (special_small s, tt)) (rw (below_fits 32 d h, special_back s) refl)

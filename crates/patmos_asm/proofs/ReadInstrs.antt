@@ -7,13 +7,13 @@ use Rattle.std.proofs.lemmas.Bool.Decides.{nat_tests}
 use Rattle.patmos_instr.specs.declared.functions.ImmFunc.TheVariants as imm
 use Rattle.patmos_instr.specs.declared.guards.Guard.{Guard}
 use Rattle.patmos_instr.specs.declared.instructions.Op.TheVariants as op
-use Rattle.patmos_asm.specs.declared.faults.AsmKind.{AsmKind}
-use Rattle.patmos_asm.specs.declared.faults.AsmKind.TheVariants.{Mnemonic}
-use Rattle.patmos_asm.specs.Faults.{◌>>=◌}
-use Rattle.patmos_asm.specs.Readers.{is_blank, is_in_word, word_at, sign_at}
-use Rattle.patmos_asm.specs.Operands.{numbered_at}
-use Rattle.patmos_asm.specs.Forms.{guard_at, guard_of}
-use Rattle.patmos_asm.specs.Drafts.{Draft, ready, DraftInstr, draft_in, instr_of}
+use Rattle.patmos_syntax.specs.declared.faults.AsmKind.{AsmKind}
+use Rattle.patmos_syntax.specs.declared.faults.AsmKind.TheVariants.{Mnemonic}
+use Rattle.patmos_syntax.specs.Faults.{◌>>=◌}
+use Rattle.patmos_syntax.specs.Readers.{is_blank, is_in_word, word_at, sign_at}
+use Rattle.patmos_syntax.specs.Operands.{numbered_at}
+use Rattle.patmos_syntax.specs.Forms.{guard_at, guard_of}
+use Rattle.patmos_syntax.specs.Drafts.{Draft, ready, DraftInstr, draft_in, instr_of}
 use Rattle.patmos_asm.specs.Written.{draft_text, guard_text, is_nop, instr_text, flag}
 use Rattle.patmos_asm.proofs.ReadWords.{both, some_word_read, numbered_at-read}
 use Rattle.patmos_asm.proofs.ReadForms.{IsRead, Trails, guard_back}

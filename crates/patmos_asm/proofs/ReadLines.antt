@@ -7,13 +7,13 @@ use Rattle.std.proofs.lemmas.List.{append-nil}
 use Rattle.std.proofs.lemmas.List.Folds.{list_all-append}
 use Rattle.patmos_instr.specs.declared.guards.Guard.{Guard}
 use Rattle.patmos_instr.specs.declared.instructions.Instr.{Instr}
-use Rattle.patmos_asm.specs.declared.statements.Where.TheVariants.{Plain, Braces}
-use Rattle.patmos_asm.specs.Readers.{is_in_word, is_name, without_blanks, word_len, word_at, sign_at, at_end}
-use Rattle.patmos_asm.specs.Statements.{Piece, kept, statements_of}
-use Rattle.patmos_asm.specs.Drafts.{Draft, ready, DraftInstr, DraftBundle}
-use Rattle.patmos_asm.specs.Items.{Item, function, label, bundle, faulty, label_at, function_item, statement_of, items_in, items_from}
+use Rattle.patmos_syntax.specs.declared.statements.Where.TheVariants.{Plain, Braces}
+use Rattle.patmos_syntax.specs.Readers.{is_in_word, is_name, without_blanks, word_len, word_at, sign_at, at_end}
+use Rattle.patmos_syntax.specs.Statements.{Piece, kept, statements_of}
+use Rattle.patmos_syntax.specs.Drafts.{Draft, ready, DraftInstr, DraftBundle}
+use Rattle.patmos_syntax.specs.Items.{Item, function, label, bundle, faulty, label_at, function_item, statement_of, items_in, items_from}
 use Rattle.patmos_asm.specs.Written.{draft_text, guard_text, is_nop, instr_text, plain_text, bundle_text}
-use Rattle.patmos_asm.proofs.Labels.{label_first, no_label}
+use Rattle.patmos_syntax.proofs.Labels.{label_first, no_label}
 use Rattle.patmos_asm.proofs.Lines.{is_harmless, both, lacks, harmless_lacks, lacks_blanks, no_colon, stays, harmless_stays, line_stated}
 use Rattle.patmos_asm.proofs.Harmless.{AreHarmless, name_harmless}
 use Rattle.patmos_asm.proofs.ReadWords.{some_word_read, no_blank}

@@ -3,8 +3,8 @@ use Rattle.std.proofs.Common.{arith, ◌≡◌, ◌∙◌, ℕ, zero, suc, ◌^�
 use Rattle.std.specs.List.{list_all}
 use Rattle.std.proofs.lemmas.Bool.Decides.{nat_tests}
 use Rattle.std.proofs.lemmas.List.{append-nil}
-use Rattle.patmos_asm.specs.Readers.{◌>>=◌, is_blank, is_in_word, without_blanks, sign_in_front, sign_at, at_end}
-use Rattle.patmos_asm.specs.Operands.{Token, register, predicate, negation, number, offset, special, writable, sign, special_names, named_at, value_at, read_behind, read}
+use Rattle.patmos_syntax.specs.Readers.{◌>>=◌, is_blank, is_in_word, without_blanks, sign_in_front, sign_at, at_end}
+use Rattle.patmos_syntax.specs.Operands.{Token, register, predicate, negation, number, offset, special, writable, sign, special_names, named_at, value_at, read_behind, read}
 use Rattle.patmos_asm.specs.Written.{sign_text, token_text, written}
 use Rattle.patmos_asm.proofs.ReadWords.{ends_word, both, not_false, some_word_read, number_at-read, numbered_at-read}
 
@@ -31,7 +31,7 @@ abbrev pub begins_predicate : List Token → Bool
 begins_predicate (predicate ∷ ts) = true
 begins_predicate _ = false
 
--- pieces that are told apart where they are written one behind another
+-- pieces that can be kept apart where they are written one behind another
 abbrev pub is_row : List Token → Bool
 is_row [] = true
 is_row (sign s ∷ ts) = not (is_blank s) && (not (is_in_word s) && ((is_some_row ts || not (is_padded s)) && is_row ts))

@@ -1,13 +1,13 @@
 -- Printed words are read back.
-use Rattle.std.proofs.Common.{arith, ◌≡◌, ◌∙◌, ℕ, ◌+◌, ◌*◌, ◌/◌, ◌%◌, ◌^◌, ◌<◌, ◌≤◌, ◌==◌, ◌&&◌, not, Bool, true, false, min, List, [], ◌∷◌, ◌++◌, length, take, drop, refl, ap, length-append, Option, Some, None, option_map}
+use Rattle.std.proofs.Common.{arith, ◌≡◌, ◌∙◌, ℕ, ◌+◌, ◌*◌, ◌/◌, ◌%◌, ◌^◌, ◌<◌, ◌≤◌, ◌==◌, ◌&&◌, not, Bool, true, false, List, [], ◌∷◌, ◌++◌, length, take, drop, refl, ap, length-append, Option, Some, None, option_map}
 use Rattle.std.proofs.lemmas.List.Folds.{list_all-append}
 use Rattle.std.specs.List.{list_all}
 use Rattle.std.specs.Fmt.{decimal}
 use Rattle.std.proofs.lemmas.Fmt.{decimal_by_steps}
 use Rattle.std.proofs.lemmas.Bool.Decides.{nat_tests}
-use Rattle.patmos_asm.specs.declared.readers.Radix.TheVariants.{Decimal}
-use Rattle.patmos_asm.specs.Readers.{◌>>=◌, is_blank, is_digit, without_blanks, is_in_word, word_len, word_at, digit_of, value_behind, written_number, number_of, numbered}
-use Rattle.patmos_asm.specs.Operands.{number_at, numbered_at}
+use Rattle.patmos_syntax.specs.declared.readers.Radix.TheVariants.{Decimal}
+use Rattle.patmos_syntax.specs.Readers.{◌>>=◌, is_blank, is_digit, without_blanks, is_in_word, word_len, word_at, digit_of, value_behind, written_number, numbered}
+use Rattle.patmos_syntax.specs.Operands.{number_at, numbered_at}
 
 -- no byte of a word stands in front
 abbrev pub ends_word : List ℕ → Bool
@@ -32,15 +32,15 @@ word_len-read (b ∷ bs) rest e h =
     let t = both (is_in_word b) (list_all is_in_word bs) e in
     rw (t.0, word_len-read bs rest t.1 h) (omega arith)
 
-take_front : (w rest : List ℕ) → take (length w) (w ++ rest) ≡ w
-take_front [] [] = refl
-take_front [] (b ∷ bs) = refl
-take_front (b ∷ bs) rest = ap (λ xs. b ∷ xs) (take_front bs rest)
+take_prefix : (w rest : List ℕ) → take (length w) (w ++ rest) ≡ w
+take_prefix [] [] = refl
+take_prefix [] (b ∷ bs) = refl
+take_prefix (b ∷ bs) rest = ap (λ xs. b ∷ xs) (take_prefix bs rest)
 
-drop_front : (w rest : List ℕ) → drop (length w) (w ++ rest) ≡ rest
-drop_front [] [] = refl
-drop_front [] (b ∷ bs) = refl
-drop_front (b ∷ bs) rest = drop_front bs rest
+drop_prefix : (w rest : List ℕ) → drop (length w) (w ++ rest) ≡ rest
+drop_prefix [] [] = refl
+drop_prefix [] (b ∷ bs) = refl
+drop_prefix (b ∷ bs) rest = drop_prefix bs rest
 
 pub no_blank : (b : ℕ) (bs : List ℕ) → is_in_word b ≡ true → without_blanks (b ∷ bs) ≡ b ∷ bs
 no_blank b bs e = rw (word_byte b e) refl
@@ -52,7 +52,7 @@ word_read b w rest e h =
     let u : without_blanks (b ∷ (w ++ rest)) ≡ b ∷ (w ++ rest) = no_blank b (w ++ rest) t.0 in
     let n : word_len ((b ∷ w) ++ rest) ≡ length (b ∷ w) = word_len-read (b ∷ w) rest e h in
     ap (λ x. (take (word_len x) x, drop (word_len x) x)) u ∙ ap (λ k. (take k ((b ∷ w) ++ rest), drop k ((b ∷ w) ++ rest))) n
-    ∙ ap (λ x. (x, drop (length (b ∷ w)) ((b ∷ w) ++ rest))) (take_front (b ∷ w) rest) ∙ ap (λ x. (b ∷ w, x)) (drop_front (b ∷ w) rest)
+    ∙ ap (λ x. (x, drop (length (b ∷ w)) ((b ∷ w) ++ rest))) (take_prefix (b ∷ w) rest) ∙ ap (λ x. (b ∷ w, x)) (drop_prefix (b ∷ w) rest)
 
 -- what decimal digits are
 pub record IsNumeral (n : ℕ) (ds : List ℕ) : Type 0 where
@@ -109,8 +109,8 @@ numeral_read n (b ∷ c ∷ ds) p =
     let u = both (is_digit c) (list_all is_digit ds) t.1 in
     rw (no_prefix c u.0, and_false (b == 48)) p.value
 
-pub number_read : (n : ℕ) → n < 2 ^ 32 → number_of (decimal n) ≡ Some n
-number_read n h = ap (option_map (min (2 ^ 32))) (numeral_read n (decimal n) (decimal_numeral n (omega arith))) ∙ ap Some (omega arith)
+pub number_read : (n : ℕ) → n < 2 ^ 32 → written_number (decimal n) ≡ Some n
+number_read n h = numeral_read n (decimal n) (decimal_numeral n (omega arith))
 
 digit_in_word : (b : ℕ) → is_digit b ≡ true → is_in_word b ≡ true
 digit_in_word b e = grind (arith, nat_tests)
@@ -130,7 +130,7 @@ pub number_at-read : (n : ℕ) (rest : List ℕ) → n < 2 ^ 32 → ends_word re
 number_at-read n rest h e =
     let p : IsNumeral n (decimal n) = decimal_numeral n (omega arith) in
     let w : word_at (decimal n ++ rest) ≡ (decimal n, rest) = some_word_read (decimal n) rest p.some (digits_in_word (decimal n) p.digits) e in
-    ap (λ (x : List ℕ × List ℕ). option_map (λ n. (n, x.1)) (number_of x.0)) w ∙ ap (option_map (λ n. (n, rest))) (number_read n h)
+    ap (λ (x : List ℕ × List ℕ). option_map (λ n. (n, x.1)) (written_number x.0)) w ∙ ap (option_map (λ n. (n, rest))) (number_read n h)
 
 same_letter : (letter : ℕ) → letter == letter ≡ true
 same_letter letter = grind (arith, nat_tests)

@@ -3,10 +3,10 @@ use Rattle.std.proofs.Common.{arith, ◌≡◌, ◌∙◌, ℕ, suc, ◌+◌, �
 use Rattle.std.specs.List.{zip}
 use Rattle.std.proofs.lemmas.List.{append-nil}
 use Rattle.patmos_code.specs.Codes.{code}
-use Rattle.patmos_asm.specs.Drafts.{DraftBundle}
-use Rattle.patmos_asm.specs.Items.{Item, function, label, bundle, faulty}
+use Rattle.patmos_syntax.specs.Drafts.{DraftBundle, size_of}
+use Rattle.patmos_syntax.specs.Items.{Item, function, label, bundle, faulty}
 use Rattle.patmos_asm.specs.Written.{bundle_text}
-use Rattle.patmos_asm.specs.Assembly.{Lookup, size_of, size_from, place_of, labels_from, functions_from, names_from, placed, words_from}
+use Rattle.patmos_asm.specs.Assembly.{Lookup, size_from, place_of, labels_from, functions_from, names_from, placed, words_from}
 use Rattle.patmos_asm.specs.Printed.{Placed, bundles_from, targets_of, is_target, label_name, named, label_line, lines_of, head_line, function_text, body_at, functions_text}
 use Rattle.patmos_asm.proofs.Images.{code_size}
 use Rattle.patmos_asm.proofs.Faultless.{Faultless, rest_faultless}

@@ -1,8 +1,9 @@
 -- Statements on other lines have the same code.
 use Rattle.std.proofs.Common.{◌≡◌, ◌∙◌, ℕ, ◌+◌, List, [], ◌∷◌, ◌++◌, map, refl, ap, None}
 use Rattle.patmos_code.specs.Codes.{code}
-use Rattle.patmos_asm.specs.Items.{Item, function, label, bundle, faulty}
-use Rattle.patmos_asm.specs.Assembly.{Lookup, Places, Before, size_of, size_from, place_of, labels_from, functions_from, names_from, placed, words_from, fault_of, after, first_fault, parts_in, CodeParts}
+use Rattle.patmos_syntax.specs.Items.{Item, function, label, bundle, faulty}
+use Rattle.patmos_asm.specs.Assembly.{Lookup, Places, Before, size_from, place_of, labels_from, functions_from, names_from, placed, words_from, fault_of, after, first_fault, parts_in, CodeParts}
+use Rattle.patmos_syntax.specs.Drafts.{size_of}
 use Rattle.patmos_asm.proofs.ReadLines.{numbered}
 use Rattle.patmos_asm.proofs.Faultless.{no_fault_first}
 use Rattle.patmos_asm.proofs.Unfaulted.{none_first}

@@ -3,12 +3,12 @@ use Rattle.std.proofs.Common.{arith, ◌≡◌, ◌∙◌, ℕ, ◌+◌, ◌≤�
 use Rattle.patmos_instr.specs.declared.instructions.Instr.{Instr}
 use Rattle.patmos_instr.specs.declared.instructions.Op.{Op}
 use Rattle.patmos_instr.specs.declared.instructions.Op.TheVariants as op
-use Rattle.patmos_asm.specs.declared.forms.Flow.TheVariants.{Branch, Call, BranchFill}
-use Rattle.patmos_asm.specs.Readers.{is_name}
-use Rattle.patmos_asm.specs.Drafts.{Draft, ready, to, DraftBundle, is_long_draft}
-use Rattle.patmos_asm.specs.Items.{Item, function, label, bundle, faulty}
+use Rattle.patmos_syntax.specs.declared.forms.Flow.TheVariants.{Branch, Call, BranchFill}
+use Rattle.patmos_syntax.specs.Readers.{is_name}
+use Rattle.patmos_syntax.specs.Drafts.{Draft, ready, to, DraftBundle, is_long_draft, size_of}
+use Rattle.patmos_syntax.specs.Items.{Item, function, label, bundle, faulty}
 use Rattle.patmos_asm.specs.Bounds.{InBounds}
-use Rattle.patmos_asm.specs.Assembly.{Lookup, size_of, place_of, labels_from, is_known, placed_op, placed}
+use Rattle.patmos_asm.specs.Assembly.{Lookup, place_of, labels_from, is_known, placed_op, placed}
 use Rattle.patmos_asm.specs.Printed.{label_name, named_op, named}
 use Rattle.patmos_asm.proofs.ReadBundles.{IsPrintable, IsPrintableDraft, IsPrintableSecond}
 use Rattle.patmos_asm.proofs.ReadLines.{ArePrintable}

@@ -1,8 +1,9 @@
 -- The printed text of a code has that code.
 use Rattle.std.proofs.Common.{arith, ◌≡◌, ◌∙◌, ℕ, ◌+◌, ◌<◌, ◌==◌, Bool, false, List, [], ◌∷◌, ◌++◌, length, map, refl, sym, ap, subst, None, Ok}
 use Rattle.std.proofs.lemmas.Bool.Decides.{nat_tests}
-use Rattle.patmos_asm.specs.Items.{Item, function, label, bundle, faulty, items_of}
-use Rattle.patmos_asm.specs.Assembly.{Lookup, nothing, size_of, place_of, functions_from, names_from, is_known, no_function, fault_of, first_fault, words_from, CodeParts, parts_in, code_in, code_of}
+use Rattle.patmos_syntax.specs.Items.{Item, function, label, bundle, faulty, items_of}
+use Rattle.patmos_asm.specs.Assembly.{Lookup, nothing, place_of, functions_from, names_from, is_known, no_function, fault_of, first_fault, words_from, CodeParts, parts_in, code_in, code_of}
+use Rattle.patmos_syntax.specs.Drafts.{size_of}
 use Rattle.patmos_asm.specs.SomeText.{IsCode}
 use Rattle.patmos_asm.specs.Printed.{lines_of, name_at, functions_text, targets_of, is_target, printed}
 use Rattle.patmos_asm.proofs.Answered.{answered}

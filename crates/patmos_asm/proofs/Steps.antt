@@ -1,11 +1,11 @@
 -- One statement of a list after another.
 use Rattle.std.proofs.Common.{arith, ◌≡◌, ℕ, ◌+◌, ◌<◌, ◌≤◌, List, ◌∷◌, length, get_or, drop, refl, ap, add-one, None}
 use Rattle.std.proofs.Math.Seq.{drop-cons}
-use Rattle.patmos_asm.specs.declared.items.Item as code
-use Rattle.patmos_asm.specs.Items.{Item, function, label, bundle, faulty}
-use Rattle.patmos_asm.specs.Drafts.{DraftBundle}
-use Rattle.patmos_asm.specs.Assembly.{Lookup, Before, size_of, fault_of, labels_after, after, first_fault}
-use Rattle.patmos_asm.specs.Shown.{shown_item, shown_items}
+use Rattle.patmos_syntax.specs.declared.items.Item as code
+use Rattle.patmos_syntax.specs.Items.{Item, function, label, bundle, faulty}
+use Rattle.patmos_syntax.specs.Drafts.{DraftBundle, size_of}
+use Rattle.patmos_asm.specs.Assembly.{Lookup, Before, fault_of, labels_after, after, first_fault}
+use Rattle.patmos_syntax.specs.Shown.{shown_item, shown_items}
 
 -- the statements from one on are that one and those behind it
 pub item_first : (items : List code.Item) (item : code.Item) (i : ℕ) → i < length items → item ≡ get_or items i item →

@@ -4,10 +4,10 @@ use Rattle.std.proofs.lemmas.Bool.Decides.{nat_tests}
 use Rattle.std.proofs.lemmas.Int.{ints}
 use Rattle.patmos_instr.specs.declared.instructions.Op.{Op}
 use Rattle.patmos_instr.specs.declared.instructions.Op.TheVariants as op
-use Rattle.patmos_asm.specs.declared.forms.Flow.TheVariants.{Branch, Call, BranchFill}
-use Rattle.patmos_asm.specs.Drafts.{Draft, ready, to, DraftBundle}
-use Rattle.patmos_asm.specs.Items.{Item, function, label, bundle, faulty}
-use Rattle.patmos_asm.specs.Assembly.{Lookup, size_of, place_of, labels_from, placed_op, placed, is_known}
+use Rattle.patmos_syntax.specs.declared.forms.Flow.TheVariants.{Branch, Call, BranchFill}
+use Rattle.patmos_syntax.specs.Drafts.{Draft, ready, to, DraftBundle, size_of}
+use Rattle.patmos_syntax.specs.Items.{Item, function, label, bundle, faulty}
+use Rattle.patmos_asm.specs.Assembly.{Lookup, place_of, labels_from, placed_op, placed, is_known}
 use Rattle.patmos_asm.specs.Printed.{natural, targets_of, is_target, label_name, named_op, named}
 use Rattle.patmos_asm.proofs.ReadForms.{is_flow}
 use Rattle.patmos_asm.proofs.ReadBundles.{IsPrintableDraft}

@@ -3,13 +3,13 @@ use Rattle.std.proofs.Common.{arith, ◌≡◌, ◌∙◌, ℕ, ◌+◌, ◌^◌
 use Rattle.std.specs.Option.{option_or}
 use Rattle.std.proofs.lemmas.Bool.Decides.{nat_tests}
 use Rattle.std.proofs.lemmas.List.Folds.{list_any-append}
-use Rattle.patmos_asm.specs.declared.faults.AsmKind.{AsmKind}
-use Rattle.patmos_asm.specs.declared.faults.AsmKind.TheVariants.{NoLabel, LabelTwice, TooLarge, NoFunction}
+use Rattle.patmos_syntax.specs.declared.faults.AsmKind.{AsmKind}
+use Rattle.patmos_syntax.specs.declared.faults.AsmKind.TheVariants.{NoLabel, LabelTwice, TooLarge, NoFunction}
 use Rattle.patmos_asm.specs.declared.faults.AsmFault.{AsmFault}
-use Rattle.patmos_asm.specs.Drafts.{DraftBundle}
-use Rattle.patmos_asm.specs.Items.{Item, function, label, bundle, faulty}
+use Rattle.patmos_syntax.specs.Drafts.{DraftBundle, size_of}
+use Rattle.patmos_syntax.specs.Items.{Item, function, label, bundle, faulty}
 use Rattle.patmos_asm.specs.Bounds.{InBounds}
-use Rattle.patmos_asm.specs.Assembly.{Lookup, Before, size_of, place_of, labels_from, is_among, noted, is_known, no_function, fault_of, after, told, first_fault, placed}
+use Rattle.patmos_asm.specs.Assembly.{Lookup, Before, place_of, labels_from, is_among, noted, is_known, no_function, fault_of, after, reported, first_fault, placed}
 use Rattle.patmos_asm.specs.Printed.{label_name, named}
 use Rattle.patmos_asm.proofs.ParsedItems.{FitAll}
 use Rattle.patmos_asm.proofs.Relabeled.{mark, branched_of, relabeled}
@@ -37,7 +37,7 @@ free_noted off ls h free n k b =
     rw (here, list_any-append (bytes_eq (label_name n)) ls (label_name off ∷ []), there, apart) refl
 
 -- statements have no fault where the first has none, nor the rest
-pub none_first : (i : Item) (fault : Option AsmKind) (rest : Option AsmFault) → fault ≡ None → rest ≡ None → option_or (told i fault) rest ≡ None
+pub none_first : (i : Item) (fault : Option AsmKind) (rest : Option AsmFault) → fault ≡ None → rest ≡ None → option_or (reported i fault) rest ≡ None
 none_first i None rest e r = r
 none_first i (Some f) rest e r = cc
 

@@ -1,6 +1,6 @@
 -- The places of functions in an image without a fault.
 use Rattle.std.proofs.Common.{◌≡◌, ℕ, ◌≤◌, List, None}
-use Rattle.patmos_asm.specs.Items.{Item}
+use Rattle.patmos_syntax.specs.Items.{Item}
 use Rattle.patmos_asm.specs.Assembly.{Lookup, Before, first_fault}
 
 -- statements without a fault, of which the first stands at this place of the image

@@ -1,10 +1,10 @@
 -- The words of one statement after another.
 use Rattle.std.proofs.Common.{arith, ◌≡◌, ◌∙◌, ℕ, ◌+◌, ◌<◌, ◌≤◌, List, [], ◌∷◌, ◌++◌, length, get_or, drop, refl, sym, ap, append_assoc, None, subst}
 use Rattle.std.proofs.lemmas.List.{append-nil, at_drop_all}
-use Rattle.patmos_asm.specs.declared.items.Item as code
-use Rattle.patmos_asm.specs.Items.{Item}
+use Rattle.patmos_syntax.specs.declared.items.Item as code
+use Rattle.patmos_syntax.specs.Items.{Item}
 use Rattle.patmos_asm.specs.Assembly.{Lookup, nothing, place_of, functions_from, size_from, labels_after, first_fault, item_words, offset_after, words_from}
-use Rattle.patmos_asm.specs.Shown.{shown_item, shown_items}
+use Rattle.patmos_syntax.specs.Shown.{shown_item, shown_items}
 use Rattle.patmos_asm.proofs.Steps.{item_first}
 use Rattle.patmos_asm.proofs.Faultless.{Faultless, functions_small, rest_faultless, size_fits}
 

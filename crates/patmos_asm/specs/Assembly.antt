@@ -5,17 +5,14 @@ use Rattle.std.specs.Option.{option_or, option_map}
 use Rattle.patmos_instr.specs.Bundles.{Slots}
 use Rattle.patmos_instr.specs.declared.instructions.Op.{Op}
 use Rattle.patmos_instr.specs.declared.instructions.Op.TheVariants as op
+use Rattle.patmos_code.specs.declared.images.TheConstants.{MOST_IN_FUNCTION, MOST_IN_IMAGE}
 use Rattle.patmos_code.specs.Codes.{code}
-use Rattle.patmos_asm.specs.declared.faults.AsmKind.{AsmKind}
-use Rattle.patmos_asm.specs.declared.faults.AsmKind.TheVariants.{NoLabel, LabelTwice, TooLarge, NoFunction}
+use Rattle.patmos_syntax.specs.declared.faults.AsmKind.{AsmKind}
+use Rattle.patmos_syntax.specs.declared.faults.AsmKind.TheVariants.{NoLabel, LabelTwice, TooLarge, NoFunction}
 use Rattle.patmos_asm.specs.declared.faults.AsmFault.{AsmFault}
-use Rattle.patmos_asm.specs.declared.forms.Flow.TheVariants.{Branch, Call, BranchFill}
-use Rattle.patmos_asm.specs.Drafts.{Draft, ready, to, DraftBundle, is_long_draft}
-use Rattle.patmos_asm.specs.Items.{Item, function, label, bundle, faulty, items_of}
-
--- how many words a bundle has
-abbrev pub size_of : DraftBundle → ℕ
-size_of b = if is_long_draft b.first.draft || is_some b.second then 2 else 1
+use Rattle.patmos_syntax.specs.declared.forms.Flow.TheVariants.{Branch, Call, BranchFill}
+use Rattle.patmos_syntax.specs.Drafts.{Draft, ready, to, DraftBundle, size_of}
+use Rattle.patmos_syntax.specs.Items.{Item, function, label, bundle, faulty, line_of, items_of}
 
 -- ---- the names that a text sets, and their places
 
@@ -95,10 +92,10 @@ is_known functions labels (to BranchFill name) = is_some (functions name)
 
 -- the image, or a function, with so many words is too large
 abbrev pub large_image : ℕ → Bool
-large_image words = nat_lt 32768 words
+large_image words = nat_lt MOST_IN_IMAGE words
 
 abbrev pub large_function : ℕ → Bool
-large_function words = nat_lt 4096 words
+large_function words = nat_lt MOST_IN_FUNCTION words
 
 abbrev pub no_function : Before → Option AsmKind
 no_function before = if length before.functions == 0 then Some NoFunction else None
@@ -125,25 +122,19 @@ after before (label _ name) = record before { labels = noted name before.labels 
 after before (bundle _ b) = record before { size = before.size + size_of b; image = before.image + size_of b }
 after before (faulty _ _) = before
 
-abbrev pub line_of : Item → ℕ
-line_of (function line _) = line
-line_of (label line _) = line
-line_of (bundle line _) = line
-line_of (faulty line _) = line
-
 -- the labels of the function in which what follows a statement stands
 abbrev pub labels_after : Lookup → Item → List Item → Lookup
 labels_after labels (function _ _) is = place_of (labels_from 0 is)
 labels_after labels _ is = labels
 
-abbrev pub told : Item → Option AsmKind → Option AsmFault
-told item fault = option_map (λ f. record { fault = f; line = line_of item }) fault
+abbrev pub reported : Item → Option AsmKind → Option AsmFault
+reported item fault = option_map (λ f. record { fault = f; line = line_of item }) fault
 
 -- the fault of the first faulty statement
 abbrev pub first_fault : Lookup → Lookup → Before → List Item → Option AsmFault
 first_fault functions labels before [] = None
 first_fault functions labels before (i ∷ is) =
-    option_or (told i (fault_of functions labels before i)) (first_fault functions (labels_after labels i is) (after before i) is)
+    option_or (reported i (fault_of functions labels before i)) (first_fault functions (labels_after labels i is) (after before i) is)
 
 -- ---- the code
 

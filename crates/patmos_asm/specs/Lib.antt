@@ -1,13 +1,4 @@
-pub mod Readers
-pub mod Statements
-pub mod Faults
-pub mod Operands
 pub mod Written
-pub mod Forms
-pub mod Gives
-pub mod Beside
-pub mod Drafts
-pub mod Items
 pub mod Assembly
 pub mod Bounds
 pub mod Refuses
@@ -16,4 +7,3 @@ pub mod Names
 pub mod Before
 pub mod Targets
 pub mod Printed
-pub mod Shown

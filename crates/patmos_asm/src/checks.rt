@@ -1,21 +1,15 @@
-ghost use Rattle.std.specs.Prelude.{◌≡◌, ◌+◌, ◌^◌, ◌<◌, ◌≤◌, [], is_some, IfOk, OnOk};
+ghost use Rattle.std.specs.Prelude.{◌≡◌, ℕ, List, ◌+◌, ◌^◌, ◌<◌, ◌≤◌, [], is_some, IfOk, OnOk};
 ghost use Rattle.patmos_asm.specs.Assembly as specs;
 ghost use Rattle.patmos_asm.specs.Names.{place_in, names_in};
 ghost use Rattle.patmos_asm.specs.Before.{shown_before};
-ghost use Rattle.patmos_asm.specs.Shown.{shown_draft, shown_bundle, shown_item, shown_items};
+ghost use Rattle.patmos_syntax.specs.Shown.{shown_draft, shown_bundle, shown_item, shown_items};
 
-use crate::draft_types::DraftBundle;
-use crate::faults::{AsmFault, AsmKind};
-use crate::forms::Flow;
-use crate::items::Item;
-use crate::names::{Places, functions_of, labels_after, labels_of};
+use crate::faults::AsmFault;
+use crate::names::{Places, labels_after, labels_of};
 use indexmap::IndexSet;
+use patmos_code::{MOST_IN_FUNCTION, MOST_IN_IMAGE};
+use patmos_syntax::{AsmKind, DraftBundle, Flow, Item};
 use std::alloc::{AllocError, Global};
-
-/// The most words of a function, and of an image.
-const MOST_IN_FUNCTION: usize = 4_096;
-
-const MOST_IN_IMAGE: usize = 32_768;
 
 /// Names that were set.
 type Names<'a> = IndexSet<&'a [u8]>;
@@ -149,22 +143,26 @@ impl<'a> Before<'a> {
     }
 }
 
-/// The fault of the first faulty statement.
-pub fn first_fault(alloc: Global, items: &[Item]) -> Result<Option<AsmFault>, AllocError>
-    ensures { IfOk result (λ told. told
+/// The fault of the first faulty statement, where the functions have these places.
+pub fn first_fault(
+    alloc: Global,
+    functions: &Places<'_>,
+    items: &[Item],
+) -> Result<Option<AsmFault>, AllocError>
+    requires places { (q : List ℕ) → place_in functions.now q ≡ specs.place_of (specs.functions_from 0 (shown_items items.now)) q }
+    ensures { IfOk result (λ reported. reported
         ≡ specs.first_fault (specs.place_of (specs.functions_from 0 (shown_items items.now))) (specs.place_of []) specs.nothing (shown_items items.now)) }
 {
-    let functions = functions_of(alloc, items)?;
-    fault_among(alloc, &functions, items)
+    fault_among(alloc, functions, items)
 }
 
-// the same, where the functions are known
+// the same, where the places are those of any functions
 fn fault_among(
     alloc: Global,
     functions: &Places<'_>,
     items: &[Item],
 ) -> Result<Option<AsmFault>, AllocError>
-    ensures { IfOk result (λ told. told
+    ensures { IfOk result (λ reported. reported
         ≡ specs.first_fault (place_in functions.now) (specs.place_of []) specs.nothing (shown_items items.now)) }
 {
     let mut labels = labels_of(alloc, &[])?;

@@ -1,15 +1,16 @@
-ghost use Rattle.std.specs.Prelude.{◌≡◌, ◌^◌, ◌<◌, length, map, [], None, IfOk, IfErr};
+ghost use Rattle.std.specs.Prelude.{◌≡◌, ℕ, List, ◌^◌, ◌<◌, length, map, [], None, IfOk, IfErr};
 ghost use Rattle.patmos_code.specs.Images.{parts};
 ghost use Rattle.patmos_asm.specs.Assembly.{functions_from, names_from, place_of, nothing, first_fault, parts_in, code_of};
+ghost use Rattle.patmos_asm.specs.Names.{place_in};
 ghost use Rattle.patmos_asm.specs.Refuses.{Refuses};
-ghost use Rattle.patmos_asm.specs.Shown.{shown_items};
+ghost use Rattle.patmos_syntax.specs.Shown.{shown_items};
 
 use crate::checks::first_fault;
-use crate::faults::{AsmError, AsmFault, AsmKind};
-use crate::items::{Item, items_of};
-use crate::names::functions_of;
+use crate::faults::{AsmError, AsmFault};
+use crate::names::{Places, functions_of};
 use crate::words::words_of;
-use patmos_code::Image;
+use patmos_code::{INPUT_WORDS, Image};
+use patmos_syntax::{AsmKind, Item, items_of};
 use std::alloc::{AllocError, Global};
 use std::marker::Model;
 use tc_word::{List, Text};
@@ -67,13 +68,17 @@ impl Model for Code {
     ghost invariant = { λ c. IsCode (record { names = c.names; starts = c.starts; words = c.words }) };
 }
 
-// the code of statements without a fault
-fn parts_of(alloc: Global, items: &[Item]) -> Result<(Vec<Text>, Vec<u32>, Vec<u32>), AllocError>
-    requires { first_fault (place_of (functions_from 0 (shown_items items.now))) (place_of []) nothing (shown_items items.now) ≡ None }
+// the code of statements without a fault, whose functions have these places
+fn parts_of(
+    alloc: Global,
+    functions: &Places<'_>,
+    items: &[Item],
+) -> Result<(Vec<Text>, Vec<u32>, Vec<u32>), AllocError>
+    requires places { (q : List ℕ) → place_in functions.now q ≡ place_of (functions_from 0 (shown_items items.now)) q }
+    requires faultless { first_fault (place_of (functions_from 0 (shown_items items.now))) (place_of []) nothing (shown_items items.now) ≡ None }
     ensures { IfOk result (λ p. record { names = p.0.items; starts = p.1.items; words = p.2.items } ≡ parts_in (shown_items items.now)) }
 {
-    let functions = functions_of(alloc, items)?;
-    let words = words_of(alloc, &functions, items)?;
+    let words = words_of(alloc, functions, items)?;
     let names = names_of(alloc, items)?;
     let starts = starts_of(alloc, items)?;
     Ok((names, starts, words))
@@ -90,10 +95,11 @@ pub fn assemble(alloc: Global, text: &str) -> Result<Code, AsmError>
         let fault = AsmKind::NoFunction;
         return Err(AsmError::Fault(AsmFault { fault, line: 1 }));
     }
-    if let Some(fault) = first_fault(alloc, items.as_slice())? {
+    let functions = functions_of(alloc, items.as_slice())?;
+    if let Some(fault) = first_fault(alloc, &functions, items.as_slice())? {
         return Err(AsmError::Fault(fault));
     }
-    let (names, starts, words) = parts_of(alloc, items.as_slice())?;
+    let (names, starts, words) = parts_of(alloc, &functions, items.as_slice())?;
     Ok(Code {
         names: List::of(names),
         starts: List::of(starts),
@@ -130,10 +136,10 @@ impl Code {
 }
 
 /// The image of an assembly task: the code's words and starts, no words of private memory, and input from
-/// private word 4 on with room for 4,096 words.
+/// private word 4 on with room for [`INPUT_WORDS`].
 #[tactic(auto, using(crate::proofs::Images::code_is_image))]
 pub fn image_of(code: Code) -> Image
-    ensures { result ≡ parts code.words code.starts [] 4 4096 }
+    ensures { result ≡ parts code.words code.starts [] 4 INPUT_WORDS }
 {
     let Code {
         names: _,
@@ -142,5 +148,5 @@ pub fn image_of(code: Code) -> Image
     } = code;
     let words = words.into_vec();
     let initial = Vec::new(*words.allocator());
-    Image::of(List::of(words), starts, List::of(initial), 4, 4096)
+    Image::of(List::of(words), starts, List::of(initial), 4, INPUT_WORDS)
 }

@@ -1,9 +1,9 @@
 ghost use Rattle.std.specs.Prelude.{◌≡◌, ◌++◌, [], ◌∷◌, Ok, Err, codes};
-ghost use Rattle.patmos_asm.specs.declared.faults.AsmKind.TheVariants.{Mnemonic, Operand, Range, Slot, NoLabel, LabelTwice, NoFunction};
+ghost use Rattle.patmos_syntax.specs.declared.faults.AsmKind.TheVariants.{Mnemonic, Operand, Range, Slot, NoLabel, LabelTwice, NoFunction};
 ghost use Rattle.patmos_asm.specs.Assembly.{code_of};
 
 /// Worked texts, for contracts: the definition of a text's code computes. It does nothing.
-#[tactic(auto, unfolding(crate::specs::Assembly::code_of, crate::specs::Assembly::code_in, crate::specs::Items::items_of, crate::specs::Items::statement_of, crate::specs::Drafts::bundle_of, crate::specs::Drafts::braces_of, crate::specs::Drafts::instr_of, crate::specs::Drafts::draft_in, patmos_code::specs::Codes::code))]
+#[tactic(auto, unfolding(crate::specs::Assembly::code_of, crate::specs::Assembly::code_in, patmos_syntax::specs::Items::items_of, patmos_syntax::specs::Items::statement_of, patmos_syntax::specs::Drafts::bundle_of, patmos_syntax::specs::Drafts::braces_of, patmos_syntax::specs::Drafts::instr_of, patmos_syntax::specs::Drafts::draft_in, patmos_code::specs::Codes::code))]
 pub fn worked_texts()
     ensures store { code_of (codes ".func main; addl r2 = r0, 0x01000000; swm [r2 + 0] = r3; ret") ≡
         Ok (record { names = codes "main" ∷ []; starts = 1 ∷ []; words = 4 ∷ 0x8584_0000 ∷ 0x0100_0000 ∷ 0x0446_2180 ∷ 0x0540_0000 ∷ [] }) }

@@ -2,10 +2,10 @@ ghost use Rattle.std.specs.Prelude.{◌≡◌, ◌≤◌, ℕ, List, bytes_eq, i
 ghost use Rattle.std.specs.Option.{option_or};
 ghost use Rattle.patmos_asm.specs.Assembly.{place_of, labels_from, functions_from, labels_after};
 ghost use Rattle.patmos_asm.specs.Names.{place_in};
-ghost use Rattle.patmos_asm.specs.Shown.{shown_item, shown_items};
+ghost use Rattle.patmos_syntax.specs.Shown.{shown_item, shown_items};
 
-use crate::items::Item;
 use indexmap::IndexMap;
+use patmos_syntax::Item;
 use std::alloc::{AllocError, Global};
 
 /// Names and their places, in words.

@@ -3,14 +3,12 @@ ghost use Rattle.patmos_code.specs.Codes.{code};
 ghost use Rattle.patmos_asm.specs.Assembly as specs;
 ghost use Rattle.patmos_asm.specs.Bounds.{InBounds};
 ghost use Rattle.patmos_asm.specs.Names.{place_in};
-ghost use Rattle.patmos_asm.specs.Shown.{shown_bundle, shown_jump, shown_item, shown_items};
+ghost use Rattle.patmos_syntax.specs.Shown.{shown_bundle, shown_jump, shown_item, shown_items};
 
-use crate::draft_types::{DraftBundle, Jump};
-use crate::forms::Flow;
-use crate::items::Item;
 use crate::names::{Places, labels_after, labels_of};
-use patmos_code::encode;
+use patmos_code::{MOST_IN_FUNCTION, encode};
 use patmos_instr::{Addr22, Bundle, Instr, Off22, Op};
+use patmos_syntax::{DraftBundle, Flow, Item, Jump};
 use std::alloc::{AllocError, Global};
 
 // the words up to the next function
@@ -40,7 +38,7 @@ fn place_of(name: &[u8], places: &Places<'_>) -> usize
 
 // the way from one offset in a function to another
 fn distance(from: usize, to: usize) -> Off22
-    requires { (from ≤ 4096) × (to ≤ 4096) }
+    requires { (from ≤ MOST_IN_FUNCTION) × (to ≤ MOST_IN_FUNCTION) }
     ensures { result ≡ pos to -ℤ pos from }
 {
     match Off22::new(to as i32 - from as i32) {
@@ -113,7 +111,7 @@ fn push_item(
     rest: &[Item],
 ) -> Result<(), AllocError>
     requires places { InBounds (place_in functions.now) (place_in labels.now) at }
-    requires size { specs.size_from (shown_items rest.now) ≤ 4096 }
+    requires size { specs.size_from (shown_items rest.now) ≤ MOST_IN_FUNCTION }
     ensures { OnOk result (words.new.items
         ≡ words.old.items ++ specs.item_words (place_in functions.now) (place_in labels.now) at (shown_item item.now) (shown_items rest.now)) }
 {
@@ -127,17 +125,15 @@ fn push_item(
     Ok(())
 }
 
-impl Item {
-    // the offset behind it in its function, where it stands at this one
-    fn offset_after(&self, at: usize) -> usize
-        requires { at < 2 ^ 63 }
-        ensures { result ≡ specs.offset_after at (shown_item self.now) }
-    {
-        match self {
-            Item::Function { .. } => 0,
-            Item::Bundle { bundle, .. } => at + bundle.size(),
-            Item::Label { .. } | Item::Faulty { .. } => at,
-        }
+// the offset behind a statement in its function, where it stands at this one
+fn offset_after(at: usize, item: &Item) -> usize
+    requires { at < 2 ^ 63 }
+    ensures { result ≡ specs.offset_after at (shown_item item.now) }
+{
+    match item {
+        Item::Function { .. } => 0,
+        Item::Bundle { bundle, .. } => at + bundle.size(),
+        Item::Label { .. } | Item::Faulty { .. } => at,
     }
 }
 
@@ -159,7 +155,7 @@ pub fn words_of(
         let (_, rest) = items.split_at(i + 1);
         push_item(&mut words, functions, &labels, at, item, rest)?;
         labels = labels_after(alloc, labels, item, rest)?;
-        at = item.offset_after(at);
+        at = offset_after(at, item);
     }
     Ok(words)
 }

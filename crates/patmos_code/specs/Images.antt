@@ -1,8 +1,9 @@
 -- An image of code: what a core is started with. The words are for each function its size in words and
 -- then its words; so the first function starts at word 1. The form and the limits are those of TP1, our
--- profile of Patmos: a method cache of 4,096 words and a code store of 32,768.
+-- profile of Patmos, with its method cache and its code store.
 use Rattle.std.specs.Prelude.{◌≡◌, ℕ, zero, suc, ◌+◌, ◌-◌, ◌<◌, ◌≤◌, List, [], ◌∷◌, length, slice_index}
 use Rattle.std.specs.List.{All}
+use Rattle.patmos_code.specs.declared.images.TheConstants.{DATA_WORDS, MOST_IN_FUNCTION, MOST_IN_IMAGE}
 
 -- the parts of an image: the words of code; the places of words at which its functions start; the words
 -- that private memory has at first, from private word 4 on; the private word from which on the input is
@@ -52,11 +53,11 @@ pub record IsRising (xs : List ℕ) : Type 0 where
   pub rises : (i j : ℕ) → i < j → j < length xs → slice_index xs i < slice_index xs j
 
 -- a function that starts at a place of a list of words: its size stands in the word before, its words
--- stand in the list, and they are at most 4,096
+-- stand in the list, and they are not too many
 pub record IsFunction (words : List ℕ) (start : ℕ) : Type 0 where
   pub after : 0 < start
   pub inside : start + slice_index words (start - 1) ≤ length words
-  pub small : slice_index words (start - 1) ≤ 4096
+  pub small : slice_index words (start - 1) ≤ MOST_IN_FUNCTION
 
 -- what an image keeps
 pub record IsImage (p : Parts) : Type 0 where
@@ -67,10 +68,10 @@ pub record IsImage (p : Parts) : Type 0 where
   -- the words of the last function are all there
   pub whole : lacking p.words ≡ 0
   -- each function fits the method cache, and all of them the code store
-  pub small : All (λ size. size ≤ 4096) (sizes_of p.words)
-  pub within : length p.words ≤ 32768
+  pub small : All (λ size. size ≤ MOST_IN_FUNCTION) (sizes_of p.words)
+  pub within : length p.words ≤ MOST_IN_IMAGE
   -- the initial words, from private word 4 on, end where the stack begins
-  pub initial : length p.initial ≤ 49148
+  pub initial : length p.initial ≤ DATA_WORDS - 4
   -- so does the room for the input, and it leaves private words 0 to 3 alone
   pub input_from : 4 ≤ p.input_at
-  pub input_room : p.input_at + p.input_room ≤ 49152
+  pub input_room : p.input_at + p.input_room ≤ DATA_WORDS

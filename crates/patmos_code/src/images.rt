@@ -6,11 +6,24 @@ ghost use Rattle.patmos_code.specs.Images.{parts, IsImage, IsFunction, IsRising}
 use std::marker::Model;
 use tc_word::List;
 
+/// The most words of a function, its size word not counted.
+pub const MOST_IN_FUNCTION: usize = 4_096;
+
+/// The most words of code of an image, the size words of its functions counted.
+pub const MOST_IN_IMAGE: usize = 32_768;
+
+/// How many words private memory has below the stack: those that an image's first words and its input
+/// may take.
+pub const DATA_WORDS: usize = 49_152;
+
+/// How many words of input an image that was assembled has room for.
+pub const INPUT_WORDS: u32 = 4_096;
+
 /// The code and the first memory of one core's task.
 ///
-/// The words of code are for each function its size in words, at most 4,096, and then its words; there
-/// is at least one function, and the words are at most 32,768 in all. The first function starts at
-/// word 1 and is the one that the task begins with.
+/// The words of code are for each function its size in words, at most [`MOST_IN_FUNCTION`], and then its
+/// words; there is at least one function, and the words are at most [`MOST_IN_IMAGE`] in all. The first
+/// function starts at word 1 and is the one that the task begins with.
 #[derive(Debug, Drop)]
 pub struct Image {
     words: List<u32>,
@@ -32,8 +45,8 @@ impl Model for Image {
 
 impl Image {
     /// The image of these parts: the words of code, the places at which its functions start, the words
-    /// of private memory from word 4 on (at most 49,148), and the private word at which the input begins
-    /// (at least 4) with the words of room for it (both together at most 49,152).
+    /// of private memory from word 4 on, and the private word at which the input begins (at least 4) with
+    /// the words of room for it; the former and the latter end within the first [`DATA_WORDS`].
     pub fn of(
         words: List<u32>,
         starts: List<u32>,

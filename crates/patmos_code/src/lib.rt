@@ -10,6 +10,8 @@
 //! input. It always keeps the limits that `specs/Images.antt` states.
 //!
 //! No call of this crate takes memory.
+//!
+//! What its words mean stands in [the glossary](../../../docs/GLOSSARY.md).
 #![tactic(auto)]
 
 mod coding;
@@ -19,8 +21,5 @@ mod laws;
 
 pub use coding::{Coded, encode};
 pub use decoding::decode;
-pub use images::Image;
+pub use images::{DATA_WORDS, INPUT_WORDS, Image, MOST_IN_FUNCTION, MOST_IN_IMAGE};
 pub use laws::{codes_differ, decoding_is_exact, worked_words};
-
-#[cfg(test)]
-mod tests;

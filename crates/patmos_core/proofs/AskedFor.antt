@@ -14,19 +14,19 @@ use Rattle.argo_ni.specs.Interface.{Interface, port_to}
 use Rattle.argo_ni.specs.Packet.{comm_word}
 use Rattle.argo_ni.specs.Turn.{delivered, injected, moved_on, target_at}
 use Rattle.argo_ni.specs.Event.{IsDelivery}
-use Rattle.patmos_core.specs.declared.part.Part.{Part}
-use Rattle.patmos_core.specs.declared.part.Part.TheVariants.{Delivery, Act}
-use Rattle.patmos_core.specs.State.{Core}
-use Rattle.patmos_core.specs.declared.asks.Owed.{Owed as Store}
-use Rattle.patmos_core.specs.declared.asks.Ask.{Ask}
-use Rattle.patmos_core.specs.declared.asks.Ask.TheVariants as asks
+use Rattle.patmos_core.specs.declared.phase.Phase.{Phase}
+use Rattle.patmos_core.specs.declared.phase.Phase.TheVariants.{Delivery, Act}
+use Rattle.patmos_model.specs.State.{Core}
+use Rattle.patmos_model.specs.declared.pending_store.PendingStore.{PendingStore}
+use Rattle.patmos_step.specs.declared.ask.Ask.{Ask}
+use Rattle.patmos_step.specs.declared.ask.Ask.TheVariants as asks
 use Rattle.patmos_core.specs.declared.window.Window.{Window}
-use Rattle.patmos_core.specs.Asks.{FollowsAsk, OwesFor, OwesWord, loading, ops_of}
-use Rattle.patmos_core.specs.Ready.{HasRegisters}
-use Rattle.patmos_core.specs.Cycle.{with_interface, own, acted}
-use Rattle.patmos_core.proofs.Asked.{asked_ops, asked_owed}
+use Rattle.patmos_step.specs.Asks.{FollowsAsk, LeavesPending, StoresTo, loading, ops_of}
+use Rattle.patmos_step.specs.Ready.{HasRegisters}
+use Rattle.patmos_model.specs.Cycle.{with_interface, own, acted}
+use Rattle.patmos_step.proofs.Asked.{asked_ops, asked_pending}
 use Rattle.patmos_core.specs.Events.{stores_from, loads_from, asked_of, window_asks, last_of, EndsBefore, SendsIn}
-use Rattle.patmos_core.specs.Waiting.{AsksIn, LeavesIn, phase_of}
+use Rattle.patmos_core.specs.Waiting.{AsksIn, LeavesIn, stamp_phase}
 
 -- stores one after another ask for themselves
 sets_ask : (s word : ℕ) (vs : List ℕ) (i : Interface) (y : Core) (values : List ℕ)
@@ -34,16 +34,16 @@ sets_ask : (s word : ℕ) (vs : List ℕ) (i : Interface) (y : Core) (values : L
 sets_ask s word [] i y values = refl
 sets_ask s word (v ∷ vs) i y values = ap (λ os. store s word v ∷ os) (sets_ask s (word + 1) vs i y values)
 
-pub delivery_asks : (cycle : ℕ) (y : Core) (e : Event) (target first count : ℕ) (vs : List ℕ) (part : Part) → part ≡ Delivery
-    → IsDelivery y.plain.interface cycle target first count vs → asked_of e ≡ stores_from (comm_word target first) (take count vs) → AsksIn part cycle y e
-delivery_asks cycle y e target first count vs part is packet asks = subst (λ p. AsksIn p cycle y e) (sym is) (λ values.
+pub delivery_asks : (cycle : ℕ) (y : Core) (e : Event) (target first count : ℕ) (vs : List ℕ) (phase : Phase) → phase ≡ Delivery
+    → IsDelivery y.plain.interface cycle target first count vs → asked_of e ≡ stores_from (comm_word target first) (take count vs) → AsksIn phase cycle y e
+delivery_asks cycle y e target first count vs phase is packet asks = subst (λ p. AsksIn p cycle y e) (sym is) (λ values.
     ap (λ p. (fed e.stamp (and_then p (λ i. done (with_interface y i))) values).ops) packet.program
     ∙ sets_ask e.stamp (comm_word target first) (take count vs) (delivered cycle y.plain.interface) y values
     ∙ ap (λ acts. filled e.stamp acts values) (sym asks))
 
 -- the stamp of the event of a part
-pub stamp_of_part : (n core cycle phase s : ℕ) (part : Part) → phase_of part ≡ phase → s ≡ stamp n core cycle phase → s ≡ stamp n core cycle (phase_of part)
-stamp_of_part n core cycle phase s part is h = h ∙ ap (stamp n core cycle) (sym is)
+pub stamp_of_phase : (n core cycle number s : ℕ) (phase : Phase) → stamp_phase phase ≡ number → s ≡ stamp n core cycle number → s ≡ stamp n core cycle (stamp_phase phase)
+stamp_of_phase n core cycle number s phase is h = h ∙ ap (stamp n core cycle) (sym is)
 
 -- loads one after another, and then what the rest asks for
 gets_ask : {X Y : Type 0} (s count word : ℕ) (h : List ℕ → X) (rest : X → Prog Y) (acts : List WordOp)
@@ -78,7 +78,7 @@ injected_registers cycle vs x = record {
 pub same_registers : (x : Interface) → HasRegisters x x
 same_registers x = record { cores = refl; core = refl; source = λ d. refl; target = λ d. refl }
 
--- the second phase asks for the packet of its window, and then for what the core's own part does
+-- the second phase asks for the packet of its window, and then for what the core's own act does
 act_asks_so : (cycle : ℕ) (y : Core) (s : ℕ) (window : Option Window) (ask : Ask) → SendsIn y.plain.interface cycle window
     → ((i : Interface) → HasRegisters i y.plain.interface → FollowsAsk ask (own cycle (with_interface y i)))
     → y.plain.interface.core ≡ y.plain.site.core
@@ -93,10 +93,10 @@ act_asks_so cycle y s (Some w) ask sends follows port values =
     (follows (injected cycle vs y.plain.interface) (injected_registers cycle vs y.plain.interface))) values
     ∙ ap (λ core. filled s (loads_from (comm_word core w.first) w.count ++ ops_of ask) values) port
 
-pub act_asks : (cycle : ℕ) (y : Core) (e : Event) (window : Option Window) (ask : Ask) (part : Part) → part ≡ Act → SendsIn y.plain.interface cycle window
+pub act_asks : (cycle : ℕ) (y : Core) (e : Event) (window : Option Window) (ask : Ask) (phase : Phase) → phase ≡ Act → SendsIn y.plain.interface cycle window
     → ((i : Interface) → HasRegisters i y.plain.interface → FollowsAsk ask (own cycle (with_interface y i)))
-    → y.plain.interface.core ≡ y.plain.site.core → asked_of e ≡ window_asks y.plain.site.core window ++ ops_of ask → AsksIn part cycle y e
-act_asks cycle y e window ask part is sends follows port asks = subst (λ p. AsksIn p cycle y e) (sym is)
+    → y.plain.interface.core ≡ y.plain.site.core → asked_of e ≡ window_asks y.plain.site.core window ++ ops_of ask → AsksIn phase cycle y e
+act_asks cycle y e window ask phase is sends follows port asks = subst (λ p. AsksIn p cycle y e) (sym is)
     (λ values. act_asks_so cycle y e.stamp window ask sends follows port values ∙ ap (λ acts. filled e.stamp acts values) (sym asks))
 
 -- ---- what it leaves
@@ -109,17 +109,17 @@ gets_leave Is s zero word h rest leaves values = leaves [] values
 gets_leave Is s (suc count) word h rest leaves values =
     gets_leave Is s count (word + 1) (λ vs. h (first values ∷ vs)) rest (λ vs. leaves (first values ∷ vs)) (others values)
 
--- the second phase owes what the core's own part leaves to be owed
-act_owes : (cycle : ℕ) (y : Core) (s : ℕ) (window : Option Window) (ask : Ask) → SendsIn y.plain.interface cycle window
+-- the store that is pending after the second phase is that of the core's own act
+act_pending : (cycle : ℕ) (y : Core) (s : ℕ) (window : Option Window) (ask : Ask) → SendsIn y.plain.interface cycle window
     → ((i : Interface) → HasRegisters i y.plain.interface → FollowsAsk ask (own cycle (with_interface y i)))
-    → (values : List ℕ) → OwesFor ask (fed s (acted cycle y) values).core.owed
-act_owes cycle y s None ask sends follows values =
-    subst (λ p. OwesFor ask (fed s (and_then p (λ i. own cycle (with_interface y i))) values).core.owed) (sym sends)
-    (asked_owed ask (own cycle y) s values (follows y.plain.interface (same_registers y.plain.interface)))
-act_owes cycle y s (Some w) ask sends follows values =
-    subst (λ p. OwesFor ask (fed s (and_then p (λ i. own cycle (with_interface y i))) values).core.owed) (sym sends.program)
-    (gets_leave (λ a. OwesFor ask a.owed) s w.count (comm_word y.plain.interface.core w.first) (λ vs. injected cycle vs y.plain.interface) (λ i. own cycle (with_interface y i))
-    (λ vs more. asked_owed ask (own cycle (with_interface y (injected cycle vs y.plain.interface))) s more
+    → (values : List ℕ) → LeavesPending ask (fed s (acted cycle y) values).core.pending_store
+act_pending cycle y s None ask sends follows values =
+    subst (λ p. LeavesPending ask (fed s (and_then p (λ i. own cycle (with_interface y i))) values).core.pending_store) (sym sends)
+    (asked_pending ask (own cycle y) s values (follows y.plain.interface (same_registers y.plain.interface)))
+act_pending cycle y s (Some w) ask sends follows values =
+    subst (λ p. LeavesPending ask (fed s (and_then p (λ i. own cycle (with_interface y i))) values).core.pending_store) (sym sends.program)
+    (gets_leave (λ a. LeavesPending ask a.pending_store) s w.count (comm_word y.plain.interface.core w.first) (λ vs. injected cycle vs y.plain.interface) (λ i. own cycle (with_interface y i))
+    (λ vs more. asked_pending ask (own cycle (with_interface y (injected cycle vs y.plain.interface))) s more
     (follows (injected cycle vs y.plain.interface) (injected_registers cycle vs y.plain.interface))) values)
 
 last_of_end : (acts : List WordOp) (o : WordOp) → last_of (acts ++ o ∷ []) ≡ Some o
@@ -127,31 +127,31 @@ last_of_end [] o = refl
 last_of_end (a ∷ []) o = refl
 last_of_end (a ∷ b ∷ acts) o = last_of_end (b ∷ acts) o
 
-owes_none : (e : Event) (owed : Option Store) → owed ≡ None → EndsBefore e owed
-owes_none e owed none = subst (EndsBefore e) (sym none) tt
+none_pending : (e : Event) (pending_store : Option PendingStore) → pending_store ≡ None → EndsBefore e pending_store
+none_pending e pending_store none = subst (EndsBefore e) (sym none) tt
 
-owes_word : (e : Event) (acts : List WordOp) (word : ℕ) (owed : Option Store) → asked_of e ≡ acts ++ loading word ∷ [] → OwesWord word owed → EndsBefore e owed
-owes_word e acts word None asks owes = absurd owes
-owes_word e acts word (Some o) asks owes = ap last_of asks ∙ last_of_end acts (loading word) ∙ ap (λ w. Some (loading w)) (sym owes)
+pending_word : (e : Event) (acts : List WordOp) (word : ℕ) (pending_store : Option PendingStore) → asked_of e ≡ acts ++ loading word ∷ [] → StoresTo word pending_store → EndsBefore e pending_store
+pending_word e acts word None asks leaves = absurd leaves
+pending_word e acts word (Some o) asks leaves = ap last_of asks ∙ last_of_end acts (loading word) ∙ ap (λ w. Some (loading w)) (sym leaves)
 
--- a store is owed only where a part of a word is stored, whose load comes last
-ends_before : (e : Event) (acts : List WordOp) (ask : Ask) (owed : Option Store) → asked_of e ≡ acts ++ ops_of ask → OwesFor ask owed → EndsBefore e owed
-ends_before e acts asks.Nothing owed is owes = owes_none e owed owes
-ends_before e acts (asks.Load word) owed is owes = owes_none e owed owes
-ends_before e acts (asks.Line word) owed is owes = owes_none e owed owes
-ends_before e acts (asks.Store word value) owed is owes = owes_none e owed owes
-ends_before e acts (asks.Change word) owed is owes = owes_word e acts word owed is owes
+-- a store is pending only where a part of a word is stored, whose load comes last
+ends_before : (e : Event) (acts : List WordOp) (ask : Ask) (pending_store : Option PendingStore) → asked_of e ≡ acts ++ ops_of ask → LeavesPending ask pending_store → EndsBefore e pending_store
+ends_before e acts asks.Nothing pending_store is leaves = none_pending e pending_store leaves
+ends_before e acts (asks.Load word) pending_store is leaves = none_pending e pending_store leaves
+ends_before e acts (asks.Line word) pending_store is leaves = none_pending e pending_store leaves
+ends_before e acts (asks.Store word value) pending_store is leaves = none_pending e pending_store leaves
+ends_before e acts (asks.Change word) pending_store is leaves = pending_word e acts word pending_store is leaves
 
-pub act_leaves : (cycle : ℕ) (y : Core) (e : Event) (window : Option Window) (ask : Ask) (part : Part) → part ≡ Act → SendsIn y.plain.interface cycle window
+pub act_leaves : (cycle : ℕ) (y : Core) (e : Event) (window : Option Window) (ask : Ask) (phase : Phase) → phase ≡ Act → SendsIn y.plain.interface cycle window
     → ((i : Interface) → HasRegisters i y.plain.interface → FollowsAsk ask (own cycle (with_interface y i)))
-    → asked_of e ≡ window_asks y.plain.site.core window ++ ops_of ask → LeavesIn part cycle y e
-act_leaves cycle y e window ask part is sends follows asks = subst (λ p. LeavesIn p cycle y e) (sym is)
-    (λ values. ends_before e (window_asks y.plain.site.core window) ask (fed e.stamp (acted cycle y) values).core.owed asks (act_owes cycle y e.stamp window ask sends follows values))
+    → asked_of e ≡ window_asks y.plain.site.core window ++ ops_of ask → LeavesIn phase cycle y e
+act_leaves cycle y e window ask phase is sends follows asks = subst (λ p. LeavesIn p cycle y e) (sym is)
+    (λ values. ends_before e (window_asks y.plain.site.core window) ask (fed e.stamp (acted cycle y) values).core.pending_store asks (act_pending cycle y e.stamp window ask sends follows values))
 
 -- the first phase leaves nothing
-pub delivery_leaves : (cycle : ℕ) (y : Core) (e : Event) (part : Part) → part ≡ Delivery → LeavesIn part cycle y e
-delivery_leaves cycle y e part is = subst (λ p. LeavesIn p cycle y e) (sym is) tt
+pub delivery_leaves : (cycle : ℕ) (y : Core) (e : Event) (phase : Phase) → phase ≡ Delivery → LeavesIn phase cycle y e
+delivery_leaves cycle y e phase is = subst (λ p. LeavesIn p cycle y e) (sym is) tt
 
 -- the second phase is no delivery
-pub not_delivery : (part : Part) → part ≡ Act → part ≡ Delivery → ⊥
-not_delivery part act is = cc
+pub not_delivery : (phase : Phase) → phase ≡ Act → phase ≡ Delivery → ⊥
+not_delivery phase act is = cc

@@ -11,21 +11,21 @@ use Rattle.shared_order.specs.Stamps.{act_at}
 use Rattle.shared_order.specs.Stands.{Stands}
 use Rattle.shared_order.proofs.ByCycles.{stands_by_cycles}
 use Rattle.patmos_core.specs.declared.tasked.Tasked.{Tasked}
-use Rattle.patmos_core.specs.declared.part.Part.TheVariants.{Delivery}
+use Rattle.patmos_core.specs.declared.phase.Phase.TheVariants.{Delivery}
 use Rattle.patmos_core.specs.declared.cpu.Core.{Core as Cpu}
 use Rattle.patmos_core.specs.declared.kind.Kind.{Kind}
 use Rattle.patmos_core.specs.declared.kind.Kind.TheVariants.{Idle, Tasked as WithTask}
-use Rattle.patmos_core.specs.declared.state.CoreState.{CoreState}
-use Rattle.patmos_core.specs.declared.state.CoreState.TheVariants as state
-use Rattle.patmos_core.specs.Site.{Site}
-use Rattle.patmos_core.specs.State.{Core}
-use Rattle.patmos_core.specs.Begin.{idle}
-use Rattle.patmos_core.specs.Cycle.{turn}
-use Rattle.patmos_core.specs.Apart.{site_of, apart_from}
-use Rattle.patmos_core.specs.Shown.{core_of, plain_of}
-use Rattle.patmos_core.specs.Position.{IsThere, IsOn, IsResting, StandsFor, IsThrough, limit_of, room_of, word_in}
-use Rattle.patmos_core.specs.Outcome.{state_at}
-use Rattle.patmos_core.proofs.Idle.{idle_stands}
+use Rattle.patmos_model.specs.declared.state.CoreState.{CoreState}
+use Rattle.patmos_model.specs.declared.state.CoreState.TheVariants as state
+use Rattle.patmos_model.specs.Site.{Site}
+use Rattle.patmos_model.specs.State.{Core}
+use Rattle.patmos_model.specs.Begin.{idle}
+use Rattle.patmos_model.specs.Cycle.{turn}
+use Rattle.patmos_model.specs.Apart.{site_of, apart_from}
+use Rattle.patmos_step.specs.Shown.{core_of, plain_of}
+use Rattle.patmos_core.specs.Position.{IsThere, IsOn, IsResting, StandsFor, IsThrough, limit_of, room_of}
+use Rattle.patmos_model.specs.Outcome.{word_in, state_at}
+use Rattle.patmos_model.proofs.Idle.{idle_stands}
 
 -- a core that stands before a cycle is its run apart after the cycles below it
 stood : (n core : ℕ) (x y : Core) (made : List Operation) (cycle : ℕ) → core < n → Stands (act_at turn n) n core x made (2 * cycle * n) y
@@ -34,14 +34,14 @@ stood n core x y made cycle among stands =
     ap (λ l. apart turn n core x l cycle) (sym (append-nil (loads made))) ∙ stands_by_cycles turn n core x made cycle y among stands []
 
 -- a core with a task
-task_at_limit : (t : Tasked) (limit : ℕ) (x : Core) (made : List Operation) → t.cycle ≡ limit → t.part ≡ Delivery → (on : IsOn t x made)
+task_at_limit : (t : Tasked) (limit : ℕ) (x : Core) (made : List Operation) → t.cycle ≡ limit → t.phase ≡ Delivery → (on : IsOn t x made)
     → (apart_from x (loads made) limit).core ≡ core_of t.body on.seen
 task_at_limit t limit x made here whole on =
     ap (λ n. (apart turn n x.plain.site.core x (loads made) limit).core) on.cores
     ∙ ap (λ c. (apart turn t.body.place.cores c x (loads made) limit).core) on.core
     ∙ ap (λ a. a.core) (stood t.body.place.cores t.body.place.core x (core_of t.body on.seen) made limit t.body.place.in_range.among
     (subst (λ cycle. IsThere t.body.place.cores t.body.place.core cycle Delivery x made (core_of t.body on.seen)) here
-    (subst (λ part. IsThere t.body.place.cores t.body.place.core t.cycle part x made (core_of t.body on.seen)) whole on.there)))
+    (subst (λ phase. IsThere t.body.place.cores t.body.place.core t.cycle phase x made (core_of t.body on.seen)) whole on.there)))
 
 -- a core without one
 idle_at_limit : (place : Place) (limit : ℕ) (x : Core) (made : List Operation) → (rests : IsResting place x made)
@@ -65,7 +65,7 @@ abbrev StandsIn : Core → List Operation → Kind → Type 0
 StandsIn x made kind = elim kind [ Idle place ↦ IsResting place x made | WithTask t ↦ IsOn t x made ]
 
 abbrev IsThroughAt : ℕ → Kind → Type 0
-IsThroughAt limit kind = elim kind [ Idle place ↦ Unit {0} | WithTask t ↦ (t.cycle ≡ limit) × (t.part ≡ Delivery) ]
+IsThroughAt limit kind = elim kind [ Idle place ↦ Unit {0} | WithTask t ↦ (t.cycle ≡ limit) × (t.phase ≡ Delivery) ]
 
 abbrev room_in : Kind → ℕ
 room_in kind = elim kind [ Idle place ↦ 0 | WithTask t ↦ t.body.room ]
@@ -78,7 +78,7 @@ module _ (k : Cpu) (x : Core) (made : List Operation) where
   task_tells t is through stands = by
       (subst (IsThroughAt k.limit) is through) (subst (StandsIn x made) is stands)
     where
-      by : (t.cycle ≡ k.limit) × (t.part ≡ Delivery) → IsOn t x made → (apart_from x (loads made) k.limit).core.plain ≡ plain_of t.body
+      by : (t.cycle ≡ k.limit) × (t.phase ≡ Delivery) → IsOn t x made → (apart_from x (loads made) k.limit).core.plain ≡ plain_of t.body
       by done on = ap (λ c. c.plain) (task_at_limit t k.limit x made done.0 done.1 on)
 
   pub task_traces : (t : Tasked) → k.kind ≡ WithTask t → IsThrough k → StandsFor k x made
@@ -86,24 +86,24 @@ module _ (k : Cpu) (x : Core) (made : List Operation) where
   task_traces t is through stands = by
       (subst (IsThroughAt k.limit) is through) (subst (StandsIn x made) is stands)
     where
-      by : (t.cycle ≡ k.limit) × (t.part ≡ Delivery) → IsOn t x made → t.body.trace.items ≡ take (room_of k) (apart_from x (loads made) k.limit).core.seen.accesses
+      by : (t.cycle ≡ k.limit) × (t.phase ≡ Delivery) → IsOn t x made → t.body.trace.items ≡ take (room_of k) (apart_from x (loads made) k.limit).core.seen.accesses
       by done on =
           on.shows.trace
           ∙ ap (λ c. take t.body.room c.seen.accesses) (sym (task_at_limit t k.limit x made done.0 done.1 on))
           ∙ ap (λ kind. take (room_in kind) (apart_from x (loads made) k.limit).core.seen.accesses) (sym is)
 
   -- what a core with a task tells
-  pub task_state : (t : Tasked) (told : CoreState) → k.kind ≡ WithTask t → told ≡ state_at k.limit (plain_of t.body) → IsThrough k → StandsFor k x made
-      → told ≡ state_at (limit_of k) (apart_from x (loads made) (limit_of k)).core.plain
-  task_state t told is is_told through stands = is_told ∙ ap (state_at k.limit) (sym (task_tells t is through stands))
+  pub task_state : (t : Tasked) (resumed : CoreState) → k.kind ≡ WithTask t → resumed ≡ state_at k.limit (plain_of t.body) → IsThrough k → StandsFor k x made
+      → resumed ≡ state_at (limit_of k) (apart_from x (loads made) (limit_of k)).core.plain
+  task_state t resumed is is_resumed through stands = is_resumed ∙ ap (state_at k.limit) (sym (task_tells t is through stands))
 
-  pub task_dropped : (t : Tasked) (told : ℕ) → k.kind ≡ WithTask t → told ≡ t.body.ni.interface.dropped → IsThrough k → StandsFor k x made
-      → told ≡ (apart_from x (loads made) (limit_of k)).core.plain.interface.dropped
-  task_dropped t told is is_told through stands = is_told ∙ ap (λ p. p.interface.dropped) (sym (task_tells t is through stands))
+  pub task_dropped : (t : Tasked) (resumed : ℕ) → k.kind ≡ WithTask t → resumed ≡ t.body.ni.interface.dropped → IsThrough k → StandsFor k x made
+      → resumed ≡ (apart_from x (loads made) (limit_of k)).core.plain.interface.dropped
+  task_dropped t resumed is is_resumed through stands = is_resumed ∙ ap (λ p. p.interface.dropped) (sym (task_tells t is through stands))
 
-  pub task_word : (t : Tasked) (c : Cell) (told : ℕ) → k.kind ≡ WithTask t → told ≡ word_in c (plain_of t.body) → IsThrough k → StandsFor k x made
-      → told ≡ word_in c (apart_from x (loads made) (limit_of k)).core.plain
-  task_word t c told is is_told through stands = is_told ∙ ap (word_in c) (sym (task_tells t is through stands))
+  pub task_word : (t : Tasked) (c : Cell) (resumed : ℕ) → k.kind ≡ WithTask t → resumed ≡ word_in c (plain_of t.body) → IsThrough k → StandsFor k x made
+      → resumed ≡ word_in c (apart_from x (loads made) (limit_of k)).core.plain
+  task_word t c resumed is is_resumed through stands = is_resumed ∙ ap (word_in c) (sym (task_tells t is through stands))
 
   idle_tells : (place : Place) → k.kind ≡ Idle place → StandsFor k x made
       → (image : Parts) × ((apart_from x (loads made) (limit_of k)).core ≡ idle (site_of place image))

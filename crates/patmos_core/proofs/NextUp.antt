@@ -8,27 +8,27 @@ use Rattle.shared_order.specs.Apart.{Alone, apart}
 use Rattle.shared_order.specs.Stamps.{act_at}
 use Rattle.shared_order.specs.Stands.{Stands}
 use Rattle.shared_order.proofs.ByCycles.{stands_by_cycles}
-use Rattle.patmos_core.specs.declared.part.Part.{Part}
-use Rattle.patmos_core.specs.declared.part.Part.TheVariants.{Delivery, Act, Owed}
+use Rattle.patmos_core.specs.declared.phase.Phase.{Phase}
+use Rattle.patmos_core.specs.declared.phase.Phase.TheVariants.{Delivery, Act, Completion}
 use Rattle.patmos_core.specs.declared.tasked.Tasked.{Tasked}
 use Rattle.slot_arbiter.specs.Stamp.{stamp}
-use Rattle.patmos_core.specs.State.{Core}
-use Rattle.patmos_core.specs.Begin.{idle}
-use Rattle.patmos_core.specs.Cycle.{turn}
-use Rattle.patmos_core.specs.Apart.{apart_from, site_of}
+use Rattle.patmos_model.specs.State.{Core}
+use Rattle.patmos_model.specs.Begin.{idle}
+use Rattle.patmos_model.specs.Cycle.{turn}
+use Rattle.patmos_model.specs.Apart.{apart_from, site_of}
 use Rattle.patmos_core.specs.Position.{IsThere, IsOn, IsResting, IsNextOf, IsWholeIn, IsWholeOf, HasMadeAll, EventFits}
-use Rattle.patmos_core.specs.Waiting.{AsksIn, LeavesIn, phase_of, IsAskedAt, IsOfPlace}
-use Rattle.patmos_core.specs.Shown.{core_of}
-use Rattle.patmos_core.proofs.Idle.{idle_stands}
-use Rattle.patmos_core.proofs.Moving.{delivery_whole, owed_whole, act_whole, whole_next, stamp_below}
+use Rattle.patmos_core.specs.Waiting.{AsksIn, LeavesIn, stamp_phase, IsAskedAt, IsOfPlace}
+use Rattle.patmos_step.specs.Shown.{core_of}
+use Rattle.patmos_model.proofs.Idle.{idle_stands}
+use Rattle.patmos_core.proofs.Moving.{delivery_whole, whole_completion, act_whole, whole_next, stamp_below}
 
 -- the event of a part has all of its stamp, but for what is left of a narrow store
-whole_in : (n core : ℕ) (x : Core) (made : List Operation) (cycle limit : ℕ) (part : Part) (y : Core) (e : Event) → core < n → cycle < limit
-    → e.stamp ≡ stamp n core cycle (phase_of part) → AsksIn part cycle y e → LeavesIn part cycle y e → IsThere n core cycle part x made y
+whole_in : (n core : ℕ) (x : Core) (made : List Operation) (cycle limit : ℕ) (phase : Phase) (y : Core) (e : Event) → core < n → cycle < limit
+    → e.stamp ≡ stamp n core cycle (stamp_phase phase) → AsksIn phase cycle y e → LeavesIn phase cycle y e → IsThere n core cycle phase x made y
     → (more : List ℕ) → IsWholeIn made (apart turn n core x (loads made ++ more) limit).made e more
 whole_in n core x made cycle limit Delivery y e among early is asks leaves there = delivery_whole n core x cycle among limit early e made y is asks there
 whole_in n core x made cycle limit Act y e among early is asks leaves there = act_whole n core x cycle among limit early e made y is asks leaves there
-whole_in n core x made cycle limit (Owed owed) y e among early is asks leaves there = owed_whole n core x cycle among limit early e made y owed is asks there
+whole_in n core x made cycle limit (Completion pending_store) y e among early is asks leaves there = whole_completion n core x cycle among limit early e made y pending_store is asks there
 
 -- the run apart of a core is that at its own place
 at_place : (x : Core) (n core : ℕ) (values : List ℕ) (t : ℕ) → x.plain.site.cores ≡ n → x.plain.site.core ≡ core → apart turn n core x values t ≡ apart_from x values t
@@ -38,25 +38,26 @@ pub whole_of : (t : Tasked) (e : Event) (x : Core) (made : List Operation) (limi
 whole_of t e x made limit early asked on = λ more.
     subst (λ (a : Alone Core). IsWholeIn made a.made e more)
     (at_place x t.body.place.cores t.body.place.core (loads made ++ more) limit on.cores on.core)
-    (whole_in t.body.place.cores t.body.place.core x made t.cycle limit t.part (core_of t.body on.seen) e t.body.place.in_range.among early asked.stamp
+    (whole_in t.body.place.cores t.body.place.core x made t.cycle limit t.phase (core_of t.body on.seen) e t.body.place.in_range.among early asked.stamp
     (asked.asks on.seen on.shows) (asked.leaves on.seen on.shows) on.there more)
 
 -- so it comes next
 pub next_of : (t : Tasked) (e : Event) (x : Core) (made : List Operation) (limit : ℕ) → t.cycle < limit → IsAskedAt t e → IsOn t x made → IsNextOf x made limit e
 next_of t e x made limit early asked on = λ more. whole_next made (apart_from x (loads made ++ more) limit).made e more (whole_of t e x made limit early asked on more)
 
-phase_low : (part : Part) → phase_of part ≤ 1
+phase_low : (phase : Phase) → stamp_phase phase ≤ 1
 phase_low Delivery = omega arith
 phase_low Act = omega arith
-phase_low (Owed owed) = omega arith
+phase_low (Completion pending_store) = omega arith
 
 pub fits_at : (t : Tasked) (e : Event) (x : Core) (limit : ℕ) → t.cycle < limit → IsAskedAt t e → IsOfPlace t.body.place e → EventFits t.body.place limit e
 fits_at t e x limit early asked of_place = record {
   core = of_place.core;
-  below = omega (arith, asked.stamp, stamp_below t.body.place.cores t.body.place.core x t.cycle t.body.place.in_range.among limit early (phase_of t.part) (phase_low t.part));
+  below = omega (arith, asked.stamp, stamp_below t.body.place.cores t.body.place.core x t.cycle t.body.place.in_range.among limit early (stamp_phase t.phase) (phase_low t.phase));
   some = of_place.some;
   words = of_place.words;
   unread = of_place.unread;
+  loads_first = of_place.loads_first;
 }
 
 -- at the limit a core has made all
@@ -70,7 +71,7 @@ any_more : (x y : Core) (made : List Operation) (limit : ℕ) → ((more : List 
 any_more x y made limit all = λ more.
     all more ∙ ap (λ z. record { core = z; left = more; made = made }) (sym (ap (λ (a : Alone Core). a.core) (ap (λ values. apart_from x values limit) (sym (append-nil (loads made))) ∙ all [])))
 
-pub task_made_all : (t : Tasked) (x : Core) (made : List Operation) (limit : ℕ) → t.cycle ≡ limit → t.part ≡ Delivery → IsOn t x made → HasMadeAll x made limit
+pub task_made_all : (t : Tasked) (x : Core) (made : List Operation) (limit : ℕ) → t.cycle ≡ limit → t.phase ≡ Delivery → IsOn t x made → HasMadeAll x made limit
 task_made_all t x made limit is whole on =
     any_more x (core_of t.body on.seen) made limit
     (all_made t.body.place.cores t.body.place.core x (core_of t.body on.seen) made limit t.body.place.in_range.among on.cores on.core

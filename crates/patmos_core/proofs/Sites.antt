@@ -4,7 +4,7 @@ use Rattle.shared_order.specs.declared.operation.Operation.{Operation}
 use Rattle.patmos_core.specs.declared.cpu.Core.{Core as Cpu}
 use Rattle.patmos_core.specs.declared.kind.Kind.{Kind}
 use Rattle.patmos_core.specs.declared.kind.Kind.TheVariants.{Idle, Tasked as WithTask}
-use Rattle.patmos_core.specs.State.{Core}
+use Rattle.patmos_model.specs.State.{Core}
 use Rattle.patmos_core.specs.Position.{StandsAt, StandsFor, place_at, place_of}
 
 sited_at : (kind : Kind) (x : Core) (made : List Operation) → StandsAt kind x made → (x.plain.site.cores ≡ (place_at kind).cores) × (x.plain.site.core ≡ (place_at kind).core)

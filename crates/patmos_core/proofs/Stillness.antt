@@ -12,14 +12,15 @@ use Rattle.patmos_core.specs.declared.window.Window.{Window}
 use Rattle.patmos_core.specs.Events.{SendsIn}
 use Rattle.argo_ni.specs.declared.event.NiEvent.{NiEvent}
 use Rattle.argo_ni.specs.declared.event.NiKind.TheVariants.{Inject, Deliver}
-use Rattle.patmos_core.specs.State.{Core}
-use Rattle.patmos_core.specs.Cells.{now}
-use Rattle.patmos_core.specs.Cycle.{with_interface, own, settled, turn}
-use Rattle.patmos_core.specs.declared.part.Part.{Part}
-use Rattle.patmos_core.specs.declared.part.Part.TheVariants.{Delivery, Act}
+use Rattle.patmos_model.specs.State.{Core}
+use Rattle.patmos_model.specs.Cells.{now}
+use Rattle.patmos_model.specs.Cycle.{with_interface, own, settled, turn}
+use Rattle.patmos_core.specs.declared.phase.Phase.{Phase}
+use Rattle.patmos_core.specs.declared.phase.Phase.TheVariants.{Delivery, Act}
 use Rattle.patmos_core.specs.Position.{IsThere}
 use Rattle.patmos_core.proofs.Moving.{delivery_passed}
-use Rattle.patmos_core.specs.Progress.{IsUpTo, half_at, TellsNext, IsQuietAt}
+use Rattle.patmos_core.specs.Progress.{half_at, TellsNext, IsQuietAt}
+use Rattle.patmos_step.specs.Ready.{IsUpTo}
 
 -- neither the interface nor the core does something
 still : (u : ℕ) (y : Core) → delivery u y.plain.interface ≡ done y.plain.interface → injection u y.plain.interface ≡ done y.plain.interface → own u y ≡ now y → IsQuietAt u y
@@ -35,7 +36,7 @@ half_bounds e = elim e.kind as (λ k. (2 * e.cycle ≤ elim k [ Inject target fi
   | Deliver target first count values ↦ (omega arith, omega arith)
 ]
 
--- before the interface's next act and before the core wakes
+-- before the interface's next act and before the core next_active
 pub quiet_before : (s : Standing) (next : Option NiEvent) (y : Core) (u : ℕ) → TellsNext s next → y.plain.interface ≡ s.interface → s.from ≤ 2 * u → IfSome next (λ e. u < e.cycle) → own u y ≡ now y → IsQuietAt u y
 quiet_before s None y u tells same from before rests =
     still u y (subst (λ i. delivery u i ≡ done i) (sym same) (tells.quiet refl (2 * u + 2) u 0 (omega arith) (omega (arith, from)) (omega arith)))
@@ -51,8 +52,8 @@ nothing_before s None cycle half tells within from is = absurd (true≢false (sy
 nothing_before s (Some e) cycle half tells within from is = omega (arith, within, (half_bounds e).0, tells.is.least half from is)
 
 -- a core goes over quiet cycles as it is
-pub there_skipped : (n core : ℕ) (x : Core) (made : List Operation) (y : Core) (cycle later : ℕ) (part : Part) → part ≡ Delivery → core < n → cycle ≤ later → ((u : ℕ) → cycle ≤ u → u < later → IsQuietAt u y) → IsThere n core cycle part x made y → IsThere n core later part x made y
-there_skipped n core x made y cycle later part is among on quiet there =
+pub there_skipped : (n core : ℕ) (x : Core) (made : List Operation) (y : Core) (cycle later : ℕ) (phase : Phase) → phase ≡ Delivery → core < n → cycle ≤ later → ((u : ℕ) → cycle ≤ u → u < later → IsQuietAt u y) → IsThere n core cycle phase x made y → IsThere n core later phase x made y
+there_skipped n core x made y cycle later phase is among on quiet there =
     let far : cycle + (later - cycle) ≡ later = omega (arith, on) in
     subst (λ p. IsThere n core later p x made y) (sym is)
     (subst (λ q. Stands (act_at turn n) n core x made (2 * q * n) y) far
@@ -60,14 +61,14 @@ there_skipped n core x made y cycle later part is among on quiet there =
     (subst (λ p. IsThere n core cycle p x made y) is there)))
 
 -- what is done before a cycle
-pub up_to_cycle : (ni : Standing) (cycle : ℕ) (part : Part) → part ≡ Delivery → IsUpTo (half_at cycle part) ni → IsUpTo (2 * cycle) ni
-up_to_cycle ni cycle part is up = subst (λ p. IsUpTo (half_at cycle p) ni) is up
+pub up_to_cycle : (ni : Standing) (cycle : ℕ) (phase : Phase) → phase ≡ Delivery → IsUpTo (half_at cycle phase) ni → IsUpTo (2 * cycle) ni
+up_to_cycle ni cycle phase is up = subst (λ p. IsUpTo (half_at cycle p) ni) is up
 
 -- an act that is none of the cycle comes after it
 pub comes_later : (s : Standing) (next : Option NiEvent) (e : NiEvent) (cycle : ℕ) → TellsNext s next → next ≡ Some e → IsUpTo (2 * cycle) s → cycle ≤ e.cycle
 comes_later s next e cycle tells is up =
-    let told : IfSome (Some e) (λ e. IsNextAct s (half_of e)) = subst (λ n. IfSome n (λ e. IsNextAct s (half_of e))) is tells.is in
-    omega (arith, up.past (half_of e) told.from told.passes, (half_bounds e).1)
+    let resumed : IfSome (Some e) (λ e. IsNextAct s (half_of e)) = subst (λ n. IfSome n (λ e. IsNextAct s (half_of e))) is tells.is in
+    omega (arith, up.past (half_of e) resumed.from resumed.passes, (half_bounds e).1)
 
 -- without a packet that is due nothing is delivered, and outside its windows nothing is injected
 pub quiet_phase : (s : Standing) (next : Option NiEvent) (cycle phase : ℕ) → phase ≤ 1 → TellsNext s next → s.from ≤ 2 * cycle + phase → IfSome next (λ e. 2 * cycle + phase < half_of e) → interface_turn phase cycle s.interface ≡ done s.interface
@@ -83,18 +84,18 @@ quiet_delivery s next cycle y same tells from later =
     sooner None h = h
     sooner (Some e) h = omega (arith, h)
 
-pub there_passed : (n core : ℕ) (x : Core) (made : List Operation) (y : Core) (cycle : ℕ) (part : Part) → part ≡ Delivery → core < n → turn 0 cycle y ≡ done y → IsThere n core cycle part x made y → IsThere n core cycle Act x made y
-there_passed n core x made y cycle part is among quiet there =
+pub there_passed : (n core : ℕ) (x : Core) (made : List Operation) (y : Core) (cycle : ℕ) (phase : Phase) → phase ≡ Delivery → core < n → turn 0 cycle y ≡ done y → IsThere n core cycle phase x made y → IsThere n core cycle Act x made y
+there_passed n core x made y cycle phase is among quiet there =
     delivery_passed n core x cycle among made y quiet (subst (λ p. IsThere n core cycle p x made y) is there)
 
 -- where the interface sends nothing in the cycle, its next act is a later one
-pub no_window : (s : Standing) (next : Option NiEvent) (cycle : ℕ) (part : Part) → part ≡ Act → IsUpTo (half_at cycle part) s → TellsNext s next → IfSome next (λ e. 2 * cycle + 1 < half_of e) → injection cycle s.interface ≡ done s.interface
-no_window s next cycle part is up tells later =
+pub no_window : (s : Standing) (next : Option NiEvent) (cycle : ℕ) (phase : Phase) → phase ≡ Act → IsUpTo (half_at cycle phase) s → TellsNext s next → IfSome next (λ e. 2 * cycle + 1 < half_of e) → injection cycle s.interface ≡ done s.interface
+no_window s next cycle phase is up tells later =
     let here : IsUpTo (2 * cycle + 1) s = subst (λ p. IsUpTo (half_at cycle p) s) is up in
     quiet_phase s next cycle 1 (omega arith) tells here.after later
 
 -- so the interface sends the packet that was found, or none
-pub sends_so : (s : Standing) (next : Option NiEvent) (window : Option Window) (cycle : ℕ) (part : Part) → part ≡ Act → IsUpTo (half_at cycle part) s → TellsNext s next
+pub sends_so : (s : Standing) (next : Option NiEvent) (window : Option Window) (cycle : ℕ) (phase : Phase) → phase ≡ Act → IsUpTo (half_at cycle phase) s → TellsNext s next
     → IfSome window (λ w. IsInjection s.interface cycle w.target w.first w.count) → (IsNone window → IfSome next (λ e. 2 * cycle + 1 < half_of e)) → SendsIn s.interface cycle window
-sends_so s next None cycle part is up tells packet none = no_window s next cycle part is up tells (none refl)
-sends_so s next (Some w) cycle part is up tells packet none = packet
+sends_so s next None cycle phase is up tells packet none = no_window s next cycle phase is up tells (none refl)
+sends_so s next (Some w) cycle phase is up tells packet none = packet

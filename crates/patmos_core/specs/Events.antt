@@ -1,5 +1,5 @@
 -- Events: what a core asks for at one stamp.
-use Rattle.std.specs.Prelude.{◌≡◌, ℕ, zero, suc, ◌+◌, ◌<◌, true, false, List, [], ◌∷◌, take, Option, None, Some}
+use Rattle.std.specs.Prelude.{◌≡◌, ℕ, zero, suc, ◌+◌, ◌<◌, true, false, List, [], ◌∷◌, ◌++◌, take, Option, None, Some}
 use Rattle.std.specs.List.{AllByRecursion as Each}
 use Rattle.slot_arbiter.specs.declared.event.WordOp.{WordOp}
 use Rattle.slot_arbiter.specs.declared.event.Event.{Event}
@@ -8,9 +8,9 @@ use Rattle.argo_ni.specs.Interface.{Interface}
 use Rattle.argo_ni.specs.Packet.{comm_word}
 use Rattle.argo_ni.specs.Turn.{injection}
 use Rattle.argo_ni.specs.Event.{IsInjection}
-use Rattle.patmos_core.specs.declared.asks.Owed.{Owed}
+use Rattle.patmos_model.specs.declared.pending_store.PendingStore.{PendingStore}
 use Rattle.patmos_core.specs.declared.window.Window.{Window}
-use Rattle.patmos_core.specs.Asks.{loading}
+use Rattle.patmos_step.specs.Asks.{loading}
 
 -- a value is stored in a word
 abbrev pub storing : ℕ → ℕ → WordOp
@@ -35,10 +35,10 @@ last_of [] = None
 last_of (o ∷ []) = Some o
 last_of (o ∷ p ∷ acts) = last_of (p ∷ acts)
 
--- where a store is still owed at the event's stamp, the last thing that the event asks for is a load of the
+-- where a store is still pending at the event's stamp, the last thing that the event asks for is a load of the
 -- word that is to be stored
-abbrev pub EndsBefore : Event → Option Owed → Type 0
-EndsBefore e owed = elim owed [
+abbrev pub EndsBefore : Event → Option PendingStore → Type 0
+EndsBefore e pending_store = elim pending_store [
   | None ↦ Unit {0}
   | Some o ↦ last_of (asked_of e) ≡ Some (loading o.word)
 ]
@@ -50,6 +50,14 @@ AllBelow words acts = Each (λ o. o.word < words) acts
 -- what its loads will give is not known yet, and stands as 0
 abbrev pub AllUnread : List WordOp → Type 0
 AllUnread acts = Each (λ o. o.write ≡ false → o.value ≡ 0) acts
+
+-- Loads stand before stores. So the values that the loads give are handed back in order, and none is for a store.
+pub record LoadsFirst (acts : List WordOp) : Type 0 where
+  pub loads : List WordOp
+  pub stores : List WordOp
+  pub whole : acts ≡ loads ++ stores
+  pub all_loads : Each (λ o. o.write ≡ false) loads
+  pub all_stores : Each (λ o. o.write ≡ true) stores
 
 -- the words of a packet that is sent, of a core's own communication memory
 abbrev pub window_asks : ℕ → Option Window → List WordOp

@@ -3,8 +3,6 @@ use Rattle.std.specs.Prelude.{◌≡◌, ℕ, suc, ◌+◌, ◌*◌, ◌%◌, �
 use Rattle.slot_arbiter.specs.Stamp.{stamp}
 use Rattle.slot_arbiter.specs.declared.place.Place.{Place}
 use Rattle.slot_arbiter.specs.declared.event.Event.{Event}
-use Rattle.local_store.specs.declared.map.Cell.{Cell}
-use Rattle.local_store.specs.declared.map.Cell.TheVariants as cell
 use Rattle.shared_order.specs.declared.operation.Operation.{Operation}
 use Rattle.shared_order.specs.Operation.{store, loads}
 use Rattle.shared_order.specs.Order.{GoesOn}
@@ -13,38 +11,38 @@ use Rattle.shared_order.specs.Stamps.{act_at}
 use Rattle.shared_order.specs.Stands.{Stands, Midway}
 use Rattle.argo_ni.specs.Packet.{comm_word}
 use Rattle.patmos_code.specs.Images.{Parts}
-use Rattle.patmos_core.specs.declared.asks.Owed.{Owed as Store}
+use Rattle.patmos_model.specs.declared.pending_store.PendingStore.{PendingStore}
 use Rattle.patmos_core.specs.declared.tasked.Tasked.{Tasked}
-use Rattle.patmos_core.specs.declared.part.Part.{Part}
-use Rattle.patmos_core.specs.declared.part.Part.TheVariants.{Delivery, Act, Owed}
+use Rattle.patmos_core.specs.declared.phase.Phase.{Phase}
+use Rattle.patmos_core.specs.declared.phase.Phase.TheVariants.{Delivery, Act, Completion}
 use Rattle.patmos_core.specs.declared.cpu.Core.{Core as Cpu}
 use Rattle.patmos_core.specs.declared.kind.Kind.{Kind}
 use Rattle.patmos_core.specs.declared.kind.Kind.TheVariants.{Idle, Tasked as WithTask}
 use Rattle.patmos_core.specs.declared.cpu.Next.{Next}
 use Rattle.patmos_core.specs.declared.cpu.Next.TheVariants as next
-use Rattle.patmos_core.specs.declared.state.CoreState.{CoreState}
-use Rattle.patmos_core.specs.declared.state.CoreState.TheVariants as states
-use Rattle.patmos_core.specs.State.{Plain, Core, History}
-use Rattle.patmos_core.specs.Begin.{idle}
-use Rattle.patmos_core.specs.Cycle.{turn, settled}
-use Rattle.patmos_core.specs.Apart.{site_of, apart_from}
-use Rattle.patmos_core.specs.Events.{AllBelow, AllUnread, asked_of, EndsBefore}
-use Rattle.patmos_core.specs.Shown.{Shows, IsFramed, core_of}
+use Rattle.patmos_model.specs.declared.state.CoreState.{CoreState}
+use Rattle.patmos_model.specs.declared.state.CoreState.TheVariants as states
+use Rattle.patmos_model.specs.State.{Core, History}
+use Rattle.patmos_model.specs.Begin.{idle}
+use Rattle.patmos_model.specs.Cycle.{turn, settled}
+use Rattle.patmos_model.specs.Apart.{site_of, apart_from}
+use Rattle.patmos_core.specs.Events.{AllBelow, AllUnread, LoadsFirst, asked_of, EndsBefore}
+use Rattle.patmos_step.specs.Shown.{Shows, IsFramed, core_of}
 
--- the parts of a cycle in their order, and how many are done, three a cycle
-abbrev pub part_number : Part → ℕ
-part_number part = elim part [ Delivery ↦ 0 | Act ↦ 1 | Owed owed ↦ 2 ]
+-- the phases of a cycle in their order, and how many are done, three a cycle
+abbrev pub phase_number : Phase → ℕ
+phase_number phase = elim phase [ Delivery ↦ 0 | Act ↦ 1 | Completion pending_store ↦ 2 ]
 
-abbrev pub parts_done : ℕ → Part → ℕ
-parts_done cycle part = 3 * cycle + part_number part
+abbrev pub phases_done : ℕ → Phase → ℕ
+phases_done cycle phase = 3 * cycle + phase_number phase
 
--- Core number `core` of n that began as x and made these operations is y before a part of a cycle.
-abbrev pub IsThere : ℕ → ℕ → ℕ → Part → Core → List Operation → Core → Type 0
-IsThere n core cycle part x made y = elim part [
+-- Core number `core` of n that began as x and made these operations is y before a phase of a cycle.
+abbrev pub IsThere : ℕ → ℕ → ℕ → Phase → Core → List Operation → Core → Type 0
+IsThere n core cycle phase x made y = elim phase [
   | Delivery ↦ Stands (act_at turn n) n core x made (2 * cycle * n) y
   | Act ↦ Midway (act_at turn n) n core x made (stamp n core cycle 1) (turn 1 cycle y)
-  | Owed owed ↦ Midway (act_at turn n) n core x made (stamp n core cycle 1)
-      (settled (record { core = y; owed = Some owed }))
+  | Completion pending_store ↦ Midway (act_at turn n) n core x made (stamp n core cycle 1)
+      (settled (record { core = y; pending_store = Some pending_store }))
 ]
 
 -- a core with a task stands for the run apart of the core that began as x, in which it made these
@@ -54,13 +52,13 @@ pub record IsOn (t : Tasked) (x : Core) (made : List Operation) : Type 0 where
   pub shows : Shows t.body seen
   pub cores : x.plain.site.cores ≡ t.body.place.cores
   pub core : x.plain.site.core ≡ t.body.place.core
-  pub there : IsThere t.body.place.cores t.body.place.core t.cycle t.part x made (core_of t.body seen)
+  pub there : IsThere t.body.place.cores t.body.place.core t.cycle t.phase x made (core_of t.body seen)
 
--- the core goes on: it stands for the same, has kept its place, and has no fewer parts behind it
+-- the core goes on: it stands for the same, has kept its place, and has no fewer phases behind it
 pub record GoesOnAs (t t' : Tasked) : Type 0 where
   pub stands : (x : Core) (made : List Operation) → IsOn t x made → IsOn t' x made
   pub frame : IsFramed t.body t'.body
-  pub parts : parts_done t.cycle t.part ≤ parts_done t'.cycle t'.part
+  pub phases : phases_done t.cycle t.phase ≤ phases_done t'.cycle t'.phase
 
 -- so does a core without one, which made none
 pub record IsResting (place : Place) (x : Core) (made : List Operation) : Type 0 where
@@ -72,19 +70,19 @@ pub record IsResting (place : Place) (x : Core) (made : List Operation) : Type 0
 abbrev pub StandsAt : Kind → Core → List Operation → Type 0
 StandsAt kind x made = elim kind [ Idle place ↦ IsResting place x made | WithTask t ↦ IsOn t x made ]
 
--- its place, how many transactions it keeps, and how many parts of cycles it has behind it, three a cycle
+-- its place, how many transactions it keeps, and how many phases of cycles it has behind it, three a cycle
 abbrev pub place_at : Kind → Place
 place_at kind = elim kind [ Idle place ↦ place | WithTask t ↦ t.body.place ]
 
 abbrev pub room_at : Kind → ℕ
 room_at kind = elim kind [ Idle place ↦ 0 | WithTask t ↦ t.body.room ]
 
-abbrev pub parts_at : Kind → ℕ
-parts_at kind = elim kind [ Idle place ↦ 0 | WithTask t ↦ parts_done t.cycle t.part ]
+abbrev pub phases_at : Kind → ℕ
+phases_at kind = elim kind [ Idle place ↦ 0 | WithTask t ↦ phases_done t.cycle t.phase ]
 
 -- the cycles below the limit are done
 abbrev pub IsThroughTo : ℕ → Kind → Type 0
-IsThroughTo limit kind = elim kind [ Idle place ↦ Unit {0} | WithTask t ↦ (t.cycle ≡ limit) × (t.part ≡ Delivery) ]
+IsThroughTo limit kind = elim kind [ Idle place ↦ Unit {0} | WithTask t ↦ (t.cycle ≡ limit) × (t.phase ≡ Delivery) ]
 
 -- the same of a core, and the event that it waits to be told, and the last limit
 abbrev pub StandsFor : Cpu → Core → List Operation → Type 0
@@ -96,8 +94,8 @@ place_of k = place_at k.kind
 abbrev pub room_of : Cpu → ℕ
 room_of k = room_at k.kind
 
-abbrev pub parts_of : Cpu → ℕ
-parts_of k = parts_at k.kind
+abbrev pub phases_of : Cpu → ℕ
+phases_of k = phases_at k.kind
 
 abbrev pub waiting_of : Cpu → Option Event
 waiting_of k = k.waiting
@@ -128,11 +126,11 @@ IsNextOf x made limit e = (more : List ℕ) →
     GoesOn e.stamp (made ++ asked_by e more) (apart_from x (loads made ++ more) limit).made
 
 -- These operations are what an event leaves of its stamp: none; or, where it ends with the load of a narrow
--- store, the one store that is then owed, into the word that the event loads last.
+-- store, the one store that is then pending, into the word that the event loads last.
 pub record IsLeftBy (e : Event) (rest : List Operation) : Type 0 where
-  pub owed : Option Store
-  pub only : rest ≡ elim owed [ None ↦ [] | Some o ↦ store e.stamp o.word o.value ∷ [] ]
-  pub narrow : EndsBefore e owed
+  pub pending_store : Option PendingStore
+  pub only : rest ≡ elim pending_store [ None ↦ [] | Some o ↦ store e.stamp o.word o.value ∷ [] ]
+  pub narrow : EndsBefore e pending_store
 
 -- After the operations that were made, all that are made begin with those of the event when its loads give
 -- these values and with what the event leaves of its stamp; the others are at later stamps.
@@ -153,20 +151,11 @@ HasMadeAll x made limit = (more : List ℕ) → apart_from x (loads made ++ more
     ≡ record { core = (apart_from x (loads made) limit).core; left = more; made = made }
 
 -- the event is one of the core at the place before the limit, on words of the board, and not of none; what its
--- loads will give stands as 0 in it
+-- loads will give stands as 0 in it, and they stand before its stores
 pub record EventFits (place : Place) (limit : ℕ) (e : Event) : Type 0 where
   pub core : e.stamp % place.cores ≡ place.core
   pub below : e.stamp < 2 * limit * place.cores
   pub some : 1 ≤ e.count
   pub words : AllBelow (comm_word place.cores 0) (asked_of e)
   pub unread : AllUnread (asked_of e)
-
--- the word of a cell of the core's own memories
-abbrev pub word_in : Cell → Plain → ℕ
-word_in c x = elim c [
-  | cell.Scratch word ↦ x.scratch word
-  | cell.Private word ↦ x.private word
-  | cell.Comm word ↦ 0
-  | cell.Port core register ↦ 0
-  | cell.Shared word ↦ 0
-]
+  pub loads_first : LoadsFirst (asked_of e)

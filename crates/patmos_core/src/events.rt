@@ -1,9 +1,9 @@
 ghost use Rattle.std.specs.Prelude.{◌≡◌, ℕ, ◌+◌, ◌<◌, ◌≤◌, List, [], ◌∷◌, ◌++◌, take, false};
-ghost use Rattle.patmos_core.specs.declared.asks.Ask.TheVariants as asks;
-ghost use Rattle.patmos_core.specs.Asks.{loading, ops_of, AskFits};
+ghost use Rattle.patmos_step.specs.declared.ask.Ask.TheVariants as asks;
+ghost use Rattle.patmos_step.specs.Asks.{loading, ops_of, AskFits};
 ghost use Rattle.patmos_core.specs.Events.{storing, loads_from, stores_from, asked_of, AllBelow, AllUnread};
 
-use crate::asks::Ask;
+use patmos_step::Ask;
 use slot_arbiter::{Event, WordOp};
 
 /// An event at a stamp, which asks for nothing yet.
@@ -105,7 +105,7 @@ pub fn ask_store(event: &mut Event, word: u32, value: u32)
     push(event, store(word, value));
 }
 
-/// The event asks besides for what a core's own part of a cycle asks for.
+/// The event asks besides for what a core's own act in a cycle asks for.
 pub fn ask_own(event: &mut Event, ask: Ask)
     requires room { event.old.count + 4 ≤ 8 }
     requires fits { AskFits 65536 ask }

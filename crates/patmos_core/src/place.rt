@@ -1,7 +1,7 @@
 ghost use Rattle.std.specs.Prelude.{◌≡◌, List};
 ghost use Rattle.shared_order.specs.declared.operation.Operation.{Operation};
 ghost use Rattle.patmos_core.specs.declared.cpu.Core.{Core as Cpu};
-ghost use Rattle.patmos_core.specs.State.{Core};
+ghost use Rattle.patmos_model.specs.State.{Core};
 ghost use Rattle.patmos_core.specs.Position.{StandsFor, place_of};
 
 /// A core that is stepped by itself stands for the run apart of a core at its own place. A law: it does

@@ -224,7 +224,8 @@ impl Instr {
         }
     }
 
-    /// Tells contracts that each field is in its range. It does nothing.
+    /// Shows contracts that each field is in its range. The types of the fields keep their ranges, but a clause learns
+    /// of it from a call on each field alone; this one makes them all. At run time it does nothing.
     pub fn show_range(&self)
         ensures { FitsInstr self.now }
     {

@@ -8,6 +8,8 @@
 //! the pairs that it does not.
 //!
 //! No call of this crate takes memory, and every type is `Copy`.
+//!
+//! What its words mean stands in [the glossary](../../../docs/GLOSSARY.md).
 #![tactic(auto)]
 
 mod bundles;
@@ -29,6 +31,3 @@ pub use memories::{Mem, StoreWidth, Width};
 pub use registers::{Pred, Reg};
 pub use specials::{Special, WritableSpecial};
 pub use targets::{Addr22, Off22};
-
-#[cfg(test)]
-mod tests;

@@ -54,18 +54,18 @@ abbrev pub pred_after : List Write → ℕ → Bool → Bool
 pred_after ws p old = if p == 0 then true else last_by (pred_by p) ws old
 
 -- a register file, each register told by its number and its old value; the first one's number is n
-abbrev pub told_from : {A : Type 0} → ℕ → (ℕ → A → A) → List A → List A
-told_from n f [] = []
-told_from n f (x ∷ xs) = f n x ∷ told_from (n + 1) f xs
+abbrev pub renewed_from : {A : Type 0} → ℕ → (ℕ → A → A) → List A → List A
+renewed_from n f [] = []
+renewed_from n f (x ∷ xs) = f n x ∷ renewed_from (n + 1) f xs
 
-abbrev pub told : {A : Type 0} → (ℕ → A → A) → List A → List A
-told f xs = told_from 0 f xs
+abbrev pub renewed : {A : Type 0} → (ℕ → A → A) → List A → List A
+renewed f xs = renewed_from 0 f xs
 
 -- the registers after some writes
 abbrev pub after_writes : List Write → Registers → Registers
 after_writes ws regs = record {
-  general = told (register_after ws) regs.general;
-  preds = told (pred_after ws) regs.preds;
+  general = renewed (register_after ws) regs.general;
+  preds = renewed (pred_after ws) regs.preds;
   sl = last_by low_by ws regs.sl;
   sh = last_by high_by ws regs.sh;
   srb = last_by base_by ws regs.srb;

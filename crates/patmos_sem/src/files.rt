@@ -2,7 +2,7 @@ ghost use Rattle.std.specs.Prelude.{◌≡◌, ◌<◌, ◌≤◌, true, false, 
 ghost use Rattle.patmos_instr.specs.declared.specials.WritableSpecial.TheVariants as special;
 ghost use Rattle.patmos_sem.specs.declared.writes.Write.TheVariants as write;
 ghost use Rattle.patmos_sem.specs.Registers.{flag, preds_number};
-ghost use Rattle.patmos_sem.specs.Writes.{told, register_after, pred_after};
+ghost use Rattle.patmos_sem.specs.Writes.{renewed, register_after, pred_after};
 
 use crate::operations::bit;
 use patmos_instr::{Pred, Reg};
@@ -12,7 +12,7 @@ use patmos_instr::{Pred, Reg};
 // writes a general register; r0 stays 0
 pub fn put_register(general: &mut [u32; 32], rd: Reg, value: u32)
     requires { slice_index general.old 0 ≡ 0 }
-    ensures { general.new ≡ told (register_after (write.Register rd value ∷ [])) general.old }
+    ensures { general.new ≡ renewed (register_after (write.Register rd value ∷ [])) general.old }
 {
     if rd.number() != 0 {
         general[rd.number() as usize] = value;
@@ -22,7 +22,7 @@ pub fn put_register(general: &mut [u32; 32], rd: Reg, value: u32)
 // writes a predicate; p0 stays true
 pub fn put_pred(preds: &mut [bool; 8], pd: Pred, value: bool)
     requires { slice_index_or preds.old 0 false ≡ true }
-    ensures { preds.new ≡ told (pred_after (write.Predicate pd value ∷ [])) preds.old }
+    ensures { preds.new ≡ renewed (pred_after (write.Predicate pd value ∷ [])) preds.old }
 {
     if pd.number() != 0 {
         preds[pd.number() as usize] = value;
@@ -32,7 +32,7 @@ pub fn put_pred(preds: &mut [bool; 8], pd: Pred, value: bool)
 // writes s0: each predicate but p0 gets its bit of the word
 #[tactic(auto, using(crate::proofs::Told::s0_bits))]
 pub fn put_preds(preds: &mut [bool; 8], word: u32)
-    ensures { preds.new ≡ told (pred_after (write.Special special.S0 word ∷ [])) preds.old }
+    ensures { preds.new ≡ renewed (pred_after (write.Special special.S0 word ∷ [])) preds.old }
 {
     *preds = [
         true,

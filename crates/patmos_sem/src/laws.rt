@@ -13,7 +13,7 @@ ghost use Rattle.patmos_sem.specs.Worked.{both, add_short, s0_from};
 /// that name it gives, and else its old value, where a pending value comes before the first slot's write
 /// and that before the second's. Register 0 stays 0, and predicate 0 true. Writes after writes are the
 /// writes of both, so a product or a load's value can as well be read as written at once.
-pub fn told_by_register()
+pub fn after_bundle_by_register()
     ensures general { (st ss : ℕ) (b : Slots) (regs : Registers) (r : ℕ) → r < length regs.general → word_in (after_bundle st ss b regs) r ≡ register_after (all_writes st ss b regs) r (word_in regs r) }
     ensures preds { (st ss : ℕ) (b : Slots) (regs : Registers) (p : ℕ) → p < length regs.preds → pred_in (after_bundle st ss b regs) p ≡ pred_after (all_writes st ss b regs) p (pred_in regs p) }
     ensures joined { (us vs : List Write) (regs : Registers) → after_writes vs (after_writes us regs) ≡ after_writes (us ++ vs) regs }

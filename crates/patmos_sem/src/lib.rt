@@ -10,6 +10,8 @@
 //!
 //! The definitions in `specs/` tell the registers after a bundle one by one, from small pieces that
 //! readers above put together in other ways. No call takes memory, and a bundle is constant work.
+//!
+//! What its words mean stands in [the glossary](../../../docs/GLOSSARY.md).
 #![tactic(auto)]
 
 mod effects;
@@ -24,10 +26,7 @@ mod writes;
 
 pub use effects::{Effect, FlowKind};
 pub use execution::{arrive, exec, load_bytes, store_bytes};
-pub use laws::{told_by_register, worked_values};
+pub use laws::{after_bundle_by_register, worked_values};
 pub use narrow::{merge, pick};
 pub use pending::Pending;
 pub use registers::Regs;
-
-#[cfg(test)]
-mod tests;

@@ -1,11 +1,11 @@
--- Lists of operations: their loads, the part of a core, and their order.
-use Rattle.std.proofs.Common.{◌≡◌, ℕ, ◌%◌, ◌<◌, ◌≤◌, Bool, true, false, cond, List, [], ◌∷◌, ◌++◌, ◌==◌, nat_lt, filter, refl, sym, ap, ◌∙◌, arith, inl, inr, eq-eqb, lt-ltb, le-ltb, le-leb, nat_le, true≢false}
+-- Lists of operations: their loads, the operations of a core, and their order.
+use Rattle.std.proofs.Common.{◌≡◌, ℕ, zero, suc, ◌%◌, ◌<◌, ◌≤◌, Bool, true, false, cond, List, [], ◌∷◌, ◌++◌, ◌==◌, nat_lt, filter, length, get_or, set, take, drop, refl, sym, ap, ◌∙◌, arith, inl, inr, eq-eqb, lt-ltb, le-ltb, le-leb, nat_le, true≢false}
 use Rattle.std.specs.List.{AllByRecursion as Each}
 use Rattle.std.proofs.lemmas.Bool.{cases_eq, cases_lt, lt-leb}
 use Rattle.std.proofs.lemmas.Nat.{mod_below}
 use Rattle.std.proofs.lemmas.List.Elements.{filter-append}
 use Rattle.shared_order.specs.declared.operation.Operation.{Operation}
-use Rattle.shared_order.specs.Operation.{loads, part}
+use Rattle.shared_order.specs.Operation.{loads, operations_of}
 use Rattle.shared_order.specs.Order.{Rising}
 
 pub loads-append : (xs ys : List Operation) → loads (xs ++ ys) ≡ loads xs ++ loads ys
@@ -50,19 +50,64 @@ pub each_first : {Y : Type 0} (P : Y → Type 0) (xs ys : List Y) → Each P (xs
 each_first P [] ys h = tt
 each_first P (x ∷ xs) ys h = (h.0, each_first P xs ys h.1)
 
--- ---- operations of one stamp, and a core's part of them
+pub each_rest : {Y : Type 0} (P : Y → Type 0) (xs ys : List Y) → Each P (xs ++ ys) → Each P ys
+each_rest P [] ys h = h
+each_rest P (x ∷ xs) ys h = each_rest P xs ys h.1
 
-pub part-append : (n core : ℕ) (xs ys : List Operation) → part n core (xs ++ ys) ≡ part n core xs ++ part n core ys
-part-append n core xs ys = filter-append (λ o. o.stamp % n == core) xs ys
+-- from two facts of each element a third
+pub each_zip : {Y : Type 0} (P Q R : Y → Type 0) → ((y : Y) → P y → Q y → R y) → (xs : List Y) → Each P xs → Each Q xs → Each R xs
+each_zip P Q R f [] p q = tt
+each_zip P Q R f (x ∷ xs) p q = (f x p.0 q.0, each_zip P Q R f xs p.1 q.1)
+
+-- what holds of all holds of each
+pub each_all : {Y : Type 0} (P : Y → Type 0) → ((y : Y) → P y) → (xs : List Y) → Each P xs
+each_all P f [] = tt
+each_all P f (x ∷ xs) = (f x, each_all P f xs)
+
+-- of the element at an index
+pub each_at : {Y : Type 0} (P : Y → Type 0) (xs : List Y) (i : ℕ) (d : Y) → Each P xs → i < length xs → P (get_or xs i d)
+each_at P [] i d h below = absurd (omega (arith, below))
+each_at P (x ∷ xs) zero d h below = h.0
+each_at P (x ∷ xs) (suc i) d h below = each_at P xs i d h.1 (omega (arith, below))
+
+-- of the first elements, of those past them, and of all with another one set at an index
+pub each_take : {Y : Type 0} (P : Y → Type 0) (n : ℕ) (xs : List Y) → Each P xs → Each P (take n xs)
+each_take P zero xs h = tt
+each_take P (suc n) [] h = tt
+each_take P (suc n) (x ∷ xs) h = (h.0, each_take P n xs h.1)
+
+pub each_drop : {Y : Type 0} (P : Y → Type 0) (n : ℕ) (xs : List Y) → Each P xs → Each P (drop n xs)
+each_drop P zero xs h = h
+each_drop P (suc n) [] h = tt
+each_drop P (suc n) (x ∷ xs) h = each_drop P n xs h.1
+
+pub each_set : {Y : Type 0} (P : Y → Type 0) (xs : List Y) (i : ℕ) (y : Y) → Each P xs → P y → Each P (set xs i y)
+each_set P [] i y h k = tt
+each_set P (x ∷ xs) zero y h k = (k, h.1)
+each_set P (x ∷ xs) (suc i) y h k = (h.0, each_set P xs i y h.1 k)
+
+-- and of those that a test lets pass
+pub each_filter : {Y : Type 0} (P : Y → Type 0) (test : Y → Bool) (xs : List Y) → Each P xs → Each P (filter test xs)
+each_filter P test [] h = tt
+each_filter P test (x ∷ xs) h = by (test x) refl (each_filter P test xs h.1)
+  where
+    by : (b : Bool) → test x ≡ b → Each P (filter test xs) → Each P (filter test (x ∷ xs))
+    by true here rest = rw here (h.0, rest)
+    by false other rest = rw other rest
+
+-- ---- operations of one stamp, and a core's operations among them
+
+pub operations_of-append : (n core : ℕ) (xs ys : List Operation) → operations_of n core (xs ++ ys) ≡ operations_of n core xs ++ operations_of n core ys
+operations_of-append n core xs ys = filter-append (λ o. o.stamp % n == core) xs ys
 
 -- operations of the core's own stamps are its part
-pub part_own : (n core s : ℕ) (os : List Operation) → (s % n == core) ≡ true → Each (λ o. o.stamp ≡ s) os → part n core os ≡ os
-part_own n core s os own at =
+pub own_operations : (n core s : ℕ) (os : List Operation) → (s % n == core) ≡ true → Each (λ o. o.stamp ≡ s) os → operations_of n core os ≡ os
+own_operations n core s os own at =
     filter_all (λ o. o.stamp % n == core) os (each_map (λ o. o.stamp ≡ s) (λ o. (o.stamp % n == core) ≡ true) (λ o e. ap (λ u. u % n == core) e ∙ own) os at)
 
 -- and of others' stamps, none is
-pub part_other : (n core s : ℕ) (os : List Operation) → (s % n == core) ≡ false → Each (λ o. o.stamp ≡ s) os → part n core os ≡ []
-part_other n core s os other at =
+pub other_operations : (n core s : ℕ) (os : List Operation) → (s % n == core) ≡ false → Each (λ o. o.stamp ≡ s) os → operations_of n core os ≡ []
+other_operations n core s os other at =
     filter_none (λ o. o.stamp % n == core) os (each_map (λ o. o.stamp ≡ s) (λ o. (o.stamp % n == core) ≡ false) (λ o e. ap (λ u. u % n == core) e ∙ other) os at)
 
 nil_of : {Y : Type 0} (b : Bool) (x : Y) (l : List Y) → cond b (x ∷ l) l ≡ [] → (b ≡ false) × (l ≡ [])
@@ -70,19 +115,19 @@ nil_of true x l e = cc
 nil_of false x l e = (refl, e)
 
 -- an operation is in the part of its core
-never_other : (n : ℕ) (o : Operation) (os : List Operation) → part n (o.stamp % n) (o ∷ os) ≡ [] → ⊥
-never_other n o os none = true≢false (sym (eq-eqb (o.stamp % n) (o.stamp % n) refl) ∙ (nil_of (o.stamp % n == o.stamp % n) o (part n (o.stamp % n) os) none).0)
+never_other : (n : ℕ) (o : Operation) (os : List Operation) → operations_of n (o.stamp % n) (o ∷ os) ≡ [] → ⊥
+never_other n o os none = true≢false (sym (eq-eqb (o.stamp % n) (o.stamp % n) refl) ∙ (nil_of (o.stamp % n == o.stamp % n) o (operations_of n (o.stamp % n) os) none).0)
 
 -- so where no core has a part, there is no operation
-pub no_parts : (n : ℕ) (os : List Operation) → 0 < n → ((core : ℕ) → core < n → part n core os ≡ []) → os ≡ []
-no_parts n [] some none = refl
-no_parts n (o ∷ os) some none = absurd (never_other n o os (none (o.stamp % n) (mod_below o.stamp n some)))
+pub no_operations : (n : ℕ) (os : List Operation) → 0 < n → ((core : ℕ) → core < n → operations_of n core os ≡ []) → os ≡ []
+no_operations n [] some none = refl
+no_operations n (o ∷ os) some none = absurd (never_other n o os (none (o.stamp % n) (mod_below o.stamp n some)))
 
--- where the other cores have no part, a core's part is all
-pub one_part : (n core : ℕ) (os : List Operation) → 0 < n → ((other : ℕ) → other < n → (other ≡ core → ⊥) → part n other os ≡ []) → part n core os ≡ os
-one_part n core [] some none = refl
-one_part n core (o ∷ os) some none = elim (cases_eq (o.stamp % n) core) [
-  | inl own ↦ rw (eq-eqb (o.stamp % n) core own) (ap (λ l. o ∷ l) (one_part n core os some (λ other among away. (nil_of (o.stamp % n == other) o (part n other os) (none other among away)).1)))
+-- where the other cores have no part, a core's operations is all
+pub one_core_has_all : (n core : ℕ) (os : List Operation) → 0 < n → ((other : ℕ) → other < n → (other ≡ core → ⊥) → operations_of n other os ≡ []) → operations_of n core os ≡ os
+one_core_has_all n core [] some none = refl
+one_core_has_all n core (o ∷ os) some none = elim (cases_eq (o.stamp % n) core) [
+  | inl own ↦ rw (eq-eqb (o.stamp % n) core own) (ap (λ l. o ∷ l) (one_core_has_all n core os some (λ other among away. (nil_of (o.stamp % n == other) o (operations_of n other os) (none other among away)).1)))
   | inr other ↦ absurd (never_other n o os (none (o.stamp % n) (mod_below o.stamp n some) other))
 ]
 

@@ -2,7 +2,7 @@
 use Rattle.std.proofs.Common.{◌≡◌, ◌≢◌, ℕ, ◌*◌, ◌%◌, ◌<◌, ◌≤◌, List, [], ◌++◌, sym, ap, ◌∙◌, append-nil, eq-eqb, ne_eqb, refl, arith}
 use Rattle.std.specs.List.{AllByRecursion as Each}
 use Rattle.shared_order.specs.declared.operation.Operation.{Operation}
-use Rattle.shared_order.specs.Operation.{loads, part}
+use Rattle.shared_order.specs.Operation.{loads, operations_of}
 use Rattle.shared_order.specs.Words.{after, zeros, Reads}
 use Rattle.shared_order.specs.Program.{Prog, played}
 use Rattle.shared_order.specs.Machine.{cycled}
@@ -10,7 +10,7 @@ use Rattle.shared_order.specs.Apart.{apart}
 use Rattle.shared_order.specs.Stamps.{act_at}
 use Rattle.shared_order.specs.Stands.{Stands}
 use Rattle.shared_order.specs.Merge.{IsMerging, IsMerge}
-use Rattle.shared_order.proofs.Lists.{each_map, each-append, part-append, part_own, part_other, rising_of_one, rising-append}
+use Rattle.shared_order.proofs.Lists.{each_map, each-append, operations_of-append, own_operations, other_operations, rising_of_one, rising-append}
 use Rattle.shared_order.proofs.Words.{sees-append, sees_from, reads_from, played_sees}
 use Rattle.shared_order.proofs.Runs.{stamps_played}
 use Rattle.shared_order.proofs.ByCycles.{stands_by_cycles, merge_is_all, merge_core}
@@ -30,12 +30,12 @@ next made ops s s' so_far later at right =
 pub played_reads : {X : Type 0} (made : List Operation) (s : ℕ) (p : Prog X) → Reads made (played s p (after made zeros)).ops × Each (λ o. o.stamp ≡ s) (played s p (after made zeros)).ops
 played_reads made s p = (reads_from made _ (played_sees s p (after made zeros)), stamps_played s p (after made zeros))
 
-pub part_grows : (n : ℕ) (made ops : List Operation) (s : ℕ) → Each (λ o. o.stamp ≡ s) ops → part n (s % n) (made ++ ops) ≡ part n (s % n) made ++ ops
-part_grows n made ops s at = part-append n (s % n) made ops ∙ ap (λ l. part n (s % n) made ++ l) (part_own n (s % n) s ops (eq-eqb (s % n) (s % n) refl) at)
+pub operations_grow : (n : ℕ) (made ops : List Operation) (s : ℕ) → Each (λ o. o.stamp ≡ s) ops → operations_of n (s % n) (made ++ ops) ≡ operations_of n (s % n) made ++ ops
+operations_grow n made ops s at = operations_of-append n (s % n) made ops ∙ ap (λ l. operations_of n (s % n) made ++ l) (own_operations n (s % n) s ops (eq-eqb (s % n) (s % n) refl) at)
 
-pub part_stays : (n core : ℕ) (made ops : List Operation) (s : ℕ) → s % n ≢ core → Each (λ o. o.stamp ≡ s) ops → part n core (made ++ ops) ≡ part n core made
-part_stays n core made ops s other at =
-    part-append n core made ops ∙ ap (λ l. part n core made ++ l) (part_other n core s ops (ne_eqb (s % n) core other) at) ∙ append-nil (part n core made)
+pub operations_stay : (n core : ℕ) (made ops : List Operation) (s : ℕ) → s % n ≢ core → Each (λ o. o.stamp ≡ s) ops → operations_of n core (made ++ ops) ≡ operations_of n core made
+operations_stay n core made ops s other at =
+    operations_of-append n core made ops ∙ ap (λ l. operations_of n core made ++ l) (other_operations n core s ops (ne_eqb (s % n) core other) at) ∙ append-nil (operations_of n core made)
 
 module _ {X : Type 0} (turn : ℕ → ℕ → X → Prog X) (n : ℕ) where
   -- a core that stands at the limit has made its run apart
@@ -43,10 +43,10 @@ module _ {X : Type 0} (turn : ℕ → ℕ → X → Prog X) (n : ℕ) where
   through core x y made t among stands =
       ap (λ l. apart turn n core x l t) (sym (append-nil (loads made))) ∙ stands_by_cycles turn n core x made t y among stands []
 
-  pub ends : (cores left : ℕ → X) (t s : ℕ) (all : List Operation) → 0 < n → IsMerging all s → ((core : ℕ) → core < n → Stands (act_at turn n) n core (cores core) (part n core all) (2 * t * n) (left core)) → (all ≡ (cycled turn n cores t).made) × ((core : ℕ) → core < n → (cycled turn n cores t).cores core ≡ left core)
+  pub ends : (cores left : ℕ → X) (t s : ℕ) (all : List Operation) → 0 < n → IsMerging all s → ((core : ℕ) → core < n → Stands (act_at turn n) n core (cores core) (operations_of n core all) (2 * t * n) (left core)) → (all ≡ (cycled turn n cores t).made) × ((core : ℕ) → core < n → (cycled turn n cores t).cores core ≡ left core)
   ends cores left t s all some merging stands =
-      let through_of : (core : ℕ) → core < n → apart turn n core (cores core) (loads (part n core all)) t ≡ record { core = left core; left = []; made = part n core all } =
-      λ core among. through core (cores core) (left core) (part n core all) t among (stands core among) in
+      let through_of : (core : ℕ) → core < n → apart turn n core (cores core) (loads (operations_of n core all)) t ≡ record { core = left core; left = []; made = operations_of n core all } =
+      λ core among. through core (cores core) (left core) (operations_of n core all) t among (stands core among) in
       let merge : IsMerge turn n cores t all = record {
         rising = merging.rising;
         reads = merging.reads;

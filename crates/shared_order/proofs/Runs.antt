@@ -2,14 +2,14 @@
 use Rattle.std.proofs.Common.{◌≡◌, ℕ, zero, suc, ◌%◌, ◌<◌, ◌≤◌, Bool, true, false, cond, List, ◌++◌, ◌==◌, refl, sym, ap, ◌∙◌, subst, subst₂, append_assoc, append-nil, eqb-true, arith}
 use Rattle.std.specs.List.{AllByRecursion as Each}
 use Rattle.shared_order.specs.declared.operation.Operation.{Operation}
-use Rattle.shared_order.specs.Operation.{load, store, loads, part}
+use Rattle.shared_order.specs.Operation.{load, store, loads, operations_of}
 use Rattle.shared_order.specs.Words.{put, after, zeros}
 use Rattle.shared_order.specs.Program.{Prog, done, get, set, Played, played, fed, first, others, first_asked}
 use Rattle.shared_order.specs.Machine.{State}
 use Rattle.shared_order.specs.Apart.{Alone, gone_on}
 use Rattle.shared_order.specs.Stamps.{machine, stepped_apart, run_apart}
 use Rattle.shared_order.specs.Stands.{Stands}
-use Rattle.shared_order.proofs.Lists.{loads-append, part-append, part_own, part_other, each_map, each-append, rising-append, rising_of_one}
+use Rattle.shared_order.proofs.Lists.{loads-append, operations_of-append, own_operations, other_operations, each_map, each-append, rising-append, rising_of_one}
 use Rattle.shared_order.proofs.Words.{Sees, sees-append, played_sees, after-append}
 use Rattle.shared_order.specs.Order.{Rising}
 
@@ -48,19 +48,19 @@ module _ {X : Type 0} (act : ℕ → X → Prog X) (n : ℕ) where
 
   -- at its own stamp a core goes on by its program
   pub stands_turn : (core : ℕ) (x : X) (made : List Operation) (s : ℕ) (y y' : X) (ops : List Operation) → Stands act n core x made s y → (s % n == core) ≡ true → ((more : List ℕ) → fed s (act s y) (loads ops ++ more) ≡ record { core = y'; left = more; ops = ops }) → Stands act n core x (made ++ ops) (suc s) y'
-  stands_turn core x made s y y' ops stands own told = λ more.
+  stands_turn core x made s y y' ops stands own resumed = λ more.
       ap (λ l. run_apart act n core x (l ++ more) (suc s)) (loads-append made ops)
       ∙ ap (λ l. run_apart act n core x l (suc s)) (append_assoc (loads made) (loads ops) more)
       ∙ ap (stepped_apart act n core s) (stands (loads ops ++ more))
       ∙ stepped_own core s (record { core = y; left = loads ops ++ more; made = made }) own
-      ∙ ap (λ p. gone_on p made) (told more)
+      ∙ ap (λ p. gone_on p made) (resumed more)
 
   -- at the stamps of others it stands still
   pub stands_still : (core : ℕ) (x : X) (made : List Operation) (s : ℕ) (y : X) → Stands act n core x made s y → (s % n == core) ≡ false → Stands act n core x made (suc s) y
   stands_still core x made s y stands other = λ more. ap (stepped_apart act n core s) (stands more) ∙ stepped_other core s (record { core = y; left = more; made = made }) other
 
   -- each core of the machine stands where its part of the operations brings it
-  pub core_stands : (cores : ℕ → X) (core s : ℕ) → Stands act n core (cores core) (part n core (machine act n cores s).made) s ((machine act n cores s).cores core)
+  pub core_stands : (cores : ℕ → X) (core s : ℕ) → Stands act n core (cores core) (operations_of n core (machine act n cores s).made) s ((machine act n cores s).cores core)
   core_stands cores core zero = λ more. refl
   core_stands cores core (suc s) = by (s % n == core) refl (core_stands cores core s)
     where
@@ -70,25 +70,25 @@ module _ {X : Type 0} (act : ℕ → X → Prog X) (n : ℕ) where
       t : Played X
       t = played s (act s (m.cores (s % n))) m.words
 
-      by : (b : Bool) → (s % n == core) ≡ b → Stands act n core (cores core) (part n core m.made) s (m.cores core) → Stands act n core (cores core) (part n core (m.made ++ t.ops)) (suc s) (cond (s % n == core) t.core (m.cores core))
+      by : (b : Bool) → (s % n == core) ≡ b → Stands act n core (cores core) (operations_of n core m.made) s (m.cores core) → Stands act n core (cores core) (operations_of n core (m.made ++ t.ops)) (suc s) (cond (s % n == core) t.core (m.cores core))
       by true own stands =
           let t' : Played X = played s (act s (m.cores core)) m.words in
           let same : t ≡ t' = ap (λ u. played s (act s (m.cores u)) m.words) (eqb-true (s % n) core own) in
-          let ops : part n core (m.made ++ t.ops) ≡ part n core m.made ++ t'.ops =
-          part-append n core m.made t.ops
-          ∙ ap (λ l. part n core m.made ++ l) (part_own n core s t.ops own (stamps_played s (act s (m.cores (s % n))) m.words))
-          ∙ ap (λ u. part n core m.made ++ u.ops) same in
+          let ops : operations_of n core (m.made ++ t.ops) ≡ operations_of n core m.made ++ t'.ops =
+          operations_of-append n core m.made t.ops
+          ∙ ap (λ l. operations_of n core m.made ++ l) (own_operations n core s t.ops own (stamps_played s (act s (m.cores (s % n))) m.words))
+          ∙ ap (λ u. operations_of n core m.made ++ u.ops) same in
           let left : cond (s % n == core) t.core (m.cores core) ≡ t'.core = rw own (ap (λ u. u.core) same) in
           subst₂ (λ l y. Stands act n core (cores core) l (suc s) y) (sym ops) (sym left)
-          (stands_turn core (cores core) (part n core m.made) s (m.cores core) t'.core t'.ops stands own (fed_played s (act s (m.cores core)) m.words))
+          (stands_turn core (cores core) (operations_of n core m.made) s (m.cores core) t'.core t'.ops stands own (fed_played s (act s (m.cores core)) m.words))
       by false other stands =
-          let ops : part n core (m.made ++ t.ops) ≡ part n core m.made =
-          part-append n core m.made t.ops
-          ∙ ap (λ l. part n core m.made ++ l) (part_other n core s t.ops other (stamps_played s (act s (m.cores (s % n))) m.words))
-          ∙ append-nil (part n core m.made) in
+          let ops : operations_of n core (m.made ++ t.ops) ≡ operations_of n core m.made =
+          operations_of-append n core m.made t.ops
+          ∙ ap (λ l. operations_of n core m.made ++ l) (other_operations n core s t.ops other (stamps_played s (act s (m.cores (s % n))) m.words))
+          ∙ append-nil (operations_of n core m.made) in
           let left : cond (s % n == core) t.core (m.cores core) ≡ m.cores core = rw other in
           subst₂ (λ l y. Stands act n core (cores core) l (suc s) y) (sym ops) (sym left)
-          (stands_still core (cores core) (part n core m.made) s (m.cores core) stands other)
+          (stands_still core (cores core) (operations_of n core m.made) s (m.cores core) stands other)
 
   -- whatever values a core was fed, it stands where the operations that it made bring it
   pub alone_stands : (core : ℕ) (x : X) (values : List ℕ) (s : ℕ) → Stands act n core x (run_apart act n core x values s).made s (run_apart act n core x values s).core

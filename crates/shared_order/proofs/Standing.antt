@@ -13,10 +13,7 @@ use Rattle.shared_order.proofs.Lists.{loads-append, each_map, each-append}
 use Rattle.shared_order.proofs.Runs.{stamps_fed, fed_fed, stepped_own, stepped_other, stands_turn, stands_still}
 use Rattle.shared_order.proofs.ByStamps.{other_here}
 use Rattle.shared_order.proofs.Parts.{then-done, fed-then}
-
-cancel : (xs ys zs : List Operation) → xs ++ ys ≡ xs ++ zs → ys ≡ zs
-cancel [] ys zs e = e
-cancel (x ∷ xs) ys zs e = cancel xs ys zs (ap (drop 1) e)
+use Rattle.std.proofs.lemmas.List.{append_cancel_left}
 
 module _ {X : Type 0} (act : ℕ → X → Prog X) (n : ℕ) where
   -- ---- within an act
@@ -26,25 +23,25 @@ module _ {X : Type 0} (act : ℕ → X → Prog X) (n : ℕ) where
       ap (stepped_apart act n core s) (stands more) ∙ stepped_own act n core s (record { core = y; left = more; made = made }) (eq-eqb (s % n) core own)
 
   -- what one part of an act was told is behind it, and the next part is still to do
-  pub goes_on : {Y : Type 0} (core : ℕ) (x : X) (made : List Operation) (s : ℕ) (front : Prog Y) (next : Y → Prog X) → Midway act n core x made s (and_then front next) → (values : List ℕ) → Midway act n core x (made ++ (fed s front values).ops) s (next (fed s front values).core)
-  goes_on {Y} core x made s front next midway values = λ more.
-      let f : Fed Y = fed s front values in
+  pub goes_on : {Y : Type 0} (core : ℕ) (x : X) (made : List Operation) (s : ℕ) (prefix : Prog Y) (next : Y → Prog X) → Midway act n core x made s (and_then prefix next) → (values : List ℕ) → Midway act n core x (made ++ (fed s prefix values).ops) s (next (fed s prefix values).core)
+  goes_on {Y} core x made s prefix next midway values = λ more.
+      let f : Fed Y = fed s prefix values in
       let rest : Fed X = fed s (next f.core) more in
-      let told : fed s (and_then front next) (loads f.ops ++ more) ≡ record { core = rest.core; left = rest.left; ops = f.ops ++ rest.ops } =
-      fed-then s front next (loads f.ops ++ more)
-      ∙ ap (λ (g : Fed Y). record { core = (fed s (next g.core) g.left).core; left = (fed s (next g.core) g.left).left; ops = g.ops ++ (fed s (next g.core) g.left).ops }) (fed_fed s front values more) in
+      let resumed : fed s (and_then prefix next) (loads f.ops ++ more) ≡ record { core = rest.core; left = rest.left; ops = f.ops ++ rest.ops } =
+      fed-then s prefix next (loads f.ops ++ more)
+      ∙ ap (λ (g : Fed Y). record { core = (fed s (next g.core) g.left).core; left = (fed s (next g.core) g.left).left; ops = g.ops ++ (fed s (next g.core) g.left).ops }) (fed_fed s prefix values more) in
       ap (λ l. run_apart act n core x (l ++ more) (suc s)) (loads-append made f.ops)
       ∙ ap (λ l. run_apart act n core x l (suc s)) (append_assoc (loads made) (loads f.ops) more)
       ∙ midway (loads f.ops ++ more)
-      ∙ ap (λ (g : Fed X). gone_on g made) told
+      ∙ ap (λ (g : Fed X). gone_on g made) resumed
       ∙ ap (λ l. record { core = rest.core; left = rest.left; made = l }) (sym (append_assoc made f.ops rest.ops))
 
   pub leaves : (core : ℕ) (x : X) (made : List Operation) (s : ℕ) (y : X) → Midway act n core x made s (done y) → Stands act n core x made (suc s) y
   leaves core x made s y midway = λ more. midway more ∙ ap (λ l. record { core = y; left = more; made = l }) (append-nil made)
 
   -- a whole act, told what its loads gave
-  pub told : (core : ℕ) (x : X) (made : List Operation) (s : ℕ) (y : X) → s % n ≡ core → Stands act n core x made s y → (values : List ℕ) → Stands act n core x (made ++ (fed s (act s y) values).ops) (suc s) (fed s (act s y) values).core
-  told core x made s y own stands values =
+  pub resumed : (core : ℕ) (x : X) (made : List Operation) (s : ℕ) (y : X) → s % n ≡ core → Stands act n core x made s y → (values : List ℕ) → Stands act n core x (made ++ (fed s (act s y) values).ops) (suc s) (fed s (act s y) values).core
+  resumed core x made s y own stands values =
       leaves core x (made ++ (fed s (act s y) values).ops) s (fed s (act s y) values).core
       (goes_on core x made s (act s y) (λ z. done z)
       (subst (Midway act n core x made s) (sym (then-done (act s y))) (enters core x made s y own stands)) values)
@@ -102,21 +99,21 @@ module _ {X : Type 0} (act : ℕ → X → Prog X) (n : ℕ) where
       let next : GoesOn (suc s) (made ++ (fed s rest (loads left)).ops) (run_apart act n core x (loads made ++ loads left) u).made = next_midway core x made s u rest below midway (loads left) in
       record {
         later = next.later;
-        whole = cancel made left ((fed s rest (loads left)).ops ++ next.later)
+        whole = append_cancel_left made left ((fed s rest (loads left)).ops ++ next.later)
             (sym all ∙ ap (λ l. (run_apart act n core x l u).made) (loads-append made left) ∙ next.whole ∙ append_assoc made (fed s rest (loads left)).ops next.later);
         from = next.from;
       }
 
   -- the same of the first part of what is left of an act
-  pub next_part : {Y : Type 0} (core : ℕ) (x : X) (made : List Operation) (s u : ℕ) (front : Prog Y) (rest : Y → Prog X) → s < u → Midway act n core x made s (and_then front rest) → (more : List ℕ) → GoesOn s (made ++ (fed s front more).ops) (run_apart act n core x (loads made ++ more) u).made
-  next_part {Y} core x made s u front rest below midway more =
-      let f : Fed Y = fed s front more in
+  pub next_part : {Y : Type 0} (core : ℕ) (x : X) (made : List Operation) (s u : ℕ) (prefix : Prog Y) (rest : Y → Prog X) → s < u → Midway act n core x made s (and_then prefix rest) → (more : List ℕ) → GoesOn s (made ++ (fed s prefix more).ops) (run_apart act n core x (loads made ++ more) u).made
+  next_part {Y} core x made s u prefix rest below midway more =
+      let f : Fed Y = fed s prefix more in
       let back : List Operation = (fed s (rest f.core) f.left).ops in
-      let next : GoesOn (suc s) (made ++ (fed s (and_then front rest) more).ops) (run_apart act n core x (loads made ++ more) u).made = next_midway core x made s u (and_then front rest) below midway more in
+      let next : GoesOn (suc s) (made ++ (fed s (and_then prefix rest) more).ops) (run_apart act n core x (loads made ++ more) u).made = next_midway core x made s u (and_then prefix rest) below midway more in
       record {
         later = back ++ next.later;
         whole = next.whole
-            ∙ ap (λ (g : Fed X). (made ++ g.ops) ++ next.later) (fed-then s front rest more)
+            ∙ ap (λ (g : Fed X). (made ++ g.ops) ++ next.later) (fed-then s prefix rest more)
             ∙ ap (λ l. l ++ next.later) (sym (append_assoc made f.ops back))
             ∙ append_assoc (made ++ f.ops) back next.later;
         from = each-append (λ o. s ≤ o.stamp) back next.later
@@ -124,19 +121,19 @@ module _ {X : Type 0} (act : ℕ → X → Prog X) (n : ℕ) where
             (each_map (λ o. suc s ≤ o.stamp) (λ o. s ≤ o.stamp) (λ o h. omega (arith, h)) next.later next.from);
       }
 
-  pub left_part : {Y : Type 0} (core : ℕ) (x : X) (made left : List Operation) (s u : ℕ) (front : Prog Y) (rest : Y → Prog X) → s < u → Midway act n core x made s (and_then front rest) → (run_apart act n core x (loads (made ++ left)) u).made ≡ made ++ left → GoesOn s (fed s front (loads left)).ops left
-  left_part core x made left s u front rest below midway all =
-      let next : GoesOn s (made ++ (fed s front (loads left)).ops) (run_apart act n core x (loads made ++ loads left) u).made = next_part core x made s u front rest below midway (loads left) in
+  pub left_part : {Y : Type 0} (core : ℕ) (x : X) (made left : List Operation) (s u : ℕ) (prefix : Prog Y) (rest : Y → Prog X) → s < u → Midway act n core x made s (and_then prefix rest) → (run_apart act n core x (loads (made ++ left)) u).made ≡ made ++ left → GoesOn s (fed s prefix (loads left)).ops left
+  left_part core x made left s u prefix rest below midway all =
+      let next : GoesOn s (made ++ (fed s prefix (loads left)).ops) (run_apart act n core x (loads made ++ loads left) u).made = next_part core x made s u prefix rest below midway (loads left) in
       record {
         later = next.later;
-        whole = cancel made left ((fed s front (loads left)).ops ++ next.later)
-            (sym all ∙ ap (λ l. (run_apart act n core x l u).made) (loads-append made left) ∙ next.whole ∙ append_assoc made (fed s front (loads left)).ops next.later);
+        whole = append_cancel_left made left ((fed s prefix (loads left)).ops ++ next.later)
+            (sym all ∙ ap (λ l. (run_apart act n core x l u).made) (loads-append made left) ∙ next.whole ∙ append_assoc made (fed s prefix (loads left)).ops next.later);
         from = next.from;
       }
 
   -- and where the core stands at the end, nothing follows
   pub none_left : (core : ℕ) (x : X) (made left : List Operation) (u : ℕ) (y : X) → Stands act n core x made u y → (run_apart act n core x (loads (made ++ left)) u).made ≡ made ++ left → left ≡ []
-  none_left core x made left u y stands all = cancel made left []
+  none_left core x made left u y stands all = append_cancel_left made left []
       (sym all ∙ ap (λ l. (run_apart act n core x l u).made) (loads-append made left) ∙ ap (λ a. a.made) (stands (loads left)) ∙ sym (append-nil made))
 
 module _ {X : Type 0} (turn : ℕ → ℕ → X → Prog X) (n : ℕ) where

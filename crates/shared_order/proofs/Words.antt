@@ -1,10 +1,12 @@
 -- The words after a list of operations, and what its loads see.
-use Rattle.std.proofs.Common.{◌≡◌, ℕ, Bool, true, false, cond, ◌&&◌, List, [], ◌∷◌, ◌++◌, ◌==◌, refl, sym, ap, ◌∙◌, subst, eq-eqb, ne_eqb, true≢false}
+use Rattle.std.proofs.Common.{◌≡◌, ℕ, ◌<◌, Bool, true, false, cond, ◌&&◌, List, [], ◌∷◌, ◌++◌, ◌==◌, length, slice_index, slice_set, inl, inr, refl, sym, ap, ◌∙◌, subst, eq-eqb, ne_eqb, true≢false}
 use Rattle.std.specs.List.{AllByRecursion as Each}
 use Rattle.shared_order.specs.Operation.{store}
 use Rattle.shared_order.specs.declared.operation.Operation.{Operation}
 use Rattle.shared_order.specs.Words.{put, written, after, zeros, stored_last, LeavesWord, Reads}
 use Rattle.shared_order.specs.Program.{Prog, done, get, set, played}
+use Rattle.std.proofs.lemmas.Bool.{cases_eq}
+use Rattle.std.proofs.lemmas.List.{get_or-set_same, get_or-set_other}
 
 pub after-append : (xs ys : List Operation) (words : ℕ → ℕ) → after (xs ++ ys) words ≡ after ys (after xs words)
 after-append [] ys words = refl
@@ -79,3 +81,17 @@ pub played_sees : {X : Type 0} (s : ℕ) (p : Prog X) (words : ℕ → ℕ) → 
 played_sees s (done x) words = tt
 played_sees s (get word go_on) words = (λ _. refl, played_sees s (go_on (words word)) words)
 played_sees s (set word value rest) words = (λ e. absurd (true≢false e), played_sees s rest (put word value words))
+
+-- ---- words as a list
+
+word_put : (words : List ℕ) (at value : ℕ) → at < length words → (word : ℕ) → slice_index (slice_set words at value) word ≡ put at value (slice_index words) word
+word_put words at value below word = elim (cases_eq word at) [
+  | inl here ↦ ap (slice_index (slice_set words at value)) here ∙ get_or-set_same words at value 0 below
+      ∙ sym (ap (λ b. cond b value (slice_index words word)) (eq-eqb at word (sym here)))
+  | inr other ↦ get_or-set_other words at word value 0 other
+      ∙ sym (ap (λ b. cond b value (slice_index words word)) (ne_eqb at word (λ same. other (sym same))))
+]
+
+-- a word changed in the list is the word put in the function
+pub words_put : (words : List ℕ) (at value : ℕ) → at < length words → slice_index (slice_set words at value) ≡ put at value (slice_index words)
+words_put words at value below = λ i word. word_put words at value below word i

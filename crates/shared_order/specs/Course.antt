@@ -3,7 +3,7 @@
 use Rattle.std.specs.Prelude.{◌≡◌, ℕ, ◌<◌, Option, option_map, slice_get, List, [], ◌∷◌}
 use Rattle.std.specs.List.{AllByRecursion as Each}
 use Rattle.shared_order.specs.declared.operation.Operation.{Operation}
-use Rattle.shared_order.specs.Operation.{loads, part, asking}
+use Rattle.shared_order.specs.Operation.{loads, operations_of, asking}
 use Rattle.shared_order.specs.Order.{Rising}
 use Rattle.shared_order.specs.Words.{Reads}
 use Rattle.shared_order.specs.Fit.{Fits}
@@ -29,6 +29,6 @@ pub record IsCourse (n words : ℕ) (all : List Operation)
   pub rising : Rising all
   pub fits : Each (Fits words) all
   pub reads : Reads [] all
-  pub parts : (core : ℕ) → core < n → asked core (loads (part n core all)) ≡ part n core all
+  pub parts : (core : ℕ) → core < n → asked core (loads (operations_of n core all)) ≡ operations_of n core all
   pub determined : (core : ℕ) (values values' : List ℕ) → core < n →
       SameWhileRead (asked core values) (asked core values')

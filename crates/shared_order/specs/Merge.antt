@@ -3,7 +3,7 @@
 use Rattle.std.specs.Prelude.{◌≡◌, ℕ, ◌<◌, ◌≤◌, List, []}
 use Rattle.std.specs.List.{AllByRecursion as Each}
 use Rattle.shared_order.specs.declared.operation.Operation.{Operation}
-use Rattle.shared_order.specs.Operation.{loads, part}
+use Rattle.shared_order.specs.Operation.{loads, operations_of}
 use Rattle.shared_order.specs.Order.{Rising}
 use Rattle.shared_order.specs.Words.{Reads}
 use Rattle.shared_order.specs.Program.{Prog}
@@ -22,4 +22,4 @@ pub record IsMerge {X : Type 0} (turn : ℕ → ℕ → X → Prog X) (n : ℕ) 
   pub rising : Rising all
   pub reads : Reads [] all
   pub parts : (core : ℕ) → core < n →
-      (apart turn n core (cores core) (loads (part n core all)) t).made ≡ part n core all
+      (apart turn n core (cores core) (loads (operations_of n core all)) t).made ≡ operations_of n core all

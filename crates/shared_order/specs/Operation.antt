@@ -20,9 +20,9 @@ abbrev pub loads : List Operation → List ℕ
 loads [] = []
 loads (o ∷ os) = elim o.act.write [ true ↦ loads os | false ↦ o.act.value ∷ loads os ]
 
--- the part of a core, of n cores: a stamp's remainder by their number is the core that acts
-abbrev pub part : ℕ → ℕ → List Operation → List Operation
-part n core os = filter (λ o. o.stamp % n == core) os
+-- the operations of a core, of n cores: a stamp's remainder by their number is the core that acts
+abbrev pub operations_of : ℕ → ℕ → List Operation → List Operation
+operations_of n core os = filter (λ o. o.stamp % n == core) os
 
 -- what the core asks for by the operation, before it knows what a load gives
 abbrev pub asking : Operation → Operation

@@ -24,6 +24,8 @@
 //! - [`core_goes_on`], [`core_skips`] and [`core_stands`]: what a core that is stepped by itself has
 //!   to keep; [`event_asks`], [`event_is_next`] and [`part_is_next`]: what follows for the event
 //!   that it asks for.
+//!
+//! What its words mean stands in [the glossary](../../../docs/GLOSSARY.md).
 #![tactic(auto)]
 
 mod course;
@@ -42,7 +44,7 @@ pub use event::event_asks;
 pub use machine::{core_is_its_run_apart, machine_by_stamps, operations_in_order};
 pub use merge::{merge_goes_on, merge_is_the_machines};
 pub use operation::Operation;
-pub use position::{core_goes_on, core_skips, core_stands, event_is_next, part_is_next};
+pub use position::{core_goes_on, core_skips, core_stands, event_is_next, operation_is_next};
 pub use program::{program_is_heard_again, turn_in_parts};
 pub use range::{Ranged, ranges_are_kept};
 pub use stores::words_after_operations;

@@ -1,6 +1,6 @@
 ghost use Rattle.std.specs.Prelude.{◌≡◌, ℕ, ◌*◌, ◌<◌, List, [], ◌++◌};
 ghost use Rattle.std.specs.List.{AllByRecursion as Each};
-ghost use Rattle.shared_order.specs.Operation.{loads, part};
+ghost use Rattle.shared_order.specs.Operation.{loads, operations_of};
 ghost use Rattle.shared_order.specs.Order.{Rising};
 ghost use Rattle.shared_order.specs.Words.{after, zeros, stored_last, Reads};
 ghost use Rattle.shared_order.specs.Program.{Prog};
@@ -24,8 +24,8 @@ pub fn core_is_its_run_apart<X>()
     ensures apart { (turn : ℕ → ℕ → X → Prog X) (n : ℕ) (cores : ℕ → X) (t core : ℕ) → core < n
         → (more : List ℕ)
         → let all : State X = cycled turn n cores t in
-        apart turn n core (cores core) (loads (part n core all.made) ++ more) t
-        ≡ record { core = all.cores core; left = more; made = part n core all.made } }
+        apart turn n core (cores core) (loads (operations_of n core all.made) ++ more) t
+        ≡ record { core = all.cores core; left = more; made = operations_of n core all.made } }
 {}
 
 /// All operations of the machine by cycles stand in the order of their stamps, those of one stamp

@@ -1,7 +1,7 @@
 ghost use Rattle.std.specs.Prelude.{◌≡◌, ℕ, ◌*◌, ◌%◌, ◌<◌, ◌≤◌, ◌≢◌, List, [], ◌++◌};
 ghost use Rattle.std.specs.List.{AllByRecursion as Each};
 ghost use Rattle.shared_order.specs.declared.operation.Operation.{Operation};
-ghost use Rattle.shared_order.specs.Operation.{loads, part};
+ghost use Rattle.shared_order.specs.Operation.{loads, operations_of};
 ghost use Rattle.shared_order.specs.Words.{after, zeros, Reads};
 ghost use Rattle.shared_order.specs.Program.{Prog, played};
 ghost use Rattle.shared_order.specs.Machine.{cycled};
@@ -24,7 +24,7 @@ pub fn merge_is_the_machines<X>()
         → (all : List Operation) → 0 < n → IsMerge turn n cores t all
         → (core : ℕ) → core < n
         → (cycled turn n cores t).cores core
-        ≡ (apart turn n core (cores core) (loads (part n core all)) t).core }
+        ≡ (apart turn n core (cores core) (loads (operations_of n core all)) t).core }
     ensures own { (turn : ℕ → ℕ → X → Prog X) (n : ℕ) (cores : ℕ → X) (t : ℕ)
         → IsMerge turn n cores t (cycled turn n cores t).made }
 {}
@@ -41,13 +41,13 @@ pub fn merge_goes_on<X>()
         → Reads made (played s p (after made zeros)).ops
         × Each (λ o. o.stamp ≡ s) (played s p (after made zeros)).ops }
     ensures own { (n : ℕ) (made ops : List Operation) (s : ℕ) → Each (λ o. o.stamp ≡ s) ops
-        → part n (s % n) (made ++ ops) ≡ part n (s % n) made ++ ops }
+        → operations_of n (s % n) (made ++ ops) ≡ operations_of n (s % n) made ++ ops }
     ensures others { (n core : ℕ) (made ops : List Operation) (s : ℕ) → s % n ≢ core
-        → Each (λ o. o.stamp ≡ s) ops → part n core (made ++ ops) ≡ part n core made }
+        → Each (λ o. o.stamp ≡ s) ops → operations_of n core (made ++ ops) ≡ operations_of n core made }
     ensures ends { (turn : ℕ → ℕ → X → Prog X) (n : ℕ) (cores left : ℕ → X) (t s : ℕ)
         → (all : List Operation) → 0 < n → IsMerging all s
         → ((core : ℕ) → core < n
-        → Stands (act_at turn n) n core (cores core) (part n core all) (2 * t * n) (left core))
+        → Stands (act_at turn n) n core (cores core) (operations_of n core all) (2 * t * n) (left core))
         → (all ≡ (cycled turn n cores t).made)
         × ((core : ℕ) → core < n → (cycled turn n cores t).cores core ≡ left core) }
 {}

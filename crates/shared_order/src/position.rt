@@ -2,7 +2,7 @@ ghost use Rattle.std.specs.Prelude.{◌≡◌, ℕ, suc, ◌+◌, ◌*◌, ◌%�
 ghost use Rattle.slot_arbiter.specs.declared.event.Event.{Event};
 ghost use Rattle.slot_arbiter.specs.Stamp.{stamp};
 ghost use Rattle.shared_order.specs.declared.operation.Operation.{Operation};
-ghost use Rattle.shared_order.specs.Operation.{loads, part};
+ghost use Rattle.shared_order.specs.Operation.{loads, operations_of};
 ghost use Rattle.shared_order.specs.Order.{GoesOn};
 ghost use Rattle.shared_order.specs.Program.{Prog, done, and_then, Fed, fed};
 ghost use Rattle.shared_order.specs.Event.{asked_by, IsAskedBy};
@@ -21,13 +21,13 @@ pub fn core_goes_on<X, Y>()
         → (y : X) → s % n ≡ core → Stands act n core x made s y
         → Midway act n core x made s (act s y) }
     ensures goes_on { (act : ℕ → X → Prog X) (n core : ℕ) (x : X) (made : List Operation) (s : ℕ)
-        → (front : Prog Y) (back : Y → Prog X) → Midway act n core x made s (and_then front back)
+        → (prefix : Prog Y) (back : Y → Prog X) → Midway act n core x made s (and_then prefix back)
         → (values : List ℕ)
-        → let heard : Fed Y = fed s front values in
+        → let heard : Fed Y = fed s prefix values in
         Midway act n core x (made ++ heard.ops) s (back heard.core) }
     ensures leaves { (act : ℕ → X → Prog X) (n core : ℕ) (x : X) (made : List Operation) (s : ℕ)
         → (y : X) → Midway act n core x made s (done y) → Stands act n core x made (suc s) y }
-    ensures told { (act : ℕ → X → Prog X) (n core : ℕ) (x : X) (made : List Operation) (s : ℕ)
+    ensures resumed { (act : ℕ → X → Prog X) (n core : ℕ) (x : X) (made : List Operation) (s : ℕ)
         → (y : X) → s % n ≡ core → Stands act n core x made s y → (values : List ℕ)
         → let heard : Fed X = fed s (act s y) values in
         Stands act n core x (made ++ heard.ops) (suc s) heard.core }
@@ -44,7 +44,7 @@ pub fn core_stands<X>()
         ≡ record { core = y; left = more; made = made } }
     ensures in_machine { (turn : ℕ → ℕ → X → Prog X) (n : ℕ) (cores : ℕ → X) (t core : ℕ)
         → let all : State X = cycled turn n cores t in
-        Stands (act_at turn n) n core (cores core) (part n core all.made) (2 * t * n)
+        Stands (act_at turn n) n core (cores core) (operations_of n core all.made) (2 * t * n)
         (all.cores core) }
     ensures apart { (turn : ℕ → ℕ → X → Prog X) (n core : ℕ) (x : X) (values : List ℕ) (t : ℕ)
         → core < n
@@ -98,18 +98,18 @@ pub fn event_is_next<X>()
 
 /// The same of the first part of what is left of an act: an event that is a part comes next, and
 /// what follows stands at its stamp or later. A law: it does nothing.
-pub fn part_is_next<X, Y>()
-    ensures part { (turn : ℕ → ℕ → X → Prog X) (n core : ℕ) (x : X) (made : List Operation)
-        → (e : Event) (front : Prog Y) (back : Y → Prog X) (limit : ℕ) → core < n
+pub fn operation_is_next<X, Y>()
+    ensures next_step { (turn : ℕ → ℕ → X → Prog X) (n core : ℕ) (x : X) (made : List Operation)
+        → (e : Event) (prefix : Prog Y) (back : Y → Prog X) (limit : ℕ) → core < n
         → e.stamp < 2 * limit * n
-        → Midway (act_at turn n) n core x made e.stamp (and_then front back) → IsAskedBy e front
+        → Midway (act_at turn n) n core x made e.stamp (and_then prefix back) → IsAskedBy e prefix
         → (more : List ℕ)
         → GoesOn e.stamp (made ++ asked_by e more)
         (apart turn n core x (loads made ++ more) limit).made }
     ensures left { (turn : ℕ → ℕ → X → Prog X) (n core : ℕ) (x : X) (made left : List Operation)
-        → (e : Event) (front : Prog Y) (back : Y → Prog X) (limit : ℕ) → core < n
+        → (e : Event) (prefix : Prog Y) (back : Y → Prog X) (limit : ℕ) → core < n
         → e.stamp < 2 * limit * n
-        → Midway (act_at turn n) n core x made e.stamp (and_then front back) → IsAskedBy e front
+        → Midway (act_at turn n) n core x made e.stamp (and_then prefix back) → IsAskedBy e prefix
         → (apart turn n core x (loads (made ++ left)) limit).made ≡ made ++ left
         → GoesOn e.stamp (asked_by e (loads left)) left }
 {}

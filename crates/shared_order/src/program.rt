@@ -18,14 +18,14 @@ pub fn program_is_heard_again<X>()
 /// word and then stores it. A law: it does nothing.
 pub fn turn_in_parts<X, Y>()
     ensures whole { (p : Prog X) → and_then p (λ x. done x) ≡ p }
-    ensures played { (s : ℕ) (front : Prog X) (back : X → Prog Y) (words : ℕ → ℕ)
-        → let first : Played X = played s front words in
+    ensures played { (s : ℕ) (prefix : Prog X) (back : X → Prog Y) (words : ℕ → ℕ)
+        → let first : Played X = played s prefix words in
         let then_on : Played Y = played s (back first.core) (after first.ops words) in
-        played s (and_then front back) words
+        played s (and_then prefix back) words
         ≡ record { core = then_on.core; ops = first.ops ++ then_on.ops } }
-    ensures fed { (s : ℕ) (front : Prog X) (back : X → Prog Y) (values : List ℕ)
-        → let first : Fed X = fed s front values in
+    ensures fed { (s : ℕ) (prefix : Prog X) (back : X → Prog Y) (values : List ℕ)
+        → let first : Fed X = fed s prefix values in
         let then_on : Fed Y = fed s (back first.core) first.left in
-        fed s (and_then front back) values
+        fed s (and_then prefix back) values
         ≡ record { core = then_on.core; left = then_on.left; ops = first.ops ++ then_on.ops } }
 {}

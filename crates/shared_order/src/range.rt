@@ -22,9 +22,9 @@ pub fn ranges_are_kept<X: Ranged>()
         → KeepsRanges turn X.in_range words
         → ((core : ℕ) → X.in_range (cores core)) → 2 * t * n ≤ 2 ^ 64
         → Each (Fits words) (cycled turn n cores t).made }
-    ensures in_parts { (words : ℕ) (front : Prog X) (back : X → Prog X)
-        → IsFit X.in_range words front → ((x : X) → X.in_range x → IsFit X.in_range words (back x))
-        → IsFit X.in_range words (and_then front back) }
+    ensures in_parts { (words : ℕ) (prefix : Prog X) (back : X → Prog X)
+        → IsFit X.in_range words prefix → ((x : X) → X.in_range x → IsFit X.in_range words (back x))
+        → IsFit X.in_range words (and_then prefix back) }
 {}
 
 #[cfg(test)]
@@ -33,7 +33,9 @@ mod tests {
     use crate::course::{machine_is_a_course, next_is_determined};
     use crate::machine::{core_is_its_run_apart, machine_by_stamps, operations_in_order};
     use crate::merge::{merge_goes_on, merge_is_the_machines};
-    use crate::position::{core_goes_on, core_skips, core_stands, event_is_next, part_is_next};
+    use crate::position::{
+        core_goes_on, core_skips, core_stands, event_is_next, operation_is_next,
+    };
     use crate::program::{program_is_heard_again, turn_in_parts};
 
     /// A core whose whole state is a word that it loaded.
@@ -66,6 +68,6 @@ mod tests {
         core_skips::<Held>();
         core_stands::<Held>();
         event_is_next::<Held>();
-        part_is_next::<Held, Held>();
+        operation_is_next::<Held, Held>();
     }
 }

@@ -1,5 +1,5 @@
 ghost use Rattle.std.specs.Prelude.{◌≡◌, List, [], ◌∷◌};
-ghost use Rattle.shared_order.specs.Operation.{load, store, part};
+ghost use Rattle.shared_order.specs.Operation.{load, store, operations_of};
 ghost use Rattle.shared_order.specs.Machine.{cycled};
 ghost use Rattle.shared_order.specs.Apart.{apart};
 ghost use Rattle.shared_order.specs.Stamps.{act_at, machine};

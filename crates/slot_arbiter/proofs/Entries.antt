@@ -47,9 +47,9 @@ take-range a (suc m) zero h = absurd (omega arith)
 take-range a (suc m) (suc n) h = ap (λ rest. a ∷ rest) (take-range (a + 1) m n (omega arith))
 
 -- entries before zeros are a padded table
-pub padded_copy : (xs front back : List ℕ) → 1 ≤ length xs → length xs ≤ 64 → front ≡ xs → back ≡ drop (length xs) (replicate 64 0) → IsPadded (length xs) (front ++ back)
-padded_copy xs front back some most same zeros =
-    let first : take (length xs) (front ++ back) ≡ xs = ap (λ f. take (length xs) (f ++ back)) same ∙ take-append_seam xs back in
+pub padded_copy : (xs prefix back : List ℕ) → 1 ≤ length xs → length xs ≤ 64 → prefix ≡ xs → back ≡ drop (length xs) (replicate 64 0) → IsPadded (length xs) (prefix ++ back)
+padded_copy xs prefix back some most same zeros =
+    let first : take (length xs) (prefix ++ back) ≡ xs = ap (λ f. take (length xs) (f ++ back)) same ∙ take-append_seam xs back in
     record {
       some = some;
       most = most;

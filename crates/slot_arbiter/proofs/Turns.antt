@@ -16,7 +16,7 @@ true_unless true _ = refl
 true_unless false h = h refl
 
 -- from any slot on, each place of the table comes within one round
-reach : (n first j : ℕ) → j < n → (k : ℕ) × ((k < n) × ((first + k) % n ≡ j))
+pub reach : (n first j : ℕ) → j < n → (k : ℕ) × ((k < n) × ((first + k) % n ≡ j))
 reach n first j h =
     let away : ℕ = j + (n - first % n) in
     let whole : first + (j + (n - first % n)) ≡ (first / n + 1) * n + j = omega (arith, div-add-mod' first n) in

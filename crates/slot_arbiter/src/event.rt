@@ -1,5 +1,8 @@
 ghost use Rattle.std.specs.Prelude.{◌≤◌};
 
+/// How many transactions of each core a report lists at most.
+pub const MOST_TRACE: u32 = 65_536;
+
 /// One transaction of a core with main memory.
 #[derive(Clone, Copy, Debug, PartialEq, Eq)]
 pub struct Access {

@@ -8,6 +8,8 @@
 //! - [`start_of`] is the first slot start of a core at or after a cycle, and [`gap_of`] the
 //!   greatest distance from one of its slot starts to the next.
 //! - [`stamp_of`] numbers what the cores do to shared words, so that all of it has one order.
+//!
+//! What its words mean stands in [the glossary](../../../docs/GLOSSARY.md).
 #![tactic(auto)]
 
 mod event;
@@ -16,8 +18,8 @@ mod stamp;
 mod start;
 mod table;
 
-pub use event::{Access, Event, WordOp};
-pub use place::Place;
+pub use event::{Access, Event, MOST_TRACE, WordOp};
+pub use place::{LATEST_START, MOST_CYCLES, Place};
 pub use stamp::{stamp_of, stamps_in_order};
 pub use start::{gap_of, start_of, starts_in_turn};
 pub use table::Table;

@@ -4,8 +4,11 @@ ghost use Rattle.slot_arbiter.specs.Table.{in_turn, is_table};
 
 use crate::table::{self, Table};
 
+/// The greatest cycle limit of a run, in cycles: no core acts at a later cycle.
+pub const MOST_CYCLES: u64 = 20_000_000;
+
 /// The latest cycle at which a task may start.
-pub const LATEST_START: u64 = 20_000_000;
+pub const LATEST_START: u64 = MOST_CYCLES;
 
 /// What one core knows of its place on the platform.
 #[derive(Clone, Copy, Debug, PartialEq, Eq)]
@@ -16,7 +19,7 @@ pub struct Place {
     pub core: u32,
     /// The length of a slot in cycles, 6 to 64.
     pub slot: u32,
-    /// The cycle at which the core's task starts, at most 20,000,000.
+    /// The cycle at which the core's task starts, at most [`LATEST_START`].
     pub start: u64,
     /// The slot table, which is one for these cores.
     pub table: Table,
@@ -29,7 +32,7 @@ impl Place {
 
     /// The place of a core among cores that take their slots in turn, or `None` where there are
     /// not 1 to 16 cores, the core is none of them, a slot is not of 6 to 64 cycles, or the start
-    /// is past cycle 20,000,000.
+    /// is past cycle [`LATEST_START`].
     pub fn new(cores: u32, core: u32, slot: u32, start: u64) -> Option<Place>
         ensures made { IsSome result ↔ IsPlace cores core slot start }
         ensures kept { IfSome result (λ p. HasNumbers p cores core slot start) }

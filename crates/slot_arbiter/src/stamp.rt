@@ -1,12 +1,12 @@
-ghost use Rattle.std.specs.Prelude.{◌≡◌, ℕ, ◌%◌, ◌^◌, ◌<◌, ◌≤◌};
+ghost use Rattle.std.specs.Prelude.{◌≡◌, ℕ, ◌*◌, ◌%◌, ◌^◌, ◌<◌, ◌≤◌};
 ghost use Rattle.slot_arbiter.specs.Stamp.{stamp, IsAct};
 
-use crate::place::Place;
+use crate::place::{MOST_CYCLES, Place};
 
 /// The stamp of what the core does at a cycle, in phase 0, in which its packets are delivered, or
 /// in phase 1, in which it injects a packet and makes its own access.
 pub fn stamp_of(place: &Place, cycle: u64, phase: u32) -> u64
-    requires in_time { cycle ≤ 40000000 }
+    requires in_time { cycle ≤ 2 * MOST_CYCLES }
     requires in_phase { phase ≤ 1 }
     ensures number { result ≡ stamp place.now.cores place.now.core cycle phase }
     ensures core { result % place.now.cores ≡ place.now.core }

@@ -90,8 +90,8 @@ fn padded(entries: &[u32]) -> Table
     ensures { result ≡ entries.now }
 {
     let mut places = [0; MOST_ENTRIES];
-    let (front, _) = places.split_at_mut(entries.len());
-    front.copy_from_slice(entries);
+    let (prefix, _) = places.split_at_mut(entries.len());
+    prefix.copy_from_slice(entries);
     Table {
         count: entries.len() as u32,
         entries: places,

@@ -33,12 +33,12 @@ back_is n s private h whole few room =
     let goes = length-drop (128 - n) s.words in
     let lack : ℕ = length s.words - length (take (128 - n) s.words) in
     let same_end : max end (s.st - n + n) ≡ end = omega (arith, h) in
-    let front = kept n s.words few in
+    let prefix = kept n s.words few in
     let lost = gone n s.words few in
     let back : take lack (drop end (with_words private end (drop (128 - n) s.words))) ≡ drop (128 - n) s.words =
     read_back private (drop (128 - n) s.words) end lack (omega (arith, h)) (omega (arith, stays, goes)) in
     let top : s.st - n + n ≡ s.st = omega arith in
-    let pointer : max end (s.st - n + n) + (length s.words - length (drop n (take 128 (grown n s)))) ≡ s.ss = omega (arith, h, ap length front, stays) in
+    let pointer : max end (s.st - n + n) + (length s.words - length (drop n (take 128 (grown n s)))) ≡ s.ss = omega (arith, h, ap length prefix, stays) in
     let words : drop n (take 128 (grown n s)) ++ take (length s.words - length (drop n (take 128 (grown n s)))) (drop (max end (s.st - n + n)) (with_words private end (drop 128 (grown n s)))) ≡ s.words =
-    rw (front, lost, same_end, back) (take-append-drop (128 - n) s.words) in
+    rw (prefix, lost, same_end, back) (take-append-drop (128 - n) s.words) in
     λ k. record { st = top k; ss = pointer k; words = words k }

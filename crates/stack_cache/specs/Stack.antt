@@ -1,6 +1,8 @@
 -- A task's stack, as its instructions see it (after the stack cache of the Patmos Reference Handbook; the numbers
 -- are of our own profile TP1). Words are numbers of private memory, and the stack grows down.
 use Rattle.std.specs.Prelude.{◌≡◌, ℕ, ◌+◌, ◌-◌, ◌≤◌, max, min, List, [], ◌++◌, length, take, drop, replicate}
+use Rattle.stack_cache.specs.declared.slots.TheConstants.{STACK_CACHE_WORDS}
+use Rattle.stack_cache.specs.declared.stack.TheConstants.{STACK_END, STACK_LOWEST}
 
 -- the top of the stack, the end of the words that the cache holds, and those words from the top on
 pub record Stack : Type 0 where
@@ -8,28 +10,29 @@ pub record Stack : Type 0 where
   pub ss : ℕ
   pub words : List ℕ
 
--- the words held stand between the pointers, 128 at most, in words 49,152 to 65,535 of private memory
+-- the words held stand between the pointers, no more than the cache has, in the stack's region of private memory
 pub record IsStack (s : Stack) : Type 0 where
-  pub low : 49152 ≤ s.st
-  pub high : s.ss ≤ 65536
+  pub low : STACK_LOWEST ≤ s.st
+  pub high : s.ss ≤ STACK_END
   pub between : s.st + length s.words ≡ s.ss
-  pub few : length s.words ≤ 128
+  pub few : length s.words ≤ STACK_CACHE_WORDS
 
 -- the stack of a task that begins
 abbrev pub empty : Stack
-empty = record { st = 65536; ss = 65536; words = [] }
+empty = record { st = STACK_END; ss = STACK_END; words = [] }
 
 -- the words held, with n zeros in front
 abbrev pub grown : ℕ → Stack → List ℕ
 grown n s = replicate n 0 ++ s.words
 
--- n words more; the first 128 of all stay in the cache, and ss is where they end
+-- n words more; the first of all stay in the cache, and ss is where they end
 abbrev pub reserved : ℕ → Stack → Stack
-reserved n s = record { st = s.st - n; ss = min s.ss (s.st - n + 128); words = take 128 (grown n s) }
+reserved n s =
+    record { st = s.st - n; ss = min s.ss (s.st - n + STACK_CACHE_WORDS); words = take STACK_CACHE_WORDS (grown n s) }
 
--- the words past the first 128, which leave the cache
+-- the words past those, which leave the cache
 abbrev pub spilled : ℕ → Stack → List ℕ
-spilled n s = drop 128 (grown n s)
+spilled n s = drop STACK_CACHE_WORDS (grown n s)
 
 -- memory with these words from a place on, and all others as they were
 abbrev pub with_words : List ℕ → ℕ → List ℕ → List ℕ

@@ -2,21 +2,21 @@ ghost use Rattle.std.specs.Prelude.{◌≡◌, ℕ, ◌+◌, ◌-◌, ◌%◌, �
 ghost use Rattle.stack_cache.specs.Stack.{IsStack, Stack, empty, filled, freed, missing, reserved, spilled, with_spilled};
 
 use crate::fault::StackFault;
-use crate::slots::{self, SLOTS};
+use crate::slots::{self, STACK_CACHE_WORDS};
 use std::marker::Model;
 
-/// The lowest word of private memory that the stack may use.
-const LOWEST: u32 = 49_152;
+/// The lowest word of private memory that a task's stack may use.
+pub const STACK_LOWEST: u32 = 49_152;
 
-/// The word behind the stack, where it begins.
-const HIGHEST: u32 = 65_536;
+/// The word of private memory behind a task's stack, where the stack begins.
+pub const STACK_END: u32 = 65_536;
 
 /// The words of the stack that stand in the cache, and its two pointers.
 #[derive(Debug, Drop)]
 pub struct StackCache {
     st: u32,
     ss: u32,
-    slots: [u32; 128],
+    slots: [u32; STACK_CACHE_WORDS as usize],
 }
 
 impl Model for StackCache {
@@ -31,15 +31,15 @@ impl Model for StackCache {
 }
 
 impl StackCache {
-    /// The cache of a task that begins: both pointers are 65,536, and no word is held.
+    /// The cache of a task that begins: both pointers are [`STACK_END`], and no word is held.
     #[tactic(auto, unfolding(crate::specs::Slots::held))]
     pub fn new() -> StackCache
         ensures { result ≡ empty }
     {
         StackCache {
-            st: HIGHEST,
-            ss: HIGHEST,
-            slots: [0; 128],
+            st: STACK_END,
+            ss: STACK_END,
+            slots: [0; STACK_CACHE_WORDS as usize],
         }
     }
 
@@ -62,13 +62,13 @@ impl StackCache {
     /// Puts `n` words on top of the stack, all 0, and gives how many words it spilled. Private
     /// memory is changed in the spilled words alone.
     pub fn reserve(&mut self, n: u32, private: &mut [u32]) -> Result<u32, StackFault>
-        requires { length private.old ≡ 65536 }
-        ensures over { IsErrOf result StackFault.Over ↔ (128 < n) }
-        ensures under { IsErrOf result StackFault.Under ↔ ((n ≤ 128) × (self.old.st < 49152 + n)) }
+        requires { length private.old ≡ STACK_END }
+        ensures over { IsErrOf result StackFault.Over ↔ (STACK_CACHE_WORDS < n) }
+        ensures under { IsErrOf result StackFault.Under ↔ ((n ≤ STACK_CACHE_WORDS) × (self.old.st < STACK_LOWEST + n)) }
         ensures stack { OnOk result (self.new ≡ reserved n self.old) }
         ensures spilled { OnOk result (private.new ≡ with_spilled n self.old private.old) }
         ensures moved { IfOk result (λ words. words ≡ length (spilled n self.old)) }
-        ensures few { IfOk result (λ words. words ≤ 128) }
+        ensures few { IfOk result (λ words. words ≤ STACK_CACHE_WORDS) }
 
         // Word by word, whatever the result: the words from the new `ss` to before the old one are
         // spilled, and all of private memory below and above them is as it was.
@@ -79,9 +79,9 @@ impl StackCache {
         ensures refused { OnErr result (self.new ≡ self.old) }
         ensures kept { OnErr result (private.new ≡ private.old) }
     {
-        check(n, self.st - LOWEST)?;
+        check(n, self.st - STACK_LOWEST)?;
         let st = self.st - n;
-        let ss = self.ss.min(st + SLOTS);
+        let ss = self.ss.min(st + STACK_CACHE_WORDS);
         let moved = self.ss - ss;
         slots::spill(&self.slots, ss, self.ss, private);
         slots::clear(&mut self.slots, st, self.st);
@@ -92,15 +92,15 @@ impl StackCache {
 
     /// Brings words back from private memory until at least `n` are held, and gives how many.
     pub fn ensure(&mut self, n: u32, private: &[u32]) -> Result<u32, StackFault>
-        requires { length private.now ≡ 65536 }
-        ensures over { IsErrOf result StackFault.Over ↔ (128 < n) }
-        ensures under { IsErrOf result StackFault.Under ↔ ((n ≤ 128) × (65536 < self.old.st + n)) }
+        requires { length private.now ≡ STACK_END }
+        ensures over { IsErrOf result StackFault.Over ↔ (STACK_CACHE_WORDS < n) }
+        ensures under { IsErrOf result StackFault.Under ↔ ((n ≤ STACK_CACHE_WORDS) × (STACK_END < self.old.st + n)) }
         ensures stack { OnOk result (self.new ≡ filled n private.now self.old) }
         ensures moved { IfOk result (λ words. words ≡ missing n self.old) }
-        ensures few { IfOk result (λ words. words ≤ 128) }
+        ensures few { IfOk result (λ words. words ≤ STACK_CACHE_WORDS) }
         ensures refused { OnErr result (self.new ≡ self.old) }
     {
-        check(n, HIGHEST - self.st)?;
+        check(n, STACK_END - self.st)?;
         let ss = self.ss.max(self.st + n);
         let moved = ss - self.ss;
         slots::fill(&mut self.slots, self.ss, ss, private);
@@ -110,12 +110,12 @@ impl StackCache {
 
     /// Takes `n` words off the stack. It moves no data.
     pub fn free(&mut self, n: u32) -> Result<(), StackFault>
-        ensures over { IsErrOf result StackFault.Over ↔ (128 < n) }
-        ensures under { IsErrOf result StackFault.Under ↔ ((n ≤ 128) × (65536 < self.old.st + n)) }
+        ensures over { IsErrOf result StackFault.Over ↔ (STACK_CACHE_WORDS < n) }
+        ensures under { IsErrOf result StackFault.Under ↔ ((n ≤ STACK_CACHE_WORDS) × (STACK_END < self.old.st + n)) }
         ensures stack { OnOk result (self.new ≡ freed n self.old) }
         ensures refused { OnErr result (self.new ≡ self.old) }
     {
-        check(n, HIGHEST - self.st)?;
+        check(n, STACK_END - self.st)?;
         self.st += n;
         self.ss = self.ss.max(self.st);
         Ok(())
@@ -143,22 +143,22 @@ impl StackCache {
 
     /// The slot of the word `i` words above the top, if it is held.
     fn slot_of(&self, i: u32) -> Option<usize>
-        ensures { SomeIff result (self.now.st + i < self.now.ss) ((self.now.st + i) % 128) }
+        ensures { SomeIff result (self.now.st + i < self.now.ss) ((self.now.st + i) % STACK_CACHE_WORDS) }
     {
         if i >= self.ss - self.st {
             return None;
         }
-        Some(((self.st + i) % SLOTS) as usize)
+        Some(((self.st + i) % STACK_CACHE_WORDS) as usize)
     }
 }
 
-/// Refuses a count that is above 128, or for which a pointer has no room.
+/// Refuses a count that is above [`STACK_CACHE_WORDS`], or for which a pointer has no room.
 fn check(n: u32, room: u32) -> Result<(), StackFault>
-    ensures over { IsErrOf result StackFault.Over ↔ (128 < n) }
-    ensures under { IsErrOf result StackFault.Under ↔ ((n ≤ 128) × (room < n)) }
-    ensures ok { OnOk result ((n ≤ 128) × (n ≤ room)) }
+    ensures over { IsErrOf result StackFault.Over ↔ (STACK_CACHE_WORDS < n) }
+    ensures under { IsErrOf result StackFault.Under ↔ ((n ≤ STACK_CACHE_WORDS) × (room < n)) }
+    ensures ok { OnOk result ((n ≤ STACK_CACHE_WORDS) × (n ≤ room)) }
 {
-    if n > SLOTS {
+    if n > STACK_CACHE_WORDS {
         Err(StackFault::Over)
     } else if n > room {
         Err(StackFault::Under)
@@ -170,8 +170,8 @@ fn check(n: u32, room: u32) -> Result<(), StackFault>
 /// What a call reserves and frees again, its caller finds as it was, once it ensures as many words
 /// as it had. A law: it does nothing.
 pub fn words_come_back()
-    ensures { (n : ℕ) (s : Stack) (private : List ℕ) → IsStack s → length private ≡ 65536
-        → n ≤ 128 → 49152 + n ≤ s.st
+    ensures { (n : ℕ) (s : Stack) (private : List ℕ) → IsStack s → length private ≡ STACK_END
+        → n ≤ STACK_CACHE_WORDS → STACK_LOWEST + n ≤ s.st
         → filled (length s.words) (with_spilled n s private) (freed n (reserved n s)) ≡ s }
 {}
 

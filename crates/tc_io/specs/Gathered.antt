@@ -20,8 +20,8 @@ with_piece g piece = record g {
 }
 
 -- the bytes taken, which are told while all of them are kept
-abbrev pub told : Gathered → Option (List ℕ)
-told g = if g.rest == 0 then Some g.kept else None
+abbrev pub known : Gathered → Option (List ℕ)
+known g = if g.rest == 0 then Some g.kept else None
 
 -- a sink that takes at most `most` bytes a call, under a plan of faults
 pub record Metered : Type 0 where

@@ -1,6 +1,6 @@
 ghost use Rattle.std.specs.Prelude.{◌≡◌, ◌↔◌, ◌≤◌, take, min, length, Ok, IfOk, OnErr, IsErr, is_ok, not, Contains};
 ghost use Rattle.tc_io.specs.FaultPlan.{fresh, counted};
-ghost use Rattle.tc_io.specs.Gathered.{empty, with_piece, told};
+ghost use Rattle.tc_io.specs.Gathered.{empty, with_piece, known};
 ghost use Rattle.tc_io.specs.Sink.{IsWritten};
 
 use crate::fault_plan::FaultPlan;
@@ -67,13 +67,13 @@ impl Gather {
 }
 
 impl Sink for Gather {
-    ghost taken = { λ g. told g.gathered };
+    ghost taken = { λ g. known g.gathered };
 
     ghost faults = { λ g. g.plan.faults };
 
     #[tactic(auto, using(crate::proofs::Writing::took_nothing))]
     fn write(&mut self, bytes: &[u8]) -> Result<usize, Failed>
-        ensures written { IsWritten self.old.plan.faults self.new.plan.faults (told self.old.gathered) (told self.new.gathered) bytes.now result }
+        ensures written { IsWritten self.old.plan.faults self.new.plan.faults (known self.old.gathered) (known self.new.gathered) bytes.now result }
         ensures fails { IsErr result ↔ Contains self.old.plan.failing self.old.plan.calls }
         ensures counted { self.new.plan ≡ counted self.old.plan (not (is_ok result)) }
         ensures count { IfOk result (λ n. n ≡ min self.old.most (length bytes.now)) }

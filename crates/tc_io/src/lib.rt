@@ -8,6 +8,8 @@
 //!
 //! [`Bytes`], [`SureBytes`], [`Gather`] and [`SureGather`] are sources and sinks in memory;
 //! [`StdSource`] and [`StdSink`] are the edge to the real world, which no proof sees past.
+//!
+//! What its words mean stands in [the glossary](../../../docs/GLOSSARY.md).
 #![tactic(auto)]
 
 mod edge;
@@ -32,7 +34,7 @@ pub use sink::Sink;
 pub use source::{Failed, Source};
 pub use sure_bytes::SureBytes;
 pub use sure_gather::SureGather;
-pub use text::{put_decimal, put_hex8};
+pub use text::{put_decimal, put_hex8, put_number};
 pub use write_all_bytes::{Stopped, write_all};
 
 #[cfg(test)]

@@ -39,8 +39,8 @@ impl Source for SureBytes {
         let (_, rest) = self.bytes.as_slice().split_at(self.at);
         let count = rest.len().min(buf.len());
         let (piece, _) = rest.split_at(count);
-        let (front, _) = buf.split_at_mut(count);
-        front.copy_from_slice(piece);
+        let (prefix, _) = buf.split_at_mut(count);
+        prefix.copy_from_slice(piece);
         self.at += count;
         Ok(count)
     }

@@ -1,5 +1,5 @@
 ghost use Rattle.std.specs.Prelude.{◌≡◌, ◌≤◌, length, vec_capacity, Ok, IfOk};
-ghost use Rattle.tc_io.specs.Gathered.{empty, with_piece, told};
+ghost use Rattle.tc_io.specs.Gathered.{empty, with_piece, known};
 ghost use Rattle.tc_io.specs.Sink.{IsWritten};
 
 use crate::sink::Sink;
@@ -56,12 +56,12 @@ impl SureGather {
 }
 
 impl Sink for SureGather {
-    ghost taken = { told };
+    ghost taken = { known };
 
     ghost faults = { λ _. 0 };
 
     fn write(&mut self, bytes: &[u8]) -> Result<usize, Failed>
-        ensures written { IsWritten 0 0 (told self.old) (told self.new) bytes.now result }
+        ensures written { IsWritten 0 0 (known self.old) (known self.new) bytes.now result }
         ensures count { result ≡ Ok (length bytes.now) }
         ensures gathered { self.new ≡ with_piece self.old bytes.now }
     {

@@ -93,8 +93,8 @@ fn fails_the_listed_writes(rt: HostRuntime) -> Result<(), Fail> {
             Err(Stopped { written }),
             "call {number}"
         );
-        let (front, _) = text.split_at(written);
-        assert_eq!(rt; sink.kept(), front, "call {number}");
+        let (prefix, _) = text.split_at(written);
+        assert_eq!(rt; sink.kept(), prefix, "call {number}");
     }
     let mut sink = Gather::new(alloc, 1, 3, listed(alloc, 5)?)?;
     assert_eq!(rt; write_all(&mut sink, text), Ok(()));

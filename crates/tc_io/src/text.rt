@@ -1,5 +1,5 @@
 ghost use Rattle.std.specs.Prelude.{◌≡◌, ◌<◌, ◌++◌, OnOk, OnErr};
-ghost use Rattle.std.specs.Fmt.{signed_decimal};
+ghost use Rattle.std.specs.Fmt.{decimal, signed_decimal};
 ghost use Rattle.tc_io.specs.Hex.{hex8, hex_digit_of};
 
 use itoa::Buffer;
@@ -12,6 +12,15 @@ pub fn put_decimal(text: &mut Vec<u8>, value: i64) -> Result<(), OutOfMemory>
 {
     let mut digits = Buffer::new();
     text.extend_from_slice(digits.format(value).as_bytes())
+}
+
+/// Appends a number without a sign in decimal, with no needless zeros.
+pub fn put_number(text: &mut Vec<u8>, number: u64) -> Result<(), OutOfMemory>
+    ensures appended { OnOk result (text.new.items ≡ text.old.items ++ decimal number) }
+    ensures unchanged { OnErr result (text.new.items ≡ text.old.items) }
+{
+    let mut digits = Buffer::new();
+    text.extend_from_slice(digits.format(number).as_bytes())
 }
 
 /// Appends a word as eight lower-case hexadecimal digits, the highest first.

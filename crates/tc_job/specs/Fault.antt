@@ -36,19 +36,19 @@ Gives view (Ok x) read = read ≡ Ok (view x)
 Gives view (Err error) read = Fails error read
 
 -- the error tells that fault, task and key, unless memory ran out
-abbrev pub IsTold : JobFault → Option ℕ → List ℕ → JobError → Type 0
-IsTold fault task key errors.Memory = Unit {0}
-IsTold fault task key (errors.Fault kind place name) = (kind ≡ fault) × (place ≡ task) × (name ≡ key)
+abbrev pub IsReported : JobFault → Option ℕ → List ℕ → JobError → Type 0
+IsReported fault task key errors.Memory = Unit {0}
+IsReported fault task key (errors.Fault kind place name) = (kind ≡ fault) × (place ≡ task) × (name ≡ key)
 
 -- the error tells why a value was refused
-abbrev pub IsToldFor : Refusal → Option ℕ → List ℕ → JobError → Type 0
-IsToldFor refusals.Memory task key error = error ≡ errors.Memory
-IsToldFor (refusals.Fault fault) task key error = IsTold fault task key error
+abbrev pub IsReportedFor : Refusal → Option ℕ → List ℕ → JobError → Type 0
+IsReportedFor refusals.Memory task key error = error ≡ errors.Memory
+IsReportedFor (refusals.Fault fault) task key error = IsReported fault task key error
 
 -- what was read is answered, or it is told why it was refused
-abbrev pub IsToldAt : {A : Type 0} → Option ℕ → List ℕ → Result A Refusal → Result A JobError → Type 0
-IsToldAt task key (Ok x) result = result ≡ Ok x
-IsToldAt task key (Err refusal) result = IsErrAnd result (IsToldFor refusal task key)
+abbrev pub IsReportedAt : {A : Type 0} → Option ℕ → List ℕ → Result A Refusal → Result A JobError → Type 0
+IsReportedAt task key (Ok x) result = result ≡ Ok x
+IsReportedAt task key (Err refusal) result = IsErrAnd result (IsReportedFor refusal task key)
 
 -- the fault's name
 abbrev pub name_of : JobFault → List ℕ

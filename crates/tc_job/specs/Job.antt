@@ -2,6 +2,8 @@
 -- `toml` gives them. The form is our own; docs/JOBS_AND_REPORTS.md explains it to users.
 use Rattle.std.specs.Prelude.{ℕ, ◌==◌, if◌then◌else◌, List, [], codes, Option, None, Result, Ok}
 use Rattle.std.specs.Str.{is_utf8}
+use Rattle.slot_arbiter.specs.declared.event.TheConstants.{MOST_TRACE}
+use Rattle.slot_arbiter.specs.declared.place.TheConstants.{MOST_CYCLES}
 use Rattle.slot_arbiter.specs.Table.{in_turn}
 use Rattle.toml.specs.Data.{Data, Members, get_member}
 use Rattle.toml.specs.Parse.{parse_document}
@@ -41,8 +43,8 @@ unfoldable pub job_in : Members → Result Job Fault
 job_in ms = do
   known ← known_keys (level_of (get_member (codes "version") ms)) None ms
   platform ← platform_in ms
-  cycles ← at_key None (codes "cycles") (number_of 1 20000000 (get_member (codes "cycles") ms))
-  trace ← at_key None (codes "trace") (number_or 0 0 65536 (get_member (codes "trace") ms))
+  cycles ← at_key None (codes "cycles") (number_of 1 MOST_CYCLES (get_member (codes "cycles") ms))
+  trace ← at_key None (codes "trace") (number_or 0 0 MOST_TRACE (get_member (codes "trace") ms))
   workers ← at_key None (codes "workers") (number_or platform.cores 1 platform.cores (get_member (codes "workers") ms))
   tables ← at_key None (codes "task") (tables_of (get_member (codes "task") ms))
   tasks ← tasks_from platform.cores [] tables

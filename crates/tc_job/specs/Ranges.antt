@@ -1,14 +1,17 @@
 -- What holds of every job that is read, so that each of its tasks has a place on the platform.
 use Rattle.std.specs.Prelude.{◌≢◌, ℕ, ◌<◌, ◌≤◌, List, length, IsTrue, All, AllPairs}
+use Rattle.slot_arbiter.specs.declared.event.TheConstants.{MOST_TRACE}
+use Rattle.slot_arbiter.specs.declared.place.TheConstants.{LATEST_START, MOST_CYCLES}
 use Rattle.slot_arbiter.specs.Table.{is_table}
+use Rattle.tc_job.specs.declared.input.TheConstants.{MOST_INPUT_WORDS}
 use Rattle.tc_job.specs.declared.job.Job.{Job}
 use Rattle.tc_job.specs.declared.task.Task.{Task}
 
 -- a task on one of so many cores
 pub record IsTaskAmong (cores : ℕ) (task : Task) : Type 0 where
   pub core : task.core < cores
-  pub words : length task.input ≤ 4096
-  pub start : task.start ≤ 20000000
+  pub words : length task.input ≤ MOST_INPUT_WORDS
+  pub start : task.start ≤ LATEST_START
 
 -- a platform that the arbiter takes
 pub record IsPlatform (version cores slot : ℕ) (table : List ℕ) : Type 0 where
@@ -24,8 +27,8 @@ pub record IsPlatform (version cores slot : ℕ) (table : List ℕ) : Type 0 whe
 pub record KeepsRanges (job : Job) : Type 0 where
   pub platform : IsPlatform job.version job.cores job.slot job.table
   pub cycles_least : 1 ≤ job.cycles
-  pub cycles_most : job.cycles ≤ 20000000
-  pub trace_most : job.trace ≤ 65536
+  pub cycles_most : job.cycles ≤ MOST_CYCLES
+  pub trace_most : job.trace ≤ MOST_TRACE
   pub workers_least : 1 ≤ job.workers
   pub workers_most : job.workers ≤ job.cores
   pub tasks : All (IsTaskAmong job.cores) job.tasks

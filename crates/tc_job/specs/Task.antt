@@ -1,6 +1,7 @@
 -- The tasks of a job.
 use Rattle.std.specs.Prelude.{ℕ, ◌-◌, nat_eq, if◌then◌else◌, List, [], ◌∷◌, ◌++◌, length, map, codes, bytes_eq, Option, Some, Result, Ok, Err}
 use Rattle.std.specs.List.{list_any}
+use Rattle.slot_arbiter.specs.declared.place.TheConstants.{LATEST_START}
 use Rattle.toml.specs.Data.{Data, Members, get_member}
 use Rattle.tc_job.specs.declared.fault.JobFault.{JobFault}
 use Rattle.tc_job.specs.declared.fault.JobFault.TheVariants as faults
@@ -43,7 +44,7 @@ task_in cores taken place ms = do
   lang ← at_key place (codes "lang") (lang_of (get_member (codes "lang") ms))
   source ← at_key place (codes "source") (text_of (get_member (codes "source") ms))
   input ← at_key place (codes "input") (input_of (get_member (codes "input") ms))
-  start ← at_key place (codes "start") (number_or 0 0 20000000 (get_member (codes "start") ms))
+  start ← at_key place (codes "start") (number_or 0 0 LATEST_START (get_member (codes "start") ms))
   Ok (record { core = core; lang = lang; source = source; input = input; start = start })
 
 -- the tasks of these tables, behind the earlier ones, which number them and have taken their cores

@@ -22,7 +22,7 @@ pub enum JobFault {
     Range,
     /// An earlier task runs on this core.
     CoreTwice,
-    /// The input has more than 4,096 values, or one that is no word.
+    /// The input has more than [`crate::MOST_INPUT_WORDS`] values, or one that is no word.
     Input,
 }
 

@@ -10,20 +10,20 @@ use tc_word::List;
 use toml::Value;
 
 /// The most words that a task's input has.
-const MOST_WORDS: usize = 4096;
+pub const MOST_INPUT_WORDS: usize = 4_096;
 
 const INPUT: Refusal = Refusal::Fault(JobFault::Input);
 
 /// The input of a value that may be left out.
 pub fn input_of(alloc: Global, value: Option<&Value>) -> Result<List<u32>, Refusal>
     ensures words { Reads (λ words. words) result (specs.input_of (option_map (λ v. view v.now) value.entry)) }
-    ensures most { IfOk result (λ words. length words ≤ 4096) }
+    ensures most { IfOk result (λ words. length words ≤ MOST_INPUT_WORDS) }
 {
     let Some(value) = value else {
         return Ok(List::of(Vec::new(alloc)));
     };
     let integers = integers_in(alloc, value)?;
-    if integers.len() > MOST_WORDS {
+    if integers.len() > MOST_INPUT_WORDS {
         return Err(INPUT);
     }
     Ok(List::of(words_in(alloc, integers.as_slice())?))

@@ -11,6 +11,7 @@ use crate::platform::platform_in;
 use crate::section::Section;
 use crate::task::{Task, tasks_of};
 use crate::values::tables_of;
+use slot_arbiter::{MOST_CYCLES, MOST_TRACE};
 use std::alloc::Global;
 use tc_word::{List, Text};
 use toml::Table;
@@ -26,9 +27,9 @@ pub struct Job {
     pub slot: u32,
     /// The owners of the slots of one period: in version 1 the cores in turn.
     pub table: List<u32>,
-    /// The cycle limit, 1 to 20,000,000.
+    /// The cycle limit, 1 to [`MOST_CYCLES`].
     pub cycles: u64,
-    /// How many transactions of each core are listed at most, 0 to 65,536; 0 where the job states none.
+    /// How many transactions of each core are listed at most, 0 to [`MOST_TRACE`]; 0 where the job states none.
     pub trace: u32,
     /// How many workers run the cores, 1 to `cores`; `cores` where the job states none.
     pub workers: u32,
@@ -48,7 +49,7 @@ pub fn read_job(alloc: Global, bytes: &[u8]) -> Result<Job, JobError>
 
 /// The tree of the bytes.
 #[tactic(auto, using(crate::proofs::Tree::tree_of_text, crate::proofs::Tree::tree_of_no_text))]
-fn tree_of(alloc: Global, bytes: &[u8]) -> Result<Table, JobError>
+pub fn tree_of(alloc: Global, bytes: &[u8]) -> Result<Table, JobError>
     ensures { Gives (λ table. table_view table) result (at_key None [] (given JobFault.Toml (specs.tree_of bytes.now))) }
 {
     match toml::table_from_slice(alloc, bytes) {
@@ -76,10 +77,10 @@ fn job_in(alloc: Global, table: &Table) -> Result<Job, JobError>
     top.knows_keys(Level::of_job(top.value("version")))?;
     let platform = platform_in(&top)?;
     let cores = platform.cores;
-    let cycles = top.number("cycles", 1, 20_000_000)?;
-    let trace = top.number_or("trace", 0, 0, 65_536)?;
+    let cycles = top.number("cycles", 1, MOST_CYCLES as u32)?;
+    let trace = top.number_or("trace", 0, 0, MOST_TRACE)?;
     let workers = top.number_or("workers", cores, 1, cores)?;
-    let tables = top.told("task", tables_of(alloc, top.value("task")))?;
+    let tables = top.reported("task", tables_of(alloc, top.value("task")))?;
     let tasks = tasks_of(alloc, tables.as_slice(), cores)?;
     Ok(Job {
         version: platform.version,

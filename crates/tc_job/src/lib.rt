@@ -10,6 +10,10 @@
 //! - [`Job`], [`Task`] and [`Lang`] are what a job says. Every number of a job that was read is in its
 //!   range, its table is a slot table for its cores, and each task has a core of its own.
 //! - [`put_fault`] appends the line in which a fault is told.
+//! - [`tree_of`], [`Section`] and [`integers_in`] read the tree of a text and the values at its keys, for
+//!   other texts in TOML whose faults are written alike.
+//!
+//! What its words mean stands in [the glossary](../../../docs/GLOSSARY.md).
 #![tactic(auto)]
 
 mod fault;
@@ -23,10 +27,10 @@ mod task;
 mod values;
 mod worked;
 
-pub use fault::{JobError, JobFault, put_fault};
-pub use job::{Job, read_job};
+pub use fault::{JobError, JobFault, Refusal, put_fault};
+pub use input::MOST_INPUT_WORDS;
+pub use job::{Job, read_job, tree_of};
+pub use section::Section;
 pub use task::{Lang, Task};
+pub use values::integers_in;
 pub use worked::jobs_worked;
-
-#[cfg(test)]
-mod tests;

@@ -31,7 +31,7 @@ pub fn platform_in(top: &Section<'_>) -> Result<Platform, JobError>
     let version = top.number("version", 1, 2)?;
     let cores = top.number("cores", 1, most_cores(version))?;
     let slot = top.number("slot", 6, 64)?;
-    let table = top.told("table", table_in(top, version, cores, slot))?;
+    let table = top.reported("table", table_in(top, version, cores, slot))?;
     Ok(Platform {
         version,
         cores,

@@ -1,7 +1,7 @@
 ghost use Rattle.std.specs.Prelude.{◌≡◌, ◌≤◌, IfOk, option_map};
 ghost use Rattle.toml.specs.Data.{get_member};
 ghost use Rattle.toml.specs.View.{view, table_view};
-ghost use Rattle.tc_job.specs.Fault.{Gives, IsTold, IsToldAt, at_key};
+ghost use Rattle.tc_job.specs.Fault.{Gives, IsReported, IsReportedAt, at_key};
 ghost use Rattle.tc_job.specs.Keys.{known_keys};
 ghost use Rattle.tc_job.specs.Values as specs;
 
@@ -23,7 +23,7 @@ pub struct Section<'a> {
 
 impl<'a> Section<'a> {
     /// Refuses the first key that the level does not have.
-    pub fn knows_keys(&self, level: Level) -> Result<(), JobError>
+    pub(crate) fn knows_keys(&self, level: Level) -> Result<(), JobError>
         ensures { Gives (λ _. tt) result (known_keys level self.now.task (table_view self.now.table.now)) }
     {
         'keys: for (key, _value) in self.table.iter() {
@@ -47,7 +47,7 @@ impl<'a> Section<'a> {
         ensures least { IfOk result (λ n. low ≤ n) }
         ensures most { IfOk result (λ n. n ≤ high) }
     {
-        self.told(key, number_of(self.value(key), low, high))
+        self.reported(key, number_of(self.value(key), low, high))
     }
 
     /// The integer at a key, from `low` to `high`, or `left_out` where the key is not there.
@@ -58,19 +58,19 @@ impl<'a> Section<'a> {
         ensures least { IfOk result (λ n. low ≤ n) }
         ensures most { IfOk result (λ n. n ≤ high) }
     {
-        self.told(key, number_or(self.value(key), left_out, low, high))
+        self.reported(key, number_or(self.value(key), left_out, low, high))
     }
 
     /// The string at a key.
     pub fn text(&self, key: &str) -> Result<&'a str, JobError>
         ensures { Gives (λ s. s.now) result (at_key self.now.task key.now (specs.text_of (get_member key.now (table_view self.now.table.now)))) }
     {
-        self.told(key, text_of(self.value(key)))
+        self.reported(key, text_of(self.value(key)))
     }
 
     /// What was read at a key; where its value was refused, the fault of that key.
-    pub fn told<T>(&self, key: &str, read: Result<T, Refusal>) -> Result<T, JobError>
-        ensures { IsToldAt self.now.task key.now read result }
+    pub fn reported<T>(&self, key: &str, read: Result<T, Refusal>) -> Result<T, JobError>
+        ensures { IsReportedAt self.now.task key.now read result }
     {
         match read {
             Ok(value) => Ok(value),
@@ -81,7 +81,7 @@ impl<'a> Section<'a> {
 
     /// A fault at a key.
     pub fn fault(&self, kind: JobFault, key: &str) -> JobError
-        ensures { IsTold kind self.now.task key.now result }
+        ensures { IsReported kind self.now.task key.now result }
     {
         match String::from_str(self.alloc, key) {
             Ok(key) => JobError::Fault {

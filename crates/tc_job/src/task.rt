@@ -12,12 +12,10 @@ use crate::keys::Level;
 use crate::section::Section;
 use crate::values::text_of;
 use indexmap::IndexSet;
+use slot_arbiter::LATEST_START;
 use std::alloc::Global;
 use tc_word::{List, Text};
 use toml::{Table, Value};
-
-/// The latest cycle at which a task may start.
-const LATEST_START: u32 = 20_000_000;
 
 /// The language of a task's source.
 #[derive(Clone, Copy, Debug, PartialEq, Eq)]
@@ -35,9 +33,9 @@ pub struct Task {
     pub core: u32,
     pub lang: Lang,
     pub source: Text,
-    /// At most 4,096 words, none where the job states none.
+    /// At most [`crate::MOST_INPUT_WORDS`], none where the job states none.
     pub input: List<u32>,
-    /// The cycle at which it starts, at most 20,000,000 and 0 where the job states none.
+    /// The cycle at which it starts, at most [`LATEST_START`] and 0 where the job states none.
     pub start: u64,
 }
 
@@ -73,10 +71,10 @@ fn task_in(section: &Section<'_>, cores: u32, taken: &mut IndexSet<u32>) -> Resu
     ensures among { IfOk result (IsTaskAmong cores) }
 {
     let core = new_core(section, cores, taken)?;
-    let lang = section.told("lang", lang_of(section.value("lang")))?;
+    let lang = section.reported("lang", lang_of(section.value("lang")))?;
     let source = section.text("source")?;
-    let input = section.told("input", input_of(section.alloc, section.value("input")))?;
-    let start = section.number_or("start", 0, 0, LATEST_START)?;
+    let input = section.reported("input", input_of(section.alloc, section.value("input")))?;
+    let start = section.number_or("start", 0, 0, LATEST_START as u32)?;
     Ok(Task {
         core,
         lang,

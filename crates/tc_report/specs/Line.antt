@@ -10,9 +10,12 @@ use Rattle.tc_report.specs.declared.rows.RowState.TheVariants as states
 abbrev pub line : List ℕ → List ℕ
 line text = text ++ 10 ∷ []
 
--- how a line about a core begins
+-- the name of a core, and how a line about it begins
+abbrev pub core_name : ℕ → List ℕ
+core_name core = codes "core " ++ decimal core
+
 abbrev pub about : ℕ → List ℕ
-about core = codes "core " ++ decimal core ++ codes " "
+about core = core_name core ++ codes " "
 
 -- a word in decimal, read as signed (two's complement) or as unsigned
 abbrev pub signed_word : ℕ → List ℕ

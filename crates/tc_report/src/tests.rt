@@ -19,7 +19,7 @@ fn core_in(alloc: Global, state: RowState) -> Row {
 }
 
 /// The report of one core under a platform of slots of 6 cycles.
-fn told(alloc: Global, row: Row) -> Result<Vec<u8>, AllocError> {
+fn reported(alloc: Global, row: Row) -> Result<Vec<u8>, AllocError> {
     let rows = Rows {
         cores: 1,
         slot: 6,
@@ -88,7 +88,7 @@ fn tells_what_was_dropped_before_the_transactions(rt: HostRuntime) -> Result<(),
         core 0 done 0 cycles 40\n\
         core 0 dropped 1\n\
         core 0 access 0 write 1\n";
-    assert_eq!(rt; told(alloc, done)?.as_slice(), text.as_bytes());
+    assert_eq!(rt; reported(alloc, done)?.as_slice(), text.as_bytes());
     Ok(())
 }
 
@@ -109,7 +109,7 @@ fn tells_a_task_that_is_not_done(rt: HostRuntime) -> Result<(), Fail> {
         let alloc = rt.alloc();
         let text = format!(in alloc; "platform cores 1 slot 6 period 6\n{line}")?;
         assert_eq!(rt;
-            told(alloc, core_in(alloc, state))?.as_slice(),
+            reported(alloc, core_in(alloc, state))?.as_slice(),
             text.as_bytes()
         );
     }
@@ -140,7 +140,7 @@ fn tells_a_task_in_c(rt: HostRuntime) -> Result<(), Fail> {
             "platform cores 1 slot 6 period 6\n\
             core 0 done 10 cycles 99 bound 4611686018427387904 alone overrun\n{outs}"
         )?;
-        assert_eq!(rt; told(alloc, row)?.as_slice(), text.as_bytes());
+        assert_eq!(rt; reported(alloc, row)?.as_slice(), text.as_bytes());
     }
     Ok(())
 }
@@ -153,6 +153,6 @@ fn tells_a_bound_of_a_task_that_is_not_done(rt: HostRuntime) -> Result<(), Fail>
     row.overrun = true;
     row.outs = List::of(vec![in alloc; 1]?);
     let text = "platform cores 1 slot 6 period 6\ncore 0 limit bound 45\n";
-    assert_eq!(rt; told(alloc, row)?.as_slice(), text.as_bytes());
+    assert_eq!(rt; reported(alloc, row)?.as_slice(), text.as_bytes());
     Ok(())
 }

@@ -10,7 +10,7 @@ use Rattle.shared_order.proofs.ByCycles.{all_low, word_is_stored}
 use Rattle.clock_board.specs.declared.known.Record.{Record}
 use Rattle.clock_board.specs.Board.{BoardFace}
 use Rattle.clock_board.specs.End.{AllPast}
-use Rattle.patmos_core.specs.Cycle.{turn}
+use Rattle.patmos_model.specs.Cycle.{turn}
 use Rattle.global_step.specs.Loaded.{Machine}
 use Rattle.global_step.specs.Machine.{core_among, machine, at_limit, all_operations}
 use Rattle.global_step.specs.Range.{IsOfWords, board_words}

@@ -9,13 +9,13 @@ use Rattle.shared_order.specs.Operation.{loads}
 use Rattle.shared_order.specs.Apart.{apart, Alone}
 use Rattle.shared_order.proofs.ByCycles.{core_is_apart, stands_by_cycles}
 use Rattle.patmos_core.specs.declared.cpu.Core.{Core as Cpu}
-use Rattle.patmos_core.specs.State.{Core}
-use Rattle.patmos_core.specs.Begin.{idle, no_code}
-use Rattle.patmos_core.specs.Cycle.{turn}
-use Rattle.patmos_core.specs.Site.{Site}
-use Rattle.patmos_core.specs.Apart.{site_of, apart_from}
+use Rattle.patmos_model.specs.State.{Core}
+use Rattle.patmos_model.specs.Begin.{idle, no_code}
+use Rattle.patmos_model.specs.Cycle.{turn}
+use Rattle.patmos_model.specs.Site.{Site}
+use Rattle.patmos_model.specs.Apart.{site_of, apart_from}
 use Rattle.patmos_core.specs.Position.{StandsFor, IsThrough, limit_of, room_of}
-use Rattle.patmos_core.proofs.Idle.{idle_stands}
+use Rattle.patmos_model.proofs.Idle.{idle_stands}
 use Rattle.global_step.specs.declared.loaded.LoadedCore.{LoadedCore}
 use Rattle.global_step.specs.Loaded.{Machine}
 use Rattle.global_step.specs.Machine.{first_core, core_among, machine, at_limit, operations_of}
@@ -23,7 +23,7 @@ use Rattle.tc_run.specs.Final.{IsFinalCore}
 use Rattle.tc_run.proofs.Begins.{among_is, placed}
 
 -- the core that was loaded there
-there : (ls : List LoadedCore) (k : ℕ) → k < length ls → (l : LoadedCore) × (slice_get ls k ≡ Some l)
+pub there : (ls : List LoadedCore) (k : ℕ) → k < length ls → (l : LoadedCore) × (slice_get ls k ≡ Some l)
 there ls k below = elim (slice_get_cases ls k).1 [
   | inl within ↦ (within.0, within.2)
   | inr past ↦ absurd (omega (arith, below, past.0))
@@ -83,10 +83,10 @@ module _ (m : Machine) (k : ℕ) (c : Cpu) (h : IsFinalCore m k c) where
       ∙ made_apart m k h.among
 
   -- what a function of the core tells at its own limit, it tells of the machine's
-  pub told_at_end : {A : Type 0} (tell : ℕ → Core → A) (told : A)
-      → (IsThrough c → (x : Core) (made : List Operation) → StandsFor c x made → told ≡ tell (limit_of c) (apart_from x (loads made) (limit_of c)).core)
-      → told ≡ tell m.limit ((at_limit m).cores k)
-  told_at_end tell told tells =
+  pub reported_at_end : {A : Type 0} (tell : ℕ → Core → A) (reported : A)
+      → (IsThrough c → (x : Core) (made : List Operation) → StandsFor c x made → reported ≡ tell (limit_of c) (apart_from x (loads made) (limit_of c)).core)
+      → reported ≡ tell m.limit ((at_limit m).cores k)
+  reported_at_end tell reported tells =
       tells h.through (core_among m.cores k) (operations_of m k) h.stands
       ∙ ap (λ t. tell t (apart_from (core_among m.cores k) (loads (operations_of m k)) t).core) h.limit
       ∙ ap (tell m.limit) core_at_end

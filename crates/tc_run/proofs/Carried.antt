@@ -9,7 +9,7 @@ use Rattle.clock_board.specs.Board.{BoardFace}
 use Rattle.core_worker.specs.Worker.{WorkerFace, IsOn, AreLater}
 use Rattle.tc_run.specs.Worked.{number_of, IsAtWork}
 use Rattle.tc_run.specs.Carried.{Carries}
-use Rattle.tc_run.proofs.Lists.{all_front, all_back, any_front, any_back, any_apart, any_one}
+use Rattle.tc_run.proofs.Lists.{all_prefix, all_back, any_prefix, any_back, any_apart, any_one}
 use Rattle.tc_run.proofs.Workers.{later_at_work, later_have}
 
 -- a list of lists, joined, with one more at its end
@@ -41,7 +41,7 @@ module _ (b : BoardFace) where
 
   module _ (xs xs' ys ys' : List WorkerFace) (c : Carries b xs xs') (d : Carries b ys ys') where
     all_beside : (P : WorkerFace → Type 0) → (All P xs → All P xs') → (All P ys → All P ys') → All P (xs ++ ys) → All P (xs' ++ ys')
-    all_beside P f g h = All-append P xs' ys' (f (all_front P xs ys h)) (g (all_back P xs ys h))
+    all_beside P f g h = All-append P xs' ys' (f (all_prefix P xs ys h)) (g (all_back P xs ys h))
 
     -- two lists, one behind the other
     pub carried_beside : Carries b (xs ++ ys) (xs' ++ ys')
@@ -50,7 +50,7 @@ module _ (b : BoardFace) where
       on = all_beside (IsOn b) c.on d.on;
       work = λ m. all_beside (IsAtWork m b) (c.work m) (d.work m);
       have = λ k h. elim (any_apart (λ w. number_of w ≡ k) xs ys h) [
-        | inl front ↦ any_front (λ w. number_of w ≡ k) xs' ys' (c.have k front)
+        | inl prefix ↦ any_prefix (λ w. number_of w ≡ k) xs' ys' (c.have k prefix)
         | inr back ↦ any_back (λ w. number_of w ≡ k) xs' ys' (d.have k back)
       ];
     }
@@ -64,7 +64,7 @@ module _ (b : BoardFace) where
 
   -- one for the other
   all_swapped : (P : WorkerFace → Type 0) (xs ys : List WorkerFace) → All P (xs ++ ys) → All P (ys ++ xs)
-  all_swapped P xs ys h = All-append P ys xs (all_back P xs ys h) (all_front P xs ys h)
+  all_swapped P xs ys h = All-append P ys xs (all_back P xs ys h) (all_prefix P xs ys h)
 
   carried_swapped : (xs ys : List WorkerFace) → Carries b (xs ++ ys) (ys ++ xs)
   carried_swapped xs ys = record {
@@ -72,8 +72,8 @@ module _ (b : BoardFace) where
     on = all_swapped (IsOn b) xs ys;
     work = λ m. all_swapped (IsAtWork m b) xs ys;
     have = λ k h. elim (any_apart (λ w. number_of w ≡ k) xs ys h) [
-      | inl front ↦ any_back (λ w. number_of w ≡ k) ys xs front
-      | inr back ↦ any_front (λ w. number_of w ≡ k) ys xs back
+      | inl prefix ↦ any_back (λ w. number_of w ≡ k) ys xs prefix
+      | inr back ↦ any_prefix (λ w. number_of w ≡ k) ys xs back
     ];
   }
 
@@ -96,10 +96,10 @@ module _ (b : BoardFace) where
 
 -- it is put among others
 pub record IsPutIn {W : Type 0} (w : W) (xs ys : List W) : Type 0 where
-  pub front : List W
+  pub prefix : List W
   pub back : List W
-  pub before : xs ≡ front ++ back
-  pub after : ys ≡ front ++ w ∷ back
+  pub before : xs ≡ prefix ++ back
+  pub after : ys ≡ prefix ++ w ∷ back
 
 module _ {X W : Type 0} (f : X → List W) where
   -- where one of the lists grows at its end
@@ -109,7 +109,7 @@ module _ {X W : Type 0} (f : X → List W) where
   put_in (x ∷ xs) zero o y w at below grown =
       let here : o ≡ x = sym at in
       record {
-        front = f x;
+        prefix = f x;
         back = flat_map f xs;
         before = flat_map-cons f x xs;
         after = flat_map-cons f y xs ∙ ap (λ z. z ++ flat_map f xs) (grown ∙ ap (λ z. f z ++ w ∷ []) here) ∙ append_assoc (f x) (w ∷ []) (flat_map f xs);
@@ -117,27 +117,27 @@ module _ {X W : Type 0} (f : X → List W) where
   put_in (x ∷ xs) (suc i) o y w at below grown =
       let r = put_in xs i o y w at (omega (arith, below)) grown in
       record {
-        front = f x ++ r.front;
+        prefix = f x ++ r.prefix;
         back = r.back;
-        before = flat_map-cons f x xs ∙ ap (λ z. f x ++ z) r.before ∙ sym (append_assoc (f x) r.front r.back);
-        after = flat_map-cons f x (slice_set xs i y) ∙ ap (λ z. f x ++ z) r.after ∙ sym (append_assoc (f x) r.front (w ∷ r.back));
+        before = flat_map-cons f x xs ∙ ap (λ z. f x ++ z) r.before ∙ sym (append_assoc (f x) r.prefix r.back);
+        after = flat_map-cons f x (slice_set xs i y) ∙ ap (λ z. f x ++ z) r.after ∙ sym (append_assoc (f x) r.prefix (w ∷ r.back));
       }
 
 module _ {W : Type 0} (P : W → Type 0) (w : W) (xs ys : List W) (put : IsPutIn w xs ys) where
   pub all_with : P w → All P xs → All P ys
   all_with one all =
       let parts = subst (All P) put.before all in
-      subst (All P) (sym put.after) (All-append P put.front (w ∷ put.back) (all_front P put.front put.back parts) (All-cons P w put.back one (all_back P put.front put.back parts)))
+      subst (All P) (sym put.after) (All-append P put.prefix (w ∷ put.back) (all_prefix P put.prefix put.back parts) (All-cons P w put.back one (all_back P put.prefix put.back parts)))
 
   pub any_with : Any P xs → Any P ys
-  any_with any = subst (Any P) (sym put.after) (elim (any_apart P put.front put.back (subst (Any P) put.before any)) [
-    | inl front ↦ any_front P put.front (w ∷ put.back) front
-    | inr back ↦ any_back P put.front (w ∷ put.back) (any_back P (w ∷ []) put.back back)
+  any_with any = subst (Any P) (sym put.after) (elim (any_apart P put.prefix put.back (subst (Any P) put.before any)) [
+    | inl prefix ↦ any_prefix P put.prefix (w ∷ put.back) prefix
+    | inr back ↦ any_back P put.prefix (w ∷ put.back) (any_back P (w ∷ []) put.back back)
   ])
 
   pub any_new : P w → Any P ys
-  any_new one = subst (Any P) (sym put.after) (any_back P put.front (w ∷ put.back) (any_front P (w ∷ []) put.back (any_one P w one)))
+  any_new one = subst (Any P) (sym put.after) (any_back P put.prefix (w ∷ put.back) (any_prefix P (w ∷ []) put.back (any_one P w one)))
 
 pub one_longer : {W : Type 0} (w : W) (xs ys : List W) → IsPutIn w xs ys → length ys ≡ length xs + 1
 one_longer w xs ys put =
-    ap length put.after ∙ length-append put.front (w ∷ put.back) ∙ omega (arith, length-append put.front put.back) ∙ ap (λ (z : List _). length z + 1) (sym put.before)
+    ap length put.after ∙ length-append put.prefix (w ∷ put.back) ∙ omega (arith, length-append put.prefix put.back) ∙ ap (λ (z : List _). length z + 1) (sym put.before)

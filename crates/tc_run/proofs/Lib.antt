@@ -1,9 +1,10 @@
-pub mod Begins
-pub mod AtEnd
-pub mod Words
-pub mod Workers
-pub mod Lists
-pub mod Taking
 pub mod AllTaken
+pub mod AtEnd
+pub mod Begins
 pub mod Carried
 pub mod Groups
+pub mod Lists
+pub mod Plain
+pub mod Taking
+pub mod Words
+pub mod Workers

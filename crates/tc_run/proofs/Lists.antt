@@ -5,20 +5,20 @@ use Rattle.patmos_core.specs.declared.cpu.Core.{Core as Cpu}
 use Rattle.global_step.specs.PlainRun.{Every}
 
 -- what holds of all elements of two lists, holds of those of each
-pub all_front : {X : Type 0} (P : X → Type 0) (xs ys : List X) → All P (xs ++ ys) → All P xs
-all_front P [] ys h = All-nil P
-all_front P (x ∷ xs) ys h = All-cons P x xs (All-head P x (xs ++ ys) h) (all_front P xs ys (All-tail P x (xs ++ ys) h))
+pub all_prefix : {X : Type 0} (P : X → Type 0) (xs ys : List X) → All P (xs ++ ys) → All P xs
+all_prefix P [] ys h = All-nil P
+all_prefix P (x ∷ xs) ys h = All-cons P x xs (All-head P x (xs ++ ys) h) (all_prefix P xs ys (All-tail P x (xs ++ ys) h))
 
 pub all_back : {X : Type 0} (P : X → Type 0) (xs ys : List X) → All P (xs ++ ys) → All P ys
 all_back P [] ys h = h
 all_back P (x ∷ xs) ys h = all_back P xs ys (All-tail P x (xs ++ ys) h)
 
 -- what holds of one element of the first or of the second list, holds of one of both, and the other way round
-pub any_front : {X : Type 0} (P : X → Type 0) (xs ys : List X) → Any P xs → Any P (xs ++ ys)
-any_front P [] ys (k, x, below, is, h) = absurd (omega (arith, below))
-any_front P (x₀ ∷ xs) ys (zero, x, below, is, h) = (zero, x, omega arith, is, h)
-any_front P (x₀ ∷ xs) ys (suc k, x, below, is, h) =
-    let r = any_front P xs ys (k, x, omega (arith, below), is, h) in (suc r.0, r.1, omega (arith, r.2), r.3, r.4)
+pub any_prefix : {X : Type 0} (P : X → Type 0) (xs ys : List X) → Any P xs → Any P (xs ++ ys)
+any_prefix P [] ys (k, x, below, is, h) = absurd (omega (arith, below))
+any_prefix P (x₀ ∷ xs) ys (zero, x, below, is, h) = (zero, x, omega arith, is, h)
+any_prefix P (x₀ ∷ xs) ys (suc k, x, below, is, h) =
+    let r = any_prefix P xs ys (k, x, omega (arith, below), is, h) in (suc r.0, r.1, omega (arith, r.2), r.3, r.4)
 
 pub any_back : {X : Type 0} (P : X → Type 0) (xs ys : List X) → Any P ys → Any P (xs ++ ys)
 any_back P [] ys h = h

@@ -1,7 +1,7 @@
 -- Words of 32 bits.
 use Rattle.std.proofs.Common.{ℕ, zero, suc, List, [], ◌∷◌, slice_index, arith}
 use Rattle.std.specs.List.{AllByRecursion as Each}
-use Rattle.patmos_core.specs.Range.{IsWord}
+use Rattle.patmos_model.specs.Range.{IsWord}
 
 -- what a list of words has at a place, or 0 where it has none
 pub word_at : (words : List ℕ) (place : ℕ) → Each IsWord words → IsWord (slice_index words place)

@@ -1,19 +1,19 @@
 -- The workers of a machine's cores: as they begin, later, and at their end.
 use Rattle.std.proofs.Common.{◌≡◌, ℕ, ◌*◌, ◌<◌, ◌≤◌, List, [], length, Some, IfSome, slice_get, refl, sym, ap, ◌∙◌, subst, arith, All, slice_index_or}
 use Rattle.std.proofs.lemmas.Option.{slice_get_within, get_or_from_slice_get, slice_get-get_or}
-use Rattle.shared_order.specs.Operation.{loads, part}
+use Rattle.shared_order.specs.Operation.{loads, operations_of as operations_among}
 use Rattle.shared_order.specs.Apart.{apart}
-use Rattle.shared_order.proofs.ByCycles.{part_is_apart}
+use Rattle.shared_order.proofs.ByCycles.{operations_are_apart}
 use Rattle.clock_board.specs.declared.known.View.{View}
 use Rattle.clock_board.specs.Record.{empty, clock_of}
 use Rattle.clock_board.specs.View.{own}
 use Rattle.clock_board.specs.Board.{BoardFace, PassFace}
 use Rattle.slot_arbiter.specs.declared.place.Place.{Place}
 use Rattle.patmos_core.specs.declared.cpu.Core.{Core as Cpu}
-use Rattle.patmos_core.specs.State.{Core}
-use Rattle.patmos_core.specs.Cycle.{turn}
-use Rattle.patmos_core.specs.Position.{StandsFor, IsNextOf, place_of, room_of}
-use Rattle.core_worker.specs.Runs.{listed, Makes, RunsAs}
+use Rattle.patmos_model.specs.State.{Core}
+use Rattle.patmos_model.specs.Cycle.{turn}
+use Rattle.patmos_core.specs.Position.{StandsFor, place_of, room_of}
+use Rattle.core_worker.specs.Runs.{IsNextWhole, listed, Makes, RunsAs}
 use Rattle.core_worker.specs.Worker.{WorkerFace, face, IsLater, AreLater, IsOn, IsDone}
 use Rattle.global_step.specs.declared.loaded.LoadedCore.{LoadedCore}
 use Rattle.global_step.specs.Loaded.{Machine, AreOnePlatform}
@@ -32,12 +32,12 @@ first_makes m k l platform is =
     let k_is : (core_among m.cores k).plain.site.core ≡ k = ap (λ (x : Core). x.plain.site.core) (among_is m.cores k l is) ∙ site_core l ∙ at.1 in
     ap (λ n. (apart turn n (core_among m.cores k).plain.site.core (core_among m.cores k) (loads (operations_of m k)) m.limit).made) n_is
     ∙ ap (λ j. (apart turn (length m.cores) j (core_among m.cores k) (loads (operations_of m k)) m.limit).made) k_is
-    ∙ part_is_apart turn (length m.cores) (core_among m.cores) m.limit k (slice_get_within m.cores k l is)
+    ∙ operations_are_apart turn (length m.cores) (core_among m.cores) m.limit k (slice_get_within m.cores k l is)
 
 -- the course's list of a pass is the machine's of its core
 listed_is : (m : Machine) (k : ℕ) (v : View) → v.cores ≡ length m.cores → (own v).core ≡ k → v.course ≡ all_operations m → listed v ≡ operations_of m k
 listed_is m k v cores core course =
-    ap (λ n. part n (own v).core v.course) cores ∙ ap (λ j. part (length m.cores) j v.course) core ∙ ap (part (length m.cores) k) course
+    ap (λ n. operations_among n (own v).core v.course) cores ∙ ap (λ j. operations_among (length m.cores) j v.course) core ∙ ap (operations_among (length m.cores) k) course
 
 module _ (m : Machine) (platform : AreOnePlatform m.cores) (c : Cpu) (v : View) (first : IsFirst m c) (fresh : own v ≡ empty (number c))
     (cores : v.cores ≡ length m.cores) (course : v.course ≡ all_operations m) where
@@ -53,7 +53,7 @@ module _ (m : Machine) (platform : AreOnePlatform m.cores) (c : Cpu) (v : View) 
   begins_as = record {
     stands = subst (StandsFor c (core_among m.cores (number c))) (sym (ap (λ r. r.made) fresh)) first_stands;
     makes = makes_listed;
-    next = subst (λ o. IfSome o (IsNextOf (core_among m.cores (number c)) (own v).made m.limit)) (sym first.begun.waiting) tt;
+    next = subst (λ o. IfSome o (IsNextWhole (core_among m.cores (number c)) (own v).made m.limit)) (sym first.begun.waiting) tt;
   }
 
 -- a worker that was made so

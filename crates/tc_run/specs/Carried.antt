@@ -6,7 +6,7 @@ use Rattle.clock_board.specs.Board.{BoardFace}
 use Rattle.core_worker.specs.Worker.{WorkerFace, IsOn}
 use Rattle.core_worker.specs.declared.worker.Worker.{Worker}
 use Rattle.global_step.specs.Loaded.{Machine}
-use Rattle.tc_run.specs.declared.course.MachineCourse.{MachineCourse}
+use Rattle.global_step.specs.declared.loaded.Loaded.{Loaded}
 use Rattle.tc_run.specs.declared.crew.Crew.{Crew}
 use Rattle.tc_run.specs.Worked.{HasWorker, IsAtWork}
 
@@ -19,7 +19,7 @@ pub record Carries (board : BoardFace) (ws ws' : List WorkerFace) : Type 0 where
   pub have : (k : ℕ) → HasWorker ws k → HasWorker ws' k
 
 -- the workers of groups, one group behind the other
-abbrev pub workers_in : List (Vec (Worker MachineCourse) Global) → List WorkerFace
+abbrev pub workers_in : List (Vec (Worker Loaded) Global) → List WorkerFace
 workers_in groups = flat_map (λ ws. ws.items) groups
 
 -- the workers of a crew: those that the caller has, and those that moved into threads

@@ -4,7 +4,7 @@ use Rattle.std.specs.Global.{Global}
 use Rattle.core_worker.specs.declared.worker.Worker.{Worker}
 use Rattle.global_step.specs.Loaded.{Machine}
 use Rattle.global_step.specs.declared.loaded.LoadedCore.{LoadedCore}
-use Rattle.tc_run.specs.declared.course.MachineCourse.{MachineCourse}
+use Rattle.global_step.specs.declared.loaded.Loaded.{Loaded}
 use Rattle.tc_run.specs.Worked.{HasWorker}
 
 -- how many tasks a core has
@@ -23,6 +23,6 @@ abbrev pub group_of : LoadedCore → ℕ → ℕ → ℕ
 group_of l tasks w = elim l.image [ None ↦ w | Some image ↦ tasks % w ]
 
 -- each of the first n cores has its worker in its group
-abbrev pub AreGrouped : Machine → ℕ → List (Vec (Worker MachineCourse) Global) → Type 0
-AreGrouped m n groups = (k : ℕ) (l : LoadedCore) (d : Vec (Worker MachineCourse) Global) → k < n → slice_get m.cores k ≡ Some l
+abbrev pub AreGrouped : Machine → ℕ → List (Vec (Worker Loaded) Global) → Type 0
+AreGrouped m n groups = (k : ℕ) (l : LoadedCore) (d : Vec (Worker Loaded) Global) → k < n → slice_get m.cores k ≡ Some l
     → HasWorker (slice_index_or groups (group_of l (tasks_before m.cores k) m.workers) d).items k

@@ -17,12 +17,12 @@ pub(crate) fn core_of(alloc: Global, loaded: &LoadedCore, trace: u32) -> Result<
 }
 
 // how many cores there are, of which a platform has 16 at most
-pub(crate) fn count_of(job: &Loaded) -> usize
-    ensures count { result ≡ length job.now.cores }
+pub(crate) fn count_of(machine: &Loaded) -> usize
+    ensures count { result ≡ length machine.now.cores }
     ensures some { 0 < result }
     ensures few { result ≤ 16 }
 {
-    let cores = job.cores();
+    let cores = machine.cores();
     let _most = cores[0].place.cores;
     cores.len()
 }

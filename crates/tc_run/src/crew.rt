@@ -4,10 +4,10 @@ ghost use Rattle.clock_board.specs.Board.{BoardFace};
 ghost use Rattle.core_worker.specs.Worker.{WorkerFace, IsDone, IsOn};
 ghost use Rattle.tc_run.specs.Carried.{Carries, IsCrewOn, IsReady, workers_in, workers_of};
 
-use crate::course::MachineCourse;
 use crate::threads::{SameWorkers, gather, run_through, start_group};
 use clock_board::Board;
 use core_worker::Worker;
+use global_step::Loaded;
 use std::alloc::Global;
 use std::sync::Wait;
 use std::sync::atomic::AtomicBool;
@@ -19,8 +19,8 @@ use tc_word::OutOfMemory;
 /// All workers of a run: those that the caller has, and those that moved into threads.
 #[derive(Drop)]
 pub(crate) struct Crew {
-    pub(crate) here: Vec<Worker<MachineCourse>>,
-    pub(crate) away: Vec<PromisedHandle<Vec<Worker<MachineCourse>>, SameWorkers>>,
+    pub(crate) here: Vec<Worker<Loaded>>,
+    pub(crate) away: Vec<PromisedHandle<Vec<Worker<Loaded>>, SameWorkers>>,
 }
 
 impl Crew {
@@ -28,7 +28,7 @@ impl Crew {
     /// groups that are left.
     pub(crate) fn with_last(
         alloc: Global,
-        groups: &mut Vec<Vec<Worker<MachineCourse>>>,
+        groups: &mut Vec<Vec<Worker<Loaded>>>,
         workers: usize,
     ) -> Result<Crew, OutOfMemory>
         requires some { 0 < vec_len groups.old }
@@ -50,7 +50,7 @@ impl Crew {
     }
 
     /// Runs the workers that the caller has until none of them has an event left.
-    fn run_here<R: Wait, G: Gate>(&mut self, rt: &R, board: &Board<MachineCourse>, gate: &G)
+    fn run_here<R: Wait, G: Gate>(&mut self, rt: &R, board: &Board<Loaded>, gate: &G)
         requires on { All (IsOn board.now) (workers_of self.old) }
         ensures carries { Carries board.now (workers_of self.old) (workers_of self.new) }
         ensures ready { (workers : List WorkerFace) (groups : ℕ) → IsReady board.now self.old workers groups
@@ -64,9 +64,9 @@ impl Crew {
         &mut self,
         scope: &Scope<'s, E>,
         rt: &'s R,
-        group: Vec<Worker<MachineCourse>>,
+        group: Vec<Worker<Loaded>>,
         refused: &'s AtomicBool,
-        board: &'s Board<MachineCourse>,
+        board: &'s Board<Loaded>,
         gate: &'s G,
     )
         requires on { All (IsOn board.now) group.items }
@@ -90,9 +90,9 @@ impl Crew {
         &mut self,
         scope: &Scope<'s, E>,
         rt: &'s R,
-        mut groups: Vec<Vec<Worker<MachineCourse>>>,
+        mut groups: Vec<Vec<Worker<Loaded>>>,
         refused: &'s [AtomicBool],
-        board: &'s Board<MachineCourse>,
+        board: &'s Board<Loaded>,
         gate: &'s G,
     )
         requires ready { IsReady board.now self.old (workers_in groups.items) (vec_len groups) }
@@ -109,7 +109,7 @@ impl Crew {
     }
 
     /// Joins the threads. The caller has all workers then.
-    pub(crate) fn joined<R: Threads>(self, rt: &R) -> Vec<Worker<MachineCourse>>
+    pub(crate) fn joined<R: Threads>(self, rt: &R) -> Vec<Worker<Loaded>>
         requires room { length (workers_of self) ≤ vec_capacity self.here }
         ensures carries { (board : BoardFace) → IsCrewOn board self → Carries board (workers_of self) result.items }
     {
@@ -125,12 +125,12 @@ impl Crew {
 /// the thread of the call where no thread can be started.
 pub(crate) fn run_groups<R: Threads + Wait + Sync, G: Gate + Sync>(
     rt: &R,
-    groups: Vec<Vec<Worker<MachineCourse>>>,
+    groups: Vec<Vec<Worker<Loaded>>>,
     crew: Crew,
     refused: &[AtomicBool],
-    board: &Board<MachineCourse>,
+    board: &Board<Loaded>,
     gate: &G,
-) -> Vec<Worker<MachineCourse>>
+) -> Vec<Worker<Loaded>>
     requires ready { IsReady board.now crew (workers_in groups.items) (vec_len groups) }
     requires flags { vec_len groups ≤ length refused.now }
     ensures carries { Carries board.now (workers_of crew ++ workers_in groups.items) result.items }
@@ -139,7 +139,7 @@ pub(crate) fn run_groups<R: Threads + Wait + Sync, G: Gate + Sync>(
     thread::scope(
         thread::scope_env(),
         rt,
-        |scope| -> Vec<Worker<MachineCourse>>
+        |scope| -> Vec<Worker<Loaded>>
             requires ready { IsReady board.now crew (workers_in groups.items) (vec_len groups) }
             requires flags { vec_len groups ≤ length refused.now }
             ensures carries { Carries board.entry.now (workers_of crew ++ workers_in groups.items) result.items }
@@ -152,12 +152,12 @@ pub(crate) fn run_groups<R: Threads + Wait + Sync, G: Gate + Sync>(
 fn run_in<'s, E, R: Threads + Wait + Sync, G: Gate + Sync>(
     scope: &Scope<'s, E>,
     rt: &'s R,
-    groups: Vec<Vec<Worker<MachineCourse>>>,
+    groups: Vec<Vec<Worker<Loaded>>>,
     mut crew: Crew,
     refused: &'s [AtomicBool],
-    board: &'s Board<MachineCourse>,
+    board: &'s Board<Loaded>,
     gate: &'s G,
-) -> Vec<Worker<MachineCourse>>
+) -> Vec<Worker<Loaded>>
     requires ready { IsReady board.now crew (workers_in groups.items) (vec_len groups) }
     requires flags { vec_len groups ≤ length refused.now }
     ensures carries { Carries board.now (workers_of crew ++ workers_in groups.items) result.items }

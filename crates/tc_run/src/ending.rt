@@ -11,7 +11,6 @@ ghost use Rattle.tc_run.specs.Final.{AreFinal};
 ghost use Rattle.tc_run.specs.Worked.{number_of, HasWorker, HaveAll, IsThroughWith, IsBoardOf};
 
 use crate::begin::count_of;
-use crate::course::MachineCourse;
 use clock_board::{Board, Pass};
 use core_worker::Worker;
 use global_step::Loaded;
@@ -30,25 +29,25 @@ pub struct Final {
 /// Takes the passes of all workers back, closes the board for its words, and puts the cores into a list that
 /// has room for them, in the order of their numbers.
 pub(crate) fn end_of(
-    job: &Loaded,
-    board: Board<MachineCourse>,
-    mut maker: Pass<MachineCourse>,
-    mut workers: Vec<Worker<MachineCourse>>,
+    machine: &Loaded,
+    board: Board<Loaded>,
+    mut maker: Pass<Loaded>,
+    mut workers: Vec<Worker<Loaded>>,
     mut cores: Vec<Core>,
 ) -> Final
-    requires words { IsOfWords job.now }
-    requires board { IsBoardOf job.now board }
+    requires words { IsOfWords machine.now }
+    requires board { IsBoardOf machine.now board }
     requires of { IsPassOf board maker }
-    requires maker { maker.view ≡ new_maker (length job.now.cores) (all_operations job.now) }
-    requires through { All (IsThroughWith job.now board) workers.items }
-    requires all { HaveAll job.now workers.items }
+    requires maker { maker.view ≡ new_maker (length machine.now.cores) (all_operations machine.now) }
+    requires through { All (IsThroughWith machine.now board) workers.items }
+    requires all { HaveAll machine.now workers.items }
     requires empty { cores.items ≡ [] }
-    requires room { length job.now.cores ≤ vec_capacity cores }
-    ensures cores { AreFinal job.now result.cores }
-    ensures words { (w : ℕ) → slice_index result.words w ≡ (at_limit job.now).words w }
-    ensures board { length result.words ≡ comm_word (length job.now.cores) 0 }
+    requires room { length machine.now.cores ≤ vec_capacity cores }
+    ensures cores { AreFinal machine.now result.cores }
+    ensures words { (w : ℕ) → slice_index result.words w ≡ (at_limit machine.now).words w }
+    ensures board { length result.words ≡ comm_word (length machine.now.cores) 0 }
 {
-    for core in 0..count_of(job) {
+    for core in 0..count_of(machine) {
         let worker = take_worker(&mut workers, core as u32);
         let (core, pass) = worker.finish();
         board.take_back(&mut maker, pass);
@@ -61,7 +60,7 @@ pub(crate) fn end_of(
 }
 
 // takes the worker of a core out of a list that has one
-fn take_worker(workers: &mut Vec<Worker<MachineCourse>>, core: u32) -> Worker<MachineCourse>
+fn take_worker(workers: &mut Vec<Worker<Loaded>>, core: u32) -> Worker<Loaded>
     requires there { HasWorker workers.old.items core }
     ensures number { number_of result ≡ core }
     ensures through { (m : Machine) (board : BoardFace) → All (IsThroughWith m board) workers.old.items
@@ -75,7 +74,7 @@ fn take_worker(workers: &mut Vec<Worker<MachineCourse>>, core: u32) -> Worker<Ma
 }
 
 // where the worker of a core stands in a list that has one
-fn place_among(workers: &[Worker<MachineCourse>], core: u32) -> usize
+fn place_among(workers: &[Worker<Loaded>], core: u32) -> usize
     requires there { HasWorker workers.now core }
     ensures within { result < length workers.now }
     ensures number { (d : WorkerFace) → number_of (slice_index_or workers.now result d) ≡ core }

@@ -4,6 +4,8 @@
 //! - [`run_machine`] leaves a [`Final`]: for every interleaving of the workers each core is the one that the
 //!   machine has at its limit, and so is each word of the board. Want of memory comes before the first step, or
 //!   not at all.
+//! - [`run_by_turns`] and [`run_plain`] leave the same in the calling thread alone: its workers by turns, or without a
+//!   board, always the event of the least stamp.
 //! - [`outcome_of`], [`accesses_of`], [`dropped_of`] and [`own_word_of`] tell what such a core is in the
 //!   machine at its limit.
 //!
@@ -11,19 +13,23 @@
 //! steps of `threads`, and `ending` gives the passes back and closes the board. That a step hands all workers on is
 //! said by `specs/Carried.antt`, and for which of the machine's cores a worker stands by `specs/Worked.antt`. That the
 //! run returns is not promised, nor that several threads run.
+//!
+//! What its words mean stands in [the glossary](../../../docs/GLOSSARY.md).
 #![tactic(auto)]
 
 mod begin;
-mod course;
 mod crew;
 mod ending;
+mod in_words;
 mod machine;
 mod making;
-mod telling;
+mod one_thread;
+mod reporting;
 #[cfg(test)]
 mod tests;
 mod threads;
 
 pub use ending::Final;
 pub use machine::run_machine;
-pub use telling::{accesses_of, dropped_of, outcome_of, own_word_of};
+pub use one_thread::{run_by_turns, run_plain};
+pub use reporting::{accesses_of, dropped_of, outcome_of, own_word_of};

@@ -20,20 +20,20 @@ use tc_word::OutOfMemory;
 pub fn run_machine<R: Threads + Wait + Sync, G: Gate + Sync>(
     alloc: Global,
     rt: &R,
-    job: &Loaded,
+    machine: &Loaded,
     gate: &G,
 ) -> Result<Final, OutOfMemory>
-    ensures cores { IfOk result (λ end. AreFinal job.now end.cores) }
-    ensures words { IfOk result (λ end. (w : ℕ) → slice_index end.words w ≡ (at_limit job.now).words w) }
-    ensures board { IfOk result (λ end. length end.words ≡ comm_word (length job.now.cores) 0) }
+    ensures cores { IfOk result (λ end. AreFinal machine.now end.cores) }
+    ensures words { IfOk result (λ end. (w : ℕ) → slice_index end.words w ≡ (at_limit machine.now).words w) }
+    ensures board { IfOk result (λ end. length end.words ≡ comm_word (length machine.now.cores) 0) }
 {
-    let (board, mut maker) = board_of(alloc, job)?;
-    let mut groups = groups_of(rt, alloc, job, &board, &mut maker)?;
-    let crew = Crew::with_last(alloc, &mut groups, count_of(job))?;
+    let (board, mut maker) = board_of(alloc, machine)?;
+    let mut groups = groups_of(rt, alloc, machine, &board, &mut maker)?;
+    let crew = Crew::with_last(alloc, &mut groups, count_of(machine))?;
     let refused = flags_of(alloc, groups.len())?;
-    let cores = Vec::with_capacity(alloc, count_of(job))?;
+    let cores = Vec::with_capacity(alloc, count_of(machine))?;
     let workers = run_groups(rt, groups, crew, refused.as_slice(), &board, gate);
-    Ok(end_of(job, board, maker, workers, cores))
+    Ok(end_of(machine, board, maker, workers, cores))
 }
 
 // so many flags, each down

@@ -11,7 +11,8 @@ ghost use Rattle.tc_run.specs.Groups.{AreGrouped, tasks_of, group_of};
 ghost use Rattle.tc_run.specs.Worked.{number, number_of, IsFirst, IsWorkerOf, IsAtWork, IsBoardOf, HaveAll};
 
 use crate::begin::{core_of, count_of};
-use crate::course::{MachineCourse, course_of, loaded_with_words};
+use crate::in_words::loaded_with_words;
+use argo_ni::{COMM_WORDS, SHARED_WORDS};
 use clock_board::{Board, Pass};
 use core_worker::Worker;
 use global_step::{Loaded, LoadedCore};
@@ -23,18 +24,17 @@ use tc_word::OutOfMemory;
 /// A board for a machine, on which nothing was made, and the maker's pass.
 pub(crate) fn board_of(
     alloc: Global,
-    job: &Loaded,
-) -> Result<(Board<MachineCourse>, Pass<MachineCourse>), OutOfMemory>
-    ensures words { IsOfWords job.now }
-    ensures board { IfOk result (λ b. IsBoardOf job.now b.0) }
+    machine: &Loaded,
+) -> Result<(Board<Loaded>, Pass<Loaded>), OutOfMemory>
+    ensures words { IsOfWords machine.now }
+    ensures board { IfOk result (λ b. IsBoardOf machine.now b.0) }
     ensures of { IfOk result (λ b. IsPassOf b.0 b.1) }
     ensures maker { IfOk result (λ b.
-        b.1.view ≡ new_maker (length job.now.cores) (all_operations job.now)) }
+        b.1.view ≡ new_maker (length machine.now.cores) (all_operations machine.now)) }
 {
-    loaded_with_words(job);
-    let cores = count_of(job) as u32;
-    let course = course_of(job);
-    Board::new(alloc, &course, cores, 4096 + 512 * cores)
+    loaded_with_words(machine);
+    let cores = count_of(machine) as u32;
+    Board::new(alloc, machine, cores, SHARED_WORDS + COMM_WORDS * cores)
 }
 
 /// Makes the worker of each core, in groups: the k-th core with a task, counted from 0 by rising number,
@@ -43,25 +43,25 @@ pub(crate) fn board_of(
 pub(crate) fn groups_of<R: Wait>(
     rt: &R,
     alloc: Global,
-    job: &Loaded,
-    board: &Board<MachineCourse>,
-    maker: &mut Pass<MachineCourse>,
-) -> Result<Vec<Vec<Worker<MachineCourse>>>, OutOfMemory>
-    requires board { IsBoardOf job.now board.now }
+    machine: &Loaded,
+    board: &Board<Loaded>,
+    maker: &mut Pass<Loaded>,
+) -> Result<Vec<Vec<Worker<Loaded>>>, OutOfMemory>
+    requires board { IsBoardOf machine.now board.now }
     requires of { IsPassOf board.now maker.old }
-    requires maker { maker.old.view ≡ new_maker (length job.now.cores) (all_operations job.now) }
+    requires maker { maker.old.view ≡ new_maker (length machine.now.cores) (all_operations machine.now) }
     ensures same { maker.new ≡ maker.old }
-    ensures count { IfOk result (λ groups. vec_len groups ≡ job.now.workers + 1) }
-    ensures of { IfOk result (λ groups. All (IsAtWork job.now board.now) (workers_in groups.items)) }
-    ensures all { IfOk result (λ groups. HaveAll job.now (workers_in groups.items)) }
-    ensures total { IfOk result (λ groups. length (workers_in groups.items) ≡ length job.now.cores) }
-    ensures grouped { IfOk result (λ groups. AreGrouped job.now (length job.now.cores) groups.items) }
+    ensures count { IfOk result (λ groups. vec_len groups ≡ machine.now.workers + 1) }
+    ensures of { IfOk result (λ groups. All (IsAtWork machine.now board.now) (workers_in groups.items)) }
+    ensures all { IfOk result (λ groups. HaveAll machine.now (workers_in groups.items)) }
+    ensures total { IfOk result (λ groups. length (workers_in groups.items) ≡ length machine.now.cores) }
+    ensures grouped { IfOk result (λ groups. AreGrouped machine.now (length machine.now.cores) groups.items) }
 {
-    let count = job.workers();
+    let count = machine.workers();
     let mut groups = no_workers(alloc, count)?;
     let mut tasks = 0;
-    for loaded in job.cores() {
-        let worker = seated(rt, alloc, job, board, maker, loaded)?;
+    for loaded in machine.cores() {
+        let worker = seated(rt, alloc, machine, board, maker, loaded)?;
         let group = group_of(loaded, tasks, count);
         groups[group].push(worker)?;
         tasks += tasks_of(loaded);
@@ -93,7 +93,7 @@ fn group_of(loaded: &LoadedCore, tasks: usize, count: u32) -> usize
 }
 
 // a group more than so many, without workers
-fn no_workers(alloc: Global, count: u32) -> Result<Vec<Vec<Worker<MachineCourse>>>, OutOfMemory>
+fn no_workers(alloc: Global, count: u32) -> Result<Vec<Vec<Worker<Loaded>>>, OutOfMemory>
     ensures count { IfOk result (λ groups. vec_len groups ≡ count + 1) }
     ensures none { IfOk result (λ groups. workers_in groups.items ≡ []) }
 {
@@ -108,34 +108,34 @@ fn no_workers(alloc: Global, count: u32) -> Result<Vec<Vec<Worker<MachineCourse>
 fn seated<R: Wait>(
     rt: &R,
     alloc: Global,
-    job: &Loaded,
-    board: &Board<MachineCourse>,
-    maker: &mut Pass<MachineCourse>,
+    machine: &Loaded,
+    board: &Board<Loaded>,
+    maker: &mut Pass<Loaded>,
     loaded: &LoadedCore,
-) -> Result<Worker<MachineCourse>, OutOfMemory>
-    requires there { slice_get job.now.cores loaded.now.place.core ≡ Some loaded.now }
-    requires among { loaded.now.place.core < length job.now.cores }
-    requires board { IsBoardOf job.now board.now }
+) -> Result<Worker<Loaded>, OutOfMemory>
+    requires there { slice_get machine.now.cores loaded.now.place.core ≡ Some loaded.now }
+    requires among { loaded.now.place.core < length machine.now.cores }
+    requires board { IsBoardOf machine.now board.now }
     requires of { IsPassOf board.now maker.old }
-    requires maker { maker.old.view ≡ new_maker (length job.now.cores) (all_operations job.now) }
+    requires maker { maker.old.view ≡ new_maker (length machine.now.cores) (all_operations machine.now) }
     ensures same { maker.new ≡ maker.old }
     ensures number { IfOk result (λ w. number_of w ≡ loaded.now.place.core) }
-    ensures of { IfOk result (λ w. IsAtWork job.now board.now w) }
+    ensures of { IfOk result (λ w. IsAtWork machine.now board.now w) }
 {
-    let core = core_of(alloc, loaded, job.trace())?;
+    let core = core_of(alloc, loaded, machine.trace())?;
     let pass = board.give(rt, maker, loaded.place.core);
-    Ok(worker_of(core, pass, job))
+    Ok(worker_of(core, pass, machine))
 }
 
 // the worker of a core of the machine, before the first cycle, and of that core's new pass
-fn worker_of(core: Core, pass: Pass<MachineCourse>, job: &Loaded) -> Worker<MachineCourse>
-    requires first { IsFirst job.now core }
+fn worker_of(core: Core, pass: Pass<Loaded>, machine: &Loaded) -> Worker<Loaded>
+    requires first { IsFirst machine.now core }
     requires given { IsGiven pass.view }
     requires fresh { own pass.view ≡ empty (number core) }
-    requires cores { pass.view.cores ≡ length job.now.cores }
-    requires course { pass.view.course ≡ all_operations job.now }
-    ensures of { IsWorkerOf job.now result }
-    ensures is { result ≡ face core pass job.now.limit }
+    requires cores { pass.view.cores ≡ length machine.now.cores }
+    requires course { pass.view.course ≡ all_operations machine.now }
+    ensures of { IsWorkerOf machine.now result }
+    ensures is { result ≡ face core pass machine.now.limit }
 {
-    Worker::new(core, pass, job.limit())
+    Worker::new(core, pass, machine.limit())
 }

@@ -2,31 +2,97 @@ use super::*;
 use global_step::{Loaded, LoadedCore};
 use local_store::Cell;
 use patmos_code::Image;
-use patmos_core::CoreState;
+use patmos_core::{Core, CoreState};
 use slot_arbiter::{Access, Place};
 use std::alloc::{AllocError, Global};
 use std::test::Fail;
 use tc_io::FreeGate;
 use tc_word::List;
 
-/// The image of `addi r1 = r0, 7; ret; nop; nop; nop`.
+/// The task of a core.
+#[derive(Clone, Copy)]
+enum Task {
+    /// It has none.
+    Idle,
+    /// `addi r1 = r0, 7; ret; nop; nop; nop`.
+    Seven,
+    /// `addl r2 = r0, 0x01000000; addi r3 = r0, 5; swm [r2 + 0] = r3; ret; nop; nop; nop` from a cycle on: it stores
+    /// 5 in the first word of shared memory.
+    Store { start: u64 },
+    /// `addl r2 = r0, 0x01000000; lwm r3 = [r2 + 0]; nop; lwm r4 = [r2 + 0]; ret; sli r3 = r3, 4; add r1 = r3, r4;
+    /// nop`: it loads that word twice, and the first value counts sixteen times in its result.
+    TwoLoads,
+}
+
+impl Task {
+    fn start(self) -> u64 {
+        match self {
+            Task::Store { start } => start,
+            Task::Idle | Task::Seven | Task::TwoLoads => 0,
+        }
+    }
+
+    fn image(self, alloc: Global) -> Result<Option<Image>, AllocError> {
+        match self {
+            Task::Idle => Ok(None),
+            Task::Seven => Ok(Some(seven(alloc)?)),
+            Task::Store { .. } => Ok(Some(store(alloc)?)),
+            Task::TwoLoads => Ok(Some(two_loads(alloc)?)),
+        }
+    }
+}
+
 fn seven(alloc: Global) -> Result<Image, AllocError> {
     let words = List::of(vec![in alloc; 5, 0x0002_0007, 0x0540_0000, 0, 0, 0]?);
     let starts = List::of(vec![in alloc; 1]?);
     Ok(Image::of(words, starts, List::of(Vec::new(alloc)), 4, 0))
 }
 
-/// Cores of a platform, of which the last has an image.
-fn cores_with(alloc: Global, count: u32, last: Image) -> Result<List<LoadedCore>, AllocError> {
-    let mut image = Some(last);
+fn store(alloc: Global) -> Result<Image, AllocError> {
+    let words = List::of(vec![in alloc;
+        8,
+        0x8584_0000,
+        0x0100_0000,
+        0x0006_0005,
+        0x0446_2180,
+        0x0540_0000,
+        0,
+        0,
+        0,
+    ]?);
+    let starts = List::of(vec![in alloc; 1]?);
+    Ok(Image::of(words, starts, List::of(Vec::new(alloc)), 4, 0))
+}
+
+fn two_loads(alloc: Global) -> Result<Image, AllocError> {
+    let words = List::of(vec![in alloc;
+        9,
+        0x8584_0000,
+        0x0100_0000,
+        0x0406_2180,
+        0,
+        0x0408_2180,
+        0x0540_0000,
+        0x00c6_3004,
+        0x0202_3200,
+        0,
+    ]?);
+    let starts = List::of(vec![in alloc; 1]?);
+    Ok(Image::of(words, starts, List::of(Vec::new(alloc)), 4, 0))
+}
+
+/// The machine of cores with these tasks, of which there are so many, with slots of 6 cycles, a limit of 20,000 cycles,
+/// and so many workers.
+fn machine_of(
+    alloc: Global,
+    count: u32,
+    tasks: &[Task],
+    workers: u32,
+) -> Result<Option<Loaded>, AllocError> {
     let mut cores = Vec::new(alloc);
-    for core in 0..count {
-        let image = if core + 1 == count {
-            image.take()
-        } else {
-            None
-        };
-        if let Some(place) = Place::new(count, core, 6, 0) {
+    for (core, task) in (0..count).zip(tasks) {
+        let image = task.image(alloc)?;
+        if let Some(place) = Place::new(count, core, 6, task.start()) {
             let input = List::of(Vec::new(alloc));
             cores.push(LoadedCore {
                 place,
@@ -35,35 +101,82 @@ fn cores_with(alloc: Global, count: u32, last: Image) -> Result<List<LoadedCore>
             })?;
         }
     }
-    Ok(List::of(cores))
+    Ok(Loaded::new(List::of(cores), 20_000, 9, workers))
+}
+
+/// A task that ended with this value in r1 and that in r2, after so many cycles.
+fn done(value: u32, flag: u32, cycles: u64) -> CoreState {
+    CoreState::Done {
+        value,
+        flag,
+        cycles,
+    }
+}
+
+/// How each of these cores has ended.
+fn outcomes_of(alloc: Global, cores: &[Core]) -> Result<Vec<CoreState>, AllocError> {
+    let mut outcomes = Vec::new(alloc);
+    for core in cores {
+        outcomes.push(outcome_of(core))?;
+    }
+    Ok(outcomes)
+}
+
+/// Shared memory begins here, and the tasks that use it have its place in r2.
+const SHARED: u32 = 0x0100_0000;
+
+#[test]
+fn threads_turns_and_the_plain_run_end_alike(rt: HostRuntime) -> Result<(), Fail> {
+    let alloc = rt.alloc();
+    for (count, tasks, outcomes, shared) in [
+        (1, [Task::Seven].as_slice(), [done(7, 0, 17)].as_slice(), 0),
+        (
+            2,
+            [Task::Idle, Task::Seven].as_slice(),
+            [CoreState::Idle, done(7, 0, 29)].as_slice(),
+            0,
+        ),
+        (
+            2,
+            [Task::Store { start: 12 }, Task::TwoLoads].as_slice(),
+            [done(0, SHARED, 46), done(5, SHARED, 64)].as_slice(),
+            5,
+        ),
+        (
+            3,
+            [Task::Store { start: 18 }, Task::Idle, Task::TwoLoads].as_slice(),
+            [done(0, SHARED, 64), CoreState::Idle, done(5, SHARED, 94)].as_slice(),
+            5,
+        ),
+    ] {
+        let machine = machine_of(alloc, count, tasks, 1)?.expect(&rt, "a machine");
+        for end in [
+            run_plain(alloc, &machine)?,
+            run_by_turns(alloc, &rt, &machine, &FreeGate)?,
+            run_machine(alloc, &rt, &machine, &FreeGate)?,
+        ] {
+            let ended = outcomes_of(alloc, end.cores.as_slice())?;
+            assert_eq!(rt; ended.as_slice(), outcomes);
+            assert_eq!(rt; end.words.as_slice().first(), Some(&shared));
+        }
+    }
+    Ok(())
 }
 
 #[test]
-fn machines_run_to_their_limit(rt: HostRuntime) -> Result<(), Fail> {
+fn a_core_tells_of_its_run(rt: HostRuntime) -> Result<(), Fail> {
     let alloc = rt.alloc();
-    for (count, cycles, fills) in [(1, 17, [0, 6]), (2, 29, [6, 18])] {
-        let cores = cores_with(alloc, count, seven(alloc)?)?;
-        let job = Loaded::new(cores, 100, 9, 1).expect(&rt, "a machine");
-        let end = run_machine(alloc, &rt, &job, &FreeGate)?;
-        let last = end.cores.as_slice().last().expect(&rt, "a core");
-        let done = CoreState::Done {
-            value: 7,
-            flag: 0,
-            cycles,
-        };
-        let fill = |cycle: u64, words: u32| Access {
-            cycle,
-            write: false,
-            words,
-        };
-        assert_eq!(rt; outcome_of(last), done);
-        assert_eq!(rt;
-            accesses_of(last),
-            [fill(fills[0], 4), fill(fills[1], 2)].as_slice()
-        );
-        assert_eq!(rt; dropped_of(last), 0);
-        assert_eq!(rt; own_word_of(last, Cell::Private(4)), 0);
-        assert_eq!(rt; end.words.as_slice().len(), 4096 + 512 * count as usize);
-    }
+    let machine = machine_of(alloc, 2, &[Task::Idle, Task::Seven], 1)?.expect(&rt, "a machine");
+    let end = run_machine(alloc, &rt, &machine, &FreeGate)?;
+    let last = end.cores.as_slice().last().expect(&rt, "a core");
+    let fill = |cycle: u64, words: u32| Access {
+        cycle,
+        write: false,
+        words,
+    };
+    assert_eq!(rt; accesses_of(last), [fill(6, 4), fill(18, 2)].as_slice());
+    assert_eq!(rt; dropped_of(last), 0);
+    assert_eq!(rt; own_word_of(last, Cell::Private(4)), 0);
+    assert_eq!(rt; end.words.as_slice().len(), 4096 + 512 * 2);
     Ok(())
 }

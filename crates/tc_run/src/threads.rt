@@ -3,9 +3,9 @@ ghost use Rattle.std.specs.List.{All};
 ghost use Rattle.core_worker.specs.Worker.{AreLater, IsDone, IsOn};
 ghost use Rattle.tc_run.specs.Carried.{Carries};
 
-use crate::course::MachineCourse;
 use clock_board::Board;
 use core_worker::{Worker, run_all};
+use global_step::Loaded;
 use std::snapshot::Snapshot;
 use std::sync::Wait;
 use std::sync::atomic::{AtomicBool, Ordering};
@@ -15,11 +15,11 @@ use tc_io::Gate;
 /// That the workers that a thread gives back are those that moved into it, later.
 #[derive(Drop)]
 pub(crate) struct SameWorkers {
-    pub(crate) was: Snapshot<Vec<Worker<MachineCourse>>>,
-    pub(crate) board: Snapshot<Board<MachineCourse>>,
+    pub(crate) was: Snapshot<Vec<Worker<Loaded>>>,
+    pub(crate) board: Snapshot<Board<Loaded>>,
 }
 
-impl Promise<Vec<Worker<MachineCourse>>> for SameWorkers {
+impl Promise<Vec<Worker<Loaded>>> for SameWorkers {
     ghost use Rattle.std.specs.List.{All};
     ghost use Rattle.core_worker.specs.Worker.{AreLater, IsOn};
 
@@ -29,11 +29,11 @@ impl Promise<Vec<Worker<MachineCourse>>> for SameWorkers {
 /// What the thread of a group does: it runs the workers, unless its start was refused, and gives them back.
 pub(crate) fn run_group<R: Wait, G: Gate>(
     rt: &R,
-    mut workers: Vec<Worker<MachineCourse>>,
+    mut workers: Vec<Worker<Loaded>>,
     refused: &AtomicBool,
-    board: &Board<MachineCourse>,
+    board: &Board<Loaded>,
     gate: &G,
-) -> Vec<Worker<MachineCourse>>
+) -> Vec<Worker<Loaded>>
     requires on { All (IsOn board.now) workers.items }
     ensures on { All (IsOn board.now) result.items }
     ensures later { AreLater workers.items result.items }
@@ -48,11 +48,11 @@ pub(crate) fn run_group<R: Wait, G: Gate>(
 pub(crate) fn start_group<'s, E, R: Threads + Wait + Sync, G: Gate + Sync>(
     scope: &Scope<'s, E>,
     rt: &'s R,
-    workers: Vec<Worker<MachineCourse>>,
+    workers: Vec<Worker<Loaded>>,
     refused: &'s AtomicBool,
-    board: &'s Board<MachineCourse>,
+    board: &'s Board<Loaded>,
     gate: &'s G,
-) -> Result<PromisedHandle<Vec<Worker<MachineCourse>>, SameWorkers>, Vec<Worker<MachineCourse>>>
+) -> Result<PromisedHandle<Vec<Worker<Loaded>>, SameWorkers>, Vec<Worker<Loaded>>>
     requires on { All (IsOn board.now) workers.items }
     ensures started { IfOk result (λ h.
         (h.promise.was.value ≡ workers) × (h.promise.board.value ≡ board.now)) }
@@ -76,7 +76,7 @@ pub(crate) fn start_group<'s, E, R: Threads + Wait + Sync, G: Gate + Sync>(
 }
 
 /// Puts a group's workers behind others, for which there is room.
-pub(crate) fn gather(all: &mut Vec<Worker<MachineCourse>>, mut group: Vec<Worker<MachineCourse>>)
+pub(crate) fn gather(all: &mut Vec<Worker<Loaded>>, mut group: Vec<Worker<Loaded>>)
     requires room { vec_len all.old + vec_len group ≤ vec_capacity all.old }
     ensures items { all.new.items ≡ all.old.items ++ group.items }
     ensures room { vec_capacity all.old ≤ vec_capacity all.new }
@@ -89,8 +89,8 @@ pub(crate) fn gather(all: &mut Vec<Worker<MachineCourse>>, mut group: Vec<Worker
 /// Runs workers until none of them has an event left.
 pub(crate) fn run_through<R: Wait, G: Gate>(
     rt: &R,
-    workers: &mut Vec<Worker<MachineCourse>>,
-    board: &Board<MachineCourse>,
+    workers: &mut Vec<Worker<Loaded>>,
+    board: &Board<Loaded>,
     gate: &G,
 )
     requires on { All (IsOn board.now) workers.old.items }

@@ -4,6 +4,8 @@
 //! crate needs: quotients and products that read a word as signed or unsigned, shifts by a word, and
 //! the signed order. Each is proved equal to a number that `specs/Word.antt` defines over plain
 //! numbers. `List` and `Text` are a `Vec` and a `String` that contracts see as a list and as bytes.
+//!
+//! What its words mean stands in [the glossary](../../../docs/GLOSSARY.md).
 #![tactic(auto)]
 
 mod lists;

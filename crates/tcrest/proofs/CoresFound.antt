@@ -1,58 +1,37 @@
 -- The cores of a job, one after another.
 use Rattle.std.proofs.Common.{◌≡◌, ℕ, zero, suc, ◌+◌, arith, List, [], ◌∷◌, ◌++◌, length, map, refl, sym, ap, ◌∙◌, subst, append_assoc, Option, Some, None, IfSome, slice_get}
-use Rattle.std.specs.Prelude.{Result, Ok, Err}
+use Rattle.std.proofs.lemmas.List.{map-append, length-map}
 use Rattle.slot_arbiter.specs.declared.place.Place.{Place}
 use Rattle.slot_arbiter.specs.Place.HasNumbers.{HasNumbers}
 use Rattle.patmos_code.specs.Images.{Parts}
-use Rattle.patmos_core.specs.State.{Core}
-use Rattle.patmos_core.specs.Apart.{site_of}
+use Rattle.patmos_model.specs.Apart.{site_of}
 use Rattle.global_step.specs.declared.loaded.LoadedCore.{LoadedCore}
 use Rattle.global_step.specs.Loaded.{IsBeside, AreOnePlatform}
 use Rattle.global_step.specs.Machine.{first_core}
 use Rattle.tc_job.specs.declared.job.Job.{Job}
-use Rattle.tcrest.specs.declared.refusal.CoreRefusal.{CoreRefusal}
-use Rattle.tcrest.specs.declared.refusal.Halt.{Halt}
-use Rattle.tcrest.specs.declared.refusal.Halt.TheVariants.{Refused, Memory}
-use Rattle.tcrest.specs.Gives.{Refuses}
-use Rattle.tcrest.specs.Tasks.{◌>>=◌, task_on}
-use Rattle.tcrest.specs.Machine.{core_on, cores_from, site_on}
+use Rattle.tcrest.specs.declared.tasks.CodedTask.{CodedTask}
+use Rattle.tcrest.specs.Tasks.{Coded}
+use Rattle.tcrest.specs.Coding.{shown, all_shown}
+use Rattle.tcrest.specs.Machine.{core_with, cores_from, site_on}
 use Rattle.tcrest.specs.Loading.{IsPlaced}
 
--- the cores so far, before those to come
-abbrev pub behind : List Core → Result (List Core) CoreRefusal → Result (List Core) CoreRefusal
-behind front later = later >>= λ xs. Ok (front ++ xs)
-
-behind-more : (front : List Core) (x : Core) (later : Result (List Core) CoreRefusal) → behind (front ++ x ∷ []) later ≡ behind front (later >>= λ xs. Ok (x ∷ xs))
-behind-more front x (Ok xs) = ap Ok (append_assoc front (x ∷ []) xs)
-behind-more front x (Err refusal) = refl
-
-at_core : (job : Job) (core count more : ℕ) → count ≡ more + 1 → cores_from job core count ≡ (core_on job core (task_on job.tasks core) >>= λ x. cores_from job (core + 1) more >>= λ xs. Ok (x ∷ xs))
-at_core job core count more is = ap (cores_from job core) (let e : count ≡ suc more = omega (arith, is) in e)
-
-next_core : (job : Job) (core count more : ℕ) (front : List Core) (x : Core) → count ≡ more + 1 → core_on job core (task_on job.tasks core) ≡ Ok x
-    → behind (front ++ x ∷ []) (cores_from job (core + 1) more) ≡ behind front (cores_from job core count)
-next_core job core count more front x left is =
-    behind-more front x (cores_from job (core + 1) more)
-    ∙ ap (behind front) (sym (at_core job core count more left ∙ ap (λ r. r >>= λ first. cores_from job (core + 1) more >>= λ xs. Ok (first ∷ xs)) is))
-
-map-push : (ls : List LoadedCore) (l : LoadedCore) → map first_core (ls ++ l ∷ []) ≡ map first_core ls ++ first_core l ∷ []
-map-push [] l = refl
-map-push (k ∷ ls) l = ap (λ xs. first_core k ∷ xs) (map-push ls l)
+-- one more core stands behind the others
+cores_from-push : (job : Job) (core : ℕ) (cs : List (Option Coded)) (c : Option Coded) → cores_from job core (cs ++ c ∷ []) ≡ cores_from job core cs ++ core_with job (core + length cs) c ∷ []
+cores_from-push job core [] c = let here : core ≡ core + 0 = omega arith in ap (λ n. core_with job n c ∷ []) here
+cores_from-push job core (b ∷ cs) c =
+    let next : core + 1 + length cs ≡ core + suc (length cs) = omega arith in
+    ap (λ xs. core_with job core b ∷ xs) (cores_from-push job (core + 1) cs c ∙ ap (λ n. cores_from job (core + 1) cs ++ core_with job n c ∷ []) next)
 
 -- one more core is loaded
-pub next_loaded : (job : Job) (core count more : ℕ) (front pushed : List LoadedCore) (l : LoadedCore) → count ≡ more + 1 → pushed ≡ front ++ l ∷ []
-    → core_on job core (task_on job.tasks core) ≡ Ok (first_core l)
-    → behind (map first_core pushed) (cores_from job (core + 1) more) ≡ behind (map first_core front) (cores_from job core count)
-next_loaded job core count more front pushed l left push is =
-    ap (λ xs. behind xs (cores_from job (core + 1) more)) (ap (map first_core) push ∙ map-push front l)
-    ∙ next_core job core count more (map first_core front) (first_core l) left is
-
--- where a call stops at a core, it stops as all of it is to
-pub stopped_core : (job : Job) (core count more : ℕ) (front : List Core) (halt : Halt CoreRefusal) (whole : Result (List Core) CoreRefusal) → count ≡ more + 1
-    → Refuses halt (core_on job core (task_on job.tasks core)) → behind front (cores_from job core count) ≡ whole → Refuses halt whole
-stopped_core job core count more front (Refused refusal) whole left is so_far =
-    sym so_far ∙ ap (behind front) (at_core job core count more left ∙ ap (λ r. r >>= λ x. cores_from job (core + 1) more >>= λ xs. Ok (x ∷ xs)) is)
-stopped_core job core count more front Memory whole left is so_far = tt
+pub next_loaded : (job : Job) (core : ℕ) (prefix pushed : List LoadedCore) (l : LoadedCore) (coded more : List (Option CodedTask)) (one : Option CodedTask) → length coded ≡ core → pushed ≡ prefix ++ l ∷ [] → more ≡ coded ++ one ∷ []
+    → first_core l ≡ core_with job core (shown one) → map first_core prefix ≡ cores_from job 0 (all_shown coded) → map first_core pushed ≡ cores_from job 0 (all_shown more)
+next_loaded job core prefix pushed l coded more one count push grown is so_far =
+    let number : 0 + length (all_shown coded) ≡ core = omega (arith, length-map coded shown, count) in
+    ap (map first_core) push ∙ map-append first_core prefix (l ∷ [])
+    ∙ (λ i. so_far i ++ is i ∷ [])
+    ∙ ap (λ n. cores_from job 0 (all_shown coded) ++ core_with job n (shown one) ∷ []) (sym number)
+    ∙ sym (cores_from-push job 0 (all_shown coded) (shown one))
+    ∙ ap (cores_from job 0) (sym (map-append shown coded (one ∷ [])) ∙ sym (ap all_shown grown))
 
 -- each of the cores is at its own place
 abbrev pub ArePlaced : Job → List LoadedCore → Type 0
@@ -64,9 +43,9 @@ get_push [] l (suc k) P each last = tt
 get_push (d ∷ ls) l zero P each last = each 0
 get_push (d ∷ ls) l (suc k) P each last = get_push ls l k (λ j. P (suc j)) (λ j. each (suc j)) last
 
-pub next_placed : (job : Job) (core : ℕ) (front pushed : List LoadedCore) (l : LoadedCore) → length front ≡ core → pushed ≡ front ++ l ∷ [] → IsPlaced job core l → ArePlaced job front → ArePlaced job pushed
-next_placed job core front pushed l count push is so_far = λ k.
-    subst (λ ls. IfSome (slice_get ls k) (IsPlaced job k)) (sym push) (get_push front l k (IsPlaced job) so_far (subst (λ n. IsPlaced job n l) (sym count) is))
+pub next_placed : (job : Job) (core : ℕ) (prefix pushed : List LoadedCore) (l : LoadedCore) → length prefix ≡ core → pushed ≡ prefix ++ l ∷ [] → IsPlaced job core l → ArePlaced job prefix → ArePlaced job pushed
+next_placed job core prefix pushed l count push is so_far = λ k.
+    subst (λ ls. IfSome (slice_get ls k) (IsPlaced job k)) (sym push) (get_push prefix l k (IsPlaced job) so_far (subst (λ n. IsPlaced job n l) (sym count) is))
 
 beside : (job : Job) (n k : ℕ) (first l : LoadedCore) → n ≡ job.cores → IsPlaced job 0 first → IsPlaced job k l → IsBeside n k first.place l.place
 beside job n k first l count one other = record {

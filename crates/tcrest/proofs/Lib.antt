@@ -3,5 +3,6 @@ pub mod Outcomes
 pub mod Periods
 pub mod Pieces
 pub mod CoresFound
-pub mod RowsTold
+pub mod RowsFound
 pub mod TasksFound
+pub mod TasksCoded

@@ -1,39 +1,39 @@
 -- What is written for the words of a command line and the bytes of the input: a status and a text.
-use Rattle.std.specs.Prelude.{ℕ, pos, nat_lt, if◌then◌else◌, List, ◌++◌, length, codes, Result, Ok, Err}
-use Rattle.std.specs.Fmt.{signed_decimal}
-use Rattle.patmos_core.specs.State.{Core}
+use Rattle.std.specs.Prelude.{ℕ, nat_lt, if◌then◌else◌, List, Option, ◌++◌, length, codes, Result, Ok, Err}
+use Rattle.argo_grid.specs.declared.report.GridReport.{GridReport}
+use Rattle.argo_grid.specs.Report as grid
+use Rattle.patmos_model.specs.State.{Core}
 use Rattle.tc_job.specs.Fault.{Fault, fault_text}
 use Rattle.tc_job.specs.Job.{job_of}
 use Rattle.tc_job.specs.declared.job.Job.{Job}
 use Rattle.tc_report.specs.declared.rows.Row.{Row}
+use Rattle.tc_report.specs.Line.{line, core_name}
 use Rattle.tc_report.specs.Report.{report_text}
+use Rattle.tcrest.specs.declared.top.TheConstants.{MOST_BYTES}
 use Rattle.tcrest.specs.declared.answers.Answer.{Answer}
 use Rattle.tcrest.specs.declared.command.Command.{Command}
-use Rattle.tcrest.specs.declared.command.Command.TheVariants.{Job as OfJob, Usage}
+use Rattle.tcrest.specs.declared.command.Command.TheVariants.{OfInput, Usage}
+use Rattle.tcrest.specs.declared.command.InputCommand.{InputCommand}
+use Rattle.tcrest.specs.declared.command.InputCommand.TheVariants.{Job as OfJob, Grid}
 use Rattle.tcrest.specs.declared.command.JobCommand.{JobCommand}
 use Rattle.tcrest.specs.declared.command.JobCommand.TheVariants.{Run, Asm}
 use Rattle.tcrest.specs.declared.refusal.CoreRefusal.{CoreRefusal}
 use Rattle.tcrest.specs.Command.{command_of}
-use Rattle.tcrest.specs.Line.{line}
 use Rattle.tcrest.specs.Listing.{listings}
 use Rattle.tcrest.specs.Machine.{cores_from, machine_of}
 use Rattle.tcrest.specs.Rows.{rows_of, status_of, report_rows}
-use Rattle.tcrest.specs.Tasks.{refusal_text}
+use Rattle.tcrest.specs.Tasks.{Coded, coded_from, refusal_text}
 
 -- an answer of one line
 abbrev pub lone_line : ℕ → List ℕ → Answer
 lone_line status text = record { status = status; text = line text }
 
 abbrev pub usage : Answer
-usage = lone_line 1 (codes "usage: tcrest run|bound|asm|mean|gen N|bench N")
+usage = lone_line 1 (codes "usage: tcrest run|bound|asm|mean|gen N|bench N|grid")
 
 -- the source failed
 abbrev pub read_fault : Answer
 read_fault = lone_line 5 (codes "read fault")
-
--- a job text has at most so many bytes
-abbrev pub most_bytes : ℕ
-most_bytes = 1048576
 
 abbrev pub too_long : Answer
 too_long = lone_line 2 (codes "job: TooLong")
@@ -44,42 +44,54 @@ no_job fault = lone_line 2 (fault_text fault.kind fault.task fault.key)
 
 -- the task of a core is refused
 abbrev pub no_task : CoreRefusal → Answer
-no_task r = lone_line 4 (codes "core " ++ signed_decimal (pos r.core) ++ codes ": " ++ refusal_text r.refusal)
+no_task r = lone_line 4 (core_name r.core ++ codes ": " ++ refusal_text r.refusal)
 
--- a whole text, or a refused task
-abbrev pub text_or : Result (List ℕ) CoreRefusal → Answer
-text_or (Ok text) = record { status = 0; text = text }
-text_or (Err refusal) = no_task refusal
+-- a whole text
+abbrev pub whole : List ℕ → Answer
+whole text = record { status = 0; text = text }
 
 -- the report of rows, under their status
-abbrev pub told : Job → List Row → Answer
-told job rows = record { status = status_of rows; text = report_text (report_rows job rows) }
+abbrev pub reported : Job → List Row → Answer
+reported job rows = record { status = status_of rows; text = report_text (report_rows job rows) }
 
--- what is told of the machine of these cores, at its limit alone
+-- the report of the machine of these cores, at its limit alone
 abbrev pub report_of : Job → List Core → Answer
-report_of job cores = told job (rows_of job.cores job.cycles job.trace (machine_of job cores))
+report_of job cores = reported job (rows_of job.cores job.cycles job.trace (machine_of job cores))
 
--- a report, or a refused task
-abbrev pub report_or : Job → Result (List Core) CoreRefusal → Answer
-report_or job (Ok cores) = report_of job cores
-report_or job (Err refusal) = no_task refusal
+-- what is written for a job whose tasks have these codes
+abbrev pub answer_with : JobCommand → Job → List (Option Coded) → Answer
+answer_with Run job coded = report_of job (cores_from job 0 coded)
+answer_with Asm job coded = whole (listings 0 coded)
+
+-- the same, or a refused task
+abbrev pub answer_or : JobCommand → Job → Result (List (Option Coded)) CoreRefusal → Answer
+answer_or command job (Ok coded) = answer_with command job coded
+answer_or command job (Err refusal) = no_task refusal
 
 -- what is written for a job
 abbrev pub answer_by : JobCommand → Job → Answer
-answer_by Run job = report_or job (cores_from job 0 job.cores)
-answer_by Asm job = text_or (listings job.tasks 0 job.cores)
+answer_by command job = answer_or command job (coded_from job.tasks 0 job.cores)
 
 abbrev pub job_answer : JobCommand → Result Job Fault → Answer
 job_answer command (Err fault) = no_job fault
 job_answer command (Ok job) = answer_by command job
 
-unfoldable pub bytes_answer : JobCommand → List ℕ → Answer
-bytes_answer command bytes = if nat_lt most_bytes (length bytes) then too_long else job_answer command (job_of bytes)
+-- the report on a schedule of the network
+abbrev pub of_grid : GridReport → Answer
+of_grid report = record { status = report.status; text = report.text }
+
+-- what is written for a text that is not too long
+abbrev pub input_answer : InputCommand → List ℕ → Answer
+input_answer (OfJob command) bytes = job_answer command (job_of bytes)
+input_answer Grid bytes = of_grid (grid.report_of bytes)
+
+unfoldable pub bytes_answer : InputCommand → List ℕ → Answer
+bytes_answer command bytes = if nat_lt MOST_BYTES (length bytes) then too_long else input_answer command bytes
 
 abbrev pub command_answer : Command → List ℕ → Answer
-command_answer (OfJob command) bytes = bytes_answer command bytes
+command_answer (OfInput command) bytes = bytes_answer command bytes
 command_answer Usage bytes = usage
 
--- the one order of refusals: words, reading, length, job, tasks by core number
+-- the one order of refusals: words, reading, length, job or schedule, tasks by core number
 abbrev pub answer : List (List ℕ) → List ℕ → Answer
 answer words bytes = command_answer (command_of words) bytes

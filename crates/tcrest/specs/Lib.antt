@@ -1,6 +1,6 @@
-pub mod Line
 pub mod Command
 pub mod Tasks
+pub mod Coding
 pub mod Gives
 pub mod Listing
 pub mod Machine

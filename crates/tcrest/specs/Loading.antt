@@ -1,6 +1,6 @@
 -- A machine that is loaded, against the one that a job asks for.
 use Rattle.std.specs.Prelude.{◌≡◌, ℕ, List, length, map}
-use Rattle.patmos_core.specs.State.{Core}
+use Rattle.patmos_model.specs.State.{Core}
 use Rattle.global_step.specs.declared.loaded.LoadedCore.{LoadedCore}
 use Rattle.global_step.specs.Loaded.{Machine}
 use Rattle.global_step.specs.Machine.{first_core}
@@ -19,3 +19,4 @@ pub record IsLoadedFor (job : Job) (xs : List Core) (m : Machine) : Type 0 where
   pub count : length m.cores ≡ job.cores
   pub limit : m.limit ≡ job.cycles
   pub trace : m.trace ≡ job.trace
+  pub workers : m.workers ≡ job.workers

@@ -1,22 +1,20 @@
 -- The machine that a job asks for: the job's platform, and on each core its task, if it has one.
-use Rattle.std.specs.Prelude.{ℕ, zero, suc, ◌+◌, List, [], ◌∷◌, Option, None, Some, slice_get, Result, Ok}
+use Rattle.std.specs.Prelude.{ℕ, ◌+◌, List, [], ◌∷◌, Option, None, Some, slice_get}
 use Rattle.shared_order.specs.Machine.{State, cycled}
+use Rattle.patmos_code.specs.declared.images.TheConstants.{INPUT_WORDS}
 use Rattle.patmos_code.specs.Images.{Parts, parts}
 use Rattle.patmos_asm.specs.Assembly.{CodeParts}
-use Rattle.patmos_core.specs.Site.{Site}
-use Rattle.patmos_core.specs.State.{Core}
-use Rattle.patmos_core.specs.Begin.{begun, idle, no_code}
-use Rattle.patmos_core.specs.Cycle.{turn}
+use Rattle.patmos_model.specs.Site.{Site}
+use Rattle.patmos_model.specs.State.{Core}
+use Rattle.patmos_model.specs.Begin.{begun, idle, no_code}
+use Rattle.patmos_model.specs.Cycle.{turn}
 use Rattle.global_step.specs.Machine.{core_among}
 use Rattle.tc_job.specs.declared.job.Job.{Job}
-use Rattle.tc_job.specs.declared.task.Task.{Task}
-use Rattle.tcrest.specs.declared.refusal.CoreRefusal.{CoreRefusal}
-use Rattle.tcrest.specs.Tasks.{◌>>=◌, task_on, code_by}
-use Rattle.tcrest.specs.Listing.{on_core}
+use Rattle.tcrest.specs.Tasks.{Coded}
 
 -- the image of a task's code: nothing stands in private memory at first but the input, from word 4 on
 abbrev pub image_of : CodeParts → Parts
-image_of code = parts code.words code.starts [] 4 4096
+image_of code = parts code.words code.starts [] 4 INPUT_WORDS
 
 -- where a core stands on the platform, the cycle at which its task starts, and the task's image
 abbrev pub site_on : Job → ℕ → ℕ → Parts → Site
@@ -33,19 +31,18 @@ site_on job core start image = record {
 abbrev pub idle_on : Job → ℕ → Core
 idle_on job core = idle (site_on job core 0 no_code)
 
-abbrev pub begun_on : Job → ℕ → Task → CodeParts → Core
-begun_on job core t code = begun (site_on job core t.start (image_of code)) t.input
+abbrev pub begun_on : Job → ℕ → Coded → Core
+begun_on job core c = begun (site_on job core c.task.start (image_of c.code)) c.task.input
 
--- the core with its task, if it has one; or the refusal of the task
-abbrev pub core_on : Job → ℕ → Option Task → Result Core CoreRefusal
-core_on job core None = Ok (idle_on job core)
-core_on job core (Some t) = on_core core (code_by t) >>= λ code. Ok (begun_on job core t code)
+-- the core with its task, if it has one
+abbrev pub core_with : Job → ℕ → Option Coded → Core
+core_with job core None = idle_on job core
+core_with job core (Some c) = begun_on job core c
 
--- so many cores, the first of which is this one; or the first refusal
-abbrev pub cores_from : Job → ℕ → ℕ → Result (List Core) CoreRefusal
-cores_from job core zero = Ok []
-cores_from job core (suc count) =
-    core_on job core (task_on job.tasks core) >>= λ x. cores_from job (core + 1) count >>= λ xs. Ok (x ∷ xs)
+-- cores with their tasks, the first of which is this one
+abbrev pub cores_from : Job → ℕ → List (Option Coded) → List Core
+cores_from job core [] = []
+cores_from job core (c ∷ cs) = core_with job core c ∷ cores_from job (core + 1) cs
 
 -- the core with a number; past the last it is one that does nothing
 abbrev pub core_in : List Core → ℕ → Core

@@ -14,14 +14,14 @@ memory = 7
 abbrev pub IsAnswered : Answer → ℕ → Option (List ℕ) → Option (List ℕ) → Type 0
 IsAnswered a status taken taken' = ((status ≡ a.status) × Took taken taken' a.text) ⊎ ((status ≡ memory) × Took taken taken' [])
 
--- a front of the text, and not all of it
+-- a prefix of the text, and not all of it
 abbrev pub IsCutOff : List ℕ → List ℕ → Type 0
-IsCutOff front text = (n : ℕ) × (n < length text) × (front ≡ take n text)
+IsCutOff prefix text = (n : ℕ) × (n < length text) × (prefix ≡ take n text)
 
 -- what was appended, whatever failed: with the statuses 0 to 4 the answer, with 5 the line on the read
--- fault, with 6 a proper front of that line or of the answer's text, and with 7 nothing. A front of the
+-- fault, with 6 a proper prefix of that line or of the answer's text, and with 7 nothing. A prefix of the
 -- line on the read fault is written only where the source's count of faults rose.
-pub record IsToldBy (a : Answer) (read_failed : Type 0) (status : ℕ) (appended : List ℕ) : Type 0 where
+pub record HasWrittenBy (a : Answer) (read_failed : Type 0) (status : ℕ) (appended : List ℕ) : Type 0 where
   pub answered : status < 5 → (status ≡ a.status) × (appended ≡ a.text)
   pub at_read_fault : status ≡ 5 → appended ≡ read_fault.text
   pub at_write_fault : status ≡ 6 → IsCutOff appended a.text ⊎ (IsCutOff appended read_fault.text × read_failed)
@@ -29,12 +29,12 @@ pub record IsToldBy (a : Answer) (read_failed : Type 0) (status : ℕ) (appended
   pub known : status < 8
 
 -- the same of a sink that tells its bytes before and after
-abbrev pub IsTold : Answer → Type 0 → ℕ → Option (List ℕ) → Option (List ℕ) → Type 0
-IsTold a read_failed status None taken' = Unit {0}
-IsTold a read_failed status (Some taken) None = Unit {0}
-IsTold a read_failed status (Some taken) (Some taken') = (appended : List ℕ) × (taken' ≡ taken ++ appended) × IsToldBy a read_failed status appended
+abbrev pub HasWritten : Answer → Type 0 → ℕ → Option (List ℕ) → Option (List ℕ) → Type 0
+HasWritten a read_failed status None taken' = Unit {0}
+HasWritten a read_failed status (Some taken) None = Unit {0}
+HasWritten a read_failed status (Some taken) (Some taken') = (appended : List ℕ) × (taken' ≡ taken ++ appended) × HasWrittenBy a read_failed status appended
 
--- one text was handed to the sink: all of it went out under its status, or a proper front of it and the
+-- one text was handed to the sink: all of it went out under its status, or a proper prefix of it and the
 -- sink's count of faults rose
 abbrev pub IsSent : Answer → ℕ → ℕ → ℕ → Option (List ℕ) → Option (List ℕ) → Type 0
 IsSent a status faults faults' taken taken' =

@@ -3,11 +3,11 @@ use Rattle.std.specs.Prelude.{ℕ, Bool, true, false, List, [], take, map, None}
 use Rattle.std.specs.List.{list_any, range_with_len}
 use Rattle.slot_arbiter.specs.Slot.{period}
 use Rattle.shared_order.specs.Machine.{State}
-use Rattle.patmos_core.specs.declared.state.CoreState.{CoreState}
-use Rattle.patmos_core.specs.declared.state.CoreState.TheVariants as state
-use Rattle.patmos_core.specs.State.{Core}
-use Rattle.patmos_core.specs.Outcome.{state_at}
-use Rattle.patmos_core.specs.Trap.{trap_number}
+use Rattle.patmos_model.specs.declared.state.CoreState.{CoreState}
+use Rattle.patmos_model.specs.declared.state.CoreState.TheVariants as state
+use Rattle.patmos_model.specs.State.{Core}
+use Rattle.patmos_model.specs.Outcome.{state_at}
+use Rattle.patmos_model.specs.Trap.{trap_number}
 use Rattle.tc_job.specs.declared.job.Job.{Job}
 use Rattle.tc_report.specs.declared.rows.Row.{Row}
 use Rattle.tc_report.specs.declared.rows.Rows.{Rows}

@@ -1,16 +1,21 @@
--- The tasks of a job by the numbers of their cores, and the code of each.
-use Rattle.std.specs.Prelude.{ℕ, pos, ◌==◌, List, ◌++◌, codes, Option, Result, Ok, Err}
+-- The tasks of a job by the numbers of their cores, and the code of each: found in one pass over the cores, which the
+-- first refused task ends.
+use Rattle.std.specs.Prelude.{ℕ, zero, suc, ◌+◌, ◌==◌, List, [], ◌∷◌, ◌++◌, codes, Option, Some, None, Result, Ok, Err}
 use Rattle.std.specs.List.{find}
-use Rattle.std.specs.Fmt.{signed_decimal}
-use Rattle.patmos_asm.specs.declared.faults.AsmKind.{AsmKind}
-use Rattle.patmos_asm.specs.declared.faults.AsmKind.TheVariants.{Mnemonic, Operand, Range, Slot, NoLabel, LabelTwice, TooLarge, NoFunction}
+use Rattle.std.specs.Fmt.{decimal}
+use Rattle.c_tree.specs.declared.tokens.Token.{Token}
+use Rattle.c_lex.specs.Texts.{Lexed, tokens, no_token, too_wide, lexed}
+use Rattle.c_parse.specs.Answers.{place_of}
+use Rattle.patmos_syntax.specs.declared.faults.AsmKind.{AsmKind}
+use Rattle.patmos_syntax.specs.declared.faults.AsmKind.TheVariants.{Mnemonic, Operand, Range, Slot, NoLabel, LabelTwice, TooLarge, NoFunction}
 use Rattle.patmos_asm.specs.declared.faults.AsmFault.{AsmFault}
 use Rattle.patmos_asm.specs.Assembly.{CodeParts, code_of}
 use Rattle.tc_job.specs.declared.task.Task.{Task}
 use Rattle.tc_job.specs.declared.task.Lang.{Lang}
 use Rattle.tc_job.specs.declared.task.Lang.TheVariants.{Asm, C}
+use Rattle.tcrest.specs.declared.refusal.CoreRefusal.{CoreRefusal}
 use Rattle.tcrest.specs.declared.refusal.Refusal.{Refusal}
-use Rattle.tcrest.specs.declared.refusal.Refusal.TheVariants.{Faulty, Later}
+use Rattle.tcrest.specs.declared.refusal.Refusal.TheVariants.{Faulty, Char, Wide, Syntax, Later}
 
 infixl 10 ◌>>=◌
 -- goes on with the value, or stops at the refusal
@@ -27,13 +32,44 @@ abbrev pub coded : Result CodeParts AsmFault → Result CodeParts Refusal
 coded (Ok code) = Ok code
 coded (Err fault) = Err (Faulty fault)
 
--- the code of a task; a C task comes later
+-- tokens are refused where they are no program; the code of a program comes later
+abbrev pub parsed : List Token → Result CodeParts Refusal
+parsed ts = elim (place_of ts) as (λ _. Result CodeParts Refusal) [ None ↦ Err Later | Some at ↦ Err (Syntax at) ]
+
+-- a C text is refused where it has no tokens, or these are no program
+abbrev pub compiled : Lexed → Result CodeParts Refusal
+compiled (tokens ts) = parsed ts
+compiled (no_token at) = Err (Char at)
+compiled (too_wide at) = Err (Wide at)
+
+-- the code of a task
 abbrev pub code_in : Lang → List ℕ → Result CodeParts Refusal
 code_in Asm source = coded (code_of source)
-code_in C source = Err Later
+code_in C source = compiled (lexed source)
 
 abbrev pub code_by : Task → Result CodeParts Refusal
 code_by t = code_in t.lang t.source
+
+-- a refusal of a core's task
+abbrev pub on_core : {A : Type 0} → ℕ → Result A Refusal → Result A CoreRefusal
+on_core core (Ok x) = Ok x
+on_core core (Err refusal) = Err (record { core = core; refusal = refusal })
+
+-- a task and its code
+pub record Coded : Type 0 where
+  pub task : Task
+  pub code : CodeParts
+
+-- a core's task with its code, if it has one
+abbrev pub coded_on : ℕ → Option Task → Result (Option Coded) CoreRefusal
+coded_on core None = Ok None
+coded_on core (Some t) = on_core core (code_by t) >>= λ code. Ok (Some (record { task = t; code = code }))
+
+-- those of so many cores, the first of which is this one; or the first refusal
+abbrev pub coded_from : List Task → ℕ → ℕ → Result (List (Option Coded)) CoreRefusal
+coded_from tasks core zero = Ok []
+coded_from tasks core (suc count) =
+    coded_on core (task_on tasks core) >>= λ c. coded_from tasks (core + 1) count >>= λ cs. Ok (c ∷ cs)
 
 -- the names of faults of assembly text
 abbrev pub fault_name : AsmKind → List ℕ
@@ -46,7 +82,14 @@ fault_name LabelTwice = codes "LabelTwice"
 fault_name TooLarge = codes "TooLarge"
 fault_name NoFunction = codes "NoFunction"
 
+-- a fault and its place in the text: in bytes, or for its syntax in tokens
+abbrev pub at_place : List ℕ → ℕ → List ℕ
+at_place name at = name ++ codes " at " ++ decimal at
+
 -- what is written of a refusal, behind its core
 abbrev pub refusal_text : Refusal → List ℕ
 refusal_text Later = codes "Later"
-refusal_text (Faulty fault) = fault_name fault.fault ++ codes " line " ++ signed_decimal (pos fault.line)
+refusal_text (Char at) = at_place (codes "Char") at
+refusal_text (Wide at) = at_place (codes "Wide") at
+refusal_text (Syntax at) = at_place (codes "Syntax") at
+refusal_text (Faulty fault) = fault_name fault.fault ++ codes " line " ++ decimal fault.line

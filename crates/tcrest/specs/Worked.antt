@@ -34,4 +34,4 @@ lone_job cycles = record {
 
 -- the rows of its machine, where the task has that code
 abbrev pub lone_rows : ℕ → List Row
-lone_rows cycles = rows_of 1 cycles 4 (machine_of (lone_job cycles) (begun_on (lone_job cycles) 0 lone_task seven ∷ []))
+lone_rows cycles = rows_of 1 cycles 4 (machine_of (lone_job cycles) (begun_on (lone_job cycles) 0 (record { task = lone_task; code = seven }) ∷ []))

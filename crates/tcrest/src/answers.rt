@@ -1,16 +1,20 @@
 ghost use Rattle.std.specs.Prelude as prelude;
-ghost use Rattle.std.specs.Prelude.{◌≡◌, IfOk};
-ghost use Rattle.patmos_core.specs.State as state;
+ghost use Rattle.std.specs.Prelude.{◌≡◌, All, IfOk, length};
+ghost use Rattle.argo_grid.specs.Report as grid;
+ghost use Rattle.patmos_model.specs.State as state;
 ghost use Rattle.tc_job.specs.Job.{job_of};
 ghost use Rattle.tc_job.specs.Ranges.{KeepsRanges};
 ghost use Rattle.tcrest.specs.Answer as specs;
+ghost use Rattle.tcrest.specs.Coding.{all_shown, IsAmong};
 ghost use Rattle.tcrest.specs.Loading.{IsLoadedFor};
 
-use crate::command::JobCommand;
+use crate::command::{InputCommand, JobCommand};
 use crate::listing::listings;
 use crate::loading::loaded_of;
 use crate::refusal::{Halt, refusal_answer};
-use crate::rows::{report_of, rows_of, status_of};
+use crate::rows::{report_text_of, rows_of, status_of};
+use crate::tasks::{CodedTask, coded_tasks};
+use argo_grid::{GridReport, grid_report};
 use global_step::Loaded;
 use std::alloc::{AllocError, Global};
 use std::sync::Wait;
@@ -28,8 +32,32 @@ pub struct Answer {
     pub text: List<u8>,
 }
 
-/// The answer that a command owes these bytes, which are no more than a job text may have.
-pub fn job_answer<R: Threads + Wait + Sync, G: Gate + Sync>(
+/// The answer that a command owes these bytes, which are no more than a text may have.
+pub fn input_answer<R: Threads + Wait + Sync, G: Gate + Sync>(
+    alloc: Global,
+    rt: &R,
+    command: InputCommand,
+    bytes: &[u8],
+    gate: &G,
+) -> Result<Answer, OutOfMemory>
+    ensures { IfOk result (λ answer. answer ≡ specs.input_answer command bytes.now) }
+{
+    match command {
+        InputCommand::Job(command) => job_answer(alloc, rt, command, bytes, gate),
+        InputCommand::Grid => grid_answer(alloc, bytes),
+    }
+}
+
+// the answer to the bytes of a schedule of the network
+fn grid_answer(alloc: Global, bytes: &[u8]) -> Result<Answer, OutOfMemory>
+    ensures { IfOk result (λ answer. answer ≡ specs.of_grid (grid.report_of bytes.now)) }
+{
+    let GridReport { status, text } = grid_report(alloc, bytes)?;
+    Ok(Answer { status, text })
+}
+
+// the answer to the bytes of a job
+fn job_answer<R: Threads + Wait + Sync, G: Gate + Sync>(
     alloc: Global,
     rt: &R,
     command: JobCommand,
@@ -72,31 +100,38 @@ fn answer_by<R: Threads + Wait + Sync, G: Gate + Sync>(
     requires { KeepsRanges job.now }
     ensures { IfOk result (λ answer. answer ≡ specs.answer_by command job.now) }
 {
-    match command {
-        JobCommand::Run => report_or(alloc, rt, job, gate),
-        JobCommand::Asm => listings_or(alloc, job),
-    }
-}
-
-// the report, or the refusal of a task
-fn report_or<R: Threads + Wait + Sync, G: Gate + Sync>(
-    alloc: Global,
-    rt: &R,
-    job: &Job,
-    gate: &G,
-) -> Result<Answer, OutOfMemory>
-    requires { KeepsRanges job.now }
-    ensures { IfOk result (λ answer. answer ≡ specs.answer_by JobCommand.Run job.now) }
-{
-    match loaded_of(alloc, job) {
-        Ok(loaded) => report_of_run(alloc, rt, job, &loaded, gate),
+    match coded_tasks(alloc, job) {
+        Ok(coded) => answer_with(alloc, rt, command, job, coded, gate),
         Err(Halt::Refused(refused)) => refusal_answer(alloc, refused),
         Err(Halt::Memory) => Err(AllocError),
     }
 }
 
+// the answer to a job whose tasks have these codes
+fn answer_with<R: Threads + Wait + Sync, G: Gate + Sync>(
+    alloc: Global,
+    rt: &R,
+    command: JobCommand,
+    job: &Job,
+    coded: Vec<Option<CodedTask<'_>>>,
+    gate: &G,
+) -> Result<Answer, OutOfMemory>
+    requires ranges { KeepsRanges job.now }
+    requires count { length coded.items ≡ job.now.cores }
+    requires among { All (IsAmong job.now.cores) coded.items }
+    ensures { IfOk result (λ answer. answer ≡ specs.answer_with command job.now (all_shown coded.entry.items)) }
+{
+    match command {
+        JobCommand::Run => {
+            let loaded = loaded_of(alloc, job, coded)?;
+            report_of(alloc, rt, job, &loaded, gate)
+        }
+        JobCommand::Asm => Ok(whole(listings(alloc, coded.as_slice())?)),
+    }
+}
+
 // the report of the machine of a job
-fn report_of_run<R: Threads + Wait + Sync, G: Gate + Sync>(
+fn report_of<R: Threads + Wait + Sync, G: Gate + Sync>(
     alloc: Global,
     rt: &R,
     job: &Job,
@@ -109,34 +144,25 @@ fn report_of_run<R: Threads + Wait + Sync, G: Gate + Sync>(
 {
     let end = run_machine(alloc, rt, loaded, gate)?;
     let rows = rows_of(alloc, end.cores.as_slice())?;
-    told(alloc, job, rows)
+    reported(alloc, job, rows)
 }
 
 // the report of rows, under their status
-fn told(alloc: Global, job: &Job, rows: Vec<Row>) -> Result<Answer, OutOfMemory>
+fn reported(alloc: Global, job: &Job, rows: Vec<Row>) -> Result<Answer, OutOfMemory>
     requires { KeepsRanges job.now }
-    ensures { IfOk result (λ answer. answer ≡ specs.told job.now rows.items) }
+    ensures { IfOk result (λ answer. answer ≡ specs.reported job.now rows.items) }
 {
     let status = status_of(rows.as_slice());
-    let text = List::of(report_of(alloc, job, rows)?);
+    let text = List::of(report_text_of(alloc, job, rows)?);
     Ok(Answer { status, text })
 }
 
-// the listings, or the refusal of a task
-fn listings_or(alloc: Global, job: &Job) -> Result<Answer, OutOfMemory>
-    ensures { IfOk result (λ answer. answer ≡ specs.answer_by JobCommand.Asm job.now) }
-{
-    match listings(alloc, job.tasks.as_slice(), job.cores) {
-        Ok(text) => whole(text),
-        Err(Halt::Refused(refused)) => refusal_answer(alloc, refused),
-        Err(Halt::Memory) => Err(AllocError),
-    }
-}
-
 // a whole text
-fn whole(text: Vec<u8>) -> Result<Answer, OutOfMemory>
-    ensures { IfOk result (λ answer. answer ≡ record { status = 0; text = text.items }) }
+fn whole(text: Vec<u8>) -> Answer
+    ensures { result ≡ specs.whole text.items }
 {
-    let text = List::of(text);
-    Ok(Answer { status: 0, text })
+    Answer {
+        status: 0,
+        text: List::of(text),
+    }
 }

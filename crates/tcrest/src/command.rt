@@ -6,10 +6,19 @@ use tc_word::Text;
 /// What the words of the command line ask for.
 #[derive(Clone, Copy, Debug, PartialEq, Eq)]
 pub enum Command {
-    /// Something about the job on the input.
-    Job(JobCommand),
+    /// Something about the text on the input.
+    OfInput(InputCommand),
     /// The words are no command: the usage line.
     Usage,
+}
+
+/// What a command asks of the text on the input.
+#[derive(Clone, Copy, Debug, PartialEq, Eq)]
+pub enum InputCommand {
+    /// Something about the job that it is.
+    Job(JobCommand),
+    /// The check of the network schedule that it is.
+    Grid,
 }
 
 /// What a command asks of the job on the input.
@@ -28,9 +37,11 @@ pub fn command_of(words: &[Text]) -> Command
     match words {
         [word] => {
             if word.as_str() == "run" {
-                Command::Job(JobCommand::Run)
+                Command::OfInput(InputCommand::Job(JobCommand::Run))
             } else if word.as_str() == "asm" {
-                Command::Job(JobCommand::Asm)
+                Command::OfInput(InputCommand::Job(JobCommand::Asm))
+            } else if word.as_str() == "grid" {
+                Command::OfInput(InputCommand::Grid)
             } else {
                 Command::Usage
             }

@@ -1,11 +1,12 @@
 ghost use Rattle.std.specs.Prelude.{◌≡◌, ℕ, ◌<◌, ◌↔◌, false, List, [], ◌∷◌, length, map, codes};
-ghost use Rattle.patmos_core.specs.State.{Core};
+ghost use Rattle.patmos_model.specs.State.{Core};
 ghost use Rattle.global_step.specs.Loaded.{Machine};
 ghost use Rattle.global_step.specs.Machine.{at_limit};
 ghost use Rattle.tc_job.specs.declared.job.Job.{Job as JobParts};
 ghost use Rattle.tc_report.specs.declared.rows.RowState.TheVariants.{Limit, Done};
-ghost use Rattle.tcrest.specs.declared.command.Command.TheVariants.{Job, Usage};
-ghost use Rattle.tcrest.specs.declared.command.JobCommand.{JobCommand};
+ghost use Rattle.tcrest.specs.declared.command.Command.TheVariants.{OfInput, Usage};
+ghost use Rattle.tcrest.specs.declared.command.InputCommand.{InputCommand};
+ghost use Rattle.tcrest.specs.declared.command.InputCommand.TheVariants.{Job, Grid};
 ghost use Rattle.tcrest.specs.declared.command.JobCommand.TheVariants.{Run, Asm};
 ghost use Rattle.tcrest.specs.Answer.{answer, bytes_answer, too_long, usage};
 ghost use Rattle.tcrest.specs.Command.{command_of};
@@ -14,19 +15,22 @@ ghost use Rattle.tcrest.specs.Machine.{machine_of};
 ghost use Rattle.tcrest.specs.Rows.{status_of};
 ghost use Rattle.tcrest.specs.Worked.{lone_rows};
 
+use crate::top::MOST_BYTES;
+
 /// When the answers of usage and of a text that is too long come.
 pub fn refusals_in_order()
     // Status 1 comes exactly where the words are no command.
     ensures usage { (words : List (List ℕ)) (bytes : List ℕ) → ((answer words bytes).status ≡ 1) ↔ (command_of words ≡ Usage) }
-    ensures run { (words : List (List ℕ)) → (command_of words ≡ Job Run) ↔ (words ≡ codes "run" ∷ []) }
-    ensures asm { (words : List (List ℕ)) → (command_of words ≡ Job Asm) ↔ (words ≡ codes "asm" ∷ []) }
+    ensures run { (words : List (List ℕ)) → (command_of words ≡ OfInput (Job Run)) ↔ (words ≡ codes "run" ∷ []) }
+    ensures asm { (words : List (List ℕ)) → (command_of words ≡ OfInput (Job Asm)) ↔ (words ≡ codes "asm" ∷ []) }
+    ensures grid { (words : List (List ℕ)) → (command_of words ≡ OfInput Grid) ↔ (words ≡ codes "grid" ∷ []) }
 
-    // A job text is too long exactly where it has more than 1,048,576 bytes.
-    ensures too_long { (command : JobCommand) (bytes : List ℕ) → (bytes_answer command bytes ≡ too_long) ↔ (1048576 < length bytes) }
+    // A text is too long exactly where it has more than `MOST_BYTES` bytes.
+    ensures too_long { (command : InputCommand) (bytes : List ℕ) → (bytes_answer command bytes ≡ too_long) ↔ (MOST_BYTES < length bytes) }
 {}
 
 /// The rows of a small job, computed by the checker: its task ends at cycle 17, behind two transactions.
-#[tactic(auto, unfolding(crate::specs::Machine::machine_of, patmos_code::specs::Codes::code, patmos_code::specs::Decoding::bundle_at, patmos_core::specs::Flows::flowed, patmos_core::specs::Checks::fault_of, patmos_core::specs::Bundle::fetched_at, patmos_core::specs::Transaction::transaction))]
+#[tactic(auto, unfolding(crate::specs::Machine::machine_of, patmos_code::specs::Codes::code, patmos_code::specs::Decoding::bundle_at, patmos_model::specs::Flows::flowed, patmos_model::specs::Checks::fault_of, patmos_model::specs::Bundle::fetched_at, patmos_model::specs::Transaction::transaction))]
 pub fn worked_run()
     ensures done { map (λ row. row.state) (lone_rows 17) ≡ Done 7 17 ∷ [] }
     ensures accesses { map (λ row. row.accesses) (lone_rows 17) ≡

@@ -1,35 +1,36 @@
-ghost use Rattle.std.specs.Prelude.{◌≡◌, ℕ, List, Option, ◌<◌, ◌≤◌, length, map, option_map, slice_get, IfOk, IfSome};
+ghost use Rattle.std.specs.Prelude.{◌≡◌, ℕ, List, Option, All, ◌<◌, ◌≤◌, length, map, IfOk, IfSome};
 ghost use Rattle.patmos_code.specs.Images.{Parts};
-ghost use Rattle.patmos_core.specs.Apart.{site_of};
+ghost use Rattle.patmos_model.specs.Apart.{site_of};
 ghost use Rattle.tc_job.specs.Ranges.{KeepsRanges, IsTaskAmong};
 ghost use Rattle.global_step.specs.Machine.{first_core};
 ghost use Rattle.global_step.specs.Loaded.{AreOnePlatform};
 ghost use Rattle.tcrest.specs.Machine as specs;
-ghost use Rattle.tcrest.specs.Loading.{IsPlaced};
-ghost use Rattle.tcrest.specs.Gives.{Gives};
+ghost use Rattle.tcrest.specs.Coding.{coded_of, shown, all_shown, IsAmong};
+ghost use Rattle.tcrest.specs.Loading.{IsLoadedFor, IsPlaced};
 
-use crate::listing::on_core;
-use crate::refusal::{CoreRefusal, Halt};
-use crate::tasks::{code_by, task_on};
+use crate::tasks::CodedTask;
 use global_step::{Loaded, LoadedCore};
-use patmos_asm::{Code, image_of};
-use slot_arbiter::{Place, Table};
+use patmos_asm::image_of;
+use slot_arbiter::{LATEST_START, Place, Table};
 use std::alloc::Global;
-use tc_job::{Job, Task};
+use tc_job::Job;
 use tc_word::{List, OutOfMemory};
 
-/// The machine of a job, or the refusal of a task.
-pub fn loaded_of(alloc: Global, job: &Job) -> Result<Loaded, Halt<CoreRefusal>>
-    requires { KeepsRanges job.now }
-    ensures cores { Gives (λ m. map first_core m.cores) result (specs.cores_from job.now 0 job.now.cores) }
-    ensures count { IfOk result (λ m. length m.cores ≡ job.now.cores) }
-    ensures limit { IfOk result (λ m. m.limit ≡ job.now.cycles) }
-    ensures trace { IfOk result (λ m. m.trace ≡ job.now.trace) }
+// A task's image has room for all the input that a job can state.
+const _: () = prove!(tc_job::MOST_INPUT_WORDS <= patmos_code::INPUT_WORDS as usize);
+
+/// The machine of a job whose tasks have these codes, one of which may stand for each core.
+pub fn loaded_of(
+    alloc: Global,
+    job: &Job,
+    coded: Vec<Option<CodedTask<'_>>>,
+) -> Result<Loaded, OutOfMemory>
+    requires ranges { KeepsRanges job.now }
+    requires count { length coded.items ≡ job.now.cores }
+    requires among { All (IsAmong job.now.cores) coded.items }
+    ensures { IfOk result (IsLoadedFor job.now (specs.cores_from job.now 0 (all_shown coded.entry.items))) }
 {
-    let cores = match cores_of(alloc, job) {
-        Ok(cores) => List::of(cores),
-        Err(halt) => return Err(halt),
-    };
+    let cores = List::of(cores_of(alloc, job, coded)?);
     match Loaded::new(cores, job.cycles, job.trace, job.workers) {
         Some(loaded) => Ok(loaded),
         None => unreachable!(),
@@ -37,48 +38,42 @@ pub fn loaded_of(alloc: Global, job: &Job) -> Result<Loaded, Halt<CoreRefusal>>
 }
 
 // its cores
-fn cores_of(alloc: Global, job: &Job) -> Result<Vec<LoadedCore>, Halt<CoreRefusal>>
-    requires { KeepsRanges job.now }
-    ensures cores { Gives (λ cores. map first_core cores.items) result (specs.cores_from job.now 0 job.now.cores) }
+fn cores_of(
+    alloc: Global,
+    job: &Job,
+    coded: Vec<Option<CodedTask<'_>>>,
+) -> Result<Vec<LoadedCore>, OutOfMemory>
+    requires ranges { KeepsRanges job.now }
+    requires count { length coded.items ≡ job.now.cores }
+    requires among { All (IsAmong job.now.cores) coded.items }
+    ensures cores { IfOk result (λ cores. map first_core cores.items ≡ specs.cores_from job.now 0 (all_shown coded.entry.items)) }
     ensures count { IfOk result (λ cores. length cores.items ≡ job.now.cores) }
     ensures platform { IfOk result (λ cores. AreOnePlatform cores.items) }
 {
     let mut cores = Vec::new(alloc);
-    for core in 0..job.cores {
-        let loaded = match core_on(alloc, job, task_on(job.tasks.as_slice(), core), core) {
-            Ok(loaded) => loaded,
-            Err(halt) => return Err(halt),
-        };
-        if cores.push(loaded).is_err() {
-            return Err(Halt::Memory);
-        }
+    for one in coded {
+        let core = cores.len() as u32;
+        cores.push(core_with(alloc, job, core, one)?)?;
     }
     Ok(cores)
 }
 
 // a core with its task, if it has one
-fn core_on(
+fn core_with(
     alloc: Global,
     job: &Job,
-    task: Option<&Task>,
     core: u32,
-) -> Result<LoadedCore, Halt<CoreRefusal>>
+    coded: Option<CodedTask<'_>>,
+) -> Result<LoadedCore, OutOfMemory>
     requires ranges { KeepsRanges job.now }
-    requires among { core < job.now.cores }
-    requires task { IfSome (option_map (λ t. t.now) task) (IsTaskAmong job.now.cores) }
-    ensures core { Gives first_core result (specs.core_on job.now core (option_map (λ t. t.now) task.entry)) }
+    requires number { core < job.now.cores }
+    requires among { IsAmong job.now.cores coded }
+    ensures core { IfOk result (λ l. first_core l ≡ specs.core_with job.now core (shown coded.entry)) }
     ensures placed { IfOk result (IsPlaced job.now core) }
 {
-    let Some(task) = task else {
-        return Ok(idle_on(alloc, job, core));
-    };
-    let code = match code_by(alloc, task) {
-        Ok(code) => code,
-        Err(halt) => return Err(on_core(core, halt)),
-    };
-    match begun_on(alloc, job, core, task, code) {
-        Ok(loaded) => Ok(loaded),
-        Err(_) => Err(Halt::Memory),
+    match coded {
+        Some(coded) => begun_on(alloc, job, core, coded),
+        None => Ok(idle_on(alloc, job, core)),
     }
 }
 
@@ -96,20 +91,20 @@ fn idle_on(alloc: Global, job: &Job, core: u32) -> LoadedCore
     }
 }
 
-// a core with its task, and the code of it
+// a core with its task
 fn begun_on(
     alloc: Global,
     job: &Job,
     core: u32,
-    task: &Task,
-    code: Code,
+    coded: CodedTask<'_>,
 ) -> Result<LoadedCore, OutOfMemory>
     requires ranges { KeepsRanges job.now }
-    requires among { core < job.now.cores }
-    requires task { IsTaskAmong job.now.cores task.now }
-    ensures core { IfOk result (λ l. first_core l ≡ specs.begun_on job.now core task.now code) }
+    requires number { core < job.now.cores }
+    requires task { IsTaskAmong job.now.cores coded.task.now }
+    ensures core { IfOk result (λ l. first_core l ≡ specs.begun_on job.now core (coded_of coded.entry)) }
     ensures placed { IfOk result (IsPlaced job.now core) }
 {
+    let CodedTask { task, code } = coded;
     let input = List::of(Vec::from_slice(alloc, task.input.as_slice())?);
     Ok(LoadedCore {
         place: place_of(job, core, task.start),
@@ -123,7 +118,7 @@ fn begun_on(
 fn place_of(job: &Job, core: u32, start: u64) -> Place
     requires ranges { KeepsRanges job.now }
     requires among { core < job.now.cores }
-    requires start { start ≤ 20000000 }
+    requires start { start ≤ LATEST_START }
     ensures site { (image : Parts) → site_of result image ≡ specs.site_on job.now core start image }
     ensures placed { (image : Option Parts) (input : List ℕ) → IsPlaced job.now core (record { place = result; image = image; input = input }) }
 {

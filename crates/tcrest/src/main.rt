@@ -3,6 +3,8 @@
 //! The program reads a job on standard input, as its words say, and writes its report on standard
 //! output. All that it does stands in `tcrest`, whose contract says what is written and which status
 //! comes; `main` only makes the words, the real input and output, and the gate that holds nobody.
+//!
+//! What its words mean stands in [the glossary](../../../docs/GLOSSARY.md).
 #![tactic(auto)]
 
 mod answers;
@@ -10,11 +12,11 @@ mod command;
 mod laws;
 mod listing;
 mod loading;
-#[cfg(test)]
-mod machine_tests;
 mod refusal;
 mod rows;
 mod tasks;
+#[cfg(test)]
+mod test_jobs;
 #[cfg(test)]
 mod tests;
 #[cfg(test)]

@@ -5,7 +5,8 @@ ghost use Rattle.tcrest.specs.Answer as answers;
 use crate::answers::Answer;
 use patmos_asm::{AsmFault, AsmKind};
 use std::alloc::Global;
-use tc_io::put_decimal;
+use tc_io::put_number;
+use tc_report::put_core_name;
 use tc_word::{List, OutOfMemory};
 
 /// Why a task is refused.
@@ -13,6 +14,12 @@ use tc_word::{List, OutOfMemory};
 pub enum Refusal {
     /// Its text is no assembly.
     Faulty(AsmFault),
+    /// No token of C begins at this byte of its text.
+    Char { at: u32 },
+    /// A number that begins at this byte of its text is above 2^32 - 1.
+    Wide { at: u32 },
+    /// Its tokens are no program: so many of the first ones can go on, and no more.
+    Syntax { at: u32 },
     /// It can't be taken yet.
     Later,
 }
@@ -47,8 +54,7 @@ pub fn refusal_answer(alloc: Global, refused: CoreRefusal) -> Result<Answer, Out
     ensures { IfOk result (λ answer. answer ≡ answers.no_task refused) }
 {
     let mut text = Vec::new(alloc);
-    text.extend_from_slice(b"core ")?;
-    put_decimal(&mut text, i64::from(refused.core))?;
+    put_core_name(&mut text, u64::from(refused.core))?;
     text.extend_from_slice(b": ")?;
     put_refusal(&mut text, refused.refusal)?;
     text.extend_from_slice(b"\n")?;
@@ -61,12 +67,24 @@ fn put_refusal(text: &mut Vec<u8>, refusal: Refusal) -> Result<(), OutOfMemory>
 {
     match refusal {
         Refusal::Later => text.extend_from_slice(b"Later"),
+        Refusal::Char { at } => put_place(text, b"Char", at),
+        Refusal::Wide { at } => put_place(text, b"Wide", at),
+        Refusal::Syntax { at } => put_place(text, b"Syntax", at),
         Refusal::Faulty(fault) => {
             text.extend_from_slice(name_of(fault.fault))?;
             text.extend_from_slice(b" line ")?;
-            put_decimal(text, i64::from(fault.line))
+            put_number(text, u64::from(fault.line))
         }
     }
+}
+
+// a fault and its place in the text
+fn put_place(text: &mut Vec<u8>, name: &[u8], at: u32) -> Result<(), OutOfMemory>
+    ensures { OnOk result (text.new.items ≡ text.old.items ++ specs.at_place name.now at) }
+{
+    text.extend_from_slice(name)?;
+    text.extend_from_slice(b" at ")?;
+    put_number(text, u64::from(at))
 }
 
 fn name_of(fault: AsmKind) -> &'static [u8]

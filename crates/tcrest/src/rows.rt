@@ -79,8 +79,8 @@ fn is_early(state: RowState) -> bool
     matches!(state, RowState::Limit | RowState::Trap { .. })
 }
 
-/// The report of the rows of all cores.
-pub fn report_of(alloc: Global, job: &Job, rows: Vec<Row>) -> Result<Vec<u8>, OutOfMemory>
+/// The text of the report of the rows of all cores.
+pub fn report_text_of(alloc: Global, job: &Job, rows: Vec<Row>) -> Result<Vec<u8>, OutOfMemory>
     requires { KeepsRanges job.now }
     ensures { IfOk result (λ text. text.items ≡ report_text (specs.report_rows job.now rows.items)) }
 {

@@ -1,32 +1,117 @@
-ghost use Rattle.std.specs.Prelude.{◌≡◌, option_map};
+ghost use Rattle.std.specs.Prelude.{◌≡◌, ◌<◌, ◌^◌, All, IfOk, length, option_map};
+ghost use Rattle.c_lex.specs.Texts.{lexed};
 ghost use Rattle.patmos_asm.specs.Assembly.{code_of};
+ghost use Rattle.tc_job.specs.Ranges.{IsTaskAmong};
 ghost use Rattle.tcrest.specs.Tasks as specs;
+ghost use Rattle.tcrest.specs.Coding.{shown, all_shown, IsAmong};
 ghost use Rattle.tcrest.specs.Gives.{Gives};
 
-use crate::refusal::{Halt, Refusal};
+use crate::refusal::{CoreRefusal, Halt, Refusal};
+use c_lex::{LexFault, lex};
+use c_parse::{ParseFault, parse};
+use c_tree::Token;
 use patmos_asm::{AsmError, Code, assemble};
 use std::alloc::Global;
-use tc_job::{Lang, Task};
+use tc_job::{Job, Lang, Task};
+use tc_word::List;
 
-/// The task of a core, if it has one.
-pub fn task_on(tasks: &[Task], core: u32) -> Option<&Task>
+/// A task and its code.
+#[derive(Drop)]
+pub struct CodedTask<'a> {
+    pub task: &'a Task,
+    pub code: Code,
+}
+
+/// The tasks of a job with their codes, by the numbers of their cores: one pass over the cores, which the first
+/// refused task ends.
+pub fn coded_tasks(
+    alloc: Global,
+    job: &Job,
+) -> Result<Vec<Option<CodedTask<'_>>>, Halt<CoreRefusal>>
+    requires { All (IsTaskAmong job.now.cores) job.now.tasks }
+    ensures coded { Gives (λ coded. all_shown coded.items) result (specs.coded_from job.now.tasks 0 job.now.cores) }
+    ensures count { IfOk result (λ coded. length coded.items ≡ job.now.cores) }
+    ensures among { IfOk result (λ coded. All (IsAmong job.now.cores) coded.items) }
+{
+    let mut coded = Vec::new(alloc);
+    for core in 0..job.cores {
+        let one = match coded_on(alloc, core, task_on(job.tasks.as_slice(), core)) {
+            Ok(one) => one,
+            Err(halt) => return Err(halt),
+        };
+        if coded.push(one).is_err() {
+            return Err(Halt::Memory);
+        }
+    }
+    Ok(coded)
+}
+
+// the task of a core, if it has one
+fn task_on(tasks: &[Task], core: u32) -> Option<&Task>
     ensures { option_map (λ t. t.now) result ≡ specs.task_on tasks.now core }
 {
     tasks.iter().find(|task| task.core == core)
 }
 
-/// The code of a task. A C task comes later.
-pub fn code_by(alloc: Global, task: &Task) -> Result<Code, Halt<Refusal>>
+// a core's task with its code, if it has one
+fn coded_on(
+    alloc: Global,
+    core: u32,
+    task: Option<&Task>,
+) -> Result<Option<CodedTask<'_>>, Halt<CoreRefusal>>
+    ensures coded { Gives shown result (specs.coded_on core (option_map (λ t. t.now) task.entry)) }
+    ensures same { IfOk result (λ c. option_map (λ t. t.task.now) c ≡ option_map (λ t. t.now) task.entry) }
+{
+    let Some(task) = task else {
+        return Ok(None);
+    };
+    match code_by(alloc, task) {
+        Ok(code) => Ok(Some(CodedTask { task, code })),
+        Err(Halt::Refused(refusal)) => Err(Halt::Refused(CoreRefusal { core, refusal })),
+        Err(Halt::Memory) => Err(Halt::Memory),
+    }
+}
+
+// the code of a task
+fn code_by(alloc: Global, task: &Task) -> Result<Code, Halt<Refusal>>
     ensures { Gives (λ code. code) result (specs.code_by task.now) }
 {
     match task.lang {
         Lang::Asm => assembled(alloc, task.source.as_str()),
-        Lang::C => Err(Halt::Refused(Refusal::Later)),
+        Lang::C => compiled(alloc, task.source.as_str()),
     }
 }
 
-/// The code of an assembly text. A text of 2^32 bytes does not come from a job, whose text has at most
-/// 1,048,576 of them; it is answered as want of memory.
+// A C text is refused where it has no tokens, or these are no program. Of its length holds what is said of an
+// assembly text's.
+fn compiled(alloc: Global, source: &str) -> Result<Code, Halt<Refusal>>
+    ensures { Gives (λ code. code) result (specs.compiled (lexed source.now)) }
+{
+    if source.len() > u32::MAX as usize {
+        return Err(Halt::Memory);
+    }
+    match lex(alloc, source) {
+        Ok(tokens) => parsed(alloc, &tokens),
+        Err(LexFault::Char { at }) => Err(Halt::Refused(Refusal::Char { at })),
+        Err(LexFault::Wide { at }) => Err(Halt::Refused(Refusal::Wide { at })),
+        Err(LexFault::Memory) => Err(Halt::Memory),
+    }
+}
+
+// Tokens are refused where they are no program. The code of a program comes later.
+fn parsed(alloc: Global, tokens: &List<Token>) -> Result<Code, Halt<Refusal>>
+    requires few { length tokens.now < 2 ^ 32 }
+    ensures { Gives (λ code. code) result (specs.parsed tokens.now) }
+{
+    match parse(alloc, tokens) {
+        Ok(_program) => Err(Halt::Refused(Refusal::Later)),
+        Err(ParseFault::Syntax { at }) => Err(Halt::Refused(Refusal::Syntax { at })),
+        Err(ParseFault::Memory) => Err(Halt::Memory),
+    }
+}
+
+// The code of an assembly text. A text of 2^32 bytes does not come from a job, whose text has at most
+// `MOST_BYTES` of them; it is answered as want of memory.
 fn assembled(alloc: Global, source: &str) -> Result<Code, Halt<Refusal>>
     ensures { Gives (λ code. code) result (specs.coded (code_of source.now)) }
 {

@@ -1,4 +1,4 @@
-use crate::machine_tests::{
+use crate::test_jobs::{
     LATE_LOADS, SENDING_REPORT, STORE, STORE_BYTE, STORE_BYTE_AND_LOAD, THREE, TWO, TWO_LOADS,
     job_of, late_load_job, late_load_report, sending_job,
 };
@@ -98,9 +98,8 @@ const TURNS: u32 = 10_000_000;
 /// How many turns a core is held at each event.
 const DELAY: u32 = 10_000;
 
-/// How many times a test runs a job that has to give the same each time. Each job has a test with each gate, so
-/// it runs a thousand times.
-const RUNS: u32 = 500;
+/// How many times a test runs a job that has to give the same each time.
+const RUNS: u32 = 1_000;
 
 /// The status and the report of a job whose workers a gate may hold.
 fn run_under<R: Threads + Wait + Sync, G: Gate + Sync>(
@@ -216,14 +215,14 @@ fn one_worker_does_not_meet(rt: HostRuntime) -> Result<(), Fail> {
 }
 
 #[test]
-fn shared_words_are_the_same_with_nobody_held(rt: HostRuntime) -> Result<(), Fail> {
+fn shared_words_are_the_same_in_1000(rt: HostRuntime) -> Result<(), Fail> {
     let other = first_other_run(&rt, rt.alloc(), SHARING, &FreeGate, SHARING_REPORT)?;
     assert_eq!(rt; other, None);
     Ok(())
 }
 
 #[test]
-fn shared_words_are_the_same_with_core_1_held(rt: HostRuntime) -> Result<(), Fail> {
+fn shared_words_are_the_same_in_1000_with_core_1_held(rt: HostRuntime) -> Result<(), Fail> {
     let gate = Delay::new(1, DELAY);
     let other = first_other_run(&rt, rt.alloc(), SHARING, &gate, SHARING_REPORT)?;
     assert_eq!(rt; other, None);
@@ -231,7 +230,7 @@ fn shared_words_are_the_same_with_core_1_held(rt: HostRuntime) -> Result<(), Fai
 }
 
 #[test]
-fn shared_bytes_are_the_same_with_nobody_held(rt: HostRuntime) -> Result<(), Fail> {
+fn shared_bytes_are_the_same_in_1000(rt: HostRuntime) -> Result<(), Fail> {
     let job = bytes_job(rt.alloc())?;
     let other = first_other_run(&rt, rt.alloc(), job.as_bytes(), &FreeGate, BYTES_REPORT)?;
     assert_eq!(rt; other, None);
@@ -239,7 +238,7 @@ fn shared_bytes_are_the_same_with_nobody_held(rt: HostRuntime) -> Result<(), Fai
 }
 
 #[test]
-fn shared_bytes_are_the_same_with_core_1_held(rt: HostRuntime) -> Result<(), Fail> {
+fn shared_bytes_are_the_same_in_1000_with_core_1_held(rt: HostRuntime) -> Result<(), Fail> {
     let job = bytes_job(rt.alloc())?;
     let gate = Delay::new(1, DELAY);
     let other = first_other_run(&rt, rt.alloc(), job.as_bytes(), &gate, BYTES_REPORT)?;
@@ -279,6 +278,19 @@ fn workers_make_no_difference(rt: HostRuntime) -> Result<(), Fail> {
         assert_eq!(rt; status, 0);
         assert_eq!(rt; sink.kept(), report);
         let other = first_other_crew(&rt, alloc, crews, job, report)?;
+        assert_eq!(rt; other, None);
+    }
+    Ok(())
+}
+
+#[test]
+fn workers_make_no_difference_to_a_late_load(rt: HostRuntime) -> Result<(), Fail> {
+    let alloc = rt.alloc();
+    for (start, value) in LATE_LOADS {
+        let job = late_load_job(alloc, start)?;
+        let report = late_load_report(alloc, value)?;
+        let crews = [1, 2].as_slice();
+        let other = first_other_crew(&rt, alloc, crews, job.as_bytes(), report.as_bytes())?;
         assert_eq!(rt; other, None);
     }
     Ok(())

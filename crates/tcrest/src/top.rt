@@ -2,18 +2,18 @@ ghost use Rattle.std.specs.Prelude.{◌≡◌, ◌⊎◌, [], IfSome};
 ghost use Rattle.tc_io.specs.Faults.{Rose};
 ghost use Rattle.tcrest.specs.Answer.{answer, command_answer, bytes_answer};
 ghost use Rattle.tcrest.specs.Command as commands;
-ghost use Rattle.tcrest.specs.Outcome.{Ends, IsAnswered, IsSent, IsTold};
+ghost use Rattle.tcrest.specs.Outcome.{Ends, IsAnswered, IsSent, HasWritten};
 
-use crate::answers::job_answer;
-use crate::command::{Command, JobCommand, command_of};
+use crate::answers::input_answer;
+use crate::command::{Command, InputCommand, command_of};
 use std::alloc::Global;
 use std::sync::Wait;
 use std::thread::Threads;
 use tc_io::{Gate, ReadError, Sink, Source, read_all, write_all};
 use tc_word::Text;
 
-/// How many bytes a job text has at most.
-const MOST_BYTES: usize = 1_048_576;
+/// How many bytes the text of a job or of a schedule has at most.
+pub const MOST_BYTES: usize = 1_048_576;
 
 /// The status that says that memory was refused.
 pub const MEMORY: u8 = 7;
@@ -22,18 +22,18 @@ const WRITE_FAULT: u8 = 6;
 
 const READ_FAULT: u8 = 5;
 
-/// Does what the words ask for: reads the job from `source` where they are a command that reads one,
+/// Does what the words ask for: reads the text from `source` where they are a command that reads one,
 /// writes the answer to `sink`, and returns the status.
 ///
 /// | status | meaning | written |
 /// |---|---|---|
-/// | 0 | the command did what it says | the report, or the listings |
+/// | 0 | the command did what it says | the report, the listings, or the bounds of a schedule |
 /// | 1 | the words are no command | the usage line |
-/// | 2 | the job is refused | `job: ` and the fault |
+/// | 2 | the job or the schedule is refused | `job: ` or `grid: ` and the fault |
 /// | 3 | a task was stopped, or has not ended by the limit | the report |
 /// | 4 | a task is refused | `core C: ` and the fault, of the least such core |
 /// | 5 | the source failed | `read fault` |
-/// | 6 | the sink failed | a proper front of the text that would have come |
+/// | 6 | the sink failed | a proper prefix of the text that would have come |
 /// | 7 | memory was refused | nothing |
 ///
 /// The runtime and the gate are for the workers of a machine with several cores.
@@ -49,13 +49,13 @@ pub fn tcrest<R: Threads + Wait + Sync, S: Source, K: Sink, G: Gate + Sync>(
     ensures answered { (Rose (S.faults source.old) (S.faults source.new) → ⊥) → (Rose (K.faults sink.old) (K.faults sink.new) → ⊥)
         → IfSome (S.left source.old) (λ bytes. IsAnswered (answer words.now bytes) result (K.taken sink.old) (K.taken sink.new)) }
 
-    // Words that ask for no job leave the source alone, and are answered whatever it is.
+    // Words that ask for no text leave the source alone, and are answered whatever it is.
     ensures unread { commands.ReadsNothing (commands.command_of words.now) → source.new ≡ source.old }
     ensures answered_unread { commands.ReadsNothing (commands.command_of words.now) → (Rose (K.faults sink.old) (K.faults sink.new) → ⊥)
         → IsAnswered (answer words.now []) result (K.taken sink.old) (K.taken sink.new) }
 
     // What was written, whatever failed.
-    ensures told { IfSome (S.left source.old) (λ bytes. IsTold (answer words.now bytes)
+    ensures written { IfSome (S.left source.old) (λ bytes. HasWritten (answer words.now bytes)
         (Rose (S.faults source.old) (S.faults source.new)) result (K.taken sink.old) (K.taken sink.new)) }
 
     // What each fault of the outside rests on.
@@ -83,17 +83,20 @@ fn perform<R: Threads + Wait + Sync, S: Source, K: Sink, G: Gate + Sync>(
     ensures write_fault { result ≡ 6 → Rose (K.faults sink.old) (K.faults sink.new) }
 {
     match command {
-        Command::Job(command) => answer_job(alloc, rt, command, source, sink, gate),
-        Command::Usage => finish(sink, 1, b"usage: tcrest run|bound|asm|mean|gen N|bench N\n"),
+        Command::OfInput(command) => answer_input(alloc, rt, command, source, sink, gate),
+        Command::Usage => finish(
+            sink,
+            1,
+            b"usage: tcrest run|bound|asm|mean|gen N|bench N|grid\n",
+        ),
     }
 }
 
-/// Answers a command about a job: all bytes are read, and a text that is not too long is answered as a
-/// job.
-fn answer_job<R: Threads + Wait + Sync, S: Source, K: Sink, G: Gate + Sync>(
+/// Answers a command about the input: all bytes are read, and a text that is not too long is answered.
+fn answer_input<R: Threads + Wait + Sync, S: Source, K: Sink, G: Gate + Sync>(
     alloc: Global,
     rt: &R,
-    command: JobCommand,
+    command: InputCommand,
     source: &mut S,
     sink: &mut K,
     gate: &G,
@@ -110,7 +113,7 @@ fn answer_job<R: Threads + Wait + Sync, S: Source, K: Sink, G: Gate + Sync>(
         Err(ReadError::TooLong) => return finish(sink, 2, b"job: TooLong\n"),
         Err(ReadError::Memory) => return MEMORY,
     };
-    match job_answer(alloc, rt, command, bytes.as_slice(), gate) {
+    match input_answer(alloc, rt, command, bytes.as_slice(), gate) {
         Ok(answer) => finish(sink, answer.status, answer.text.as_slice()),
         Err(_) => MEMORY,
     }

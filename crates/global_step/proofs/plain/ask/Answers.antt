@@ -1,7 +1,7 @@
 use Rattle.std.proofs.Common.{ℕ, List, None, Some, IsNone, IfSome, Option, sym, subst}
 use Rattle.slot_arbiter.specs.declared.event.Event.{Event}
 use Rattle.shared_order.specs.declared.operation.Operation.{Operation}
-use Rattle.patmos_core.specs.State.{Core}
+use Rattle.patmos_model.specs.State.{Core}
 use Rattle.patmos_core.specs.declared.cpu.Core.{Core as Cpu}
 use Rattle.patmos_core.specs.Position.{StandsFor, event_of, IsNextOf, HasMadeAll}
 use Rattle.global_step.proofs.plain.ask.Goals as goal

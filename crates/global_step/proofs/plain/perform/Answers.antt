@@ -6,9 +6,10 @@ use Rattle.std.proofs.lemmas.List.{length-set}
 use Rattle.shared_order.specs.Words.{after}
 use Rattle.shared_order.specs.Program.{played}
 use Rattle.global_step.specs.PlainEvent.{accesses}
-use Rattle.global_step.proofs.PlainPerform.{IsPartlyMade, store_next, load_next, each_at, made_whole}
+use Rattle.global_step.proofs.PlainPerform.{IsPartlyMade, store_next, load_next, made_whole}
 use Rattle.global_step.proofs.plain.perform.Goals as goal
 use Rattle.global_step.proofs.plain.perform.Goals.{then-op, else-op}
+use Rattle.shared_order.proofs.Lists.{each_at}
 
 abbrev none : WordOp
 none = record { word = 0; write = false; value = 0 }

@@ -1,5 +1,5 @@
 use Rattle.std.proofs.Common.{◌≡◌, ℕ, length, map, slice_index}
-use Rattle.patmos_core.specs.State.{Core}
+use Rattle.patmos_model.specs.State.{Core}
 use Rattle.patmos_core.specs.Position.{place_of, room_of}
 use Rattle.global_step.specs.PlainRun.{Every, Begins, IsReady}
 use Rattle.global_step.proofs.PlainCourse.{Followed, parts_left}

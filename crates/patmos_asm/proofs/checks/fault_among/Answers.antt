@@ -2,7 +2,7 @@ use Rattle.std.proofs.Common.{◌≡◌, ◌∙◌, ◌<◌, ◌≤◌, ◌+◌,
 use Rattle.patmos_asm.specs.Assembly.{fault_of, labels_after, after}
 use Rattle.patmos_asm.specs.Names.{place_in}
 use Rattle.patmos_asm.specs.Before.{shown_before}
-use Rattle.patmos_asm.specs.Shown.{shown_item, shown_items}
+use Rattle.patmos_syntax.specs.Shown.{shown_item, shown_items}
 use Rattle.patmos_asm.proofs.Steps.{fault_step, grown}
 use Rattle.patmos_asm.proofs.checks.fault_among.Goals as goal
 

@@ -2,7 +2,7 @@ use Rattle.std.proofs.Common.{◌≡◌, ◌≤◌, ◌*◌, [], drop}
 use Rattle.patmos_asm.specs.Assembly.{first_fault, place_of, nothing}
 use Rattle.patmos_asm.specs.Before.{shown_before}
 use Rattle.patmos_asm.specs.Names.{place_in}
-use Rattle.patmos_asm.specs.Shown.{shown_items}
+use Rattle.patmos_syntax.specs.Shown.{shown_items}
 use Rattle.patmos_asm.proofs.checks.fault_among.Given as goal
 
 abbrev pub invariant-loop-i : goal.invariant-loop-i

@@ -1,6 +1,6 @@
 use Rattle.std.proofs.Common.{◌≡◌, ◌++◌, drop, map}
 use Rattle.patmos_asm.specs.Assembly.{functions_from, place_of}
-use Rattle.patmos_asm.specs.Shown.{shown_items}
+use Rattle.patmos_syntax.specs.Shown.{shown_items}
 use Rattle.patmos_asm.proofs.Within.{Within}
 use Rattle.patmos_asm.proofs.codes.starts_of.Given as goal
 

@@ -2,7 +2,7 @@ use Rattle.std.proofs.Common.{◌≡◌, ℕ, ◌≤◌, ◌*◌, List, drop}
 use Rattle.std.specs.Option.{option_or}
 use Rattle.patmos_asm.specs.Assembly.{place_of, functions_from}
 use Rattle.patmos_asm.specs.Names.{place_in}
-use Rattle.patmos_asm.specs.Shown.{shown_items}
+use Rattle.patmos_syntax.specs.Shown.{shown_items}
 use Rattle.patmos_asm.proofs.names.functions_of.Given as goal
 
 abbrev pub invariant-loop-item : goal.invariant-loop-item

@@ -1,7 +1,7 @@
 use Rattle.std.proofs.Common.{◌∙◌, ◌<◌, ◌≤◌, ◌++◌, ap, sym, length, rules, subst}
 use Rattle.patmos_asm.specs.Assembly.{labels_after, size_from, item_words}
 use Rattle.patmos_asm.specs.Names.{place_in}
-use Rattle.patmos_asm.specs.Shown.{shown_item, shown_items}
+use Rattle.patmos_syntax.specs.Shown.{shown_item, shown_items}
 use Rattle.patmos_asm.proofs.WordSteps.{begins, words_begin, Next, words_step, faultless_step, size_step, words_end, words_same}
 use Rattle.patmos_asm.proofs.words.words_of.Goals as goal
 

@@ -1,7 +1,7 @@
 use Rattle.std.proofs.Common.{◌≡◌, ◌++◌, [], drop}
 use Rattle.patmos_asm.specs.Assembly.{place_of, words_from}
 use Rattle.patmos_asm.specs.Names.{place_in}
-use Rattle.patmos_asm.specs.Shown.{shown_items}
+use Rattle.patmos_syntax.specs.Shown.{shown_items}
 use Rattle.patmos_asm.proofs.Faultless.{Faultless}
 use Rattle.patmos_asm.proofs.words.words_of.Given as goal
 

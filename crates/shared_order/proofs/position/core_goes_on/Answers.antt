@@ -1,5 +1,5 @@
 use Rattle.std.proofs.Common.{refl}
-use Rattle.shared_order.proofs.Standing.{enters, goes_on, leaves, told}
+use Rattle.shared_order.proofs.Standing.{enters, goes_on, leaves, resumed}
 use Rattle.shared_order.proofs.position.core_goes_on.Goals as goal
 
 pub returns-clause-begins : goal.returns-clause-begins
@@ -14,5 +14,5 @@ returns-clause-goes_on g c = λ act n. goes_on act n
 pub returns-clause-leaves : goal.returns-clause-leaves
 returns-clause-leaves g c = λ act n. leaves act n
 
-pub returns-clause-told : goal.returns-clause-told
-returns-clause-told g c = λ act n. told act n
+pub returns-clause-resumed : goal.returns-clause-resumed
+returns-clause-resumed g c = λ act n. resumed act n

@@ -11,4 +11,4 @@ pub returns-clause-operations : goal.returns-clause-operations
 returns-clause-operations g c = λ turn n words. operations_fit turn n g.X.Ranged.in_range words
 
 pub returns-clause-in_parts : goal.returns-clause-in_parts
-returns-clause-in_parts g c = λ words front back. fit-then g.X.Ranged.in_range g.X.Ranged.in_range words front back
+returns-clause-in_parts g c = λ words prefix back. fit-then g.X.Ranged.in_range g.X.Ranged.in_range words prefix back

@@ -6,18 +6,18 @@ use Rattle.global_step.specs.PlainRun.{Every}
 use Rattle.tc_run.specs.Final.{IsFinalCore}
 use Rattle.tc_run.specs.Worked.{IsThroughWith, IsPast}
 use Rattle.tc_run.proofs.Workers.{ends_as, ends_past}
-use Rattle.tc_run.proofs.Lists.{any_front, any_back, any_one, every_more}
+use Rattle.tc_run.proofs.Lists.{any_prefix, any_back, any_one, every_more}
 use Rattle.tc_run.proofs.AllTaken.{all_past, all_words}
 use Rattle.tc_run.proofs.ending.end_of.Goals as goal
 
 pub take_back-requires-clause-of : goal.take_back-requires-clause-of
 take_back-requires-clause-of c =
-    let is : IsThroughWith c.args.job.now c.args.board c.take_worker-worker.result = c.take_worker-worker.ensures.through c.args.job.now c.args.board c.loop-core.invariant.through in
+    let is : IsThroughWith c.args.machine.now c.args.board c.take_worker-worker.result = c.take_worker-worker.ensures.through c.args.machine.now c.args.board c.loop-core.invariant.through in
     subst (IsPassOf c.args.board) (sym c.finish-core.ensures.pass) is.on
 
 pub loop-core-preserved : goal.loop-core-preserved
 loop-core-preserved c =
-    let m = c.args.job.now in let was = c.loop-core.invariant in let k = c.loop-core.core in let w = c.take_worker-worker.result in
+    let m = c.args.machine.now in let was = c.loop-core.invariant in let k = c.loop-core.core in let w = c.take_worker-worker.result in
     let is : IsThroughWith m c.args.board w = c.take_worker-worker.ensures.through m c.args.board was.through in
     let v = c.loop-core.maker.view in let p = c.finish-core.result.1 in
     let record_of = own p.view in
@@ -36,14 +36,14 @@ loop-core-preserved c =
       count = search rules;
       room = search rules;
       past = λ j low. subst (Any (IsPast m j)) (sym grown) (elim (cases_lt j k) [
-        | inl before ↦ any_front (IsPast m j) (back v) (own p.view ∷ []) (was.past j before)
+        | inl before ↦ any_prefix (IsPast m j) (back v) (own p.view ∷ []) (was.past j before)
         | inr last ↦ let e : k ≡ j = omega (arith, low, last) in any_back (IsPast m j) (back v) (own p.view ∷ []) (any_one (IsPast m j) (own p.view) (subst (λ i. IsPast m i (own p.view)) e mine))
       ]);
     }
 
 pub returns-clause-words : goal.returns-clause-words
 returns-clause-words c =
-    let m = c.args.job.now in let b = c.args.board in let over : length m.cores ≤ c.loop-core.core = search rules in
+    let m = c.args.machine.now in let b = c.args.board in let over : length m.cores ≤ c.loop-core.core = search rules in
     all_words m b c.requires.board c.requires.words c.close.result c.close.ensures.len
     (λ w below. c.close.ensures.whole (2 * m.limit * length m.cores) w
     (all_past m b c.requires.board (back c.loop-core.maker.view) (λ k among. c.loop-core.invariant.past k (omega (arith, among, over)))) below)

@@ -10,10 +10,10 @@ abbrev pub invariant-loop-core : goal.invariant-loop-core
 invariant-loop-core l = record {
   of : IsPassOf l.board l.maker;
   maker : IsMaker l.maker.view;
-  through : All (IsThroughWith l.job l.board) l.workers.items;
-  left : (k : ℕ) → l.core ≤ k → k < length l.job.cores → HasWorker l.workers.items k;
-  final : Every (IsFinalCore l.job) l.cores.items;
+  through : All (IsThroughWith l.machine l.board) l.workers.items;
+  left : (k : ℕ) → l.core ≤ k → k < length l.machine.cores → HasWorker l.workers.items k;
+  final : Every (IsFinalCore l.machine) l.cores.items;
   count : length l.cores.items ≡ l.core;
-  room : length l.job.cores ≤ vec_capacity l.cores;
-  past : (k : ℕ) → k < l.core → Any (IsPast l.job k) (back l.maker.view);
+  room : length l.machine.cores ≤ vec_capacity l.cores;
+  past : (k : ℕ) → k < l.core → Any (IsPast l.machine k) (back l.maker.view);
 }

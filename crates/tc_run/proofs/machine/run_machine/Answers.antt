@@ -11,7 +11,7 @@ run_groups-workers-requires-clause-ready g c κs within = record {
 
 pub end_of-requires-clause-through : goal.end_of-requires-clause-through
 end_of-requires-clause-through g c =
-    let m = c.args.job.now in let b = c.in_ok-board.board in
+    let m = c.args.machine.now in let b = c.in_ok-board.board in
     done_through m b c.run_groups-workers.result.items
     (c.run_groups-workers.ensures.carries.work m ((c.in_ok-crew.ensures.carries b).work m c.in_ok-groups.ensures.of)) c.run_groups-workers.ensures.done
 

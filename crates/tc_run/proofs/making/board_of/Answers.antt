@@ -2,7 +2,7 @@ use Rattle.std.proofs.Common.{◌≡◌, ℕ, ◌+◌, ◌*◌, length, sym, ap,
 use Rattle.argo_ni.specs.Packet.{comm_word}
 use Rattle.shared_order.specs.Apart.{apart}
 use Rattle.shared_order.specs.Course.{IsCourse}
-use Rattle.patmos_core.specs.Cycle.{turn}
+use Rattle.patmos_model.specs.Cycle.{turn}
 use Rattle.global_step.specs.Loaded.{Machine}
 use Rattle.global_step.specs.Machine.{core_among, all_operations}
 use Rattle.global_step.specs.Range.{IsOfWords, board_words}
@@ -15,9 +15,9 @@ words_of n = omega arith
 
 pub new-requires-clause-course : goal.new-requires-clause-course
 new-requires-clause-course c =
-    let m : Machine = c.course_of-course.result.of.value in
-    let n_is : length m.cores ≡ c.count_of-cores.result = ap (λ (j : Machine). length j.cores) c.course_of-course.ensures ∙ sym c.count_of-cores.ensures.count in
+    let m : Machine = c.args.machine.now in
+    let n_is : length m.cores ≡ c.count_of-cores.result = sym c.count_of-cores.ensures.count in
     let words_are : board_words m ≡ 4096 + 512 * c.count_of-cores.result = words_of (length m.cores) ∙ ap (λ n. 4096 + 512 * n) n_is in
     subst (λ n. IsCourse n (4096 + 512 * c.count_of-cores.result) (all_operations m) (λ core values. (apart turn (length m.cores) core (core_among m.cores core) values m.limit).made)) n_is
     (subst (λ w. IsCourse (length m.cores) w (all_operations m) (λ core values. (apart turn (length m.cores) core (core_among m.cores core) values m.limit).made)) words_are
-    (machine_course m (subst IsOfWords (sym c.course_of-course.ensures) c.loaded_with_words.ensures)))
+    (machine_course m c.loaded_with_words.ensures))

@@ -8,12 +8,12 @@ use Rattle.tc_run.specs.Worked.{number_of, HasWorker, IsAtWork}
 use Rattle.tc_run.proofs.Begins.{placed}
 use Rattle.tc_run.proofs.Carried.{put_in, all_with, any_with, any_new, one_longer}
 use Rattle.tc_run.proofs.Groups.{tasks_next, kept_at}
-use Rattle.tc_run.proofs.Lists.{any_front, any_back, any_one}
+use Rattle.tc_run.proofs.Lists.{any_prefix, any_back, any_one}
 use Rattle.tc_run.proofs.making.groups_of.Goals as goal
 
 pub loop-loaded-preserved : goal.loop-loaded-preserved
 loop-loaded-preserved g c =
-    let m = c.args.job.now in let b = c.args.board.now in let was = c.loop-loaded.invariant in let i = c.loop-loaded.loaded-index in
+    let m = c.args.machine.now in let b = c.args.board.now in let was = c.loop-loaded.invariant in let i = c.loop-loaded.loaded-index in
     let gs = c.loop-loaded.groups.items in let at = c.group_of-group.result in let o = c.index_mut.result.now in let y = c.push.new.self in
     let w = c.in_ok-worker.worker in
     let is : slice_get m.cores i ≡ Some c.loaded-item.result =
@@ -36,7 +36,7 @@ loop-loaded-preserved g c =
       total = one_longer w xs ys put ∙ ap (λ n. n + 1) was.total;
       grouped = λ k l d low there. elim (cases_lt k i) [
         | inl before ↦ kept_at (λ ws. HasWorker ws.items k) gs at (group_of l (tasks_before m.cores k) m.workers) o y d old within
-            (λ h. subst (λ ws. HasWorker ws k) (sym grown) (any_front (λ v. number_of v ≡ k) o.items (w ∷ []) h)) (λ e. was.grouped k l e before there)
+            (λ h. subst (λ ws. HasWorker ws k) (sym grown) (any_prefix (λ v. number_of v ≡ k) o.items (w ∷ []) h)) (λ e. was.grouped k l e before there)
         | inr last ↦
             let e : i ≡ k = omega (arith, low, last) in
             let same : c.loaded-item.result ≡ l = same_Some c.loaded-item.result l (sym is ∙ ap (slice_get m.cores) e ∙ there) in

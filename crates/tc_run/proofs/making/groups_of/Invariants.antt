@@ -7,11 +7,11 @@ use Rattle.tc_run.proofs.making.groups_of.Given as goal
 abbrev pub invariant-loop-loaded : goal.invariant-loop-loaded
 invariant-loop-loaded R l = record {
   same : l.maker ≡ l.initial.maker;
-  count : vec_len l.groups ≡ l.job.workers + 1;
-  of : All (IsAtWork l.job l.board) (workers_in l.groups.items);
+  count : vec_len l.groups ≡ l.machine.workers + 1;
+  of : All (IsAtWork l.machine l.board) (workers_in l.groups.items);
   have : (k : ℕ) → k < l.loaded-index → HasWorker (workers_in l.groups.items) k;
   total : length (workers_in l.groups.items) ≡ l.loaded-index;
-  grouped : AreGrouped l.job l.loaded-index l.groups.items;
-  tasks : l.tasks ≡ tasks_before l.job.cores l.loaded-index;
+  grouped : AreGrouped l.machine l.loaded-index l.groups.items;
+  tasks : l.tasks ≡ tasks_before l.machine.cores l.loaded-index;
   few : l.tasks ≤ l.loaded-index;
 }

@@ -1,7 +1,7 @@
-use Rattle.std.proofs.Common.{◌≡◌, ◌-◌}
+use Rattle.std.proofs.Common.{◌≡◌, ◌++◌, drop}
+use Rattle.tcrest.specs.Coding.{all_shown}
 use Rattle.tcrest.specs.Listing.{listings}
-use Rattle.tcrest.proofs.Listings.{behind}
 use Rattle.tcrest.proofs.listing.listings.Given as goal
 
 abbrev pub invariant-loop-core : goal.invariant-loop-core
-invariant-loop-core l = behind l.text.items (listings l.tasks l.core (l.cores - l.core)) ≡ listings l.tasks 0 l.cores
+invariant-loop-core l = l.text.items ++ listings l.core (all_shown (drop l.core l.coded)) ≡ listings 0 (all_shown l.coded)

@@ -1,5 +1,5 @@
 use Rattle.std.proofs.Common.{ap}
-use Rattle.patmos_core.specs.Begin.{idle, no_code}
+use Rattle.patmos_model.specs.Begin.{idle, no_code}
 use Rattle.tcrest.proofs.loading.idle_on.Goals as goal
 
 pub returns-clause-core : goal.returns-clause-core

@@ -1,5 +1,5 @@
 use Rattle.std.proofs.Common.{rules}
-use Rattle.tcrest.proofs.RowsTold.{next_row}
+use Rattle.tcrest.proofs.RowsFound.{next_row}
 use Rattle.tcrest.proofs.rows.rows_of.Goals as goal
 
 pub loop-core-preserved : goal.loop-core-preserved

@@ -14,13 +14,13 @@ pub publish-requires-clause-late : goal.publish-requires-clause-late
 publish-requires-clause-late g c =
     event_late c.args.self.now.limit c.args.self.now.reached c.args.self.now.ended c.args.self.now.core c.next.new.self c.args.self.now.pass.view c.requires.kept
     c.next.ensures.stands c.next.ensures.place c.next.ensures.room c.min-end.result c.min-end.ensures c.next.ensures.limit
-    c.in-Event.event c.in-Event.ensures.waiting c.in-Event.ensures.fits (search rules) c.in-Event.ensures.event
+    c.in-Event.event c.in-Event.ensures.waiting c.in-Event.ensures.fits (search rules) c.in-Event.ensures.event c.in-Event.ensures.whole
 
 pub publish-requires-clause-made : goal.publish-requires-clause-made
 publish-requires-clause-made g c =
     event_left c.args.self.now.limit c.args.self.now.reached c.args.self.now.ended c.args.self.now.core c.next.new.self c.args.self.now.pass.view c.requires.kept
     c.next.ensures.stands c.next.ensures.place c.next.ensures.room c.min-end.result c.min-end.ensures c.next.ensures.limit
-    c.in-Event.event c.in-Event.ensures.waiting c.in-Event.ensures.fits (search rules) c.in-Event.ensures.event
+    c.in-Event.event c.in-Event.ensures.waiting c.in-Event.ensures.fits (search rules) c.in-Event.ensures.event c.in-Event.ensures.whole
 
 pub publish-requires-in-Limit : goal.publish-requires-in-Limit
 publish-requires-in-Limit g c =
@@ -41,14 +41,14 @@ returns-in-Event-clause-kept g c =
     subst (IsKept c.args.self.now.limit c.args.self.now.reached c.args.self.now.ended c.next.new.self) (sym c.publish.ensures.published)
     (event_kept c.args.self.now.limit c.args.self.now.reached c.args.self.now.ended c.args.self.now.core c.next.new.self c.args.self.now.pass.view c.requires.kept
     c.next.ensures.stands c.next.ensures.place c.next.ensures.room c.min-end.result c.min-end.ensures c.next.ensures.limit
-    c.in-Event.event c.in-Event.ensures.waiting c.in-Event.ensures.fits (search rules) c.in-Event.ensures.event c.requires.going)
+    c.in-Event.event c.in-Event.ensures.waiting c.in-Event.ensures.fits (search rules) c.in-Event.ensures.event c.in-Event.ensures.whole c.requires.going)
 
 pub returns-in-Event-clause-goes_on : goal.returns-in-Event-clause-goes_on
 returns-in-Event-clause-goes_on g c =
     subst (GoesOnAs c.args.self.now.limit c.args.self.now.core c.args.self.now.pass.view c.next.new.self) (sym c.publish.ensures.published)
     (event_goes_on c.args.self.now.limit c.args.self.now.reached c.args.self.now.ended c.args.self.now.core c.next.new.self c.args.self.now.pass.view c.requires.kept
     c.next.ensures.stands c.next.ensures.place c.next.ensures.room c.min-end.result c.min-end.ensures c.next.ensures.limit
-    c.in-Event.event c.in-Event.ensures.waiting c.in-Event.ensures.fits (search rules) c.in-Event.ensures.event)
+    c.in-Event.event c.in-Event.ensures.waiting c.in-Event.ensures.fits (search rules) c.in-Event.ensures.event c.in-Event.ensures.whole)
 
 -- a piece that does not end at the limit ends further on
 further : (limit reached end : ℕ) → end ≡ piece_end limit reached → reached ≤ limit → nat_eq end limit ≡ false → reached < end

@@ -1,9 +1,9 @@
 use Rattle.std.proofs.Common.{List, ◌++◌}
 use Rattle.shared_order.specs.declared.operation.Operation.{Operation}
 use Rattle.shared_order.specs.Event.{asked_by}
-use Rattle.patmos_core.specs.State.{Core}
+use Rattle.patmos_model.specs.State.{Core}
 use Rattle.patmos_core.specs.Position.{StandsAt}
-use Rattle.patmos_core.proofs.ToldOf.{waits_for, keeps_limit, if_waits}
+use Rattle.patmos_core.proofs.ResumedOf.{waits_for, keeps_limit, if_waits}
 use Rattle.patmos_core.proofs.cpu.Core.resume.Goals as goal
 
 pub resume-requires : goal.resume-requires

@@ -1,4 +1,4 @@
-use Rattle.patmos_core.specs.Shown.{core_of}
+use Rattle.patmos_step.specs.Shown.{core_of}
 use Rattle.patmos_core.proofs.SecondPhase.{own_asks}
 use Rattle.patmos_core.proofs.tasked.Tasked.ask.Goals as goal
 

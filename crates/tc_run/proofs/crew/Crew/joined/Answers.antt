@@ -4,7 +4,7 @@ use Rattle.std.proofs.lemmas.List.{length-append}
 use Rattle.std.proofs.lemmas.List.Elements.{All-head}
 use Rattle.core_worker.specs.Worker.{IsOn}
 use Rattle.tc_run.specs.Carried.{Carries, workers_of}
-use Rattle.tc_run.proofs.Lists.{all_front, all_back}
+use Rattle.tc_run.proofs.Lists.{all_prefix, all_back}
 use Rattle.tc_run.proofs.Carried.{flat_last, later_carried, carried_on, last_carried}
 use Rattle.tc_run.proofs.crew.Crew.joined.Goals as goal
 
@@ -16,7 +16,7 @@ loop-handle-preserved g c =
     let is = flat_last (λ h. h.promise.was.value.items) c.loop-handle.away.items rest h c.in-Some.ensures.items in
     record {
       crew = λ board on.
-          all_front (λ h. h.promise.board.value ≡ board) rest (h ∷ []) (subst (All (λ h. h.promise.board.value ≡ board)) c.in-Some.ensures.items (was.crew board on));
+          all_prefix (λ h. h.promise.board.value ≡ board) rest (h ∷ []) (subst (All (λ h. h.promise.board.value ≡ board)) c.in-Some.ensures.items (was.crew board on));
       carries = λ board on.
           let same : h.promise.board.value ≡ board =
           All-head (λ h. h.promise.board.value ≡ board) h [] (all_back (λ h. h.promise.board.value ≡ board) rest (h ∷ [])

@@ -1,0 +1,39 @@
+"""How long the program takes for long C texts, and how much memory: `.ci/speed.py PROGRAM`.
+
+Each text fills a job of 1 MiB. Reading one (tokens and tree) is to take at most 1 second and 200 MB. The gate
+does not run this: what it prints depends on the machine.
+"""
+
+import resource
+import subprocess
+import sys
+import time
+
+HEAD = "version = 1\ncores = 1\nslot = 6\ncycles = 9\n[[task]]\ncore = 0\nlang = \"c\"\nsource = '''"
+TAIL = "'''\n"
+ROOM = 1_048_576 - len(HEAD) - len(TAIL)
+
+
+def filled(before, piece, after):
+    """A text that repeats a piece as often as there is room."""
+    return before + piece * ((ROOM - len(before) - len(after)) // len(piece)) + after
+
+
+TEXTS = {
+    "one chain": filled("int main() { return 1", "+1", "; }"),
+    "empty blocks": filled("int main() { ", "{}", " }"),
+    "statements": filled("int main() { int i; ", "i=1;", " }"),
+    "one comment": filled("/*", " ", "*/ int main() { }"),
+    "long names": filled("int ", "a" * 100_000 + "; int ", "b;"),
+    "functions": filled("", "void f(){} ", ""),
+    "signs": filled("int main() { return ", "-(", "") ,
+    "else if": filled("int main() { if (1) { } ", "else if (1) { } ", "}"),
+}
+
+for name, text in TEXTS.items():
+    job = (HEAD + text + TAIL).encode()
+    start = time.monotonic()
+    done = subprocess.run([sys.argv[1], "run"], input=job, capture_output=True, check=False)
+    seconds = time.monotonic() - start
+    most = resource.getrusage(resource.RUSAGE_CHILDREN).ru_maxrss // 1024
+    print(f"{name:12} {len(job):8} bytes {seconds:6.2f} s, at most {most} MB so far: {done.stdout.decode().strip()}")

@@ -1,0 +1,11 @@
+pub mod Checking
+pub mod Faults
+pub mod Lists
+pub mod Arrays
+pub mod Meetings
+pub mod Periods
+pub mod Sharing
+pub mod Transfers
+pub mod Turns
+pub mod Unique
+pub mod Ways

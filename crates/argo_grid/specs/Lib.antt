@@ -1,0 +1,11 @@
+pub mod Grid
+pub mod Route
+pub mod Schedule
+pub mod Seen
+pub mod Packet
+pub mod Correct
+pub mod Check
+pub mod Transfer
+pub mod Read
+pub mod Report
+pub mod Worked

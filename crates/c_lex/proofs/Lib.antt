@@ -1,0 +1,13 @@
+pub mod Ascii
+pub mod Digits
+pub mod Lines
+pub mod Sizes
+pub mod SignSizes
+pub mod BoundPieces
+pub mod Steps
+pub mod CutRuns
+pub mod CutSigns
+pub mod CutNumbers
+pub mod Steady
+pub mod SteadyBounds
+pub mod Longest

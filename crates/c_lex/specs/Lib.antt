@@ -1,0 +1,9 @@
+pub mod Bytes
+pub mod Blanks
+pub mod Names
+pub mod Numbers
+pub mod Signs
+pub mod Bounds
+pub mod Pieces
+pub mod Texts
+pub mod Longest

@@ -1,0 +1,434 @@
+-- One token of a declaration or a statement: what is to come, before and behind it.
+use Rattle.std.proofs.Common.{◌≡◌, ℕ, ◌+◌, ◌-◌, ◌<◌, Bool, true, false, nat_lt, List, [], ◌∷◌, ◌++◌, length, Option, Some, if◌then◌else◌, refl, ap, ◌∙◌, append_assoc}
+use Rattle.c_tree.specs.declared.tokens.Token.{Token}
+use Rattle.c_tree.specs.declared.tokens.Token.TheVariants as token
+use Rattle.c_tree.specs.declared.tokens.Keyword.TheVariants as keyword
+use Rattle.c_tree.specs.declared.tokens.Sign.TheVariants as sign
+use Rattle.c_tree.specs.Tokens.{one, word}
+use Rattle.c_tree.specs.Fits.{open_after}
+use Rattle.c_parse.proofs.Tests.{opens_itself}
+use Rattle.c_parse.specs.Expected.{Expected, Only, Open, Name, Number, Operand, Index, Tail, Right, RightName, Arguments, MoreArguments, Statements, Statement, PerhapsInt, Initial, AfterName, Loop, Given, Else, Branch, Items, Kind, Outside, Variable, Elements, Constant, MoreConstants, Parameters, MoreParameters, Move, taken, passed, refused, moved, next, followed, read_on, drive_to, may_end, is_sign, is_keyword, is_name, is_number, is_prefix, is_bound, may_open, room_to, level_at, begins, operand_moved, and_then, or_else}
+use Rattle.c_tree.specs.declared.statements.Kind.{Kind as KindOf}
+use Rattle.c_tree.specs.declared.statements.Kind.TheVariants as kind
+use Rattle.c_tree.specs.Tokens.{kind_tokens}
+use Rattle.c_parse.specs.Expected.{statement_moved, Condition, Block, Assigned, Test, Further, KindEnds}
+use Rattle.c_parse.proofs.Steps.{refuses, passes, takes}
+
+-- a parenthesis is no bracket
+other_bracket : (limit n : ℕ) → may_open (room_to limit n) sign.OpenBracket (one sign.OpenParenthesis) ≡ false
+unfolding may_open is_sign
+other_bracket limit n = refl
+
+-- something comes of the place
+abbrev pub stays : Move → Type 0
+stays m = elim m as (λ _. Type 0) [ taken xs ↦ Unit {0} | passed ↦ ⊥ | refused ↦ Unit {0} ]
+
+gone : (m : Move) (zs xs : List Expected) (a b : Option (List Expected)) → stays m → followed (and_then m zs) xs a ≡ followed m (zs ++ xs) b
+gone (taken ys) zs xs a b s = ap Some (append_assoc ys zs xs)
+gone passed zs xs a b s = absurd s
+gone refused zs xs a b s = refl
+
+pub arguments_end : (limit n : ℕ) (ts : List Token) (xs : List Expected) → drive_to limit n (Arguments ∷ xs) (one sign.CloseParenthesis ∷ ts) ≡ drive_to limit (n - 1) xs ts
+unfolding moved is_keyword is_sign is_name is_number is_bound may_open is_prefix
+arguments_end limit n ts xs = takes limit n Arguments (one sign.CloseParenthesis) ts xs [] refl
+
+pub arguments_next : (limit n : ℕ) (ts : List Token) (xs : List Expected) → drive_to limit n (MoreArguments ∷ xs) (one sign.Comma ∷ ts) ≡ drive_to limit n (Operand ∷ Tail ∷ MoreArguments ∷ xs) ts
+unfolding moved is_keyword is_sign is_name is_number is_bound may_open is_prefix
+arguments_next limit n ts xs = takes limit n MoreArguments (one sign.Comma) ts xs (Operand ∷ Tail ∷ MoreArguments ∷ []) refl
+
+pub arguments_done : (limit n : ℕ) (ts : List Token) (xs : List Expected) → drive_to limit n (MoreArguments ∷ xs) (one sign.CloseParenthesis ∷ ts) ≡ drive_to limit (n - 1) xs ts
+unfolding moved is_keyword is_sign is_name is_number is_bound may_open is_prefix
+arguments_done limit n ts xs = takes limit n MoreArguments (one sign.CloseParenthesis) ts xs [] refl
+
+pub right_name : (limit n : ℕ) (w : List ℕ) (ts : List Token) (xs : List Expected) → drive_to limit n (Right ∷ xs) (token.Word w ∷ ts) ≡ drive_to limit n (RightName ∷ xs) ts
+unfolding moved is_keyword is_sign is_name is_number is_bound may_open is_prefix
+right_name limit n w ts xs = takes limit n Right (token.Word w) ts xs (RightName ∷ []) refl
+
+pub right_call : (limit n : ℕ) (ts : List Token) (xs : List Expected) → n < limit → drive_to limit n (RightName ∷ xs) (one sign.OpenParenthesis ∷ ts) ≡ drive_to limit (n + 1) (Arguments ∷ xs) ts
+unfolding moved is_keyword is_sign is_name is_number is_bound
+right_call limit n ts xs h = takes limit n RightName (one sign.OpenParenthesis) ts xs (Arguments ∷ []) (rw opens_itself)
+
+pub statements_end : (limit n : ℕ) (ts : List Token) (xs : List Expected) → drive_to limit n (Statements ∷ xs) (one sign.CloseBrace ∷ ts) ≡ drive_to limit (n - 1) xs ts
+unfolding moved is_keyword is_sign is_name is_number is_bound may_open is_prefix
+statements_end limit n ts xs = takes limit n Statements (one sign.CloseBrace) ts xs [] refl
+
+pub statement_name : (limit n : ℕ) (w : List ℕ) (ts : List Token) (xs : List Expected) → drive_to limit n (Statement ∷ xs) (token.Word w ∷ ts) ≡ drive_to limit n (AfterName ∷ xs) ts
+unfolding moved is_keyword is_sign is_name is_number is_bound may_open is_prefix
+statement_name limit n w ts xs = takes limit n Statement (token.Word w) ts xs (AfterName ∷ []) refl
+
+pub statement_send : (limit n : ℕ) (ts : List Token) (xs : List Expected) → drive_to limit n (Statement ∷ xs) (word keyword.Send ∷ ts) ≡ drive_to limit n (Open sign.OpenParenthesis ∷ Number ∷ Further ∷ Further ∷ Further ∷ Only sign.CloseParenthesis ∷ Only sign.Semicolon ∷ xs) ts
+unfolding moved is_keyword is_sign is_name is_number is_bound may_open is_prefix
+statement_send limit n ts xs = takes limit n Statement (word keyword.Send) ts xs (Open sign.OpenParenthesis ∷ Number ∷ Further ∷ Further ∷ Further ∷ Only sign.CloseParenthesis ∷ Only sign.Semicolon ∷ []) refl
+
+pub statement_if : (limit n : ℕ) (ts : List Token) (xs : List Expected) → drive_to limit n (Statement ∷ xs) (word keyword.If ∷ ts) ≡ drive_to limit n (Condition ∷ Block ∷ Else ∷ xs) ts
+unfolding moved is_keyword is_sign is_name is_number is_bound may_open is_prefix
+statement_if limit n ts xs = takes limit n Statement (word keyword.If) ts xs (Condition ∷ Block ∷ Else ∷ []) refl
+
+pub statement_bound : (limit n : ℕ) (a b : ℕ) (ts : List Token) (xs : List Expected) → drive_to limit n (Statement ∷ xs) (token.Bound a b ∷ ts) ≡ drive_to limit n (Loop ∷ xs) ts
+unfolding moved is_keyword is_sign is_name is_number is_bound may_open is_prefix
+statement_bound limit n a b ts xs = takes limit n Statement (token.Bound a b) ts xs (Loop ∷ []) refl
+
+pub statement_break : (limit n : ℕ) (ts : List Token) (xs : List Expected) → drive_to limit n (Statement ∷ xs) (word keyword.Break ∷ ts) ≡ drive_to limit n (Only sign.Semicolon ∷ xs) ts
+unfolding moved is_keyword is_sign is_name is_number is_bound may_open is_prefix
+statement_break limit n ts xs = takes limit n Statement (word keyword.Break) ts xs (Only sign.Semicolon ∷ []) refl
+
+pub statement_continue : (limit n : ℕ) (ts : List Token) (xs : List Expected) → drive_to limit n (Statement ∷ xs) (word keyword.Continue ∷ ts) ≡ drive_to limit n (Only sign.Semicolon ∷ xs) ts
+unfolding moved is_keyword is_sign is_name is_number is_bound may_open is_prefix
+statement_continue limit n ts xs = takes limit n Statement (word keyword.Continue) ts xs (Only sign.Semicolon ∷ []) refl
+
+pub statement_return : (limit n : ℕ) (ts : List Token) (xs : List Expected) → drive_to limit n (Statement ∷ xs) (word keyword.Return ∷ ts) ≡ drive_to limit n (Given ∷ xs) ts
+unfolding moved is_keyword is_sign is_name is_number is_bound may_open is_prefix
+statement_return limit n ts xs = takes limit n Statement (word keyword.Return) ts xs (Given ∷ []) refl
+
+pub statement_while : (limit n : ℕ) (ts : List Token) (xs : List Expected) → drive_to limit n (Statement ∷ xs) (word keyword.While ∷ ts) ≡ drive_to limit n (Condition ∷ Block ∷ xs) ts
+unfolding moved is_keyword is_sign is_name is_number is_bound may_open is_prefix
+statement_while limit n ts xs = takes limit n Statement (word keyword.While) ts xs (Condition ∷ Block ∷ []) refl
+
+pub statement_for : (limit n : ℕ) (ts : List Token) (xs : List Expected) → drive_to limit n (Statement ∷ xs) (word keyword.For ∷ ts) ≡ drive_to limit n (Open sign.OpenParenthesis ∷ Assigned ∷ Test ∷ Assigned ∷ Only sign.CloseParenthesis ∷ Block ∷ xs) ts
+unfolding moved is_keyword is_sign is_name is_number is_bound may_open is_prefix
+statement_for limit n ts xs = takes limit n Statement (word keyword.For) ts xs (Open sign.OpenParenthesis ∷ Assigned ∷ Test ∷ Assigned ∷ Only sign.CloseParenthesis ∷ Block ∷ []) refl
+
+pub statement_brace : (limit n : ℕ) (ts : List Token) (xs : List Expected) → n < limit → drive_to limit n (Statement ∷ xs) (one sign.OpenBrace ∷ ts) ≡ drive_to limit (n + 1) (Statements ∷ xs) ts
+unfolding moved is_keyword is_sign is_name is_number is_bound
+statement_brace limit n ts xs h = takes limit n Statement (one sign.OpenBrace) ts xs (Statements ∷ []) (rw opens_itself)
+
+pub loop_while : (limit n : ℕ) (ts : List Token) (xs : List Expected) → drive_to limit n (Loop ∷ xs) (word keyword.While ∷ ts) ≡ drive_to limit n (Condition ∷ Block ∷ xs) ts
+unfolding moved is_keyword is_sign is_name is_number is_bound may_open is_prefix
+loop_while limit n ts xs = takes limit n Loop (word keyword.While) ts xs (Condition ∷ Block ∷ []) refl
+
+pub loop_for : (limit n : ℕ) (ts : List Token) (xs : List Expected) → drive_to limit n (Loop ∷ xs) (word keyword.For ∷ ts) ≡ drive_to limit n (Open sign.OpenParenthesis ∷ Assigned ∷ Test ∷ Assigned ∷ Only sign.CloseParenthesis ∷ Block ∷ xs) ts
+unfolding moved is_keyword is_sign is_name is_number is_bound may_open is_prefix
+loop_for limit n ts xs = takes limit n Loop (word keyword.For) ts xs (Open sign.OpenParenthesis ∷ Assigned ∷ Test ∷ Assigned ∷ Only sign.CloseParenthesis ∷ Block ∷ []) refl
+
+pub initial_assign : (limit n : ℕ) (ts : List Token) (xs : List Expected) → drive_to limit n (Initial ∷ xs) (one sign.Assign ∷ ts) ≡ drive_to limit n (Right ∷ Only sign.Semicolon ∷ xs) ts
+unfolding moved is_keyword is_sign is_name is_number is_bound may_open is_prefix
+initial_assign limit n ts xs = takes limit n Initial (one sign.Assign) ts xs (Right ∷ Only sign.Semicolon ∷ []) refl
+
+pub initial_end : (limit n : ℕ) (ts : List Token) (xs : List Expected) → drive_to limit n (Initial ∷ xs) (one sign.Semicolon ∷ ts) ≡ drive_to limit n xs ts
+unfolding moved is_keyword is_sign is_name is_number is_bound may_open is_prefix
+initial_end limit n ts xs = takes limit n Initial (one sign.Semicolon) ts xs [] refl
+
+pub after_name_assign : (limit n : ℕ) (ts : List Token) (xs : List Expected) → drive_to limit n (AfterName ∷ xs) (one sign.Assign ∷ ts) ≡ drive_to limit n (Right ∷ Only sign.Semicolon ∷ xs) ts
+unfolding moved is_keyword is_sign is_name is_number is_bound may_open is_prefix
+after_name_assign limit n ts xs = takes limit n AfterName (one sign.Assign) ts xs (Right ∷ Only sign.Semicolon ∷ []) refl
+
+pub after_name_bracket : (limit n : ℕ) (ts : List Token) (xs : List Expected) → n < limit → drive_to limit n (AfterName ∷ xs) (one sign.OpenBracket ∷ ts) ≡ drive_to limit (n + 1) (Operand ∷ Tail ∷ Only sign.CloseBracket ∷ Only sign.Assign ∷ Right ∷ Only sign.Semicolon ∷ xs) ts
+unfolding moved is_keyword is_sign is_name is_number is_bound
+after_name_bracket limit n ts xs h = takes limit n AfterName (one sign.OpenBracket) ts xs (Operand ∷ Tail ∷ Only sign.CloseBracket ∷ Only sign.Assign ∷ Right ∷ Only sign.Semicolon ∷ []) (rw opens_itself)
+
+pub after_name_call : (limit n : ℕ) (ts : List Token) (xs : List Expected) → n < limit → drive_to limit n (AfterName ∷ xs) (one sign.OpenParenthesis ∷ ts) ≡ drive_to limit (n + 1) (Arguments ∷ Only sign.Semicolon ∷ xs) ts
+unfolding moved is_keyword is_sign is_name is_number is_bound
+after_name_call limit n ts xs h = takes limit n AfterName (one sign.OpenParenthesis) ts xs (Arguments ∷ Only sign.Semicolon ∷ []) (rw (other_bracket, opens_itself))
+
+pub given_none : (limit n : ℕ) (ts : List Token) (xs : List Expected) → drive_to limit n (Given ∷ xs) (one sign.Semicolon ∷ ts) ≡ drive_to limit n xs ts
+unfolding moved is_keyword is_sign is_name is_number is_bound may_open is_prefix
+given_none limit n ts xs = takes limit n Given (one sign.Semicolon) ts xs [] refl
+
+pub else_more : (limit n : ℕ) (ts : List Token) (xs : List Expected) → drive_to limit n (Else ∷ xs) (word keyword.Else ∷ ts) ≡ drive_to limit n (Branch ∷ xs) ts
+unfolding moved is_keyword is_sign is_name is_number is_bound may_open is_prefix
+else_more limit n ts xs = takes limit n Else (word keyword.Else) ts xs (Branch ∷ []) refl
+
+pub branch_if : (limit n : ℕ) (ts : List Token) (xs : List Expected) → drive_to limit n (Branch ∷ xs) (word keyword.If ∷ ts) ≡ drive_to limit n (Condition ∷ Block ∷ Else ∷ xs) ts
+unfolding moved is_keyword is_sign is_name is_number is_bound may_open is_prefix
+branch_if limit n ts xs = takes limit n Branch (word keyword.If) ts xs (Condition ∷ Block ∷ Else ∷ []) refl
+
+pub branch_brace : (limit n : ℕ) (ts : List Token) (xs : List Expected) → n < limit → drive_to limit n (Branch ∷ xs) (one sign.OpenBrace ∷ ts) ≡ drive_to limit (n + 1) (Statements ∷ xs) ts
+unfolding moved is_keyword is_sign is_name is_number is_bound
+branch_brace limit n ts xs h = takes limit n Branch (one sign.OpenBrace) ts xs (Statements ∷ []) (rw opens_itself)
+
+pub items_scratch : (limit n : ℕ) (ts : List Token) (xs : List Expected) → drive_to limit n (Items ∷ xs) (word keyword.Scratchpad ∷ ts) ≡ drive_to limit n (Kind ∷ Name ∷ Variable ∷ Items ∷ xs) ts
+unfolding moved is_keyword is_sign is_name is_number is_bound may_open is_prefix
+items_scratch limit n ts xs = takes limit n Items (word keyword.Scratchpad) ts xs (Kind ∷ Name ∷ Variable ∷ Items ∷ []) refl
+
+pub items_void : (limit n : ℕ) (ts : List Token) (xs : List Expected) → drive_to limit n (Items ∷ xs) (word keyword.Void ∷ ts) ≡ drive_to limit n (Name ∷ Open sign.OpenParenthesis ∷ Parameters ∷ Block ∷ Items ∷ xs) ts
+unfolding moved is_keyword is_sign is_name is_number is_bound may_open is_prefix
+items_void limit n ts xs = takes limit n Items (word keyword.Void) ts xs (Name ∷ Open sign.OpenParenthesis ∷ Parameters ∷ Block ∷ Items ∷ []) refl
+
+pub outside_function : (limit n : ℕ) (ts : List Token) (xs : List Expected) → n < limit → drive_to limit n (Outside ∷ xs) (one sign.OpenParenthesis ∷ ts) ≡ drive_to limit (n + 1) (Parameters ∷ Block ∷ xs) ts
+unfolding moved is_keyword is_sign is_name is_number is_bound
+outside_function limit n ts xs h = takes limit n Outside (one sign.OpenParenthesis) ts xs (Parameters ∷ Block ∷ []) (rw opens_itself)
+
+pub variable_array : (limit n : ℕ) (ts : List Token) (xs : List Expected) → n < limit → drive_to limit n (Variable ∷ xs) (one sign.OpenBracket ∷ ts) ≡ drive_to limit (n + 1) (Number ∷ Only sign.CloseBracket ∷ Elements ∷ xs) ts
+unfolding moved is_keyword is_sign is_name is_number is_bound
+variable_array limit n ts xs h = takes limit n Variable (one sign.OpenBracket) ts xs (Number ∷ Only sign.CloseBracket ∷ Elements ∷ []) (rw opens_itself)
+
+pub variable_assign : (limit n : ℕ) (ts : List Token) (xs : List Expected) → drive_to limit n (Variable ∷ xs) (one sign.Assign ∷ ts) ≡ drive_to limit n (Constant ∷ Only sign.Semicolon ∷ xs) ts
+unfolding moved is_keyword is_sign is_name is_number is_bound may_open is_prefix
+variable_assign limit n ts xs = takes limit n Variable (one sign.Assign) ts xs (Constant ∷ Only sign.Semicolon ∷ []) refl
+
+pub variable_end : (limit n : ℕ) (ts : List Token) (xs : List Expected) → drive_to limit n (Variable ∷ xs) (one sign.Semicolon ∷ ts) ≡ drive_to limit n xs ts
+unfolding moved is_keyword is_sign is_name is_number is_bound may_open is_prefix
+variable_end limit n ts xs = takes limit n Variable (one sign.Semicolon) ts xs [] refl
+
+pub elements_assign : (limit n : ℕ) (ts : List Token) (xs : List Expected) → drive_to limit n (Elements ∷ xs) (one sign.Assign ∷ ts) ≡ drive_to limit n (Open sign.OpenBrace ∷ Constant ∷ MoreConstants ∷ Only sign.Semicolon ∷ xs) ts
+unfolding moved is_keyword is_sign is_name is_number is_bound may_open is_prefix
+elements_assign limit n ts xs = takes limit n Elements (one sign.Assign) ts xs (Open sign.OpenBrace ∷ Constant ∷ MoreConstants ∷ Only sign.Semicolon ∷ []) refl
+
+pub elements_end : (limit n : ℕ) (ts : List Token) (xs : List Expected) → drive_to limit n (Elements ∷ xs) (one sign.Semicolon ∷ ts) ≡ drive_to limit n xs ts
+unfolding moved is_keyword is_sign is_name is_number is_bound may_open is_prefix
+elements_end limit n ts xs = takes limit n Elements (one sign.Semicolon) ts xs [] refl
+
+pub constant_number : (limit n : ℕ) (v : ℕ) (u : Bool) (ts : List Token) (xs : List Expected) → drive_to limit n (Constant ∷ xs) (token.Number v u ∷ ts) ≡ drive_to limit n xs ts
+unfolding moved is_keyword is_sign is_name is_number is_bound may_open is_prefix
+constant_number limit n v u ts xs = takes limit n Constant (token.Number v u) ts xs [] refl
+
+pub constant_minus : (limit n : ℕ) (ts : List Token) (xs : List Expected) → drive_to limit n (Constant ∷ xs) (one sign.Minus ∷ ts) ≡ drive_to limit n (Number ∷ xs) ts
+unfolding moved is_keyword is_sign is_name is_number is_bound may_open is_prefix
+constant_minus limit n ts xs = takes limit n Constant (one sign.Minus) ts xs (Number ∷ []) refl
+
+pub constants_next : (limit n : ℕ) (ts : List Token) (xs : List Expected) → drive_to limit n (MoreConstants ∷ xs) (one sign.Comma ∷ ts) ≡ drive_to limit n (Constant ∷ MoreConstants ∷ xs) ts
+unfolding moved is_keyword is_sign is_name is_number is_bound may_open is_prefix
+constants_next limit n ts xs = takes limit n MoreConstants (one sign.Comma) ts xs (Constant ∷ MoreConstants ∷ []) refl
+
+pub constants_done : (limit n : ℕ) (ts : List Token) (xs : List Expected) → drive_to limit n (MoreConstants ∷ xs) (one sign.CloseBrace ∷ ts) ≡ drive_to limit (n - 1) xs ts
+unfolding moved is_keyword is_sign is_name is_number is_bound may_open is_prefix
+constants_done limit n ts xs = takes limit n MoreConstants (one sign.CloseBrace) ts xs [] refl
+
+pub parameters_end : (limit n : ℕ) (ts : List Token) (xs : List Expected) → drive_to limit n (Parameters ∷ xs) (one sign.CloseParenthesis ∷ ts) ≡ drive_to limit (n - 1) xs ts
+unfolding moved is_keyword is_sign is_name is_number is_bound may_open is_prefix
+parameters_end limit n ts xs = takes limit n Parameters (one sign.CloseParenthesis) ts xs [] refl
+
+pub parameters_void : (limit n : ℕ) (ts : List Token) (xs : List Expected) → drive_to limit n (Parameters ∷ xs) (word keyword.Void ∷ ts) ≡ drive_to limit n (Only sign.CloseParenthesis ∷ xs) ts
+unfolding moved is_keyword is_sign is_name is_number is_bound may_open is_prefix
+parameters_void limit n ts xs = takes limit n Parameters (word keyword.Void) ts xs (Only sign.CloseParenthesis ∷ []) refl
+
+pub parameters_next : (limit n : ℕ) (ts : List Token) (xs : List Expected) → drive_to limit n (MoreParameters ∷ xs) (one sign.Comma ∷ ts) ≡ drive_to limit n (Kind ∷ Name ∷ MoreParameters ∷ xs) ts
+unfolding moved is_keyword is_sign is_name is_number is_bound may_open is_prefix
+parameters_next limit n ts xs = takes limit n MoreParameters (one sign.Comma) ts xs (Kind ∷ Name ∷ MoreParameters ∷ []) refl
+
+pub parameters_done : (limit n : ℕ) (ts : List Token) (xs : List Expected) → drive_to limit n (MoreParameters ∷ xs) (one sign.CloseParenthesis ∷ ts) ≡ drive_to limit (n - 1) xs ts
+unfolding moved is_keyword is_sign is_name is_number is_bound may_open is_prefix
+parameters_done limit n ts xs = takes limit n MoreParameters (one sign.CloseParenthesis) ts xs [] refl
+
+pub condition_open : (limit n : ℕ) (ts : List Token) (xs : List Expected) → n < limit → drive_to limit n (Condition ∷ xs) (one sign.OpenParenthesis ∷ ts) ≡ drive_to limit (n + 1) (Operand ∷ Tail ∷ Only sign.CloseParenthesis ∷ xs) ts
+unfolding moved
+condition_open limit n ts xs h = takes limit n Condition (one sign.OpenParenthesis) ts xs (Operand ∷ Tail ∷ Only sign.CloseParenthesis ∷ []) (rw opens_itself)
+
+pub block_open : (limit n : ℕ) (ts : List Token) (xs : List Expected) → n < limit → drive_to limit n (Block ∷ xs) (one sign.OpenBrace ∷ ts) ≡ drive_to limit (n + 1) (Statements ∷ xs) ts
+unfolding moved
+block_open limit n ts xs h = takes limit n Block (one sign.OpenBrace) ts xs (Statements ∷ []) (rw opens_itself)
+
+pub assigned_name : (limit n : ℕ) (w : List ℕ) (ts : List Token) (xs : List Expected) → drive_to limit n (Assigned ∷ xs) (token.Word w ∷ ts) ≡ drive_to limit n (Only sign.Assign ∷ Operand ∷ Tail ∷ xs) ts
+unfolding moved is_name
+assigned_name limit n w ts xs = takes limit n Assigned (token.Word w) ts xs (Only sign.Assign ∷ Operand ∷ Tail ∷ []) refl
+
+pub test_semicolon : (limit n : ℕ) (ts : List Token) (xs : List Expected) → drive_to limit n (Test ∷ xs) (one sign.Semicolon ∷ ts) ≡ drive_to limit n (Operand ∷ Tail ∷ Only sign.Semicolon ∷ xs) ts
+unfolding moved is_sign
+test_semicolon limit n ts xs = takes limit n Test (one sign.Semicolon) ts xs (Operand ∷ Tail ∷ Only sign.Semicolon ∷ []) refl
+
+pub further_comma : (limit n : ℕ) (ts : List Token) (xs : List Expected) → drive_to limit n (Further ∷ xs) (one sign.Comma ∷ ts) ≡ drive_to limit n (Operand ∷ Tail ∷ xs) ts
+unfolding moved is_sign
+further_comma limit n ts xs = takes limit n Further (one sign.Comma) ts xs (Operand ∷ Tail ∷ []) refl
+
+pub no_condition : (limit n : ℕ) (ts : List Token) (xs : List Expected) → begins (may_open (room_to limit n) sign.OpenParenthesis) ts ≡ false → drive_to limit n (Condition ∷ xs) ts ≡ Some (length ts)
+unfolding drive_to moved may_end
+no_condition limit n [] xs a = refl
+no_condition limit n (t ∷ ts) xs a = refuses limit n Condition t ts xs (rw a)
+
+pub no_block : (limit n : ℕ) (ts : List Token) (xs : List Expected) → begins (may_open (room_to limit n) sign.OpenBrace) ts ≡ false → drive_to limit n (Block ∷ xs) ts ≡ Some (length ts)
+unfolding drive_to moved may_end
+no_block limit n [] xs a = refl
+no_block limit n (t ∷ ts) xs a = refuses limit n Block t ts xs (rw a)
+
+pub no_assigned : (limit n : ℕ) (ts : List Token) (xs : List Expected) → begins (is_name) ts ≡ false → drive_to limit n (Assigned ∷ xs) ts ≡ Some (length ts)
+unfolding drive_to moved may_end
+no_assigned limit n [] xs a = refl
+no_assigned limit n (t ∷ ts) xs a = refuses limit n Assigned t ts xs (rw a)
+
+pub no_test : (limit n : ℕ) (ts : List Token) (xs : List Expected) → begins (is_sign sign.Semicolon) ts ≡ false → drive_to limit n (Test ∷ xs) ts ≡ Some (length ts)
+unfolding drive_to moved may_end
+no_test limit n [] xs a = refl
+no_test limit n (t ∷ ts) xs a = refuses limit n Test t ts xs (rw a)
+
+pub no_further : (limit n : ℕ) (ts : List Token) (xs : List Expected) → begins (is_sign sign.Comma) ts ≡ false → drive_to limit n (Further ∷ xs) ts ≡ Some (length ts)
+unfolding drive_to moved may_end
+no_further limit n [] xs a = refl
+no_further limit n (t ∷ ts) xs a = refuses limit n Further t ts xs (rw a)
+
+-- ---- the kinds of numbers
+
+no_int : (limit n : ℕ) (ts : List Token) (xs : List Expected) → begins (is_keyword keyword.Int) ts ≡ false → drive_to limit n (PerhapsInt ∷ xs) ts ≡ drive_to limit n xs ts
+unfolding drive_to moved may_end
+no_int limit n [] xs h = refl
+no_int limit n (t ∷ ts) xs h = passes limit n PerhapsInt t ts xs (rw h)
+
+pub statement_kind : (limit n : ℕ) (k : KindOf) (ts : List Token) (xs : List Expected) → KindEnds k ts → drive_to limit n (Statement ∷ xs) (kind_tokens k ++ ts) ≡ drive_to limit n (Name ∷ Initial ∷ xs) ts
+unfolding moved is_keyword is_sign
+statement_kind limit n kind.Int ts xs h = takes limit n Statement (word keyword.Int) ts xs (Name ∷ Initial ∷ []) refl
+statement_kind limit n kind.Unsigned ts xs h = takes limit n Statement (word keyword.Unsigned) ts xs (PerhapsInt ∷ Name ∷ Initial ∷ []) refl ∙ no_int limit n ts (Name ∷ Initial ∷ xs) h
+statement_kind limit n kind.UnsignedInt ts xs h = takes limit n Statement (word keyword.Unsigned) (word keyword.Int ∷ ts) xs (PerhapsInt ∷ Name ∷ Initial ∷ []) refl
+    ∙ takes limit n PerhapsInt (word keyword.Int) ts (Name ∷ Initial ∷ xs) [] refl
+
+pub items_kind : (limit n : ℕ) (k : KindOf) (ts : List Token) (xs : List Expected) → KindEnds k ts → drive_to limit n (Items ∷ xs) (kind_tokens k ++ ts) ≡ drive_to limit n (Name ∷ Outside ∷ Items ∷ xs) ts
+unfolding moved is_keyword is_sign
+items_kind limit n kind.Int ts xs h = takes limit n Items (word keyword.Int) ts xs (Name ∷ Outside ∷ Items ∷ []) refl
+items_kind limit n kind.Unsigned ts xs h = takes limit n Items (word keyword.Unsigned) ts xs (PerhapsInt ∷ Name ∷ Outside ∷ Items ∷ []) refl ∙ no_int limit n ts (Name ∷ Outside ∷ Items ∷ xs) h
+items_kind limit n kind.UnsignedInt ts xs h = takes limit n Items (word keyword.Unsigned) (word keyword.Int ∷ ts) xs (PerhapsInt ∷ Name ∷ Outside ∷ Items ∷ []) refl
+    ∙ takes limit n PerhapsInt (word keyword.Int) ts (Name ∷ Outside ∷ Items ∷ xs) [] refl
+
+pub kind_kind : (limit n : ℕ) (k : KindOf) (ts : List Token) (xs : List Expected) → KindEnds k ts → drive_to limit n (Kind ∷ xs) (kind_tokens k ++ ts) ≡ drive_to limit n (xs) ts
+unfolding moved is_keyword is_sign
+kind_kind limit n kind.Int ts xs h = takes limit n Kind (word keyword.Int) ts xs ([]) refl
+kind_kind limit n kind.Unsigned ts xs h = takes limit n Kind (word keyword.Unsigned) ts xs (PerhapsInt ∷ []) refl ∙ no_int limit n ts (xs) h
+kind_kind limit n kind.UnsignedInt ts xs h = takes limit n Kind (word keyword.Unsigned) (word keyword.Int ∷ ts) xs (PerhapsInt ∷ []) refl
+    ∙ takes limit n PerhapsInt (word keyword.Int) ts (xs) [] refl
+
+pub parameters_kind : (limit n : ℕ) (k : KindOf) (ts : List Token) (xs : List Expected) → KindEnds k ts → drive_to limit n (Parameters ∷ xs) (kind_tokens k ++ ts) ≡ drive_to limit n (Name ∷ MoreParameters ∷ xs) ts
+unfolding moved is_keyword is_sign
+parameters_kind limit n kind.Int ts xs h = takes limit n Parameters (word keyword.Int) ts xs (Name ∷ MoreParameters ∷ []) refl
+parameters_kind limit n kind.Unsigned ts xs h = takes limit n Parameters (word keyword.Unsigned) ts xs (PerhapsInt ∷ Name ∷ MoreParameters ∷ []) refl ∙ no_int limit n ts (Name ∷ MoreParameters ∷ xs) h
+parameters_kind limit n kind.UnsignedInt ts xs h = takes limit n Parameters (word keyword.Unsigned) (word keyword.Int ∷ ts) xs (PerhapsInt ∷ Name ∷ MoreParameters ∷ []) refl
+    ∙ takes limit n PerhapsInt (word keyword.Int) ts (Name ∷ MoreParameters ∷ xs) [] refl
+
+-- ---- what cannot come, and what need not
+
+pub no_more_arguments : (limit n : ℕ) (ts : List Token) (xs : List Expected) → begins (is_sign sign.Comma) ts ≡ false → begins (is_sign sign.CloseParenthesis) ts ≡ false → drive_to limit n (MoreArguments ∷ xs) ts ≡ Some (length ts)
+unfolding drive_to moved may_end
+no_more_arguments limit n [] xs a b = refl
+no_more_arguments limit n (t ∷ ts) xs a b = refuses limit n MoreArguments t ts xs (rw (a, b))
+
+pub no_statement : (limit n : ℕ) (ts : List Token) (xs : List Expected) → begins (is_keyword keyword.Int) ts ≡ false → begins (is_keyword keyword.Unsigned) ts ≡ false → begins (is_name) ts ≡ false → begins (is_keyword keyword.Send) ts ≡ false → begins (is_keyword keyword.If) ts ≡ false → begins (is_bound) ts ≡ false → begins (is_keyword keyword.Break) ts ≡ false → begins (is_keyword keyword.Continue) ts ≡ false → begins (is_keyword keyword.Return) ts ≡ false → begins (may_open (room_to limit n) sign.OpenBrace) ts ≡ false → begins (is_keyword keyword.While) ts ≡ false → begins (is_keyword keyword.For) ts ≡ false → drive_to limit n (Statement ∷ xs) ts ≡ Some (length ts)
+unfolding drive_to moved may_end
+no_statement limit n [] xs a b c d e f g h i j k l = refl
+no_statement limit n (t ∷ ts) xs a b c d e f g h i j k l = refuses limit n Statement t ts xs (rw (a, b, c, d, e, f, g, h, i, j, k, l))
+
+pub no_loop : (limit n : ℕ) (ts : List Token) (xs : List Expected) → begins (is_keyword keyword.While) ts ≡ false → begins (is_keyword keyword.For) ts ≡ false → drive_to limit n (Loop ∷ xs) ts ≡ Some (length ts)
+unfolding drive_to moved may_end
+no_loop limit n [] xs a b = refl
+no_loop limit n (t ∷ ts) xs a b = refuses limit n Loop t ts xs (rw (a, b))
+
+pub no_initial : (limit n : ℕ) (ts : List Token) (xs : List Expected) → begins (is_sign sign.Assign) ts ≡ false → begins (is_sign sign.Semicolon) ts ≡ false → drive_to limit n (Initial ∷ xs) ts ≡ Some (length ts)
+unfolding drive_to moved may_end
+no_initial limit n [] xs a b = refl
+no_initial limit n (t ∷ ts) xs a b = refuses limit n Initial t ts xs (rw (a, b))
+
+pub no_after_name : (limit n : ℕ) (ts : List Token) (xs : List Expected) → begins (is_sign sign.Assign) ts ≡ false → begins (may_open (room_to limit n) sign.OpenBracket) ts ≡ false → begins (may_open (room_to limit n) sign.OpenParenthesis) ts ≡ false → drive_to limit n (AfterName ∷ xs) ts ≡ Some (length ts)
+unfolding drive_to moved may_end
+no_after_name limit n [] xs a b c = refl
+no_after_name limit n (t ∷ ts) xs a b c = refuses limit n AfterName t ts xs (rw (a, b, c))
+
+pub no_else : (limit n : ℕ) (ts : List Token) (xs : List Expected) → begins (is_keyword keyword.Else) ts ≡ false → drive_to limit n (Else ∷ xs) ts ≡ drive_to limit n xs ts
+unfolding drive_to moved may_end
+no_else limit n [] xs a = refl
+no_else limit n (t ∷ ts) xs a = passes limit n Else t ts xs (rw a)
+
+pub no_items : (limit n : ℕ) (ts : List Token) (xs : List Expected) → begins (is_keyword keyword.Int) ts ≡ false → begins (is_keyword keyword.Unsigned) ts ≡ false → begins (is_keyword keyword.Scratchpad) ts ≡ false → begins (is_keyword keyword.Void) ts ≡ false → drive_to limit n (Items ∷ xs) ts ≡ drive_to limit n xs ts
+unfolding drive_to moved may_end
+no_items limit n [] xs a b c d = refl
+no_items limit n (t ∷ ts) xs a b c d = passes limit n Items t ts xs (rw (a, b, c, d))
+
+pub no_kind : (limit n : ℕ) (ts : List Token) (xs : List Expected) → begins (is_keyword keyword.Int) ts ≡ false → begins (is_keyword keyword.Unsigned) ts ≡ false → drive_to limit n (Kind ∷ xs) ts ≡ Some (length ts)
+unfolding drive_to moved may_end
+no_kind limit n [] xs a b = refl
+no_kind limit n (t ∷ ts) xs a b = refuses limit n Kind t ts xs (rw (a, b))
+
+pub no_variable : (limit n : ℕ) (ts : List Token) (xs : List Expected) → begins (may_open (room_to limit n) sign.OpenBracket) ts ≡ false → begins (is_sign sign.Assign) ts ≡ false → begins (is_sign sign.Semicolon) ts ≡ false → drive_to limit n (Variable ∷ xs) ts ≡ Some (length ts)
+unfolding drive_to moved may_end
+no_variable limit n [] xs a b c = refl
+no_variable limit n (t ∷ ts) xs a b c = refuses limit n Variable t ts xs (rw (a, b, c))
+
+pub no_elements : (limit n : ℕ) (ts : List Token) (xs : List Expected) → begins (is_sign sign.Assign) ts ≡ false → begins (is_sign sign.Semicolon) ts ≡ false → drive_to limit n (Elements ∷ xs) ts ≡ Some (length ts)
+unfolding drive_to moved may_end
+no_elements limit n [] xs a b = refl
+no_elements limit n (t ∷ ts) xs a b = refuses limit n Elements t ts xs (rw (a, b))
+
+pub no_constant : (limit n : ℕ) (ts : List Token) (xs : List Expected) → begins (is_number) ts ≡ false → begins (is_sign sign.Minus) ts ≡ false → drive_to limit n (Constant ∷ xs) ts ≡ Some (length ts)
+unfolding drive_to moved may_end
+no_constant limit n [] xs a b = refl
+no_constant limit n (t ∷ ts) xs a b = refuses limit n Constant t ts xs (rw (a, b))
+
+pub no_more_constants : (limit n : ℕ) (ts : List Token) (xs : List Expected) → begins (is_sign sign.Comma) ts ≡ false → begins (is_sign sign.CloseBrace) ts ≡ false → drive_to limit n (MoreConstants ∷ xs) ts ≡ Some (length ts)
+unfolding drive_to moved may_end
+no_more_constants limit n [] xs a b = refl
+no_more_constants limit n (t ∷ ts) xs a b = refuses limit n MoreConstants t ts xs (rw (a, b))
+
+pub no_more_parameters : (limit n : ℕ) (ts : List Token) (xs : List Expected) → begins (is_sign sign.Comma) ts ≡ false → begins (is_sign sign.CloseParenthesis) ts ≡ false → drive_to limit n (MoreParameters ∷ xs) ts ≡ Some (length ts)
+unfolding drive_to moved may_end
+no_more_parameters limit n [] xs a b = refl
+no_more_parameters limit n (t ∷ ts) xs a b = refuses limit n MoreParameters t ts xs (rw (a, b))
+
+pub no_parameters : (limit n : ℕ) (ts : List Token) (xs : List Expected) → begins (is_sign sign.CloseParenthesis) ts ≡ false → begins (is_keyword keyword.Void) ts ≡ false → begins (is_keyword keyword.Int) ts ≡ false → begins (is_keyword keyword.Unsigned) ts ≡ false → drive_to limit n (Parameters ∷ xs) ts ≡ Some (length ts)
+unfolding drive_to moved may_end
+no_parameters limit n [] xs a b c d = refl
+no_parameters limit n (t ∷ ts) xs a b c d = refuses limit n Parameters t ts xs (rw (a, b, c, d))
+
+-- ---- places where another may stand
+
+-- Two places that a token moves alike are alike.
+alike : (limit n : ℕ) (x y : Expected) (t : Token) (ts : List Token) (xs zs : List Expected) → moved (room_to limit n) x t ≡ and_then (moved (room_to limit n) y t) zs → stays (moved (room_to limit n) y t)
+    → drive_to limit n (x ∷ xs) (t ∷ ts) ≡ drive_to limit n (y ∷ (zs ++ xs)) (t ∷ ts)
+unfolding drive_to next
+alike limit n x y t ts xs zs e s =
+    ap (λ m. read_on (length ts) (λ ys. drive_to limit (open_after t n) ys ts) (followed m xs (next (room_to limit n) xs t))) e
+    ∙ ap (read_on (length ts) (λ ys. drive_to limit (open_after t n) ys ts)) (gone (moved (room_to limit n) y t) zs xs (next (room_to limit n) xs t) (next (room_to limit n) (zs ++ xs) t) s)
+
+pub operand_stays : (room : Bool) (t : Token) → stays (operand_moved room t)
+operand_stays room t = chosen (is_number t) (is_name t) (may_open room sign.OpenParenthesis t) (is_prefix t)
+  where
+    chosen : (a b c d : Bool) → stays (if a then taken [] else (if b then taken (Index ∷ []) else (if c then taken (Operand ∷ Tail ∷ Only sign.CloseParenthesis ∷ []) else (if d then taken (Operand ∷ []) else refused))))
+    chosen true b c d = tt
+    chosen false true c d = tt
+    chosen false false true d = tt
+    chosen false false false true = tt
+    chosen false false false false = tt
+
+pub right_operand : (limit n : ℕ) (ts : List Token) (xs : List Expected) → begins (is_name) ts ≡ false → drive_to limit n (Right ∷ xs) ts ≡ drive_to limit n (Operand ∷ Tail ∷ xs) ts
+unfolding drive_to moved may_end
+right_operand limit n [] xs h = refl
+right_operand limit n (t ∷ ts) xs h = alike limit n Right Operand t ts xs (Tail ∷ []) (rw h) (operand_stays (room_to limit n) t)
+
+pub arguments_operand : (limit n : ℕ) (ts : List Token) (xs : List Expected) → begins (is_sign sign.CloseParenthesis) ts ≡ false → drive_to limit n (Arguments ∷ xs) ts ≡ drive_to limit n (Operand ∷ Tail ∷ MoreArguments ∷ xs) ts
+unfolding drive_to moved may_end
+arguments_operand limit n [] xs h = refl
+arguments_operand limit n (t ∷ ts) xs h = alike limit n Arguments Operand t ts xs (Tail ∷ MoreArguments ∷ []) (rw h) (operand_stays (room_to limit n) t)
+
+pub given_operand : (limit n : ℕ) (ts : List Token) (xs : List Expected) → begins (is_sign sign.Semicolon) ts ≡ false → drive_to limit n (Given ∷ xs) ts ≡ drive_to limit n (Operand ∷ Tail ∷ Only sign.Semicolon ∷ xs) ts
+unfolding drive_to moved may_end
+given_operand limit n [] xs h = refl
+given_operand limit n (t ∷ ts) xs h = alike limit n Given Operand t ts xs (Tail ∷ Only sign.Semicolon ∷ []) (rw h) (operand_stays (room_to limit n) t)
+
+stays_if : (b : Bool) (xs : List Expected) (m : Move) → stays m → stays (if b then taken xs else m)
+stays_if true xs m h = tt
+stays_if false xs m h = h
+
+pub statement_stays : (room : Bool) (t : Token) → stays (statement_moved room t)
+statement_stays room t =
+    stays_if (is_keyword keyword.Int t) _ _ (stays_if (is_keyword keyword.Unsigned t) _ _ (stays_if (is_name t) _ _ (stays_if (is_keyword keyword.Send t) _ _
+    (stays_if (is_keyword keyword.If t) _ _ (stays_if (is_bound t) _ _ (stays_if (is_keyword keyword.Break t) _ _ (stays_if (is_keyword keyword.Continue t) _ _
+    (stays_if (is_keyword keyword.Return t) _ _ (stays_if (may_open room sign.OpenBrace t) _ _ (stays_if (is_keyword keyword.While t) _ _ (stays_if (is_keyword keyword.For t) _ refused tt)))))))))))
+
+pub statements_statement : (limit n : ℕ) (ts : List Token) (xs : List Expected) → begins (is_sign sign.CloseBrace) ts ≡ false → drive_to limit n (Statements ∷ xs) ts ≡ drive_to limit n (Statement ∷ Statements ∷ xs) ts
+unfolding drive_to moved may_end
+statements_statement limit n [] xs h = refl
+statements_statement limit n (t ∷ ts) xs h = alike limit n Statements Statement t ts xs (Statements ∷ []) (rw h) (statement_stays (room_to limit n) t)
+
+right_chosen : (a b : Bool) (xs : List Expected) (later : Option (List Expected))
+    → followed (or_else (and_then (if a then taken (Operand ∷ Tail ∷ Only sign.CloseBracket ∷ []) else passed) (Tail ∷ [])) (if b then taken (Operand ∷ Tail ∷ []) else passed)) xs later
+    ≡ followed (if a then taken (Operand ∷ Tail ∷ Only sign.CloseBracket ∷ []) else passed) (Tail ∷ xs) (followed (if b then taken (Operand ∷ Tail ∷ []) else passed) xs later)
+right_chosen true b xs later = refl
+right_chosen false true xs later = refl
+right_chosen false false xs later = refl
+
+pub right_read : (limit n : ℕ) (ts : List Token) (xs : List Expected) → begins (may_open (room_to limit n) sign.OpenParenthesis) ts ≡ false
+    → drive_to limit n (RightName ∷ xs) ts ≡ drive_to limit n (Index ∷ Tail ∷ xs) ts
+unfolding drive_to next moved may_end
+right_read limit n [] xs h = refl
+right_read limit n (t ∷ ts) xs h = rw h (ap (read_on (length ts) (λ ys. drive_to limit (open_after t n) ys ts))
+    (right_chosen (may_open (room_to limit n) sign.OpenBracket t) (nat_lt 0 (level_at t)) xs (next (room_to limit n) xs t)))
+
+-- two places where a token makes the same
+same_move : (limit n : ℕ) (x y : Expected) (t : Token) (ts : List Token) (xs : List Expected) → moved (room_to limit n) x t ≡ moved (room_to limit n) y t → drive_to limit n (x ∷ xs) (t ∷ ts) ≡ drive_to limit n (y ∷ xs) (t ∷ ts)
+unfolding drive_to next
+same_move limit n x y t ts xs e = ap (λ m. read_on (length ts) (λ ys. drive_to limit (open_after t n) ys ts) (followed m xs (next (room_to limit n) xs t))) e
+
+pub outside_variable : (limit n : ℕ) (ts : List Token) (xs : List Expected) → begins (may_open (room_to limit n) sign.OpenParenthesis) ts ≡ false
+    → drive_to limit n (Outside ∷ xs) ts ≡ drive_to limit n (Variable ∷ xs) ts
+unfolding drive_to moved may_end
+outside_variable limit n [] xs h = refl
+outside_variable limit n (t ∷ ts) xs h = same_move limit n Outside Variable t ts xs (rw h)
+
+pub branch_block : (limit n : ℕ) (ts : List Token) (xs : List Expected) → begins (is_keyword keyword.If) ts ≡ false
+    → drive_to limit n (Branch ∷ xs) ts ≡ drive_to limit n (Block ∷ xs) ts
+unfolding drive_to moved may_end
+branch_block limit n [] xs h = refl
+branch_block limit n (t ∷ ts) xs h = same_move limit n Branch Block t ts xs (rw h)

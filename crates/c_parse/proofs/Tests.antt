@@ -1,0 +1,110 @@
+-- What the tests of a token say.
+use Rattle.std.proofs.Common.{◌≡◌, ℕ, ◌<◌, ◌≤◌, ◌==◌, Bool, true, false, ◌&&◌, nat_lt, nat_eq, List, [], ◌∷◌, if◌then◌else◌, IsTrue, ◌↔◌, refl, ap, sym, ◌∙◌, arith}
+use Rattle.std.proofs.lemmas.Grind.{common_steps}
+use Rattle.c_tree.specs.declared.tokens.Token.{Token}
+use Rattle.c_tree.specs.declared.tokens.Keyword.{Keyword}
+use Rattle.c_tree.specs.declared.tokens.Keyword.TheVariants as keyword
+use Rattle.c_tree.specs.declared.tokens.Sign.{Sign}
+use Rattle.c_tree.specs.declared.tokens.Sign.TheVariants as sign
+use Rattle.c_tree.specs.Tokens.{one, word}
+use Rattle.c_parse.specs.Expected.{sign_number, keyword_number, is_sign, is_keyword, may_open, room_to, begins}
+
+-- the sign of a number
+abbrev pub numbered_sign : ℕ → Sign
+numbered_sign n = (if n == 0 then sign.OpenParenthesis else (if n == 1 then sign.CloseParenthesis else (if n == 2 then sign.OpenBracket else (if n == 3 then sign.CloseBracket else (if n == 4 then sign.OpenBrace else (if n == 5 then sign.CloseBrace else (if n == 6 then sign.Semicolon else (if n == 7 then sign.Comma else (if n == 8 then sign.Assign else (if n == 9 then sign.Or else (if n == 10 then sign.And else (if n == 11 then sign.BitOr else (if n == 12 then sign.BitXor else (if n == 13 then sign.BitAnd else (if n == 14 then sign.Equal else (if n == 15 then sign.NotEqual else (if n == 16 then sign.Less else (if n == 17 then sign.Greater else (if n == 18 then sign.LessEqual else (if n == 19 then sign.GreaterEqual else (if n == 20 then sign.ShiftLeft else (if n == 21 then sign.ShiftRight else (if n == 22 then sign.Plus else (if n == 23 then sign.Minus else (if n == 24 then sign.Star else (if n == 25 then sign.Slash else (if n == 26 then sign.Percent else (if n == 27 then sign.Tilde else sign.Exclamation))))))))))))))))))))))))))))
+
+pub sign_again : (s : Sign) → numbered_sign (sign_number s) ≡ s
+sign_again sign.OpenParenthesis = refl
+sign_again sign.CloseParenthesis = refl
+sign_again sign.OpenBracket = refl
+sign_again sign.CloseBracket = refl
+sign_again sign.OpenBrace = refl
+sign_again sign.CloseBrace = refl
+sign_again sign.Semicolon = refl
+sign_again sign.Comma = refl
+sign_again sign.Assign = refl
+sign_again sign.Or = refl
+sign_again sign.And = refl
+sign_again sign.BitOr = refl
+sign_again sign.BitXor = refl
+sign_again sign.BitAnd = refl
+sign_again sign.Equal = refl
+sign_again sign.NotEqual = refl
+sign_again sign.Less = refl
+sign_again sign.Greater = refl
+sign_again sign.LessEqual = refl
+sign_again sign.GreaterEqual = refl
+sign_again sign.ShiftLeft = refl
+sign_again sign.ShiftRight = refl
+sign_again sign.Plus = refl
+sign_again sign.Minus = refl
+sign_again sign.Star = refl
+sign_again sign.Slash = refl
+sign_again sign.Percent = refl
+sign_again sign.Tilde = refl
+sign_again sign.Exclamation = refl
+
+abbrev pub numbered_keyword : ℕ → Keyword
+numbered_keyword n = (if n == 0 then keyword.Int else (if n == 1 then keyword.Unsigned else (if n == 2 then keyword.Void else (if n == 3 then keyword.Scratchpad else (if n == 4 then keyword.Send else (if n == 5 then keyword.If else (if n == 6 then keyword.Else else (if n == 7 then keyword.While else (if n == 8 then keyword.For else (if n == 9 then keyword.Break else (if n == 10 then keyword.Continue else (if n == 11 then keyword.Return else keyword.Other))))))))))))
+
+pub keyword_again : (k : Keyword) → numbered_keyword (keyword_number k) ≡ k
+keyword_again keyword.Int = refl
+keyword_again keyword.Unsigned = refl
+keyword_again keyword.Void = refl
+keyword_again keyword.Scratchpad = refl
+keyword_again keyword.Send = refl
+keyword_again keyword.If = refl
+keyword_again keyword.Else = refl
+keyword_again keyword.While = refl
+keyword_again keyword.For = refl
+keyword_again keyword.Break = refl
+keyword_again keyword.Continue = refl
+keyword_again keyword.Return = refl
+keyword_again keyword.Other = refl
+
+number_tested : (b : Bool) (m n : ℕ) → (IsTrue b → m ≡ n) → (m ≡ n → IsTrue b) → b ≡ nat_eq m n
+number_tested b m n to from = grind (arith, common_steps)
+
+pub sign_tested : (b : Bool) (s t : Sign) → (IsTrue b ↔ (t ≡ s)) → b ≡ is_sign s (one t)
+unfolding is_sign
+sign_tested b s t same = number_tested b (sign_number s) (sign_number t) (λ h. ap sign_number (sym (same.0 h)))
+    (λ e. same.1 (sym (sign_again t) ∙ ap numbered_sign (sym e) ∙ sign_again s))
+
+pub keyword_tested : (b : Bool) (s t : Keyword) → (IsTrue b ↔ (t ≡ s)) → b ≡ is_keyword s (word t)
+unfolding is_keyword
+keyword_tested b s t same = number_tested b (keyword_number s) (keyword_number t) (λ h. ap keyword_number (sym (same.0 h)))
+    (λ e. same.1 (sym (keyword_again t) ∙ ap numbered_keyword (sym e) ∙ keyword_again s))
+
+pub sign_found : (b : Bool) (s t : Sign) → (IsTrue b ↔ (t ≡ s)) → b ≡ true → one t ≡ one s
+sign_found b s t same h = ap one (same.0 (grind (arith, common_steps)))
+
+pub keyword_found : (b : Bool) (s t : Keyword) → (IsTrue b ↔ (t ≡ s)) → b ≡ true → word t ≡ word s
+keyword_found b s t same h = ap word (same.0 (grind (arith, common_steps)))
+
+pub may_not_open : (limit n : ℕ) (s : Sign) (ts : List Token) → begins (is_sign s) ts ≡ false → begins (may_open (room_to limit n) s) ts ≡ false
+unfolding may_open
+may_not_open limit n s [] h = refl
+may_not_open limit n s (t ∷ ts) h = ap (λ b. b && room_to limit n) h
+
+pub none_open : (limit n : ℕ) (s : Sign) (ts : List Token) → limit ≤ n → begins (may_open (room_to limit n) s) ts ≡ false
+unfolding may_open
+none_open limit n s [] h = refl
+none_open limit n s (t ∷ ts) h = no_more (is_sign s t) n h
+  where
+    no_more : (b : Bool) (n : ℕ) → limit ≤ n → (b && nat_lt n limit) ≡ false
+    no_more true n h = grind (arith, common_steps)
+    no_more false n h = refl
+
+pub is_itself : (s : Sign) → is_sign s (one s) ≡ true
+unfolding is_sign
+is_itself s = itself (sign_number s)
+  where
+    itself : (n : ℕ) → nat_eq n n ≡ true
+    itself n = grind (arith, common_steps)
+
+pub opens_itself : (limit n : ℕ) (s : Sign) → n < limit → may_open (room_to limit n) s (one s) ≡ true
+unfolding may_open
+opens_itself limit n s h = rw is_itself (fewer n h)
+  where
+    fewer : (n : ℕ) → n < limit → nat_lt n limit ≡ true
+    fewer n h = grind (arith, common_steps)

@@ -1,0 +1,15 @@
+use Rattle.std.proofs.Common.{◌≡◌, ◌≢◌, ◌<◌, [], ◌∷◌, ◌++◌, length}
+use Rattle.c_tree.specs.Tokens.{parameters_tokens}
+use Rattle.c_parse.specs.Expected.{Parameters, MoreParameters, Passes}
+use Rattle.c_parse.proofs.functions.parameters.Given as goal
+
+abbrev pub invariant-loop-behind : goal.invariant-loop-behind
+invariant-loop-behind l = record {
+  written : l.fn.tokens ≡ parameters_tokens l.parameters.items ++ l.rest;
+  some : l.parameters.items ≢ [];
+  passes : Passes l.depth (Parameters ∷ []) l.fn.tokens (MoreParameters ∷ []) l.rest;
+  shorter : length l.rest < length l.fn.tokens;
+}
+
+abbrev pub decreases-loop-behind : goal.decreases-loop-behind
+decreases-loop-behind l = length l.rest

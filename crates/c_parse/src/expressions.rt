@@ -1,0 +1,129 @@
+ghost use Rattle.std.specs.Prelude.{◌≡◌, ◌<◌, ◌≤◌, [], ◌∷◌, ◌++◌, length, false, IfOk, IfErr};
+ghost use Rattle.std.specs.List.{AllByRecursion as Each};
+ghost use Rattle.c_tree.specs.Tokens.{expr_tokens, args_tokens, call_tokens, right_tokens, one};
+ghost use Rattle.c_tree.specs.Fits.{ExprFits, RightFits, rank};
+ghost use Rattle.c_tree.specs.declared.tokens.Sign.TheVariants as sign;
+ghost use Rattle.c_parse.specs.Expected as expected;
+ghost use Rattle.c_parse.specs.Expected.{Operand, Tail, Passes, Refuses, begins, is_prefix, level_ahead};
+
+use crate::ahead::{Read, after, copy, name_at, number_at, opened, sign, stop};
+use crate::operators::{operator_at, prefix_at};
+use c_tree::{Expr, Right, Sign, Step, Token};
+use std::alloc::Global;
+use tc_word::{List, Text};
+
+/// An expression, with so many brackets open.
+#[cycle(expression)]
+#[tactic(auto, using(crate::proofs::Steps::no_tail))]
+pub fn expression(alloc: Global, depth: u32, tokens: &[Token]) -> Read<'_, Expr>
+    ensures written { IfOk result (λ r. tokens.now ≡ expr_tokens r.0 ++ r.1.now) }
+    ensures fits { IfOk result (λ r. ExprFits r.0) }
+    ensures passes { IfOk result (λ r. Passes depth (Operand ∷ Tail ∷ []) tokens.now [] r.1.now) }
+    ensures refuses { IfErr result (Refuses depth (Operand ∷ Tail ∷ []) tokens.now) }
+    ensures shorter { IfOk result (λ r. length r.1.now < length tokens.now) }
+{
+    chain(alloc, depth, 1, tokens)
+}
+
+// operands with operators of this level between them, or one operand of a greater level
+#[cycle(expression)]
+#[tactic(auto, using(crate::proofs::Steps::tail_operator, crate::proofs::Steps::level_small, c_tree::proofs::Chains::tokens_of_steps_push, c_tree::proofs::Chains::steps_fit_push, c_tree::proofs::Chains::chain_tokens, c_tree::proofs::Chains::chain_fits))]
+fn chain(alloc: Global, depth: u32, level: u8, tokens: &[Token]) -> Read<'_, Expr>
+    requires low { 1 ≤ level }
+    requires high { level ≤ 11 }
+    ensures written { IfOk result (λ r. tokens.now ≡ expr_tokens r.0 ++ r.1.now) }
+    ensures fits { IfOk result (λ r. ExprFits r.0) }
+    ensures above { IfOk result (λ r. level ≤ rank r.0) }
+    ensures ends { IfOk result (λ r. level_ahead r.1.now < level) }
+    ensures passes { IfOk result (λ r. Passes depth (Operand ∷ Tail ∷ []) tokens.now (Tail ∷ []) r.1.now) }
+    ensures refuses { IfErr result (Refuses depth (Operand ∷ Tail ∷ []) tokens.now) }
+    ensures shorter { IfOk result (λ r. length r.1.now < length tokens.now) }
+{
+    if level > 10 {
+        return operand(alloc, depth, tokens);
+    }
+    let (first, mut rest) = chain(alloc, depth, level + 1, tokens)?;
+    let mut steps = Vec::new(alloc);
+    while let Some((op, behind)) = operator_at(level, rest) {
+        let (operand, next) = chain(alloc, depth, level + 1, behind)?;
+        steps.push(Step { op, operand })?;
+        rest = next;
+    }
+    if steps.is_empty() {
+        return Ok((first, rest));
+    }
+    let first = Box::new(alloc, first)?;
+    Ok((
+        Expr::Chain {
+            level,
+            first,
+            rest: List::of(steps),
+        },
+        rest,
+    ))
+}
+
+// signs and a primary expression
+#[cycle(expression)]
+#[tactic(auto, using(crate::proofs::Steps::operand_prefix), unfolding(c_tree::specs::Tokens::expr_tokens, c_tree::specs::Fits::ExprFits))]
+fn operand(alloc: Global, depth: u32, tokens: &[Token]) -> Read<'_, Expr>
+    ensures written { IfOk result (λ r. tokens.now ≡ expr_tokens r.0 ++ r.1.now) }
+    ensures fits { IfOk result (λ r. ExprFits r.0) }
+    ensures above { IfOk result (λ r. 11 ≤ rank r.0) }
+    ensures passes { IfOk result (λ r. Passes depth (Operand ∷ []) tokens.now [] r.1.now) }
+    ensures refuses { IfErr result (Refuses depth (Operand ∷ []) tokens.now) }
+    ensures shorter { IfOk result (λ r. length r.1.now < length tokens.now) }
+{
+    let mut ops = Vec::new(alloc);
+    let mut rest = tokens;
+    while let Some((op, behind)) = prefix_at(rest) {
+        ops.push(op)?;
+        rest = behind;
+    }
+    let (of, rest) = primary(alloc, depth, rest)?;
+    if ops.is_empty() {
+        return Ok((of, rest));
+    }
+    let of = Box::new(alloc, of)?;
+    Ok((
+        Expr::Unary {
+            ops: List::of(ops),
+            of,
+        },
+        rest,
+    ))
+}
+
+// a number, a variable, an element of an array, or an expression in parentheses
+#[cycle(expression)]
+#[tactic(auto, using(crate::proofs::Steps::operand_number, crate::proofs::Steps::operand_name, crate::proofs::Steps::operand_paren, crate::proofs::Steps::no_operand, crate::proofs::Steps::index_bracket, crate::proofs::Steps::no_index, crate::proofs::Steps::sign_read, crate::proofs::Steps::no_sign), unfolding(c_tree::specs::Tokens::expr_tokens, c_tree::specs::Fits::ExprFits))]
+fn primary(alloc: Global, depth: u32, tokens: &[Token]) -> Read<'_, Expr>
+    requires { begins is_prefix tokens.now ≡ false }
+    ensures written { IfOk result (λ r. tokens.now ≡ expr_tokens r.0 ++ r.1.now) }
+    ensures fits { IfOk result (λ r. ExprFits r.0) }
+    ensures above { IfOk result (λ r. 12 ≤ rank r.0) }
+    ensures passes { IfOk result (λ r. Passes depth (Operand ∷ []) tokens.now [] r.1.now) }
+    ensures refuses { IfErr result (Refuses depth (Operand ∷ []) tokens.now) }
+    ensures shorter { IfOk result (λ r. length r.1.now < length tokens.now) }
+{
+    if let Some((value, unsigned, rest)) = number_at(tokens) {
+        return Ok((Expr::Number { value, unsigned }, rest));
+    }
+    if let Some((text, rest)) = name_at(tokens) {
+        let name = copy(alloc, text)?;
+        let Some(behind) = opened(Sign::OpenBracket, depth, rest) else {
+            return Ok((Expr::Name { name }, rest));
+        };
+        let (index, behind) = expression(alloc, depth + 1, behind)?;
+        let rest = sign(Sign::CloseBracket, behind)?;
+        let index = Box::new(alloc, index)?;
+        return Ok((Expr::Element { name, index }, rest));
+    }
+    let Some(behind) = opened(Sign::OpenParenthesis, depth, tokens) else {
+        return Err(stop(tokens));
+    };
+    let (inner, behind) = expression(alloc, depth + 1, behind)?;
+    let rest = sign(Sign::CloseParenthesis, behind)?;
+    let inner = Box::new(alloc, inner)?;
+    Ok((Expr::Paren { inner }, rest))
+}

@@ -1,0 +1,109 @@
+ghost use Rattle.std.specs.Prelude.{◌≡◌, ◌-◌, ◌<◌, ◌≤◌, [], ◌∷◌, ◌++◌, length, Some, None, IfOk, IfErr};
+ghost use Rattle.c_tree.specs.Tokens.{const_tokens, consts_tokens, initials_tokens, shape_tokens, ended, one};
+ghost use Rattle.c_tree.specs.declared.tokens.Sign.TheVariants as sign;
+ghost use Rattle.c_parse.specs.Expected.{Variable, Elements, Constant, MoreConstants, Passes, PassesTo, Refuses};
+
+use crate::ahead::{Read, after, bracket, number, number_at, opened, sign, stop};
+use c_tree::{Const, Length, Sign, Token};
+use std::alloc::Global;
+use tc_word::List;
+
+/// What is behind the name of a global variable or array: its length, if it is an array, and its first values.
+pub type Shape = (Option<Length>, List<Const>);
+
+// a constant with its sign
+#[tactic(auto, using(crate::proofs::Starts::constant_number, crate::proofs::Starts::constant_minus, crate::proofs::Starts::no_constant, crate::proofs::Steps::number_read, crate::proofs::Steps::no_number))]
+fn constant(depth: u32, tokens: &[Token]) -> Read<'_, Const>
+    ensures written { IfOk result (λ r. tokens.now ≡ const_tokens r.0 ++ r.1.now) }
+    ensures passes { IfOk result (λ r. Passes depth (Constant ∷ []) tokens.now [] r.1.now) }
+    ensures refuses { IfErr result (Refuses depth (Constant ∷ []) tokens.now) }
+    ensures shorter { IfOk result (λ r. length r.1.now < length tokens.now) }
+{
+    if let Some((value, unsigned, rest)) = number_at(tokens) {
+        let constant = Const {
+            negative: false,
+            value,
+            unsigned,
+        };
+        return Ok((constant, rest));
+    }
+    let Some(behind) = after(Sign::Minus, tokens) else {
+        return Err(stop(tokens));
+    };
+    let ((value, unsigned), rest) = number(behind)?;
+    let constant = Const {
+        negative: true,
+        value,
+        unsigned,
+    };
+    Ok((constant, rest))
+}
+
+// the first values of an array, behind their brace, and the closing one
+#[tactic(auto, using(crate::proofs::Starts::constants_next, crate::proofs::Starts::constants_done, crate::proofs::Starts::no_more_constants))]
+fn constants(alloc: Global, depth: u32, tokens: &[Token]) -> Read<'_, List<Const>>
+    ensures some { IfOk result (λ r. 1 ≤ length r.0) }
+    ensures written { IfOk result (λ r. tokens.now ≡ consts_tokens r.0 ++ one sign.CloseBrace ∷ r.1.now) }
+    ensures passes { IfOk result (λ r. PassesTo depth (Constant ∷ MoreConstants ∷ []) tokens.now (depth - 1) [] r.1.now) }
+    ensures refuses { IfErr result (Refuses depth (Constant ∷ MoreConstants ∷ []) tokens.now) }
+    ensures shorter { IfOk result (λ r. length r.1.now < length tokens.now) }
+{
+    let mut constants = Vec::new(alloc);
+    let (first, mut rest) = constant(depth, tokens)?;
+    constants.push(first)?;
+    while let Some(behind) = after(Sign::Comma, rest) {
+        let (further, next) = constant(depth, behind)?;
+        constants.push(further)?;
+        rest = next;
+    }
+    let rest = sign(Sign::CloseBrace, rest)?;
+    Ok((List::of(constants), rest))
+}
+
+/// What is behind a global's name, up to its semicolon.
+#[tactic(auto, using(crate::proofs::Starts::variable_array, crate::proofs::Starts::variable_assign, crate::proofs::Starts::variable_end, crate::proofs::Starts::no_variable, crate::proofs::Steps::sign_read, crate::proofs::Steps::no_sign, crate::proofs::Steps::number_read, crate::proofs::Steps::no_number))]
+pub fn shape(alloc: Global, depth: u32, tokens: &[Token]) -> Read<'_, Shape>
+    ensures written { IfOk result (λ r. tokens.now ≡ ended (shape_tokens r.0.0 r.0.1) ++ r.1.now) }
+    ensures passes { IfOk result (λ r. Passes depth (Variable ∷ []) tokens.now [] r.1.now) }
+    ensures refuses { IfErr result (Refuses depth (Variable ∷ []) tokens.now) }
+    ensures shorter { IfOk result (λ r. length r.1.now < length tokens.now) }
+    ensures one_value { IfOk result (λ r. r.0.0 ≡ None → length r.0.1 ≤ 1) }
+{
+    if let Some(behind) = opened(Sign::OpenBracket, depth, tokens) {
+        let ((value, unsigned), behind) = number(behind)?;
+        let behind = sign(Sign::CloseBracket, behind)?;
+        let (initial, rest) = elements(alloc, depth, behind)?;
+        return Ok(((Some(Length { value, unsigned }), initial), rest));
+    }
+    let mut initial = Vec::new(alloc);
+    if let Some(rest) = after(Sign::Semicolon, tokens) {
+        return Ok(((None, List::of(initial)), rest));
+    }
+    let Some(behind) = after(Sign::Assign, tokens) else {
+        return Err(stop(tokens));
+    };
+    let (constant, behind) = constant(depth, behind)?;
+    let rest = sign(Sign::Semicolon, behind)?;
+    initial.push(constant)?;
+    Ok(((None, List::of(initial)), rest))
+}
+
+// the first values of an array, up to its semicolon
+#[tactic(auto, using(crate::proofs::Starts::elements_assign, crate::proofs::Starts::elements_end, crate::proofs::Starts::no_elements, crate::proofs::Steps::sign_read, crate::proofs::Steps::no_sign, crate::proofs::Steps::bracket_read, crate::proofs::Steps::no_bracket, crate::proofs::Declared::initials_some))]
+fn elements(alloc: Global, depth: u32, tokens: &[Token]) -> Read<'_, List<Const>>
+    ensures written { IfOk result (λ r. tokens.now ≡ ended (initials_tokens r.0) ++ r.1.now) }
+    ensures passes { IfOk result (λ r. Passes depth (Elements ∷ []) tokens.now [] r.1.now) }
+    ensures refuses { IfErr result (Refuses depth (Elements ∷ []) tokens.now) }
+    ensures shorter { IfOk result (λ r. length r.1.now < length tokens.now) }
+{
+    if let Some(rest) = after(Sign::Semicolon, tokens) {
+        return Ok((List::of(Vec::new(alloc)), rest));
+    }
+    let Some(behind) = after(Sign::Assign, tokens) else {
+        return Err(stop(tokens));
+    };
+    let behind = bracket(Sign::OpenBrace, depth, behind)?;
+    let (initial, behind) = constants(alloc, depth + 1, behind)?;
+    let rest = sign(Sign::Semicolon, behind)?;
+    Ok((initial, rest))
+}

@@ -1,0 +1,193 @@
+ghost use Rattle.std.specs.Prelude.{◌≡◌, ◌-◌, ◌<◌, [], ◌∷◌, ◌++◌, length, false, IfOk, IfErr};
+ghost use Rattle.c_tree.specs.Tokens.{stmt_tokens, expr_tokens, kind_tokens, one, word};
+ghost use Rattle.c_tree.specs.Fits.{StmtFits, ExprFits};
+ghost use Rattle.c_tree.specs.declared.tokens.Keyword.TheVariants as keyword;
+ghost use Rattle.c_tree.specs.declared.tokens.Sign.TheVariants as sign;
+ghost use Rattle.c_tree.specs.declared.tokens.Token.TheVariants as token;
+ghost use Rattle.c_parse.specs.Expected.{three_tokens, Statement, Name, Number, Initial, AfterName, Given, Further, Open, Only, Passes, Refuses, begins, is_keyword, is_bound, may_open, room_at};
+
+use crate::ahead::{
+    Read, after, after_word, bracket, copy, name, name_at, number, opened, sign, stop,
+};
+use crate::expressions::expression;
+use crate::kinds::kind_at;
+use crate::rights::{arguments, right};
+use c_tree::{Expr, Keyword, Kind, Sign, Stmt, Token};
+use std::alloc::Global;
+use tc_word::Text;
+
+/// A statement that holds no other.
+#[tactic(auto, using(crate::proofs::Starts::statement_kind, crate::proofs::Starts::statement_name, crate::proofs::Starts::statement_send, crate::proofs::Starts::statement_break, crate::proofs::Starts::statement_continue, crate::proofs::Starts::statement_return, crate::proofs::Starts::no_statement, crate::proofs::Steps::sign_read, crate::proofs::Steps::no_sign), unfolding(c_tree::specs::Tokens::stmt_tokens, c_tree::specs::Fits::StmtFits))]
+pub fn simple(alloc: Global, depth: u32, tokens: &[Token]) -> Read<'_, Stmt>
+    requires no_if { begins (is_keyword keyword.If) tokens.now ≡ false }
+    requires no_bound { begins is_bound tokens.now ≡ false }
+    requires no_block { begins (may_open (room_at depth) sign.OpenBrace) tokens.now ≡ false }
+    requires no_while { begins (is_keyword keyword.While) tokens.now ≡ false }
+    requires no_for { begins (is_keyword keyword.For) tokens.now ≡ false }
+    ensures written { IfOk result (λ r. tokens.now ≡ stmt_tokens r.0 ++ r.1.now) }
+    ensures fits { IfOk result (λ r. StmtFits r.0) }
+    ensures passes { IfOk result (λ r. Passes depth (Statement ∷ []) tokens.now [] r.1.now) }
+    ensures refuses { IfErr result (Refuses depth (Statement ∷ []) tokens.now) }
+    ensures shorter { IfOk result (λ r. length r.1.now < length tokens.now) }
+{
+    if let Some((kind, behind)) = kind_at(tokens) {
+        return declaration(alloc, depth, kind, behind);
+    }
+    if let Some((text, behind)) = name_at(tokens) {
+        return named(alloc, depth, text, behind);
+    }
+    if let Some(behind) = after_word(Keyword::Send, tokens) {
+        return sent(alloc, depth, behind);
+    }
+    if let Some(behind) = after_word(Keyword::Break, tokens) {
+        let rest = sign(Sign::Semicolon, behind)?;
+        return Ok((Stmt::Break, rest));
+    }
+    if let Some(behind) = after_word(Keyword::Continue, tokens) {
+        let rest = sign(Sign::Semicolon, behind)?;
+        return Ok((Stmt::Continue, rest));
+    }
+    let Some(behind) = after_word(Keyword::Return, tokens) else {
+        return Err(stop(tokens));
+    };
+    given(alloc, depth, behind)
+}
+
+// a variable of a block, behind its kind
+#[tactic(auto, using(crate::proofs::Starts::initial_assign, crate::proofs::Starts::initial_end, crate::proofs::Starts::no_initial, crate::proofs::Steps::name_read, crate::proofs::Steps::no_name, crate::proofs::Steps::sign_read, crate::proofs::Steps::no_sign), unfolding(c_tree::specs::Tokens::stmt_tokens, c_tree::specs::Fits::StmtFits))]
+fn declaration(alloc: Global, depth: u32, kind: Kind, tokens: &[Token]) -> Read<'_, Stmt>
+    ensures written { IfOk result (λ r. kind_tokens kind ++ tokens.now ≡ stmt_tokens r.0 ++ r.1.now) }
+    ensures fits { IfOk result (λ r. StmtFits r.0) }
+    ensures passes { IfOk result (λ r. Passes depth (Name ∷ Initial ∷ []) tokens.now [] r.1.now) }
+    ensures refuses { IfErr result (Refuses depth (Name ∷ Initial ∷ []) tokens.now) }
+    ensures shorter { IfOk result (λ r. length r.1.now < length tokens.now) }
+{
+    let (text, behind) = name(tokens)?;
+    let name = copy(alloc, text)?;
+    if let Some(rest) = after(Sign::Semicolon, behind) {
+        return Ok((
+            Stmt::Declare {
+                kind,
+                name,
+                right: None,
+            },
+            rest,
+        ));
+    }
+    let Some(behind) = after(Sign::Assign, behind) else {
+        return Err(stop(behind));
+    };
+    let (right, behind) = right(alloc, depth, behind)?;
+    let rest = sign(Sign::Semicolon, behind)?;
+    Ok((
+        Stmt::Declare {
+            kind,
+            name,
+            right: Some(right),
+        },
+        rest,
+    ))
+}
+
+// a statement that begins with this name
+#[tactic(auto, using(crate::proofs::Starts::after_name_assign, crate::proofs::Starts::after_name_bracket, crate::proofs::Starts::after_name_call, crate::proofs::Starts::no_after_name, crate::proofs::Steps::sign_read, crate::proofs::Steps::no_sign), unfolding(c_tree::specs::Tokens::stmt_tokens, c_tree::specs::Fits::StmtFits))]
+fn named<'t>(alloc: Global, depth: u32, text: &Text, tokens: &'t [Token]) -> Read<'t, Stmt>
+    ensures written { IfOk result (λ r. token.Word text.now ∷ tokens.now ≡ stmt_tokens r.0 ++ r.1.now) }
+    ensures fits { IfOk result (λ r. StmtFits r.0) }
+    ensures passes { IfOk result (λ r. Passes depth (AfterName ∷ []) tokens.now [] r.1.now) }
+    ensures refuses { IfErr result (Refuses depth (AfterName ∷ []) tokens.now) }
+    ensures shorter { IfOk result (λ r. length r.1.now < length tokens.now) }
+{
+    let name = copy(alloc, text)?;
+    if let Some(behind) = after(Sign::Assign, tokens) {
+        let (right, behind) = right(alloc, depth, behind)?;
+        let rest = sign(Sign::Semicolon, behind)?;
+        return Ok((Stmt::Set { name, right }, rest));
+    }
+    if let Some(behind) = opened(Sign::OpenBracket, depth, tokens) {
+        let (index, behind) = expression(alloc, depth + 1, behind)?;
+        let behind = sign(Sign::CloseBracket, behind)?;
+        let behind = sign(Sign::Assign, behind)?;
+        let (right, behind) = right(alloc, depth, behind)?;
+        let rest = sign(Sign::Semicolon, behind)?;
+        return Ok((Stmt::SetElement { name, index, right }, rest));
+    }
+    let Some(behind) = opened(Sign::OpenParenthesis, depth, tokens) else {
+        return Err(stop(tokens));
+    };
+    let (args, behind) = arguments(alloc, depth + 1, behind)?;
+    let rest = sign(Sign::Semicolon, behind)?;
+    Ok((Stmt::Call { name, args }, rest))
+}
+
+// a comma and an expression
+#[tactic(auto, using(crate::proofs::Starts::further_comma, crate::proofs::Starts::no_further))]
+fn further(alloc: Global, depth: u32, tokens: &[Token]) -> Read<'_, Expr>
+    ensures written { IfOk result (λ r. tokens.now ≡ one sign.Comma ∷ (expr_tokens r.0 ++ r.1.now)) }
+    ensures fits { IfOk result (λ r. ExprFits r.0) }
+    ensures passes { IfOk result (λ r. Passes depth (Further ∷ []) tokens.now [] r.1.now) }
+    ensures refuses { IfErr result (Refuses depth (Further ∷ []) tokens.now) }
+    ensures shorter { IfOk result (λ r. length r.1.now < length tokens.now) }
+{
+    let behind = sign(Sign::Comma, tokens)?;
+    expression(alloc, depth, behind)
+}
+
+// where a sending takes its words, where it puts them, and how many
+fn three(alloc: Global, depth: u32, tokens: &[Token]) -> Read<'_, (Expr, Expr, Expr)>
+    ensures written { IfOk result (λ r. tokens.now ≡ three_tokens r.0.0 r.0.1 r.0.2 ++ r.1.now) }
+    ensures source_fits { IfOk result (λ r. ExprFits r.0.0) }
+    ensures target_fits { IfOk result (λ r. ExprFits r.0.1) }
+    ensures count_fits { IfOk result (λ r. ExprFits r.0.2) }
+    ensures passes { IfOk result (λ r. Passes depth (Further ∷ Further ∷ Further ∷ []) tokens.now [] r.1.now) }
+    ensures refuses { IfErr result (Refuses depth (Further ∷ Further ∷ Further ∷ []) tokens.now) }
+    ensures shorter { IfOk result (λ r. length r.1.now < length tokens.now) }
+{
+    let (source, behind) = further(alloc, depth, tokens)?;
+    let (target, behind) = further(alloc, depth, behind)?;
+    let (count, rest) = further(alloc, depth, behind)?;
+    Ok(((source, target, count), rest))
+}
+
+// a sending, behind its word
+#[tactic(auto, using(crate::proofs::Steps::sign_read, crate::proofs::Steps::no_sign, crate::proofs::Steps::bracket_read, crate::proofs::Steps::no_bracket, crate::proofs::Steps::name_read, crate::proofs::Steps::no_name, crate::proofs::Steps::number_read, crate::proofs::Steps::no_number), unfolding(c_tree::specs::Tokens::stmt_tokens, c_tree::specs::Fits::StmtFits))]
+fn sent(alloc: Global, depth: u32, tokens: &[Token]) -> Read<'_, Stmt>
+    ensures written { IfOk result (λ r. word keyword.Send ∷ tokens.now ≡ stmt_tokens r.0 ++ r.1.now) }
+    ensures fits { IfOk result (λ r. StmtFits r.0) }
+    ensures passes { IfOk result (λ r. Passes depth (Open sign.OpenParenthesis ∷ Number ∷ Further ∷ Further ∷ Further ∷ Only sign.CloseParenthesis ∷ Only sign.Semicolon ∷ []) tokens.now [] r.1.now) }
+    ensures refuses { IfErr result (Refuses depth (Open sign.OpenParenthesis ∷ Number ∷ Further ∷ Further ∷ Further ∷ Only sign.CloseParenthesis ∷ Only sign.Semicolon ∷ []) tokens.now) }
+    ensures shorter { IfOk result (λ r. length r.1.now < length tokens.now) }
+{
+    let behind = bracket(Sign::OpenParenthesis, depth, tokens)?;
+    let ((core, core_unsigned), behind) = number(behind)?;
+    let ((source, target, count), behind) = three(alloc, depth + 1, behind)?;
+    let behind = sign(Sign::CloseParenthesis, behind)?;
+    let rest = sign(Sign::Semicolon, behind)?;
+    Ok((
+        Stmt::Send {
+            core,
+            core_unsigned,
+            source,
+            target,
+            count,
+        },
+        rest,
+    ))
+}
+
+// what a function gives, behind `return`
+#[tactic(auto, using(crate::proofs::Starts::given_none, crate::proofs::Starts::given_operand, crate::proofs::Steps::sign_read, crate::proofs::Steps::no_sign), unfolding(c_tree::specs::Tokens::stmt_tokens, c_tree::specs::Fits::StmtFits))]
+fn given(alloc: Global, depth: u32, tokens: &[Token]) -> Read<'_, Stmt>
+    ensures written { IfOk result (λ r. word keyword.Return ∷ tokens.now ≡ stmt_tokens r.0 ++ r.1.now) }
+    ensures fits { IfOk result (λ r. StmtFits r.0) }
+    ensures passes { IfOk result (λ r. Passes depth (Given ∷ []) tokens.now [] r.1.now) }
+    ensures refuses { IfErr result (Refuses depth (Given ∷ []) tokens.now) }
+    ensures shorter { IfOk result (λ r. length r.1.now < length tokens.now) }
+{
+    if let Some(rest) = after(Sign::Semicolon, tokens) {
+        return Ok((Stmt::Return { value: None }, rest));
+    }
+    let (value, behind) = expression(alloc, depth, tokens)?;
+    let rest = sign(Sign::Semicolon, behind)?;
+    Ok((Stmt::Return { value: Some(value) }, rest))
+}

@@ -1,0 +1,96 @@
+ghost use Rattle.std.specs.Prelude.{◌≡◌, ◌≢◌, ◌<◌, [], ◌∷◌, ◌++◌, length, None, IfOk, IfErr};
+ghost use Rattle.std.specs.List.{AllByRecursion as Each};
+ghost use Rattle.c_tree.specs.Tokens.{item_tokens, items_tokens, kind_tokens};
+ghost use Rattle.c_tree.specs.Fits.{ItemFits};
+ghost use Rattle.c_parse.specs.Expected.{Items, Name, Outside, Variable as variable_here, Passes, Refuses, StopsAt, drive, scratch_tokens};
+
+use crate::ahead::{Read, after_word, bracket, copy, name, opened, stop};
+use crate::faults::Stop;
+use crate::functions::{function, kind};
+use crate::globals::shape;
+use crate::kinds::kind_at;
+use c_tree::{Global as Variable, Item, Keyword, Kind, Sign, Token};
+use std::alloc::Global;
+use tc_word::List;
+
+/// All declarations of a text.
+pub fn items(alloc: Global, tokens: &[Token]) -> Result<List<Item>, Stop>
+    ensures written { IfOk result (λ items. tokens.now ≡ items_tokens items) }
+    ensures fits { IfOk result (λ items. Each ItemFits items) }
+    ensures read { IfOk result (λ items. drive 0 (Items ∷ []) tokens.now ≡ None) }
+    ensures refuses { IfErr result (StopsAt tokens.now) }
+{
+    let mut items = Vec::new(alloc);
+    let mut rest = tokens;
+    while !rest.is_empty() {
+        let (item, behind) = item(alloc, rest)?;
+        items.push(item)?;
+        rest = behind;
+    }
+    Ok(List::of(items))
+}
+
+// a declaration
+#[tactic(auto, using(crate::proofs::Starts::items_kind, crate::proofs::Starts::items_scratch, crate::proofs::Starts::items_void, crate::proofs::Starts::no_items, crate::proofs::Starts::kind_kind, crate::proofs::Starts::outside_function, crate::proofs::Steps::name_read, crate::proofs::Steps::no_name, crate::proofs::Steps::bracket_read, crate::proofs::Steps::no_bracket, crate::proofs::Steps::none_behind))]
+fn item(alloc: Global, tokens: &[Token]) -> Read<'_, Item>
+    requires { tokens.now ≢ [] }
+    ensures written { IfOk result (λ r. tokens.now ≡ item_tokens r.0 ++ r.1.now) }
+    ensures fits { IfOk result (λ r. ItemFits r.0) }
+    ensures passes { IfOk result (λ r. drive 0 (Items ∷ []) tokens.now ≡ drive 0 (Items ∷ []) r.1.now) }
+    ensures refuses { IfErr result (StopsAt tokens.now) }
+    ensures shorter { IfOk result (λ r. length r.1.now < length tokens.now) }
+{
+    if let Some((kind, behind)) = kind_at(tokens) {
+        return outside(alloc, kind, behind);
+    }
+    if let Some(behind) = after_word(Keyword::Scratchpad, tokens) {
+        let (kind, behind) = kind(0, behind)?;
+        return variable(alloc, true, kind, behind);
+    }
+    let Some(behind) = after_word(Keyword::Void, tokens) else {
+        return Err(stop(tokens));
+    };
+    let (text, behind) = name(behind)?;
+    let behind = bracket(Sign::OpenParenthesis, 0, behind)?;
+    let (function, rest) = function(alloc, 0, None, text, behind)?;
+    Ok((Item::Function { function }, rest))
+}
+
+// a variable or a function, behind its kind
+#[tactic(auto, using(crate::proofs::Starts::outside_function, crate::proofs::Starts::outside_variable, crate::proofs::Steps::name_read, crate::proofs::Steps::no_name))]
+fn outside(alloc: Global, kind: Kind, tokens: &[Token]) -> Read<'_, Item>
+    ensures written { IfOk result (λ r. kind_tokens kind ++ tokens.now ≡ item_tokens r.0 ++ r.1.now) }
+    ensures fits { IfOk result (λ r. ItemFits r.0) }
+    ensures passes { IfOk result (λ r. Passes 0 (Name ∷ Outside ∷ []) tokens.now [] r.1.now) }
+    ensures refuses { IfErr result (Refuses 0 (Name ∷ Outside ∷ []) tokens.now) }
+    ensures shorter { IfOk result (λ r. length r.1.now < length tokens.now) }
+{
+    let (text, behind) = name(tokens)?;
+    let Some(behind) = opened(Sign::OpenParenthesis, 0, behind) else {
+        return variable(alloc, false, kind, tokens);
+    };
+    let (function, rest) = function(alloc, 0, Some(kind), text, behind)?;
+    Ok((Item::Function { function }, rest))
+}
+
+// a variable or an array, behind its kind
+#[tactic(auto, using(crate::proofs::Steps::name_read, crate::proofs::Steps::no_name))]
+fn variable(alloc: Global, scratch: bool, kind: Kind, tokens: &[Token]) -> Read<'_, Item>
+    ensures written { IfOk result (λ r. scratch_tokens scratch ++ (kind_tokens kind ++ tokens.now) ≡ item_tokens r.0 ++ r.1.now) }
+    ensures fits { IfOk result (λ r. ItemFits r.0) }
+    ensures passes { IfOk result (λ r. Passes 0 (Name ∷ variable_here ∷ []) tokens.now [] r.1.now) }
+    ensures refuses { IfErr result (Refuses 0 (Name ∷ variable_here ∷ []) tokens.now) }
+    ensures shorter { IfOk result (λ r. length r.1.now < length tokens.now) }
+{
+    let (text, behind) = name(tokens)?;
+    let name = copy(alloc, text)?;
+    let ((length, initial), rest) = shape(alloc, 0, behind)?;
+    let global = Variable {
+        scratch,
+        kind,
+        name,
+        length,
+        initial,
+    };
+    Ok((Item::Global { global }, rest))
+}

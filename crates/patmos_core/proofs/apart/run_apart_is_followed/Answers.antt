@@ -1,5 +1,0 @@
-use Rattle.patmos_core.proofs.Parts.{followed-run}
-use Rattle.patmos_core.proofs.apart.run_apart_is_followed.Goals as goal
-
-pub returns : goal.returns
-returns c = followed-run

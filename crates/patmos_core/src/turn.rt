@@ -1,0 +1,229 @@
+use crate::events::{ask_delivery, ask_store, event_at};
+use crate::phase::Phase;
+use crate::tasked::Tasked;
+use crate::window::next_act;
+use argo_ni::{NiEvent, NiKind};
+use patmos_model::PendingStore;
+use patmos_step::comm_word;
+use slot_arbiter::{Event, MOST_CYCLES, stamp_of};
+
+impl Tasked {
+    ghost use Rattle.std.specs.Prelude.{◌≡◌, ℕ, ◌+◌, ◌*◌, ◌≤◌, ◌<◌, true, List, IfSome, IsNone, IsSome};
+    ghost use Rattle.argo_ni.specs.Turn.{acts};
+    ghost use Rattle.argo_ni.specs.Event.{half_of, IsNextAct, IsDelivery};
+    ghost use Rattle.patmos_core.specs.declared.phase.Phase.TheVariants.{Delivery, Act};
+    ghost use Rattle.patmos_core.specs.declared.phase.Phase.TheVariants as phase;
+    ghost use Rattle.patmos_model.specs.State.{History};
+    ghost use Rattle.patmos_core.specs.Progress.{TellsNext, IsQuietAt};
+    ghost use Rattle.patmos_core.specs.Waiting.{IsAskedAt, IsOfPlace};
+    ghost use Rattle.patmos_core.specs.Position.{GoesOnAs, phases_done};
+    ghost use Rattle.patmos_step.specs.Shown.{core_of};
+
+    /// What the interface does next, if anything is left.
+    fn next_act(&self) -> Option<NiEvent>
+        ensures { TellsNext self.now.body.ni result }
+    {
+        next_act(&self.body.ni)
+    }
+
+    /// The first cycle from this one on in which something may happen, or else the limit.
+    #[tactic(auto, using(crate::proofs::Stillness::quiet_before, crate::proofs::Stillness::nothing_before))]
+    fn next_active(&self, next: Option<NiEvent>, limit: u64) -> u64
+        requires delivery { self.now.phase ≡ Delivery }
+        requires next { TellsNext self.now.body.ni next }
+        requires within { self.now.cycle ≤ limit }
+        requires most { limit ≤ MOST_CYCLES }
+        ensures from { self.now.cycle ≤ result }
+        ensures most { result ≤ limit }
+        ensures quiet { (h : History) (u : ℕ) → self.now.cycle ≤ u → u < result → IsQuietAt u (core_of self.now.body h) }
+        ensures nothing { (half : ℕ) → self.now.body.ni.from ≤ half → acts self.now.body.ni.interface half ≡ true → 2 * result ≤ half }
+    {
+        let own = self.body.next_active(self.cycle, limit).min(limit);
+        match next {
+            Some(act) => own.min(act.cycle),
+            None => own,
+        }
+    }
+
+    /// Goes over the cycles in which nothing happens.
+    #[tactic(auto)]
+    fn skip(&mut self, next: Option<NiEvent>, limit: u64)
+        requires delivery { self.old.phase ≡ Delivery }
+        requires next { TellsNext self.old.body.ni next }
+        requires within { self.old.cycle ≤ limit }
+        requires most { limit ≤ MOST_CYCLES }
+        ensures goes_on { GoesOnAs self.old self.new }
+        ensures delivery { self.new.phase ≡ Delivery }
+        ensures within { self.new.cycle ≤ limit }
+        ensures ni { self.new.body.ni ≡ self.old.body.ni }
+    {
+        self.cycle = self.next_active(next, limit);
+    }
+
+    /// The packets that are due come to their words; without one, the second phase is next.
+    fn deliver(&mut self, next: Option<NiEvent>) -> Option<Event>
+        requires delivery { self.old.phase ≡ Delivery }
+        requires next { TellsNext self.old.body.ni next }
+        requires early { self.old.cycle < MOST_CYCLES }
+        ensures goes_on { GoesOnAs self.old self.new }
+        ensures asked { IfSome result (IsAskedAt self.new) }
+        ensures fits { IfSome result (IsOfPlace self.new.body.place) }
+        ensures act { IsNone result → self.new.phase ≡ Act }
+        ensures cycle { self.new.cycle ≡ self.old.cycle }
+        ensures ni { self.new.body.ni ≡ self.old.body.ni }
+    {
+        match self.due_packet(next) {
+            Some(packet) => Some(self.delivery(&packet)),
+            None => {
+                self.pass(next);
+                None
+            }
+        }
+    }
+
+    // the packet that is due in this cycle
+    #[tactic(auto, using(crate::proofs::Stillness::half_bounds, crate::proofs::Stillness::comes_later))]
+    fn due_packet(&self, next: Option<NiEvent>) -> Option<Delivered>
+        requires delivery { self.now.phase ≡ Delivery }
+        requires next { TellsNext self.now.body.ni next }
+        ensures due { IfSome result (λ packet. IsNextAct self.now.body.ni (2 * self.now.cycle)) }
+        ensures packet { IfSome result (λ packet. IsDelivery self.now.body.ni.interface self.now.cycle packet.target packet.first packet.count packet.values) }
+        ensures none { IsNone result → IfSome next (λ e. 2 * self.now.cycle < half_of e) }
+    {
+        let act = next?;
+        let NiKind::Deliver {
+            target,
+            first,
+            count,
+            values,
+        } = act.kind
+        else {
+            return None;
+        };
+        if act.cycle != self.cycle {
+            return None;
+        }
+        Some(Delivered {
+            target,
+            first,
+            count,
+            values,
+        })
+    }
+
+    // without a packet that is due, the second phase is next
+    fn pass(&mut self, next: Option<NiEvent>)
+        requires delivery { self.old.phase ≡ Delivery }
+        requires next { TellsNext self.old.body.ni next }
+        requires later { IfSome next (λ e. 2 * self.old.cycle < half_of e) }
+        ensures goes_on { GoesOnAs self.old self.new }
+        ensures act { self.new.phase ≡ Act }
+        ensures cycle { self.new.cycle ≡ self.old.cycle }
+        ensures ni { self.new.body.ni ≡ self.old.body.ni }
+    {
+        self.phase = Phase::Act;
+    }
+
+    // the event of a packet that is due
+    fn delivery(&self, packet: &Delivered) -> Event
+        requires delivery { self.now.phase ≡ Delivery }
+        requires due { IsNextAct self.now.body.ni (2 * self.now.cycle) }
+        requires packet { IsDelivery self.now.body.ni.interface self.now.cycle packet.now.target packet.now.first packet.now.count packet.now.values }
+        requires early { self.now.cycle < MOST_CYCLES }
+        ensures asked { IsAskedAt self.now result }
+        ensures fits { IsOfPlace self.now.body.place result }
+    {
+        let mut event = event_at(stamp_of(&self.body.place, self.cycle, 0));
+        let word = comm_word(packet.target, packet.first);
+        ask_delivery(&mut event, word, packet.count, packet.values);
+        event
+    }
+
+    /// Goes on by a part of a cycle, or more where nothing is asked for: up to the limit, or to an event.
+    fn step(&mut self, limit: u64) -> Option<Event>
+        requires below { self.old.cycle < limit }
+        requires most { limit ≤ MOST_CYCLES }
+        ensures goes_on { GoesOnAs self.old self.new }
+        ensures asked { IfSome result (IsAskedAt self.new) }
+        ensures fits { IfSome result (IsOfPlace self.new.body.place) }
+        ensures below { IsSome result → self.new.cycle < limit }
+        ensures within { self.new.cycle ≤ limit }
+        ensures whole { self.new.cycle ≡ limit → self.new.phase ≡ Delivery }
+        ensures further { IsNone result → phases_done self.old.cycle self.old.phase < phases_done self.new.cycle self.new.phase }
+    {
+        match self.phase {
+            Phase::Delivery => self.begin(limit),
+            Phase::Act => {
+                let next = self.next_act();
+                self.act(next)
+            }
+            Phase::Completion(pending_store) => Some(self.store(pending_store)),
+        }
+    }
+
+    // goes over the cycles in which nothing happens, and through the first one in which something may
+    fn begin(&mut self, limit: u64) -> Option<Event>
+        requires delivery { self.old.phase ≡ Delivery }
+        requires below { self.old.cycle < limit }
+        requires most { limit ≤ MOST_CYCLES }
+        ensures goes_on { GoesOnAs self.old self.new }
+        ensures asked { IfSome result (IsAskedAt self.new) }
+        ensures fits { IfSome result (IsOfPlace self.new.body.place) }
+        ensures below { IsSome result → self.new.cycle < limit }
+        ensures within { self.new.cycle ≤ limit }
+        ensures whole { self.new.cycle ≡ limit → self.new.phase ≡ Delivery }
+        ensures further { IsNone result → phases_done self.old.cycle self.old.phase < phases_done self.new.cycle self.new.phase }
+    {
+        let next = self.next_act();
+        self.skip(next, limit);
+        if self.cycle == limit {
+            return None;
+        }
+        if let Some(event) = self.deliver(next) {
+            return Some(event);
+        }
+        self.act(next)
+    }
+
+    // the event of a pending store
+    fn store(&self, pending_store: PendingStore) -> Event
+        requires pending_store { self.now.phase ≡ phase.Completion pending_store }
+        requires early { self.now.cycle < MOST_CYCLES }
+        ensures asked { IsAskedAt self.now result }
+        ensures fits { IsOfPlace self.now.body.place result }
+    {
+        let mut event = event_at(stamp_of(&self.body.place, self.cycle, 1));
+        ask_store(&mut event, pending_store.word, pending_store.value);
+        event
+    }
+
+    /// Goes on to the next event before the limit, or else up to the limit.
+    pub fn run(&mut self, limit: u64) -> Option<Event>
+        requires within { self.old.cycle ≤ limit }
+        requires whole { self.old.cycle ≡ limit → self.old.phase ≡ Delivery }
+        requires most { limit ≤ MOST_CYCLES }
+        ensures goes_on { GoesOnAs self.old self.new }
+        ensures asked { IfSome result (IsAskedAt self.new) }
+        ensures fits { IfSome result (IsOfPlace self.new.body.place) }
+        ensures below { IsSome result → self.new.cycle < limit }
+        ensures through { IsNone result → self.new.cycle ≡ limit }
+        ensures whole { self.new.cycle ≡ limit → self.new.phase ≡ Delivery }
+    {
+        while self.cycle < limit {
+            if let Some(event) = self.step(limit) {
+                return Some(event);
+            }
+        }
+        None
+    }
+}
+
+/// A packet that comes to words of a communication memory: the first `count` of the values, from word
+/// `first` on.
+#[derive(Clone, Copy)]
+struct Delivered {
+    target: u32,
+    first: u32,
+    count: u32,
+    values: [u32; 2],
+}

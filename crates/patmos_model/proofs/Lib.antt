@@ -1,0 +1,10 @@
+pub mod Parts
+pub mod Idle
+pub mod Leaves
+pub mod Constants
+pub mod HeldWords
+pub mod NarrowWords
+pub mod RegisterWords
+pub mod CellRanges
+pub mod CoreRanges
+pub mod Moved

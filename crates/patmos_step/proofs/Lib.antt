@@ -1,0 +1,14 @@
+pub mod Branches
+pub mod Granted
+pub mod MainCells
+pub mod Places
+pub mod Spills
+pub mod Traces
+pub mod Sleeping
+pub mod Rests
+pub mod Short
+pub mod Own
+pub mod Asked
+pub mod PlanAsks
+pub mod Overlays
+pub mod Beginnings

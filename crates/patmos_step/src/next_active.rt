@@ -1,0 +1,31 @@
+use crate::body::Body;
+use slot_arbiter::{MOST_CYCLES, start_of};
+
+impl Body {
+    ghost use Rattle.std.specs.Prelude.{◌≡◌, ℕ, ◌≤◌, ◌<◌};
+    ghost use Rattle.patmos_model.specs.State.{Core};
+    ghost use Rattle.patmos_model.specs.Cells.{now};
+    ghost use Rattle.patmos_model.specs.Cycle.{own};
+    ghost use Rattle.patmos_step.specs.Ready.{CanGoOn};
+    ghost use Rattle.patmos_step.specs.Shown.{plain_of};
+
+    /// The first cycle from this one on in which the core may do something of its own, or else the limit.
+    #[tactic(auto, using(crate::proofs::Sleeping::sleeps_stopped, crate::proofs::Sleeping::sleeps_waiting, crate::proofs::Sleeping::sleeps_moving))]
+    pub fn next_active(&self, cycle: u64, limit: u64) -> u64
+        requires can { CanGoOn self.now }
+        requires within { cycle ≤ limit }
+        requires most { limit ≤ MOST_CYCLES }
+        ensures from { cycle ≤ result }
+        ensures asleep { (c : Core) (u : ℕ) → c.plain ≡ plain_of self.now → cycle ≤ u → u < result → own u c ≡ now c }
+    {
+        if !self.is_running() {
+            limit
+        } else if self.transfer.words > 0 {
+            start_of(&self.place, self.free.max(cycle))
+        } else if self.free >= cycle {
+            self.free
+        } else {
+            limit
+        }
+    }
+}

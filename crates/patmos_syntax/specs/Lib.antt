@@ -1,0 +1,11 @@
+pub mod Readers
+pub mod Faults
+pub mod Operands
+pub mod Forms
+pub mod Gives
+pub mod Beside
+pub mod Drafts
+pub mod Statements
+pub mod Where
+pub mod Items
+pub mod Shown

@@ -1,0 +1,14 @@
+//! Tests of the crates of a processor: instructions, their words, what a bundle does, and a core.
+//!
+//! A crate with tests is proved twice, with them and without. So the tests of several crates stand here, over their
+//! public calls alone, and have no part in the program. What a command shows is a case of `cases/` at the top instead.
+#![tactic(auto)]
+
+#[cfg(test)]
+mod bundles;
+#[cfg(test)]
+mod cores;
+#[cfg(test)]
+mod instructions;
+#[cfg(test)]
+mod words;

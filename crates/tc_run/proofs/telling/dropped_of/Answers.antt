@@ -1,5 +1,0 @@
-use Rattle.tc_run.proofs.AtEnd.{told_at_end}
-use Rattle.tc_run.proofs.telling.dropped_of.Goals as goal
-
-pub returns : goal.returns
-returns c = λ m k h. told_at_end m k c.args.core.now h (λ t x. x.plain.interface.dropped) c.dropped.result c.dropped.ensures

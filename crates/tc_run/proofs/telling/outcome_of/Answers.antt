@@ -1,6 +1,0 @@
-use Rattle.tc_run.proofs.AtEnd.{told_at_end}
-use Rattle.patmos_core.specs.Outcome.{state_at}
-use Rattle.tc_run.proofs.telling.outcome_of.Goals as goal
-
-pub returns : goal.returns
-returns c = λ m k h. told_at_end m k c.args.core.now h (λ t x. state_at t x.plain) c.state.result c.state.ensures

@@ -1,0 +1,46 @@
+-- The tasks of a job get their codes, core after core.
+use Rattle.std.proofs.Common.{◌≡◌, ℕ, zero, suc, ◌+◌, arith, List, [], ◌∷◌, ◌++◌, length, map, refl, sym, ap, ◌∙◌, append_assoc, append-nil, subst, Option, Some, None, IfSome, option_map, All}
+use Rattle.std.specs.Prelude.{Result, Ok, Err}
+use Rattle.std.proofs.lemmas.List.{map-append}
+use Rattle.tc_job.specs.declared.task.Task.{Task}
+use Rattle.tc_job.specs.Ranges.{IsTaskAmong}
+use Rattle.tcrest.specs.declared.refusal.CoreRefusal.{CoreRefusal}
+use Rattle.tcrest.specs.declared.refusal.Halt.{Halt}
+use Rattle.tcrest.specs.declared.refusal.Halt.TheVariants.{Refused, Memory}
+use Rattle.tcrest.specs.declared.tasks.CodedTask.{CodedTask}
+use Rattle.tcrest.specs.Gives.{Refuses}
+use Rattle.tcrest.specs.Tasks.{◌>>=◌, Coded, task_on, coded_on, coded_from}
+use Rattle.tcrest.specs.Coding.{shown, all_shown, IsAmong}
+
+-- the tasks so far, before those of the cores to come
+abbrev pub behind : List (Option Coded) → Result (List (Option Coded)) CoreRefusal → Result (List (Option Coded)) CoreRefusal
+behind prefix later = later >>= λ cs. Ok (prefix ++ cs)
+
+behind-more : (prefix : List (Option Coded)) (c : Option Coded) (later : Result (List (Option Coded)) CoreRefusal) → behind (prefix ++ c ∷ []) later ≡ behind prefix (later >>= λ cs. Ok (c ∷ cs))
+behind-more prefix c (Ok cs) = ap Ok (append_assoc prefix (c ∷ []) cs)
+behind-more prefix c (Err refusal) = refl
+
+at_core : (tasks : List Task) (core count more : ℕ) → count ≡ more + 1 → coded_from tasks core count ≡ (coded_on core (task_on tasks core) >>= λ c. coded_from tasks (core + 1) more >>= λ cs. Ok (c ∷ cs))
+at_core tasks core count more is = ap (coded_from tasks core) (let e : count ≡ suc more = omega (arith, is) in e)
+
+-- one more core's task has its code
+pub next_coded : (tasks : List Task) (core count more : ℕ) (prefix pushed : List (Option CodedTask)) (one : Option CodedTask) (whole : Result (List (Option Coded)) CoreRefusal) → count ≡ more + 1 → pushed ≡ prefix ++ one ∷ []
+    → coded_on core (task_on tasks core) ≡ Ok (shown one) → behind (all_shown prefix) (coded_from tasks core count) ≡ whole
+    → behind (all_shown pushed) (coded_from tasks (core + 1) more) ≡ whole
+next_coded tasks core count more prefix pushed one whole left push is so_far =
+    ap (λ cs. behind cs (coded_from tasks (core + 1) more)) (ap all_shown push ∙ map-append shown prefix (one ∷ []))
+    ∙ behind-more (all_shown prefix) (shown one) (coded_from tasks (core + 1) more)
+    ∙ ap (behind (all_shown prefix)) (sym (at_core tasks core count more left ∙ ap (λ r. r >>= λ c. coded_from tasks (core + 1) more >>= λ cs. Ok (c ∷ cs)) is))
+    ∙ so_far
+
+-- where a call stops at a core, it stops as all of it is to
+pub stopped_coding : (tasks : List Task) (core count more : ℕ) (prefix : List (Option Coded)) (halt : Halt CoreRefusal) (whole : Result (List (Option Coded)) CoreRefusal) → count ≡ more + 1
+    → Refuses halt (coded_on core (task_on tasks core)) → behind prefix (coded_from tasks core count) ≡ whole → Refuses halt whole
+stopped_coding tasks core count more prefix (Refused refusal) whole left is so_far =
+    sym so_far ∙ ap (behind prefix) (at_core tasks core count more left ∙ ap (λ r. r >>= λ c. coded_from tasks (core + 1) more >>= λ cs. Ok (c ∷ cs)) is)
+stopped_coding tasks core count more prefix Memory whole left is so_far = tt
+
+-- a core's coded task is the job's
+pub coded_among : (cores : ℕ) (one : Option CodedTask) (found : Option Task) → option_map (λ t. t.task.now) one ≡ found → IfSome found (IsTaskAmong cores) → IsAmong cores one
+coded_among cores None found is among = tt
+coded_among cores (Some t) found is among = subst (λ o. IfSome o (IsTaskAmong cores)) (sym is) among
