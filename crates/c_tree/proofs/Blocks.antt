@@ -43,7 +43,7 @@ unfolding stmt_tokens block_tokens turned
 loop_tokens bound head body = ap (λ ts. bound_tokens bound ++ (head_tokens head ++ braced ts)) (turned_loop bound head body)
 
 -- the block of a list, by its row
-row_tokens : (body : List Stmt) → block_tokens (hidden-the_row-Stmt-0 body) ≡ body_tokens body
+pub row_tokens : (body : List Stmt) → block_tokens (hidden-the_row-Stmt-0 body) ≡ body_tokens body
 unfolding stmt_tokens block_tokens hidden-the_row-Stmt-0 hidden
 row_tokens [] = refl
 row_tokens (s ∷ body) = ap (λ ts. stmt_tokens s ++ ts) (row_tokens body)
@@ -68,7 +68,7 @@ row_further (a ∷ arms) =
     ap (λ ts. word keyword.Else ∷ (arm_tokens a.condition ts ++ further_tokens (hidden-the_row-Arm-1 arms))) (row_tokens a.body)
     ∙ ap (λ ts. word keyword.Else ∷ (arm_tokens a.condition (body_tokens a.body) ++ ts)) (row_further arms)
 
-row_arms : (arms : List Arm) → arms_tokens (hidden-the_row-Arm-1 arms) ≡ tokens_of_arms arms
+pub row_arms : (arms : List Arm) → arms_tokens (hidden-the_row-Arm-1 arms) ≡ tokens_of_arms arms
 unfolding stmt_tokens block_tokens arms_tokens further_tokens hidden-the_row-Arm-1 hidden
 row_arms [] = refl
 row_arms (a ∷ arms) =

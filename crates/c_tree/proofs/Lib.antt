@@ -1,2 +1,5 @@
-pub mod Chains
 pub mod Blocks
+pub mod Chains
+pub mod Leasts
+pub mod Plains
+pub mod Sizes

@@ -1,4 +1,15 @@
+pub mod Checks
+pub mod Depth
 pub mod Fits
+pub mod Frame
+pub mod Layout
+pub mod Least
+pub mod Names
 pub mod Places
 pub mod Plain
+pub mod Reading
+pub mod Sizes
+pub mod Small
 pub mod Tokens
+pub mod Valid
+pub mod Weight

@@ -6,3 +6,4 @@ pub mod CoresFound
 pub mod RowsFound
 pub mod TasksFound
 pub mod TasksCoded
+pub mod TasksRead

@@ -1,5 +1,5 @@
 -- How a call that ended meets the sentences on what was written.
-use Rattle.std.proofs.Common.{◌≡◌, inl, inr, ℕ, ◌<◌, ◌≤◌, List, [], length, take, refl, sym, ◌∙◌, ◌≢◌, ◌↔◌, ap, slice_index, arith, Option, Some, None, IfSome}
+use Rattle.std.proofs.Common.{◌≡◌, inl, inr, ℕ, ◌<◌, ◌≤◌, List, [], length, take, refl, sym, subst, IfOk, ◌∙◌, ◌≢◌, ◌↔◌, ap, slice_index, arith, Option, Some, None, IfSome}
 use Rattle.std.proofs.lemmas.Bool.{cases_lt}
 use Rattle.std.proofs.lemmas.Bool.Decides.{nat_tests}
 use Rattle.tc_job.specs.Fault.{Fault}
@@ -17,10 +17,12 @@ use Rattle.tcrest.specs.declared.command.Command.{Command}
 use Rattle.tcrest.specs.declared.command.Command.TheVariants.{OfInput, Usage}
 use Rattle.tcrest.specs.declared.command.InputCommand.{InputCommand}
 use Rattle.tcrest.specs.declared.command.InputCommand.TheVariants.{Job as OfJob, Grid}
+use Rattle.c_tree.specs.Reading.{Trees}
 use Rattle.argo_grid.specs.declared.fault.GridFault.{GridFault}
 use Rattle.argo_grid.specs.declared.fault.GridFault.TheVariants as grid_faults
 use Rattle.argo_grid.specs.Check.{checked}
 use Rattle.argo_grid.specs.Read.{schedule_of}
+use Rattle.argo_grid.specs.Report as grid
 use Rattle.argo_grid.specs.Report.{by_check, report_on}
 use Rattle.argo_grid.specs.Schedule.{Schedule}
 use Rattle.tcrest.specs.declared.command.JobCommand.{JobCommand}
@@ -30,7 +32,7 @@ use Rattle.tcrest.specs.Command.{command_of}
 use Rattle.tcrest.specs.Tasks.{Coded, coded_from}
 use Rattle.tcrest.specs.Machine.{cores_from, machine_of}
 use Rattle.tcrest.specs.Rows.{rows_of, is_early, status_of}
-use Rattle.tcrest.specs.Answer.{read_fault, too_long, no_job, answer_or, answer_by, job_answer, of_grid, input_answer, bytes_answer, command_answer, answer, usage}
+use Rattle.tcrest.specs.Answer.{read_fault, too_long, no_job, answer_with, answer_or, answer_by, job_answer, of_grid, input_answer, bytes_answer, command_answer, answer, usage}
 use Rattle.tcrest.specs.Outcome.{IsSent, Ends, HasWritten}
 
 -- the answer to a job has the status of a whole text or of a refused task
@@ -49,8 +51,8 @@ answer_or-status Run job (Ok coded) = status_of-is (rows_of job.cores job.cycles
 answer_or-status Asm job (Ok coded) = (omega arith, omega arith, omega arith)
 answer_or-status command job (Err refusal) = (omega arith, omega arith, omega arith)
 
-answer_by-status : (command : JobCommand) (job : Job) → IsOfTasks (answer_by command job).status
-answer_by-status command job = answer_or-status command job (coded_from job.tasks 0 job.cores)
+answer_by-status : (trees : Trees) (command : JobCommand) (job : Job) → IsOfTasks (answer_by trees command job).status
+answer_by-status trees command job = answer_or-status command job (coded_from trees job.cores job.tasks 0 job.cores)
 
 -- no fault of a job is reported as the length of its text is: at the latest their eighth bytes differ
 differs_from_long : (kind : JobFault) (task : Option ℕ) (key : List ℕ) → slice_index (no_job (record { kind = kind; task = task; key = key })).text 7 ≢ slice_index too_long.text 7
@@ -68,13 +70,13 @@ record IsOfInput (a : Answer) : Type 0 where
   not_usage : a.status ≢ 1
   not_long : a ≢ too_long
 
-job_answer-is : (command : JobCommand) (read : Result Job Fault) → IsOfInput (job_answer command read)
-job_answer-is command (Err fault) = record {
+job_answer-is : (trees : Trees) (command : JobCommand) (read : Result Job Fault) → IsOfInput (job_answer trees command read)
+job_answer-is trees command (Err fault) = record {
   below = omega arith;
   not_usage = omega arith;
   not_long = λ same. differs_from_long fault.kind fault.task fault.key (ap (λ (a : Answer). slice_index a.text 7) same);
 }
-job_answer-is command (Ok job) = let status = answer_by-status command job in record {
+job_answer-is trees command (Ok job) = let status = answer_by-status trees command job in record {
   below = status.0;
   not_usage = status.1;
   not_long = λ same. status.2 (ap (λ (a : Answer). a.status) same);
@@ -98,58 +100,70 @@ grid_answer-is (Err fault) = record {
   not_long = λ same. differs_from_long fault.kind fault.task fault.key (ap (λ (a : Answer). slice_index a.text 7) same);
 }
 
-input_answer-is : (command : InputCommand) (bytes : List ℕ) → IsOfInput (input_answer command bytes)
-input_answer-is (OfJob command) bytes = job_answer-is command (job_of bytes)
-input_answer-is Grid bytes = grid_answer-is (schedule_of bytes)
+input_answer-is : (trees : Trees) (command : InputCommand) (bytes : List ℕ) → IsOfInput (input_answer trees command bytes)
+input_answer-is trees (OfJob command) bytes = job_answer-is trees command (job_of bytes)
+input_answer-is trees Grid bytes = grid_answer-is (schedule_of bytes)
+
+-- each of these answers has a status below those of faults of the outside
+pub below_if : {E : Type 0} (result : Result Answer E) (a : Answer) → IfOk result (λ x. x ≡ a) → a.status < 5 → IfOk result (λ x. x.status < 5)
+below_if (Ok x) a is low = subst (λ y. y.status < 5) (sym is) low
+below_if (Err e) a is low = tt
+
+pub answer_with_below : (command : JobCommand) (job : Job) (coded : List (Option Coded)) → (answer_with command job coded).status < 5
+answer_with_below Run job coded = (answer_or-status Run job (Ok coded)).0
+answer_with_below Asm job coded = omega arith
+
+pub grid_below : (bytes : List ℕ) → (of_grid (grid.report_of bytes)).status < 5
+grid_below bytes = (grid_answer-is (schedule_of bytes)).below
 
 -- what a command about the input owes where too many bytes came, and where all came
-bytes_answer-too_long : (command : InputCommand) (bytes : List ℕ) → MOST_BYTES < length bytes → bytes_answer command bytes ≡ too_long
+bytes_answer-too_long : (trees : Trees) (command : InputCommand) (bytes : List ℕ) → MOST_BYTES < length bytes → bytes_answer trees command bytes ≡ too_long
 unfolding bytes_answer
-bytes_answer-too_long command bytes long = grind (arith, nat_tests)
+bytes_answer-too_long trees command bytes long = grind (arith, nat_tests)
 
-bytes_answer-within : (command : InputCommand) (bytes : List ℕ) → length bytes ≤ MOST_BYTES → bytes_answer command bytes ≡ input_answer command bytes
+bytes_answer-within : (trees : Trees) (command : InputCommand) (bytes : List ℕ) → length bytes ≤ MOST_BYTES → bytes_answer trees command bytes ≡ input_answer trees command bytes
 unfolding bytes_answer
-bytes_answer-within command bytes within = grind (arith, nat_tests)
+bytes_answer-within trees command bytes within = grind (arith, nat_tests)
 
-pub bytes_answer-is_too_long : (command : InputCommand) (bytes : List ℕ) → (bytes_answer command bytes ≡ too_long) ↔ (MOST_BYTES < length bytes)
-bytes_answer-is_too_long command bytes = (
+pub bytes_answer-is_too_long : (trees : Trees) (command : InputCommand) (bytes : List ℕ) → (bytes_answer trees command bytes ≡ too_long) ↔ (MOST_BYTES < length bytes)
+bytes_answer-is_too_long trees command bytes = (
   λ same. elim (cases_lt MOST_BYTES (length bytes)) [
     | inl long ↦ long
-    | inr within ↦ absurd ((input_answer-is command bytes).not_long (sym (bytes_answer-within command bytes within) ∙ same))
+    | inr within ↦ absurd ((input_answer-is trees command bytes).not_long (sym (bytes_answer-within trees command bytes within) ∙ same))
   ],
-  bytes_answer-too_long command bytes,
+  bytes_answer-too_long trees command bytes,
 )
 
-bytes_answer-status : (command : InputCommand) (bytes : List ℕ) → ((bytes_answer command bytes).status < 5) × ((bytes_answer command bytes).status ≢ 1)
-bytes_answer-status command bytes = elim (cases_lt MOST_BYTES (length bytes)) [
-  | inl long ↦ rw (bytes_answer-too_long command bytes long) (omega arith, omega arith)
-  | inr within ↦ rw (bytes_answer-within command bytes within) ((input_answer-is command bytes).below, (input_answer-is command bytes).not_usage)
+bytes_answer-status : (trees : Trees) (command : InputCommand) (bytes : List ℕ) → ((bytes_answer trees command bytes).status < 5) × ((bytes_answer trees command bytes).status ≢ 1)
+bytes_answer-status trees command bytes = elim (cases_lt MOST_BYTES (length bytes)) [
+  | inl long ↦ rw (bytes_answer-too_long trees command bytes long) (omega arith, omega arith)
+  | inr within ↦ rw (bytes_answer-within trees command bytes within) ((input_answer-is trees command bytes).below, (input_answer-is trees command bytes).not_usage)
 ]
 
-command_answer-status : (command : Command) (bytes : List ℕ) → (command_answer command bytes).status < 5
-command_answer-status (OfInput command) bytes = (bytes_answer-status command bytes).0
-command_answer-status Usage bytes = omega arith
+command_answer-status : (trees : Trees) (command : Command) (bytes : List ℕ) → (command_answer trees command bytes).status < 5
+command_answer-status trees (OfInput command) bytes = (bytes_answer-status trees command bytes).0
+command_answer-status trees Usage bytes = omega arith
 
-pub answer-status : (words : List (List ℕ)) (bytes : List ℕ) → (answer words bytes).status < 5
-answer-status words bytes = command_answer-status (command_of words) bytes
+pub answer-status : (trees : Trees) (words : List (List ℕ)) (bytes : List ℕ) → (answer trees words bytes).status < 5
+answer-status trees words bytes = command_answer-status trees (command_of words) bytes
 
-pub command_answer-is_usage : (command : Command) (bytes : List ℕ) → ((command_answer command bytes).status ≡ 1) ↔ (command ≡ Usage)
-command_answer-is_usage (OfInput command) bytes = (λ one. absurd ((bytes_answer-status command bytes).1 one), λ is. absurd (cc))
-command_answer-is_usage Usage bytes = (λ _. refl, λ _. refl)
+pub command_answer-is_usage : (trees : Trees) (command : Command) (bytes : List ℕ) → ((command_answer trees command bytes).status ≡ 1) ↔ (command ≡ Usage)
+command_answer-is_usage trees (OfInput command) bytes = (λ one. absurd ((bytes_answer-status trees command bytes).1 one), λ is. absurd (cc))
+command_answer-is_usage trees Usage bytes = (λ _. refl, λ _. refl)
 
-module _ (failed : Type 0) (status faults faults' : ℕ) (taken taken' : Option (List ℕ)) where
+module _ (trees : Trees) (failed : Type 0) (status faults faults' : ℕ) (taken taken' : Option (List ℕ)) where
   pub sent_too_long : (command : InputCommand) (left : Option (List ℕ)) → IfSome left (λ bytes. MOST_BYTES < length bytes) → IsSent too_long status faults faults' taken taken'
-      → IfSome left (λ bytes. Ends (bytes_answer command bytes) failed status faults faults' taken taken')
+      → IfSome left (λ bytes. Ends (bytes_answer trees command bytes) failed status faults faults' taken taken')
   sent_too_long command None long sent = tt
-  sent_too_long command (Some bytes) long sent = rw (bytes_answer-too_long command bytes long) (inr (inl sent))
+  sent_too_long command (Some bytes) long sent = rw (bytes_answer-too_long trees command bytes long) (inr (inl sent))
 
-  pub sent_within : (command : InputCommand) (left : Option (List ℕ)) (came : List ℕ) → IfSome left (λ bytes. came ≡ bytes) → length came ≤ MOST_BYTES → IsSent (input_answer command came) status faults faults' taken taken'
-      → IfSome left (λ bytes. Ends (bytes_answer command bytes) failed status faults faults' taken taken')
+  pub sent_within : (command : InputCommand) (left : Option (List ℕ)) (came : List ℕ) → IfSome left (λ bytes. came ≡ bytes) → length came ≤ MOST_BYTES → IsSent (input_answer trees command came) status faults faults' taken taken'
+      → IfSome left (λ bytes. Ends (bytes_answer trees command bytes) failed status faults faults' taken taken')
   sent_within command None came all within sent = tt
-  sent_within command (Some bytes) came all within sent = rw (← all, bytes_answer-within command came within) (inr (inl sent))
+  sent_within command (Some bytes) came all within sent = rw (← all, bytes_answer-within trees command came within) (inr (inl sent))
 
   pub usage_sent : (command : Command) (left : Option (List ℕ)) → command ≡ Usage → IsSent usage status faults faults' taken taken'
-      → IfSome left (λ bytes. Ends (command_answer command bytes) failed status faults faults' taken taken')
+      → IfSome left (λ bytes. Ends (command_answer trees command bytes) failed status faults faults' taken taken')
   usage_sent (OfInput command) left is sent = absurd (cc)
   usage_sent Usage None is sent = tt
   usage_sent Usage (Some bytes) is sent = inr (inl sent)

@@ -1,5 +1,6 @@
 -- What is written for the words of a command line and the bytes of the input: a status and a text.
 use Rattle.std.specs.Prelude.{ℕ, nat_lt, if◌then◌else◌, List, Option, ◌++◌, length, codes, Result, Ok, Err}
+use Rattle.c_tree.specs.Reading.{Trees}
 use Rattle.argo_grid.specs.declared.report.GridReport.{GridReport}
 use Rattle.argo_grid.specs.Report as grid
 use Rattle.patmos_model.specs.State.{Core}
@@ -69,29 +70,30 @@ answer_or command job (Ok coded) = answer_with command job coded
 answer_or command job (Err refusal) = no_task refusal
 
 -- what is written for a job
-abbrev pub answer_by : JobCommand → Job → Answer
-answer_by command job = answer_or command job (coded_from job.tasks 0 job.cores)
+abbrev pub answer_by : Trees → JobCommand → Job → Answer
+answer_by trees command job = answer_or command job (coded_from trees job.cores job.tasks 0 job.cores)
 
-abbrev pub job_answer : JobCommand → Result Job Fault → Answer
-job_answer command (Err fault) = no_job fault
-job_answer command (Ok job) = answer_by command job
+abbrev pub job_answer : Trees → JobCommand → Result Job Fault → Answer
+job_answer trees command (Err fault) = no_job fault
+job_answer trees command (Ok job) = answer_by trees command job
 
 -- the report on a schedule of the network
 abbrev pub of_grid : GridReport → Answer
 of_grid report = record { status = report.status; text = report.text }
 
 -- what is written for a text that is not too long
-abbrev pub input_answer : InputCommand → List ℕ → Answer
-input_answer (OfJob command) bytes = job_answer command (job_of bytes)
-input_answer Grid bytes = of_grid (grid.report_of bytes)
+abbrev pub input_answer : Trees → InputCommand → List ℕ → Answer
+input_answer trees (OfJob command) bytes = job_answer trees command (job_of bytes)
+input_answer trees Grid bytes = of_grid (grid.report_of bytes)
 
-unfoldable pub bytes_answer : InputCommand → List ℕ → Answer
-bytes_answer command bytes = if nat_lt MOST_BYTES (length bytes) then too_long else input_answer command bytes
+unfoldable pub bytes_answer : Trees → InputCommand → List ℕ → Answer
+bytes_answer trees command bytes = if nat_lt MOST_BYTES (length bytes) then too_long else input_answer trees command bytes
 
-abbrev pub command_answer : Command → List ℕ → Answer
-command_answer (OfInput command) bytes = bytes_answer command bytes
-command_answer Usage bytes = usage
+abbrev pub command_answer : Trees → Command → List ℕ → Answer
+command_answer trees (OfInput command) bytes = bytes_answer trees command bytes
+command_answer trees Usage bytes = usage
 
--- the one order of refusals: words, reading, length, job or schedule, tasks by core number
-abbrev pub answer : List (List ℕ) → List ℕ → Answer
-answer words bytes = command_answer (command_of words) bytes
+-- the one order of refusals: words, reading, length, job or schedule, tasks by core number. The trees of C programs are
+-- those of a reading: there is one tree for each program, and a reading is any function that gives it
+abbrev pub answer : Trees → List (List ℕ) → List ℕ → Answer
+answer trees words bytes = command_answer trees (command_of words) bytes

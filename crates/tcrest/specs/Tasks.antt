@@ -1,9 +1,14 @@
 -- The tasks of a job by the numbers of their cores, and the code of each: found in one pass over the cores, which the
--- first refused task ends.
+-- first refused task ends. The trees of C texts are those of a reading, which gives each program its tree.
 use Rattle.std.specs.Prelude.{ℕ, zero, suc, ◌+◌, ◌==◌, List, [], ◌∷◌, ◌++◌, codes, Option, Some, None, Result, Ok, Err}
 use Rattle.std.specs.List.{find}
 use Rattle.std.specs.Fmt.{decimal}
+use Rattle.c_tree.specs.declared.checks.CheckFault.{CheckFault}
+use Rattle.c_tree.specs.declared.checks.CheckFault.TheVariants as check
+use Rattle.c_tree.specs.declared.checks.Fault.{Fault as CheckedFault}
 use Rattle.c_tree.specs.declared.tokens.Token.{Token}
+use Rattle.c_tree.specs.Reading.{Trees}
+use Rattle.c_tree.specs.Valid.{fault_of}
 use Rattle.c_lex.specs.Texts.{Lexed, tokens, no_token, too_wide, lexed}
 use Rattle.c_parse.specs.Answers.{place_of}
 use Rattle.patmos_syntax.specs.declared.faults.AsmKind.{AsmKind}
@@ -15,7 +20,7 @@ use Rattle.tc_job.specs.declared.task.Lang.{Lang}
 use Rattle.tc_job.specs.declared.task.Lang.TheVariants.{Asm, C}
 use Rattle.tcrest.specs.declared.refusal.CoreRefusal.{CoreRefusal}
 use Rattle.tcrest.specs.declared.refusal.Refusal.{Refusal}
-use Rattle.tcrest.specs.declared.refusal.Refusal.TheVariants.{Faulty, Char, Wide, Syntax, Later}
+use Rattle.tcrest.specs.declared.refusal.Refusal.TheVariants.{Faulty, Char, Wide, Syntax, Invalid, Later}
 
 infixl 10 ◌>>=◌
 -- goes on with the value, or stops at the refusal
@@ -32,23 +37,31 @@ abbrev pub coded : Result CodeParts AsmFault → Result CodeParts Refusal
 coded (Ok code) = Ok code
 coded (Err fault) = Err (Faulty fault)
 
--- tokens are refused where they are no program; the code of a program comes later
-abbrev pub parsed : List Token → Result CodeParts Refusal
-parsed ts = elim (place_of ts) as (λ _. Result CodeParts Refusal) [ None ↦ Err Later | Some at ↦ Err (Syntax at) ]
+-- a program is refused for its least fault; the code of a valid one comes later
+abbrev pub checked : Option CheckedFault → Result CodeParts Refusal
+checked None = Err Later
+checked (Some fault) = Err (Invalid fault)
 
--- a C text is refused where it has no tokens, or these are no program
-abbrev pub compiled : Lexed → Result CodeParts Refusal
-compiled (tokens ts) = parsed ts
-compiled (no_token at) = Err (Char at)
-compiled (too_wide at) = Err (Wide at)
+-- tokens are refused where they are no program, and a program where it has a fault on its core
+abbrev pub parsed : Trees → ℕ → ℕ → List Token → Result CodeParts Refusal
+parsed trees cores own ts = elim (place_of ts) as (λ _. Result CodeParts Refusal) [
+  | None ↦ checked (fault_of (trees ts) cores own)
+  | Some at ↦ Err (Syntax at)
+]
 
--- the code of a task
-abbrev pub code_in : Lang → List ℕ → Result CodeParts Refusal
-code_in Asm source = coded (code_of source)
-code_in C source = compiled (lexed source)
+-- a C text is refused where it has no tokens, or these are no valid program
+abbrev pub compiled : Trees → ℕ → ℕ → Lexed → Result CodeParts Refusal
+compiled trees cores own (tokens ts) = parsed trees cores own ts
+compiled trees cores own (no_token at) = Err (Char at)
+compiled trees cores own (too_wide at) = Err (Wide at)
 
-abbrev pub code_by : Task → Result CodeParts Refusal
-code_by t = code_in t.lang t.source
+-- the code of a task on a core of so many
+abbrev pub code_in : Trees → ℕ → ℕ → Lang → List ℕ → Result CodeParts Refusal
+code_in trees cores own Asm source = coded (code_of source)
+code_in trees cores own C source = compiled trees cores own (lexed source)
+
+abbrev pub code_by : Trees → ℕ → Task → Result CodeParts Refusal
+code_by trees cores t = code_in trees cores t.core t.lang t.source
 
 -- a refusal of a core's task
 abbrev pub on_core : {A : Type 0} → ℕ → Result A Refusal → Result A CoreRefusal
@@ -61,15 +74,15 @@ pub record Coded : Type 0 where
   pub code : CodeParts
 
 -- a core's task with its code, if it has one
-abbrev pub coded_on : ℕ → Option Task → Result (Option Coded) CoreRefusal
-coded_on core None = Ok None
-coded_on core (Some t) = on_core core (code_by t) >>= λ code. Ok (Some (record { task = t; code = code }))
+abbrev pub coded_on : Trees → ℕ → ℕ → Option Task → Result (Option Coded) CoreRefusal
+coded_on trees cores core None = Ok None
+coded_on trees cores core (Some t) = on_core core (code_by trees cores t) >>= λ code. Ok (Some (record { task = t; code = code }))
 
 -- those of so many cores, the first of which is this one; or the first refusal
-abbrev pub coded_from : List Task → ℕ → ℕ → Result (List (Option Coded)) CoreRefusal
-coded_from tasks core zero = Ok []
-coded_from tasks core (suc count) =
-    coded_on core (task_on tasks core) >>= λ c. coded_from tasks (core + 1) count >>= λ cs. Ok (c ∷ cs)
+abbrev pub coded_from : Trees → ℕ → List Task → ℕ → ℕ → Result (List (Option Coded)) CoreRefusal
+coded_from trees cores tasks core zero = Ok []
+coded_from trees cores tasks core (suc count) =
+    coded_on trees cores core (task_on tasks core) >>= λ c. coded_from trees cores tasks (core + 1) count >>= λ cs. Ok (c ∷ cs)
 
 -- the names of faults of assembly text
 abbrev pub fault_name : AsmKind → List ℕ
@@ -82,7 +95,24 @@ fault_name LabelTwice = codes "LabelTwice"
 fault_name TooLarge = codes "TooLarge"
 fault_name NoFunction = codes "NoFunction"
 
--- a fault and its place in the text: in bytes, or for its syntax in tokens
+-- the names of faults of C programs
+abbrev pub check_name : CheckFault → List ℕ
+check_name check.Unknown = codes "Unknown"
+check_name check.Twice = codes "Twice"
+check_name check.WrongType = codes "WrongType"
+check_name check.NoBound = codes "NoBound"
+check_name check.BoundRange = codes "BoundRange"
+check_name check.Recursion = codes "Recursion"
+check_name check.Params = codes "Params"
+check_name check.Deep = codes "Deep"
+check_name check.Frame = codes "Frame"
+check_name check.Heavy = codes "Heavy"
+check_name check.Data = codes "Data"
+check_name check.Scratch = codes "Scratch"
+check_name check.Target = codes "Target"
+check_name check.NoMain = codes "NoMain"
+
+-- a fault and its place in the text: in bytes, or for syntax and checks in tokens
 abbrev pub at_place : List ℕ → ℕ → List ℕ
 at_place name at = name ++ codes " at " ++ decimal at
 
@@ -92,4 +122,5 @@ refusal_text Later = codes "Later"
 refusal_text (Char at) = at_place (codes "Char") at
 refusal_text (Wide at) = at_place (codes "Wide") at
 refusal_text (Syntax at) = at_place (codes "Syntax") at
+refusal_text (Invalid fault) = at_place (check_name fault.kind) fault.at
 refusal_text (Faulty fault) = fault_name fault.fault ++ codes " line " ++ decimal fault.line

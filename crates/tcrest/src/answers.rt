@@ -1,6 +1,7 @@
 ghost use Rattle.std.specs.Prelude as prelude;
-ghost use Rattle.std.specs.Prelude.{◌≡◌, All, IfOk, length};
+ghost use Rattle.std.specs.Prelude.{◌≡◌, ◌<◌, All, IfOk, length};
 ghost use Rattle.argo_grid.specs.Report as grid;
+ghost use Rattle.c_tree.specs.Reading.{OnReading};
 ghost use Rattle.patmos_model.specs.State as state;
 ghost use Rattle.tc_job.specs.Job.{job_of};
 ghost use Rattle.tc_job.specs.Ranges.{KeepsRanges};
@@ -33,6 +34,7 @@ pub struct Answer {
 }
 
 /// The answer that a command owes these bytes, which are no more than a text may have.
+#[tactic(auto, using(crate::proofs::Outcomes::below_if, crate::proofs::Outcomes::grid_below))]
 pub fn input_answer<R: Threads + Wait + Sync, G: Gate + Sync>(
     alloc: Global,
     rt: &R,
@@ -40,7 +42,8 @@ pub fn input_answer<R: Threads + Wait + Sync, G: Gate + Sync>(
     bytes: &[u8],
     gate: &G,
 ) -> Result<Answer, OutOfMemory>
-    ensures { IfOk result (λ answer. answer ≡ specs.input_answer command bytes.now) }
+    ensures answer { IfOk result (λ answer. OnReading (λ trees. answer ≡ specs.input_answer trees command bytes.now)) }
+    ensures below { IfOk result (λ answer. answer.status < 5) }
 {
     match command {
         InputCommand::Job(command) => job_answer(alloc, rt, command, bytes, gate),
@@ -57,6 +60,7 @@ fn grid_answer(alloc: Global, bytes: &[u8]) -> Result<Answer, OutOfMemory>
 }
 
 // the answer to the bytes of a job
+#[tactic(auto, using(crate::proofs::Outcomes::below_if))]
 fn job_answer<R: Threads + Wait + Sync, G: Gate + Sync>(
     alloc: Global,
     rt: &R,
@@ -64,7 +68,8 @@ fn job_answer<R: Threads + Wait + Sync, G: Gate + Sync>(
     bytes: &[u8],
     gate: &G,
 ) -> Result<Answer, OutOfMemory>
-    ensures { IfOk result (λ answer. answer ≡ specs.job_answer command (job_of bytes.now)) }
+    ensures answer { IfOk result (λ answer. OnReading (λ trees. answer ≡ specs.job_answer trees command (job_of bytes.now))) }
+    ensures below { IfOk result (λ answer. answer.status < 5) }
 {
     match read_job(alloc, bytes) {
         Ok(job) => answer_by(alloc, rt, command, &job, gate),
@@ -90,6 +95,7 @@ fn no_job(
 }
 
 // the answer to a job
+#[tactic(auto, using(crate::proofs::Outcomes::below_if, crate::proofs::Outcomes::answer_with_below))]
 fn answer_by<R: Threads + Wait + Sync, G: Gate + Sync>(
     alloc: Global,
     rt: &R,
@@ -98,7 +104,8 @@ fn answer_by<R: Threads + Wait + Sync, G: Gate + Sync>(
     gate: &G,
 ) -> Result<Answer, OutOfMemory>
     requires { KeepsRanges job.now }
-    ensures { IfOk result (λ answer. answer ≡ specs.answer_by command job.now) }
+    ensures answer { IfOk result (λ answer. OnReading (λ trees. answer ≡ specs.answer_by trees command job.now)) }
+    ensures below { IfOk result (λ answer. answer.status < 5) }
 {
     match coded_tasks(alloc, job) {
         Ok(coded) => answer_with(alloc, rt, command, job, coded, gate),

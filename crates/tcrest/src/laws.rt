@@ -1,4 +1,5 @@
 ghost use Rattle.std.specs.Prelude.{◌≡◌, ℕ, ◌<◌, ◌↔◌, false, List, [], ◌∷◌, length, map, codes};
+ghost use Rattle.c_tree.specs.Reading.{Trees};
 ghost use Rattle.patmos_model.specs.State.{Core};
 ghost use Rattle.global_step.specs.Loaded.{Machine};
 ghost use Rattle.global_step.specs.Machine.{at_limit};
@@ -20,13 +21,13 @@ use crate::top::MOST_BYTES;
 /// When the answers of usage and of a text that is too long come.
 pub fn refusals_in_order()
     // Status 1 comes exactly where the words are no command.
-    ensures usage { (words : List (List ℕ)) (bytes : List ℕ) → ((answer words bytes).status ≡ 1) ↔ (command_of words ≡ Usage) }
+    ensures usage { (trees : Trees) (words : List (List ℕ)) (bytes : List ℕ) → ((answer trees words bytes).status ≡ 1) ↔ (command_of words ≡ Usage) }
     ensures run { (words : List (List ℕ)) → (command_of words ≡ OfInput (Job Run)) ↔ (words ≡ codes "run" ∷ []) }
     ensures asm { (words : List (List ℕ)) → (command_of words ≡ OfInput (Job Asm)) ↔ (words ≡ codes "asm" ∷ []) }
     ensures grid { (words : List (List ℕ)) → (command_of words ≡ OfInput Grid) ↔ (words ≡ codes "grid" ∷ []) }
 
     // A text is too long exactly where it has more than `MOST_BYTES` bytes.
-    ensures too_long { (command : InputCommand) (bytes : List ℕ) → (bytes_answer command bytes ≡ too_long) ↔ (MOST_BYTES < length bytes) }
+    ensures too_long { (trees : Trees) (command : InputCommand) (bytes : List ℕ) → (bytes_answer trees command bytes ≡ too_long) ↔ (MOST_BYTES < length bytes) }
 {}
 
 /// The rows of a small job, computed by the checker: its task ends at cycle 17, behind two transactions.

@@ -115,11 +115,13 @@ fn begun_on(
 
 // the place of a core whose task starts at a cycle
 #[tactic(auto, using(crate::proofs::CoresFound::same_site))]
-fn place_of(job: &Job, core: u32, start: u64) -> Place
+pub fn place_of(job: &Job, core: u32, start: u64) -> Place
     requires ranges { KeepsRanges job.now }
     requires among { core < job.now.cores }
     requires start { start ≤ LATEST_START }
     ensures site { (image : Parts) → site_of result image ≡ specs.site_on job.now core start image }
+    ensures cores { result.cores ≡ job.now.cores }
+    ensures core { result.core ≡ core }
     ensures placed { (image : Option Parts) (input : List ℕ) → IsPlaced job.now core (record { place = result; image = image; input = input }) }
 {
     let Some(table) = Table::new(job.table.as_slice(), job.cores) else {

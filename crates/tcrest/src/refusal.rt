@@ -3,6 +3,7 @@ ghost use Rattle.tcrest.specs.Tasks as specs;
 ghost use Rattle.tcrest.specs.Answer as answers;
 
 use crate::answers::Answer;
+use c_tree::{CheckFault, Fault};
 use patmos_asm::{AsmFault, AsmKind};
 use std::alloc::Global;
 use tc_io::put_number;
@@ -20,6 +21,8 @@ pub enum Refusal {
     Wide { at: u32 },
     /// Its tokens are no program: so many of the first ones can go on, and no more.
     Syntax { at: u32 },
+    /// It is a program that breaks a rule: its least fault.
+    Invalid(Fault),
     /// It can't be taken yet.
     Later,
 }
@@ -70,6 +73,7 @@ fn put_refusal(text: &mut Vec<u8>, refusal: Refusal) -> Result<(), OutOfMemory>
         Refusal::Char { at } => put_place(text, b"Char", at),
         Refusal::Wide { at } => put_place(text, b"Wide", at),
         Refusal::Syntax { at } => put_place(text, b"Syntax", at),
+        Refusal::Invalid(fault) => put_place(text, check_name(fault.kind), fault.at),
         Refusal::Faulty(fault) => {
             text.extend_from_slice(name_of(fault.fault))?;
             text.extend_from_slice(b" line ")?;
@@ -99,5 +103,26 @@ fn name_of(fault: AsmKind) -> &'static [u8]
         AsmKind::LabelTwice => b"LabelTwice",
         AsmKind::TooLarge => b"TooLarge",
         AsmKind::NoFunction => b"NoFunction",
+    }
+}
+
+fn check_name(fault: CheckFault) -> &'static [u8]
+    ensures { result.now ≡ specs.check_name fault }
+{
+    match fault {
+        CheckFault::Unknown => b"Unknown",
+        CheckFault::Twice => b"Twice",
+        CheckFault::WrongType => b"WrongType",
+        CheckFault::NoBound => b"NoBound",
+        CheckFault::BoundRange => b"BoundRange",
+        CheckFault::Recursion => b"Recursion",
+        CheckFault::Params => b"Params",
+        CheckFault::Deep => b"Deep",
+        CheckFault::Frame => b"Frame",
+        CheckFault::Heavy => b"Heavy",
+        CheckFault::Data => b"Data",
+        CheckFault::Scratch => b"Scratch",
+        CheckFault::Target => b"Target",
+        CheckFault::NoMain => b"NoMain",
     }
 }

@@ -1,16 +1,22 @@
-ghost use Rattle.std.specs.Prelude.{◌≡◌, ◌<◌, ◌^◌, All, IfOk, length, option_map};
+ghost use Rattle.std.specs.Prelude.{◌≡◌, ◌<◌, ◌^◌, All, IfOk, IfSome, length, option_map};
 ghost use Rattle.c_lex.specs.Texts.{lexed};
+ghost use Rattle.c_tree.specs.Plain.{plain};
+ghost use Rattle.c_tree.specs.Reading.{OnReading};
+ghost use Rattle.c_tree.specs.Valid.{fault_of};
 ghost use Rattle.patmos_asm.specs.Assembly.{code_of};
-ghost use Rattle.tc_job.specs.Ranges.{IsTaskAmong};
+ghost use Rattle.tc_job.specs.Ranges.{KeepsRanges, IsTaskAmong};
 ghost use Rattle.tcrest.specs.Tasks as specs;
 ghost use Rattle.tcrest.specs.Coding.{shown, all_shown, IsAmong};
 ghost use Rattle.tcrest.specs.Gives.{Gives};
 
+use crate::loading::place_of;
 use crate::refusal::{CoreRefusal, Halt, Refusal};
+use c_check::{CheckError, check};
 use c_lex::{LexFault, lex};
 use c_parse::{ParseFault, parse};
-use c_tree::Token;
+use c_tree::{Fault, Token, Unit};
 use patmos_asm::{AsmError, Code, assemble};
+use slot_arbiter::Place;
 use std::alloc::Global;
 use tc_job::{Job, Lang, Task};
 use tc_word::List;
@@ -28,14 +34,15 @@ pub fn coded_tasks(
     alloc: Global,
     job: &Job,
 ) -> Result<Vec<Option<CodedTask<'_>>>, Halt<CoreRefusal>>
-    requires { All (IsTaskAmong job.now.cores) job.now.tasks }
-    ensures coded { Gives (λ coded. all_shown coded.items) result (specs.coded_from job.now.tasks 0 job.now.cores) }
+    requires { KeepsRanges job.now }
+    ensures coded { OnReading (λ trees. Gives (λ coded. all_shown coded.items) result
+        (specs.coded_from trees job.now.cores job.now.tasks 0 job.now.cores)) }
     ensures count { IfOk result (λ coded. length coded.items ≡ job.now.cores) }
     ensures among { IfOk result (λ coded. All (IsAmong job.now.cores) coded.items) }
 {
     let mut coded = Vec::new(alloc);
     for core in 0..job.cores {
-        let one = match coded_on(alloc, core, task_on(job.tasks.as_slice(), core)) {
+        let one = match coded_on(alloc, job, core, task_on(job.tasks.as_slice(), core)) {
             Ok(one) => one,
             Err(halt) => return Err(halt),
         };
@@ -54,18 +61,21 @@ fn task_on(tasks: &[Task], core: u32) -> Option<&Task>
 }
 
 // a core's task with its code, if it has one
-fn coded_on(
+fn coded_on<'a>(
     alloc: Global,
+    job: &Job,
     core: u32,
-    task: Option<&Task>,
-) -> Result<Option<CodedTask<'_>>, Halt<CoreRefusal>>
-    ensures coded { Gives shown result (specs.coded_on core (option_map (λ t. t.now) task.entry)) }
+    task: Option<&'a Task>,
+) -> Result<Option<CodedTask<'a>>, Halt<CoreRefusal>>
+    requires ranges { KeepsRanges job.now }
+    requires among { IfSome (option_map (λ t. t.now) task) (IsTaskAmong job.now.cores) }
+    ensures coded { OnReading (λ trees. Gives shown result (specs.coded_on trees job.now.cores core (option_map (λ t. t.now) task.entry))) }
     ensures same { IfOk result (λ c. option_map (λ t. t.task.now) c ≡ option_map (λ t. t.now) task.entry) }
 {
     let Some(task) = task else {
         return Ok(None);
     };
-    match code_by(alloc, task) {
+    match code_by(alloc, job, task) {
         Ok(code) => Ok(Some(CodedTask { task, code })),
         Err(Halt::Refused(refusal)) => Err(Halt::Refused(CoreRefusal { core, refusal })),
         Err(Halt::Memory) => Err(Halt::Memory),
@@ -73,40 +83,58 @@ fn coded_on(
 }
 
 // the code of a task
-fn code_by(alloc: Global, task: &Task) -> Result<Code, Halt<Refusal>>
-    ensures { Gives (λ code. code) result (specs.code_by task.now) }
+fn code_by(alloc: Global, job: &Job, task: &Task) -> Result<Code, Halt<Refusal>>
+    requires ranges { KeepsRanges job.now }
+    requires among { IsTaskAmong job.now.cores task.now }
+    ensures { OnReading (λ trees. Gives (λ code. code) result (specs.code_by trees job.now.cores task.now)) }
 {
     match task.lang {
         Lang::Asm => assembled(alloc, task.source.as_str()),
-        Lang::C => compiled(alloc, task.source.as_str()),
+        Lang::C => {
+            let place = place_of(job, task.core, task.start);
+            compiled(alloc, task.source.as_str(), &place)
+        }
     }
 }
 
-// A C text is refused where it has no tokens, or these are no program. Of its length holds what is said of an
+// A C text is refused where it has no tokens, or these are no valid program. Of its length holds what is said of an
 // assembly text's.
-fn compiled(alloc: Global, source: &str) -> Result<Code, Halt<Refusal>>
-    ensures { Gives (λ code. code) result (specs.compiled (lexed source.now)) }
+fn compiled(alloc: Global, source: &str, place: &Place) -> Result<Code, Halt<Refusal>>
+    ensures { OnReading (λ trees. Gives (λ code. code) result (specs.compiled trees place.now.cores place.now.core (lexed source.now))) }
 {
     if source.len() > u32::MAX as usize {
         return Err(Halt::Memory);
     }
     match lex(alloc, source) {
-        Ok(tokens) => parsed(alloc, &tokens),
+        Ok(tokens) => parsed(alloc, &tokens, place),
         Err(LexFault::Char { at }) => Err(Halt::Refused(Refusal::Char { at })),
         Err(LexFault::Wide { at }) => Err(Halt::Refused(Refusal::Wide { at })),
         Err(LexFault::Memory) => Err(Halt::Memory),
     }
 }
 
-// Tokens are refused where they are no program. The code of a program comes later.
-fn parsed(alloc: Global, tokens: &List<Token>) -> Result<Code, Halt<Refusal>>
+// tokens are refused where they are no program
+fn parsed(alloc: Global, tokens: &List<Token>, place: &Place) -> Result<Code, Halt<Refusal>>
     requires few { length tokens.now < 2 ^ 32 }
-    ensures { Gives (λ code. code) result (specs.parsed tokens.now) }
+    ensures { OnReading (λ trees. Gives (λ code. code) result (specs.parsed trees place.now.cores place.now.core tokens.now)) }
 {
     match parse(alloc, tokens) {
-        Ok(_program) => Err(Halt::Refused(Refusal::Later)),
+        Ok(program) => checked(alloc, program, place),
         Err(ParseFault::Syntax { at }) => Err(Halt::Refused(Refusal::Syntax { at })),
         Err(ParseFault::Memory) => Err(Halt::Memory),
+    }
+}
+
+// a program is refused for its least fault; the code of a valid one comes later
+fn checked(alloc: Global, program: Unit, place: &Place) -> Result<Code, Halt<Refusal>>
+    ensures { Gives (λ code. code) result (specs.checked (fault_of (plain program) place.now.cores place.now.core)) }
+{
+    match check(alloc, program, place) {
+        Ok(_checked) => Err(Halt::Refused(Refusal::Later)),
+        Err(CheckError::Fault { kind, at }) => {
+            Err(Halt::Refused(Refusal::Invalid(Fault { at, kind })))
+        }
+        Err(CheckError::Memory) => Err(Halt::Memory),
     }
 }
 

@@ -7,22 +7,27 @@ use Rattle.tcrest.proofs.TasksFound.{found_task}
 use Rattle.tcrest.proofs.TasksCoded.{next_coded, stopped_coding, coded_among}
 use Rattle.tcrest.proofs.tasks.coded_tasks.Goals as goal
 
+pub coded_on-requires-clause-among : goal.coded_on-requires-clause-among
+coded_on-requires-clause-among c =
+    found_task c.args.job.now.cores c.args.job.now.tasks c.loop-core.core _ (c.task_on.ensures ∙ ap (λ tasks. task_on tasks c.loop-core.core) c.as_slice.ensures) c.requires.tasks
+
 pub returns-in-Err-clause-coded : goal.returns-in-Err-clause-coded
-returns-in-Err-clause-coded c =
-    stopped_coding c.args.job.now.tasks c.loop-core.core (c.args.job.now.cores - c.loop-core.core) (c.args.job.now.cores - (c.loop-core.core + 1)) (all_shown c.loop-core.coded.items) c.in-Err.halt
-    (coded_from c.args.job.now.tasks 0 c.args.job.now.cores) (omega arith)
-    (rw (c.task_on.ensures ∙ ap (λ tasks. task_on tasks c.loop-core.core) c.as_slice.ensures) at c.in-Err.ensures.coded) c.loop-core.invariant.so_far
+returns-in-Err-clause-coded c = λ trees reading.
+    stopped_coding trees c.args.job.now.cores c.args.job.now.tasks c.loop-core.core (c.args.job.now.cores - c.loop-core.core) (c.args.job.now.cores - (c.loop-core.core + 1)) (all_shown c.loop-core.coded.items) c.in-Err.halt
+    (coded_from trees c.args.job.now.cores c.args.job.now.tasks 0 c.args.job.now.cores) (omega arith)
+    (rw (c.task_on.ensures ∙ ap (λ tasks. task_on tasks c.loop-core.core) c.as_slice.ensures) at (c.in-Err.ensures.coded trees reading)) (c.loop-core.invariant.so_far trees reading)
 
 pub loop-core-preserved : goal.loop-core-preserved
 loop-core-preserved c =
     let found = c.task_on.ensures ∙ ap (λ tasks. task_on tasks c.loop-core.core) c.as_slice.ensures in
     let push : c.push.new.self.items ≡ c.loop-core.coded.items ++ c.in-Ok.one ∷ [] = search rules in
     record {
-      so_far = next_coded c.args.job.now.tasks c.loop-core.core (c.args.job.now.cores - c.loop-core.core) (c.args.job.now.cores - (c.loop-core.core + 1)) c.loop-core.coded.items c.push.new.self.items c.in-Ok.one
-          (coded_from c.args.job.now.tasks 0 c.args.job.now.cores) (omega arith) push (subst (λ t. coded_on c.loop-core.core t ≡ Ok (shown c.in-Ok.one)) found c.in-Ok.ensures.coded) c.loop-core.invariant.so_far;
+      so_far = λ trees reading. next_coded trees c.args.job.now.cores c.args.job.now.tasks c.loop-core.core (c.args.job.now.cores - c.loop-core.core) (c.args.job.now.cores - (c.loop-core.core + 1)) c.loop-core.coded.items c.push.new.self.items c.in-Ok.one
+          (coded_from trees c.args.job.now.cores c.args.job.now.tasks 0 c.args.job.now.cores) (omega arith) push
+          (subst (λ t. coded_on trees c.args.job.now.cores c.loop-core.core t ≡ Ok (shown c.in-Ok.one)) found (c.in-Ok.ensures.coded trees reading)) (c.loop-core.invariant.so_far trees reading);
       count = search rules;
       among = subst (All (IsAmong c.args.job.now.cores)) (sym push)
           (All-push (IsAmong c.args.job.now.cores) c.loop-core.coded.items c.in-Ok.one c.loop-core.invariant.among
           (coded_among c.args.job.now.cores c.in-Ok.one (task_on c.args.job.now.tasks c.loop-core.core) (c.in-Ok.ensures.same ∙ found)
-          (found_task c.args.job.now.cores c.args.job.now.tasks c.loop-core.core (task_on c.args.job.now.tasks c.loop-core.core) refl c.requires)));
+          (found_task c.args.job.now.cores c.args.job.now.tasks c.loop-core.core (task_on c.args.job.now.tasks c.loop-core.core) refl c.requires.tasks)));
     }

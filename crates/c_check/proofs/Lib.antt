@@ -1,0 +1,13 @@
+pub mod Declarations
+pub mod Deep
+pub mod ExprRows
+pub mod First
+pub mod Items
+pub mod Kept
+pub mod Limits
+pub mod Next
+pub mod Signatures
+pub mod StmtRows
+pub mod Sums
+pub mod Variables
+pub mod Whole

@@ -1,0 +1,74 @@
+//! The words that a function keeps on the stack, where a number above 2^32 - 1 is told as that.
+ghost use Rattle.std.specs.Prelude.{◌≡◌, nat_lt, map};
+ghost use Rattle.c_tree.specs.Frame as frame;
+ghost use Rattle.c_tree.specs.Plain.{plain_stmt};
+ghost use Rattle.c_tree.proofs.Plains.{block_of, arms_of};
+ghost use Rattle.c_check.specs.Capped.{capped};
+
+use c_tree::{Arm, Function, Stmt};
+
+/// How many words a function may keep.
+const MOST_WORDS: u32 = 120;
+
+#[cycle(statement)]
+#[tactic(auto, using(crate::proofs::Sums::inner_framed), unfolding(c_tree::specs::Frame::stmt_frame, c_tree::specs::Plain::plain_stmt))]
+fn stmt(s: &Stmt) -> u32
+    ensures { result ≡ capped (frame.stmt_frame (plain_stmt s.now)) }
+{
+    match s {
+        Stmt::Declare { .. } => 1,
+        Stmt::If { arms, otherwise } => {
+            let total = branches(arms.as_slice());
+            match otherwise {
+                None => total,
+                Some(body) => total.saturating_add(block(body.as_slice())),
+            }
+        }
+        Stmt::Loop { body, .. } => block(body.as_slice()).saturating_add(2),
+        Stmt::Inner { body } => block(body.as_slice()),
+        _ => 0,
+    }
+}
+
+#[cycle(statement)]
+fn block(body: &[Stmt]) -> u32
+    ensures { result ≡ capped (frame.block_frame (block_of body.now)) }
+{
+    let mut total: u32 = 0;
+    for s in body {
+        total = total.saturating_add(stmt(s));
+    }
+    total
+}
+
+#[cycle(statement)]
+fn branches(arms: &[Arm]) -> u32
+    ensures { result ≡ capped (frame.arms_frame (arms_of arms.now)) }
+{
+    let mut total: u32 = 0;
+    for arm in arms {
+        total = total
+            .saturating_add(1)
+            .saturating_add(block(arm.body.as_slice()));
+    }
+    total
+}
+
+// the words of a function
+#[tactic(auto, using(crate::proofs::Sums::body_framed))]
+fn frame(f: &Function) -> u32
+    ensures { result ≡ capped (frame.function_frame f.now.parameters (map plain_stmt f.now.body)) }
+{
+    let parameters = u32::try_from(f.parameters.as_slice().len()).unwrap_or(u32::MAX);
+    block(f.body.as_slice())
+        .saturating_add(parameters)
+        .saturating_add(24)
+}
+
+/// Whether a function keeps too many words.
+#[tactic(auto, using(crate::proofs::Limits::above))]
+pub fn is_large(f: &Function) -> bool
+    ensures { result ≡ nat_lt 120 (frame.function_frame f.now.parameters (map plain_stmt f.now.body)) }
+{
+    frame(f) > MOST_WORDS
+}

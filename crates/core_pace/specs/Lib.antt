@@ -1,0 +1,12 @@
+pub mod Starts
+pub mod Spans
+pub mod Moment
+pub mod Next
+pub mod Pace
+pub mod Bound
+pub mod Run
+pub mod Growth
+pub mod Times
+pub mod Task
+pub mod Stores
+pub mod Worked
