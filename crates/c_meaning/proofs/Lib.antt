@@ -1,0 +1,10 @@
+pub mod Acted
+pub mod Boxes
+pub mod ItemParts
+pub mod Means
+pub mod Opened
+pub mod Operations
+pub mod Parts
+pub mod Programs
+pub mod StmtParts
+pub mod Worths

@@ -1,6 +1,12 @@
+pub mod Actions
 pub mod Begun
 pub mod Meaning
+pub mod Open
 pub mod Operators
+pub mod Resolve
+pub mod Resolved
+pub mod Rooms
 pub mod Scope
+pub mod Shown
 pub mod Small
 pub mod Values

@@ -11,4 +11,6 @@ mod c_texts;
 #[cfg(test)]
 mod jobs;
 #[cfg(test)]
+mod meanings;
+#[cfg(test)]
 mod schedules;

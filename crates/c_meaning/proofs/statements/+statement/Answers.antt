@@ -1,0 +1,230 @@
+use Rattle.std.proofs.Common.{◌≡◌, ◌+◌, None, length, drop, ap, ap₂, sym, ◌∙◌, arith}
+use Rattle.std.specs.Prelude.{option_map}
+use Rattle.std.proofs.lemmas.List.{drop_all}
+use Rattle.c_tree.specs.Plain.{plain_right, plain_head, plain_stmt}
+use Rattle.c_tree.proofs.Plains.{block_of, arms_of}
+use Rattle.c_meaning.specs.declared.actions.Branch.{Branch}
+use Rattle.c_meaning.specs.declared.actions.Action.TheViews.{Loop}
+use Rattle.c_meaning.specs.Actions.{PlainAction, PlainActions, turns, chooses, returns, branch, one, joined}
+use Rattle.c_meaning.specs.Meaning.{most_turns, names_after}
+use Rattle.c_meaning.specs.Open.{names_of, functions_of, closed}
+use Rattle.c_meaning.specs.Resolve.{variable_target, maybe_sets, resolved_right, resolved_begin, resolved_condition, resolved_next, resolved_block, resolved_arms, resolved_stmt}
+use Rattle.c_meaning.specs.Shown.{actions_of, plain_action, plain_assignment}
+use Rattle.c_meaning.specs.Values.{named}
+use Rattle.c_meaning.proofs.Acted.{plain_choose, plain_loop, joined_none, joined_joined, more_branches, branches_push, branches_all}
+use Rattle.c_meaning.proofs.StmtParts.{declare_resolved, set_resolved, set_element_resolved, call_resolved, send_resolved, if_resolved, if_else_resolved, loop_resolved, break_resolved, continue_resolved, return_resolved, inner_resolved, declare_named, set_named, set_element_named, call_named, send_named, if_named, loop_named, break_named, continue_named, return_named, inner_named, block_next, arms_next, kept_after}
+use Rattle.c_meaning.proofs.statements.+statement.Goals as goal
+
+pub stmt-returns-in_ok-declare-in-Declare-clause-actions : goal.stmt-returns-in_ok-declare-in-Declare-clause-actions
+stmt-returns-in_ok-declare-in-Declare-clause-actions t c =
+    let part = declare_resolved (functions_of c.args.scope.now) (names_of c.args.scope.now) c.args.s.now c.in-Declare.kind c.in-Declare.name c.in-Declare.right c.in-Declare.is in
+    cc (part, c.in_ok-declare-in-Declare.ensures.actions)
+
+pub stmt-returns-in_ok-declare-in-Declare-clause-names : goal.stmt-returns-in_ok-declare-in-Declare-clause-names
+stmt-returns-in_ok-declare-in-Declare-clause-names t c =
+    let part = declare_named (names_of c.args.scope.now) c.args.s.now c.in-Declare.kind c.in-Declare.name c.in-Declare.right c.in-Declare.is in
+    cc (part, c.in_ok-declare-in-Declare.ensures.names)
+
+pub stmt-returns-in_ok-add_right-in-Set-clause-actions : goal.stmt-returns-in_ok-add_right-in-Set-clause-actions
+stmt-returns-in_ok-add_right-in-Set-clause-actions t c =
+    let part = set_resolved (functions_of c.args.scope.now) (names_of c.args.scope.now) c.args.s.now c.in-Set.name c.in-Set.right c.in-Set.is in
+    let target = c.in_ok-target-in-Set.ensures ∙ ap variable_target (c.find.ensures ∙ ap (named (names_of c.args.scope.now)) c.as_str.ensures) in
+    c.in_ok-add_right-in-Set.ensures
+    ∙ ap (λ t. joined (actions_of c.args.out.now.items) (resolved_right (functions_of c.args.scope.now) (names_of c.args.scope.now) None t (plain_right c.in-Set.right))) target
+    ∙ ap (joined (actions_of c.args.out.now.items)) (sym part)
+
+pub stmt-returns-in_ok-add_right-in-Set-clause-names : goal.stmt-returns-in_ok-add_right-in-Set-clause-names
+stmt-returns-in_ok-add_right-in-Set-clause-names t c =
+    let part = set_named (names_of c.args.scope.now) c.args.s.now c.in-Set.name c.in-Set.right c.in-Set.is in
+    cc (part)
+
+pub stmt-returns-in_ok-set_element-in-SetElement-clause-actions : goal.stmt-returns-in_ok-set_element-in-SetElement-clause-actions
+stmt-returns-in_ok-set_element-in-SetElement-clause-actions t c =
+    let part = set_element_resolved (functions_of c.args.scope.now) (names_of c.args.scope.now) c.args.s.now c.in-SetElement.name c.in-SetElement.index c.in-SetElement.right c.in-SetElement.is in
+    c.in_ok-set_element-in-SetElement.ensures ∙ ap (joined (actions_of c.args.out.now.items)) (sym part)
+
+pub stmt-returns-in_ok-set_element-in-SetElement-clause-names : goal.stmt-returns-in_ok-set_element-in-SetElement-clause-names
+stmt-returns-in_ok-set_element-in-SetElement-clause-names t c =
+    let part = set_element_named (names_of c.args.scope.now) c.args.s.now c.in-SetElement.name c.in-SetElement.index c.in-SetElement.right c.in-SetElement.is in
+    cc (part)
+
+pub stmt-returns-in_ok-add_call-in-Call-clause-actions : goal.stmt-returns-in_ok-add_call-in-Call-clause-actions
+stmt-returns-in_ok-add_call-in-Call-clause-actions t c =
+    let part = call_resolved (functions_of c.args.scope.now) (names_of c.args.scope.now) c.args.s.now c.in-Call.name c.in-Call.args c.in-Call.is in
+    cc (part, c.in_ok-add_call-in-Call.ensures, c.in_ok-args-in-Call.ensures, c.function.ensures, c.as_str-in-Call.ensures, c.as_slice.ensures)
+
+pub stmt-returns-in_ok-add_call-in-Call-clause-names : goal.stmt-returns-in_ok-add_call-in-Call-clause-names
+stmt-returns-in_ok-add_call-in-Call-clause-names t c =
+    let part = call_named (names_of c.args.scope.now) c.args.s.now c.in-Call.name c.in-Call.args c.in-Call.is in
+    cc (part)
+
+pub stmt-returns-in_ok-send-in-Send-clause-actions : goal.stmt-returns-in_ok-send-in-Send-clause-actions
+stmt-returns-in_ok-send-in-Send-clause-actions t c =
+    let part = send_resolved (functions_of c.args.scope.now) (names_of c.args.scope.now) c.args.s.now c.in-Send.core c.in-Send.core_unsigned c.in-Send.source c.in-Send.target c.in-Send.count c.in-Send.is in
+    c.in_ok-send-in-Send.ensures ∙ ap (joined (actions_of c.args.out.now.items)) (sym part)
+
+pub stmt-returns-in_ok-send-in-Send-clause-names : goal.stmt-returns-in_ok-send-in-Send-clause-names
+stmt-returns-in_ok-send-in-Send-clause-names t c =
+    let part = send_named (names_of c.args.scope.now) c.args.s.now c.in-Send.core c.in-Send.core_unsigned c.in-Send.source c.in-Send.target c.in-Send.count c.in-Send.is in
+    cc (part)
+
+pub stmt-returns-in_ok-add-in-None-clause-actions : goal.stmt-returns-in_ok-add-in-None-clause-actions
+stmt-returns-in_ok-add-in-None-clause-actions t c =
+    let part = if_resolved (functions_of c.args.scope.now) (names_of c.args.scope.now) c.args.s.now c.in-If.arms c.in-If.otherwise c.in-If.is c.in-None.is in
+    let branches = c.in_ok-branches-in-If.ensures.branches ∙ ap (λ arms. resolved_arms (functions_of c.args.scope.now) (names_of c.args.scope.now) (arms_of arms)) c.as_slice-in-If.ensures in
+    let plain = plain_choose c.in_ok-branches-in-If.branches c.of-otherwise.result
+    ∙ ap₂ chooses branches (ap actions_of (c.of-otherwise.ensures ∙ c.new.ensures.items)) in
+    c.in_ok-add-in-None.ensures ∙ ap (λ a. joined (actions_of c.args.out.now.items) (one a)) plain ∙ ap (joined (actions_of c.args.out.now.items)) (sym part)
+
+pub stmt-returns-in_ok-add-in-None-clause-names : goal.stmt-returns-in_ok-add-in-None-clause-names
+stmt-returns-in_ok-add-in-None-clause-names t c =
+    let part = if_named (names_of c.args.scope.now) c.args.s.now c.in-If.arms c.in-If.otherwise c.in-If.is in
+    cc (part, c.in_ok-branches-in-If.ensures.names)
+
+pub stmt-returns-in_ok-add-in-Some-clause-actions : goal.stmt-returns-in_ok-add-in-Some-clause-actions
+stmt-returns-in_ok-add-in-Some-clause-actions t c =
+    let part = if_else_resolved (functions_of c.args.scope.now) (names_of c.args.scope.now) c.args.s.now c.in-If.arms c.in-If.otherwise c.in-Some.body c.in-If.is c.in-Some.is in
+    let branches = c.in_ok-branches-in-If.ensures.branches ∙ ap (λ arms. resolved_arms (functions_of c.args.scope.now) (names_of c.args.scope.now) (arms_of arms)) c.as_slice-in-If.ensures in
+    let scope = ap₂ (λ f n. resolved_block f n (block_of c.in-Some.body)) c.in_ok-branches-in-If.ensures.functions c.in_ok-branches-in-If.ensures.names in
+    let body = c.in_ok-otherwise-in-Some.ensures.actions
+    ∙ ap (λ ss. resolved_block (functions_of c.branches.new.scope) (names_of c.branches.new.scope) (block_of ss)) c.as_slice-in-Some.ensures ∙ scope in
+    let plain = plain_choose c.in_ok-branches-in-If.branches c.in_ok-otherwise-in-Some.otherwise ∙ ap₂ chooses branches body in
+    c.in_ok-add-in-Some.ensures ∙ ap (λ a. joined (actions_of c.args.out.now.items) (one a)) plain ∙ ap (joined (actions_of c.args.out.now.items)) (sym part)
+
+pub stmt-returns-in_ok-add-in-Some-clause-names : goal.stmt-returns-in_ok-add-in-Some-clause-names
+stmt-returns-in_ok-add-in-Some-clause-names t c =
+    let part = if_named (names_of c.args.scope.now) c.args.s.now c.in-If.arms c.in-If.otherwise c.in-If.is in
+    cc (part, c.in_ok-branches-in-If.ensures.names, c.in_ok-otherwise-in-Some.ensures.names)
+
+pub stmt-returns-in_ok-add-in-Loop-clause-actions : goal.stmt-returns-in_ok-add-in-Loop-clause-actions
+stmt-returns-in_ok-add-in-Loop-clause-actions t c =
+    let part = loop_resolved (functions_of c.args.scope.now) (names_of c.args.scope.now) c.args.s.now c.in-Loop.bound c.in-Loop.head c.in-Loop.body c.in-Loop.is in
+    let first : PlainActions = maybe_sets (resolved_begin (names_of c.args.scope.now) (plain_head c.in-Loop.head)) in
+    let loop : PlainAction = turns (most_turns c.in-Loop.bound) (resolved_condition (names_of c.args.scope.now) (plain_head c.in-Loop.head)) (resolved_block (functions_of c.args.scope.now) (names_of c.args.scope.now) (block_of c.in-Loop.body))
+    (resolved_next (names_of c.args.scope.now) (plain_head c.in-Loop.head)) in
+    let plain : plain_action (Loop c.most_turns-max.result c.in_ok-condition-in-Loop.condition c.in_ok-body-in-Loop.body c.in_ok-step-in-Loop.step) ≡ loop =
+    plain_loop c.most_turns-max.result c.in_ok-condition-in-Loop.condition c.in_ok-body-in-Loop.body c.in_ok-step-in-Loop.step
+    ∙ ap₂ (λ m e. turns m e (actions_of c.in_ok-body-in-Loop.body) (option_map plain_assignment c.in_ok-step-in-Loop.step))
+    c.most_turns-max.ensures c.in_ok-condition-in-Loop.ensures
+    ∙ ap₂ (λ b n. turns (most_turns c.in-Loop.bound) (resolved_condition (names_of c.args.scope.now) (plain_head c.in-Loop.head)) b n)
+    (c.in_ok-body-in-Loop.ensures.actions ∙ ap (λ ss. resolved_block (functions_of c.args.scope.now) (names_of c.args.scope.now) (block_of ss)) c.as_slice-in-Loop.ensures) c.in_ok-step-in-Loop.ensures in
+    let begun = c.in_ok-add_set-in-Loop.ensures ∙ ap (λ f. joined (actions_of c.args.out.now.items) (maybe_sets f)) c.in_ok-first-in-Loop.ensures in
+    c.in_ok-add-in-Loop.ensures ∙ ap₂ (λ xs a. joined xs (one a)) begun plain ∙ joined_joined (actions_of c.args.out.now.items) first (one loop) ∙ ap (joined (actions_of c.args.out.now.items)) (sym part)
+
+pub stmt-returns-in_ok-add-in-Loop-clause-names : goal.stmt-returns-in_ok-add-in-Loop-clause-names
+stmt-returns-in_ok-add-in-Loop-clause-names t c =
+    let part = loop_named (names_of c.args.scope.now) c.args.s.now c.in-Loop.bound c.in-Loop.head c.in-Loop.body c.in-Loop.is in
+    cc (part, c.in_ok-body-in-Loop.ensures.names)
+
+pub stmt-returns-in_ok-add-in-Break-clause-actions : goal.stmt-returns-in_ok-add-in-Break-clause-actions
+unfolding plain_action
+stmt-returns-in_ok-add-in-Break-clause-actions t c =
+    let part = break_resolved (functions_of c.args.scope.now) (names_of c.args.scope.now) c.args.s.now c.in-Break.is in
+    c.in_ok-add-in-Break.ensures ∙ ap (joined (actions_of c.args.out.now.items)) (sym part)
+
+pub stmt-returns-in_ok-add-in-Break-clause-names : goal.stmt-returns-in_ok-add-in-Break-clause-names
+stmt-returns-in_ok-add-in-Break-clause-names t c =
+    let part = break_named (names_of c.args.scope.now) c.args.s.now c.in-Break.is in
+    cc (part)
+
+pub stmt-returns-in_ok-add-in-Continue-clause-actions : goal.stmt-returns-in_ok-add-in-Continue-clause-actions
+unfolding plain_action
+stmt-returns-in_ok-add-in-Continue-clause-actions t c =
+    let part = continue_resolved (functions_of c.args.scope.now) (names_of c.args.scope.now) c.args.s.now c.in-Continue.is in
+    c.in_ok-add-in-Continue.ensures ∙ ap (joined (actions_of c.args.out.now.items)) (sym part)
+
+pub stmt-returns-in_ok-add-in-Continue-clause-names : goal.stmt-returns-in_ok-add-in-Continue-clause-names
+stmt-returns-in_ok-add-in-Continue-clause-names t c =
+    let part = continue_named (names_of c.args.scope.now) c.args.s.now c.in-Continue.is in
+    cc (part)
+
+pub stmt-returns-in_ok-add-in-Return-clause-actions : goal.stmt-returns-in_ok-add-in-Return-clause-actions
+unfolding plain_action
+stmt-returns-in_ok-add-in-Return-clause-actions t c =
+    let part = return_resolved (functions_of c.args.scope.now) (names_of c.args.scope.now) c.args.s.now c.in-Return.value c.in-Return.is in
+    c.in_ok-add-in-Return.ensures ∙ ap (λ e. joined (actions_of c.args.out.now.items) (one (returns e))) c.in_ok-value-in-Return.ensures ∙ ap (joined (actions_of c.args.out.now.items)) (sym part)
+
+pub stmt-returns-in_ok-add-in-Return-clause-names : goal.stmt-returns-in_ok-add-in-Return-clause-names
+stmt-returns-in_ok-add-in-Return-clause-names t c =
+    let part = return_named (names_of c.args.scope.now) c.args.s.now c.in-Return.value c.in-Return.is in
+    cc (part)
+
+pub stmt-returns-in_ok-statements-in-Inner-clause-actions : goal.stmt-returns-in_ok-statements-in-Inner-clause-actions
+stmt-returns-in_ok-statements-in-Inner-clause-actions t c =
+    let part = inner_resolved (functions_of c.args.scope.now) (names_of c.args.scope.now) c.args.s.now c.in-Inner.body c.in-Inner.is in
+    cc (part, c.in_ok-statements-in-Inner.ensures.actions, c.as_slice-in-Inner.ensures)
+
+pub stmt-returns-in_ok-statements-in-Inner-clause-names : goal.stmt-returns-in_ok-statements-in-Inner-clause-names
+stmt-returns-in_ok-statements-in-Inner-clause-names t c =
+    let part = inner_named (names_of c.args.scope.now) c.args.s.now c.in-Inner.body c.in-Inner.is in
+    c.close.ensures.names ∙ ap (λ n. closed n (names_of c.statements.new.scope)) c.len-outer.ensures ∙ c.in_ok-statements-in-Inner.ensures.kept ∙ sym part
+
+pub stmt-returns-in_ok-statements-in-Inner-clause-functions : goal.stmt-returns-in_ok-statements-in-Inner-clause-functions
+stmt-returns-in_ok-statements-in-Inner-clause-functions t c =
+    cc (c.close.ensures.functions, c.in_ok-statements-in-Inner.ensures.functions)
+
+pub statements-loop-s-preserved : goal.statements-loop-s-preserved
+statements-loop-s-preserved t c =
+    let fs = functions_of c.loop-s.scope in
+    let names = names_of c.loop-s.scope in
+    let s = plain_stmt c.s-item.result in
+    let rest = block_of (drop (c.loop-s.s-index + 1) c.args.body.now) in
+    let next = block_next fs names c.args.body.now c.loop-s.s-index c.s-item.result (omega arith) c.s-item.is in
+    let scope = ap₂ (λ f n. resolved_block f n rest) c.in_ok-stmt.ensures.functions c.in_ok-stmt.ensures.names in
+    record {
+      actions = ap₂ joined c.in_ok-stmt.ensures.actions scope
+          ∙ joined_joined (actions_of c.loop-s.out.items) (resolved_stmt fs names s) (resolved_block fs (names_after names s) rest)
+          ∙ ap (joined (actions_of c.loop-s.out.items)) (sym next) ∙ c.loop-s.invariant.actions;
+      kept = ap (closed (length (names_of c.args.scope.now).variables)) c.in_ok-stmt.ensures.names
+          ∙ kept_after (names_of c.args.scope.now) names s c.loop-s.invariant.kept;
+      functions = c.in_ok-stmt.ensures.functions ∙ c.loop-s.invariant.functions;
+    }
+
+pub statements-returns-clause-actions : goal.statements-returns-clause-actions
+statements-returns-clause-actions t c =
+    let fs = functions_of c.loop-s.scope in
+    let names = names_of c.loop-s.scope in
+    let all = ap (λ ss. joined (actions_of c.loop-s.out.items) (resolved_block fs names (block_of ss)))
+    (drop_all c.loop-s.s-index c.args.body.now c.loop-s-test.false) in
+    cc (all, joined_none (actions_of c.loop-s.out.items), c.loop-s.invariant.actions)
+
+pub statements-returns-clause-kept : goal.statements-returns-clause-kept
+statements-returns-clause-kept t c =
+    c.loop-s.invariant.kept
+
+pub branches-loop-arm-preserved : goal.branches-loop-arm-preserved
+branches-loop-arm-preserved t c =
+    let fs = functions_of c.loop-arm.scope in
+    let names = names_of c.loop-arm.scope in
+    let bs = c.loop-arm.branches.items in
+    let b : Branch = record { condition = c.in_ok-condition.condition; body = c.in_ok-body.body } in
+    let arms = arms_of (drop (c.loop-arm.arm-index + 1) c.args.arms.now) in
+    let next = arms_next fs names c.args.arms.now c.loop-arm.arm-index c.arm-item.result (omega arith) c.arm-item.is in
+    let scope = ap₂ (λ f n. resolved_arms f n arms) c.in_ok-body.ensures.functions c.in_ok-body.ensures.names in
+    let body = c.in_ok-body.ensures.actions ∙ ap (λ ss. resolved_block fs names (block_of ss)) c.as_slice.ensures in
+    record {
+      branches = ap₂ more_branches c.in_ok-push.ensures.items scope ∙ branches_push bs b (resolved_arms fs names arms)
+          ∙ ap₂ (λ x y. more_branches bs (branch x y (resolved_arms fs names arms))) c.in_ok-condition.ensures body
+          ∙ ap (more_branches bs) (sym next) ∙ c.loop-arm.invariant.branches;
+      names = c.in_ok-body.ensures.names ∙ c.loop-arm.invariant.names;
+      functions = c.in_ok-body.ensures.functions ∙ c.loop-arm.invariant.functions;
+    }
+
+pub branches-returns-clause-branches : goal.branches-returns-clause-branches
+branches-returns-clause-branches t c =
+    let all = ap (λ arms. more_branches c.loop-arm.branches.items (resolved_arms (functions_of c.loop-arm.scope) (names_of c.loop-arm.scope) (arms_of arms)))
+    (drop_all c.loop-arm.arm-index c.args.arms.now c.loop-arm-test.false) in
+    cc (all, branches_all c.loop-arm.branches.items, c.loop-arm.invariant.branches, c.of.ensures)
+
+pub block-returns-clause-actions : goal.block-returns-clause-actions
+block-returns-clause-actions t c =
+    let first = ap (λ xs. joined (actions_of xs) (resolved_block (functions_of c.args.scope.now) (names_of c.args.scope.now) (block_of c.args.body.now))) c.new-actions.ensures.items in
+    cc (first, c.of.ensures, c.in_ok-statements.ensures.actions)
+
+pub block-returns-clause-names : goal.block-returns-clause-names
+block-returns-clause-names t c =
+    cc (c.close.ensures.names, c.len-outer.ensures, c.in_ok-statements.ensures.kept)
+
+pub block-returns-clause-functions : goal.block-returns-clause-functions
+block-returns-clause-functions t c =
+    cc (c.close.ensures.functions, c.in_ok-statements.ensures.functions)

@@ -1,0 +1,5 @@
+-- How many words a task's memories have.
+use Rattle.c_world.specs.Shown.{Rooms, fresh_rooms}
+
+abbrev pub all_rooms : Rooms
+all_rooms = fresh_rooms 65536

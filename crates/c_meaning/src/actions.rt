@@ -1,0 +1,113 @@
+//! Programs whose names are resolved: variables by their levels, all else by its place in memory, functions by number.
+ghost use Rattle.std.specs.Prelude.{◌+◌, ◌<◌, ◌≤◌, length};
+ghost use Rattle.c_world.specs.Shown.{room_in};
+ghost use Rattle.c_meaning.specs.Rooms.{all_rooms};
+
+use c_world::Region;
+use sp_tree::SpExpr;
+use tc_word::List;
+
+/// How many words a function has for its variables. A valid function has fewer: its frame is at most 120 words, of
+/// which 24 are no variables.
+pub const FRAME_WORDS: usize = 96;
+
+/// How many words a task's private memory has.
+pub const PRIVATE_WORDS: usize = 65_536;
+
+/// The variable of a level.
+#[derive(Clone, Copy, Debug, PartialEq, Eq)]
+pub struct Level {
+    pub number: u32,
+    pub ghost within: { number < 96 },
+}
+
+/// A word of a memory.
+#[derive(Clone, Copy, Debug, PartialEq, Eq)]
+pub struct Word {
+    pub region: Region,
+    pub word: u32,
+    pub ghost within: { word < room_in region all_rooms },
+}
+
+/// An array in a memory.
+#[derive(Clone, Copy, Debug, PartialEq, Eq)]
+pub struct Array {
+    pub region: Region,
+    pub first: u32,
+    pub length: u32,
+    pub ghost within: { first + length ≤ room_in region all_rooms },
+}
+
+/// What is set.
+#[derive(Debug, Drop)]
+pub enum Target {
+    Variable { level: Level },
+    Scalar { word: Word },
+    Element { array: Array, index: SpExpr },
+}
+
+/// What is set, and to what.
+#[derive(Debug, Drop)]
+pub struct Assignment {
+    pub target: Target,
+    pub value: SpExpr,
+}
+
+/// The arguments of a call, as many at most as a function has words for its variables.
+#[derive(Debug, Drop)]
+pub struct Arguments {
+    pub values: List<SpExpr>,
+    pub ghost few: { length values ≤ 96 },
+}
+
+/// A statement. Blocks and declarations are none: their statements stand among the others.
+#[derive(Debug, Drop)]
+#[cycle(action)]
+pub enum Action {
+    Set {
+        assignment: Assignment,
+    },
+    /// A function is called, and what it gives is set, if anything.
+    Call {
+        function: u32,
+        args: Arguments,
+        target: Option<Target>,
+    },
+    Send {
+        core: u32,
+        source: SpExpr,
+        target: SpExpr,
+        count: SpExpr,
+    },
+    /// The first branch whose condition holds, or else these.
+    Choose {
+        branches: List<Branch>,
+        otherwise: List<Action>,
+    },
+    /// So many turns at most, with what is set behind each, if anything.
+    Loop {
+        max: u32,
+        condition: SpExpr,
+        body: List<Action>,
+        step: Option<Assignment>,
+    },
+    Break,
+    Continue,
+    Return {
+        value: SpExpr,
+    },
+}
+
+/// A condition, and what is done under it.
+#[derive(Debug, Drop)]
+#[cycle(action)]
+pub struct Branch {
+    pub condition: SpExpr,
+    pub body: List<Action>,
+}
+
+/// A function.
+#[derive(Debug, Drop)]
+pub struct Routine {
+    pub body: List<Action>,
+}

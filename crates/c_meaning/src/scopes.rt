@@ -1,0 +1,151 @@
+//! The names that are open where names are resolved.
+ghost use Rattle.std.specs.Prelude.{◌≡◌, [], ◌∷◌, ◌++◌, length, map, option_map, OnOk};
+ghost use Rattle.std.specs.Option.{option_copied};
+ghost use Rattle.c_meaning.specs.Open.{names_of, closed, functions_of, shown_open, shown_known, found_shown, slot_shown};
+ghost use Rattle.c_meaning.specs.Resolve.{number_of};
+ghost use Rattle.c_meaning.specs.Scope.{level, among_levels, among_slots};
+ghost use Rattle.c_meaning.specs.Values.{named};
+
+use c_tree::Slot;
+use std::alloc::Global;
+use tc_word::OutOfMemory;
+
+/// A variable of the function, and whether it is unsigned.
+#[derive(Clone, Copy, Debug)]
+struct Open<'a> {
+    name: &'a str,
+    unsigned: bool,
+}
+
+/// An earlier function.
+#[derive(Clone, Copy, Debug)]
+struct Known<'a> {
+    name: &'a str,
+}
+
+/// What a name stands for.
+#[derive(Clone, Copy, Debug)]
+pub enum Found<'a> {
+    /// The variable of a level.
+    Variable { at: usize, unsigned: bool },
+    /// A variable or an array outside functions.
+    Outside { slot: &'a Slot },
+    Nothing,
+}
+
+/// The names that are open: what is declared outside functions, the functions before this one, and the function's
+/// variables, innermost last.
+#[derive(Debug, Drop)]
+pub struct Scope<'a> {
+    slots: &'a [Slot],
+    functions: Vec<Known<'a>>,
+    open_names: Vec<Open<'a>>,
+}
+
+impl<'a> Scope<'a> {
+    /// What is declared outside functions.
+    pub fn new(alloc: Global, slots: &'a [Slot]) -> Scope<'a>
+        ensures names { names_of result ≡ record { slots = slots.now; variables = [] } }
+        ensures functions { functions_of result ≡ [] }
+    {
+        Scope {
+            slots,
+            functions: Vec::new(alloc),
+            open_names: Vec::new(alloc),
+        }
+    }
+
+    /// How many variables are open.
+    pub fn len(&self) -> usize
+        ensures { result ≡ length (names_of self.now).variables }
+    {
+        self.open_names.len()
+    }
+
+    /// What a name stands for.
+    pub fn find(&self, name: &str) -> Found<'a>
+        ensures { found_shown result ≡ named (names_of self.now) name.now }
+    {
+        match last_open(&self.open_names, name) {
+            Some((at, unsigned)) => Found::Variable { at, unsigned },
+            None => match first_slot(self.slots, name) {
+                Some(slot) => Found::Outside { slot },
+                None => Found::Nothing,
+            },
+        }
+    }
+
+    /// The number of a function.
+    pub fn function(&self, name: &str) -> Option<usize>
+        ensures { result ≡ number_of name.now (functions_of self.now) }
+    {
+        last_known(&self.functions, name)
+    }
+
+    /// Opens a variable.
+    pub fn declare(&mut self, name: &'a str, unsigned: bool) -> Result<(), OutOfMemory>
+        ensures names { OnOk result (names_of self.new ≡ record {
+          slots = (names_of self.old).slots;
+          variables = (names_of self.old).variables ++ record { name = name.now; unsigned = unsigned } ∷ [];
+        }) }
+        ensures functions { OnOk result (functions_of self.new ≡ functions_of self.old) }
+    {
+        self.open_names.push(Open { name, unsigned })?;
+        Ok(())
+    }
+
+    /// Closes all variables but the first so many.
+    #[tactic(auto, using(crate::proofs::Opened::shown_take))]
+    pub fn close(&mut self, outer: usize)
+        ensures names { names_of self.new ≡ closed outer (names_of self.old) }
+        ensures functions { functions_of self.new ≡ functions_of self.old }
+    {
+        self.open_names.truncate(outer);
+    }
+
+    /// One function more.
+    pub fn define(&mut self, name: &'a str) -> Result<(), OutOfMemory>
+        ensures names { OnOk result (names_of self.new ≡ names_of self.old) }
+        ensures functions { OnOk result (functions_of self.new ≡ functions_of self.old ++ name.now ∷ []) }
+    {
+        self.functions.push(Known { name })?;
+        Ok(())
+    }
+}
+
+// the last variable so called: its level, and whether it is unsigned
+fn last_open(open_names: &[Open<'_>], name: &str) -> Option<(usize, bool)>
+    ensures { option_map (λ x. level x.0 x.1) result ≡ among_levels 0 name.now (map shown_open open_names.now) }
+{
+    let mut last = None;
+    for (at, variable) in open_names.iter().enumerate() {
+        if variable.name == name {
+            last = Some((at, variable.unsigned));
+        }
+    }
+    last
+}
+
+fn first_slot<'a>(slots: &'a [Slot], name: &str) -> Option<&'a Slot>
+    ensures { slot_shown (option_copied result) ≡ among_slots name.now slots.now }
+{
+    for slot in slots {
+        if slot.name.as_str() == name {
+            return Some(slot);
+        }
+    }
+    None
+}
+
+// the number of the last function so called
+fn last_known(functions: &[Known<'_>], name: &str) -> Option<usize>
+    ensures { result ≡ number_of name.now (map shown_known functions.now) }
+{
+    let mut last = None;
+    for (at, function) in functions.iter().enumerate() {
+        if function.name == name {
+            last = Some(at);
+        }
+    }
+    last
+}

@@ -1,0 +1,4 @@
+pub mod Arguments
+pub mod Branches
+pub mod Falls
+pub mod Runs

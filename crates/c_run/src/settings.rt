@@ -1,0 +1,95 @@
+//! What actions set.
+ghost use Rattle.std.specs.Prelude.{◌≡◌, ℕ, List, length, map, option_map, slice_index};
+ghost use Rattle.std.specs.Prelude.{◌≤◌};
+ghost use Rattle.c_world.specs.Shown.{rooms};
+ghost use Rattle.c_world.specs.World.{Sending};
+ghost use Rattle.sp_tree.specs.Plain.{plain_sp};
+ghost use Rattle.c_meaning.specs.Resolved.{worth, args_worth, with_target, with_result, assignment_done, step_done};
+ghost use Rattle.c_meaning.specs.Rooms.{all_rooms};
+ghost use Rattle.c_meaning.specs.Shown.{plain_target, plain_assignment};
+ghost use Rattle.c_run.specs.Ran.{state_of};
+
+use c_meaning::{Assignment, Target};
+use c_world::Memory;
+use sp_tree::{SpExpr, value};
+
+// a variable, a word of a memory, or an element
+#[tactic(auto, using(c_world::proofs::Words::word_set))]
+fn set(target: &Target, given: u32, frame: &mut [u32], memory: &mut Memory)
+    requires frame { length frame.old ≡ 96 }
+    requires rooms { rooms memory.old ≡ all_rooms }
+    ensures done { (sends : List Sending) → with_target (plain_target target.now) given (state_of frame.old memory.old sends)
+        ≡ state_of frame.new memory.new sends }
+    ensures rooms { rooms memory.new ≡ all_rooms }
+{
+    match target {
+        Target::Variable { level } => frame[level.number as usize] = given,
+        Target::Scalar { word } => memory.set_word(word.region, word.word as usize, given),
+        Target::Element { array, index } => {
+            let index = value(index, frame, memory);
+            memory.set_element(array.region, array.first, array.length, index, given);
+        }
+    }
+}
+
+/// What is set, and to what.
+pub fn assign(assignment: &Assignment, frame: &mut [u32], memory: &mut Memory)
+    requires frame { length frame.old ≡ 96 }
+    requires rooms { rooms memory.old ≡ all_rooms }
+    ensures done { (sends : List Sending) → assignment_done (plain_assignment assignment.now) (state_of frame.old memory.old sends)
+        ≡ state_of frame.new memory.new sends }
+    ensures rooms { rooms memory.new ≡ all_rooms }
+{
+    let given = value(&assignment.value, frame, memory);
+    set(&assignment.target, given, frame, memory);
+}
+
+/// What is set behind a turn of a loop, if anything.
+pub fn step(assignment: &Option<Assignment>, frame: &mut [u32], memory: &mut Memory)
+    requires frame { length frame.old ≡ 96 }
+    requires rooms { rooms memory.old ≡ all_rooms }
+    ensures done { (sends : List Sending) → step_done (option_map plain_assignment assignment.now) (state_of frame.old memory.old sends)
+        ≡ state_of frame.new memory.new sends }
+    ensures rooms { rooms memory.new ≡ all_rooms }
+{
+    match assignment {
+        None => {}
+        Some(assignment) => assign(assignment, frame, memory),
+    }
+}
+
+/// What is set to what a function gave, if anything.
+pub fn set_given(target: &Option<Target>, given: u32, frame: &mut [u32], memory: &mut Memory)
+    requires frame { length frame.old ≡ 96 }
+    requires rooms { rooms memory.old ≡ all_rooms }
+    ensures done { (sends : List Sending) → with_result (option_map plain_target target.now) given (state_of frame.old memory.old sends)
+        ≡ state_of frame.new memory.new sends }
+    ensures rooms { rooms memory.new ≡ all_rooms }
+{
+    match target {
+        None => {}
+        Some(target) => set(target, given, frame, memory),
+    }
+}
+
+// the word of an argument; 0 where there is none
+#[tactic(auto, using(crate::proofs::Arguments::worth_at, crate::proofs::Arguments::worth_past))]
+fn argument(args: &[SpExpr], number: usize, frame: &[u32], memory: &Memory) -> u32
+    ensures { (sends : List Sending) → result ≡ slice_index (args_worth (map plain_sp args.now) (state_of frame.now memory.now sends)) number }
+{
+    if number < args.len() {
+        value(&args[number], frame, memory)
+    } else {
+        0
+    }
+}
+
+/// The words of a function's own frame: its arguments, and 0 behind them.
+pub fn pass(args: &[SpExpr], frame: &[u32], own: &mut [u32], memory: &Memory)
+    requires { length args.now ≤ length own.old }
+    ensures { (sends : List Sending) → slice_index own.new ≡ slice_index (args_worth (map plain_sp args.now) (state_of frame.now memory.now sends)) }
+{
+    for number in 0..own.len() {
+        own[number] = argument(args, number, frame, memory);
+    }
+}
