@@ -2,17 +2,10 @@
 use Rattle.std.proofs.Common.{◌≡◌, ℕ, ◌+◌, ◌<◌, List, [], ◌∷◌, ◌++◌, length, get_or, drop, map, refl, ap, sym, ◌∙◌, append-nil}
 use Rattle.c_tree.specs.declared.layout.Slot.{Slot}
 use Rattle.c_tree.specs.declared.units.Item.{Item}
-use Rattle.c_tree.specs.declared.units.Parameter.{Parameter}
-use Rattle.c_tree.specs.Layout.{is_unsigned}
 use Rattle.c_tree.specs.Plain.{PlainItem, plain_item}
 use Rattle.c_tree.specs.Plain as tree
-use Rattle.c_meaning.specs.Meaning.{parameter_variables}
 use Rattle.c_meaning.specs.Resolve.{resolved_items, names_in}
 use Rattle.c_meaning.proofs.Parts.{drop_item}
-
-pub parameters_next : (ps : List Parameter) (i : ℕ) (p : Parameter) → i < length ps → p ≡ get_or ps i p
-    → parameter_variables (drop i ps) ≡ record { name = p.name; unsigned = is_unsigned p.kind } ∷ parameter_variables (drop (i + 1) ps)
-parameters_next ps i p within is = ap parameter_variables (drop_item ps i p within is)
 
 -- one item, and then the others
 pub first_item : (slots : List Slot) (fs : List (List ℕ)) (i : PlainItem) (items : List PlainItem)

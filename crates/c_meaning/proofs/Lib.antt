@@ -1,5 +1,6 @@
 pub mod Acted
 pub mod Boxes
+pub mod Firsts
 pub mod ItemParts
 pub mod Means
 pub mod Opened

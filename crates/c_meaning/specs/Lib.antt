@@ -1,5 +1,6 @@
 pub mod Actions
 pub mod Begun
+pub mod Globals
 pub mod Meaning
 pub mod Open
 pub mod Operators

@@ -1,6 +1,5 @@
 -- The names that are open where a program's names are resolved, and what a name was found to stand for.
-use Rattle.std.specs.Prelude.{ℕ, List, map, take, Option, None, Some}
-use Rattle.c_tree.specs.declared.layout.Slot.{Slot}
+use Rattle.std.specs.Prelude.{ℕ, List, map, take}
 use Rattle.c_meaning.specs.declared.scopes.Found.{Found}
 use Rattle.c_meaning.specs.declared.scopes.Found.TheVariants as found
 use Rattle.c_meaning.specs.declared.scopes.Known.{Known}
@@ -13,7 +12,7 @@ abbrev pub shown_open : Open → Variable
 shown_open o = record { name = o.name.now; unsigned = o.unsigned }
 
 abbrev pub names_of : Opened → Names
-names_of s = record { slots = s.slots.now; variables = map shown_open s.open_names.items }
+names_of s = record { slots = s.globals.slots.now; variables = map shown_open s.open_names.items }
 
 -- the names of which only the first so many variables are open
 abbrev pub closed : ℕ → Names → Names
@@ -29,7 +28,3 @@ abbrev pub found_shown : Found → Stands
 found_shown (found.Variable at unsigned) = level at unsigned
 found_shown (found.Outside slot) = outside slot.now
 found_shown found.Nothing = nothing
-
-abbrev pub slot_shown : Option Slot → Stands
-slot_shown None = nothing
-slot_shown (Some s) = outside s

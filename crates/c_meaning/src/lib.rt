@@ -15,6 +15,7 @@
 
 mod actions;
 mod expressions;
+mod globals;
 mod laws;
 mod operators;
 mod routines;
@@ -28,6 +29,7 @@ pub use actions::{
     Action, Arguments, Array, Assignment, Branch, FRAME_WORDS, Level, PRIVATE_WORDS, Routine,
     Target, Word,
 };
+pub use expressions::array_of;
 pub use laws::names_resolved_once;
 pub use routines::{Resolved, resolve};
 pub use ways::Way;

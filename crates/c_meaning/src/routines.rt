@@ -85,7 +85,7 @@ pub fn resolve(alloc: Global, program: &Checked) -> Result<Resolved, OutOfMemory
     ensures routines { IfOk result (λ r. bodies_of r.routines ≡ resolved_items program.now.layout [] (plain program.now.unit)) }
     ensures main { IfOk result (λ r. r.main ≡ number_of (codes "main") (names_in (plain program.now.unit))) }
 {
-    let mut scope = Scope::new(alloc, program.layout.as_slice());
+    let mut scope = Scope::new(alloc, program.layout.as_slice())?;
     let mut routines = Vec::new(alloc);
     for item in program.unit.items.as_slice() {
         add_item(alloc, &mut scope, &mut routines, item)?;

@@ -1,11 +1,11 @@
 //! The names that are open where names are resolved.
-ghost use Rattle.std.specs.Prelude.{◌≡◌, [], ◌∷◌, ◌++◌, length, map, option_map, OnOk};
-ghost use Rattle.std.specs.Option.{option_copied};
-ghost use Rattle.c_meaning.specs.Open.{names_of, closed, functions_of, shown_open, shown_known, found_shown, slot_shown};
+ghost use Rattle.std.specs.Prelude.{◌≡◌, [], ◌∷◌, ◌++◌, length, map, option_map, IfOk, OnOk};
+ghost use Rattle.c_meaning.specs.Open.{names_of, closed, functions_of, shown_open, shown_known, found_shown};
 ghost use Rattle.c_meaning.specs.Resolve.{number_of};
-ghost use Rattle.c_meaning.specs.Scope.{level, among_levels, among_slots};
+ghost use Rattle.c_meaning.specs.Scope.{level, among_levels};
 ghost use Rattle.c_meaning.specs.Values.{named};
 
+use crate::globals::Globals;
 use c_tree::Slot;
 use std::alloc::Global;
 use tc_word::OutOfMemory;
@@ -37,22 +37,23 @@ pub enum Found<'a> {
 /// variables, innermost last.
 #[derive(Debug, Drop)]
 pub struct Scope<'a> {
-    slots: &'a [Slot],
+    globals: Globals<'a>,
     functions: Vec<Known<'a>>,
     open_names: Vec<Open<'a>>,
 }
 
 impl<'a> Scope<'a> {
     /// What is declared outside functions.
-    pub fn new(alloc: Global, slots: &'a [Slot]) -> Scope<'a>
-        ensures names { names_of result ≡ record { slots = slots.now; variables = [] } }
-        ensures functions { functions_of result ≡ [] }
+    pub fn new(alloc: Global, slots: &'a [Slot]) -> Result<Scope<'a>, OutOfMemory>
+        ensures names { IfOk result (λ s. names_of s ≡ record { slots = slots.now; variables = [] }) }
+        ensures functions { IfOk result (λ s. functions_of s ≡ []) }
     {
-        Scope {
-            slots,
+        let globals = Globals::new(alloc, slots)?;
+        Ok(Scope {
+            globals,
             functions: Vec::new(alloc),
             open_names: Vec::new(alloc),
-        }
+        })
     }
 
     /// How many variables are open.
@@ -68,7 +69,7 @@ impl<'a> Scope<'a> {
     {
         match last_open(&self.open_names, name) {
             Some((at, unsigned)) => Found::Variable { at, unsigned },
-            None => match first_slot(self.slots, name) {
+            None => match self.globals.find(name) {
                 Some(slot) => Found::Outside { slot },
                 None => Found::Nothing,
             },
@@ -124,17 +125,6 @@ fn last_open(open_names: &[Open<'_>], name: &str) -> Option<(usize, bool)>
         }
     }
     last
-}
-
-fn first_slot<'a>(slots: &'a [Slot], name: &str) -> Option<&'a Slot>
-    ensures { slot_shown (option_copied result) ≡ among_slots name.now slots.now }
-{
-    for slot in slots {
-        if slot.name.as_str() == name {
-            return Some(slot);
-        }
-    }
-    None
 }
 
 // the number of the last function so called

@@ -240,6 +240,25 @@ fn send(
     )
 }
 
+// a choice between branches, or else these
+#[tactic(auto, using(crate::proofs::Acted::plain_choose))]
+fn add_choice(
+    out: &mut Vec<Action>,
+    branches: List<Branch>,
+    otherwise: List<Action>,
+) -> Result<(), OutOfMemory>
+    ensures { OnOk result (actions_of out.new.items
+        ≡ joined (actions_of out.old.items) (one (plain.chooses (branches_of branches) (actions_of otherwise)))) }
+{
+    add(
+        out,
+        Action::Choose {
+            branches,
+            otherwise,
+        },
+    )
+}
+
 /// A statement.
 #[cycle(statement)]
 #[tactic(auto)]
@@ -288,44 +307,18 @@ fn stmt<'a>(
             match otherwise {
                 None => {
                     let otherwise = List::of(Vec::new(alloc));
-                    add(
-                        out,
-                        Action::Choose {
-                            branches,
-                            otherwise,
-                        },
-                    )?;
+                    add_choice(out, branches, otherwise)?;
                     Ok(())
                 }
                 Some(body) => {
                     let otherwise = block(alloc, scope, body.as_slice())?;
-                    add(
-                        out,
-                        Action::Choose {
-                            branches,
-                            otherwise,
-                        },
-                    )?;
+                    add_choice(out, branches, otherwise)?;
                     Ok(())
                 }
             }
         }
         Stmt::Loop { bound, head, body } => {
-            let first = begin(alloc, scope, head)?;
-            add_set(out, first)?;
-            let condition = condition_of(alloc, scope, head)?;
-            let step = next(alloc, scope, head)?;
-            let body = block(alloc, scope, body.as_slice())?;
-            let max = most_turns(*bound);
-            add(
-                out,
-                Action::Loop {
-                    max,
-                    condition,
-                    body,
-                    step,
-                },
-            )?;
+            repeat(alloc, scope, out, *bound, head, body.as_slice())?;
             Ok(())
         }
         Stmt::Break => {
@@ -348,6 +341,40 @@ fn stmt<'a>(
             Ok(())
         }
     }
+}
+
+// a loop, and what is set before its first turn
+#[cycle(statement)]
+#[tactic(auto)]
+fn repeat<'a>(
+    alloc: Global,
+    scope: &mut Scope<'a>,
+    out: &mut Vec<Action>,
+    bound: Option<Bound>,
+    head: &'a Head,
+    body: &'a [Stmt],
+) -> Result<(), OutOfMemory>
+    ensures actions { OnOk result (actions_of out.new.items ≡ joined (actions_of out.old.items)
+        (resolve.resolved_stmt (functions_of scope.old) (names_of scope.old) (tree.looped bound (plain_head head.now) (block_of body.now)))) }
+    ensures names { OnOk result (names_of scope.new ≡ names_of scope.old) }
+    ensures functions { OnOk result (functions_of scope.new ≡ functions_of scope.old) }
+{
+    let first = begin(alloc, scope, head)?;
+    add_set(out, first)?;
+    let condition = condition_of(alloc, scope, head)?;
+    let step = next(alloc, scope, head)?;
+    let body = block(alloc, scope, body)?;
+    let max = most_turns(bound);
+    add(
+        out,
+        Action::Loop {
+            max,
+            condition,
+            body,
+            step,
+        },
+    )?;
+    Ok(())
 }
 
 /// Statements one after another. The names that they declare stay open.

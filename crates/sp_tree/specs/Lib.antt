@@ -1,3 +1,14 @@
+pub mod Begun
+pub mod Cost
+pub mod Formed
+pub mod Need
 pub mod Operators
 pub mod Plain
+pub mod Ran
+pub mod Shown
+pub mod Sizes
+pub mod Small
+pub mod Statements
+pub mod Straight
+pub mod Uses
 pub mod Values

@@ -26,9 +26,9 @@ pub fn value(e: &SpExpr, frame: &[u32], memory: &Memory) -> u32
     }
 }
 
-// a word of the frame; 0 where there is none
+/// A word of the frame; 0 where there is none.
 #[tactic(auto, using(c_world::proofs::Words::past_zero))]
-fn slot_word(frame: &[u32], slot: usize) -> u32
+pub fn slot_word(frame: &[u32], slot: usize) -> u32
     ensures { result ≡ slice_index frame.now slot }
 {
     if slot < frame.len() { frame[slot] } else { 0 }

@@ -1,5 +1,5 @@
 -- The pieces of a report's lines.
-use Rattle.std.specs.Prelude.{ℕ, ◌+◌, ◌==◌, Bool, true, false, if◌then◌else◌, List, [], ◌∷◌, ◌++◌, codes, Option, Some, None}
+use Rattle.std.specs.Prelude.{ℕ, ◌+◌, ◌==◌, Bool, true, false, if◌then◌else◌, List, [], ◌∷◌, ◌++◌, codes, Option, Some, None, slice_index_or}
 use Rattle.std.specs.Fmt.{decimal, signed_decimal}
 use Rattle.std.specs.Int.{w32, cast_signed}
 use Rattle.slot_arbiter.specs.declared.event.Access.{Access}
@@ -61,3 +61,21 @@ dropped_lines core dropped = if dropped == 0 then [] else line (about core ++ co
 abbrev pub access_line : ℕ → Access → List ℕ
 access_line core access =
     line (about core ++ codes "access " ++ decimal access.cycle ++ (if access.write then codes " write " else codes " read ") ++ decimal access.words)
+
+-- what a stage of a pipeline holds: a place in the code, or nothing
+abbrev pub stage_text : Option ℕ → List ℕ
+stage_text None = codes "-"
+stage_text (Some place) = decimal place
+
+-- a step of the five stages: the cycle of its bundle, and what fetch, decode, execute, memory and write-back hold
+abbrev pub stage_at : List (Option ℕ) → ℕ → List ℕ
+stage_at stages number = stage_text (slice_index_or stages number None)
+
+abbrev pub step_line : ℕ → List (Option ℕ) → List ℕ
+step_line cycle stages =
+    line (codes "step " ++ decimal cycle ++ codes " F " ++ stage_at stages 0 ++ codes " D " ++ stage_at stages 1 ++ codes " E " ++ stage_at stages 2
+    ++ codes " M " ++ stage_at stages 3 ++ codes " W " ++ stage_at stages 4)
+
+-- what a C task means: the value of its `main`, and whether a loop of it ran past its count
+abbrev pub mean_line : ℕ → ℕ → Bool → List ℕ
+mean_line core value overrun = line (about core ++ codes "mean " ++ signed_word value ++ where_so overrun (codes " overrun"))

@@ -62,7 +62,55 @@ fn put_where(text: &mut Vec<u8>, holds: bool, words: &str) -> Result<(), OutOfMe
     if holds { put(text, words) } else { Ok(()) }
 }
 
-/// Appends the lines of the words of `out`.
+/// Appends the line of a step of the five stages: the cycle of its bundle, and the places that fetch, decode, execute,
+/// memory and write-back hold.
+pub fn put_step_line(
+    text: &mut Vec<u8>,
+    cycle: u64,
+    stages: &[Option<u32>; 5],
+) -> Result<(), OutOfMemory>
+    ensures { OnOk result (text.new.items ≡ text.old.items ++ specs.step_line cycle stages.now) }
+{
+    put_with(text, "step ", cycle)?;
+    put_stage(text, " F ", stages[0])?;
+    put_stage(text, " D ", stages[1])?;
+    put_stage(text, " E ", stages[2])?;
+    put_stage(text, " M ", stages[3])?;
+    put_stage(text, " W ", stages[4])?;
+    put(text, "\n")
+}
+
+// what a stage holds, behind its name
+fn put_stage(text: &mut Vec<u8>, name: &str, place: Option<u32>) -> Result<(), OutOfMemory>
+    ensures { OnOk result (text.new.items ≡ text.old.items ++ (name.now ++ specs.stage_text place)) }
+{
+    match place {
+        None => {
+            put(text, name)?;
+            put(text, "-")
+        }
+        Some(place) => put_with(text, name, u64::from(place)),
+    }
+}
+
+/// Appends the line that tells what a C task means: the value of its `main`, which is told as signed, and whether a loop
+/// of it ran past its count.
+pub fn put_mean_line(
+    text: &mut Vec<u8>,
+    core: u64,
+    value: u32,
+    overrun: bool,
+) -> Result<(), OutOfMemory>
+    ensures { OnOk result (text.new.items ≡ text.old.items ++ specs.mean_line core value overrun) }
+{
+    put_about(text, core)?;
+    put(text, "mean ")?;
+    put_signed(text, value)?;
+    put_where(text, overrun, " overrun")?;
+    put(text, "\n")
+}
+
+/// Appends the lines of the words of `out`, which only a done task has given.
 #[tactic(auto, unfolding(crate::specs::Report::out_lines))]
 pub fn put_out_lines(text: &mut Vec<u8>, core: u64, row: &Row) -> Result<(), OutOfMemory>
     ensures { OnOk result (text.new.items ≡ text.old.items ++ out_lines core row.now) }
@@ -74,8 +122,14 @@ pub fn put_out_lines(text: &mut Vec<u8>, core: u64, row: &Row) -> Result<(), Out
     }
 }
 
+/// Appends a line for each word of `out`, with its index from 0.
 #[tactic(auto, using(crate::proofs::Appends::more_outs, crate::proofs::Appends::all_outs))]
-fn put_outs(text: &mut Vec<u8>, core: u64, unsigned: bool, words: &[u32]) -> Result<(), OutOfMemory>
+pub fn put_outs(
+    text: &mut Vec<u8>,
+    core: u64,
+    unsigned: bool,
+    words: &[u32],
+) -> Result<(), OutOfMemory>
     ensures { OnOk result (text.new.items ≡ text.old.items ++ specs.outs_from core unsigned 0 words.now) }
 {
     for (index, word) in words.iter().enumerate() {

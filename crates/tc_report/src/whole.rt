@@ -13,19 +13,24 @@ pub fn report(alloc: Global, rows: &Rows) -> Result<Vec<u8>, OutOfMemory>
     ensures { IfOk result (λ text. text.items ≡ specs.report_text rows.now) }
 {
     let mut text = Vec::new(alloc);
-    put_platform(&mut text, rows)?;
+    put_platform_line(&mut text, rows.cores, rows.slot, rows.period)?;
     put_cores(&mut text, rows.rows.as_slice())?;
     Ok(text)
 }
 
-/// Appends the line of the platform.
+/// Appends the line of the platform: how many cores it has, and the lengths of a slot and of the period in cycles.
 #[tactic(auto, unfolding(crate::specs::Report::platform_line))]
-fn put_platform(text: &mut Vec<u8>, rows: &Rows) -> Result<(), OutOfMemory>
-    ensures { OnOk result (text.new.items ≡ text.old.items ++ specs.platform_line rows.now.cores rows.now.slot rows.now.period) }
+pub fn put_platform_line(
+    text: &mut Vec<u8>,
+    cores: u32,
+    slot: u32,
+    period: u32,
+) -> Result<(), OutOfMemory>
+    ensures { OnOk result (text.new.items ≡ text.old.items ++ specs.platform_line cores slot period) }
 {
-    put_with(text, "platform cores ", u64::from(rows.cores))?;
-    put_with(text, " slot ", u64::from(rows.slot))?;
-    put_with(text, " period ", u64::from(rows.period))?;
+    put_with(text, "platform cores ", u64::from(cores))?;
+    put_with(text, " slot ", u64::from(slot))?;
+    put_with(text, " period ", u64::from(period))?;
     put(text, "\n")
 }
 

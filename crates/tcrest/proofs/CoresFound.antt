@@ -1,5 +1,5 @@
 -- The cores of a job, one after another.
-use Rattle.std.proofs.Common.{◌≡◌, ℕ, zero, suc, ◌+◌, arith, List, [], ◌∷◌, ◌++◌, length, map, refl, sym, ap, ◌∙◌, subst, append_assoc, Option, Some, None, IfSome, slice_get}
+use Rattle.std.proofs.Common.{◌≡◌, ℕ, zero, suc, ◌+◌, arith, List, [], ◌∷◌, ◌++◌, length, map, sym, ap, ◌∙◌, subst, Option, Some, None, IfSome, slice_get}
 use Rattle.std.proofs.lemmas.List.{map-append, length-map}
 use Rattle.slot_arbiter.specs.declared.place.Place.{Place}
 use Rattle.slot_arbiter.specs.Place.HasNumbers.{HasNumbers}

@@ -7,3 +7,4 @@ pub mod RowsFound
 pub mod TasksFound
 pub mod TasksCoded
 pub mod TasksRead
+pub mod MeaningsTold

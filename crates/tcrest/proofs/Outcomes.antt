@@ -8,7 +8,6 @@ use Rattle.tc_job.specs.declared.fault.JobFault.{JobFault}
 use Rattle.tc_job.specs.declared.fault.JobFault.TheVariants as faults
 use Rattle.tc_job.specs.declared.job.Job.{Job}
 use Rattle.std.specs.List.{list_any}
-use Rattle.patmos_model.specs.State.{Core}
 use Rattle.tc_report.specs.declared.rows.Row.{Row}
 use Rattle.std.specs.Prelude.{Result, Ok, Err, Bool, true, false}
 use Rattle.tcrest.specs.declared.top.TheConstants.{MOST_BYTES}
@@ -26,13 +25,16 @@ use Rattle.argo_grid.specs.Report as grid
 use Rattle.argo_grid.specs.Report.{by_check, report_on}
 use Rattle.argo_grid.specs.Schedule.{Schedule}
 use Rattle.tcrest.specs.declared.command.JobCommand.{JobCommand}
-use Rattle.tcrest.specs.declared.command.JobCommand.TheVariants.{Run, Asm}
+use Rattle.tcrest.specs.declared.command.JobCommand.TheVariants.{OfCode, Mean}
+use Rattle.tcrest.specs.declared.command.CodeCommand.{CodeCommand}
+use Rattle.tcrest.specs.declared.command.CodeCommand.TheVariants.{Run, Asm}
 use Rattle.tcrest.specs.declared.refusal.CoreRefusal.{CoreRefusal}
 use Rattle.tcrest.specs.Command.{command_of}
 use Rattle.tcrest.specs.Tasks.{Coded, coded_from}
 use Rattle.tcrest.specs.Machine.{cores_from, machine_of}
+use Rattle.tcrest.specs.Meanings.{meanings_from}
 use Rattle.tcrest.specs.Rows.{rows_of, is_early, status_of}
-use Rattle.tcrest.specs.Answer.{read_fault, too_long, no_job, answer_with, answer_or, answer_by, job_answer, of_grid, input_answer, bytes_answer, command_answer, answer, usage}
+use Rattle.tcrest.specs.Answer.{read_fault, too_long, no_job, no_task, whole, answer_with, answer_or, meanings_or, answer_by, job_answer, of_grid, input_answer, bytes_answer, command_answer, answer, usage}
 use Rattle.tcrest.specs.Outcome.{IsSent, Ends, HasWritten}
 
 -- the answer to a job has the status of a whole text or of a refused task
@@ -46,13 +48,10 @@ status_of-is rows = by (list_any (λ r. is_early r.state) rows)
     by true = (omega arith, omega arith, omega arith)
     by false = (omega arith, omega arith, omega arith)
 
-answer_or-status : (command : JobCommand) (job : Job) (coded : Result (List (Option Coded)) CoreRefusal) → IsOfTasks (answer_or command job coded).status
+answer_or-status : (command : CodeCommand) (job : Job) (coded : Result (List (Option Coded)) CoreRefusal) → IsOfTasks (answer_or command job coded).status
 answer_or-status Run job (Ok coded) = status_of-is (rows_of job.cores job.cycles job.trace (machine_of job (cores_from job 0 coded)))
 answer_or-status Asm job (Ok coded) = (omega arith, omega arith, omega arith)
 answer_or-status command job (Err refusal) = (omega arith, omega arith, omega arith)
-
-answer_by-status : (trees : Trees) (command : JobCommand) (job : Job) → IsOfTasks (answer_by trees command job).status
-answer_by-status trees command job = answer_or-status command job (coded_from trees job.cores job.tasks 0 job.cores)
 
 -- no fault of a job is reported as the length of its text is: at the latest their eighth bytes differ
 differs_from_long : (kind : JobFault) (task : Option ℕ) (key : List ℕ) → slice_index (no_job (record { kind = kind; task = task; key = key })).text 7 ≢ slice_index too_long.text 7
@@ -70,17 +69,35 @@ record IsOfInput (a : Answer) : Type 0 where
   not_usage : a.status ≢ 1
   not_long : a ≢ too_long
 
+of_tasks : (a : Answer) → IsOfTasks a.status → IsOfInput a
+of_tasks a status = record {
+  below = status.0;
+  not_usage = status.1;
+  not_long = λ same. status.2 (ap (λ (b : Answer). b.status) same);
+}
+
+refused-is : (refusal : CoreRefusal) → IsOfInput (no_task refusal)
+refused-is refusal = of_tasks (no_task refusal) (omega arith, omega arith, omega arith)
+
+answer_by-is : (trees : Trees) (command : JobCommand) (job : Job) → IsOfInput (answer_by trees command job)
+answer_by-is trees (OfCode command) job =
+    of_tasks (answer_or command job coded) (answer_or-status command job coded)
+  where
+    coded : Result (List (Option Coded)) CoreRefusal
+    coded = coded_from trees job.cores job.tasks 0 job.cores
+answer_by-is trees Mean job = by (meanings_from trees job.cores job.tasks 0 job.cores)
+  where
+    by : (read : Result (List ℕ) CoreRefusal) → IsOfInput (meanings_or read)
+    by (Ok text) = of_tasks (whole text) (omega arith, omega arith, omega arith)
+    by (Err refusal) = refused-is refusal
+
 job_answer-is : (trees : Trees) (command : JobCommand) (read : Result Job Fault) → IsOfInput (job_answer trees command read)
 job_answer-is trees command (Err fault) = record {
   below = omega arith;
   not_usage = omega arith;
   not_long = λ same. differs_from_long fault.kind fault.task fault.key (ap (λ (a : Answer). slice_index a.text 7) same);
 }
-job_answer-is trees command (Ok job) = let status = answer_by-status trees command job in record {
-  below = status.0;
-  not_usage = status.1;
-  not_long = λ same. status.2 (ap (λ (a : Answer). a.status) same);
-}
+job_answer-is trees command (Ok job) = answer_by-is trees command job
 
 -- a schedule of the network that is right, or that has a fault
 schedule_answer-is : (s : Schedule) (answer : Result (Unit {0}) GridFault) → IsOfInput (of_grid (by_check s answer))
@@ -109,7 +126,7 @@ pub below_if : {E : Type 0} (result : Result Answer E) (a : Answer) → IfOk res
 below_if (Ok x) a is low = subst (λ y. y.status < 5) (sym is) low
 below_if (Err e) a is low = tt
 
-pub answer_with_below : (command : JobCommand) (job : Job) (coded : List (Option Coded)) → (answer_with command job coded).status < 5
+pub answer_with_below : (command : CodeCommand) (job : Job) (coded : List (Option Coded)) → (answer_with command job coded).status < 5
 answer_with_below Run job coded = (answer_or-status Run job (Ok coded)).0
 answer_with_below Asm job coded = omega arith
 

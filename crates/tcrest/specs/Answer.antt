@@ -17,11 +17,14 @@ use Rattle.tcrest.specs.declared.command.Command.TheVariants.{OfInput, Usage}
 use Rattle.tcrest.specs.declared.command.InputCommand.{InputCommand}
 use Rattle.tcrest.specs.declared.command.InputCommand.TheVariants.{Job as OfJob, Grid}
 use Rattle.tcrest.specs.declared.command.JobCommand.{JobCommand}
-use Rattle.tcrest.specs.declared.command.JobCommand.TheVariants.{Run, Asm}
+use Rattle.tcrest.specs.declared.command.JobCommand.TheVariants.{OfCode, Mean}
+use Rattle.tcrest.specs.declared.command.CodeCommand.{CodeCommand}
+use Rattle.tcrest.specs.declared.command.CodeCommand.TheVariants.{Run, Asm}
 use Rattle.tcrest.specs.declared.refusal.CoreRefusal.{CoreRefusal}
 use Rattle.tcrest.specs.Command.{command_of}
 use Rattle.tcrest.specs.Listing.{listings}
 use Rattle.tcrest.specs.Machine.{cores_from, machine_of}
+use Rattle.tcrest.specs.Meanings.{meanings_from}
 use Rattle.tcrest.specs.Rows.{rows_of, status_of, report_rows}
 use Rattle.tcrest.specs.Tasks.{Coded, coded_from, refusal_text}
 
@@ -60,18 +63,24 @@ abbrev pub report_of : Job → List Core → Answer
 report_of job cores = reported job (rows_of job.cores job.cycles job.trace (machine_of job cores))
 
 -- what is written for a job whose tasks have these codes
-abbrev pub answer_with : JobCommand → Job → List (Option Coded) → Answer
+abbrev pub answer_with : CodeCommand → Job → List (Option Coded) → Answer
 answer_with Run job coded = report_of job (cores_from job 0 coded)
 answer_with Asm job coded = whole (listings 0 coded)
 
 -- the same, or a refused task
-abbrev pub answer_or : JobCommand → Job → Result (List (Option Coded)) CoreRefusal → Answer
+abbrev pub answer_or : CodeCommand → Job → Result (List (Option Coded)) CoreRefusal → Answer
 answer_or command job (Ok coded) = answer_with command job coded
 answer_or command job (Err refusal) = no_task refusal
 
+-- what the programs of tasks mean, or a refused task
+abbrev pub meanings_or : Result (List ℕ) CoreRefusal → Answer
+meanings_or (Ok text) = whole text
+meanings_or (Err refusal) = no_task refusal
+
 -- what is written for a job
 abbrev pub answer_by : Trees → JobCommand → Job → Answer
-answer_by trees command job = answer_or command job (coded_from trees job.cores job.tasks 0 job.cores)
+answer_by trees (OfCode command) job = answer_or command job (coded_from trees job.cores job.tasks 0 job.cores)
+answer_by trees Mean job = meanings_or (meanings_from trees job.cores job.tasks 0 job.cores)
 
 abbrev pub job_answer : Trees → JobCommand → Result Job Fault → Answer
 job_answer trees command (Err fault) = no_job fault

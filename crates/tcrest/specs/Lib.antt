@@ -3,6 +3,7 @@ pub mod Tasks
 pub mod Coding
 pub mod Gives
 pub mod Listing
+pub mod Meanings
 pub mod Machine
 pub mod Loading
 pub mod Rows

@@ -7,6 +7,7 @@ use Rattle.c_tree.specs.declared.checks.CheckFault.{CheckFault}
 use Rattle.c_tree.specs.declared.checks.CheckFault.TheVariants as check
 use Rattle.c_tree.specs.declared.checks.Fault.{Fault as CheckedFault}
 use Rattle.c_tree.specs.declared.tokens.Token.{Token}
+use Rattle.c_tree.specs.Plain.{PlainItem}
 use Rattle.c_tree.specs.Reading.{Trees}
 use Rattle.c_tree.specs.Valid.{fault_of}
 use Rattle.c_lex.specs.Texts.{Lexed, tokens, no_token, too_wide, lexed}
@@ -37,28 +38,28 @@ abbrev pub coded : Result CodeParts AsmFault → Result CodeParts Refusal
 coded (Ok code) = Ok code
 coded (Err fault) = Err (Faulty fault)
 
--- a program is refused for its least fault; the code of a valid one comes later
-abbrev pub checked : Option CheckedFault → Result CodeParts Refusal
-checked None = Err Later
-checked (Some fault) = Err (Invalid fault)
+-- a valid program; another is refused for its least fault
+abbrev pub checked : List PlainItem → Option CheckedFault → Result (List PlainItem) Refusal
+checked items None = Ok items
+checked items (Some fault) = Err (Invalid fault)
 
 -- tokens are refused where they are no program, and a program where it has a fault on its core
-abbrev pub parsed : Trees → ℕ → ℕ → List Token → Result CodeParts Refusal
-parsed trees cores own ts = elim (place_of ts) as (λ _. Result CodeParts Refusal) [
-  | None ↦ checked (fault_of (trees ts) cores own)
+abbrev pub parsed : Trees → ℕ → ℕ → List Token → Result (List PlainItem) Refusal
+parsed trees cores own ts = elim (place_of ts) as (λ _. Result (List PlainItem) Refusal) [
+  | None ↦ checked (trees ts) (fault_of (trees ts) cores own)
   | Some at ↦ Err (Syntax at)
 ]
 
--- a C text is refused where it has no tokens, or these are no valid program
-abbrev pub compiled : Trees → ℕ → ℕ → Lexed → Result CodeParts Refusal
-compiled trees cores own (tokens ts) = parsed trees cores own ts
-compiled trees cores own (no_token at) = Err (Char at)
-compiled trees cores own (too_wide at) = Err (Wide at)
+-- the program of a C text, which is refused where it has no tokens, or these are no valid program
+abbrev pub program_of : Trees → ℕ → ℕ → Lexed → Result (List PlainItem) Refusal
+program_of trees cores own (tokens ts) = parsed trees cores own ts
+program_of trees cores own (no_token at) = Err (Char at)
+program_of trees cores own (too_wide at) = Err (Wide at)
 
--- the code of a task on a core of so many
+-- the code of a task on a core of so many; that of a C program comes later
 abbrev pub code_in : Trees → ℕ → ℕ → Lang → List ℕ → Result CodeParts Refusal
 code_in trees cores own Asm source = coded (code_of source)
-code_in trees cores own C source = compiled trees cores own (lexed source)
+code_in trees cores own C source = program_of trees cores own (lexed source) >>= λ items. Err Later
 
 abbrev pub code_by : Trees → ℕ → Task → Result CodeParts Refusal
 code_by trees cores t = code_in trees cores t.core t.lang t.source

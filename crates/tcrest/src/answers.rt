@@ -6,12 +6,14 @@ ghost use Rattle.patmos_model.specs.State as state;
 ghost use Rattle.tc_job.specs.Job.{job_of};
 ghost use Rattle.tc_job.specs.Ranges.{KeepsRanges};
 ghost use Rattle.tcrest.specs.Answer as specs;
+ghost use Rattle.tcrest.specs.declared.command.JobCommand.TheVariants as variants;
 ghost use Rattle.tcrest.specs.Coding.{all_shown, IsAmong};
 ghost use Rattle.tcrest.specs.Loading.{IsLoadedFor};
 
-use crate::command::{InputCommand, JobCommand};
+use crate::command::{CodeCommand, InputCommand, JobCommand};
 use crate::listing::listings;
 use crate::loading::loaded_of;
+use crate::meanings::meanings;
 use crate::refusal::{Halt, refusal_answer};
 use crate::rows::{report_text_of, rows_of, status_of};
 use crate::tasks::{CodedTask, coded_tasks};
@@ -95,7 +97,6 @@ fn no_job(
 }
 
 // the answer to a job
-#[tactic(auto, using(crate::proofs::Outcomes::below_if, crate::proofs::Outcomes::answer_with_below))]
 fn answer_by<R: Threads + Wait + Sync, G: Gate + Sync>(
     alloc: Global,
     rt: &R,
@@ -107,8 +108,41 @@ fn answer_by<R: Threads + Wait + Sync, G: Gate + Sync>(
     ensures answer { IfOk result (λ answer. OnReading (λ trees. answer ≡ specs.answer_by trees command job.now)) }
     ensures below { IfOk result (λ answer. answer.status < 5) }
 {
+    match command {
+        JobCommand::OfCode(command) => code_answer(alloc, rt, command, job, gate),
+        JobCommand::Mean => meanings_answer(alloc, job),
+    }
+}
+
+// the answer about the code of a job's tasks
+#[tactic(auto, using(crate::proofs::Outcomes::below_if, crate::proofs::Outcomes::answer_with_below))]
+fn code_answer<R: Threads + Wait + Sync, G: Gate + Sync>(
+    alloc: Global,
+    rt: &R,
+    command: CodeCommand,
+    job: &Job,
+    gate: &G,
+) -> Result<Answer, OutOfMemory>
+    requires { KeepsRanges job.now }
+    ensures answer { IfOk result (λ answer. OnReading (λ trees. answer ≡ specs.answer_by trees (variants.OfCode command) job.now)) }
+    ensures below { IfOk result (λ answer. answer.status < 5) }
+{
     match coded_tasks(alloc, job) {
         Ok(coded) => answer_with(alloc, rt, command, job, coded, gate),
+        Err(Halt::Refused(refused)) => refusal_answer(alloc, refused),
+        Err(Halt::Memory) => Err(AllocError),
+    }
+}
+
+// the answer about what the programs of a job's C tasks mean
+#[tactic(auto, using(crate::proofs::Outcomes::below_if))]
+fn meanings_answer(alloc: Global, job: &Job) -> Result<Answer, OutOfMemory>
+    requires { KeepsRanges job.now }
+    ensures answer { IfOk result (λ answer. OnReading (λ trees. answer ≡ specs.answer_by trees variants.Mean job.now)) }
+    ensures below { IfOk result (λ answer. answer.status < 5) }
+{
+    match meanings(alloc, job) {
+        Ok(text) => Ok(whole(text)),
         Err(Halt::Refused(refused)) => refusal_answer(alloc, refused),
         Err(Halt::Memory) => Err(AllocError),
     }
@@ -118,7 +152,7 @@ fn answer_by<R: Threads + Wait + Sync, G: Gate + Sync>(
 fn answer_with<R: Threads + Wait + Sync, G: Gate + Sync>(
     alloc: Global,
     rt: &R,
-    command: JobCommand,
+    command: CodeCommand,
     job: &Job,
     coded: Vec<Option<CodedTask<'_>>>,
     gate: &G,
@@ -129,11 +163,11 @@ fn answer_with<R: Threads + Wait + Sync, G: Gate + Sync>(
     ensures { IfOk result (λ answer. answer ≡ specs.answer_with command job.now (all_shown coded.entry.items)) }
 {
     match command {
-        JobCommand::Run => {
+        CodeCommand::Run => {
             let loaded = loaded_of(alloc, job, coded)?;
             report_of(alloc, rt, job, &loaded, gate)
         }
-        JobCommand::Asm => Ok(whole(listings(alloc, coded.as_slice())?)),
+        CodeCommand::Asm => Ok(whole(listings(alloc, coded.as_slice())?)),
     }
 }
 

@@ -1,5 +1,7 @@
 ghost use Rattle.std.specs.Prelude.{◌≡◌};
 ghost use Rattle.tcrest.specs.Command as specs;
+ghost use Rattle.tcrest.specs.declared.command.Command.TheVariants as variants;
+ghost use Rattle.tcrest.specs.declared.command.InputCommand.TheVariants.{Job};
 
 use tc_word::Text;
 
@@ -24,9 +26,18 @@ pub enum InputCommand {
 /// What a command asks of the job on the input.
 #[derive(Clone, Copy, Debug, PartialEq, Eq)]
 pub enum JobCommand {
+    /// Something about its tasks' code.
+    OfCode(CodeCommand),
+    /// What the programs of its C tasks mean.
+    Mean,
+}
+
+/// What a command asks of the code of a job's tasks.
+#[derive(Clone, Copy, Debug, PartialEq, Eq)]
+pub enum CodeCommand {
     /// The report of its run.
     Run,
-    /// The words of its tasks' code.
+    /// Its words.
     Asm,
 }
 
@@ -37,9 +48,11 @@ pub fn command_of(words: &[Text]) -> Command
     match words {
         [word] => {
             if word.as_str() == "run" {
-                Command::OfInput(InputCommand::Job(JobCommand::Run))
+                of_job(JobCommand::OfCode(CodeCommand::Run))
             } else if word.as_str() == "asm" {
-                Command::OfInput(InputCommand::Job(JobCommand::Asm))
+                of_job(JobCommand::OfCode(CodeCommand::Asm))
+            } else if word.as_str() == "mean" {
+                of_job(JobCommand::Mean)
             } else if word.as_str() == "grid" {
                 Command::OfInput(InputCommand::Grid)
             } else {
@@ -48,4 +61,10 @@ pub fn command_of(words: &[Text]) -> Command
         }
         _ => Command::Usage,
     }
+}
+
+fn of_job(command: JobCommand) -> Command
+    ensures { result ≡ variants.OfInput (Job command) }
+{
+    Command::OfInput(InputCommand::Job(command))
 }

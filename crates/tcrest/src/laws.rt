@@ -4,15 +4,19 @@ ghost use Rattle.patmos_model.specs.State.{Core};
 ghost use Rattle.global_step.specs.Loaded.{Machine};
 ghost use Rattle.global_step.specs.Machine.{at_limit};
 ghost use Rattle.tc_job.specs.declared.job.Job.{Job as JobParts};
+ghost use Rattle.c_meaning.specs.Small as small;
+ghost use Rattle.tc_report.specs.Line.{line};
 ghost use Rattle.tc_report.specs.declared.rows.RowState.TheVariants.{Limit, Done};
 ghost use Rattle.tcrest.specs.declared.command.Command.TheVariants.{OfInput, Usage};
 ghost use Rattle.tcrest.specs.declared.command.InputCommand.{InputCommand};
 ghost use Rattle.tcrest.specs.declared.command.InputCommand.TheVariants.{Job, Grid};
-ghost use Rattle.tcrest.specs.declared.command.JobCommand.TheVariants.{Run, Asm};
+ghost use Rattle.tcrest.specs.declared.command.JobCommand.TheVariants.{OfCode, Mean};
+ghost use Rattle.tcrest.specs.declared.command.CodeCommand.TheVariants.{Run, Asm};
 ghost use Rattle.tcrest.specs.Answer.{answer, bytes_answer, too_long, usage};
 ghost use Rattle.tcrest.specs.Command.{command_of};
 ghost use Rattle.tcrest.specs.Loading.{IsLoadedFor};
 ghost use Rattle.tcrest.specs.Machine.{machine_of};
+ghost use Rattle.tcrest.specs.Meanings.{program_lines};
 ghost use Rattle.tcrest.specs.Rows.{status_of};
 ghost use Rattle.tcrest.specs.Worked.{lone_rows};
 
@@ -22,8 +26,9 @@ use crate::top::MOST_BYTES;
 pub fn refusals_in_order()
     // Status 1 comes exactly where the words are no command.
     ensures usage { (trees : Trees) (words : List (List ℕ)) (bytes : List ℕ) → ((answer trees words bytes).status ≡ 1) ↔ (command_of words ≡ Usage) }
-    ensures run { (words : List (List ℕ)) → (command_of words ≡ OfInput (Job Run)) ↔ (words ≡ codes "run" ∷ []) }
-    ensures asm { (words : List (List ℕ)) → (command_of words ≡ OfInput (Job Asm)) ↔ (words ≡ codes "asm" ∷ []) }
+    ensures run { (words : List (List ℕ)) → (command_of words ≡ OfInput (Job (OfCode Run))) ↔ (words ≡ codes "run" ∷ []) }
+    ensures asm { (words : List (List ℕ)) → (command_of words ≡ OfInput (Job (OfCode Asm))) ↔ (words ≡ codes "asm" ∷ []) }
+    ensures mean { (words : List (List ℕ)) → (command_of words ≡ OfInput (Job Mean)) ↔ (words ≡ codes "mean" ∷ []) }
     ensures grid { (words : List (List ℕ)) → (command_of words ≡ OfInput Grid) ↔ (words ≡ codes "grid" ∷ []) }
 
     // A text is too long exactly where it has more than `MOST_BYTES` bytes.
@@ -39,6 +44,13 @@ pub fn worked_run()
     ensures limit { map (λ row. row.state) (lone_rows 16) ≡ Limit ∷ [] }
     ensures status { status_of (lone_rows 17) ≡ 0 }
     ensures early { status_of (lone_rows 16) ≡ 3 }
+{}
+
+/// What `mean` tells of small programs: a sum, the same cut off by its bound, and an input.
+pub fn worked_meanings()
+    ensures sum { program_lines 0 [] (small.sum_program 10) ≡ line (codes "core 0 mean 45") }
+    ensures cut_off { program_lines 1 [] (small.sum_program 5) ≡ line (codes "core 1 mean 10 overrun") }
+    ensures input { program_lines 0 (8 ∷ 9 ∷ []) small.input_program ≡ line (codes "core 0 mean 9") }
 {}
 
 /// A machine that was loaded with the cores of a job, and its numbers, is the job's machine. A law: it does

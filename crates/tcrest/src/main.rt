@@ -12,6 +12,8 @@ mod command;
 mod laws;
 mod listing;
 mod loading;
+mod meanings;
+mod programs;
 mod refusal;
 mod rows;
 mod tasks;

@@ -1,25 +1,16 @@
-ghost use Rattle.std.specs.Prelude.{◌≡◌, ◌<◌, ◌^◌, All, IfOk, IfSome, length, option_map};
-ghost use Rattle.c_lex.specs.Texts.{lexed};
-ghost use Rattle.c_tree.specs.Plain.{plain};
+ghost use Rattle.std.specs.Prelude.{◌≡◌, All, IfOk, IfSome, length, option_map};
 ghost use Rattle.c_tree.specs.Reading.{OnReading};
-ghost use Rattle.c_tree.specs.Valid.{fault_of};
 ghost use Rattle.patmos_asm.specs.Assembly.{code_of};
 ghost use Rattle.tc_job.specs.Ranges.{KeepsRanges, IsTaskAmong};
 ghost use Rattle.tcrest.specs.Tasks as specs;
 ghost use Rattle.tcrest.specs.Coding.{shown, all_shown, IsAmong};
 ghost use Rattle.tcrest.specs.Gives.{Gives};
 
-use crate::loading::place_of;
+use crate::programs::program_of;
 use crate::refusal::{CoreRefusal, Halt, Refusal};
-use c_check::{CheckError, check};
-use c_lex::{LexFault, lex};
-use c_parse::{ParseFault, parse};
-use c_tree::{Fault, Token, Unit};
 use patmos_asm::{AsmError, Code, assemble};
-use slot_arbiter::Place;
 use std::alloc::Global;
 use tc_job::{Job, Lang, Task};
-use tc_word::List;
 
 /// A task and its code.
 #[derive(Drop)]
@@ -53,8 +44,8 @@ pub fn coded_tasks(
     Ok(coded)
 }
 
-// the task of a core, if it has one
-fn task_on(tasks: &[Task], core: u32) -> Option<&Task>
+/// The task of a core, if it has one.
+pub fn task_on(tasks: &[Task], core: u32) -> Option<&Task>
     ensures { option_map (λ t. t.now) result ≡ specs.task_on tasks.now core }
 {
     tasks.iter().find(|task| task.core == core)
@@ -82,7 +73,7 @@ fn coded_on<'a>(
     }
 }
 
-// the code of a task
+// the code of a task; that of a C program comes later
 fn code_by(alloc: Global, job: &Job, task: &Task) -> Result<Code, Halt<Refusal>>
     requires ranges { KeepsRanges job.now }
     requires among { IsTaskAmong job.now.cores task.now }
@@ -90,57 +81,16 @@ fn code_by(alloc: Global, job: &Job, task: &Task) -> Result<Code, Halt<Refusal>>
 {
     match task.lang {
         Lang::Asm => assembled(alloc, task.source.as_str()),
-        Lang::C => {
-            let place = place_of(job, task.core, task.start);
-            compiled(alloc, task.source.as_str(), &place)
-        }
+        Lang::C => match program_of(alloc, job, task) {
+            Ok(_program) => Err(Halt::Refused(Refusal::Later)),
+            Err(halt) => Err(halt),
+        },
     }
 }
 
-// A C text is refused where it has no tokens, or these are no valid program. Of its length holds what is said of an
-// assembly text's.
-fn compiled(alloc: Global, source: &str, place: &Place) -> Result<Code, Halt<Refusal>>
-    ensures { OnReading (λ trees. Gives (λ code. code) result (specs.compiled trees place.now.cores place.now.core (lexed source.now))) }
-{
-    if source.len() > u32::MAX as usize {
-        return Err(Halt::Memory);
-    }
-    match lex(alloc, source) {
-        Ok(tokens) => parsed(alloc, &tokens, place),
-        Err(LexFault::Char { at }) => Err(Halt::Refused(Refusal::Char { at })),
-        Err(LexFault::Wide { at }) => Err(Halt::Refused(Refusal::Wide { at })),
-        Err(LexFault::Memory) => Err(Halt::Memory),
-    }
-}
-
-// tokens are refused where they are no program
-fn parsed(alloc: Global, tokens: &List<Token>, place: &Place) -> Result<Code, Halt<Refusal>>
-    requires few { length tokens.now < 2 ^ 32 }
-    ensures { OnReading (λ trees. Gives (λ code. code) result (specs.parsed trees place.now.cores place.now.core tokens.now)) }
-{
-    match parse(alloc, tokens) {
-        Ok(program) => checked(alloc, program, place),
-        Err(ParseFault::Syntax { at }) => Err(Halt::Refused(Refusal::Syntax { at })),
-        Err(ParseFault::Memory) => Err(Halt::Memory),
-    }
-}
-
-// a program is refused for its least fault; the code of a valid one comes later
-fn checked(alloc: Global, program: Unit, place: &Place) -> Result<Code, Halt<Refusal>>
-    ensures { Gives (λ code. code) result (specs.checked (fault_of (plain program) place.now.cores place.now.core)) }
-{
-    match check(alloc, program, place) {
-        Ok(_checked) => Err(Halt::Refused(Refusal::Later)),
-        Err(CheckError::Fault { kind, at }) => {
-            Err(Halt::Refused(Refusal::Invalid(Fault { at, kind })))
-        }
-        Err(CheckError::Memory) => Err(Halt::Memory),
-    }
-}
-
-// The code of an assembly text. A text of 2^32 bytes does not come from a job, whose text has at most
-// `MOST_BYTES` of them; it is answered as want of memory.
-fn assembled(alloc: Global, source: &str) -> Result<Code, Halt<Refusal>>
+/// The code of an assembly text. A text of 2^32 bytes does not come from a job, whose text has at most
+/// `MOST_BYTES` of them; it is answered as want of memory.
+pub fn assembled(alloc: Global, source: &str) -> Result<Code, Halt<Refusal>>
     ensures { Gives (λ code. code) result (specs.coded (code_of source.now)) }
 {
     if source.len() > u32::MAX as usize {

@@ -32,6 +32,13 @@ const SCHEDULE: &[u8] =
 const SCHEDULE_REPORT: &[u8] =
     b"grid columns 2 rows 1 length 1\nok\nlatency 1 words 12\nlatency 512 words 777\n";
 
+/// Two C tasks: the sum of 0 to 9, cut off by its bound on core 1, which ends with what C leaves undefined in `out`.
+const PROGRAMS: &[u8] =
+    b"version = 1\ncores = 2\nslot = 6\ncycles = 1000\n[[task]]\ncore = 1\nlang = \"c\"\nsource = '''int out[6]; int main() { int s = 0; int i = 0; _Pragma(\"loopbound min 5 max 5\") while (i < 10) { s = s + i; i = i + 1; } out[0] = -7 / 2; out[1] = -7 % 2; out[2] = 5 / 0; out[3] = 5 % 0; out[4] = (0 - 2147483647 - 1) / -1; out[5] = 1 << 33; return s; }'''\n[[task]]\ncore = 0\nlang = \"c\"\nsource = '''int main() { int s = 0; int i = 0; _Pragma(\"loopbound min 10 max 10\") while (i < 10) { s = s + i; i = i + 1; } return s; }'''\n";
+
+const MEANINGS: &[u8] =
+    b"core 0 mean 45\ncore 1 mean 10 overrun\ncore 1 out 0 -3\ncore 1 out 1 -1\ncore 1 out 2 0\ncore 1 out 3 5\ncore 1 out 4 -2147483648\ncore 1 out 5 2\n";
+
 const USAGE: &[u8] = b"usage: tcrest run|bound|asm|mean|gen N|bench N|grid\n";
 
 fn words_of(alloc: Global, given: &[&str]) -> Result<Vec<Text>, Fail> {
@@ -101,6 +108,8 @@ fn inputs_are_answered(rt: HostRuntime) -> Result<(), Fail> {
         ("run", JOB, REPORT),
         ("asm", JOB, LISTING),
         ("grid", SCHEDULE, SCHEDULE_REPORT),
+        ("mean", JOB, b""),
+        ("mean", PROGRAMS, MEANINGS),
     ] {
         let (status, sink) = answer_to(&rt, rt.alloc(), &[word], input)?;
         assert_eq!(rt; status, 0);
@@ -110,8 +119,18 @@ fn inputs_are_answered(rt: HostRuntime) -> Result<(), Fail> {
 }
 
 #[test]
+fn a_valid_program_has_its_code_later(rt: HostRuntime) -> Result<(), Fail> {
+    for word in ["run", "asm"] {
+        let (status, sink) = answer_to(&rt, rt.alloc(), &[word], PROGRAMS)?;
+        assert_eq!(rt; status, 4);
+        assert_eq!(rt; sink.kept(), b"core 0: Later\n".as_slice());
+    }
+    Ok(())
+}
+
+#[test]
 fn other_words_are_answered_with_usage(rt: HostRuntime) -> Result<(), Fail> {
-    for word in ["gen", "bench", "bound", "mean", "run x", "Run", "--help"] {
+    for word in ["gen", "bench", "bound", "means", "run x", "Run", "--help"] {
         let (status, sink) = answer_to(&rt, rt.alloc(), &[word], JOB)?;
         assert_eq!(rt; status, 1);
         assert_eq!(rt; sink.kept(), USAGE);

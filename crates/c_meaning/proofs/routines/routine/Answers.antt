@@ -12,7 +12,7 @@ use Rattle.c_meaning.proofs.routines.routine.Goals as goal
 -- the block of the function, with its parameters open, from no action on
 pub returns-clause-body : goal.returns-clause-body
 returns-clause-body c =
-    let slots = c.args.scope.now.slots.now in
+    let slots = c.args.scope.now.globals.slots.now in
     let names : Names = record { slots = slots; variables = parameter_variables c.args.function.now.parameters } in
     let fs = functions_of c.parameters.new.scope in
     let open_names = names_of c.parameters.new.scope in

@@ -1,6 +1,7 @@
-use Rattle.std.proofs.Common.{◌≡◌, ◌+◌, None, length, drop, ap, ap₂, sym, ◌∙◌, arith}
+use Rattle.std.proofs.Common.{◌≡◌, ◌+◌, List, None, length, drop, ap, ap₂, sym, ◌∙◌, arith}
 use Rattle.std.specs.Prelude.{option_map}
 use Rattle.std.proofs.lemmas.List.{drop_all}
+use Rattle.c_tree.specs.declared.statements.Stmt.{Stmt}
 use Rattle.c_tree.specs.Plain.{plain_right, plain_head, plain_stmt}
 use Rattle.c_tree.proofs.Plains.{block_of, arms_of}
 use Rattle.c_meaning.specs.declared.actions.Branch.{Branch}
@@ -11,7 +12,7 @@ use Rattle.c_meaning.specs.Open.{names_of, functions_of, closed}
 use Rattle.c_meaning.specs.Resolve.{variable_target, maybe_sets, resolved_right, resolved_begin, resolved_condition, resolved_next, resolved_block, resolved_arms, resolved_stmt}
 use Rattle.c_meaning.specs.Shown.{actions_of, plain_action, plain_assignment}
 use Rattle.c_meaning.specs.Values.{named}
-use Rattle.c_meaning.proofs.Acted.{plain_choose, plain_loop, joined_none, joined_joined, more_branches, branches_push, branches_all}
+use Rattle.c_meaning.proofs.Acted.{plain_loop, joined_none, joined_joined, more_branches, branches_push, branches_all}
 use Rattle.c_meaning.proofs.StmtParts.{declare_resolved, set_resolved, set_element_resolved, call_resolved, send_resolved, if_resolved, if_else_resolved, loop_resolved, break_resolved, continue_resolved, return_resolved, inner_resolved, declare_named, set_named, set_element_named, call_named, send_named, if_named, loop_named, break_named, continue_named, return_named, inner_named, block_next, arms_next, kept_after}
 use Rattle.c_meaning.proofs.statements.+statement.Goals as goal
 
@@ -68,53 +69,49 @@ stmt-returns-in_ok-send-in-Send-clause-names t c =
     let part = send_named (names_of c.args.scope.now) c.args.s.now c.in-Send.core c.in-Send.core_unsigned c.in-Send.source c.in-Send.target c.in-Send.count c.in-Send.is in
     cc (part)
 
-pub stmt-returns-in_ok-add-in-None-clause-actions : goal.stmt-returns-in_ok-add-in-None-clause-actions
-stmt-returns-in_ok-add-in-None-clause-actions t c =
+pub stmt-returns-in_ok-add_choice-in-None-clause-actions : goal.stmt-returns-in_ok-add_choice-in-None-clause-actions
+stmt-returns-in_ok-add_choice-in-None-clause-actions t c =
     let part = if_resolved (functions_of c.args.scope.now) (names_of c.args.scope.now) c.args.s.now c.in-If.arms c.in-If.otherwise c.in-If.is c.in-None.is in
     let branches = c.in_ok-branches-in-If.ensures.branches ∙ ap (λ arms. resolved_arms (functions_of c.args.scope.now) (names_of c.args.scope.now) (arms_of arms)) c.as_slice-in-If.ensures in
-    let plain = plain_choose c.in_ok-branches-in-If.branches c.of-otherwise.result
-    ∙ ap₂ chooses branches (ap actions_of (c.of-otherwise.ensures ∙ c.new.ensures.items)) in
-    c.in_ok-add-in-None.ensures ∙ ap (λ a. joined (actions_of c.args.out.now.items) (one a)) plain ∙ ap (joined (actions_of c.args.out.now.items)) (sym part)
+    let plain = ap₂ chooses branches (ap actions_of (c.of-otherwise.ensures ∙ c.new.ensures.items)) in
+    c.in_ok-add_choice-in-None.ensures ∙ ap (λ a. joined (actions_of c.args.out.now.items) (one a)) plain ∙ ap (joined (actions_of c.args.out.now.items)) (sym part)
 
-pub stmt-returns-in_ok-add-in-None-clause-names : goal.stmt-returns-in_ok-add-in-None-clause-names
-stmt-returns-in_ok-add-in-None-clause-names t c =
+pub stmt-returns-in_ok-add_choice-in-None-clause-names : goal.stmt-returns-in_ok-add_choice-in-None-clause-names
+stmt-returns-in_ok-add_choice-in-None-clause-names t c =
     let part = if_named (names_of c.args.scope.now) c.args.s.now c.in-If.arms c.in-If.otherwise c.in-If.is in
     cc (part, c.in_ok-branches-in-If.ensures.names)
 
-pub stmt-returns-in_ok-add-in-Some-clause-actions : goal.stmt-returns-in_ok-add-in-Some-clause-actions
-stmt-returns-in_ok-add-in-Some-clause-actions t c =
+pub stmt-returns-in_ok-add_choice-in-Some-clause-actions : goal.stmt-returns-in_ok-add_choice-in-Some-clause-actions
+stmt-returns-in_ok-add_choice-in-Some-clause-actions t c =
     let part = if_else_resolved (functions_of c.args.scope.now) (names_of c.args.scope.now) c.args.s.now c.in-If.arms c.in-If.otherwise c.in-Some.body c.in-If.is c.in-Some.is in
     let branches = c.in_ok-branches-in-If.ensures.branches ∙ ap (λ arms. resolved_arms (functions_of c.args.scope.now) (names_of c.args.scope.now) (arms_of arms)) c.as_slice-in-If.ensures in
     let scope = ap₂ (λ f n. resolved_block f n (block_of c.in-Some.body)) c.in_ok-branches-in-If.ensures.functions c.in_ok-branches-in-If.ensures.names in
     let body = c.in_ok-otherwise-in-Some.ensures.actions
     ∙ ap (λ ss. resolved_block (functions_of c.branches.new.scope) (names_of c.branches.new.scope) (block_of ss)) c.as_slice-in-Some.ensures ∙ scope in
-    let plain = plain_choose c.in_ok-branches-in-If.branches c.in_ok-otherwise-in-Some.otherwise ∙ ap₂ chooses branches body in
-    c.in_ok-add-in-Some.ensures ∙ ap (λ a. joined (actions_of c.args.out.now.items) (one a)) plain ∙ ap (joined (actions_of c.args.out.now.items)) (sym part)
+    let plain = ap₂ chooses branches body in
+    c.in_ok-add_choice-in-Some.ensures ∙ ap (λ a. joined (actions_of c.args.out.now.items) (one a)) plain ∙ ap (joined (actions_of c.args.out.now.items)) (sym part)
 
-pub stmt-returns-in_ok-add-in-Some-clause-names : goal.stmt-returns-in_ok-add-in-Some-clause-names
-stmt-returns-in_ok-add-in-Some-clause-names t c =
+pub stmt-returns-in_ok-add_choice-in-Some-clause-names : goal.stmt-returns-in_ok-add_choice-in-Some-clause-names
+stmt-returns-in_ok-add_choice-in-Some-clause-names t c =
     let part = if_named (names_of c.args.scope.now) c.args.s.now c.in-If.arms c.in-If.otherwise c.in-If.is in
     cc (part, c.in_ok-branches-in-If.ensures.names, c.in_ok-otherwise-in-Some.ensures.names)
 
-pub stmt-returns-in_ok-add-in-Loop-clause-actions : goal.stmt-returns-in_ok-add-in-Loop-clause-actions
-stmt-returns-in_ok-add-in-Loop-clause-actions t c =
-    let part = loop_resolved (functions_of c.args.scope.now) (names_of c.args.scope.now) c.args.s.now c.in-Loop.bound c.in-Loop.head c.in-Loop.body c.in-Loop.is in
-    let first : PlainActions = maybe_sets (resolved_begin (names_of c.args.scope.now) (plain_head c.in-Loop.head)) in
-    let loop : PlainAction = turns (most_turns c.in-Loop.bound) (resolved_condition (names_of c.args.scope.now) (plain_head c.in-Loop.head)) (resolved_block (functions_of c.args.scope.now) (names_of c.args.scope.now) (block_of c.in-Loop.body))
-    (resolved_next (names_of c.args.scope.now) (plain_head c.in-Loop.head)) in
-    let plain : plain_action (Loop c.most_turns-max.result c.in_ok-condition-in-Loop.condition c.in_ok-body-in-Loop.body c.in_ok-step-in-Loop.step) ≡ loop =
-    plain_loop c.most_turns-max.result c.in_ok-condition-in-Loop.condition c.in_ok-body-in-Loop.body c.in_ok-step-in-Loop.step
-    ∙ ap₂ (λ m e. turns m e (actions_of c.in_ok-body-in-Loop.body) (option_map plain_assignment c.in_ok-step-in-Loop.step))
-    c.most_turns-max.ensures c.in_ok-condition-in-Loop.ensures
-    ∙ ap₂ (λ b n. turns (most_turns c.in-Loop.bound) (resolved_condition (names_of c.args.scope.now) (plain_head c.in-Loop.head)) b n)
-    (c.in_ok-body-in-Loop.ensures.actions ∙ ap (λ ss. resolved_block (functions_of c.args.scope.now) (names_of c.args.scope.now) (block_of ss)) c.as_slice-in-Loop.ensures) c.in_ok-step-in-Loop.ensures in
-    let begun = c.in_ok-add_set-in-Loop.ensures ∙ ap (λ f. joined (actions_of c.args.out.now.items) (maybe_sets f)) c.in_ok-first-in-Loop.ensures in
-    c.in_ok-add-in-Loop.ensures ∙ ap₂ (λ xs a. joined xs (one a)) begun plain ∙ joined_joined (actions_of c.args.out.now.items) first (one loop) ∙ ap (joined (actions_of c.args.out.now.items)) (sym part)
+pub stmt-returns-in_ok-repeat-in-Loop-clause-actions : goal.stmt-returns-in_ok-repeat-in-Loop-clause-actions
+stmt-returns-in_ok-repeat-in-Loop-clause-actions t c =
+    let fs = functions_of c.args.scope.now in
+    let names = names_of c.args.scope.now in
+    let head = plain_head c.in-Loop.head in
+    let part = loop_resolved fs names c.args.s.now c.in-Loop.bound c.in-Loop.head c.in-Loop.body c.in-Loop.is in
+    let loop : List Stmt → PlainActions = λ body.
+    joined (maybe_sets (resolved_begin names head))
+    (one (turns (most_turns c.in-Loop.bound) (resolved_condition names head) (resolved_block fs names (block_of body)) (resolved_next names head))) in
+    c.in_ok-repeat-in-Loop.ensures.actions ∙ ap (λ body. joined (actions_of c.args.out.now.items) (loop body)) c.as_slice-in-Loop.ensures
+    ∙ ap (joined (actions_of c.args.out.now.items)) (sym part)
 
-pub stmt-returns-in_ok-add-in-Loop-clause-names : goal.stmt-returns-in_ok-add-in-Loop-clause-names
-stmt-returns-in_ok-add-in-Loop-clause-names t c =
+pub stmt-returns-in_ok-repeat-in-Loop-clause-names : goal.stmt-returns-in_ok-repeat-in-Loop-clause-names
+stmt-returns-in_ok-repeat-in-Loop-clause-names t c =
     let part = loop_named (names_of c.args.scope.now) c.args.s.now c.in-Loop.bound c.in-Loop.head c.in-Loop.body c.in-Loop.is in
-    cc (part, c.in_ok-body-in-Loop.ensures.names)
+    cc (part, c.in_ok-repeat-in-Loop.ensures.names)
 
 pub stmt-returns-in_ok-add-in-Break-clause-actions : goal.stmt-returns-in_ok-add-in-Break-clause-actions
 unfolding plain_action
@@ -162,6 +159,21 @@ stmt-returns-in_ok-statements-in-Inner-clause-names t c =
 pub stmt-returns-in_ok-statements-in-Inner-clause-functions : goal.stmt-returns-in_ok-statements-in-Inner-clause-functions
 stmt-returns-in_ok-statements-in-Inner-clause-functions t c =
     cc (c.close.ensures.functions, c.in_ok-statements-in-Inner.ensures.functions)
+
+pub repeat-returns-clause-actions : goal.repeat-returns-clause-actions
+repeat-returns-clause-actions t c =
+    let fs = functions_of c.args.scope.now in
+    let names = names_of c.args.scope.now in
+    let head = plain_head c.args.head.now in
+    let first : PlainActions = maybe_sets (resolved_begin names head) in
+    let block = resolved_block fs names (block_of c.args.body.now) in
+    let loop : PlainAction = turns (most_turns c.args.bound) (resolved_condition names head) block (resolved_next names head) in
+    let plain : plain_action (Loop c.most_turns-max.result c.in_ok-condition.condition c.in_ok-body.body c.in_ok-step.step) ≡ loop =
+    plain_loop c.most_turns-max.result c.in_ok-condition.condition c.in_ok-body.body c.in_ok-step.step
+    ∙ ap₂ (λ m e. turns m e (actions_of c.in_ok-body.body) (option_map plain_assignment c.in_ok-step.step)) c.most_turns-max.ensures c.in_ok-condition.ensures
+    ∙ ap₂ (λ b n. turns (most_turns c.args.bound) (resolved_condition names head) b n) c.in_ok-body.ensures.actions c.in_ok-step.ensures in
+    let begun = c.in_ok-add_set.ensures ∙ ap (λ f. joined (actions_of c.args.out.now.items) (maybe_sets f)) c.in_ok-first.ensures in
+    c.in_ok-add.ensures ∙ ap₂ (λ xs a. joined xs (one a)) begun plain ∙ joined_joined (actions_of c.args.out.now.items) first (one loop)
 
 pub statements-loop-s-preserved : goal.statements-loop-s-preserved
 statements-loop-s-preserved t c =

@@ -13,4 +13,8 @@ returns c = record {
   dropped = refl;
   nothing_dropped = refl;
   access = refl;
+  meaning = refl;
+  cut_off = refl;
+  step = refl;
+  out = refl;
 }

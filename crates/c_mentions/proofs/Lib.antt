@@ -1,0 +1,5 @@
+pub mod Fields
+pub mod Leaves
+pub mod Outside
+pub mod Uses
+pub mod Walks

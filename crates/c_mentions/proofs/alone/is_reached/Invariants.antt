@@ -1,0 +1,7 @@
+use Rattle.std.proofs.Common.{◌≡◌, drop, map}
+use Rattle.c_mentions.specs.Alone.{any_other, reaches}
+use Rattle.c_mentions.specs.Tasks.{running}
+use Rattle.c_mentions.proofs.alone.is_reached.Given as goal
+
+abbrev pub invariant-loop-at : goal.invariant-loop-at
+invariant-loop-at l = any_other l.core (reaches l.core) l.at (map running (drop l.at l.tasks)) ≡ any_other l.core (reaches l.core) 0 (map running l.tasks)

@@ -1,0 +1,7 @@
+use Rattle.std.proofs.Common.{◌≡◌, drop, map}
+use Rattle.c_mentions.specs.Alone.{any_other, writes_shared}
+use Rattle.c_mentions.specs.Tasks.{running}
+use Rattle.c_mentions.proofs.alone.is_shared_written.Given as goal
+
+abbrev pub invariant-loop-at : goal.invariant-loop-at
+invariant-loop-at l = any_other l.core writes_shared l.at (map running (drop l.at l.tasks)) ≡ any_other l.core writes_shared 0 (map running l.tasks)

@@ -1,0 +1,152 @@
+//! What a program means on its input.
+ghost use Rattle.std.specs.Prelude.{◌≡◌, [], List, IfOk, length, map};
+ghost use Rattle.c_tree.specs.Plain.{plain, plain_item};
+ghost use Rattle.c_world.specs.Shown.{shown, rooms};
+ghost use Rattle.c_world.specs.World.{Sending};
+ghost use Rattle.c_meaning.specs.Begun.{meaning};
+ghost use Rattle.c_meaning.specs.Resolve.{numbered};
+ghost use Rattle.c_meaning.specs.Resolved.{serves};
+ghost use Rattle.c_meaning.specs.Rooms.{all_rooms};
+ghost use Rattle.c_meaning.specs.Shown.{bodies_of};
+ghost use Rattle.c_run.specs.Ran.{HasGiven};
+ghost use Rattle.c_run.specs.Told as told;
+
+use crate::begin::begun_memory;
+use crate::run::called;
+use c_meaning::{
+    Arguments, FRAME_WORDS, Resolved, Routine, array_of, names_resolved_once, resolve,
+};
+use c_tree::{Checked, Global, Item, Slot};
+use c_world::Memory;
+use std::alloc::{self, AllocError};
+use tc_word::{List, OutOfMemory};
+
+/// What a program means on its input.
+#[derive(Debug, Drop)]
+pub struct Outcome {
+    /// What `main` gives.
+    pub value: u32,
+    /// Whether a loop's condition still held behind its last turn.
+    pub overrun: bool,
+    /// The words of each variable and array at the end, by the slots of the layout.
+    pub stores: List<List<u32>>,
+}
+
+/// What a program means on its input, where `shared` and `comm` begin with 0.
+pub fn mean(alloc: alloc::Global, program: &Checked, input: &[u32]) -> Result<Outcome, OutOfMemory>
+    ensures value { IfOk result (λ o. o.value ≡ (meaning (plain program.now.unit) input.now (λ _. 0) (λ _. 0)).value) }
+    ensures overrun { IfOk result (λ o. o.overrun ≡ (meaning (plain program.now.unit) input.now (λ _. 0) (λ _. 0)).world.overrun) }
+    ensures stores { IfOk result (λ o. o.stores
+        ≡ map (told.slot_words (meaning (plain program.now.unit) input.now (λ _. 0) (λ _. 0)).world) program.now.layout) }
+{
+    names_resolved_once();
+    let resolved = resolve(alloc, program)?;
+    let mut memory = begun_memory(alloc, program, input)?;
+    let value = main_given(alloc, &resolved, &mut memory)?;
+    let stores = stores_of(alloc, program.layout.as_slice(), &memory)?;
+    Ok(Outcome {
+        value,
+        overrun: memory.overrun,
+        stores,
+    })
+}
+
+// what `main` gives
+fn main_given(
+    alloc: alloc::Global,
+    resolved: &Resolved,
+    memory: &mut Memory,
+) -> Result<u32, OutOfMemory>
+    requires { rooms memory.old ≡ all_rooms }
+    ensures { IfOk result (λ value. HasGiven (numbered (serves (bodies_of resolved.now.routines) (length resolved.now.routines)) resolved.now.main [] (shown memory.old [])) value memory.new) }
+{
+    match resolved.main {
+        None => Ok(0),
+        Some(main) => first_called(alloc, main, resolved.routines.as_slice(), memory),
+    }
+}
+
+// what a function gives that nothing is passed to
+fn first_called(
+    alloc: alloc::Global,
+    function: usize,
+    routines: &[Routine],
+    memory: &mut Memory,
+) -> Result<u32, OutOfMemory>
+    requires { rooms memory.old ≡ all_rooms }
+    ensures { IfOk result (λ value. HasGiven (serves (bodies_of routines.now) (length routines.now) function [] (shown memory.old [])) value memory.new) }
+{
+    let Some(room) = routines.len().checked_mul(FRAME_WORDS) else {
+        return Err(AllocError);
+    };
+    let mut frames = vec![in alloc; 0; room]?;
+    let args = Arguments {
+        values: List::of(Vec::new(alloc)),
+    };
+    Ok(called(
+        function,
+        &args,
+        routines,
+        routines.len(),
+        &[],
+        &mut frames,
+        memory,
+    ))
+}
+
+// the words of all variables and arrays
+fn stores_of(
+    alloc: alloc::Global,
+    slots: &[Slot],
+    memory: &Memory,
+) -> Result<List<List<u32>>, OutOfMemory>
+    ensures { IfOk result (λ stores. (sends : List Sending) → stores ≡ map (told.slot_words (shown memory.now sends)) slots.now) }
+{
+    let mut stores = Vec::with_capacity(alloc, slots.len())?;
+    for slot in slots {
+        stores.push(store_of(alloc, slot, memory)?)?;
+    }
+    Ok(List::of(stores))
+}
+
+// the words of one of them
+fn store_of(alloc: alloc::Global, slot: &Slot, memory: &Memory) -> Result<List<u32>, OutOfMemory>
+    ensures { IfOk result (λ words. (sends : List Sending) → words ≡ told.slot_words (shown memory.now sends) slot.now) }
+{
+    let array = array_of(slot);
+    let mut words = Vec::new(alloc);
+    for at in 0..array.length {
+        words.push(memory.word(array.region, array.first as usize + at as usize))?;
+    }
+    Ok(List::of(words))
+}
+
+/// The number of the slot of the array `out`, if the program has one.
+pub fn output_of(program: &Checked) -> Option<usize>
+    ensures { result ≡ told.output_number (plain program.now.unit) }
+{
+    output_among(program.unit.items.as_slice())
+}
+
+#[tactic(auto, using(crate::proofs::Declarations::output_next))]
+fn output_among(items: &[Item]) -> Option<usize>
+    ensures { result ≡ told.output_number (map plain_item items.now) }
+{
+    let mut number = 0;
+    for item in items {
+        if let Item::Global { global } = item {
+            if is_output(global) {
+                return Some(number);
+            }
+            number += 1;
+        }
+    }
+    None
+}
+
+// an array `out`
+fn is_output(global: &Global) -> bool
+    ensures { result ≡ told.is_output global.now }
+{
+    global.name.as_str() == "out" && global.length.is_some()
+}

@@ -1,0 +1,174 @@
+use crate::beat::Beat;
+use crate::executed::Executed;
+use crate::follow::look_ahead;
+use crate::latches::{Latches, place_in};
+use crate::lone::Lone;
+use crate::pipe::PipeCore;
+use crate::point::Point;
+use patmos_code::Image;
+use patmos_instr::Reg;
+use patmos_model::CoreState;
+use slot_arbiter::{MOST_CYCLES, Place};
+use std::alloc::Global;
+use tc_word::OutOfMemory;
+
+impl PipeCore {
+    ghost use Rattle.std.specs.Prelude.{◌≡◌, ℕ, ◌+◌, ◌-◌, ◌≤◌, ◌<◌, List, Option, length, IfOk};
+    ghost use Rattle.patmos_model.specs.Apart.{site_of};
+    ghost use Rattle.patmos_model.specs.Begin.{begun};
+    ghost use Rattle.patmos_model.specs.State.{Core};
+    ghost use Rattle.patmos_model.specs.Outcome.{state_at};
+    ghost use Rattle.patmos_step.specs.Shown.{plain_of};
+    ghost use Rattle.pipe_five.specs.declared.beat.Beat.TheVariants.{Step};
+    ghost use Rattle.pipe_five.specs.Steps.{core_before, done_below, first_of};
+    ghost use Rattle.pipe_five.specs.Stages as stages;
+    ghost use Rattle.pipe_five.specs.Latches.{shifted};
+    ghost use Rattle.pipe_five.specs.Pipe.{StandsFor, IsStep, IfStep, IsStopped, IsThrough, limit_of, steps_after, shown};
+
+    /// The only core of a platform, at its place, with a task and its input, before the first cycle. It takes memory for
+    /// the core's memories, for the words of its board and for a copy of the image.
+    pub fn new(
+        alloc: Global,
+        place: Place,
+        image: &Image,
+        input: &[u32],
+    ) -> Result<PipeCore, OutOfMemory>
+        requires alone { place.cores ≡ 1 }
+        ensures stands { IfOk result (λ p. StandsFor p (begun (site_of place image.now) input.now) 0) }
+        ensures limit { IfOk result (λ p. limit_of p ≡ 0) }
+    {
+        let lone = Lone::new(alloc, place, image, input)?;
+        Ok(PipeCore {
+            lone,
+            limit: 0,
+            latches: Latches::new(),
+        })
+    }
+
+    /// Goes on to the next bundle that is done below the limit, and tells its cycle and what then stands in the stages; or,
+    /// where no further one is done, to the limit. The limit is at most [`MOST_CYCLES`] and at least that of the call
+    /// before. It takes no memory.
+    pub fn advance(&mut self, limit: u64) -> Beat
+        requires most { limit ≤ MOST_CYCLES }
+        requires later { limit_of self.old ≤ limit }
+        ensures stands { (x : Core) (k : ℕ) → StandsFor self.old x k → StandsFor self.new x (steps_after result k) }
+        ensures step { IfStep result (λ cycle stages. (x : Core) (k : ℕ) → StandsFor self.old x k → IsStep x limit k cycle stages) }
+        ensures stopped { IsStopped result → (x : Core) (k : ℕ) → StandsFor self.old x k → length (done_below x limit) ≡ k }
+        ensures through { IsStopped result → IsThrough self.new }
+        ensures limit { limit_of self.new ≡ limit }
+    {
+        self.limit = limit;
+        while self.lone.cycle < limit {
+            match self.lone.step(limit) {
+                Some(executed) => return self.shift(executed),
+                None => {}
+            }
+        }
+        Beat::Stopped
+    }
+
+    // a bundle that was executed in the cycle before comes into its stage, and the others go on
+    fn shift(&mut self, executed: Executed) -> Beat
+        requires after { 0 < self.old.lone.cycle }
+        ensures latches { self.new.latches ≡ shifted executed.place executed.found self.old.latches }
+        ensures lone { self.new.lone ≡ self.old.lone }
+        ensures limit { self.new.limit ≡ self.old.limit }
+        ensures beat { result ≡ Step (self.new.lone.cycle - 1) (shown self.new) }
+    {
+        self.latches.shift(executed.place, executed.found);
+        let ahead = look_ahead(&self.lone.body.image, &self.point());
+        Beat::Step {
+            cycle: self.lone.cycle - 1,
+            stages: [
+                ahead.fetch,
+                ahead.decode,
+                self.latches.execute,
+                place_in(self.latches.memory),
+                self.latches.write_back,
+            ],
+        }
+    }
+
+    // where the core is in its code
+    fn point(&self) -> Point
+        ensures { result ≡ stages.point_of (plain_of self.now.lone.body) }
+    {
+        Point {
+            base: self.lone.body.base,
+            offset: self.lone.body.offset,
+            flow: self.lone.body.flow,
+        }
+    }
+
+    /// The word in a register of the register file. It takes no memory.
+    pub fn file(&self, r: Reg) -> u32
+        ensures { (x : Core) (k : ℕ) → StandsFor self.now x k
+            → result ≡ stages.file_of x (first_of k (done_below x (limit_of self.now))) r }
+    {
+        self.latches.file(r)
+    }
+
+    /// How far the task has come at the last limit. The last call of [`PipeCore::advance`] answered [`Beat::Stopped`]. It
+    /// takes no memory.
+    pub fn state(&self) -> CoreState
+        requires through { IsThrough self.now }
+        ensures { (x : Core) (k : ℕ) → StandsFor self.now x k
+            → result ≡ state_at (limit_of self.now) (core_before x (limit_of self.now)).plain }
+    {
+        self.lone.body.outcome(self.limit)
+    }
+}
+
+#[cfg(test)]
+mod tests {
+    use super::*;
+    use crate::worked::{worked_ends, worked_flows, worked_load, worked_steps};
+    use std::test::Fail;
+    use tc_word::List;
+
+    fn step(cycle: u64, stages: [Option<u32>; 5]) -> Beat {
+        Beat::Step { cycle, stages }
+    }
+
+    // r1 = 7 and a return: six words are fetched in the slots at 0 and 6, and five bundles follow
+    #[test]
+    fn a_task_goes_through_the_stages(rt: HostRuntime) -> Result<(), Fail> {
+        let alloc = rt.alloc();
+        let words = List::of(vec![in alloc; 5, 0x0002_0007, 0x0540_0000, 0, 0, 0]?);
+        let starts = List::of(vec![in alloc; 1]?);
+        let image = Image::of(words, starts, List::of(Vec::new(alloc)), 4, 0);
+        let place = Place::new(1, 0, 6, 0).expect(&rt, "a place");
+        let mut core = PipeCore::new(alloc, place, &image, &[])?;
+        let r1 = Reg::low(1);
+        assert_eq!(rt; core.advance(12), Beat::Stopped);
+        assert_eq!(rt; core.state(), CoreState::Running);
+        let first = step(12, [Some(3), Some(2), Some(1), None, None]);
+        assert_eq!(rt; core.advance(20), first);
+        let second = step(13, [Some(4), Some(3), Some(2), Some(1), None]);
+        assert_eq!(rt; core.advance(20), second);
+        assert_eq!(rt; core.file(r1), 0);
+        let third = step(14, [Some(5), Some(4), Some(3), Some(2), Some(1)]);
+        assert_eq!(rt; core.advance(20), third);
+        assert_eq!(rt; core.file(r1), 7);
+        let fourth = step(15, [None, Some(5), Some(4), Some(3), Some(2)]);
+        assert_eq!(rt; core.advance(20), fourth);
+        let fifth = step(16, [None, None, Some(5), Some(4), Some(3)]);
+        assert_eq!(rt; core.advance(20), fifth);
+        assert_eq!(rt; core.advance(20), Beat::Stopped);
+        let done = CoreState::Done {
+            value: 7,
+            flag: 0,
+            cycles: 17,
+        };
+        assert_eq!(rt; core.state(), done);
+        Ok(())
+    }
+
+    #[test]
+    fn worked_values_are_called() {
+        worked_steps();
+        worked_flows();
+        worked_load();
+        worked_ends();
+    }
+}

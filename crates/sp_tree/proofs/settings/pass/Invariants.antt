@@ -1,0 +1,10 @@
+use Rattle.std.proofs.Common.{◌≡◌, ℕ, ◌<◌, List, map, slice_index}
+use Rattle.c_world.specs.World.{Sending}
+use Rattle.sp_tree.specs.Plain.{plain_sp}
+use Rattle.sp_tree.specs.Straight.{args_worth}
+use Rattle.sp_tree.specs.Ran.{state_of}
+use Rattle.sp_tree.proofs.settings.pass.Given as goal
+
+abbrev pub invariant-loop-number : goal.invariant-loop-number
+invariant-loop-number l = (sends : List Sending) (k : ℕ) → k < l.number
+    → slice_index l.own k ≡ slice_index (args_worth (map plain_sp l.args) (state_of l.frame l.memory sends)) k

@@ -1,0 +1,48 @@
+-- What statements, functions and units say, without the places of their boxes in memory.
+use Rattle.std.specs.Prelude.{List, [], ◌∷◌, map}
+use Rattle.sp_tree.specs.Plain.{plain_sp}
+use Rattle.sp_tree.specs.Statements.{PlainPlace, to_slot, to_cell, to_array, PlainStmt, masks, writes, calls, transfers, overruns, turns, PlainStmts, no_stmt, stmt, PlainFunction, PlainUnit}
+use Rattle.sp_tree.specs.declared.expressions.SpPlace.{SpPlace}
+use Rattle.sp_tree.specs.declared.expressions.SpPlace.TheVariants as place
+use Rattle.sp_tree.specs.declared.statements.SpStmt.{SpStmt, Mask, Write, Call, Send, Overrun, Turns'}
+use Rattle.sp_tree.specs.declared.statements.SpStmt.TheBlock.{Row_of-SpStmt, end_of-SpStmt, more_of-SpStmt}
+use Rattle.sp_tree.specs.declared.statements.SpFunction.{SpFunction}
+use Rattle.sp_tree.specs.declared.statements.SpUnit.{SpUnit}
+
+abbrev pub plain_place : SpPlace → PlainPlace
+plain_place (place.Frame slot) = to_slot slot
+plain_place (place.Scalar cell) = to_cell cell
+plain_place (place.Element array index) = to_array array (plain_sp index)
+
+unfoldable mutual
+  pub plain_stmt : SpStmt → PlainStmt
+  plain_stmt (Mask slot e) = masks slot (plain_sp e)
+  plain_stmt (Write mask at e) = writes mask (plain_place at) (plain_sp e)
+  plain_stmt (Call mask k args given) = calls mask k (map plain_sp args) given
+  plain_stmt (Send mask core source aim count) = transfers mask core (plain_sp source) (plain_sp aim) (plain_sp count)
+  plain_stmt (Overrun mask e) = overruns mask (plain_sp e)
+  plain_stmt (Turns' count l body) = turns count (plain_row body)
+
+  pub plain_row : {n : _} → Row_of-SpStmt n → PlainStmts
+  plain_row end_of-SpStmt = no_stmt
+  plain_row (more_of-SpStmt t rest) = stmt (plain_stmt t) (plain_row rest)
+
+-- the same of plain lists
+abbrev pub stmts_of : List SpStmt → PlainStmts
+stmts_of [] = no_stmt
+stmts_of (t ∷ rest) = stmt (plain_stmt t) (stmts_of rest)
+
+abbrev pub plain_function : SpFunction → PlainFunction
+plain_function f = record { frame = f.frame; parameters = f.parameters; mask = f.mask; result = f.result; body = stmts_of f.body }
+
+abbrev pub functions_of : List SpFunction → List PlainFunction
+functions_of functions = map plain_function functions
+
+abbrev pub plain_unit : SpUnit → PlainUnit
+plain_unit u = record {
+  functions = functions_of u.functions;
+  entry = u.entry;
+  initial = u.initial;
+  input_at = u.input_at;
+  input_room = u.input_room;
+}
