@@ -1,6 +1,8 @@
 pub mod Acted
-pub mod Boxes
+pub mod Declarations
+pub mod Falls
 pub mod Firsts
+pub mod Fits
 pub mod ItemParts
 pub mod Means
 pub mod Opened

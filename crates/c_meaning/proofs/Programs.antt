@@ -18,19 +18,19 @@ use Rattle.c_meaning.proofs.Means.{body_means}
 
 -- ---- numbers of functions
 
-number_same : (at : ℕ) (text : List ℕ) (fs : List (List ℕ)) (f : List ℕ) → bytes_eq f text ≡ true
+pub number_same : (at : ℕ) (text : List ℕ) (fs : List (List ℕ)) (f : List ℕ) → bytes_eq f text ≡ true
     → number_from at text (fs ++ f ∷ []) ≡ Some (at + length fs)
 number_same at text [] f same = ap (λ b. option_or None (if b then Some at else None)) same ∙ ap Some (omega arith)
 number_same at text (h ∷ fs) f same =
     ap (λ k. option_or k (if bytes_eq h text then Some at else None)) (number_same (at + 1) text fs f same) ∙ ap Some (omega arith)
 
-number_other : (at : ℕ) (text : List ℕ) (fs : List (List ℕ)) (f : List ℕ) → bytes_eq f text ≡ false
+pub number_other : (at : ℕ) (text : List ℕ) (fs : List (List ℕ)) (f : List ℕ) → bytes_eq f text ≡ false
     → number_from at text (fs ++ f ∷ []) ≡ number_from at text fs
 number_other at text [] f other = ap (λ b. option_or None (if b then Some at else None)) other
 number_other at text (h ∷ fs) f other = ap (λ k. option_or k (if bytes_eq h text then Some at else None)) (number_other (at + 1) text fs f other)
 
 -- a number stands for one of the functions
-number_below : (at : ℕ) (text : List ℕ) (fs : List (List ℕ)) (j : ℕ) → number_from at text fs ≡ Some j → j < at + length fs
+pub number_below : (at : ℕ) (text : List ℕ) (fs : List (List ℕ)) (j : ℕ) → number_from at text fs ≡ Some j → j < at + length fs
 number_below at text [] j is = absurd (cc)
 number_below at text (h ∷ fs) j is = by (number_from (at + 1) text fs) (number_below (at + 1) text fs) (bytes_eq h text) is
   where

@@ -9,5 +9,6 @@ pub mod Resolved
 pub mod Rooms
 pub mod Scope
 pub mod Shown
+pub mod Sizes
 pub mod Small
 pub mod Values

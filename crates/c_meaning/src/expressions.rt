@@ -8,12 +8,12 @@ ghost use Rattle.c_meaning.specs.Resolve as resolve;
 ghost use Rattle.c_meaning.specs.Scope as scope_specs;
 ghost use Rattle.c_meaning.specs.Values.{expr_unsigned, steps_unsigned};
 
-use crate::operators::{between, gives_unsigned, indexed, signs, signs_unsigned, works_unsigned};
+use crate::operators::{between, gives_unsigned, signs, signs_unsigned, works_unsigned};
 use crate::scopes::{Found, Scope};
 use c_tree::{Expr, Slot, Step};
 use c_world::Region;
 use local_store::Cell;
-use sp_tree::{SpArray, SpCell, SpExpr};
+use sp_tree::{SpArray, SpCell, SpExpr, indexed};
 use std::alloc::{AllocError, Global};
 use tc_word::{List, OutOfMemory};
 

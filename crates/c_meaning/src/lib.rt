@@ -10,10 +10,13 @@
 //! of the program's plain tree; and what those actions do (`specs/Resolved.antt`) is what the program means, as
 //! [`names_resolved_once`] says.
 //!
+//! What its variables and arrays begin with, and where its input lies, [`add_initial`] and [`input_place`] work out.
+//!
 //! What its words mean stands in [the glossary](../../../docs/GLOSSARY.md).
 #![tactic(auto)]
 
 mod actions;
+mod beginnings;
 mod expressions;
 mod globals;
 mod laws;
@@ -29,6 +32,7 @@ pub use actions::{
     Action, Arguments, Array, Assignment, Branch, FRAME_WORDS, Level, PRIVATE_WORDS, Routine,
     Target, Word,
 };
+pub use beginnings::{FIRST_PRIVATE, InputPlace, add_initial, input_place};
 pub use expressions::array_of;
 pub use laws::names_resolved_once;
 pub use routines::{Resolved, resolve};

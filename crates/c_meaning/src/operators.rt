@@ -1,47 +1,21 @@
 //! Operators of resolved expressions.
 ghost use Rattle.std.specs.Prelude.{◌≡◌, if◌then◌else◌, IfOk};
-ghost use Rattle.sp_tree.specs.Plain.{plain_sp, array_word, before_one, between_two};
+ghost use Rattle.sp_tree.specs.Plain.{plain_sp};
 ghost use Rattle.c_meaning.specs.Operators as operators;
 ghost use Rattle.c_meaning.specs.Resolve as resolve;
 
 use c_tree::{BinaryOp, UnaryOp};
-use sp_tree::{SpArray, SpBinary, SpExpr, SpUnary};
+use sp_tree::{SpBinary, SpExpr, SpUnary, before_operand, between_operands};
 use std::alloc::Global;
 use tc_word::OutOfMemory;
-
-/// An element of an array.
-#[tactic(auto, using(crate::proofs::Boxes::plain_element))]
-pub fn indexed(alloc: Global, array: SpArray, index: SpExpr) -> Result<SpExpr, OutOfMemory>
-    ensures { IfOk result (λ e. plain_sp e ≡ array_word array (plain_sp index)) }
-{
-    let index = Box::new(alloc, index)?;
-    Ok(SpExpr::Element { array, index })
-}
-
-#[tactic(auto, using(crate::proofs::Boxes::plain_unary))]
-fn before(alloc: Global, op: SpUnary, of: SpExpr) -> Result<SpExpr, OutOfMemory>
-    ensures { IfOk result (λ e. plain_sp e ≡ before_one op (plain_sp of)) }
-{
-    let of = Box::new(alloc, of)?;
-    Ok(SpExpr::Unary { op, of })
-}
-
-#[tactic(auto, using(crate::proofs::Boxes::plain_binary))]
-fn both(alloc: Global, op: SpBinary, a: SpExpr, b: SpExpr) -> Result<SpExpr, OutOfMemory>
-    ensures { IfOk result (λ e. plain_sp e ≡ between_two op (plain_sp a) (plain_sp b)) }
-{
-    let a = Box::new(alloc, a)?;
-    let b = Box::new(alloc, b)?;
-    Ok(SpExpr::Binary { op, a, b })
-}
 
 fn signed(alloc: Global, op: UnaryOp, of: SpExpr) -> Result<SpExpr, OutOfMemory>
     ensures { IfOk result (λ e. plain_sp e ≡ resolve.resolved_sign op (plain_sp of)) }
 {
     match op {
-        UnaryOp::Minus => before(alloc, SpUnary::Minus, of),
-        UnaryOp::Complement => before(alloc, SpUnary::Complement, of),
-        UnaryOp::Not => before(alloc, SpUnary::Not, of),
+        UnaryOp::Minus => before_operand(alloc, SpUnary::Minus, of),
+        UnaryOp::Complement => before_operand(alloc, SpUnary::Complement, of),
+        UnaryOp::Not => before_operand(alloc, SpUnary::Not, of),
         UnaryOp::Plus => Ok(of),
     }
 }
@@ -170,8 +144,8 @@ pub fn between(
 {
     let operator = operator_of(op, unsigned);
     if is_exchanged(op) {
-        both(alloc, operator, b, a)
+        between_operands(alloc, operator, b, a)
     } else {
-        both(alloc, operator, a, b)
+        between_operands(alloc, operator, a, b)
     }
 }

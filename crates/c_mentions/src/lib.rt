@@ -19,6 +19,8 @@ mod noted;
 mod programs;
 mod statements;
 mod tasks;
+#[cfg(test)]
+mod tests;
 mod worked;
 
 pub use alone::is_alone;

@@ -53,69 +53,68 @@ fn note_sending(
     note_expression(m, hidden, count);
 }
 
-// a statement, and which arrays are hidden behind it
+// which arrays are hidden behind a statement: a declaration alone hides more
+fn hidden_after(hidden: Arrays, s: &Stmt) -> Arrays
+    ensures { (names : Names) → Hides hidden names → Hides result (names_after names (plain_stmt s.now)) }
+{
+    match s {
+        Stmt::Declare { name, .. } => hidden_behind(hidden, name.as_str()),
+        Stmt::Set { .. } => hidden,
+        Stmt::SetElement { .. } => hidden,
+        Stmt::Call { .. } => hidden,
+        Stmt::Send { .. } => hidden,
+        Stmt::If { .. } => hidden,
+        Stmt::Loop { .. } => hidden,
+        Stmt::Break => hidden,
+        Stmt::Continue => hidden,
+        Stmt::Return { .. } => hidden,
+        Stmt::Inner { .. } => hidden,
+    }
+}
+
+// a statement: a variable that is declared stands in its own first value
 #[cycle(statement)]
 #[tactic(auto)]
-fn note_statement(m: &mut Mentions, hidden: Arrays, s: &Stmt) -> Arrays
-    ensures noted { Notes hidden m.old m.new (λ names. stmt_uses names (plain_stmt s.now)) }
-    ensures hides { (names : Names) → Hides hidden names → Hides result (names_after names (plain_stmt s.now)) }
+fn note_statement(m: &mut Mentions, hidden: Arrays, s: &Stmt)
+    ensures { Notes hidden m.old m.new (λ names. stmt_uses names (plain_stmt s.now)) }
 {
     match s {
         Stmt::Declare { name, right, .. } => {
             let behind = hidden_behind(hidden, name.as_str());
             note_first(m, behind, right);
-            behind
         }
         Stmt::Set { name, right } => {
             note_set(m, hidden, name.as_str());
             note_right(m, hidden, right);
-            hidden
         }
         Stmt::SetElement { name, index, right } => {
             note_set(m, hidden, name.as_str());
             note_expression(m, hidden, index);
             note_right(m, hidden, right);
-            hidden
         }
-        Stmt::Call { args, .. } => {
-            note_arguments(m, hidden, args.as_slice());
-            hidden
-        }
+        Stmt::Call { args, .. } => note_arguments(m, hidden, args.as_slice()),
         Stmt::Send {
             core,
             source,
             target,
             count,
             ..
-        } => {
-            note_sending(m, hidden, *core, source, target, count);
-            hidden
-        }
+        } => note_sending(m, hidden, *core, source, target, count),
         Stmt::If { arms, otherwise } => {
             note_arms(m, hidden, arms.as_slice());
             match otherwise {
-                None => hidden,
-                Some(body) => {
-                    note_block(m, hidden, body.as_slice());
-                    hidden
-                }
+                None => {}
+                Some(body) => note_block(m, hidden, body.as_slice()),
             }
         }
         Stmt::Loop { head, body, .. } => {
             note_head(m, hidden, head);
             note_block(m, hidden, body.as_slice());
-            hidden
         }
-        Stmt::Break => hidden,
-        Stmt::Continue => hidden,
-        Stmt::Return { value } => {
-            note_returned(m, hidden, value);
-            hidden
-        }
-        Stmt::Inner { body } => {
-            note_block(m, hidden, body.as_slice());
-            hidden
-        }
+        Stmt::Break => {}
+        Stmt::Continue => {}
+        Stmt::Return { value } => note_returned(m, hidden, value),
+        Stmt::Inner { body } => note_block(m, hidden, body.as_slice()),
     }
 }
 
@@ -127,7 +126,8 @@ pub fn note_block(m: &mut Mentions, hidden: Arrays, body: &[Stmt])
 {
     let mut behind = hidden;
     for s in body {
-        behind = note_statement(m, behind, s);
+        note_statement(m, behind, s);
+        behind = hidden_after(behind, s);
     }
 }
 

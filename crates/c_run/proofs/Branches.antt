@@ -7,7 +7,7 @@ use Rattle.c_meaning.specs.Resolved.{Serves, holds, actions_done, branches_done}
 use Rattle.c_meaning.specs.Shown.{actions_of, branches_of}
 use Rattle.c_meaning.specs.Values.{State}
 use Rattle.c_meaning.proofs.Parts.{drop_item}
-use Rattle.c_run.specs.Sizes.{actions_size, branches_size}
+use Rattle.c_meaning.specs.Sizes.{actions_size, branches_size}
 
 from_here : (g : Serves) (o : State → Done) (branches : List Branch) (i : ℕ) (b : Branch) (s : State) → i < length branches → b ≡ get_or branches i b
     → branches_done g (branches_of (drop i branches)) o s ≡ branches_done g (branches_of (b ∷ drop (i + 1) branches)) o s

@@ -1,5 +1,5 @@
 -- A call goes to something smaller.
-use Rattle.std.proofs.Common.{◌≡◌, ℕ, zero, suc, ◌+◌, ◌<◌, ◌≤◌, List, [], ◌∷◌, length, get_or, slice_index_or, refl, ap, sym, ◌∙◌, arith, subst, inl, inr}
+use Rattle.std.proofs.Common.{◌≡◌, ℕ, zero, suc, ◌+◌, ◌<◌, ◌≤◌, List, [], ◌∷◌, length, get_or, slice_index_or, ap, sym, ◌∙◌, arith, subst, inl, inr}
 use Rattle.std.proofs.lemmas.Bool.{cases_lt}
 use Rattle.std.specs.Prelude.{Option}
 use Rattle.sp_tree.specs.declared.expressions.SpExpr.{SpExpr}
@@ -13,27 +13,14 @@ use Rattle.c_meaning.specs.declared.actions.Target.{Target}
 use Rattle.c_meaning.specs.Actions.{PlainActions, no_action}
 use Rattle.c_meaning.specs.Shown.{plain_action, actions_of, branches_of, bodies_of}
 use Rattle.c_meaning.proofs.Acted.{plain_choose, plain_loop}
-use Rattle.c_run.specs.Sizes.{action_size, actions_size, branches_size, total}
+use Rattle.c_meaning.specs.Sizes.{action_size, actions_size, branches_size}
+use Rattle.c_run.specs.Sizes.{total}
 
--- ---- parts of an action
+-- ---- a call
 
-pub call_size : (a : Action) (k : ℕ) (args : Arguments) (t : Option Target) → a ≡ Call k args t → action_size (plain_action a) ≡ 2
+pub call_size : (a : Action) (k : ℕ) (args : Arguments) (t : Option Target) → a ≡ Call k args t → action_size (plain_action a) ≡ 3
 unfolding plain_action
 call_size a k args t is = ap (λ x. action_size (plain_action x)) is
-
-pub choose_size : (a : Action) (branches : List Branch) (otherwise : List Action) → a ≡ Choose branches otherwise
-    → action_size (plain_action a) ≡ 2 + branches_size (branches_of branches) + actions_size (actions_of otherwise)
-choose_size a branches otherwise is = ap (λ x. action_size (plain_action x)) is ∙ ap action_size (plain_choose branches otherwise)
-
-pub loop_size : (a : Action) (most : ℕ) (condition : SpExpr) (body : List Action) (step : Option Assignment) → a ≡ Loop most condition body step
-    → action_size (plain_action a) ≡ 3 + actions_size (actions_of body)
-loop_size a most condition body step is = ap (λ x. action_size (plain_action x)) is ∙ ap action_size (plain_loop most condition body step)
-
-pub part_size : (actions : List Action) (i : ℕ) (a : Action) → i < length actions → a ≡ get_or actions i a
-    → action_size (plain_action a) < actions_size (actions_of actions)
-part_size [] i a within is = absurd (omega arith)
-part_size (x ∷ actions) zero a within is = let same = ap (λ y. action_size (plain_action y)) is in omega arith
-part_size (x ∷ actions) (suc i) a within is = let rest = part_size actions i a (omega arith) is in omega arith
 
 -- ---- functions
 
@@ -42,11 +29,6 @@ pub body_at : (routines : List Routine) (n : ℕ) (r : Routine) → n < length r
 body_at [] n r within is = absurd (omega arith)
 body_at (x ∷ routines) zero r within is = ap (λ (y : Routine). actions_of y.body) (sym is)
 body_at (x ∷ routines) (suc n) r within is = body_at routines n r (omega arith) is
-
-pub body_past : (routines : List Routine) (n : ℕ) → length routines ≤ n → slice_index_or (bodies_of routines) n no_action ≡ no_action
-body_past [] n past = refl
-body_past (x ∷ routines) zero past = absurd (omega arith)
-body_past (x ∷ routines) (suc n) past = body_past routines n (omega arith)
 
 pub total_grows : (fs : List PlainActions) (k n : ℕ) → k < n → total fs k + actions_size (slice_index_or fs k no_action) ≤ total fs n
 total_grows fs k zero below = absurd (omega arith)

@@ -114,7 +114,7 @@ serves_own fs k (suc n) args w below = elim (cases_lt k n) [
       ∙ ap (λ m. routine_given (serves fs m) (slice_index_or fs m no_action) args w) same
 ]
 
-serves_none : (fs : List PlainActions) (k n : ℕ) (args : List ℕ) (w : World) → n ≤ k → serves fs n k args w ≡ record { value = 0; world = w }
+pub serves_none : (fs : List PlainActions) (k n : ℕ) (args : List ℕ) (w : World) → n ≤ k → serves fs n k args w ≡ record { value = 0; world = w }
 serves_none fs k zero args w past = refl
 serves_none fs k (suc n) args w past =
     let other : k ≢ n = omega arith in
@@ -125,13 +125,6 @@ serves_none fs k (suc n) args w past =
 pub none_given : (fs : List PlainActions) (k n : ℕ) (args : List ℕ) (m : Memory) (sends : List Sending) → n ≤ k
     → HasGiven (serves fs n k args (shown m sends)) 0 m
 none_given fs k n args m sends past = has_given (serves fs n k args (shown m sends)) 0 m sends (serves_none fs k n args (shown m sends) past)
-
--- a function whose block is empty
-pub empty_given : (fs : List PlainActions) (k n : ℕ) (args : List ℕ) (m : Memory) (sends : List Sending) → k < n → slice_index_or fs k no_action ≡ no_action
-    → HasGiven (serves fs n k args (shown m sends)) 0 m
-empty_given fs k n args m sends below none =
-    has_given (serves fs n k args (shown m sends)) 0 m sends
-    (serves_own fs k n args (shown m sends) below ∙ ap (λ body. routine_given (serves fs k) body args (shown m sends)) none)
 
 -- the function of a number, run on its own frame
 pub body_given : (fs : List PlainActions) (k n : ℕ) (args own : List ℕ) (m : Memory) (sends : List Sending) (body : PlainActions)

@@ -1,3 +1,4 @@
+pub mod Places
 pub mod Ran
 pub mod Sizes
 pub mod Told

@@ -1,20 +1,23 @@
 -- What a run has done. The sends that were started are not kept in memories.
-use Rattle.std.specs.Prelude.{◌≡◌, ℕ, List, Option, None, Some, slice_index}
+use Rattle.std.specs.Prelude.{◌≡◌, ℕ, List, Option, None, Some, length, slice_index}
 use Rattle.c_world.specs.World.{Sending}
 use Rattle.c_world.specs.Shown.{shown}
 use Rattle.c_world.specs.declared.memory.Memory.{Memory}
 use Rattle.c_meaning.specs.declared.ways.Way.{Way}
 use Rattle.c_meaning.specs.Meaning.{Done, Given, turn_done}
-use Rattle.c_meaning.specs.Resolved.{Serves, actions_done}
-use Rattle.c_meaning.specs.Shown.{actions_of}
+use Rattle.c_meaning.specs.Resolved.{Serves, actions_done, serves}
+use Rattle.c_meaning.specs.Shown.{actions_of, bodies_of}
 use Rattle.c_meaning.specs.declared.actions.Branch.{Branch}
 use Rattle.c_meaning.specs.declared.actions.Routine.{Routine}
-use Rattle.c_meaning.specs.Actions.{PlainActions, no_action}
 use Rattle.c_meaning.specs.Values.{State}
 
 -- the words of a frame and of memories, where these sends were started
 abbrev pub state_of : List ℕ → Memory → List Sending → State
 state_of frame memory sends = record { locals = slice_index frame; world = shown memory sends }
+
+-- what these functions give, by their numbers
+abbrev pub served_by : List Routine → Serves
+served_by routines = serves (bodies_of routines) (length routines)
 
 -- a statement went on so, and left these words
 pub record HasDone (d : Done) (way : Way) (frame : List ℕ) (memory : Memory) : Type 0 where
@@ -37,8 +40,3 @@ HasTurned step d (Some w) frame memory = (more : State → Done) → HasDone (tu
 abbrev pub picked_done : Serves → (State → Done) → Option Branch → State → Done
 picked_done g otherwise None s = otherwise s
 picked_done g otherwise (Some b) s = actions_done g (actions_of b.body) s
-
--- the block of a function, if there is one
-abbrev pub routine_body : Option Routine → PlainActions
-routine_body None = no_action
-routine_body (Some r) = actions_of r.body

@@ -13,6 +13,7 @@
 
 mod begin;
 mod outcome;
+mod places;
 mod run;
 mod settings;
 mod worked;

@@ -1,38 +1,37 @@
 //! Actions, run.
-ghost use Rattle.std.specs.Prelude.{◌≡◌, ◌*◌, ◌<◌, ◌≤◌, List, length, slice_index_or, map, option_map, IfSome};
+ghost use Rattle.std.specs.Prelude.{◌≡◌, ◌*◌, ◌<◌, ◌≤◌, List, length, map, option_map, IfSome};
 ghost use Rattle.std.specs.Option.{option_copied};
 ghost use Rattle.c_world.specs.Shown.{shown, rooms};
 ghost use Rattle.c_world.specs.World.{Sending};
 ghost use Rattle.sp_tree.specs.Plain.{plain_sp};
-ghost use Rattle.c_meaning.specs.Actions.{no_action};
-ghost use Rattle.c_meaning.specs.Meaning.{Done, turns_done, way_value};
-ghost use Rattle.c_meaning.specs.Resolved.{Serves, args_worth, holds, step_done, action_done, actions_done, branches_done, serves};
+ghost use Rattle.c_meaning.specs.Meaning.{Done, goes_on, turns_done, way_value};
+ghost use Rattle.c_meaning.specs.Resolved.{Serves, args_worth, holds, step_done, given_done, action_done, actions_done, branches_done, serves};
 ghost use Rattle.c_meaning.specs.Rooms.{all_rooms};
-ghost use Rattle.c_meaning.specs.Shown.{plain_action, plain_assignment, actions_of, branches_of, bodies_of};
+ghost use Rattle.c_meaning.specs.Shown.{plain_action, plain_target, plain_assignment, actions_of, branches_of, bodies_of};
 ghost use Rattle.c_meaning.specs.Values.{State};
-ghost use Rattle.c_run.specs.Ran.{state_of, HasDone, HasGiven, HasTurned, picked_done, routine_body};
-ghost use Rattle.c_run.specs.Sizes.{actions_size, branches_size};
+ghost use Rattle.c_run.specs.Ran.{state_of, served_by, HasDone, HasGiven, HasTurned, picked_done};
+ghost use Rattle.c_meaning.specs.Sizes.{actions_size, branches_size};
 
-use crate::settings::{assign, pass, set_given, step};
-use c_meaning::{Action, Arguments, Assignment, Branch, FRAME_WORDS, Routine, Way};
+use crate::places::{put, result_place};
+use crate::settings::{assign, pass, step};
+use c_meaning::{Action, Arguments, Assignment, Branch, FRAME_WORDS, Routine, Target, Way};
 use c_world::Memory;
 use sp_tree::{SpExpr, value};
 
-// one action, with the first so many functions to call
+// one action, with these functions to call
 #[cycle(run)]
 fn act(
     action: &Action,
     routines: &[Routine],
-    known: usize,
     frame: &mut [u32],
     rest: &mut [u32],
     memory: &mut Memory,
 ) -> Way
     requires frame { length frame.old ≡ 96 }
-    requires rest { 96 * known ≤ length rest.old }
+    requires rest { 96 * length routines.now ≤ length rest.old }
     requires rooms { rooms memory.old ≡ all_rooms }
     ensures done { (sends : List Sending) → HasDone
-        (action_done (serves (bodies_of routines.now) known) (plain_action action.now) (state_of frame.old memory.old sends)) result frame.new memory.new }
+        (action_done (served_by routines.now) (plain_action action.now) (state_of frame.old memory.old sends)) result frame.new memory.new }
     ensures rooms { rooms memory.new ≡ all_rooms }
 {
     match action {
@@ -44,48 +43,25 @@ fn act(
             function,
             args,
             target,
-        } => {
-            let given = called(
-                *function as usize,
-                args,
-                routines,
-                known,
-                frame,
-                rest,
-                memory,
-            );
-            set_given(target, given, frame, memory);
-            Way::On
-        }
+        } => call(*function, args, target, routines, frame, rest, memory),
         Action::Send { .. } => Way::On,
         Action::Choose {
             branches,
             otherwise,
-        } => choose(
-            branches.as_slice(),
-            otherwise.as_slice(),
-            routines,
-            known,
-            frame,
-            rest,
-            memory,
-        ),
+        } => {
+            let branches = branches.as_slice();
+            let otherwise = otherwise.as_slice();
+            choose(branches, otherwise, routines, frame, rest, memory)
+        }
         Action::Loop {
             max,
             condition,
             body,
             step,
-        } => turns(
-            *max,
-            condition,
-            body.as_slice(),
-            step,
-            routines,
-            known,
-            frame,
-            rest,
-            memory,
-        ),
+        } => {
+            let body = body.as_slice();
+            turns(*max, condition, body, step, routines, frame, rest, memory)
+        }
         Action::Break => Way::Broken,
         Action::Continue => Way::Continued,
         Action::Return { value: e } => Way::Returned {
@@ -94,25 +70,51 @@ fn act(
     }
 }
 
-// actions one after another, up to one that goes elsewhere
+// a function is called, and what it gives is set, if anything: the place is found behind the call
 #[cycle(run)]
-fn all(
-    actions: &[Action],
+fn call(
+    function: u32,
+    args: &Arguments,
+    target: &Option<Target>,
     routines: &[Routine],
-    known: usize,
     frame: &mut [u32],
     rest: &mut [u32],
     memory: &mut Memory,
 ) -> Way
     requires frame { length frame.old ≡ 96 }
-    requires rest { 96 * known ≤ length rest.old }
+    requires rest { 96 * length routines.now ≤ length rest.old }
     requires rooms { rooms memory.old ≡ all_rooms }
     ensures done { (sends : List Sending) → HasDone
-        (actions_done (serves (bodies_of routines.now) known) (actions_of actions.now) (state_of frame.old memory.old sends)) result frame.new memory.new }
+        (goes_on (given_done (option_map plain_target target.now) (state_of frame.old memory.old sends)
+        (served_by routines.now function (args_worth (map plain_sp args.now.values) (state_of frame.old memory.old sends))
+        (shown memory.old sends)))) result frame.new memory.new }
+    ensures rooms { rooms memory.new ≡ all_rooms }
+{
+    let function = function as usize;
+    let given = served(function, args, routines, frame, rest, memory);
+    let place = result_place(target, frame, memory);
+    put(place, given, frame, memory);
+    Way::On
+}
+
+// actions one after another, up to one that goes elsewhere
+#[cycle(run)]
+fn all(
+    actions: &[Action],
+    routines: &[Routine],
+    frame: &mut [u32],
+    rest: &mut [u32],
+    memory: &mut Memory,
+) -> Way
+    requires frame { length frame.old ≡ 96 }
+    requires rest { 96 * length routines.now ≤ length rest.old }
+    requires rooms { rooms memory.old ≡ all_rooms }
+    ensures done { (sends : List Sending) → HasDone
+        (actions_done (served_by routines.now) (actions_of actions.now) (state_of frame.old memory.old sends)) result frame.new memory.new }
     ensures rooms { rooms memory.new ≡ all_rooms }
 {
     for action in actions {
-        match act(action, routines, known, frame, rest, memory) {
+        match act(action, routines, frame, rest, memory) {
             Way::On => {}
             Way::Broken => return Way::Broken,
             Way::Continued => return Way::Continued,
@@ -143,22 +145,21 @@ fn choose(
     branches: &[Branch],
     otherwise: &[Action],
     routines: &[Routine],
-    known: usize,
     frame: &mut [u32],
     rest: &mut [u32],
     memory: &mut Memory,
 ) -> Way
     requires frame { length frame.old ≡ 96 }
-    requires rest { 96 * known ≤ length rest.old }
+    requires rest { 96 * length routines.now ≤ length rest.old }
     requires rooms { rooms memory.old ≡ all_rooms }
     ensures done { (sends : List Sending) → HasDone
-        (branches_done (serves (bodies_of routines.now) known) (branches_of branches.now)
-        (actions_done (serves (bodies_of routines.now) known) (actions_of otherwise.now)) (state_of frame.old memory.old sends)) result frame.new memory.new }
+        (branches_done (served_by routines.now) (branches_of branches.now)
+        (actions_done (served_by routines.now) (actions_of otherwise.now)) (state_of frame.old memory.old sends)) result frame.new memory.new }
     ensures rooms { rooms memory.new ≡ all_rooms }
 {
     match pick(branches, frame, memory) {
-        Some(branch) => all(branch.body.as_slice(), routines, known, frame, rest, memory),
-        None => all(otherwise, routines, known, frame, rest, memory),
+        Some(branch) => all(branch.body.as_slice(), routines, frame, rest, memory),
+        None => all(otherwise, routines, frame, rest, memory),
     }
 }
 
@@ -168,19 +169,18 @@ fn turn(
     body: &[Action],
     next: &Option<Assignment>,
     routines: &[Routine],
-    known: usize,
     frame: &mut [u32],
     rest: &mut [u32],
     memory: &mut Memory,
 ) -> Option<Way>
     requires frame { length frame.old ≡ 96 }
-    requires rest { 96 * known ≤ length rest.old }
+    requires rest { 96 * length routines.now ≤ length rest.old }
     requires rooms { rooms memory.old ≡ all_rooms }
     ensures turned { (sends : List Sending) → HasTurned (step_done (option_map plain_assignment next.now))
-        (actions_done (serves (bodies_of routines.now) known) (actions_of body.now) (state_of frame.old memory.old sends)) result frame.new memory.new }
+        (actions_done (served_by routines.now) (actions_of body.now) (state_of frame.old memory.old sends)) result frame.new memory.new }
     ensures rooms { rooms memory.new ≡ all_rooms }
 {
-    match all(body, routines, known, frame, rest, memory) {
+    match all(body, routines, frame, rest, memory) {
         Way::On => {
             step(next, frame, memory);
             None
@@ -202,16 +202,15 @@ fn turns(
     body: &[Action],
     next: &Option<Assignment>,
     routines: &[Routine],
-    known: usize,
     frame: &mut [u32],
     rest: &mut [u32],
     memory: &mut Memory,
 ) -> Way
     requires frame { length frame.old ≡ 96 }
-    requires rest { 96 * known ≤ length rest.old }
+    requires rest { 96 * length routines.now ≤ length rest.old }
     requires rooms { rooms memory.old ≡ all_rooms }
     ensures done { (sends : List Sending) → HasDone
-        (turns_done (holds (plain_sp condition.now)) (actions_done (serves (bodies_of routines.now) known) (actions_of body.now))
+        (turns_done (holds (plain_sp condition.now)) (actions_done (served_by routines.now) (actions_of body.now))
         (step_done (option_map plain_assignment next.now)) max (state_of frame.old memory.old sends)) result frame.new memory.new }
     ensures rooms { rooms memory.new ≡ all_rooms }
 {
@@ -219,7 +218,7 @@ fn turns(
         if !is_held(condition, frame, memory) {
             return Way::On;
         }
-        match turn(body, next, routines, known, frame, rest, memory) {
+        match turn(body, next, routines, frame, rest, memory) {
             None => {}
             Some(way) => return way,
         }
@@ -229,8 +228,35 @@ fn turns(
     Way::On
 }
 
-/// What a function gives: the one of this number, if it is one of the first so many.
+// what a function gives: the one of this number, if it is one of these
 #[cycle(run)]
+fn served(
+    function: usize,
+    args: &Arguments,
+    routines: &[Routine],
+    frame: &[u32],
+    rest: &mut [u32],
+    memory: &mut Memory,
+) -> u32
+    requires rest { 96 * length routines.now ≤ length rest.old }
+    requires rooms { rooms memory.old ≡ all_rooms }
+    ensures given { (sends : List Sending) → HasGiven
+        (served_by routines.now function (args_worth (map plain_sp args.now.values) (state_of frame.now memory.old sends)) (shown memory.old sends))
+        result memory.new }
+    ensures rooms { rooms memory.new ≡ all_rooms }
+{
+    if function >= routines.len() {
+        return 0;
+    }
+    let (own, further) = rest.split_at_mut(FRAME_WORDS);
+    pass(args.values.as_slice(), frame, own, memory);
+    let (earlier, _others) = routines.split_at(function);
+    let body = routines[function].body.as_slice();
+    let way = all(body, earlier, own, further, memory);
+    given_by(way)
+}
+
+/// What a function gives: the one of this number, if it is one of the first so many.
 pub fn called(
     function: usize,
     args: &Arguments,
@@ -247,37 +273,8 @@ pub fn called(
         result memory.new }
     ensures rooms { rooms memory.new ≡ all_rooms }
 {
-    if function >= known {
-        return 0;
-    }
-    match find(routines, function) {
-        None => 0,
-        Some(routine) => {
-            let (own, further) = rest.split_at_mut(FRAME_WORDS);
-            pass(args.values.as_slice(), frame, own, memory);
-            let way = all(
-                routine.body.as_slice(),
-                routines,
-                function,
-                own,
-                further,
-                memory,
-            );
-            given_by(way)
-        }
-    }
-}
-
-// the function of a number, if there is one
-#[tactic(auto, using(crate::proofs::Falls::body_at, crate::proofs::Falls::body_past))]
-fn find<'a>(routines: &'a [Routine], number: usize) -> Option<&'a Routine>
-    ensures { slice_index_or (bodies_of routines.now) number no_action ≡ routine_body (option_copied result) }
-{
-    if number < routines.len() {
-        Some(&routines[number])
-    } else {
-        None
-    }
+    let (first, _others) = routines.split_at(known.min(routines.len()));
+    served(function, args, first, frame, rest, memory)
 }
 
 // what a function gives that ends so

@@ -4,33 +4,15 @@ ghost use Rattle.std.specs.Prelude.{◌≤◌};
 ghost use Rattle.c_world.specs.Shown.{rooms};
 ghost use Rattle.c_world.specs.World.{Sending};
 ghost use Rattle.sp_tree.specs.Plain.{plain_sp};
-ghost use Rattle.c_meaning.specs.Resolved.{worth, args_worth, with_target, with_result, assignment_done, step_done};
+ghost use Rattle.c_meaning.specs.Resolved.{worth, args_worth, assignment_done, step_done};
 ghost use Rattle.c_meaning.specs.Rooms.{all_rooms};
-ghost use Rattle.c_meaning.specs.Shown.{plain_target, plain_assignment};
+ghost use Rattle.c_meaning.specs.Shown.{plain_assignment};
 ghost use Rattle.c_run.specs.Ran.{state_of};
 
-use c_meaning::{Assignment, Target};
+use crate::places::{place_of, put};
+use c_meaning::Assignment;
 use c_world::Memory;
 use sp_tree::{SpExpr, value};
-
-// a variable, a word of a memory, or an element
-#[tactic(auto, using(c_world::proofs::Words::word_set))]
-fn set(target: &Target, given: u32, frame: &mut [u32], memory: &mut Memory)
-    requires frame { length frame.old ≡ 96 }
-    requires rooms { rooms memory.old ≡ all_rooms }
-    ensures done { (sends : List Sending) → with_target (plain_target target.now) given (state_of frame.old memory.old sends)
-        ≡ state_of frame.new memory.new sends }
-    ensures rooms { rooms memory.new ≡ all_rooms }
-{
-    match target {
-        Target::Variable { level } => frame[level.number as usize] = given,
-        Target::Scalar { word } => memory.set_word(word.region, word.word as usize, given),
-        Target::Element { array, index } => {
-            let index = value(index, frame, memory);
-            memory.set_element(array.region, array.first, array.length, index, given);
-        }
-    }
-}
 
 /// What is set, and to what.
 pub fn assign(assignment: &Assignment, frame: &mut [u32], memory: &mut Memory)
@@ -41,7 +23,8 @@ pub fn assign(assignment: &Assignment, frame: &mut [u32], memory: &mut Memory)
     ensures rooms { rooms memory.new ≡ all_rooms }
 {
     let given = value(&assignment.value, frame, memory);
-    set(&assignment.target, given, frame, memory);
+    let place = place_of(&assignment.target, frame, memory);
+    put(place, given, frame, memory);
 }
 
 /// What is set behind a turn of a loop, if anything.
@@ -55,20 +38,6 @@ pub fn step(assignment: &Option<Assignment>, frame: &mut [u32], memory: &mut Mem
     match assignment {
         None => {}
         Some(assignment) => assign(assignment, frame, memory),
-    }
-}
-
-/// What is set to what a function gave, if anything.
-pub fn set_given(target: &Option<Target>, given: u32, frame: &mut [u32], memory: &mut Memory)
-    requires frame { length frame.old ≡ 96 }
-    requires rooms { rooms memory.old ≡ all_rooms }
-    ensures done { (sends : List Sending) → with_result (option_map plain_target target.now) given (state_of frame.old memory.old sends)
-        ≡ state_of frame.new memory.new sends }
-    ensures rooms { rooms memory.new ≡ all_rooms }
-{
-    match target {
-        None => {}
-        Some(target) => set(target, given, frame, memory),
     }
 }
 

@@ -21,6 +21,7 @@ mod evaluation;
 mod expressions;
 mod laws;
 mod limits;
+mod making;
 mod operators;
 mod outcome;
 mod run;
@@ -39,6 +40,7 @@ pub use laws::{earlier_functions_serve, frames_grow, masks_hold, statements_join
 pub use limits::{
     DATA_WORDS, FIRST_WORD, MOST_FRAME, MOST_FUNCTIONS, MOST_NEED, MOST_PARAMETERS, TARGETS,
 };
+pub use making::{before_operand, between_operands, copied, indexed};
 pub use operators::{SpBinary, SpUnary};
 pub use outcome::{SpOutcome, plain_straight};
 pub use statements::{SpFunction, SpStmt, SpUnit};

@@ -8,3 +8,4 @@ pub mod TasksFound
 pub mod TasksCoded
 pub mod TasksRead
 pub mod MeaningsTold
+pub mod Piped

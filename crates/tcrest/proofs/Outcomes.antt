@@ -9,7 +9,8 @@ use Rattle.tc_job.specs.declared.fault.JobFault.TheVariants as faults
 use Rattle.tc_job.specs.declared.job.Job.{Job}
 use Rattle.std.specs.List.{list_any}
 use Rattle.tc_report.specs.declared.rows.Row.{Row}
-use Rattle.std.specs.Prelude.{Result, Ok, Err, Bool, true, false}
+use Rattle.std.specs.Prelude.{Result, Ok, Err, Bool, true, false, if◌then◌else◌, ◌∷◌}
+use Rattle.patmos_model.specs.State.{Core}
 use Rattle.tcrest.specs.declared.top.TheConstants.{MOST_BYTES}
 use Rattle.tcrest.specs.declared.answers.Answer.{Answer}
 use Rattle.tcrest.specs.declared.command.Command.{Command}
@@ -25,16 +26,17 @@ use Rattle.argo_grid.specs.Report as grid
 use Rattle.argo_grid.specs.Report.{by_check, report_on}
 use Rattle.argo_grid.specs.Schedule.{Schedule}
 use Rattle.tcrest.specs.declared.command.JobCommand.{JobCommand}
-use Rattle.tcrest.specs.declared.command.JobCommand.TheVariants.{OfCode, Mean}
+use Rattle.tcrest.specs.declared.command.JobCommand.TheVariants.{OfCode, Mean, Pipe}
 use Rattle.tcrest.specs.declared.command.CodeCommand.{CodeCommand}
 use Rattle.tcrest.specs.declared.command.CodeCommand.TheVariants.{Run, Asm}
 use Rattle.tcrest.specs.declared.refusal.CoreRefusal.{CoreRefusal}
 use Rattle.tcrest.specs.Command.{command_of}
 use Rattle.tcrest.specs.Tasks.{Coded, coded_from}
-use Rattle.tcrest.specs.Machine.{cores_from, machine_of}
+use Rattle.tcrest.specs.Machine.{begun_on, cores_from, machine_of}
 use Rattle.tcrest.specs.Meanings.{meanings_from}
+use Rattle.tcrest.specs.Pipe.{is_lone, end_row, pipe_of}
 use Rattle.tcrest.specs.Rows.{rows_of, is_early, status_of}
-use Rattle.tcrest.specs.Answer.{read_fault, too_long, no_job, no_task, whole, answer_with, answer_or, meanings_or, answer_by, job_answer, of_grid, input_answer, bytes_answer, command_answer, answer, usage}
+use Rattle.tcrest.specs.Answer.{read_fault, too_long, no_job, no_task, whole, answer_with, answer_or, meanings_or, one_core, pipe_with, pipe_or, answer_by, job_answer, of_grid, input_answer, bytes_answer, command_answer, answer, usage}
 use Rattle.tcrest.specs.Outcome.{IsSent, Ends, HasWritten}
 
 -- the answer to a job has the status of a whole text or of a refused task
@@ -76,6 +78,26 @@ of_tasks a status = record {
   not_long = λ same. status.2 (ap (λ (b : Answer). b.status) same);
 }
 
+-- a job that has another number of cores than one, or no task, is not told to be too long
+one_core-is : IsOfInput one_core
+one_core-is = record {
+  below = omega arith;
+  not_usage = omega arith;
+  not_long = λ same. absurd (let letter : 79 ≡ 84 = ap (λ (b : Answer). slice_index b.text 5) same in omega (arith, letter));
+}
+
+pipe_of-is : (job : Job) (x : Core) → IsOfInput (pipe_of job x)
+pipe_of-is job x = of_tasks (pipe_of job x) (status_of-is (end_row x job.cycles ∷ []))
+
+pipe_with-is : (job : Job) (coded : List (Option Coded)) → IsOfInput (pipe_with job coded)
+pipe_with-is job [] = one_core-is
+pipe_with-is job (None ∷ cs) = one_core-is
+pipe_with-is job (Some c ∷ []) = pipe_of-is job (begun_on job 0 c)
+pipe_with-is job (Some c ∷ d ∷ cs) = one_core-is
+
+pub pipe_with_below : (job : Job) (coded : List (Option Coded)) → (pipe_with job coded).status < 5
+pipe_with_below job coded = (pipe_with-is job coded).below
+
 refused-is : (refusal : CoreRefusal) → IsOfInput (no_task refusal)
 refused-is refusal = of_tasks (no_task refusal) (omega arith, omega arith, omega arith)
 
@@ -90,6 +112,16 @@ answer_by-is trees Mean job = by (meanings_from trees job.cores job.tasks 0 job.
     by : (read : Result (List ℕ) CoreRefusal) → IsOfInput (meanings_or read)
     by (Ok text) = of_tasks (whole text) (omega arith, omega arith, omega arith)
     by (Err refusal) = refused-is refusal
+answer_by-is trees Pipe job = either (is_lone job) (by (coded_from trees job.cores job.tasks 0 job.cores))
+  where
+    by : (coded : Result (List (Option Coded)) CoreRefusal) → IsOfInput (pipe_or job coded)
+    by (Ok coded) = pipe_with-is job coded
+    by (Err refusal) = refused-is refusal
+
+    either : (lone : Bool) → IsOfInput (pipe_or job (coded_from trees job.cores job.tasks 0 job.cores))
+        → IsOfInput (if lone then pipe_or job (coded_from trees job.cores job.tasks 0 job.cores) else one_core)
+    either true told = told
+    either false told = one_core-is
 
 job_answer-is : (trees : Trees) (command : JobCommand) (read : Result Job Fault) → IsOfInput (job_answer trees command read)
 job_answer-is trees command (Err fault) = record {

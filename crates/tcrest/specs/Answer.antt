@@ -1,5 +1,5 @@
 -- What is written for the words of a command line and the bytes of the input: a status and a text.
-use Rattle.std.specs.Prelude.{ℕ, nat_lt, if◌then◌else◌, List, Option, ◌++◌, length, codes, Result, Ok, Err}
+use Rattle.std.specs.Prelude.{ℕ, nat_lt, if◌then◌else◌, List, [], ◌∷◌, Option, None, Some, ◌++◌, length, codes, Result, Ok, Err}
 use Rattle.c_tree.specs.Reading.{Trees}
 use Rattle.argo_grid.specs.declared.report.GridReport.{GridReport}
 use Rattle.argo_grid.specs.Report as grid
@@ -17,14 +17,15 @@ use Rattle.tcrest.specs.declared.command.Command.TheVariants.{OfInput, Usage}
 use Rattle.tcrest.specs.declared.command.InputCommand.{InputCommand}
 use Rattle.tcrest.specs.declared.command.InputCommand.TheVariants.{Job as OfJob, Grid}
 use Rattle.tcrest.specs.declared.command.JobCommand.{JobCommand}
-use Rattle.tcrest.specs.declared.command.JobCommand.TheVariants.{OfCode, Mean}
+use Rattle.tcrest.specs.declared.command.JobCommand.TheVariants.{OfCode, Mean, Pipe}
 use Rattle.tcrest.specs.declared.command.CodeCommand.{CodeCommand}
 use Rattle.tcrest.specs.declared.command.CodeCommand.TheVariants.{Run, Asm}
 use Rattle.tcrest.specs.declared.refusal.CoreRefusal.{CoreRefusal}
 use Rattle.tcrest.specs.Command.{command_of}
 use Rattle.tcrest.specs.Listing.{listings}
-use Rattle.tcrest.specs.Machine.{cores_from, machine_of}
+use Rattle.tcrest.specs.Machine.{begun_on, cores_from, machine_of}
 use Rattle.tcrest.specs.Meanings.{meanings_from}
+use Rattle.tcrest.specs.Pipe.{is_lone, pipe_of}
 use Rattle.tcrest.specs.Rows.{rows_of, status_of, report_rows}
 use Rattle.tcrest.specs.Tasks.{Coded, coded_from, refusal_text}
 
@@ -33,7 +34,7 @@ abbrev pub lone_line : ℕ → List ℕ → Answer
 lone_line status text = record { status = status; text = line text }
 
 abbrev pub usage : Answer
-usage = lone_line 1 (codes "usage: tcrest run|bound|asm|mean|gen N|bench N|grid")
+usage = lone_line 1 (codes "usage: tcrest run|bound|asm|mean|gen N|bench N|pipe|grid")
 
 -- the source failed
 abbrev pub read_fault : Answer
@@ -77,10 +78,26 @@ abbrev pub meanings_or : Result (List ℕ) CoreRefusal → Answer
 meanings_or (Ok text) = whole text
 meanings_or (Err refusal) = no_task refusal
 
+-- the job has another number of cores than one, or no task
+abbrev pub one_core : Answer
+one_core = lone_line 2 (codes "job: OneCore")
+
+-- the stages of the only core
+abbrev pub pipe_with : Job → List (Option Coded) → Answer
+pipe_with job [] = one_core
+pipe_with job (None ∷ cs) = one_core
+pipe_with job (Some c ∷ []) = pipe_of job (begun_on job 0 c)
+pipe_with job (Some c ∷ d ∷ cs) = one_core
+
+abbrev pub pipe_or : Job → Result (List (Option Coded)) CoreRefusal → Answer
+pipe_or job (Ok coded) = pipe_with job coded
+pipe_or job (Err refusal) = no_task refusal
+
 -- what is written for a job
 abbrev pub answer_by : Trees → JobCommand → Job → Answer
 answer_by trees (OfCode command) job = answer_or command job (coded_from trees job.cores job.tasks 0 job.cores)
 answer_by trees Mean job = meanings_or (meanings_from trees job.cores job.tasks 0 job.cores)
+answer_by trees Pipe job = if is_lone job then pipe_or job (coded_from trees job.cores job.tasks 0 job.cores) else one_core
 
 abbrev pub job_answer : Trees → JobCommand → Result Job Fault → Answer
 job_answer trees command (Err fault) = no_job fault

@@ -7,6 +7,7 @@ pub mod Meanings
 pub mod Machine
 pub mod Loading
 pub mod Rows
+pub mod Pipe
 pub mod Answer
 pub mod Outcome
 pub mod Worked

@@ -14,6 +14,7 @@ use crate::command::{CodeCommand, InputCommand, JobCommand};
 use crate::listing::listings;
 use crate::loading::loaded_of;
 use crate::meanings::meanings;
+use crate::pipe::pipe_answer;
 use crate::refusal::{Halt, refusal_answer};
 use crate::rows::{report_text_of, rows_of, status_of};
 use crate::tasks::{CodedTask, coded_tasks};
@@ -111,6 +112,7 @@ fn answer_by<R: Threads + Wait + Sync, G: Gate + Sync>(
     match command {
         JobCommand::OfCode(command) => code_answer(alloc, rt, command, job, gate),
         JobCommand::Mean => meanings_answer(alloc, job),
+        JobCommand::Pipe => pipe_answer(alloc, job),
     }
 }
 

@@ -30,6 +30,8 @@ pub enum JobCommand {
     OfCode(CodeCommand),
     /// What the programs of its C tasks mean.
     Mean,
+    /// What the five stages of its only core hold, step by step.
+    Pipe,
 }
 
 /// What a command asks of the code of a job's tasks.
@@ -53,6 +55,8 @@ pub fn command_of(words: &[Text]) -> Command
                 of_job(JobCommand::OfCode(CodeCommand::Asm))
             } else if word.as_str() == "mean" {
                 of_job(JobCommand::Mean)
+            } else if word.as_str() == "pipe" {
+                of_job(JobCommand::Pipe)
             } else if word.as_str() == "grid" {
                 Command::OfInput(InputCommand::Grid)
             } else {

@@ -10,7 +10,7 @@ ghost use Rattle.tc_report.specs.declared.rows.RowState.TheVariants.{Limit, Done
 ghost use Rattle.tcrest.specs.declared.command.Command.TheVariants.{OfInput, Usage};
 ghost use Rattle.tcrest.specs.declared.command.InputCommand.{InputCommand};
 ghost use Rattle.tcrest.specs.declared.command.InputCommand.TheVariants.{Job, Grid};
-ghost use Rattle.tcrest.specs.declared.command.JobCommand.TheVariants.{OfCode, Mean};
+ghost use Rattle.tcrest.specs.declared.command.JobCommand.TheVariants.{OfCode, Mean, Pipe};
 ghost use Rattle.tcrest.specs.declared.command.CodeCommand.TheVariants.{Run, Asm};
 ghost use Rattle.tcrest.specs.Answer.{answer, bytes_answer, too_long, usage};
 ghost use Rattle.tcrest.specs.Command.{command_of};
@@ -29,6 +29,7 @@ pub fn refusals_in_order()
     ensures run { (words : List (List ℕ)) → (command_of words ≡ OfInput (Job (OfCode Run))) ↔ (words ≡ codes "run" ∷ []) }
     ensures asm { (words : List (List ℕ)) → (command_of words ≡ OfInput (Job (OfCode Asm))) ↔ (words ≡ codes "asm" ∷ []) }
     ensures mean { (words : List (List ℕ)) → (command_of words ≡ OfInput (Job Mean)) ↔ (words ≡ codes "mean" ∷ []) }
+    ensures pipe { (words : List (List ℕ)) → (command_of words ≡ OfInput (Job Pipe)) ↔ (words ≡ codes "pipe" ∷ []) }
     ensures grid { (words : List (List ℕ)) → (command_of words ≡ OfInput Grid) ↔ (words ≡ codes "grid" ∷ []) }
 
     // A text is too long exactly where it has more than `MOST_BYTES` bytes.

@@ -13,6 +13,7 @@ mod laws;
 mod listing;
 mod loading;
 mod meanings;
+mod pipe;
 mod programs;
 mod refusal;
 mod rows;

@@ -45,8 +45,8 @@ fn row_of(alloc: Global, core: &Core) -> Result<Row, OutOfMemory>
     })
 }
 
-// what became of a task
-fn row_state(outcome: CoreState) -> RowState
+/// What became of a task.
+pub fn row_state(outcome: CoreState) -> RowState
     ensures { result ≡ specs.row_state outcome }
 {
     match outcome {
@@ -93,8 +93,9 @@ pub fn report_text_of(alloc: Global, job: &Job, rows: Vec<Row>) -> Result<Vec<u8
     report(alloc, &rows)
 }
 
+/// How many cycles the period of a job's slot table has.
 #[tactic(auto, using(crate::proofs::Periods::few_entries))]
-fn period_of(job: &Job) -> u32
+pub fn period_of(job: &Job) -> u32
     requires { KeepsRanges job.now }
     ensures { result ≡ period job.now.table job.now.slot }
 {

@@ -39,7 +39,21 @@ const PROGRAMS: &[u8] =
 const MEANINGS: &[u8] =
     b"core 0 mean 45\ncore 1 mean 10 overrun\ncore 1 out 0 -3\ncore 1 out 1 -1\ncore 1 out 2 0\ncore 1 out 3 5\ncore 1 out 4 -2147483648\ncore 1 out 5 2\n";
 
-const USAGE: &[u8] = b"usage: tcrest run|bound|asm|mean|gen N|bench N|grid\n";
+/// A task of five bundles, whose first five steps are told; one that goes on behind its function's end; and what their five
+/// stages hold.
+const STAGES_JOB: &[u8] =
+    b"version = 1\ncores = 1\nslot = 6\ncycles = 1000\ntrace = 5\n[[task]]\ncore = 0\nlang = \"asm\"\nsource = \".func main; addi r1 = r0, 7; ret; nop; nop; nop\"\n";
+
+const STOPPED_JOB: &[u8] =
+    b"version = 1\ncores = 1\nslot = 6\ncycles = 1000\ntrace = 9\n[[task]]\ncore = 0\nlang = \"asm\"\nsource = \".func main; nop\"\n";
+
+const STAGES: &[u8] =
+    b"platform cores 1 slot 6 period 6\nstep 12 F 3 D 2 E 1 M - W -\nstep 13 F 4 D 3 E 2 M 1 W -\nstep 14 F 5 D 4 E 3 M 2 W 1\nstep 15 F - D 5 E 4 M 3 W 2\nstep 16 F - D - E 5 M 4 W 3\ncore 0 done 7 cycles 17\n";
+
+const STOPPED_STAGES: &[u8] =
+    b"platform cores 1 slot 6 period 6\nstep 6 F - D - E 1 M - W -\ncore 0 trap 4 at 7\n";
+
+const USAGE: &[u8] = b"usage: tcrest run|bound|asm|mean|gen N|bench N|pipe|grid\n";
 
 fn words_of(alloc: Global, given: &[&str]) -> Result<Vec<Text>, Fail> {
     let mut words = Vec::new(alloc);
@@ -124,6 +138,20 @@ fn a_valid_program_has_its_code_later(rt: HostRuntime) -> Result<(), Fail> {
         let (status, sink) = answer_to(&rt, rt.alloc(), &[word], PROGRAMS)?;
         assert_eq!(rt; status, 4);
         assert_eq!(rt; sink.kept(), b"core 0: Later\n".as_slice());
+    }
+    Ok(())
+}
+
+#[test]
+fn stages_are_told_of_a_core_alone(rt: HostRuntime) -> Result<(), Fail> {
+    for (input, wanted, text) in [
+        (STAGES_JOB, 0, STAGES),
+        (STOPPED_JOB, 3, STOPPED_STAGES),
+        (SHARING, 2, b"job: OneCore\n"),
+    ] {
+        let (status, sink) = answer_to(&rt, rt.alloc(), &["pipe"], input)?;
+        assert_eq!(rt; status, wanted);
+        assert_eq!(rt; sink.kept(), text);
     }
     Ok(())
 }

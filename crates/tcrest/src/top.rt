@@ -89,7 +89,7 @@ fn perform<R: Threads + Wait + Sync, S: Source, K: Sink, G: Gate + Sync>(
         Command::Usage => finish(
             sink,
             1,
-            b"usage: tcrest run|bound|asm|mean|gen N|bench N|grid\n",
+            b"usage: tcrest run|bound|asm|mean|gen N|bench N|pipe|grid\n",
         ),
     }
 }

@@ -9,7 +9,11 @@ mod assembly;
 #[cfg(test)]
 mod c_texts;
 #[cfg(test)]
+mod conversions;
+#[cfg(test)]
 mod jobs;
+#[cfg(test)]
+mod kernels;
 #[cfg(test)]
 mod meanings;
 #[cfg(test)]

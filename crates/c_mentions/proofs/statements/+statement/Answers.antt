@@ -7,7 +7,6 @@ use Rattle.c_tree.proofs.Plains.{block_of, arms_of, otherwise_of}
 use Rattle.c_meaning.specs.Meaning.{with_variable, names_after}
 use Rattle.c_meaning.specs.Scope.{Variable}
 use Rattle.c_meaning.specs.Values.{named}
-use Rattle.c_meaning.proofs.StmtParts.{declare_named, set_named, set_element_named, call_named, send_named, if_named, loop_named, break_named, continue_named, return_named, inner_named}
 use Rattle.c_mentions.specs.Hidden.{Hides}
 use Rattle.c_mentions.specs.Noted.{with_uses}
 use Rattle.c_mentions.specs.Uses.{sets, expr_uses, args_uses, right_uses, head_uses, stmt_uses, block_uses, arms_uses, otherwise_uses}
@@ -16,8 +15,8 @@ use Rattle.c_mentions.proofs.Uses.{declare_used, set_used, set_element_used, cal
 use Rattle.c_mentions.proofs.Walks.{uses_append, notes_none, notes_one, notes_two, notes_three, left_more, names_through, through_one}
 use Rattle.c_mentions.proofs.statements.+statement.Goals as goal
 
-pub note_statement-returns-in-Declare-clause-noted : goal.note_statement-returns-in-Declare-clause-noted
-note_statement-returns-in-Declare-clause-noted t c =
+pub note_statement-returns-in-Declare : goal.note_statement-returns-in-Declare
+note_statement-returns-in-Declare t c =
     let hidden = c.args.hidden in
     let kind = c.in-Declare.kind in
     let text = c.in-Declare.name in
@@ -31,30 +30,15 @@ note_statement-returns-in-Declare-clause-noted t c =
           ∙ ap (with_uses c.args.m.now) (sym (declare_used names c.args.s.now kind text c.in-Declare.right c.in-Declare.is));
     }
 
-pub note_statement-returns-in-Declare-clause-hides : goal.note_statement-returns-in-Declare-clause-hides
-note_statement-returns-in-Declare-clause-hides t c = λ names hides.
-    let hidden = c.args.hidden in
-    let kind = c.in-Declare.kind in
-    let text = c.in-Declare.name in
-    let v : Variable = record { name = text; unsigned = is_unsigned kind } in
-    subst (Hides c.hidden_behind-behind.result) (sym (declare_named names c.args.s.now kind text c.in-Declare.right c.in-Declare.is))
-    (hides_variable hidden c.hidden_behind-behind.result names v
-    (c.hidden_behind-behind.ensures.comm ∙ ap (λ n. hidden.comm || bytes_eq n (codes "comm")) c.as_str.ensures)
-    (c.hidden_behind-behind.ensures.shared ∙ ap (λ n. hidden.shared || bytes_eq n (codes "shared")) c.as_str.ensures) hides)
-
-pub note_statement-returns-in-Set-clause-noted : goal.note_statement-returns-in-Set-clause-noted
-note_statement-returns-in-Set-clause-noted t c =
+pub note_statement-returns-in-Set : goal.note_statement-returns-in-Set
+note_statement-returns-in-Set t c =
     notes_two c.args.hidden c.args.m.now c.note_set.new.m c.note_right.new.m _ _ (λ names. stmt_uses names (plain_stmt c.args.s.now))
     (λ names. set_used names c.args.s.now c.in-Set.name c.in-Set.right c.in-Set.is
     ∙ ap (λ text. sets (named names text) ∷ right_uses names (plain_right c.in-Set.right)) (sym c.as_str-in-Set.ensures))
     c.note_set.ensures c.note_right.ensures
 
-pub note_statement-returns-in-Set-clause-hides : goal.note_statement-returns-in-Set-clause-hides
-note_statement-returns-in-Set-clause-hides t c = λ names hides.
-    subst (Hides c.args.hidden) (sym (set_named names c.args.s.now c.in-Set.name c.in-Set.right c.in-Set.is)) hides
-
-pub note_statement-returns-in-SetElement-clause-noted : goal.note_statement-returns-in-SetElement-clause-noted
-note_statement-returns-in-SetElement-clause-noted t c =
+pub note_statement-returns-in-SetElement : goal.note_statement-returns-in-SetElement
+note_statement-returns-in-SetElement t c =
     notes_three c.args.hidden c.args.m.now c.note_set-in-SetElement.new.m c.note_expression.new.m c.note_right-in-SetElement.new.m _ _ _
     (λ names. stmt_uses names (plain_stmt c.args.s.now))
     (λ names. set_element_used names c.args.s.now c.in-SetElement.name c.in-SetElement.index c.in-SetElement.right c.in-SetElement.is
@@ -62,99 +46,58 @@ note_statement-returns-in-SetElement-clause-noted t c =
     (sym c.as_str-in-SetElement.ensures))
     c.note_set-in-SetElement.ensures c.note_expression.ensures c.note_right-in-SetElement.ensures
 
-pub note_statement-returns-in-SetElement-clause-hides : goal.note_statement-returns-in-SetElement-clause-hides
-note_statement-returns-in-SetElement-clause-hides t c = λ names hides.
-    subst (Hides c.args.hidden) (sym (set_element_named names c.args.s.now c.in-SetElement.name c.in-SetElement.index c.in-SetElement.right c.in-SetElement.is)) hides
-
-pub note_statement-returns-in-Call-clause-noted : goal.note_statement-returns-in-Call-clause-noted
-note_statement-returns-in-Call-clause-noted t c =
+pub note_statement-returns-in-Call : goal.note_statement-returns-in-Call
+note_statement-returns-in-Call t c =
     notes_one c.args.hidden c.args.m.now c.note_arguments.new.m _ (λ names. stmt_uses names (plain_stmt c.args.s.now))
     (λ names. call_used names c.args.s.now c.in-Call.name c.in-Call.args c.in-Call.is ∙ ap (λ es. args_uses names (map plain_expr es)) (sym c.as_slice.ensures))
     c.note_arguments.ensures
 
-pub note_statement-returns-in-Call-clause-hides : goal.note_statement-returns-in-Call-clause-hides
-note_statement-returns-in-Call-clause-hides t c = λ names hides.
-    subst (Hides c.args.hidden) (sym (call_named names c.args.s.now c.in-Call.name c.in-Call.args c.in-Call.is)) hides
-
-pub note_statement-returns-in-Send-clause-noted : goal.note_statement-returns-in-Send-clause-noted
-note_statement-returns-in-Send-clause-noted t c =
+pub note_statement-returns-in-Send : goal.note_statement-returns-in-Send
+note_statement-returns-in-Send t c =
     notes_one c.args.hidden c.args.m.now c.note_sending.new.m _ (λ names. stmt_uses names (plain_stmt c.args.s.now))
     (λ names. send_used names c.args.s.now c.in-Send.core c.in-Send.core_unsigned c.in-Send.source c.in-Send.target c.in-Send.count c.in-Send.is)
     c.note_sending.ensures
 
-pub note_statement-returns-in-Send-clause-hides : goal.note_statement-returns-in-Send-clause-hides
-note_statement-returns-in-Send-clause-hides t c = λ names hides.
-    subst (Hides c.args.hidden)
-    (sym (send_named names c.args.s.now c.in-Send.core c.in-Send.core_unsigned c.in-Send.source c.in-Send.target c.in-Send.count c.in-Send.is)) hides
-
-pub note_statement-returns-in-None-clause-noted : goal.note_statement-returns-in-None-clause-noted
-note_statement-returns-in-None-clause-noted t c =
+pub note_statement-returns-in-None : goal.note_statement-returns-in-None
+note_statement-returns-in-None t c =
     notes_two c.args.hidden c.args.m.now c.note_arms.new.m c.note_arms.new.m _ (λ names. []) (λ names. stmt_uses names (plain_stmt c.args.s.now))
     (λ names. if_used names c.args.s.now c.in-If.arms c.in-If.otherwise c.in-If.is
     ∙ ap₂ (λ xs o. arms_uses names (arms_of xs) ++ otherwise_uses names (otherwise_of o)) (sym c.as_slice-in-If.ensures) c.in-None.is)
     c.note_arms.ensures (notes_none c.args.hidden c.note_arms.new.m (λ names. []) (λ names. refl))
 
-pub note_statement-returns-in-None-clause-hides : goal.note_statement-returns-in-None-clause-hides
-note_statement-returns-in-None-clause-hides t c = λ names hides.
-    subst (Hides c.args.hidden) (sym (if_named names c.args.s.now c.in-If.arms c.in-If.otherwise c.in-If.is)) hides
-
-pub note_statement-returns-in-Some-clause-noted : goal.note_statement-returns-in-Some-clause-noted
-note_statement-returns-in-Some-clause-noted t c =
+pub note_statement-returns-in-Some : goal.note_statement-returns-in-Some
+note_statement-returns-in-Some t c =
     notes_two c.args.hidden c.args.m.now c.note_arms.new.m c.note_block.new.m _ _ (λ names. stmt_uses names (plain_stmt c.args.s.now))
     (λ names. if_used names c.args.s.now c.in-If.arms c.in-If.otherwise c.in-If.is
     ∙ ap₂ (λ xs o. arms_uses names (arms_of xs) ++ otherwise_uses names (otherwise_of o)) (sym c.as_slice-in-If.ensures) c.in-Some.is
     ∙ ap (λ ss. arms_uses names (arms_of c.as_slice-in-If.result.now) ++ block_uses names (block_of ss)) (sym c.as_slice-in-Some.ensures))
     c.note_arms.ensures c.note_block.ensures
 
-pub note_statement-returns-in-Some-clause-hides : goal.note_statement-returns-in-Some-clause-hides
-note_statement-returns-in-Some-clause-hides t c = λ names hides.
-    subst (Hides c.args.hidden) (sym (if_named names c.args.s.now c.in-If.arms c.in-If.otherwise c.in-If.is)) hides
-
-pub note_statement-returns-in-Loop-clause-noted : goal.note_statement-returns-in-Loop-clause-noted
-note_statement-returns-in-Loop-clause-noted t c =
+pub note_statement-returns-in-Loop : goal.note_statement-returns-in-Loop
+note_statement-returns-in-Loop t c =
     notes_two c.args.hidden c.args.m.now c.note_head.new.m c.note_block-in-Loop.new.m _ _ (λ names. stmt_uses names (plain_stmt c.args.s.now))
     (λ names. loop_used names c.args.s.now c.in-Loop.bound c.in-Loop.head c.in-Loop.body c.in-Loop.is
     ∙ ap (λ ss. head_uses names (plain_head c.in-Loop.head) ++ block_uses names (block_of ss)) (sym c.as_slice-in-Loop.ensures))
     c.note_head.ensures c.note_block-in-Loop.ensures
 
-pub note_statement-returns-in-Loop-clause-hides : goal.note_statement-returns-in-Loop-clause-hides
-note_statement-returns-in-Loop-clause-hides t c = λ names hides.
-    subst (Hides c.args.hidden) (sym (loop_named names c.args.s.now c.in-Loop.bound c.in-Loop.head c.in-Loop.body c.in-Loop.is)) hides
-
-pub note_statement-returns-in-Break-clause-noted : goal.note_statement-returns-in-Break-clause-noted
-note_statement-returns-in-Break-clause-noted t c =
+pub note_statement-returns-in-Break : goal.note_statement-returns-in-Break
+note_statement-returns-in-Break t c =
     notes_none c.args.hidden c.args.m.now (λ names. stmt_uses names (plain_stmt c.args.s.now)) (λ names. break_used names c.args.s.now c.in-Break.is)
 
-pub note_statement-returns-in-Break-clause-hides : goal.note_statement-returns-in-Break-clause-hides
-note_statement-returns-in-Break-clause-hides t c = λ names hides.
-    subst (Hides c.args.hidden) (sym (break_named names c.args.s.now c.in-Break.is)) hides
-
-pub note_statement-returns-in-Continue-clause-noted : goal.note_statement-returns-in-Continue-clause-noted
-note_statement-returns-in-Continue-clause-noted t c =
+pub note_statement-returns-in-Continue : goal.note_statement-returns-in-Continue
+note_statement-returns-in-Continue t c =
     notes_none c.args.hidden c.args.m.now (λ names. stmt_uses names (plain_stmt c.args.s.now)) (λ names. continue_used names c.args.s.now c.in-Continue.is)
 
-pub note_statement-returns-in-Continue-clause-hides : goal.note_statement-returns-in-Continue-clause-hides
-note_statement-returns-in-Continue-clause-hides t c = λ names hides.
-    subst (Hides c.args.hidden) (sym (continue_named names c.args.s.now c.in-Continue.is)) hides
-
-pub note_statement-returns-in-Return-clause-noted : goal.note_statement-returns-in-Return-clause-noted
-note_statement-returns-in-Return-clause-noted t c =
+pub note_statement-returns-in-Return : goal.note_statement-returns-in-Return
+note_statement-returns-in-Return t c =
     notes_one c.args.hidden c.args.m.now c.note_returned.new.m _ (λ names. stmt_uses names (plain_stmt c.args.s.now))
     (λ names. return_used names c.args.s.now c.in-Return.value c.in-Return.is) c.note_returned.ensures
 
-pub note_statement-returns-in-Return-clause-hides : goal.note_statement-returns-in-Return-clause-hides
-note_statement-returns-in-Return-clause-hides t c = λ names hides.
-    subst (Hides c.args.hidden) (sym (return_named names c.args.s.now c.in-Return.value c.in-Return.is)) hides
-
-pub note_statement-returns-in-Inner-clause-noted : goal.note_statement-returns-in-Inner-clause-noted
-note_statement-returns-in-Inner-clause-noted t c =
+pub note_statement-returns-in-Inner : goal.note_statement-returns-in-Inner
+note_statement-returns-in-Inner t c =
     notes_one c.args.hidden c.args.m.now c.note_block-in-Inner.new.m _ (λ names. stmt_uses names (plain_stmt c.args.s.now))
     (λ names. inner_used names c.args.s.now c.in-Inner.body c.in-Inner.is ∙ ap (λ ss. block_uses names (block_of ss)) (sym c.as_slice-in-Inner.ensures))
     c.note_block-in-Inner.ensures
-
-pub note_statement-returns-in-Inner-clause-hides : goal.note_statement-returns-in-Inner-clause-hides
-note_statement-returns-in-Inner-clause-hides t c = λ names hides.
-    subst (Hides c.args.hidden) (sym (inner_named names c.args.s.now c.in-Inner.body c.in-Inner.is)) hides
 
 pub note_block-loop-s-preserved : goal.note_block-loop-s-preserved
 note_block-loop-s-preserved t c =
@@ -165,14 +108,14 @@ note_block-loop-s-preserved t c =
     let taken = take_more body i s (omega arith) ∙ ap (λ q. take i body ++ q ∷ []) (sym c.s-item.is) in
     record {
       hides = λ names hides.
-          subst (Hides c.note_statement-behind.result) (sym (ap (names_through names) taken ∙ through_one names (take i body) s))
-          (c.note_statement-behind.ensures.hides (names_through names (take i body)) (c.loop-s.invariant.hides names hides));
+          subst (Hides c.hidden_after-behind.result) (sym (ap (names_through names) taken ∙ through_one names (take i body) s))
+          (c.hidden_after-behind.ensures (names_through names (take i body)) (c.loop-s.invariant.hides names hides));
       left = record {
         left = λ names hides.
             let now = names_through names (take i body) in
             let behind = names_after now (plain_stmt s) in
-            ap (λ n. with_uses c.note_statement-behind.new.m (block_uses n rest)) (ap (names_through names) taken ∙ through_one names (take i body) s)
-            ∙ ap (λ m. with_uses m (block_uses behind rest)) (c.note_statement-behind.ensures.noted.noted now (c.loop-s.invariant.hides names hides))
+            ap (λ n. with_uses c.note_statement.new.m (block_uses n rest)) (ap (names_through names) taken ∙ through_one names (take i body) s)
+            ∙ ap (λ m. with_uses m (block_uses behind rest)) (c.note_statement.ensures.noted now (c.loop-s.invariant.hides names hides))
             ∙ sym (uses_append c.loop-s.m (stmt_uses now (plain_stmt s)) (block_uses behind rest))
             ∙ ap (with_uses c.loop-s.m) (sym (block_next now body i s (omega arith) c.s-item.is)) ∙ c.loop-s.invariant.left.left names hides;
       };

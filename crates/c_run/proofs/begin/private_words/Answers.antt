@@ -5,7 +5,7 @@ use Rattle.c_tree.specs.Layout.{initial_of, input_of}
 use Rattle.c_tree.specs.Plain.{plain, plain_item}
 use Rattle.c_tree.specs.Valid.{words_in}
 use Rattle.c_run.proofs.Beginnings.{begun_words}
-use Rattle.c_run.proofs.Fits.{data_fits, initial_fits, input_within}
+use Rattle.c_meaning.proofs.Fits.{data_fits, initial_fits, input_within}
 use Rattle.c_run.proofs.begin.private_words.Goals as goal
 
 pub input_place-place-requires : goal.input_place-place-requires

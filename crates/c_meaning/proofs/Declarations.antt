@@ -1,0 +1,18 @@
+-- One declaration of a program after another.
+use Rattle.std.proofs.Common.{◌≡◌, ℕ, ◌+◌, ◌<◌, false, List, ◌++◌, length, map, drop, get_or, ap}
+use Rattle.std.specs.Prelude.{if◌then◌else◌}
+use Rattle.c_tree.specs.declared.units.Item.{Item}
+use Rattle.c_tree.specs.Layout.{item_initial, initial_from, takes_input, input_from}
+use Rattle.c_tree.specs.Plain.{plain_item}
+use Rattle.c_tree.specs.Valid.{item_words}
+use Rattle.c_meaning.proofs.Parts.{drop_item}
+
+pub initial_next : (items : List Item) (i : ℕ) (x : Item) → i < length items → x ≡ get_or items i x
+    → initial_from (map plain_item (drop i items)) ≡ item_initial (plain_item x) ++ initial_from (map plain_item (drop (i + 1) items))
+initial_next items i x below is = ap (λ xs. initial_from (map plain_item xs)) (drop_item items i x below is)
+
+pub input_next : (private : ℕ) (items : List Item) (i : ℕ) (x : Item) → i < length items → x ≡ get_or items i x
+    → input_from private (map plain_item (drop i items))
+    ≡ (if takes_input (plain_item x) then record { at = private; room = item_words false (plain_item x) }
+    else input_from (private + item_words false (plain_item x)) (map plain_item (drop (i + 1) items)))
+input_next private items i x below is = ap (λ xs. input_from private (map plain_item xs)) (drop_item items i x below is)

@@ -1,8 +1,0 @@
-use Rattle.std.proofs.Common.{◌≡◌, ◌++◌, drop, replicate}
-use Rattle.std.specs.Prelude.{map}
-use Rattle.c_tree.specs.Layout.{initial_from, initial_of}
-use Rattle.c_tree.specs.Plain.{plain_item}
-use Rattle.c_run.proofs.begin.first_words.Given as goal
-
-abbrev pub invariant-loop-item : goal.invariant-loop-item
-invariant-loop-item l = l.words.items ++ initial_from (map plain_item (drop l.item-index l.items)) ≡ replicate 4 0 ++ initial_of (map plain_item l.items)

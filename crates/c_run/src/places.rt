@@ -1,0 +1,76 @@
+//! Places: where a word is set.
+ghost use Rattle.std.specs.Prelude.{◌≡◌, ℕ, List, length, option_map};
+ghost use Rattle.c_world.specs.Shown.{rooms};
+ghost use Rattle.c_world.specs.World.{Sending, with_element};
+ghost use Rattle.c_meaning.specs.Resolved.{with_target, with_result};
+ghost use Rattle.c_meaning.specs.Rooms.{all_rooms};
+ghost use Rattle.c_meaning.specs.Shown.{plain_target};
+ghost use Rattle.c_meaning.specs.Values.{State};
+ghost use Rattle.c_run.specs.Places.{with_place};
+ghost use Rattle.c_run.specs.Ran.{state_of};
+
+use c_meaning::{Array, Level, Target, Word};
+use c_world::Memory;
+use sp_tree::value;
+
+/// Where a word is set: an element's index is worked out, and was tested against the array's length.
+#[derive(Clone, Copy, Debug)]
+pub enum Place {
+    Variable { level: Level },
+    Scalar { word: Word },
+    Nowhere,
+}
+
+// an element of an array; none at or past its end
+fn element_place(array: &Array, index: u32) -> Place
+    ensures { (given : ℕ) (s : State) → with_place result given s
+        ≡ record s { world = with_element array.now.region array.now.first array.now.length index given s.world } }
+{
+    if index >= array.length {
+        return Place::Nowhere;
+    }
+    let word = Word {
+        region: array.region,
+        word: array.first + index,
+    };
+    Place::Scalar { word }
+}
+
+/// The place of what is set.
+pub fn place_of(target: &Target, frame: &[u32], memory: &Memory) -> Place
+    ensures { (sends : List Sending) (given : ℕ) → with_place result given (state_of frame.now memory.now sends)
+        ≡ with_target (plain_target target.now) given (state_of frame.now memory.now sends) }
+{
+    match target {
+        Target::Variable { level } => Place::Variable { level: *level },
+        Target::Scalar { word } => Place::Scalar { word: *word },
+        Target::Element { array, index } => element_place(array, value(index, frame, memory)),
+    }
+}
+
+/// The place of what is set to what a function gave, if anything is.
+pub fn result_place(target: &Option<Target>, frame: &[u32], memory: &Memory) -> Place
+    ensures { (sends : List Sending) (given : ℕ) → with_place result given (state_of frame.now memory.now sends)
+        ≡ with_result (option_map plain_target target.now) given (state_of frame.now memory.now sends) }
+{
+    match target {
+        None => Place::Nowhere,
+        Some(target) => place_of(target, frame, memory),
+    }
+}
+
+/// Sets a word at a place.
+#[tactic(auto, using(c_world::proofs::Words::word_set))]
+pub fn put(place: Place, given: u32, frame: &mut [u32], memory: &mut Memory)
+    requires frame { length frame.old ≡ 96 }
+    requires rooms { rooms memory.old ≡ all_rooms }
+    ensures done { (sends : List Sending) → with_place place given (state_of frame.old memory.old sends)
+        ≡ state_of frame.new memory.new sends }
+    ensures rooms { rooms memory.new ≡ all_rooms }
+{
+    match place {
+        Place::Variable { level } => frame[level.number as usize] = given,
+        Place::Scalar { word } => memory.set_word(word.region, word.word as usize, given),
+        Place::Nowhere => {}
+    }
+}

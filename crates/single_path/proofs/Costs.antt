@@ -1,0 +1,345 @@
+-- The code of what is made of a function takes at most as many words as the function weighs.
+use Rattle.std.proofs.Common.{◌≡◌, ℕ, zero, suc, ◌+◌, ◌*◌, ◌≤◌, ◌==◌, Bool, true, false, if◌then◌else◌, List, [], ◌∷◌, length, sum_by, Option, None, Some, arith}
+use Rattle.std.specs.Prelude.{◌&&◌}
+use Rattle.std.specs.List.{AllByRecursion as Each}
+use Rattle.std.proofs.lemmas.List.Sums.{sum_by-cons}
+use Rattle.c_tree.specs.declared.expressions.BinaryOp.{BinaryOp}
+use Rattle.c_tree.specs.declared.expressions.UnaryOp.{UnaryOp}
+use Rattle.c_tree.specs.declared.expressions.UnaryOp.TheVariants as unary
+use Rattle.c_tree.specs.Plain.{PlainExpr, PlainSteps, PlainRight, PlainHead, PlainStmt, PlainBlock, PlainArms, PlainOtherwise}
+use Rattle.c_tree.specs.Plain as plain
+use Rattle.c_tree.specs.Weight.{operator_weight, expr_weight, steps_weight, right_weight, head_weight, stmt_weight, block_weight, arms_weight, otherwise_weight, body_weight, function_weight}
+use Rattle.sp_tree.specs.declared.operators.SpBinary.{SpBinary}
+use Rattle.sp_tree.specs.Cost.{binary_cost, is_held, expr_cost, args_cost, place_cost, stmts_cost, cost}
+use Rattle.sp_tree.specs.Plain.{PlainSp, constant, frame_word, between_two}
+use Rattle.sp_tree.specs.Statements.{PlainStmts, no_stmt, stmt, joined, masks}
+use Rattle.sp_tree.specs.Statements as tree
+use Rattle.sp_tree.proofs.Joins.{joined_cost}
+use Rattle.c_meaning.specs.Actions.{PlainTarget, to_level, to_cell, to_array, PlainAssignment, PlainAction, sets, calls, transfers, chooses, turns, breaks, continues, returns, PlainActions, no_action, action, PlainBranches, no_branch, branch, one}
+use Rattle.c_meaning.specs.Actions as actions
+use Rattle.c_meaning.specs.Meaning.{with_variable, names_after, most_turns}
+use Rattle.c_meaning.specs.Operators.{works_unsigned, gives_unsigned}
+use Rattle.c_meaning.specs.Resolve.{operator_of, is_exchanged, resolved_between, resolved_sign, resolved_signs, is_fresh, resolved_variable, resolved_element, resolved, resolved_steps, resolved_args, variable_target, element_target, assignment_to, maybe_sets, number_of, numbered_call, resolved_right, resolved_assignment, resolved_condition, resolved_begin, resolved_next, resolved_stmt, resolved_block, resolved_arms, resolved_otherwise, resolved_body}
+use Rattle.c_meaning.specs.Scope.{Stands, level, outside}
+use Rattle.c_meaning.specs.Scope as scope
+use Rattle.c_meaning.specs.Values.{Names, named, expr_unsigned}
+use Rattle.single_path.specs.declared.places.Place.{Place}
+use Rattle.single_path.specs.Places.{in_arm, in_loop, outermost, both, less_by, bit_of, where_not_taken, where_on, not_zero, returned_function, returned_loop}
+use Rattle.single_path.specs.Made.{is_zero, made_place, made_step, made_result, made_return, ends, is_no_action, is_no_branch, made_arm, made_otherwise, made_turn, made_loop, made_action, made, made_branches}
+use Rattle.single_path.specs.Single.{variables, made_function}
+use Rattle.single_path.proofs.Armed.{SomeArm, Armed, BlockArmed, ArmsArmed, OtherwiseArmed}
+
+-- ---- expressions and arguments
+
+-- an operand that the instruction holds costs nothing
+two_cost : (op : SpBinary) (a b : PlainSp) → expr_cost (between_two op a b) ≤ binary_cost op + expr_cost a + expr_cost b
+two_cost op a b = by (is_held op b)
+  where
+    by : (held : Bool) → binary_cost op + expr_cost a + (if held then 0 else expr_cost b) ≤ binary_cost op + expr_cost a + expr_cost b
+    by true = omega arith
+    by false = omega arith
+
+operator_cost : (op : BinaryOp) (u : Bool) → binary_cost (operator_of op u) ≤ operator_weight op
+operator_cost op u = grind arith
+
+between_cost : (op : BinaryOp) (u : Bool) (a b : PlainSp) → expr_cost (resolved_between op u a b) ≤ operator_weight op + expr_cost a + expr_cost b
+between_cost op u a b = by (is_exchanged op)
+  where
+    by : (exchanged : Bool) → expr_cost (if exchanged then between_two (operator_of op u) b a else between_two (operator_of op u) a b)
+        ≤ operator_weight op + expr_cost a + expr_cost b
+    by true = omega (arith, two_cost (operator_of op u) b a, operator_cost op u)
+    by false = omega (arith, two_cost (operator_of op u) a b, operator_cost op u)
+
+sign_cost : (op : UnaryOp) (e : PlainSp) → expr_cost (resolved_sign op e) ≤ 6 + expr_cost e
+sign_cost unary.Minus e = omega arith
+sign_cost unary.Complement e = omega arith
+sign_cost unary.Not e = omega arith
+sign_cost unary.Plus e = omega arith
+
+signs_cost : (ops : List UnaryOp) (e : PlainSp) → expr_cost (resolved_signs ops e) ≤ 6 * length ops + expr_cost e
+signs_cost [] e = omega arith
+signs_cost (op ∷ ops) e = let rest = signs_cost ops e in omega (arith, sign_cost op (resolved_signs ops e), rest)
+
+variable_cost : (fresh : Option ℕ) (stands : Stands) → expr_cost (resolved_variable fresh stands) ≤ 4
+variable_cost fresh (level at unsigned) = by (is_fresh fresh at)
+  where
+    by : (known : Bool) → expr_cost (if known then constant 0 else frame_word at) ≤ 4
+    by true = omega arith
+    by false = omega arith
+variable_cost fresh (outside slot) = omega arith
+variable_cost fresh scope.nothing = omega arith
+
+element_cost : (stands : Stands) (index : PlainSp) → expr_cost (resolved_element stands index) ≤ 16 + expr_cost index
+element_cost (level at unsigned) index = omega arith
+element_cost (outside slot) index = omega arith
+element_cost scope.nothing index = omega arith
+
+mutual
+  unfolding expr_weight steps_weight
+
+  resolved_cost : (names : Names) (fresh : Option ℕ) (e : PlainExpr) → expr_cost (resolved names fresh e) ≤ expr_weight e
+  resolved_cost names fresh (plain.chain at first rest) =
+      let begun = resolved_cost names fresh first in
+      let all = steps_cost names fresh (expr_unsigned names first) (resolved names fresh first) rest in
+      omega (arith, begun, all)
+  resolved_cost names fresh (plain.unary ops of) =
+      let inner = resolved_cost names fresh of in omega (arith, inner, signs_cost ops (resolved names fresh of))
+  resolved_cost names fresh (plain.number n unsigned) = omega arith
+  resolved_cost names fresh (plain.name text) = variable_cost fresh (named names text)
+  resolved_cost names fresh (plain.element text index) =
+      let inner = resolved_cost names fresh index in omega (arith, inner, element_cost (named names text) (resolved names fresh index))
+  resolved_cost names fresh (plain.paren of) = resolved_cost names fresh of
+
+  steps_cost : (names : Names) (fresh : Option ℕ) (u : Bool) (a : PlainSp) (steps : PlainSteps)
+      → expr_cost (resolved_steps names fresh u a steps) ≤ expr_cost a + steps_weight steps
+  steps_cost names fresh u a plain.no_step = omega arith
+  steps_cost names fresh u a (plain.step op operand rest) =
+      let v = works_unsigned op u (expr_unsigned names operand) in
+      let b = resolved names fresh operand in
+      let inner = resolved_cost names fresh operand in
+      let more = steps_cost names fresh (gives_unsigned op u (expr_unsigned names operand)) (resolved_between op v a b) rest in
+      omega (arith, inner, more, between_cost op v a b)
+
+resolved_args_cost : (names : Names) (fresh : Option ℕ) (args : List PlainExpr)
+    → args_cost (resolved_args names fresh args) ≤ sum_by (λ e. 6 + expr_weight e) args
+resolved_args_cost names fresh [] = omega arith
+resolved_args_cost names fresh (e ∷ args) =
+    let rest = resolved_args_cost names fresh args in
+    omega (arith, rest, resolved_cost names fresh e, sum_by-cons (λ x. 6 + expr_weight x) e args)
+
+-- ---- what is set, and calls
+
+abbrev given_cost : Option PlainTarget → ℕ
+given_cost None = 0
+given_cost (Some target) = place_cost (made_place target)
+
+variable_target_cost : (stands : Stands) → given_cost (variable_target stands) ≤ 7
+variable_target_cost (level at unsigned) = omega arith
+variable_target_cost (outside slot) = omega arith
+variable_target_cost scope.nothing = omega arith
+
+element_target_cost : (stands : Stands) (index : PlainSp) → given_cost (element_target stands index) ≤ 16 + expr_cost index
+element_target_cost (level at unsigned) index = omega arith
+element_target_cost (outside slot) index = omega arith
+element_target_cost scope.nothing index = omega arith
+
+sets_cost : (p : Place) (target : Option PlainTarget) (e : PlainSp)
+    → stmts_cost (made p (maybe_sets (assignment_to target e))) ≤ given_cost target + expr_cost e
+sets_cost p None e = omega arith
+sets_cost p (Some target) e = omega arith
+
+-- what a function gives to a place outside of the frame goes by a word of it
+call_cost : (p : Place) (k : Option ℕ) (args : List PlainSp) (target : Option PlainTarget)
+    → stmts_cost (made p (numbered_call k args target)) ≤ 18 + args_cost args + given_cost target
+call_cost p None args target = omega (arith, sets_cost p target (constant 0))
+call_cost p (Some k) args None = omega arith
+call_cost p (Some k) args (Some (to_level at)) = omega arith
+call_cost p (Some k) args (Some (to_cell cell)) = omega arith
+call_cost p (Some k) args (Some (to_array array index)) = omega arith
+
+right_cost : (fs : List (List ℕ)) (names : Names) (fresh : Option ℕ) (target : Option PlainTarget) (r : PlainRight) (p : Place)
+    → stmts_cost (made p (resolved_right fs names fresh target r)) ≤ given_cost target + right_weight r
+right_cost fs names fresh target (plain.value e) p = omega (arith, sets_cost p target (resolved names fresh e), resolved_cost names fresh e)
+right_cost fs names fresh target (plain.call text args) p =
+    omega (arith, call_cost p (number_of text fs) (resolved_args names fresh args) target, resolved_args_cost names fresh args)
+
+-- ---- one action after another
+
+-- what stands behind an action that always goes elsewhere is left out
+ended_cost : (ended : Bool) (ts : PlainStmts) → stmts_cost (if ended then no_stmt else ts) ≤ stmts_cost ts
+ended_cost true ts = omega arith
+ended_cost false ts = omega arith
+
+made_joined_cost : (p : Place) (xs ys : PlainActions) → stmts_cost (made p (actions.joined xs ys)) ≤ stmts_cost (made p xs) + stmts_cost (made p ys)
+made_joined_cost p no_action ys = omega arith
+made_joined_cost p (action a rest) ys = by (ends a) (joined_cost (made_action p a)) (made_joined_cost p rest ys)
+  where
+    by : (ended : Bool) → ((ts : PlainStmts) → stmts_cost (joined (made_action p a) ts) ≡ stmts_cost (made_action p a) + stmts_cost ts)
+        → stmts_cost (made p (actions.joined rest ys)) ≤ stmts_cost (made p rest) + stmts_cost (made p ys)
+        → stmts_cost (joined (made_action p a) (if ended then no_stmt else made p (actions.joined rest ys)))
+        ≤ stmts_cost (joined (made_action p a) (if ended then no_stmt else made p rest)) + stmts_cost (made p ys)
+    by true each more = omega (arith, each no_stmt)
+    by false each more = omega (arith, more, each (made p (actions.joined rest ys)), each (made p rest))
+
+one_cost : (p : Place) (a : PlainAction) → stmts_cost (made p (one a)) ≤ stmts_cost (made_action p a)
+one_cost p a = omega (arith, joined_cost (made_action p a) (if ends a then no_stmt else no_stmt), ended_cost (ends a) no_stmt)
+
+-- ---- ways on, and loops
+
+result_cost : (p : Place) (e : PlainSp) → stmts_cost (made_result p e) ≤ 4 + expr_cost e
+result_cost p e = omega (arith, ended_cost (is_zero e) (tree.one (tree.writes p.own (tree.to_slot p.result) e)))
+
+-- what is returned, and the masks of the function and of the loop
+return_cost : (p : Place) (e : PlainSp) → stmts_cost (made_return p e) ≤ 12 + stmts_cost (made_result p e)
+return_cost p e =
+    let outer = tree.one (masks p.turn (returned_loop p)) in
+    let ends_all = stmt (masks p.function (returned_function p)) (if p.function == p.turn then no_stmt else outer) in
+    omega (arith, joined_cost (made_result p e) ends_all, ended_cost (p.function == p.turn) outer, by (p.own == p.turn))
+  where
+    by : (alone : Bool)
+        → expr_cost (less_by (frame_word p.function) (if alone then bit_of p.own else frame_word p.own))
+        + expr_cost (if alone then both (frame_word p.turn) (constant 2) else less_by (frame_word p.turn) (frame_word p.own)) ≤ 10
+    by true = omega arith
+    by false = omega arith
+
+abbrev step_cost : Option PlainAssignment → ℕ
+step_cost None = 0
+step_cost (Some a) = place_cost (made_place a.target) + expr_cost a.value
+
+made_step_cost : (mask : ℕ) (step : Option PlainAssignment) → stmts_cost (made_step mask step) ≤ step_cost step
+made_step_cost mask None = omega arith
+made_step_cost mask (Some a) = omega arith
+
+turn_cost : (p : Place) (condition : PlainSp) (body : PlainStmts) (step : Option PlainAssignment)
+    → stmts_cost (made_turn p condition body step) ≤ 13 + expr_cost condition + stmts_cost body + step_cost step
+turn_cost p condition body step =
+    omega (arith, joined_cost body (stmt (masks p.free (not_zero (frame_word p.free))) (made_step p.free step)), made_step_cost p.free step)
+
+loop_cost : (p : Place) (most : ℕ) (condition : PlainSp) (turn : PlainStmts)
+    → stmts_cost (made_loop p most condition turn) ≤ 34 + expr_cost condition + stmts_cost turn
+loop_cost p zero condition turn = omega arith
+loop_cost p (suc n) condition turn = omega arith
+
+assignment_cost : (names : Names) (text : List ℕ) (e : PlainExpr) → step_cost (resolved_assignment names text e) ≤ 7 + expr_weight e
+assignment_cost names text e = by (variable_target (named names text)) (variable_target_cost (named names text))
+  where
+    by : (target : Option PlainTarget) → given_cost target ≤ 7 → step_cost (assignment_to target (resolved names None e)) ≤ 7 + expr_weight e
+    by None within = omega arith
+    by (Some target) within = omega (arith, within, resolved_cost names None e)
+
+-- a loop with its masks, its condition twice, and the assignments of a `for`
+head_cost : (names : Names) (head : PlainHead) (p : Place)
+    → 47 + 2 * expr_cost (resolved_condition names head) + stmts_cost (made p (maybe_sets (resolved_begin names head)))
+    + step_cost (resolved_next names head) ≤ head_weight head
+head_cost names (plain.turns_while condition) p = omega (arith, resolved_cost names None condition)
+head_cost names (plain.turns_for first from condition to_set to) p =
+    omega (
+      arith,
+      resolved_cost names None condition,
+      resolved_cost names None from,
+      variable_target_cost (named names first),
+      sets_cost p (variable_target (named names first)) (resolved names None from),
+      assignment_cost names to_set to,
+    )
+
+-- ---- statements
+
+-- an arm takes 7 words less than it weighs, of which 6 are for the mask behind the whole `if`
+abbrev spare : PlainArms → ℕ
+spare plain.no_arm = 0
+spare (plain.arm condition body rest) = 7
+
+some_spare : (arms : PlainArms) → SomeArm arms → 6 ≤ spare arms
+some_spare plain.no_arm some = absurd some
+some_spare (plain.arm condition body rest) some = omega arith
+
+arm_cost : (p : Place) (condition : PlainSp) (arm : PlainStmts) (nothing : Bool) (rest : PlainStmts)
+    → stmts_cost (made_arm p condition arm (made_otherwise p nothing rest)) ≤ 17 + expr_cost condition + stmts_cost arm + stmts_cost rest
+arm_cost p condition arm nothing rest =
+    omega (arith, joined_cost arm (made_otherwise p nothing rest), ended_cost nothing (stmt (masks p.free (where_not_taken p)) rest))
+
+mutual
+  unfolding stmt_weight block_weight arms_weight otherwise_weight
+
+  stmt_within : (fs : List (List ℕ)) (names : Names) (s : PlainStmt) (p : Place) → Armed s
+      → stmts_cost (made p (resolved_stmt fs names s)) ≤ stmt_weight s
+  stmt_within fs names (plain.declared kind text None) p armed = omega arith
+  stmt_within fs names (plain.declared kind text (Some r)) p armed =
+      let at = length names.variables in
+      omega (arith, right_cost fs (with_variable names kind text) (Some at) (Some (to_level at)) r p)
+  stmt_within fs names (plain.set text r) p armed =
+      let target = variable_target (named names text) in
+      omega (arith, variable_target_cost (named names text), right_cost fs names None target r p)
+  stmt_within fs names (plain.set_element text index r) p armed =
+      let i = resolved names None index in
+      let target = element_target (named names text) i in
+      omega (arith, resolved_cost names None index, element_target_cost (named names text) i, right_cost fs names None target r p)
+  stmt_within fs names (plain.called text args) p armed =
+      omega (arith, call_cost p (number_of text fs) (resolved_args names None args) None, resolved_args_cost names None args)
+  stmt_within fs names (plain.sent core core_unsigned source target count) p armed =
+      omega (arith, resolved_cost names None source, resolved_cost names None target, resolved_cost names None count)
+  stmt_within fs names (plain.chosen arms otherwise) p armed =
+      let rest = resolved_otherwise fs names otherwise in
+      let all = made_branches p (resolved_arms fs names arms) (is_no_action rest) (λ q. made q rest) in
+      let chosen = arms_within fs names arms (is_no_action rest) (λ q. made q rest) (otherwise_weight otherwise)
+      (λ q. otherwise_within fs names otherwise q armed.2) p armed.1 in
+      omega (
+        arith,
+        chosen,
+        some_spare arms armed.0,
+        joined_cost all (tree.one (masks p.own (where_on p))),
+        one_cost p (chooses (resolved_arms fs names arms) rest),
+      )
+  stmt_within fs names (plain.looped bound head body) p armed =
+      let condition = resolved_condition names head in
+      let inside = resolved_block fs names body in
+      let step = resolved_next names head in
+      let turn = made_turn p condition (made (in_loop p) inside) step in
+      let within = block_within fs names body (in_loop p) armed in
+      omega (
+        arith,
+        within,
+        head_cost names head p,
+        turn_cost p condition (made (in_loop p) inside) step,
+        loop_cost p (most_turns bound) condition turn,
+        one_cost p (turns (most_turns bound) condition inside step),
+        made_joined_cost p (maybe_sets (resolved_begin names head)) (one (turns (most_turns bound) condition inside step)),
+      )
+  stmt_within fs names plain.broken p armed = omega arith
+  stmt_within fs names plain.continued p armed = omega arith
+  stmt_within fs names (plain.returned None) p armed = omega (arith, one_cost p (returns (constant 0)), return_cost p (constant 0))
+  stmt_within fs names (plain.returned (Some e)) p armed =
+      let given = resolved names None e in
+      omega (arith, resolved_cost names None e, result_cost p given, return_cost p given, one_cost p (returns given))
+  stmt_within fs names (plain.inner body) p armed = block_within fs names body p armed
+
+  block_within : (fs : List (List ℕ)) (names : Names) (body : PlainBlock) (p : Place) → BlockArmed body
+      → stmts_cost (made p (resolved_block fs names body)) ≤ block_weight body
+  block_within fs names plain.no_stmt p armed = omega arith
+  block_within fs names (plain.stmt s rest) p armed =
+      let first = stmt_within fs names s p armed.0 in
+      let more = block_within fs (names_after names s) rest p armed.1 in
+      omega (arith, first, more, made_joined_cost p (resolved_stmt fs names s) (resolved_block fs (names_after names s) rest))
+
+  arms_within : (fs : List (List ℕ)) (names : Names) (arms : PlainArms) (nothing : Bool) (otherwise : Place → PlainStmts) (weight : ℕ)
+      → ((q : Place) → stmts_cost (otherwise q) ≤ weight) → (p : Place) → ArmsArmed arms
+      → stmts_cost (made_branches p (resolved_arms fs names arms) nothing otherwise) + spare arms ≤ arms_weight arms + weight
+  arms_within fs names plain.no_arm nothing otherwise weight each p armed = omega (arith, each p)
+  arms_within fs names (plain.arm condition body rest) nothing otherwise weight each p armed =
+      let test = resolved names None condition in
+      let others = resolved_arms fs names rest in
+      let inside = block_within fs names body (in_arm p) armed.0 in
+      let more = arms_within fs names rest nothing otherwise weight each (in_arm p) armed.1 in
+      let arm = made (in_arm p) (resolved_block fs names body) in
+      omega (
+        arith,
+        inside,
+        more,
+        resolved_cost names None condition,
+        arm_cost p test arm (is_no_branch others && nothing) (made_branches (in_arm p) others nothing otherwise),
+      )
+
+  otherwise_within : (fs : List (List ℕ)) (names : Names) (otherwise : PlainOtherwise) (p : Place) → OtherwiseArmed otherwise
+      → stmts_cost (made p (resolved_otherwise fs names otherwise)) ≤ otherwise_weight otherwise
+  otherwise_within fs names plain.no_else p armed = omega arith
+  otherwise_within fs names (plain.or_else body) p armed = block_within fs names body p armed
+
+-- ---- functions
+
+body_within : (fs : List (List ℕ)) (names : Names) (body : List PlainStmt) (p : Place) → Each Armed body
+    → stmts_cost (made p (resolved_body fs names body)) ≤ body_weight body
+body_within fs names [] p armed = omega arith
+body_within fs names (s ∷ rest) p armed =
+    let more = body_within fs (names_after names s) rest p armed.1 in
+    omega (
+      arith,
+      more,
+      stmt_within fs names s p armed.0,
+      sum_by-cons stmt_weight s rest,
+      made_joined_cost p (resolved_stmt fs names s) (resolved_body fs (names_after names s) rest),
+    )
+
+pub cost_within : (fs : List (List ℕ)) (names : Names) (parameters : ℕ) (body : List PlainStmt) → Each Armed body
+    → cost (made_function parameters (resolved_body fs names body)) ≤ function_weight body
+cost_within fs names parameters body armed =
+    omega (arith, body_within fs names body (outermost (variables parameters (resolved_body fs names body))) armed)

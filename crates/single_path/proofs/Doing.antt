@@ -1,0 +1,215 @@
+-- What actions do with memories, and that what is made of them does no more: a property that all uses of a program's actions
+-- have is one of all uses of its tree.
+use Rattle.std.proofs.Common.{ℕ, zero, suc, ◌==◌, Bool, true, false, if◌then◌else◌, List, [], ◌∷◌, ◌++◌, Option, None, Some, subst, sym}
+use Rattle.std.specs.Prelude.{⊤, ◌&&◌}
+use Rattle.std.specs.List.{AllByRecursion as Each}
+use Rattle.shared_order.proofs.Lists.{each-append}
+use Rattle.sp_tree.specs.Plain.{PlainSp, constant, frame_word, cell_word, array_word, before_one, between_two}
+use Rattle.sp_tree.specs.Statements.{PlainStmt, PlainStmts, no_stmt, stmt, joined, masks}
+use Rattle.sp_tree.specs.Statements as tree
+use Rattle.sp_tree.specs.Uses.{Use, reads_cell, reads_array, writes_cell, writes_array, sends_to, expr_uses, args_uses, place_uses, stmt_uses, stmts_uses, functions_uses}
+use Rattle.sp_tree.proofs.Joins.{joined_uses}
+use Rattle.c_meaning.specs.Actions.{PlainTarget, to_level, to_cell, to_array, PlainAssignment, PlainAction, sets, calls, transfers, chooses, turns, breaks, continues, returns, PlainActions, no_action, action, PlainBranches, no_branch, branch}
+use Rattle.single_path.specs.declared.places.Place.{Place}
+use Rattle.single_path.specs.Places.{in_arm, in_loop, outermost, both, less_by, bit_of, not_zero, where_so, where_not_taken, where_on, where_not_returned, returned_function, returned_loop}
+use Rattle.single_path.specs.Made.{is_zero, made_place, made_assignment, made_step, made_call, made_result, made_return, ends, is_no_action, is_no_branch, made_arm, made_otherwise, made_turn, made_loop, made_action, made, made_branches}
+use Rattle.single_path.specs.Single.{variables, begun_mask, made_functions}
+
+-- ---- actions whose uses all have a property
+
+abbrev pub ExprDoes : (Use → Type 0) → PlainSp → Type 0
+ExprDoes P (constant n) = ⊤
+ExprDoes P (frame_word slot) = ⊤
+ExprDoes P (cell_word cell) = P (reads_cell cell)
+ExprDoes P (array_word array index) = P (reads_array array) × ExprDoes P index
+ExprDoes P (before_one op of) = ExprDoes P of
+ExprDoes P (between_two op a b) = ExprDoes P a × ExprDoes P b
+
+abbrev pub TargetDoes : (Use → Type 0) → PlainTarget → Type 0
+TargetDoes P (to_level at) = ⊤
+TargetDoes P (to_cell cell) = P (writes_cell cell)
+TargetDoes P (to_array array index) = P (writes_array array) × ExprDoes P index
+
+abbrev pub ResultDoes : (Use → Type 0) → Option PlainTarget → Type 0
+ResultDoes P None = ⊤
+ResultDoes P (Some target) = TargetDoes P target
+
+abbrev pub StepDoes : (Use → Type 0) → Option PlainAssignment → Type 0
+StepDoes P None = ⊤
+StepDoes P (Some a) = TargetDoes P a.target × ExprDoes P a.value
+
+abbrev mutual
+  pub ActionDoes : (Use → Type 0) → PlainAction → Type 0
+  ActionDoes P (sets a) = TargetDoes P a.target × ExprDoes P a.value
+  ActionDoes P (calls k args result) = Each (ExprDoes P) args × ResultDoes P result
+  ActionDoes P (transfers core source target count) = P (sends_to core) × ExprDoes P source × ExprDoes P target × ExprDoes P count
+  ActionDoes P (chooses branches otherwise) = BranchesDo P branches × Do P otherwise
+  ActionDoes P (turns most condition body step) = ExprDoes P condition × Do P body × StepDoes P step
+  ActionDoes P breaks = ⊤
+  ActionDoes P continues = ⊤
+  ActionDoes P (returns e) = ExprDoes P e
+
+  pub Do : (Use → Type 0) → PlainActions → Type 0
+  Do P no_action = ⊤
+  Do P (action a rest) = ActionDoes P a × Do P rest
+
+  pub BranchesDo : (Use → Type 0) → PlainBranches → Type 0
+  BranchesDo P no_branch = ⊤
+  BranchesDo P (branch condition body rest) = ExprDoes P condition × Do P body × BranchesDo P rest
+
+-- ---- the uses of expressions, arguments and places
+
+expr_each : (P : Use → Type 0) (e : PlainSp) → ExprDoes P e → Each P (expr_uses e)
+expr_each P (constant n) does = tt
+expr_each P (frame_word slot) does = tt
+expr_each P (cell_word cell) does = (does, tt)
+expr_each P (array_word array index) does = (does.0, expr_each P index does.1)
+expr_each P (before_one op of) does = expr_each P of does
+expr_each P (between_two op a b) does = each-append P (expr_uses a) (expr_uses b) (expr_each P a does.0) (expr_each P b does.1)
+
+args_each : (P : Use → Type 0) (args : List PlainSp) → Each (ExprDoes P) args → Each P (args_uses args)
+args_each P [] does = tt
+args_each P (e ∷ args) does = each-append P (expr_uses e) (args_uses args) (expr_each P e does.0) (args_each P args does.1)
+
+target_each : (P : Use → Type 0) (target : PlainTarget) → TargetDoes P target → Each P (place_uses (made_place target))
+target_each P (to_level at) does = tt
+target_each P (to_cell cell) does = (does, tt)
+target_each P (to_array array index) does = (does.0, expr_each P index does.1)
+
+-- ---- statements one after another
+
+-- that all uses of statements have the property
+abbrev StmtsDo : (Use → Type 0) → PlainStmts → Type 0
+StmtsDo P ts = Each P (stmts_uses ts)
+
+first_then : (P : Use → Type 0) (t : PlainStmt) (rest : PlainStmts) → Each P (stmt_uses t) → StmtsDo P rest → StmtsDo P (stmt t rest)
+first_then P t rest does more = each-append P (stmt_uses t) (stmts_uses rest) does more
+
+only : (P : Use → Type 0) (t : PlainStmt) → Each P (stmt_uses t) → StmtsDo P (tree.one t)
+only P t does = first_then P t no_stmt does tt
+
+mask_then : (P : Use → Type 0) (slot : ℕ) (e : PlainSp) (rest : PlainStmts) → ExprDoes P e → StmtsDo P rest → StmtsDo P (stmt (masks slot e) rest)
+mask_then P slot e rest does more = first_then P (masks slot e) rest (expr_each P e does) more
+
+joined_do : (P : Use → Type 0) (xs ys : PlainStmts) → StmtsDo P xs → StmtsDo P ys → StmtsDo P (joined xs ys)
+joined_do P xs ys hx hy = subst (Each P) (sym (joined_uses xs ys)) (each-append P (stmts_uses xs) (stmts_uses ys) hx hy)
+
+-- where statements are left out, they do nothing
+unless_do : (P : Use → Type 0) (out : Bool) (ts : PlainStmts) → StmtsDo P ts → StmtsDo P (if out then no_stmt else ts)
+unless_do P true ts does = tt
+unless_do P false ts does = does
+
+-- ---- what is set, and calls
+
+assignment_do : (P : Use → Type 0) (mask : ℕ) (a : PlainAssignment) → TargetDoes P a.target → ExprDoes P a.value
+    → StmtsDo P (tree.one (made_assignment mask a))
+assignment_do P mask a target value =
+    only P (made_assignment mask a)
+    (each-append P (place_uses (made_place a.target)) (expr_uses a.value) (target_each P a.target target) (expr_each P a.value value))
+
+step_do : (P : Use → Type 0) (mask : ℕ) (step : Option PlainAssignment) → StepDoes P step → StmtsDo P (made_step mask step)
+step_do P mask None does = tt
+step_do P mask (Some a) does = assignment_do P mask a does.0 does.1
+
+call_do : (P : Use → Type 0) (p : Place) (k : ℕ) (args : List PlainSp) (result : Option PlainTarget) → Each (ExprDoes P) args → ResultDoes P result
+    → StmtsDo P (made_call p k args result)
+call_do P p k args None given does = only P (tree.calls p.own k args None) (args_each P args given)
+call_do P p k args (Some (to_level at)) given does = only P (tree.calls p.own k args (Some at)) (args_each P args given)
+call_do P p k args (Some (to_cell cell)) given does =
+    first_then P (tree.calls p.own k args (Some p.free)) (tree.one (tree.writes p.own (tree.to_cell cell) (frame_word p.free)))
+    (args_each P args given) (does, tt)
+call_do P p k args (Some (to_array array index)) given does =
+    first_then P (tree.calls p.own k args (Some p.free)) (tree.one (tree.writes p.own (tree.to_array array index) (frame_word p.free)))
+    (args_each P args given) (assignment_do P p.own (record { target = to_array array index; value = frame_word p.free }) does tt)
+
+-- ---- ways on, arms and loops
+
+return_does : (P : Use → Type 0) (p : Place) (e : PlainSp) → ExprDoes P e → StmtsDo P (made_return p e)
+return_does P p e does =
+    joined_do P (made_result p e) ended
+    (unless_do P (is_zero e) (tree.one (tree.writes p.own (tree.to_slot p.result) e))
+    (assignment_do P p.own (record { target = to_level p.result; value = e }) tt does))
+    (mask_then P p.function (returned_function p) outer (by (p.own == p.turn)).0
+    (unless_do P (p.function == p.turn) (tree.one (masks p.turn (returned_loop p)))
+    (mask_then P p.turn (returned_loop p) no_stmt (by (p.own == p.turn)).1 tt)))
+  where
+    outer : PlainStmts
+    outer = if p.function == p.turn then no_stmt else tree.one (masks p.turn (returned_loop p))
+
+    ended : PlainStmts
+    ended = stmt (masks p.function (returned_function p)) outer
+
+    by : (alone : Bool)
+        → ExprDoes P (less_by (frame_word p.function) (if alone then bit_of p.own else frame_word p.own))
+        × ExprDoes P (if alone then both (frame_word p.turn) (constant 2) else less_by (frame_word p.turn) (frame_word p.own))
+    by true = ((tt, (tt, tt)), (tt, tt))
+    by false = ((tt, tt), (tt, tt))
+
+arm_does : (P : Use → Type 0) (p : Place) (condition : PlainSp) (arm : PlainStmts) (nothing : Bool) (rest : PlainStmts)
+    → ExprDoes P condition → StmtsDo P arm → StmtsDo P rest → StmtsDo P (made_arm p condition arm (made_otherwise p nothing rest))
+arm_does P p condition arm nothing rest test inside more =
+    mask_then P p.free (where_so p.own condition) (joined arm (made_otherwise p nothing rest)) (tt, (test, tt))
+    (joined_do P arm (made_otherwise p nothing rest) inside
+    (unless_do P nothing (stmt (masks p.free (where_not_taken p)) rest) (mask_then P p.free (where_not_taken p) rest ((tt, tt), (tt, tt)) more)))
+
+turn_does : (P : Use → Type 0) (p : Place) (condition : PlainSp) (body : PlainStmts) (step : Option PlainAssignment)
+    → ExprDoes P condition → StmtsDo P body → StepDoes P step → StmtsDo P (made_turn p condition body step)
+turn_does P p condition body step test inside stepped =
+    let behind = stmt (masks p.free (not_zero (frame_word p.free))) (made_step p.free step) in
+    mask_then P p.free (where_so p.free condition) (joined body behind) (tt, (test, tt))
+    (joined_do P body behind inside
+    (mask_then P p.free (not_zero (frame_word p.free)) (made_step p.free step) (tt, tt) (step_do P p.free step stepped)))
+
+loop_does : (P : Use → Type 0) (p : Place) (most : ℕ) (condition : PlainSp) (turn : PlainStmts) → ExprDoes P condition → StmtsDo P turn
+    → StmtsDo P (made_loop p most condition turn)
+loop_does P p zero condition turn test inside = only P (tree.overruns p.own condition) (expr_each P condition test)
+loop_does P p (suc n) condition turn test inside =
+    let left = stmt (masks p.turn (where_not_returned p)) (tree.one (masks p.own (where_on p))) in
+    first_then P (tree.turns (suc n) turn) (stmt (tree.overruns p.free condition) left) inside
+    (first_then P (tree.overruns p.free condition) left (expr_each P condition test) tt)
+
+-- ---- all actions
+
+mutual
+  action_does : (P : Use → Type 0) (p : Place) (a : PlainAction) → ActionDoes P a → StmtsDo P (made_action p a)
+  action_does P p (sets a) does = assignment_do P p.own a does.0 does.1
+  action_does P p (calls k args result) does = call_do P p k args result does.0 does.1
+  action_does P p (transfers core source target count) does =
+      only P (tree.transfers p.own core source target count) (
+        does.0,
+        each-append P (expr_uses source) (expr_uses target ++ expr_uses count) (expr_each P source does.1)
+            (each-append P (expr_uses target) (expr_uses count) (expr_each P target does.2) (expr_each P count does.3)),
+      )
+  action_does P p (chooses branches otherwise) does =
+      joined_do P (made_branches p branches (is_no_action otherwise) (λ q. made q otherwise)) (tree.one (masks p.own (where_on p)))
+      (branches_do P p branches (is_no_action otherwise) (λ q. made q otherwise) does.0 (λ q. made_does P q otherwise does.1)) tt
+  action_does P p (turns most condition body step) does =
+      loop_does P p most condition (made_turn p condition (made (in_loop p) body) step) does.0
+      (turn_does P p condition (made (in_loop p) body) step does.0 (made_does P (in_loop p) body does.1) does.2)
+  action_does P p breaks does = tt
+  action_does P p continues does = tt
+  action_does P p (returns e) does = return_does P p e does
+
+  made_does : (P : Use → Type 0) (p : Place) (actions : PlainActions) → Do P actions → StmtsDo P (made p actions)
+  made_does P p no_action does = tt
+  made_does P p (action a rest) does =
+      joined_do P (made_action p a) (if ends a then no_stmt else made p rest) (action_does P p a does.0)
+      (unless_do P (ends a) (made p rest) (made_does P p rest does.1))
+
+  branches_do : (P : Use → Type 0) (p : Place) (bs : PlainBranches) (nothing : Bool) (otherwise : Place → PlainStmts) → BranchesDo P bs
+      → ((q : Place) → StmtsDo P (otherwise q)) → StmtsDo P (made_branches p bs nothing otherwise)
+  branches_do P p no_branch nothing otherwise does last = last p
+  branches_do P p (branch condition body rest) nothing otherwise does last =
+      arm_does P p condition (made (in_arm p) body) (is_no_branch rest && nothing) (made_branches (in_arm p) rest nothing otherwise) does.0
+      (made_does P (in_arm p) body does.1) (branches_do P (in_arm p) rest nothing otherwise does.2 last)
+
+-- ---- functions
+
+pub functions_do : (P : Use → Type 0) (counts : List ℕ) (bodies : List PlainActions) → Each (Do P) bodies
+    → Each P (functions_uses (made_functions counts bodies))
+functions_do P [] bodies does = tt
+functions_do P (n ∷ counts) [] does = tt
+functions_do P (n ∷ counts) (body ∷ bodies) does =
+    let p = outermost (variables n body) in
+    each-append P (stmts_uses (stmt (masks p.function (begun_mask p)) (made p body))) (functions_uses (made_functions counts bodies))
+    (mask_then P p.function (begun_mask p) (made p body) (tt, tt) (made_does P p body does.0)) (functions_do P counts bodies does.1)

@@ -1,0 +1,213 @@
+-- What is made of sound actions that fit is well formed, over the words that their variables and their masks take.
+use Rattle.std.proofs.Common.{◌≡◌, ℕ, zero, suc, ◌+◌, ◌<◌, ◌≤◌, ◌==◌, Bool, true, false, if◌then◌else◌, List, length, Option, None, Some, refl, arith, lt-ltb}
+use Rattle.std.proofs.lemmas.Bool.{and_from}
+use Rattle.std.specs.List.{AllByRecursion as Each}
+use Rattle.std.specs.Prelude.{◌&&◌}
+use Rattle.sp_tree.specs.Formed.{place_formed, result_formed, callee_formed, stmt_formed, stmts_formed}
+use Rattle.sp_tree.specs.Plain.{PlainSp, frame_word}
+use Rattle.sp_tree.specs.Statements.{PlainStmt, PlainStmts, no_stmt, stmt, PlainFunction, masks, writes, overruns}
+use Rattle.sp_tree.specs.Statements as tree
+use Rattle.c_meaning.specs.Actions.{PlainTarget, to_level, to_cell, to_array, PlainAssignment, PlainAction, sets, calls, transfers, chooses, turns, breaks, continues, returns, PlainActions, no_action, action, PlainBranches, no_branch, branch}
+use Rattle.single_path.specs.Made.{made_place, made_assignment, made_step, made_call, is_zero, made_result, made_return, ends, is_no_action, is_no_branch, made_arm, made_otherwise, made_turn, made_loop, made_action, made, made_branches}
+use Rattle.single_path.specs.declared.places.Place.{Place}
+use Rattle.single_path.specs.Places.{in_arm, in_loop, where_so, where_not_taken, where_on, bit_of, not_zero, returned_function, returned_loop}
+use Rattle.single_path.specs.Widths.{result_words, expr_words, args_words, target_words, assignment_words, step_words, words, action_words, branches_words, branches_masks}
+use Rattle.single_path.specs.Widths as width
+use Rattle.single_path.proofs.Fits.{FitsAction, Fits, FitsBranches}
+use Rattle.single_path.proofs.Frames.{Order}
+use Rattle.single_path.proofs.Idle.{order_arm, order_loop}
+use Rattle.single_path.proofs.MasksFormed.{Below, below, both_formed, broken_formed, condition_sound, continued_formed, mask_formed, more_formed, not_returned_formed, not_taken_formed, on_formed, returned_function_formed, returned_loop_formed, unless_formed, words_there}
+use Rattle.single_path.proofs.Needs.{Sound, sound_word, sound_formed, sound_args_formed}
+use Rattle.single_path.proofs.Sound.{SoundTarget, SoundResult, SoundStep, SoundAction, AllSound, SoundBranches}
+
+-- ---- what is set, and calls
+
+target_formed : (slots : ℕ) (target : PlainTarget) → SoundTarget target → target_words target ≤ slots → place_formed slots (made_place target) ≡ true
+target_formed slots (to_level at) sound within = lt-ltb at slots (omega (arith, within))
+target_formed slots (to_cell cell) sound within = sound
+target_formed slots (to_array array index) sound within = and_from _ _ sound.0 (sound_formed slots index sound.1 within)
+
+write_formed : (fs : List PlainFunction) (number slots mask : ℕ) (target : PlainTarget) (e : PlainSp) → mask < slots → SoundTarget target → Sound e
+    → target_words target ≤ slots → expr_words e ≤ slots → stmt_formed fs number slots (writes mask (made_place target) e) ≡ true
+write_formed fs number slots mask target e there to sound within of =
+    and_from _ _ (lt-ltb mask slots there) (and_from _ _ (target_formed slots target to within) (sound_formed slots e sound of))
+
+step_formed : (fs : List PlainFunction) (number slots mask : ℕ) (step : Option PlainAssignment) → mask < slots → SoundStep step
+    → step_words step ≤ slots → stmts_formed fs number slots (made_step mask step) ≡ true
+step_formed fs number slots mask None there sound within = refl
+step_formed fs number slots mask (Some a) there sound within =
+    more_formed fs number slots (made_assignment mask a) no_stmt
+    (write_formed fs number slots mask a.target a.value there sound.0 sound.1 (omega (arith, within)) (omega (arith, within))) refl
+
+called_formed : (fs : List PlainFunction) (number slots mask k : ℕ) (args : List PlainSp) (given : Option ℕ) → mask < slots
+    → callee_formed fs number k (length args) ≡ true → Each Sound args → args_words args ≤ slots → result_formed slots given ≡ true
+    → stmt_formed fs number slots (tree.calls mask k args given) ≡ true
+called_formed fs number slots mask k args given there callee each within to =
+    and_from _ _ (lt-ltb mask slots there) (and_from _ _ callee (and_from _ _ (sound_args_formed slots args each within) to))
+
+-- what a function gives to a place outside of the frame goes by the word that is free
+by_word_formed : (fs : List PlainFunction) (number slots : ℕ) (p : Place) (k : ℕ) (args : List PlainSp) (target : PlainTarget) → p.own < slots
+    → p.free < slots → callee_formed fs number k (length args) ≡ true → Each Sound args → SoundTarget target → args_words args ≤ slots
+    → target_words target ≤ slots
+    → stmts_formed fs number slots
+    (stmt (tree.calls p.own k args (Some p.free)) (tree.one (writes p.own (made_place target) (frame_word p.free)))) ≡ true
+by_word_formed fs number slots p k args target own free callee each to within of =
+    and_from _ _ (called_formed fs number slots p.own k args (Some p.free) own callee each within (lt-ltb p.free slots free))
+    (and_from _ _ (write_formed fs number slots p.own target (frame_word p.free) own to (sound_word p.free) of (omega (arith, free))) refl)
+
+call_formed : (fs : List PlainFunction) (number slots : ℕ) (p : Place) (k : ℕ) (args : List PlainSp) (target : Option PlainTarget) → p.own < slots
+    → p.free + width.result_masks target ≤ slots → callee_formed fs number k (length args) ≡ true → Each Sound args → SoundResult target
+    → args_words args ≤ slots → result_words target ≤ slots → stmts_formed fs number slots (made_call p k args target) ≡ true
+call_formed fs number slots p k args None own free callee each to within of =
+    more_formed fs number slots (tree.calls p.own k args None) no_stmt
+    (called_formed fs number slots p.own k args None own callee each within refl) refl
+call_formed fs number slots p k args (Some (to_level at)) own free callee each to within of =
+    more_formed fs number slots (tree.calls p.own k args (Some at)) no_stmt
+    (called_formed fs number slots p.own k args (Some at) own callee each within (lt-ltb at slots (omega (arith, of)))) refl
+call_formed fs number slots p k args (Some (to_cell cell)) own free callee each to within of =
+    by_word_formed fs number slots p k args (to_cell cell) own (omega (arith, free)) callee each to within of
+call_formed fs number slots p k args (Some (to_array array index)) own free callee each to within of =
+    by_word_formed fs number slots p k args (to_array array index) own (omega (arith, free)) callee each to within of
+
+-- ---- ways on
+
+result_made_formed : (fs : List PlainFunction) (number slots : ℕ) (p : Place) (e : PlainSp) → Below p slots → Sound e → expr_words e ≤ slots
+    → stmts_formed fs number slots (made_result p e) ≡ true
+result_made_formed fs number slots p e b sound within = by (is_zero e)
+  where
+    by : (zero_given : Bool) → stmts_formed fs number slots (if zero_given then no_stmt else tree.one (writes p.own (tree.to_slot p.result) e)) ≡ true
+    by true = refl
+    by false =
+        more_formed fs number slots (writes p.own (tree.to_slot p.result) e) no_stmt
+        (write_formed fs number slots p.own (to_level p.result) e b.own tt sound (omega (arith, b.result)) within) refl
+
+return_formed : (fs : List PlainFunction) (number slots : ℕ) (p : Place) (e : PlainSp) → Below p slots → Sound e → expr_words e ≤ slots
+    → stmts_formed fs number slots (made_return p e) ≡ true
+return_formed fs number slots p e b sound within =
+    let outer = tree.one (masks p.turn (returned_loop p)) in
+    both_formed fs number slots (made_result p e) (stmt (masks p.function (returned_function p)) (if p.function == p.turn then no_stmt else outer))
+    (result_made_formed fs number slots p e b sound within)
+    (more_formed fs number slots (masks p.function (returned_function p)) (if p.function == p.turn then no_stmt else outer)
+    (returned_function_formed fs number slots p b) (unless_formed fs number slots (p.function == p.turn) outer
+    (more_formed fs number slots (masks p.turn (returned_loop p)) no_stmt (returned_loop_formed fs number slots p b) refl)))
+
+-- ---- arms and loops
+
+arm_formed : (fs : List PlainFunction) (number slots : ℕ) (p : Place) (condition : PlainSp) (arm : PlainStmts) (nothing : Bool) (rest : PlainStmts)
+    → Below p slots → p.free < slots → Sound condition → expr_words condition ≤ slots → stmts_formed fs number slots arm ≡ true
+    → stmts_formed fs number slots rest ≡ true → stmts_formed fs number slots (made_arm p condition arm (made_otherwise p nothing rest)) ≡ true
+arm_formed fs number slots p condition arm nothing rest b free sound within here there =
+    let otherwise = stmt (masks p.free (where_not_taken p)) rest in
+    more_formed fs number slots (masks p.free (where_so p.own condition)) (tree.joined arm (made_otherwise p nothing rest))
+    (mask_formed fs number slots p.free (where_so p.own condition) free (condition_sound p.own condition sound) (omega (arith, within, b.own)))
+    (both_formed fs number slots arm (made_otherwise p nothing rest) here (unless_formed fs number slots nothing otherwise
+    (more_formed fs number slots (masks p.free (where_not_taken p)) rest (not_taken_formed fs number slots p b free) there)))
+
+turn_formed : (fs : List PlainFunction) (number slots : ℕ) (p : Place) (condition : PlainSp) (body : PlainStmts) (step : Option PlainAssignment)
+    → p.free < slots → Sound condition → expr_words condition ≤ slots → SoundStep step → step_words step ≤ slots
+    → stmts_formed fs number slots body ≡ true → stmts_formed fs number slots (made_turn p condition body step) ≡ true
+turn_formed fs number slots p condition body step free sound within to of inside =
+    let again = stmt (masks p.free (not_zero (frame_word p.free))) (made_step p.free step) in
+    more_formed fs number slots (masks p.free (where_so p.free condition)) (tree.joined body again)
+    (mask_formed fs number slots p.free (where_so p.free condition) free (condition_sound p.free condition sound) (omega (arith, within, free)))
+    (both_formed fs number slots body again inside
+    (more_formed fs number slots (masks p.free (not_zero (frame_word p.free))) (made_step p.free step)
+    (mask_formed fs number slots p.free (not_zero (frame_word p.free)) free (record { ranged = (tt, tt); few = omega arith }) (omega (arith, free)))
+    (step_formed fs number slots p.free step free to of)))
+
+overrun_formed : (fs : List PlainFunction) (number slots mask : ℕ) (condition : PlainSp) → mask < slots → Sound condition
+    → expr_words condition ≤ slots → stmt_formed fs number slots (overruns mask condition) ≡ true
+overrun_formed fs number slots mask condition there sound within = and_from _ _ (lt-ltb mask slots there) (sound_formed slots condition sound within)
+
+loop_formed : (fs : List PlainFunction) (number slots : ℕ) (p : Place) (n : ℕ) (condition : PlainSp) (turn : PlainStmts) → Below p slots
+    → p.free < slots → Sound condition → expr_words condition ≤ slots → stmts_formed fs number slots turn ≡ true
+    → stmts_formed fs number slots (made_loop p (suc n) condition turn) ≡ true
+loop_formed fs number slots p n condition turn b free sound within inside =
+    and_from _ _ (mask_formed fs number slots p.free (bit_of p.own) free (record { ranged = (tt, tt); few = omega arith }) (omega (arith, b.own)))
+    (and_from _ _ (and_from _ _ (lt-ltb 0 (suc n) (omega arith)) inside)
+    (and_from _ _ (overrun_formed fs number slots p.free condition free sound within)
+    (and_from _ _ (not_returned_formed fs number slots p b) (and_from _ _ (on_formed fs number slots p b) refl))))
+
+-- ---- all actions
+
+-- what fits may be called
+abbrev pub MayCall : (ℕ → ℕ → Type 0) → List PlainFunction → ℕ → Type 0
+MayCall Fit fs number = (k args : ℕ) → Fit k args → callee_formed fs number k args ≡ true
+
+-- the variables have the first so many words
+mutual
+  action_formed : (Fit : ℕ → ℕ → Type 0) (fs : List PlainFunction) (number slots n : ℕ)
+      → MayCall Fit fs number → (a : PlainAction) (inside : Bool) (p : Place) → Order n p
+      → action_words a ≤ n → p.free + width.action_masks a ≤ slots → FitsAction Fit inside a → SoundAction a
+      → stmts_formed fs number slots (made_action p a) ≡ true
+  action_formed Fit fs number slots n each (sets a) inside p order within free fits sound =
+      let b = below n slots p order (omega (arith, free)) in
+      let more = words_there n slots p order (omega (arith, free)) in
+      more_formed fs number slots (made_assignment p.own a) no_stmt
+      (write_formed fs number slots p.own a.target a.value b.own sound.0 sound.1 (omega (arith, within, more)) (omega (arith, within, more))) refl
+  action_formed Fit fs number slots n each (calls k args result) inside p order within free fits sound =
+      let b = below n slots p order (omega (arith, free)) in
+      let more = words_there n slots p order (omega (arith, free)) in
+      call_formed fs number slots p k args result b.own free (each k (length args) fits) sound.0 sound.1
+      (omega (arith, within, more)) (omega (arith, within, more))
+  action_formed Fit fs number slots n each (transfers core source target count) inside p order within free fits sound =
+      let b = below n slots p order (omega (arith, free)) in
+      let more = words_there n slots p order (omega (arith, free)) in
+      and_from _ _ (and_from _ _ (lt-ltb p.own slots b.own) (and_from _ _ (lt-ltb core 16 sound.0)
+      (and_from _ _ (sound_formed slots source sound.1.0 (omega (arith, within, more)))
+      (and_from _ _ (sound_formed slots target sound.1.1.0 (omega (arith, within, more)))
+      (sound_formed slots count sound.1.1.1 (omega (arith, within, more))))))) refl
+  action_formed Fit fs number slots n each (chooses branches otherwise) inside p order within free fits sound =
+      both_formed fs number slots (made_branches p branches (is_no_action otherwise) (λ q. made q otherwise)) (tree.one (masks p.own (where_on p)))
+      (branches_formed Fit fs number slots n each branches (is_no_action otherwise) (λ q. made q otherwise) (width.masks otherwise)
+      (λ q there room. made_formed Fit fs number slots n each otherwise inside q there (omega (arith, within)) room fits.1 sound.1)
+      inside p order (omega (arith, within)) free fits.0 sound.0)
+      (more_formed fs number slots (masks p.own (where_on p)) no_stmt
+      (on_formed fs number slots p (below n slots p order (omega (arith, free)))) refl)
+  action_formed Fit fs number slots n each (turns zero condition body step) inside p order within free fits sound =
+      let b = below n slots p order (omega (arith, free)) in
+      let more = words_there n slots p order (omega (arith, free)) in
+      more_formed fs number slots (overruns p.own condition) no_stmt
+      (overrun_formed fs number slots p.own condition b.own sound.0 (omega (arith, within, more))) refl
+  action_formed Fit fs number slots n each (turns (suc k) condition body step) inside p order within free fits sound =
+      let b = below n slots p order (omega (arith, free)) in
+      let more = words_there n slots p order (omega (arith, free)) in
+      let inner = made_formed Fit fs number slots n each body true (in_loop p) (order_loop n p order) (omega (arith, within)) (omega (arith, free))
+      fits sound.1.0 in
+      loop_formed fs number slots p k condition (made_turn p condition (made (in_loop p) body) step) b (omega (arith, free)) sound.0
+      (omega (arith, within, more))
+      (turn_formed fs number slots p condition (made (in_loop p) body) step (omega (arith, free)) sound.0 (omega (arith, within, more)) sound.1.1
+      (omega (arith, within, more)) inner)
+  action_formed Fit fs number slots n each breaks inside p order within free fits sound =
+      and_from _ _ (broken_formed fs number slots p (below n slots p order (omega (arith, free)))) refl
+  action_formed Fit fs number slots n each continues inside p order within free fits sound =
+      and_from _ _ (continued_formed fs number slots p (below n slots p order (omega (arith, free)))) refl
+  action_formed Fit fs number slots n each (returns e) inside p order within free fits sound =
+      let more = words_there n slots p order (omega (arith, free)) in
+      return_formed fs number slots p e (below n slots p order (omega (arith, free))) sound (omega (arith, within, more))
+
+  pub made_formed : (Fit : ℕ → ℕ → Type 0) (fs : List PlainFunction) (number slots n : ℕ)
+      → MayCall Fit fs number → (xs : PlainActions) (inside : Bool) (p : Place) → Order n p
+      → words xs ≤ n → p.free + width.masks xs ≤ slots → Fits Fit inside xs → AllSound xs → stmts_formed fs number slots (made p xs) ≡ true
+  made_formed Fit fs number slots n each no_action inside p order within free fits sound = refl
+  made_formed Fit fs number slots n each (action a rest) inside p order within free fits sound =
+      both_formed fs number slots (made_action p a) (if ends a then no_stmt else made p rest)
+      (action_formed Fit fs number slots n each a inside p order (omega (arith, within)) (omega (arith, free)) fits.0 sound.0)
+      (unless_formed fs number slots (ends a) (made p rest)
+      (made_formed Fit fs number slots n each rest inside p order (omega (arith, within)) (omega (arith, free)) fits.1 sound.1))
+
+  -- before what stands behind the last `else`, which takes so many masks
+  branches_formed : (Fit : ℕ → ℕ → Type 0) (fs : List PlainFunction) (number slots n : ℕ)
+      → MayCall Fit fs number → (bs : PlainBranches) (nothing : Bool) (otherwise : Place → PlainStmts) (last : ℕ)
+      → ((q : Place) → Order n q → q.free + last ≤ slots → stmts_formed fs number slots (otherwise q) ≡ true)
+      → (inside : Bool) (p : Place) → Order n p → branches_words bs ≤ n → p.free + branches_masks bs last ≤ slots → FitsBranches Fit inside bs
+      → SoundBranches bs → stmts_formed fs number slots (made_branches p bs nothing otherwise) ≡ true
+  branches_formed Fit fs number slots n each no_branch nothing otherwise last behind inside p order within free fits sound = behind p order free
+  branches_formed Fit fs number slots n each (branch condition body rest) nothing otherwise last behind inside p order within free fits sound =
+      let more = words_there n slots p order (omega (arith, free)) in
+      arm_formed fs number slots p condition (made (in_arm p) body) (is_no_branch rest && nothing) (made_branches (in_arm p) rest nothing otherwise)
+      (below n slots p order (omega (arith, free))) (omega (arith, free)) sound.0 (omega (arith, within, more))
+      (made_formed Fit fs number slots n each body inside (in_arm p) (order_arm n p order) (omega (arith, within))
+      (omega (arith, free)) fits.0 sound.1.0)
+      (branches_formed Fit fs number slots n each rest nothing otherwise last behind inside (in_arm p) (order_arm n p order) (omega (arith, within))
+      (omega (arith, free)) fits.1 sound.1.1)

@@ -1,0 +1,290 @@
+-- The frame of what is made of a function has at most as many words as the checks count for the function.
+use Rattle.std.proofs.Common.{◌≡◌, ℕ, zero, suc, ◌+◌, ◌-◌, ◌≤◌, ◌==◌, max, Bool, true, false, if◌then◌else◌, List, [], ◌∷◌, length, Option, None, Some, refl, ap, arith, length-append}
+use Rattle.std.specs.Prelude.{◌&&◌}
+use Rattle.std.proofs.lemmas.List.Sums.{sum_by-cons}
+use Rattle.c_tree.specs.declared.layout.Slot.{Slot}
+use Rattle.c_tree.specs.declared.statements.Kind.{Kind}
+use Rattle.c_tree.specs.declared.units.Parameter.{Parameter}
+use Rattle.c_tree.specs.Layout.{is_unsigned}
+use Rattle.c_tree.specs.Frame.{stmt_frame, block_frame, arms_frame, otherwise_frame, body_frame, function_frame}
+use Rattle.c_tree.specs.Plain.{PlainExpr, PlainRight, PlainHead, PlainStmt, PlainBlock, PlainArms, PlainOtherwise}
+use Rattle.c_tree.specs.Plain as plain
+use Rattle.sp_tree.specs.Formed.{stmts_levels}
+use Rattle.sp_tree.specs.Plain.{PlainSp, constant, frame_word}
+use Rattle.sp_tree.specs.Statements.{PlainStmts, no_stmt, stmt, joined, masks}
+use Rattle.sp_tree.specs.Statements as tree
+use Rattle.sp_tree.proofs.Joins.{joined_levels}
+use Rattle.c_meaning.specs.Actions.{PlainTarget, to_level, to_cell, to_array, PlainAssignment, PlainAction, chooses, turns, returns, PlainActions, no_action, action, one}
+use Rattle.c_meaning.specs.Actions as actions
+use Rattle.c_meaning.specs.Meaning.{with_variable, names_after, most_turns, parameter_variables}
+use Rattle.c_meaning.specs.Resolve.{resolved, resolved_args, variable_target, element_target, assignment_to, maybe_sets, number_of, numbered_call, resolved_right, resolved_condition, resolved_begin, resolved_next, resolved_stmt, resolved_block, resolved_arms, resolved_otherwise, resolved_body}
+use Rattle.c_meaning.specs.Values.{Names, named}
+use Rattle.single_path.specs.declared.places.Place.{Place}
+use Rattle.single_path.specs.Places.{in_arm, in_loop, outermost, where_not_taken, where_on, not_zero, returned_function, returned_loop}
+use Rattle.single_path.specs.Made.{is_zero, made_result, made_return, made_step, ends, is_no_action, is_no_branch, made_arm, made_otherwise, made_turn, made_loop, made_action, made, made_branches}
+use Rattle.single_path.specs.Single.{variables, made_function}
+use Rattle.single_path.specs.Widths.{expr_words, args_words, result_words, step_words, words, branches_words, branches_masks}
+use Rattle.single_path.specs.Widths as width
+use Rattle.single_path.proofs.Words.{resolved_words, resolved_args_words, variable_target_words, element_target_words}
+
+-- ---- what is counted
+
+-- For actions that stand where so many variables are open, and for the place that they are made at: their words behind those
+-- variables, their masks but one, and their levels of turns are together so many at most. (The one mask may be that of what a
+-- function gives to a place outside of the frame, for which nothing is counted.)
+abbrev Within : ℕ → PlainActions → Place → ℕ → Type 0
+Within n xs p room = words xs - n + (width.masks xs - 1) + stmts_levels (made p xs) ≤ room
+
+-- the same, where more variables are open behind the actions than before
+abbrev Opens : ℕ → ℕ → PlainActions → Place → ℕ → Type 0
+Opens before after xs p room = after + (words xs - after + (width.masks xs - 1) + stmts_levels (made p xs)) ≤ before + room
+
+-- ---- one action after another
+
+words_joined : (xs ys : PlainActions) → words (actions.joined xs ys) ≡ max (words xs) (words ys)
+words_joined no_action ys = omega arith
+words_joined (action a rest) ys = let more = words_joined rest ys in omega (arith, more)
+
+masks_joined : (xs ys : PlainActions) → width.masks (actions.joined xs ys) ≡ max (width.masks xs) (width.masks ys)
+masks_joined no_action ys = omega arith
+masks_joined (action a rest) ys = let more = masks_joined rest ys in omega (arith, more)
+
+ended_levels : (ended : Bool) (ts : PlainStmts) → stmts_levels (if ended then no_stmt else ts) ≤ stmts_levels ts
+ended_levels true ts = omega arith
+ended_levels false ts = omega arith
+
+levels_joined : (p : Place) (xs ys : PlainActions)
+    → stmts_levels (made p (actions.joined xs ys)) ≤ max (stmts_levels (made p xs)) (stmts_levels (made p ys))
+levels_joined p no_action ys = omega arith
+levels_joined p (action a rest) ys = by (ends a) (joined_levels (made_action p a)) (levels_joined p rest ys)
+  where
+    by : (ended : Bool) → ((ts : PlainStmts) → stmts_levels (joined (made_action p a) ts) ≡ max (stmts_levels (made_action p a)) (stmts_levels ts))
+        → stmts_levels (made p (actions.joined rest ys)) ≤ max (stmts_levels (made p rest)) (stmts_levels (made p ys))
+        → stmts_levels (joined (made_action p a) (if ended then no_stmt else made p (actions.joined rest ys)))
+        ≤ max (stmts_levels (joined (made_action p a) (if ended then no_stmt else made p rest))) (stmts_levels (made p ys))
+    by true each more = omega (arith, each no_stmt)
+    by false each more = omega (arith, more, each (made p (actions.joined rest ys)), each (made p rest))
+
+levels_one : (p : Place) (a : PlainAction) → stmts_levels (made p (one a)) ≤ stmts_levels (made_action p a)
+levels_one p a = omega (arith, joined_levels (made_action p a) (if ends a then no_stmt else no_stmt), ended_levels (ends a) no_stmt)
+
+-- the first may open variables, each of which takes a word
+joined_within : (before after first more : ℕ) (xs ys : PlainActions) (p : Place) → before ≤ after → Opens before after xs p first
+    → Within after ys p more → Within before (actions.joined xs ys) p (first + more)
+joined_within before after first more xs ys p opens here there =
+    omega (arith, opens, here, there, words_joined xs ys, masks_joined xs ys, levels_joined p xs ys)
+
+-- ---- what is set, and calls
+
+sets_within : (n : ℕ) (p : Place) (target : Option PlainTarget) (e : PlainSp) → result_words target ≤ n → expr_words e ≤ n
+    → Within n (maybe_sets (assignment_to target e)) p 0
+sets_within n p None e of to = omega arith
+sets_within n p (Some (to_level at)) e of to = omega (arith, of, to)
+sets_within n p (Some (to_cell cell)) e of to = omega (arith, to)
+sets_within n p (Some (to_array array index)) e of to = omega (arith, of, to)
+
+call_within : (n : ℕ) (p : Place) (k : Option ℕ) (args : List PlainSp) (target : Option PlainTarget) → result_words target ≤ n
+    → args_words args ≤ n → Within n (numbered_call k args target) p 0
+call_within n p None args target of to = sets_within n p target (constant 0) of (omega arith)
+call_within n p (Some k) args None of to = omega (arith, to)
+call_within n p (Some k) args (Some (to_level at)) of to = omega (arith, of, to)
+call_within n p (Some k) args (Some (to_cell cell)) of to = omega (arith, to)
+call_within n p (Some k) args (Some (to_array array index)) of to = omega (arith, of, to)
+
+right_within : (fs : List (List ℕ)) (names : Names) (fresh : Option ℕ) (target : Option PlainTarget) (r : PlainRight) (p : Place)
+    → result_words target ≤ length names.variables → Within (length names.variables) (resolved_right fs names fresh target r) p 0
+right_within fs names fresh target (plain.value e) p of =
+    sets_within (length names.variables) p target (resolved names fresh e) of (resolved_words names fresh e)
+right_within fs names fresh target (plain.call text args) p of =
+    call_within (length names.variables) p (number_of text fs) (resolved_args names fresh args) target of (resolved_args_words names fresh args)
+
+-- ---- ways on, and loops
+
+return_levels : (p : Place) (e : PlainSp) → stmts_levels (made_return p e) ≤ 0
+return_levels p e =
+    let outer = tree.one (masks p.turn (returned_loop p)) in
+    let ends_all = stmt (masks p.function (returned_function p)) (if p.function == p.turn then no_stmt else outer) in
+    let set = ended_levels (is_zero e) (tree.one (tree.writes p.own (tree.to_slot p.result) e)) in
+    omega (arith, joined_levels (made_result p e) ends_all, set, ended_levels (p.function == p.turn) outer)
+
+return_within : (n : ℕ) (p : Place) (e : PlainSp) → expr_words e ≤ n → Within n (one (returns e)) p 0
+return_within n p e of = omega (arith, of, levels_one p (returns e), return_levels p e)
+
+step_levels : (mask : ℕ) (step : Option PlainAssignment) → stmts_levels (made_step mask step) ≤ 0
+step_levels mask None = omega arith
+step_levels mask (Some a) = omega arith
+
+turn_levels : (p : Place) (condition : PlainSp) (body : PlainStmts) (step : Option PlainAssignment)
+    → stmts_levels (made_turn p condition body step) ≤ stmts_levels body
+turn_levels p condition body step =
+    omega (arith, joined_levels body (stmt (masks p.free (not_zero (frame_word p.free))) (made_step p.free step)), step_levels p.free step)
+
+loop_levels : (p : Place) (most : ℕ) (condition : PlainSp) (turn : PlainStmts)
+    → stmts_levels (made_loop p most condition turn) ≤ 1 + stmts_levels turn
+loop_levels p zero condition turn = omega arith
+loop_levels p (suc n) condition turn = omega arith
+
+-- a loop takes a word for its mask and one for its turns
+turns_within : (n room : ℕ) (p : Place) (most : ℕ) (condition : PlainSp) (body : PlainActions) (step : Option PlainAssignment)
+    → expr_words condition ≤ n → step_words step ≤ n → Within n body (in_loop p) room
+    → Within n (one (turns most condition body step)) p (2 + room)
+turns_within n room p zero condition body step of to within = omega (arith, of, to, within)
+turns_within n room p (suc k) condition body step of to within =
+    let turn = made_turn p condition (made (in_loop p) body) step in
+    omega (
+      arith,
+      of,
+      to,
+      within,
+      levels_one p (turns (suc k) condition body step),
+      loop_levels p (suc k) condition turn,
+      turn_levels p condition (made (in_loop p) body) step,
+    )
+
+condition_words : (names : Names) (head : PlainHead) → expr_words (resolved_condition names head) ≤ length names.variables
+condition_words names (plain.turns_while condition) = resolved_words names None condition
+condition_words names (plain.turns_for first from condition to_set to) = resolved_words names None condition
+
+begin_within : (names : Names) (head : PlainHead) (p : Place) → Within (length names.variables) (maybe_sets (resolved_begin names head)) p 0
+begin_within names (plain.turns_while condition) p = omega arith
+begin_within names (plain.turns_for first from condition to_set to) p =
+    sets_within (length names.variables) p (variable_target (named names first)) (resolved names None from) (variable_target_words names first)
+    (resolved_words names None from)
+
+next_words : (names : Names) (head : PlainHead) → step_words (resolved_next names head) ≤ length names.variables
+next_words names (plain.turns_while condition) = omega arith
+next_words names (plain.turns_for first from condition to_set to) = by (variable_target (named names to_set)) (variable_target_words names to_set)
+  where
+    by : (target : Option PlainTarget) → result_words target ≤ length names.variables
+        → step_words (assignment_to target (resolved names None to)) ≤ length names.variables
+    by None of = omega arith
+    by (Some target) of = omega (arith, of, resolved_words names None to)
+
+-- ---- statements
+
+arm_levels : (p : Place) (condition : PlainSp) (arm : PlainStmts) (nothing : Bool) (rest : PlainStmts)
+    → stmts_levels (made_arm p condition arm (made_otherwise p nothing rest)) ≤ max (stmts_levels arm) (stmts_levels rest)
+arm_levels p condition arm nothing rest =
+    omega (arith, joined_levels arm (made_otherwise p nothing rest), ended_levels nothing (stmt (masks p.free (where_not_taken p)) rest))
+
+one_more : (names : Names) (kind : Kind) (text : List ℕ) → length (with_variable names kind text).variables ≡ length names.variables + 1
+one_more names kind text = length-append names.variables (record { name = text; unsigned = is_unsigned kind } ∷ [])
+
+-- no statement closes a variable
+names_more : (names : Names) (s : PlainStmt) → length names.variables ≤ length (names_after names s).variables
+names_more names (plain.declared kind text r) = omega (arith, one_more names kind text)
+names_more names s = omega arith
+
+mutual
+  unfolding stmt_frame block_frame arms_frame otherwise_frame
+
+  stmt_within : (fs : List (List ℕ)) (names : Names) (s : PlainStmt) (p : Place)
+      → Opens (length names.variables) (length (names_after names s).variables) (resolved_stmt fs names s) p (stmt_frame s)
+  stmt_within fs names (plain.declared kind text None) p = omega (arith, one_more names kind text)
+  stmt_within fs names (plain.declared kind text (Some r)) p =
+      let n = length names.variables in
+      let more = one_more names kind text in
+      omega (arith, more, right_within fs (with_variable names kind text) (Some n) (Some (to_level n)) r p (omega (arith, more)))
+  stmt_within fs names (plain.set text r) p =
+      let target = variable_target (named names text) in
+      omega (arith, right_within fs names None target r p (variable_target_words names text))
+  stmt_within fs names (plain.set_element text index r) p =
+      let i = resolved names None index in
+      let of = element_target_words (named names text) i in
+      omega (arith, right_within fs names None (element_target (named names text) i) r p (omega (arith, of, resolved_words names None index)))
+  stmt_within fs names (plain.called text args) p =
+      let n = length names.variables in
+      omega (arith, call_within n p (number_of text fs) (resolved_args names None args) None (omega arith) (resolved_args_words names None args))
+  stmt_within fs names (plain.sent core core_unsigned source target count) p =
+      omega (arith, resolved_words names None source, resolved_words names None target, resolved_words names None count)
+  stmt_within fs names (plain.chosen arms otherwise) p =
+      let n = length names.variables in
+      let bs = resolved_arms fs names arms in
+      let rest = resolved_otherwise fs names otherwise in
+      let last = otherwise_within fs names otherwise in
+      let room = otherwise_frame otherwise - (words rest - n) in
+      let chosen = arms_within fs names arms (is_no_action rest) (λ q. made q rest) (width.masks rest) room
+      (λ q. let one = last q in omega (arith, one)) p in
+      omega (
+        arith,
+        chosen,
+        last p,
+        joined_levels (made_branches p bs (is_no_action rest) (λ q. made q rest)) (tree.one (masks p.own (where_on p))),
+        levels_one p (chooses bs rest),
+      )
+  stmt_within fs names (plain.looped bound head body) p =
+      let n = length names.variables in
+      let condition = resolved_condition names head in
+      let inside = resolved_block fs names body in
+      let step = resolved_next names head in
+      let first = maybe_sets (resolved_begin names head) in
+      let loop = one (turns (most_turns bound) condition inside step) in
+      let begin = begin_within names head p in
+      let within = turns_within n (block_frame body) p (most_turns bound) condition inside step (condition_words names head)
+      (next_words names head) (block_within fs names body (in_loop p)) in
+      omega (arith, joined_within n n 0 (2 + block_frame body) first loop p (omega arith) (omega (arith, begin)) within)
+  stmt_within fs names plain.broken p = omega arith
+  stmt_within fs names plain.continued p = omega arith
+  stmt_within fs names (plain.returned None) p = omega (arith, return_within (length names.variables) p (constant 0) (omega arith))
+  stmt_within fs names (plain.returned (Some e)) p =
+      omega (arith, return_within (length names.variables) p (resolved names None e) (resolved_words names None e))
+  stmt_within fs names (plain.inner body) p = let within = block_within fs names body p in omega (arith, within)
+
+  block_within : (fs : List (List ℕ)) (names : Names) (body : PlainBlock) (p : Place)
+      → Within (length names.variables) (resolved_block fs names body) p (block_frame body)
+  block_within fs names plain.no_stmt p = omega arith
+  block_within fs names (plain.stmt s rest) p =
+      let after = names_after names s in
+      let first = resolved_stmt fs names s in
+      let more = resolved_block fs after rest in
+      joined_within (length names.variables) (length after.variables) (stmt_frame s) (block_frame rest) first more p (names_more names s)
+      (stmt_within fs names s p) (block_within fs after rest p)
+
+  -- arms before actions that have so many masks, and behind which there is so much room
+  arms_within : (fs : List (List ℕ)) (names : Names) (arms : PlainArms) (nothing : Bool) (otherwise : Place → PlainStmts) (inside room : ℕ)
+      → ((q : Place) → inside - 1 + stmts_levels (otherwise q) ≤ room) → (p : Place)
+      → branches_words (resolved_arms fs names arms) - length names.variables + (branches_masks (resolved_arms fs names arms) inside - 1)
+      + stmts_levels (made_branches p (resolved_arms fs names arms) nothing otherwise) ≤ arms_frame arms + room
+  arms_within fs names plain.no_arm nothing otherwise inside room each p = omega (arith, each p)
+  arms_within fs names (plain.arm condition body rest) nothing otherwise inside room each p =
+      let others = resolved_arms fs names rest in
+      let first = block_within fs names body (in_arm p) in
+      let more = arms_within fs names rest nothing otherwise inside room each (in_arm p) in
+      let arm = made (in_arm p) (resolved_block fs names body) in
+      omega (
+        arith,
+        first,
+        more,
+        resolved_words names None condition,
+        arm_levels p (resolved names None condition) arm (is_no_branch others && nothing) (made_branches (in_arm p) others nothing otherwise),
+      )
+
+  otherwise_within : (fs : List (List ℕ)) (names : Names) (otherwise : PlainOtherwise) (p : Place)
+      → Within (length names.variables) (resolved_otherwise fs names otherwise) p (otherwise_frame otherwise)
+  otherwise_within fs names plain.no_else p = omega arith
+  otherwise_within fs names (plain.or_else body) p = block_within fs names body p
+
+-- ---- functions
+
+body_within : (fs : List (List ℕ)) (names : Names) (body : List PlainStmt) (p : Place)
+    → Within (length names.variables) (resolved_body fs names body) p (body_frame body)
+body_within fs names [] p = omega arith
+body_within fs names (s ∷ rest) p =
+    let after = names_after names s in
+    let first = resolved_stmt fs names s in
+    let more = resolved_body fs after rest in
+    let all = joined_within (length names.variables) (length after.variables) (stmt_frame s) (body_frame rest) first more p (names_more names s)
+    (stmt_within fs names s p) (body_within fs after rest p) in
+    omega (arith, all, sum_by-cons stmt_frame s rest)
+
+parameters_open : (parameters : List Parameter) → length (parameter_variables parameters) ≡ length parameters
+parameters_open [] = refl
+parameters_open (p ∷ parameters) = ap suc (parameters_open parameters)
+
+pub frame_within : (fs : List (List ℕ)) (slots : List Slot) (parameters : List Parameter) (body : List PlainStmt)
+    → (made_function (length parameters) (resolved_body fs (record { slots = slots; variables = parameter_variables parameters }) body)).frame
+    ≤ function_frame parameters body
+frame_within fs slots parameters body =
+    let names : Names = record { slots = slots; variables = parameter_variables parameters } in
+    let all = resolved_body fs names body in
+    omega (arith, body_within fs names body (outermost (variables (length parameters) all)), parameters_open parameters)

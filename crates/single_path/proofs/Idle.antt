@@ -1,0 +1,436 @@
+-- Parts that are not to act: under masks that say so they leave all words below the first free one, and all memories.
+use Rattle.std.proofs.Common.{◌≡◌, ◌≢◌, ℕ, zero, suc, ◌+◌, ◌<◌, ◌==◌, Bool, true, false, if◌then◌else◌, List, Option, Some, None, refl, ap, sym, ◌∙◌, arith, eq-eqb, eqb-true, ap₂, subst, true≢false}
+use Rattle.std.specs.Prelude.{bit_and, bit_xor, not, ◌&&◌}
+use Rattle.c_world.specs.Numbers.{flag, sum_of, difference_of}
+use Rattle.c_world.specs.World.{World}
+use Rattle.sp_tree.specs.Plain.{PlainSp, constant, frame_word}
+use Rattle.sp_tree.specs.Statements.{PlainPlace, to_slot, PlainStmt, masks, writes, overruns, PlainStmts, no_stmt, stmt, one, joined}
+use Rattle.sp_tree.specs.Statements as tree
+use Rattle.sp_tree.specs.Straight.{State, Serves, with_slot, args_worth, worth, times, stmt_done, stmts_done}
+use Rattle.sp_tree.proofs.Joins.{joined_done}
+use Rattle.sp_tree.proofs.Masks.{write_off, send_off, overrun_off, call_off}
+use Rattle.c_meaning.specs.Actions.{PlainTarget, to_level, PlainAssignment, PlainAction, sets, calls, transfers, chooses, turns, breaks, continues, returns, PlainActions, no_action, action, PlainBranches, no_branch, branch}
+use Rattle.c_meaning.specs.Actions as actions
+use Rattle.single_path.specs.declared.places.Place.{Place}
+use Rattle.single_path.specs.Places.{in_arm, in_loop, where_so, where_not_taken, where_not_returned, bit_of, not_zero, broken, continued, returned_function, returned_loop}
+use Rattle.single_path.specs.Places as mask
+use Rattle.single_path.specs.Made.{made, made_action, made_branches, made_place, made_assignment, made_step, made_return, made_result, made_arm, made_otherwise, made_turn, made_loop, is_zero, is_no_branch, is_no_action, ends}
+use Rattle.single_path.proofs.Frames.{put_here, Order, Still, still_here, still_on, fewer, set_behind, set_same, turns_still}
+
+-- a function under another mask than 1 changes no memory
+pub record Quiet (g : Serves) : Type 0 where
+  pub world : (k under : ℕ) (args : List ℕ) (w : World) → under ≢ 1 → (g k under args w).world ≡ w
+
+-- the masks of a part, of its loop and of its function where it is not to act
+pub data Idle : ℕ → ℕ → ℕ → Type 0 where
+  left : Idle 0 0 1
+  armed : Idle 0 1 1
+  waits : Idle 0 2 1
+  skips : Idle 2 2 1
+  gone : Idle 0 0 0
+
+pub record Dead (p : Place) (s : State) : Type 0 where
+  pub own_word : ℕ
+  pub loop_word : ℕ
+  pub function_word : ℕ
+  pub idle : Idle own_word loop_word function_word
+  pub own : s.frame p.own ≡ own_word
+  pub loop : s.frame p.turn ≡ loop_word
+  pub function : s.frame p.function ≡ function_word
+  pub alone : own_word ≡ 2 → p.own ≡ p.turn
+
+-- ---- what masks are set to, where a part is idle
+
+not_1 : (a b c : ℕ) → Idle a b c → a ≢ 1
+not_1 a b c left = omega arith
+not_1 a b c armed = omega arith
+not_1 a b c waits = omega arith
+not_1 a b c skips = omega arith
+not_1 a b c gone = omega arith
+
+idle_so : (a b c : ℕ) → Idle a b c → (holds : Bool) → bit_and a (flag holds) ≡ 0
+idle_so a b c left holds = refl
+idle_so a b c armed holds = refl
+idle_so a b c waits holds = refl
+idle_so a b c skips true = refl
+idle_so a b c skips false = refl
+idle_so a b c gone holds = refl
+
+idle_bit : (a b c : ℕ) → Idle a b c → bit_and a 1 ≡ 0
+idle_bit a b c left = refl
+idle_bit a b c armed = refl
+idle_bit a b c waits = refl
+idle_bit a b c skips = refl
+idle_bit a b c gone = refl
+
+idle_otherwise : (a b c : ℕ) → Idle a b c → bit_and (bit_and b 1) (bit_xor a 0) ≡ 0
+idle_otherwise a b c left = refl
+idle_otherwise a b c armed = refl
+idle_otherwise a b c waits = refl
+idle_otherwise a b c skips = refl
+idle_otherwise a b c gone = refl
+
+idle_on : (a b c : ℕ) → Idle a b c → bit_and a b ≡ a
+idle_on a b c left = refl
+idle_on a b c armed = refl
+idle_on a b c waits = refl
+idle_on a b c skips = refl
+idle_on a b c gone = refl
+
+idle_not_returned : (a b c : ℕ) → Idle a b c → bit_and b (difference_of 0 c) ≡ b
+idle_not_returned a b c left = refl
+idle_not_returned a b c armed = refl
+idle_not_returned a b c waits = refl
+idle_not_returned a b c skips = refl
+idle_not_returned a b c gone = refl
+
+idle_broken : (a b c : ℕ) → Idle a b c → difference_of b (bit_and a 1) ≡ b
+idle_broken a b c left = refl
+idle_broken a b c armed = refl
+idle_broken a b c waits = refl
+idle_broken a b c skips = refl
+idle_broken a b c gone = refl
+
+idle_continued : (a b c : ℕ) → Idle a b c → sum_of b (bit_and a 1) ≡ b
+idle_continued a b c left = refl
+idle_continued a b c armed = refl
+idle_continued a b c waits = refl
+idle_continued a b c skips = refl
+idle_continued a b c gone = refl
+
+idle_less : (a b c : ℕ) → Idle a b c → difference_of b 0 ≡ b
+idle_less a b c left = refl
+idle_less a b c armed = refl
+idle_less a b c waits = refl
+idle_less a b c skips = refl
+idle_less a b c gone = refl
+
+idle_function : (a b c : ℕ) → Idle a b c → difference_of c 0 ≡ c
+idle_function a b c left = refl
+idle_function a b c armed = refl
+idle_function a b c waits = refl
+idle_function a b c skips = refl
+idle_function a b c gone = refl
+
+idle_alone : (a b c : ℕ) → Idle a b c → a ≡ b → bit_and b 2 ≡ b
+idle_alone a b c left same = refl
+idle_alone a b c armed same = absurd (omega (arith, same))
+idle_alone a b c waits same = refl
+idle_alone a b c skips same = refl
+idle_alone a b c gone same = refl
+
+idle_apart : (a b c : ℕ) → Idle a b c → a ≢ 2 → a ≡ 0
+idle_apart a b c left apart = refl
+idle_apart a b c armed apart = refl
+idle_apart a b c waits apart = refl
+idle_apart a b c skips apart = absurd (apart refl)
+idle_apart a b c gone apart = refl
+
+-- ---- the masks of parts inside
+
+idle_arm : (a b c : ℕ) → Idle a b c → Idle 0 b c
+idle_arm a b c left = left
+idle_arm a b c armed = armed
+idle_arm a b c waits = waits
+idle_arm a b c skips = waits
+idle_arm a b c gone = gone
+
+idle_loop : (a b c : ℕ) → Idle a b c → Idle 0 0 c
+idle_loop a b c left = left
+idle_loop a b c armed = left
+idle_loop a b c waits = left
+idle_loop a b c skips = left
+idle_loop a b c gone = gone
+
+pub dead_on : (n : ℕ) (p : Place) (s t : State) → p.own < n → p.turn < n → p.function < n → Still n s t → Dead p s → Dead p t
+dead_on n p s t own_in loop_in function_in h d = record {
+  own_word = d.own_word;
+  loop_word = d.loop_word;
+  function_word = d.function_word;
+  idle = d.idle;
+  own = h.frame p.own own_in ∙ d.own;
+  loop = h.frame p.turn loop_in ∙ d.loop;
+  function = h.frame p.function function_in ∙ d.function;
+  alone = d.alone;
+}
+
+-- the masks of a part stand before its first free word
+pub still_dead : (n : ℕ) (p : Place) (s t : State) → Order n p → Still p.free s t → Dead p s → Dead p t
+still_dead n p s t o h d =
+    dead_on p.free p s t o.free (omega (arith, o.own, o.free)) (omega (arith, o.loop, o.own, o.free)) h d
+
+dead_arm : (n : ℕ) (p : Place) (s t : State) → Order n p → Still p.free s t → t.frame p.free ≡ 0 → Dead p s → Dead (in_arm p) t
+dead_arm n p s t o h off d = record {
+  own_word = 0;
+  loop_word = d.loop_word;
+  function_word = d.function_word;
+  idle = idle_arm d.own_word d.loop_word d.function_word d.idle;
+  own = off;
+  loop = h.frame p.turn (omega (arith, o.own, o.free)) ∙ d.loop;
+  function = h.frame p.function (omega (arith, o.loop, o.own, o.free)) ∙ d.function;
+  alone = λ two. absurd (omega (arith, two));
+}
+
+dead_loop : (n : ℕ) (p : Place) (s t : State) → Order n p → Still p.free s t → t.frame p.free ≡ 0 → Dead p s → Dead (in_loop p) t
+dead_loop n p s t o h off d = record {
+  own_word = 0;
+  loop_word = 0;
+  function_word = d.function_word;
+  idle = idle_loop d.own_word d.loop_word d.function_word d.idle;
+  own = off;
+  loop = off;
+  function = h.frame p.function (omega (arith, o.loop, o.own, o.free)) ∙ d.function;
+  alone = λ two. absurd (omega (arith, two));
+}
+
+pub order_arm : (n : ℕ) (p : Place) → Order n p → Order n (in_arm p)
+order_arm n p o = record { result = o.result; function = o.function; loop = o.loop; own = omega (arith, o.own, o.free); free = omega arith }
+
+pub order_loop : (n : ℕ) (p : Place) → Order n p → Order n (in_loop p)
+order_loop n p o = record { result = o.result; function = o.function; loop = omega (arith, o.loop, o.own, o.free); own = omega arith; free = omega arith }
+
+-- ---- statements under masks that are not 1
+
+off : (p : Place) (s : State) → Dead p s → s.frame p.own ≢ 1
+off p s d is = not_1 d.own_word d.loop_word d.function_word d.idle (sym d.own ∙ is)
+
+same_still : (n : ℕ) (s t : State) → t ≡ s → Still n s t
+same_still n s t same = record { frame = λ x below. ap (λ (u : State). u.frame x) same; world = ap (λ (u : State). u.world) same }
+
+joined_still : (g : Serves) (n : ℕ) (xs ys : PlainStmts) (s : State) → Still n s (stmts_done g xs s)
+    → Still n (stmts_done g xs s) (stmts_done g ys (stmts_done g xs s)) → Still n s (stmts_done g (joined xs ys) s)
+joined_still g n xs ys s h k =
+    subst (λ u. Still n s u) (sym (joined_done g xs ys s)) (still_on n s (stmts_done g xs s) (stmts_done g ys (stmts_done g xs s)) h k)
+
+call_still : (g : Serves) → Quiet g → (n mask k : ℕ) (args : List PlainSp) (result : Option ℕ) (s : State) → s.frame mask ≢ 1
+    → Still n s (stmt_done g (tree.calls mask k args result) s)
+call_still g quiet n mask k args result s is = let same = call_off g mask k args result s is in record {
+  frame = λ x below. ap (λ (u : State). u.frame x) same;
+  world = ap (λ (u : State). u.world) same ∙ quiet.world k (s.frame mask) (args_worth args s) s.world is;
+}
+
+-- what a function gives is set nowhere, by its free word either
+given_still : (g : Serves) → Quiet g → (n : ℕ) (p : Place) (k : ℕ) (args : List PlainSp) (place : PlainPlace) (s : State) → p.own < n → s.frame p.own ≢ 1
+    → Still n s (stmts_done g (stmt (tree.calls p.own k args (Some p.free)) (one (writes p.own place (frame_word p.free)))) s)
+given_still g quiet n p k args place s own_in is =
+    let t = stmt_done g (tree.calls p.own k args (Some p.free)) s in
+    let called = call_still g quiet n p.own k args (Some p.free) s is in
+    let still_off : t.frame p.own ≢ 1 = λ e. is (sym (called.frame p.own own_in) ∙ e) in
+    still_on n s t (stmt_done g (writes p.own place (frame_word p.free)) t) called
+    (same_still n t (stmt_done g (writes p.own place (frame_word p.free)) t) (write_off g p.own place (frame_word p.free) t still_off))
+
+step_still : (g : Serves) (n mask : ℕ) (step : Option PlainAssignment) (s : State) → s.frame mask ≢ 1 → Still n s (stmts_done g (made_step mask step) s)
+step_still g n mask None s is = still_here n s
+step_still g n mask (Some a) s is = same_still n s (stmt_done g (made_assignment mask a) s) (write_off g mask (made_place a.target) a.value s is)
+
+-- ---- ways on that are not taken
+
+result_still : (g : Serves) (n : ℕ) (p : Place) (e : PlainSp) (zero_value : Bool) (s : State) → s.frame p.own ≢ 1
+    → Still n s (stmts_done g (if zero_value then no_stmt else one (writes p.own (to_slot p.result) e)) s)
+result_still g n p e true s is = still_here n s
+result_still g n p e false s is = same_still n s (stmt_done g (writes p.own (to_slot p.result) e) s) (write_off g p.own (to_slot p.result) e s is)
+
+returned_function_still : (p : Place) (s : State) (alone : Bool) → (p.own == p.turn) ≡ alone → Dead p s
+    → difference_of (s.frame p.function) (worth (if alone then bit_of p.own else frame_word p.own) s) ≡ s.frame p.function
+returned_function_still p s true is d =
+    ap₂ (λ c a. difference_of c (bit_and a 1)) d.function d.own ∙ ap (difference_of d.function_word) (idle_bit d.own_word d.loop_word d.function_word d.idle)
+    ∙ idle_function d.own_word d.loop_word d.function_word d.idle ∙ sym d.function
+returned_function_still p s false is d =
+    ap₂ difference_of d.function (d.own ∙ idle_apart d.own_word d.loop_word d.function_word d.idle (λ two. true≢false (sym (eq-eqb p.own p.turn (d.alone two)) ∙ is)))
+    ∙ idle_function d.own_word d.loop_word d.function_word d.idle ∙ sym d.function
+
+returned_loop_still : (p : Place) (s : State) (alone : Bool) → (p.own == p.turn) ≡ alone → Dead p s
+    → worth (if alone then mask.both (frame_word p.turn) (constant 2) else mask.less_by (frame_word p.turn) (frame_word p.own)) s ≡ s.frame p.turn
+returned_loop_still p s true is d =
+    ap (λ b. bit_and b 2) d.loop
+    ∙ idle_alone d.own_word d.loop_word d.function_word d.idle (sym d.own ∙ ap s.frame (eqb-true p.own p.turn is) ∙ d.loop) ∙ sym d.loop
+returned_loop_still p s false is d =
+    ap₂ difference_of d.loop (d.own ∙ idle_apart d.own_word d.loop_word d.function_word d.idle (λ two. true≢false (sym (eq-eqb p.own p.turn (d.alone two)) ∙ is)))
+    ∙ idle_less d.own_word d.loop_word d.function_word d.idle ∙ sym d.loop
+
+outer_still : (g : Serves) (p : Place) (outside : Bool) (s : State) → Dead p s
+    → Still p.free s (stmts_done g (if outside then no_stmt else one (masks p.turn (returned_loop p))) s)
+outer_still g p true s d = still_here p.free s
+outer_still g p false s d = set_same p.free p.turn (worth (returned_loop p) s) s (returned_loop_still p s (p.own == p.turn) refl d)
+
+return_still : (g : Serves) (n : ℕ) (p : Place) (e : PlainSp) (s : State) → Order n p → Dead p s → Still p.free s (stmts_done g (made_return p e) s)
+return_still g n p e s o d =
+    let result = result_still g p.free p e (is_zero e) s (off p s d) in
+    let t = stmts_done g (made_result p e) s in
+    let d' = still_dead n p s t o result d in
+    let u = with_slot p.function (worth (returned_function p) t) t in
+    let function = set_same p.free p.function (worth (returned_function p) t) t (returned_function_still p t (p.own == p.turn) refl d') in
+    let rest = if p.function == p.turn then no_stmt else one (masks p.turn (returned_loop p)) in
+    joined_still g p.free (made_result p e) (stmt (masks p.function (returned_function p)) rest) s result
+    (still_on p.free t u (stmts_done g rest u) function (outer_still g p (p.function == p.turn) u (still_dead n p t u o function d')))
+
+-- ---- turns
+
+-- the masks of a loop that is left
+pub record Left (p : Place) (s : State) : Type 0 where
+  pub dead : Dead (in_loop p) s
+  pub off : s.frame p.free ≡ 0
+
+left_on : (n : ℕ) (p : Place) (s t : State) → Order n p → Still (p.free + 1) s t → Left p s → Left p t
+left_on n p s t o h l = record { dead = still_dead n (in_loop p) s t (order_loop n p o) h l.dead; off = h.frame p.free (omega arith) ∙ l.off }
+
+pub left_off : (p : Place) (s : State) → Left p s → s.frame p.free ≢ 1
+left_off p s l e = absurd (let z = l.off in omega (arith, e, z))
+
+-- the end of a turn
+pub ended_still : (g : Serves) (n : ℕ) (p : Place) (step : Option PlainAssignment) (s : State) → Order n p → Left p s
+    → Still (p.free + 1) s (stmts_done g (stmt (masks p.free (not_zero (frame_word p.free))) (made_step p.free step)) s)
+ended_still g n p step s o l =
+    let t = with_slot p.free (worth (not_zero (frame_word p.free)) s) s in
+    let again = set_same (p.free + 1) p.free (worth (not_zero (frame_word p.free)) s) s (ap (λ a. flag (not (a == 0))) l.off ∙ sym l.off) in
+    still_on (p.free + 1) s t (stmts_done g (made_step p.free step) t) again
+    (step_still g (p.free + 1) p.free step t (left_off p t (left_on n p s t o again l)))
+
+-- a turn behind its test
+pub behind_still : (g : Serves) (n : ℕ) (p : Place) (body : PlainStmts) (step : Option PlainAssignment) → Order n p
+    → ((t : State) → Dead (in_loop p) t → Still (p.free + 1) t (stmts_done g body t)) → (s : State) → Left p s
+    → Still (p.free + 1) s (stmts_done g (joined body (stmt (masks p.free (not_zero (frame_word p.free))) (made_step p.free step))) s)
+behind_still g n p body step o each s l =
+    let turned = each s l.dead in
+    joined_still g (p.free + 1) body (stmt (masks p.free (not_zero (frame_word p.free))) (made_step p.free step)) s turned
+    (ended_still g n p step (stmts_done g body s) o (left_on n p s (stmts_done g body s) o turned l))
+
+turn_still : (g : Serves) (n : ℕ) (p : Place) (condition : PlainSp) (body : PlainStmts) (step : Option PlainAssignment) → Order n p
+    → ((t : State) → Dead (in_loop p) t → Still (p.free + 1) t (stmts_done g body t))
+    → (s : State) → Left p s → Still (p.free + 1) s (stmts_done g (made_turn p condition body step) s)
+turn_still g n p condition body step o each s l =
+    let t = with_slot p.free (worth (where_so p.free condition) s) s in
+    let tested = set_same (p.free + 1) p.free (worth (where_so p.free condition) s) s
+    (ap (λ a. bit_and a (worth (not_zero condition) s)) l.off ∙ sym l.off) in
+    still_on (p.free + 1) s t (stmts_done g (joined body (stmt (masks p.free (not_zero (frame_word p.free))) (made_step p.free step))) t) tested
+    (behind_still g n p body step o each t (left_on n p s t o tested l))
+
+pub turns_left : (g : Serves) (n : ℕ) (p : Place) (condition : PlainSp) (body : PlainStmts) (step : Option PlainAssignment) → Order n p
+    → ((t : State) → Dead (in_loop p) t → Still (p.free + 1) t (stmts_done g body t))
+    → (k : ℕ) (s : State) → Left p s → Still (p.free + 1) s (times k (stmts_done g (made_turn p condition body step)) s)
+turns_left g n p condition body step o each k s l =
+    turns_still (p.free + 1) (stmts_done g (made_turn p condition body step)) (Left p)
+    (λ t h. turn_still g n p condition body step o each t h)
+    (λ t h. left_on n p t (stmts_done g (made_turn p condition body step) t) o (turn_still g n p condition body step o each t h) h) k s l
+
+-- so many turns, and the flag behind them
+pub flagged_still : (g : Serves) (n : ℕ) (p : Place) (condition : PlainSp) (body : PlainStmts) (step : Option PlainAssignment) → Order n p
+    → ((t : State) → Dead (in_loop p) t → Still (p.free + 1) t (stmts_done g body t)) → (k : ℕ) (s : State) → Left p s
+    → Still p.free s (stmt_done g (overruns p.free condition) (times k (stmts_done g (made_turn p condition body step)) s))
+flagged_still g n p condition body step o each k s l =
+    let t = times k (stmts_done g (made_turn p condition body step)) s in
+    let turned = turns_left g n p condition body step o each k s l in
+    still_on p.free s t (stmt_done g (overruns p.free condition) t) (fewer (p.free + 1) p.free s t (omega arith) turned)
+    (same_still p.free t (stmt_done g (overruns p.free condition) t) (overrun_off g p.free condition t (left_off p t (left_on n p s t o turned l))))
+
+on_still : (g : Serves) (p : Place) (s : State) → Dead p s → Still p.free s (stmts_done g (one (masks p.own (mask.where_on p))) s)
+on_still g p s d = set_same p.free p.own (worth (mask.where_on p) s) s
+    (ap₂ bit_and d.own d.loop ∙ idle_on d.own_word d.loop_word d.function_word d.idle ∙ sym d.own)
+
+-- behind the turns the flag stands, and so do the masks
+loop_still : (g : Serves) (n : ℕ) (p : Place) (most : ℕ) (condition : PlainSp) (body : PlainStmts) (step : Option PlainAssignment) → Order n p
+    → ((t : State) → Dead (in_loop p) t → Still (p.free + 1) t (stmts_done g body t))
+    → (s : State) → Dead p s → Still p.free s (stmts_done g (made_loop p most condition (made_turn p condition body step)) s)
+loop_still g n p zero condition body step o each s d =
+    same_still p.free s (stmt_done g (overruns p.own condition) s) (overrun_off g p.own condition s (off p s d))
+loop_still g n p (suc k) condition body step o each s d =
+    let a = s.frame p.own in
+    let t = with_slot p.free (worth (bit_of p.own) s) s in
+    let begun = set_behind p.free p.free (worth (bit_of p.own) s) s (omega arith) in
+    let off_there : t.frame p.free ≡ 0 =
+    put_here p.free (worth (bit_of p.own) s) s.frame ∙ ap (λ x. bit_and x 1) d.own ∙ idle_bit d.own_word d.loop_word d.function_word d.idle in
+    let left_there : Left p t = record { dead = dead_loop n p s t o begun off_there d; off = off_there } in
+    let v = stmt_done g (overruns p.free condition) (times (suc k) (stmts_done g (made_turn p condition body step)) t) in
+    let so_far = still_on p.free s t v begun (flagged_still g n p condition body step o each (suc k) t left_there) in
+    let w = with_slot p.turn (worth (where_not_returned p) v) v in
+    let d' = still_dead n p s v o so_far d in
+    let looped = set_same p.free p.turn (worth (where_not_returned p) v) v
+    (ap₂ (λ b c. bit_and b (difference_of 0 c)) d'.loop d'.function
+    ∙ idle_not_returned d'.own_word d'.loop_word d'.function_word d'.idle ∙ sym d'.loop) in
+    still_on p.free s v (stmts_done g (stmt (masks p.turn (where_not_returned p)) (one (masks p.own (mask.where_on p)))) v) so_far
+    (still_on p.free v w (stmts_done g (one (masks p.own (mask.where_on p))) w) looped (on_still g p w (still_dead n p v w o looped d')))
+
+-- ---- arms
+
+otherwise_still : (g : Serves) (n : ℕ) (p : Place) (nothing : Bool) (rest : PlainStmts) → Order n p
+    → ((t : State) → Dead (in_arm p) t → Still (p.free + 1) t (stmts_done g rest t))
+    → (s : State) → Dead p s → Dead (in_arm p) s → s.frame p.free ≡ 0 → Still (p.free + 1) s (stmts_done g (made_otherwise p nothing rest) s)
+otherwise_still g n p true rest o each s d inner is = still_here (p.free + 1) s
+otherwise_still g n p false rest o each s d inner is =
+    let t = with_slot p.free (worth (where_not_taken p) s) s in
+    let tested = set_same (p.free + 1) p.free (worth (where_not_taken p) s) s
+    (ap₂ (λ b a. bit_and (bit_and b 1) (bit_xor a (s.frame p.free))) d.loop d.own
+    ∙ ap (λ f. bit_and (bit_and d.loop_word 1) (bit_xor d.own_word f)) is
+    ∙ idle_otherwise d.own_word d.loop_word d.function_word d.idle ∙ sym is) in
+    still_on (p.free + 1) s t (stmts_done g rest t) tested (each t (still_dead n (in_arm p) s t (order_arm n p o) tested inner))
+
+arm_still : (g : Serves) (n : ℕ) (p : Place) (condition : PlainSp) (arm : PlainStmts) (nothing : Bool) (rest : PlainStmts) → Order n p
+    → ((t : State) → Dead (in_arm p) t → Still (p.free + 1) t (stmts_done g arm t))
+    → ((t : State) → Dead (in_arm p) t → Still (p.free + 1) t (stmts_done g rest t))
+    → (s : State) → Dead p s → Still p.free s (stmts_done g (made_arm p condition arm (made_otherwise p nothing rest)) s)
+arm_still g n p condition arm nothing rest o inside behind s d =
+    let holds = not (worth condition s == 0) in
+    let t = with_slot p.free (worth (where_so p.own condition) s) s in
+    let begun = set_behind p.free p.free (worth (where_so p.own condition) s) s (omega arith) in
+    let off_there : t.frame p.free ≡ 0 =
+    put_here p.free (worth (where_so p.own condition) s) s.frame
+    ∙ ap (λ a. bit_and a (flag holds)) d.own ∙ idle_so d.own_word d.loop_word d.function_word d.idle holds in
+    let inner = dead_arm n p s t o begun off_there d in
+    let u = stmts_done g arm t in
+    let taken = inside t inner in
+    let so_far = still_on p.free s t u begun (fewer (p.free + 1) p.free t u (omega arith) taken) in
+    let others = otherwise_still g n p nothing rest o behind u (still_dead n p s u o so_far d)
+    (still_dead n (in_arm p) t u (order_arm n p o) taken inner) (taken.frame p.free (omega arith) ∙ off_there) in
+    still_on p.free s t (stmts_done g (joined arm (made_otherwise p nothing rest)) t) begun
+    (fewer (p.free + 1) p.free t (stmts_done g (joined arm (made_otherwise p nothing rest)) t) (omega arith)
+    (joined_still g (p.free + 1) arm (made_otherwise p nothing rest) t taken others))
+
+-- ---- all actions
+
+mutual
+  dead_action : (g : Serves) → Quiet g → (n : ℕ) (a : PlainAction) (p : Place) (s : State) → Order n p → Dead p s
+      → Still p.free s (stmts_done g (made_action p a) s)
+  dead_action g quiet n (sets a) p s o d =
+      same_still p.free s (stmt_done g (made_assignment p.own a) s) (write_off g p.own (made_place a.target) a.value s (off p s d))
+  dead_action g quiet n (calls k args None) p s o d = call_still g quiet p.free p.own k args None s (off p s d)
+  dead_action g quiet n (calls k args (Some (to_level at))) p s o d = call_still g quiet p.free p.own k args (Some at) s (off p s d)
+  dead_action g quiet n (calls k args (Some (actions.to_cell cell))) p s o d =
+      given_still g quiet p.free p k args (tree.to_cell cell) s o.free (off p s d)
+  dead_action g quiet n (calls k args (Some (actions.to_array array index))) p s o d =
+      given_still g quiet p.free p k args (tree.to_array array index) s o.free (off p s d)
+  dead_action g quiet n (transfers core source target count) p s o d =
+      same_still p.free s (stmt_done g (tree.transfers p.own core source target count) s) (send_off g p.own core source target count s (off p s d))
+  dead_action g quiet n (chooses branches otherwise) p s o d =
+      let arms = made_branches p branches (is_no_action otherwise) (λ q. made q otherwise) in
+      let chosen = dead_branches g quiet n branches (is_no_action otherwise) (λ q. made q otherwise) (λ q t. dead g quiet n otherwise q t) p s o d in
+      joined_still g p.free arms (one (masks p.own (mask.where_on p))) s chosen
+      (on_still g p (stmts_done g arms s) (still_dead n p s (stmts_done g arms s) o chosen d))
+  dead_action g quiet n (turns most condition body step) p s o d =
+      loop_still g n p most condition (made (in_loop p) body) step o (λ t. dead g quiet n body (in_loop p) t (order_loop n p o)) s d
+  dead_action g quiet n breaks p s o d = set_same p.free p.turn (worth (broken p) s) s
+      (ap₂ (λ b a. difference_of b (bit_and a 1)) d.loop d.own ∙ idle_broken d.own_word d.loop_word d.function_word d.idle ∙ sym d.loop)
+  dead_action g quiet n continues p s o d = set_same p.free p.turn (worth (continued p) s) s
+      (ap₂ (λ b a. sum_of b (bit_and a 1)) d.loop d.own ∙ idle_continued d.own_word d.loop_word d.function_word d.idle ∙ sym d.loop)
+  dead_action g quiet n (returns e) p s o d = return_still g n p e s o d
+
+  pub dead : (g : Serves) → Quiet g → (n : ℕ) (all : PlainActions) (p : Place) (s : State) → Order n p → Dead p s → Still p.free s (stmts_done g (made p all) s)
+  dead g quiet n no_action p s o d = still_here p.free s
+  dead g quiet n (action a rest) p s o d =
+      let first = dead_action g quiet n a p s o d in
+      let t = stmts_done g (made_action p a) s in
+      joined_still g p.free (made_action p a) (if ends a then no_stmt else made p rest) s first
+      (by (ends a) t (dead g quiet n rest p t o (still_dead n p s t o first d)))
+    where
+      by : (ended : Bool) (t : State) → Still p.free t (stmts_done g (made p rest) t)
+          → Still p.free t (stmts_done g (if ended then no_stmt else made p rest) t)
+      by true t h = still_here p.free t
+      by false t h = h
+
+  pub dead_branches : (g : Serves) → Quiet g → (n : ℕ) (bs : PlainBranches) (nothing : Bool) (otherwise : Place → PlainStmts)
+      → ((q : Place) (t : State) → Order n q → Dead q t → Still q.free t (stmts_done g (otherwise q) t))
+      → (p : Place) (s : State) → Order n p → Dead p s → Still p.free s (stmts_done g (made_branches p bs nothing otherwise) s)
+  dead_branches g quiet n no_branch nothing otherwise each p s o d = each p s o d
+  dead_branches g quiet n (branch condition body rest) nothing otherwise each p s o d =
+      arm_still g n p condition (made (in_arm p) body) (is_no_branch rest && nothing) (made_branches (in_arm p) rest nothing otherwise) o
+      (λ t. dead g quiet n body (in_arm p) t (order_arm n p o))
+      (λ t. dead_branches g quiet n rest nothing otherwise each (in_arm p) t (order_arm n p o)) s d

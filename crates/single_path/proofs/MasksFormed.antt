@@ -1,0 +1,123 @@
+-- The statements that set masks are well formed, where the words of their place are words of the frame.
+use Rattle.std.proofs.Common.{◌≡◌, ℕ, ◌<◌, ◌≤◌, ◌==◌, Bool, true, false, if◌then◌else◌, List, refl, ◌∙◌, arith, lt-ltb}
+use Rattle.std.proofs.lemmas.Bool.{and_from}
+use Rattle.sp_tree.specs.Formed.{stmt_formed, stmts_formed}
+use Rattle.sp_tree.specs.Need.{need}
+use Rattle.sp_tree.specs.Plain.{PlainSp, constant, frame_word}
+use Rattle.sp_tree.specs.Statements.{PlainStmt, PlainStmts, no_stmt, stmt, PlainFunction, masks, writes, overruns}
+use Rattle.sp_tree.specs.Statements as tree
+use Rattle.sp_tree.proofs.Joins.{joined_formed}
+use Rattle.single_path.specs.declared.places.Place.{Place}
+use Rattle.single_path.specs.Places.{both, less_by, where_so, where_not_taken, where_on, where_not_returned, bit_of, not_zero, broken, continued, returned_function, returned_loop}
+use Rattle.single_path.specs.Single.{begun_mask}
+use Rattle.single_path.specs.Widths.{expr_words}
+use Rattle.single_path.proofs.Frames.{Order}
+use Rattle.single_path.proofs.Needs.{both_needed, Sound, sound_formed}
+
+-- ---- a place in a frame
+
+-- its words are below so many
+pub record Below (p : Place) (slots : ℕ) : Type 0 where
+  pub result : p.result < slots
+  pub function : p.function < slots
+  pub loop : p.turn < slots
+  pub own : p.own < slots
+
+pub below : (n slots : ℕ) (p : Place) → Order n p → p.free ≤ slots → Below p slots
+below n slots p order within = record {
+  result = omega (arith, within, order.function, order.loop, order.own, order.free);
+  function = omega (arith, within, order.loop, order.own, order.free);
+  loop = omega (arith, within, order.own, order.free);
+  own = omega (arith, within, order.free);
+}
+
+-- and so are those of the variables
+pub words_there : (n slots : ℕ) (p : Place) → Order n p → p.free ≤ slots → n ≤ slots
+words_there n slots p order within = omega (arith, within, order.result, order.function, order.loop, order.own, order.free)
+
+-- ---- statements one after another
+
+pub more_formed : (fs : List PlainFunction) (number slots : ℕ) (t : PlainStmt) (ts : PlainStmts) → stmt_formed fs number slots t ≡ true
+    → stmts_formed fs number slots ts ≡ true → stmts_formed fs number slots (stmt t ts) ≡ true
+more_formed fs number slots t ts here there = and_from _ _ here there
+
+pub both_formed : (fs : List PlainFunction) (number slots : ℕ) (xs ys : PlainStmts) → stmts_formed fs number slots xs ≡ true
+    → stmts_formed fs number slots ys ≡ true → stmts_formed fs number slots (tree.joined xs ys) ≡ true
+both_formed fs number slots xs ys here there = joined_formed fs number slots xs ys ∙ and_from _ _ here there
+
+-- statements that may be left out
+pub unless_formed : (fs : List PlainFunction) (number slots : ℕ) (left_out : Bool) (ts : PlainStmts) → stmts_formed fs number slots ts ≡ true
+    → stmts_formed fs number slots (if left_out then no_stmt else ts) ≡ true
+unless_formed fs number slots true ts h = refl
+unless_formed fs number slots false ts h = h
+
+-- ---- masks: what they are set to names masks, constants and conditions
+
+pub mask_formed : (fs : List PlainFunction) (number slots slot : ℕ) (e : PlainSp) → slot < slots → Sound e → expr_words e ≤ slots
+    → stmt_formed fs number slots (masks slot e) ≡ true
+mask_formed fs number slots slot e there sound within = and_from _ _ (lt-ltb slot slots there) (sound_formed slots e sound within)
+
+pub condition_sound : (mask : ℕ) (condition : PlainSp) → Sound condition → Sound (where_so mask condition)
+condition_sound mask condition sound = record {
+  ranged = (tt, (sound.ranged, tt));
+  few = omega (arith, sound.few, (both_needed (need condition) 1).0, (both_needed (need (not_zero condition)) 1).1);
+}
+
+pub begun_formed : (fs : List PlainFunction) (number slots : ℕ) (p : Place) → Below p slots
+    → stmt_formed fs number slots (masks p.function (begun_mask p)) ≡ true
+begun_formed fs number slots p b =
+    mask_formed fs number slots p.function (begun_mask p) b.function (record { ranged = (tt, tt); few = omega arith }) (omega (arith, b.function))
+
+pub on_formed : (fs : List PlainFunction) (number slots : ℕ) (p : Place) → Below p slots
+    → stmt_formed fs number slots (masks p.own (where_on p)) ≡ true
+on_formed fs number slots p b =
+    mask_formed fs number slots p.own (where_on p) b.own (record { ranged = (tt, tt); few = omega arith }) (omega (arith, b.own, b.loop))
+
+pub broken_formed : (fs : List PlainFunction) (number slots : ℕ) (p : Place) → Below p slots
+    → stmt_formed fs number slots (masks p.turn (broken p)) ≡ true
+broken_formed fs number slots p b =
+    mask_formed fs number slots p.turn (broken p) b.loop (record { ranged = (tt, (tt, tt)); few = omega arith }) (omega (arith, b.own, b.loop))
+
+pub continued_formed : (fs : List PlainFunction) (number slots : ℕ) (p : Place) → Below p slots
+    → stmt_formed fs number slots (masks p.turn (continued p)) ≡ true
+continued_formed fs number slots p b =
+    mask_formed fs number slots p.turn (continued p) b.loop (record { ranged = (tt, (tt, tt)); few = omega arith }) (omega (arith, b.own, b.loop))
+
+pub not_returned_formed : (fs : List PlainFunction) (number slots : ℕ) (p : Place) → Below p slots
+    → stmt_formed fs number slots (masks p.turn (where_not_returned p)) ≡ true
+not_returned_formed fs number slots p b =
+    mask_formed fs number slots p.turn (where_not_returned p) b.loop (record { ranged = (tt, tt); few = omega arith })
+    (omega (arith, b.function, b.loop))
+
+pub not_taken_formed : (fs : List PlainFunction) (number slots : ℕ) (p : Place) → Below p slots → p.free < slots
+    → stmt_formed fs number slots (masks p.free (where_not_taken p)) ≡ true
+not_taken_formed fs number slots p b free =
+    mask_formed fs number slots p.free (where_not_taken p) free (record { ranged = ((tt, tt), (tt, tt)); few = omega arith })
+    (omega (arith, b.own, b.loop, free))
+
+-- ---- masks behind `return`: two ways to take from them, of which the place decides
+
+either_formed : (fs : List PlainFunction) (number slots slot : ℕ) (e : PlainSp → PlainSp) (first : Bool) (a b : PlainSp)
+    → stmt_formed fs number slots (masks slot (e a)) ≡ true → stmt_formed fs number slots (masks slot (e b)) ≡ true
+    → stmt_formed fs number slots (masks slot (e (if first then a else b))) ≡ true
+either_formed fs number slots slot e true a b ha hb = ha
+either_formed fs number slots slot e false a b ha hb = hb
+
+pub returned_function_formed : (fs : List PlainFunction) (number slots : ℕ) (p : Place) → Below p slots
+    → stmt_formed fs number slots (masks p.function (returned_function p)) ≡ true
+returned_function_formed fs number slots p b =
+    let less = less_by (frame_word p.function) in
+    either_formed fs number slots p.function less (p.own == p.turn) (bit_of p.own) (frame_word p.own)
+    (mask_formed fs number slots p.function (less (bit_of p.own)) b.function (record { ranged = (tt, (tt, tt)); few = omega arith })
+    (omega (arith, b.function, b.own)))
+    (mask_formed fs number slots p.function (less (frame_word p.own)) b.function (record { ranged = (tt, tt); few = omega arith })
+    (omega (arith, b.function, b.own)))
+
+pub returned_loop_formed : (fs : List PlainFunction) (number slots : ℕ) (p : Place) → Below p slots
+    → stmt_formed fs number slots (masks p.turn (returned_loop p)) ≡ true
+returned_loop_formed fs number slots p b =
+    let bit = both (frame_word p.turn) (constant 2) in
+    let less = less_by (frame_word p.turn) (frame_word p.own) in
+    either_formed fs number slots p.turn (λ e. e) (p.own == p.turn) bit less
+    (mask_formed fs number slots p.turn bit b.loop (record { ranged = (tt, tt); few = omega arith }) (omega (arith, b.loop)))
+    (mask_formed fs number slots p.turn less b.loop (record { ranged = (tt, tt); few = omega arith }) (omega (arith, b.loop, b.own)))

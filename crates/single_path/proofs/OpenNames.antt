@@ -1,0 +1,142 @@
+-- The names that the checks know, beside what the same names stand for: what is found as a variable may be read and set as
+-- one, and arrays as arrays. Each declaration keeps this.
+use Rattle.std.proofs.Common.{◌≡◌, ◌≢◌, ℕ, ◌+◌, Bool, true, false, if◌then◌else◌, List, [], ◌∷◌, ◌++◌, Option, Some, None, bytes_eq, refl, ap, sym, ◌∙◌, subst, append_assoc, append-nil}
+use Rattle.std.specs.Option.{option_or}
+use Rattle.c_tree.specs.declared.checks.Meaning.{Meaning}
+use Rattle.c_tree.specs.declared.checks.Meaning.TheVariants as means
+use Rattle.c_tree.specs.declared.layout.Slot.{Slot}
+use Rattle.c_tree.specs.declared.statements.Kind.{Kind}
+use Rattle.c_tree.specs.declared.units.Parameter.{Parameter}
+use Rattle.c_tree.specs.Checks.{after}
+use Rattle.c_tree.specs.Layout.{is_unsigned}
+use Rattle.c_tree.specs.Names.{Named, found, declared}
+use Rattle.c_tree.specs.Plain.{PlainStmt}
+use Rattle.c_tree.specs.Plain as plain
+use Rattle.c_tree.specs.Valid.{with_parameters}
+use Rattle.sp_tree.specs.Uses.{Use, sends_to}
+use Rattle.c_meaning.specs.Meaning.{with_variable, names_after, parameter_variables}
+use Rattle.c_meaning.specs.Scope.{Variable, Stands, level, among_levels, among_slots}
+use Rattle.c_meaning.specs.Values.{Names, named}
+use Rattle.single_path.proofs.Resolving.{Outside, CellRead, ArrayRead, CellWritten, ArrayWritten}
+use Rattle.single_path.proofs.Valid.{found_last}
+
+-- ---- what is kept
+
+-- reads and writes of whatever is found as a variable have a property, and so have those of arrays, and all sends
+pub record Keeps (P : Use → Type 0) (names : List Named) (of : Names) : Type 0 where
+  pub scalars : (text : List ℕ) → found text names ≡ Some means.Scalar
+      → Outside (CellRead P) (named of text) × Outside (CellWritten P) (named of text)
+  pub arrays : (text : List ℕ) → found text names ≡ Some means.Array
+      → Outside (ArrayRead P) (named of text) × Outside (ArrayWritten P) (named of text)
+  pub sends : (core : ℕ) → P (sends_to core)
+
+-- ---- names behind a declaration
+
+-- the name that is declared is found, and another is found where it was before
+pub found_same : (names : List Named) (name text : List ℕ) (m : Meaning) → bytes_eq name text ≡ true → found text (declared names name m) ≡ Some m
+found_same names name text m same =
+    found_last text names (record { name = name; means = m }) ∙ ap (λ b. if b then Some m else found text names) same
+
+pub found_before : (names : List Named) (name text : List ℕ) (m : Meaning) (f : Option Meaning) → found text (declared names name m) ≡ f
+    → bytes_eq name text ≡ false → found text names ≡ f
+found_before names name text m f is other =
+    ap (λ b. if b then Some m else found text names) (sym other) ∙ sym (found_last text names (record { name = name; means = m })) ∙ is
+
+-- ---- names behind a variable
+
+-- what a name stands for among variables, or else outside functions
+abbrev or_else : Option Stands → Stands → Stands
+or_else found rest = elim found as (λ _. Stands) [ Some s ↦ s | None ↦ rest ]
+
+either_else : (Q : Slot → Type 0) (later here : Option Stands) (rest : Stands) → Outside Q (or_else later (or_else here rest))
+    → Outside Q (or_else (option_or later here) rest)
+either_else Q None here rest may = may
+either_else Q (Some s) here rest may = may
+
+else_either : (Q : Slot → Type 0) (later here : Option Stands) (rest : Stands) → Outside Q (or_else (option_or later here) rest)
+    → Outside Q (or_else later (or_else here rest))
+else_either Q None here rest may = may
+else_either Q (Some s) here rest may = may
+
+-- one variable more hides what is so called, and nothing else
+behind_last : (Q : Slot → Type 0) (at : ℕ) (text : List ℕ) (vs : List Variable) (v : Variable) (rest : Stands)
+    → (bytes_eq v.name text ≡ false → Outside Q (or_else (among_levels at text vs) rest))
+    → Outside Q (or_else (among_levels at text (vs ++ v ∷ [])) rest)
+behind_last Q at text [] v rest may = by (bytes_eq v.name text) refl
+  where
+    by : (same : Bool) → bytes_eq v.name text ≡ same → Outside Q (or_else (option_or None (if same then Some (level at v.unsigned) else None)) rest)
+    by true same = tt
+    by false other = may other
+behind_last Q at text (w ∷ vs) v rest may =
+    let here = if bytes_eq w.name text then Some (level at w.unsigned) else None in
+    either_else Q (among_levels (at + 1) text (vs ++ v ∷ [])) here rest
+    (behind_last Q (at + 1) text vs v (or_else here rest) (λ other. else_either Q (among_levels (at + 1) text vs) here rest (may other)))
+
+behind_variable : (Q : Slot → Type 0) (of : Names) (kind : Kind) (name text : List ℕ) → (bytes_eq name text ≡ false → Outside Q (named of text))
+    → Outside Q (named (with_variable of kind name) text)
+behind_variable Q of kind name text may =
+    behind_last Q 0 text of.variables (record { name = name; unsigned = is_unsigned kind }) (among_slots text of.slots) may
+
+pub keeps_variable : (P : Use → Type 0) (names : List Named) (of : Names) (kind : Kind) (name : List ℕ) → Keeps P names of
+    → Keeps P (declared names name means.Scalar) (with_variable of kind name)
+keeps_variable P names of kind name k = record {
+  scalars = λ text is. (
+    behind_variable (CellRead P) of kind name text (λ other. (k.scalars text (before text means.Scalar is other)).0),
+    behind_variable (CellWritten P) of kind name text (λ other. (k.scalars text (before text means.Scalar is other)).1),
+  );
+  arrays = λ text is. (
+    behind_variable (ArrayRead P) of kind name text (λ other. (k.arrays text (before text means.Array is other)).0),
+    behind_variable (ArrayWritten P) of kind name text (λ other. (k.arrays text (before text means.Array is other)).1),
+  );
+  sends = k.sends;
+}
+  where
+    before : (text : List ℕ) (m : Meaning) → found text (declared names name means.Scalar) ≡ Some m → bytes_eq name text ≡ false
+        → found text names ≡ Some m
+    before text m is other = found_before names name text means.Scalar (Some m) is other
+
+-- behind a statement
+pub keeps_after : (P : Use → Type 0) (names : List Named) (of : Names) (s : PlainStmt) → Keeps P names of → Keeps P (after names s) (names_after of s)
+keeps_after P names of (plain.declared kind text r) k = keeps_variable P names of kind text k
+keeps_after P names of (plain.set text r) k = k
+keeps_after P names of (plain.set_element text index r) k = k
+keeps_after P names of (plain.called text args) k = k
+keeps_after P names of (plain.sent core core_unsigned source target count) k = k
+keeps_after P names of (plain.chosen arms otherwise) k = k
+keeps_after P names of (plain.looped bound head body) k = k
+keeps_after P names of plain.broken k = k
+keeps_after P names of plain.continued k = k
+keeps_after P names of (plain.returned e) k = k
+keeps_after P names of (plain.inner body) k = k
+
+-- ---- names behind a function's name, and behind its parameters
+
+-- the name of a function is no variable's and no array's
+pub keeps_function : (P : Use → Type 0) (names : List Named) (of : Names) (name : List ℕ) (c : ℕ) (gives inside : Bool) → Keeps P names of
+    → Keeps P (declared names name (means.Function c gives inside)) of
+keeps_function P names of name c gives inside k = record {
+  scalars = λ text is. k.scalars text (before text means.Scalar (λ e. absurd (cc)) is (bytes_eq name text) refl);
+  arrays = λ text is. k.arrays text (before text means.Array (λ e. absurd (cc)) is (bytes_eq name text) refl);
+  sends = k.sends;
+}
+  where
+    f : Meaning
+    f = means.Function c gives inside
+
+    before : (text : List ℕ) (m : Meaning) → f ≢ m → found text (declared names name f) ≡ Some m → (b : Bool) → bytes_eq name text ≡ b
+        → found text names ≡ Some m
+    before text m apart is true same = let some : Some f ≡ Some m = sym (found_same names name text f same) ∙ is in absurd (apart (cc))
+    before text m apart is false other = found_before names name text f (Some m) is other
+
+-- parameters are variables behind those that stand before them
+pub keeps_parameters : (P : Use → Type 0) (names : List Named) (slots : List Slot) (vs : List Variable) (ps : List Parameter)
+    → Keeps P names (record { slots = slots; variables = vs })
+    → Keeps P (with_parameters names ps) (record { slots = slots; variables = vs ++ parameter_variables ps })
+keeps_parameters P names slots vs [] k =
+    subst (λ (us : List Variable). Keeps P names (record { slots = slots; variables = us })) (sym (append-nil vs)) k
+keeps_parameters P names slots vs (p ∷ ps) k =
+    let v : Variable = record { name = p.name; unsigned = is_unsigned p.kind } in
+    subst (λ (us : List Variable). Keeps P (with_parameters names (p ∷ ps)) (record { slots = slots; variables = us }))
+    (append_assoc vs (v ∷ []) (parameter_variables ps))
+    (keeps_parameters P (declared names p.name means.Scalar) slots (vs ++ v ∷ []) ps
+    (keeps_variable P names (record { slots = slots; variables = vs }) p.kind p.name k))

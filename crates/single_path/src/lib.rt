@@ -1,0 +1,25 @@
+//! Single-path conversion of C tasks (Puschner's single-path transformation): branches become masks, and each loop makes
+//! all the turns of its bound.
+//!
+//! [`convert`] gives the single-path tree of a valid program. It is exactly `specs/Single.antt` of the program; and what
+//! the tree comes to is what the program means, for every input and all words that the shared memories begin with.
+//!
+//! - `specs/Places.antt`: the words of a frame that decide what has an effect, and what they are set to.
+//! - `specs/Made.antt`: the statements that are made of actions.
+//! - `specs/Widths.antt`: how many words of a frame actions need.
+//! - `specs/Single.antt`: functions and units; what each function may weigh, and how many words its frame may have.
+//! - `specs/Used.antt`: what the tree uses, beside what the text does.
+//!
+//! What its words mean stands in [the glossary](../../../docs/GLOSSARY.md), and how C texts become code in
+//! [the page on the compiler](../../../docs/COMPILER.md).
+#![tactic(auto)]
+
+mod laws;
+mod masks;
+mod places;
+mod statements;
+mod units;
+mod widths;
+
+pub use laws::other_masks_change_nothing;
+pub use units::convert;

@@ -1,0 +1,117 @@
+//! What masks are set to.
+ghost use Rattle.std.specs.Prelude.{◌≡◌, IfOk};
+ghost use Rattle.sp_tree.specs.Plain.{plain_sp, constant, frame_word};
+ghost use Rattle.single_path.specs.Places as specs;
+ghost use Rattle.single_path.specs.Single.{begun_mask};
+
+use crate::places::Place;
+use sp_tree::{SpBinary, SpExpr, SpUnary, before_operand, between_operands};
+use std::alloc::Global;
+use tc_word::OutOfMemory;
+
+/// A word of the frame.
+#[tactic(auto, unfolding(sp_tree::specs::Plain::plain_sp))]
+pub fn word(slot: u32) -> SpExpr
+    ensures { plain_sp result ≡ frame_word slot }
+{
+    SpExpr::Frame { slot }
+}
+
+#[tactic(auto, unfolding(sp_tree::specs::Plain::plain_sp))]
+fn number(value: u32) -> SpExpr
+    ensures { plain_sp result ≡ constant value }
+{
+    SpExpr::Const { value }
+}
+
+/// Whether a word isn't 0.
+pub fn not_zero(alloc: Global, e: SpExpr) -> Result<SpExpr, OutOfMemory>
+    ensures { IfOk result (λ m. plain_sp m ≡ specs.not_zero (plain_sp e)) }
+{
+    between_operands(alloc, SpBinary::NotEqual, e, number(0))
+}
+
+/// Whether a mask is 1, of the words 0, 1 and 2.
+pub fn bit_of(alloc: Global, mask: u32) -> Result<SpExpr, OutOfMemory>
+    ensures { IfOk result (λ m. plain_sp m ≡ specs.bit_of mask) }
+{
+    between_operands(alloc, SpBinary::BitAnd, word(mask), number(1))
+}
+
+/// A mask, where a condition holds besides.
+pub fn where_so(alloc: Global, mask: u32, condition: SpExpr) -> Result<SpExpr, OutOfMemory>
+    ensures { IfOk result (λ m. plain_sp m ≡ specs.where_so mask (plain_sp condition)) }
+{
+    let holds = not_zero(alloc, condition)?;
+    between_operands(alloc, SpBinary::BitAnd, word(mask), holds)
+}
+
+/// The mask of a function: 1 where it is run under the mask 1, and else 0.
+pub fn begun_mask(alloc: Global, place: Place) -> Result<SpExpr, OutOfMemory>
+    ensures { IfOk result (λ m. plain_sp m ≡ begun_mask place) }
+{
+    between_operands(alloc, SpBinary::Equal, word(place.function), number(1))
+}
+
+/// The mask of what stands behind `else`.
+pub fn where_not_taken(alloc: Global, place: Place) -> Result<SpExpr, OutOfMemory>
+    ensures { IfOk result (λ m. plain_sp m ≡ specs.where_not_taken place) }
+{
+    let goes_on = bit_of(alloc, place.turn)?;
+    let other = between_operands(alloc, SpBinary::BitXor, word(place.own), word(place.free))?;
+    between_operands(alloc, SpBinary::BitAnd, goes_on, other)
+}
+
+/// The mask of a part, behind an arm or a loop in which the turn may have ended.
+pub fn where_on(alloc: Global, place: Place) -> Result<SpExpr, OutOfMemory>
+    ensures { IfOk result (λ m. plain_sp m ≡ specs.where_on place) }
+{
+    between_operands(alloc, SpBinary::BitAnd, word(place.own), word(place.turn))
+}
+
+/// The mask of a loop, behind one inside it in which the function may have returned.
+pub fn where_not_returned(alloc: Global, place: Place) -> Result<SpExpr, OutOfMemory>
+    ensures { IfOk result (λ m. plain_sp m ≡ specs.where_not_returned place) }
+{
+    let all_bits = before_operand(alloc, SpUnary::Minus, word(place.function))?;
+    between_operands(alloc, SpBinary::BitAnd, word(place.turn), all_bits)
+}
+
+/// The turn's mask behind `break`.
+pub fn broken(alloc: Global, place: Place) -> Result<SpExpr, OutOfMemory>
+    ensures { IfOk result (λ m. plain_sp m ≡ specs.broken place) }
+{
+    let own = bit_of(alloc, place.own)?;
+    between_operands(alloc, SpBinary::Minus, word(place.turn), own)
+}
+
+/// The turn's mask behind `continue`.
+pub fn continued(alloc: Global, place: Place) -> Result<SpExpr, OutOfMemory>
+    ensures { IfOk result (λ m. plain_sp m ≡ specs.continued place) }
+{
+    let own = bit_of(alloc, place.own)?;
+    between_operands(alloc, SpBinary::Plus, word(place.turn), own)
+}
+
+/// The function's mask behind `return`.
+pub fn returned_function(alloc: Global, place: Place) -> Result<SpExpr, OutOfMemory>
+    ensures { IfOk result (λ m. plain_sp m ≡ specs.returned_function place) }
+{
+    let own = if place.own == place.turn {
+        bit_of(alloc, place.own)?
+    } else {
+        word(place.own)
+    };
+    between_operands(alloc, SpBinary::Minus, word(place.function), own)
+}
+
+/// The turn's mask behind `return` in a loop.
+pub fn returned_turn(alloc: Global, place: Place) -> Result<SpExpr, OutOfMemory>
+    ensures { IfOk result (λ m. plain_sp m ≡ specs.returned_loop place) }
+{
+    if place.own == place.turn {
+        between_operands(alloc, SpBinary::BitAnd, word(place.turn), number(2))
+    } else {
+        between_operands(alloc, SpBinary::Minus, word(place.turn), word(place.own))
+    }
+}

@@ -1,0 +1,538 @@
+//! Statements, made of actions.
+ghost use Rattle.std.specs.Prelude.{◌≡◌, ◌&&◌, Option, map, option_map, IfOk, OnOk};
+ghost use Rattle.sp_tree.specs.Plain.{plain_sp, frame_word};
+ghost use Rattle.sp_tree.specs.Shown.{plain_place, plain_stmt, stmts_of};
+ghost use Rattle.sp_tree.specs.Statements.{masks, writes, calls, overruns, joined, one, stmt};
+ghost use Rattle.sp_tree.specs.Statements as tree;
+ghost use Rattle.c_meaning.specs.Shown.{plain_target, plain_assignment, plain_action, actions_of, branches_of};
+ghost use Rattle.c_meaning.specs.Actions as plain;
+ghost use Rattle.single_path.specs.Made as specs;
+ghost use Rattle.single_path.specs.Places as places;
+
+use crate::masks::{
+    bit_of, broken, continued, not_zero, returned_function, returned_turn, where_not_returned,
+    where_not_taken, where_on, where_so, word,
+};
+use crate::places::Place;
+use c_meaning::{Action, Assignment, Branch, Target};
+use sp_tree::{SpArray, SpCell, SpExpr, SpPlace, SpStmt, copied};
+use std::alloc::Global;
+use tc_word::{List, OutOfMemory};
+
+// one statement more
+#[tactic(auto, using(crate::proofs::Stated::stmts_push))]
+fn add(out: &mut Vec<SpStmt>, statement: SpStmt) -> Result<(), OutOfMemory>
+    ensures { OnOk result (stmts_of out.new.items ≡ joined (stmts_of out.old.items) (one (plain_stmt statement))) }
+{
+    out.push(statement)?;
+    Ok(())
+}
+
+/// A mask is set, behind others.
+#[tactic(auto, unfolding(sp_tree::specs::Shown::plain_stmt))]
+pub fn add_mask(out: &mut Vec<SpStmt>, slot: u32, value: SpExpr) -> Result<(), OutOfMemory>
+    ensures { OnOk result (stmts_of out.new.items ≡ joined (stmts_of out.old.items) (one (masks slot (plain_sp value)))) }
+{
+    add(out, SpStmt::Mask { slot, value })
+}
+
+#[tactic(auto, unfolding(sp_tree::specs::Shown::plain_stmt))]
+fn add_write(
+    out: &mut Vec<SpStmt>,
+    mask: u32,
+    place: SpPlace,
+    value: SpExpr,
+) -> Result<(), OutOfMemory>
+    ensures { OnOk result (stmts_of out.new.items ≡ joined (stmts_of out.old.items) (one (writes mask (plain_place place) (plain_sp value)))) }
+{
+    add(out, SpStmt::Write { mask, place, value })
+}
+
+#[tactic(auto, unfolding(sp_tree::specs::Shown::plain_stmt))]
+fn add_overrun(out: &mut Vec<SpStmt>, mask: u32, value: SpExpr) -> Result<(), OutOfMemory>
+    ensures { OnOk result (stmts_of out.new.items ≡ joined (stmts_of out.old.items) (one (overruns mask (plain_sp value)))) }
+{
+    add(out, SpStmt::Overrun { mask, value })
+}
+
+#[tactic(auto, using(sp_tree::proofs::Forms::plain_turns))]
+fn add_turns(out: &mut Vec<SpStmt>, count: u32, body: List<SpStmt>) -> Result<(), OutOfMemory>
+    ensures { OnOk result (stmts_of out.new.items ≡ joined (stmts_of out.old.items) (one (tree.turns count (stmts_of body)))) }
+{
+    add(out, SpStmt::Turns { count, body })
+}
+
+// what an action sets
+fn place_of(alloc: Global, target: &Target) -> Result<SpPlace, OutOfMemory>
+    ensures { IfOk result (λ p. plain_place p ≡ specs.made_place (plain_target target.now)) }
+{
+    match target {
+        Target::Variable { level } => Ok(SpPlace::Frame { slot: level.number }),
+        Target::Scalar { word } => Ok(SpPlace::Scalar {
+            cell: SpCell {
+                region: word.region,
+                word: word.word,
+            },
+        }),
+        Target::Element { array, index } => {
+            let index = copied(alloc, index)?;
+            Ok(SpPlace::Element {
+                array: SpArray {
+                    region: array.region,
+                    first: array.first,
+                    length: array.length,
+                },
+                index,
+            })
+        }
+    }
+}
+
+fn add_assignment(
+    alloc: Global,
+    out: &mut Vec<SpStmt>,
+    mask: u32,
+    assignment: &Assignment,
+) -> Result<(), OutOfMemory>
+    ensures { OnOk result (stmts_of out.new.items ≡ joined (stmts_of out.old.items) (one (specs.made_assignment mask (plain_assignment assignment.now)))) }
+{
+    let place = place_of(alloc, &assignment.target)?;
+    let value = copied(alloc, &assignment.value)?;
+    add_write(out, mask, place, value)
+}
+
+// what is set behind each turn
+#[tactic(auto, using(crate::proofs::Stated::joined_none))]
+fn add_step(
+    alloc: Global,
+    out: &mut Vec<SpStmt>,
+    mask: u32,
+    step: &Option<Assignment>,
+) -> Result<(), OutOfMemory>
+    ensures { OnOk result (stmts_of out.new.items ≡ joined (stmts_of out.old.items) (specs.made_step mask (option_map plain_assignment step.now))) }
+{
+    match step {
+        None => Ok(()),
+        Some(assignment) => add_assignment(alloc, out, mask, assignment),
+    }
+}
+
+// ---- calls and sends
+
+fn arguments(alloc: Global, args: &[SpExpr]) -> Result<List<SpExpr>, OutOfMemory>
+    ensures { IfOk result (λ r. map plain_sp r ≡ map plain_sp args.now) }
+{
+    let mut values = Vec::new(alloc);
+    for e in args {
+        let e = copied(alloc, e)?;
+        values.push(e)?;
+    }
+    Ok(List::of(values))
+}
+
+// a call, with the word of the frame that is set to what the function gives
+#[tactic(auto, unfolding(sp_tree::specs::Shown::plain_stmt))]
+fn add_call_to(
+    alloc: Global,
+    out: &mut Vec<SpStmt>,
+    mask: u32,
+    function: u32,
+    args: &[SpExpr],
+    given: Option<u32>,
+) -> Result<(), OutOfMemory>
+    ensures { OnOk result (stmts_of out.new.items ≡ joined (stmts_of out.old.items) (one (calls mask function (map plain_sp args.now) given))) }
+{
+    let args = arguments(alloc, args)?;
+    add(
+        out,
+        SpStmt::Call {
+            mask,
+            function,
+            args,
+            result: given,
+        },
+    )
+}
+
+#[tactic(auto, using(crate::proofs::Stated::joined_twice))]
+fn add_call(
+    alloc: Global,
+    place: Place,
+    out: &mut Vec<SpStmt>,
+    function: u32,
+    args: &[SpExpr],
+    target: &Option<Target>,
+) -> Result<(), OutOfMemory>
+    ensures { OnOk result (stmts_of out.new.items
+        ≡ joined (stmts_of out.old.items) (specs.made_call place function (map plain_sp args.now) (option_map plain_target target.now))) }
+{
+    match target {
+        None => add_call_to(alloc, out, place.own, function, args, None),
+        Some(Target::Variable { level }) => {
+            add_call_to(alloc, out, place.own, function, args, Some(level.number))
+        }
+        Some(target) => {
+            add_call_to(alloc, out, place.own, function, args, Some(place.free))?;
+            let outside = place_of(alloc, target)?;
+            add_write(out, place.own, outside, word(place.free))
+        }
+    }
+}
+
+#[tactic(auto, unfolding(sp_tree::specs::Shown::plain_stmt))]
+fn add_send(
+    alloc: Global,
+    out: &mut Vec<SpStmt>,
+    mask: u32,
+    core: u32,
+    source: &SpExpr,
+    target: &SpExpr,
+    count: &SpExpr,
+) -> Result<(), OutOfMemory>
+    ensures { OnOk result (stmts_of out.new.items
+        ≡ joined (stmts_of out.old.items) (one (tree.transfers mask core (plain_sp source.now) (plain_sp target.now) (plain_sp count.now)))) }
+{
+    let source = copied(alloc, source)?;
+    let target = copied(alloc, target)?;
+    let count = copied(alloc, count)?;
+    add(
+        out,
+        SpStmt::Send {
+            mask,
+            core,
+            source,
+            target,
+            count,
+        },
+    )
+}
+
+// ---- ways on
+
+// the result is 0 as it stands
+#[tactic(auto, unfolding(sp_tree::specs::Plain::plain_sp))]
+fn is_zero(e: &SpExpr) -> bool
+    ensures { result ≡ specs.is_zero (plain_sp e.now) }
+{
+    match e {
+        SpExpr::Const { value } => *value == 0,
+        _ => false,
+    }
+}
+
+#[tactic(auto, using(crate::proofs::Stated::joined_none))]
+fn add_result(
+    alloc: Global,
+    place: Place,
+    out: &mut Vec<SpStmt>,
+    e: &SpExpr,
+) -> Result<(), OutOfMemory>
+    ensures { OnOk result (stmts_of out.new.items ≡ joined (stmts_of out.old.items) (specs.made_result place (plain_sp e.now))) }
+{
+    if is_zero(e) {
+        return Ok(());
+    }
+    let value = copied(alloc, e)?;
+    add_write(out, place.own, SpPlace::Frame { slot: place.result }, value)
+}
+
+#[tactic(auto, using(crate::proofs::Stated::joined_one, crate::proofs::Stated::joined_two))]
+fn add_return(
+    alloc: Global,
+    place: Place,
+    out: &mut Vec<SpStmt>,
+    e: &SpExpr,
+) -> Result<(), OutOfMemory>
+    ensures { OnOk result (stmts_of out.new.items ≡ joined (stmts_of out.old.items) (specs.made_return place (plain_sp e.now))) }
+{
+    add_result(alloc, place, out, e)?;
+    let function = returned_function(alloc, place)?;
+    add_mask(out, place.function, function)?;
+    if place.function != place.turn {
+        let turn = returned_turn(alloc, place)?;
+        add_mask(out, place.turn, turn)?;
+    }
+    Ok(())
+}
+
+// nothing stands behind a statement that always goes elsewhere
+#[tactic(auto, unfolding(c_meaning::specs::Shown::plain_action))]
+fn ends(action: &Action) -> bool
+    ensures { result ≡ specs.ends (plain_action action.now) }
+{
+    matches!(
+        action,
+        Action::Break | Action::Continue | Action::Return { .. }
+    )
+}
+
+#[tactic(auto)]
+fn add_break(alloc: Global, place: Place, out: &mut Vec<SpStmt>) -> Result<(), OutOfMemory>
+    ensures { OnOk result (stmts_of out.new.items ≡ joined (stmts_of out.old.items) (specs.made_action place plain.breaks)) }
+{
+    let turn = broken(alloc, place)?;
+    add_mask(out, place.turn, turn)
+}
+
+fn add_continue(alloc: Global, place: Place, out: &mut Vec<SpStmt>) -> Result<(), OutOfMemory>
+    ensures { OnOk result (stmts_of out.new.items ≡ joined (stmts_of out.old.items) (specs.made_action place plain.continues)) }
+{
+    let turn = continued(alloc, place)?;
+    add_mask(out, place.turn, turn)
+}
+
+// ---- arms
+
+// the mask of an arm, and the arm's place
+fn begin_arm(
+    alloc: Global,
+    place: Place,
+    out: &mut Vec<SpStmt>,
+    condition: &SpExpr,
+) -> Result<Place, OutOfMemory>
+    ensures arm { IfOk result (λ p. p ≡ places.in_arm place) }
+    ensures mask { OnOk result (stmts_of out.new.items
+        ≡ joined (stmts_of out.old.items) (one (masks place.free (places.where_so place.own (plain_sp condition.now))))) }
+{
+    let condition = copied(alloc, condition)?;
+    let taken = where_so(alloc, place.own, condition)?;
+    add_mask(out, place.free, taken)?;
+    place.in_arm()
+}
+
+// the mask of what stands behind `else`
+fn begin_otherwise(alloc: Global, place: Place, out: &mut Vec<SpStmt>) -> Result<(), OutOfMemory>
+    ensures { OnOk result (stmts_of out.new.items ≡ joined (stmts_of out.old.items) (one (masks place.free (places.where_not_taken place)))) }
+{
+    let other = where_not_taken(alloc, place)?;
+    add_mask(out, place.free, other)
+}
+
+// whether no arm is left, and nothing stands behind the last `else`
+#[tactic(auto, using(crate::proofs::Converted::no_branches, crate::proofs::Converted::no_actions))]
+fn stands_nothing(rest: &[Branch], otherwise: &[Action]) -> bool
+    ensures { result ≡ (specs.is_no_branch (branches_of rest.now) && specs.is_no_action (actions_of otherwise.now)) }
+{
+    rest.is_empty() && otherwise.is_empty()
+}
+
+// the mask of a part behind its arms
+fn repair(alloc: Global, place: Place, out: &mut Vec<SpStmt>) -> Result<(), OutOfMemory>
+    ensures { OnOk result (stmts_of out.new.items ≡ joined (stmts_of out.old.items) (one (masks place.own (places.where_on place)))) }
+{
+    let own = where_on(alloc, place)?;
+    add_mask(out, place.own, own)
+}
+
+// ---- loops
+
+// the test of a turn
+fn begin_turn(alloc: Global, place: Place, condition: &SpExpr) -> Result<Vec<SpStmt>, OutOfMemory>
+    ensures { IfOk result (λ r. stmts_of r.items ≡ one (masks place.free (places.where_so place.free (plain_sp condition.now)))) }
+{
+    let mut turn = Vec::new(alloc);
+    let holds = copied(alloc, condition)?;
+    let goes_on = where_so(alloc, place.free, holds)?;
+    add_mask(&mut turn, place.free, goes_on)?;
+    Ok(turn)
+}
+
+// the end of a turn
+#[tactic(auto, using(crate::proofs::Stated::joined_joined))]
+fn end_turn(
+    alloc: Global,
+    place: Place,
+    turn: &mut Vec<SpStmt>,
+    step: &Option<Assignment>,
+) -> Result<(), OutOfMemory>
+    ensures { OnOk result (stmts_of turn.new.items ≡ joined (stmts_of turn.old.items)
+        (stmt (masks place.free (places.not_zero (frame_word place.free))) (specs.made_step place.free (option_map plain_assignment step.now)))) }
+{
+    let again = not_zero(alloc, word(place.free))?;
+    add_mask(turn, place.free, again)?;
+    add_step(alloc, turn, place.free, step)
+}
+
+// the flag of a loop that may not turn at all
+fn add_flag(
+    alloc: Global,
+    out: &mut Vec<SpStmt>,
+    mask: u32,
+    condition: &SpExpr,
+) -> Result<(), OutOfMemory>
+    ensures { OnOk result (stmts_of out.new.items ≡ joined (stmts_of out.old.items) (one (overruns mask (plain_sp condition.now)))) }
+{
+    let holds = copied(alloc, condition)?;
+    add_overrun(out, mask, holds)
+}
+
+// a loop that turns
+#[tactic(auto, using(crate::proofs::Stated::five_more))]
+fn add_loop(
+    alloc: Global,
+    place: Place,
+    out: &mut Vec<SpStmt>,
+    max: u32,
+    condition: &SpExpr,
+    turn: List<SpStmt>,
+) -> Result<(), OutOfMemory>
+    ensures { OnOk result (stmts_of out.new.items ≡ joined (stmts_of out.old.items)
+        (stmt (masks place.free (places.bit_of place.own)) (stmt (tree.turns max (stmts_of turn)) (stmt (overruns place.free (plain_sp condition.now))
+        (stmt (masks place.turn (places.where_not_returned place)) (one (masks place.own (places.where_on place)))))))) }
+{
+    let on = bit_of(alloc, place.own)?;
+    add_mask(out, place.free, on)?;
+    add_turns(out, max, turn)?;
+    add_flag(alloc, out, place.free, condition)?;
+    let outer = where_not_returned(alloc, place)?;
+    add_mask(out, place.turn, outer)?;
+    repair(alloc, place, out)
+}
+
+// ---- all actions
+
+#[cycle(conversion)]
+#[tactic(none)]
+fn add_action(
+    alloc: Global,
+    place: Place,
+    out: &mut Vec<SpStmt>,
+    action: &Action,
+) -> Result<(), OutOfMemory>
+    ensures { OnOk result (stmts_of out.new.items ≡ joined (stmts_of out.old.items) (specs.made_action place (plain_action action.now))) }
+{
+    match action {
+        Action::Set { assignment } => add_assignment(alloc, out, place.own, assignment),
+        Action::Call {
+            function,
+            args,
+            target,
+        } => add_call(alloc, place, out, *function, args.values.as_slice(), target),
+        Action::Send {
+            core,
+            source,
+            target,
+            count,
+        } => add_send(alloc, out, place.own, *core, source, target, count),
+        Action::Choose {
+            branches,
+            otherwise,
+        } => add_choice(alloc, place, out, branches.as_slice(), otherwise.as_slice()),
+        Action::Loop {
+            max,
+            condition,
+            body,
+            step,
+        } => add_repeated(alloc, place, out, *max, condition, body.as_slice(), step),
+        Action::Break => add_break(alloc, place, out),
+        Action::Continue => add_continue(alloc, place, out),
+        Action::Return { value } => add_return(alloc, place, out, value),
+    }
+}
+
+/// Statements that do what these actions do, behind others.
+#[cycle(conversion)]
+#[tactic(auto, using(crate::proofs::Converted::next_action, crate::proofs::Converted::last_action, crate::proofs::Converted::no_action_left))]
+pub fn add_all(
+    alloc: Global,
+    place: Place,
+    out: &mut Vec<SpStmt>,
+    actions: &[Action],
+) -> Result<(), OutOfMemory>
+    ensures { OnOk result (stmts_of out.new.items ≡ joined (stmts_of out.old.items) (specs.made place (actions_of actions.now))) }
+{
+    for action in actions {
+        add_action(alloc, place, out, action)?;
+        if ends(action) {
+            return Ok(());
+        }
+    }
+    Ok(())
+}
+
+// arms, and what stands behind `else`, with the repair of the part's mask behind them
+#[cycle(conversion)]
+#[tactic(auto, using(crate::proofs::Stated::joined_joined))]
+fn add_choice(
+    alloc: Global,
+    place: Place,
+    out: &mut Vec<SpStmt>,
+    branches: &[Branch],
+    otherwise: &[Action],
+) -> Result<(), OutOfMemory>
+    ensures { OnOk result (stmts_of out.new.items
+        ≡ joined (stmts_of out.old.items) (specs.made_action place (plain.chooses (branches_of branches.now) (actions_of otherwise.now)))) }
+{
+    add_arms(alloc, place, out, branches, otherwise)?;
+    repair(alloc, place, out)
+}
+
+// arms, each with those that stand behind its `else`
+#[cycle(conversion)]
+#[tactic(auto)]
+fn add_arms(
+    alloc: Global,
+    place: Place,
+    out: &mut Vec<SpStmt>,
+    branches: &[Branch],
+    otherwise: &[Action],
+) -> Result<(), OutOfMemory>
+    ensures { OnOk result (stmts_of out.new.items
+        ≡ joined (stmts_of out.old.items) (specs.made_branches place (branches_of branches.now) (specs.is_no_action (actions_of otherwise.now)) (λ q. specs.made q (actions_of otherwise.now)))) }
+{
+    match branches {
+        [] => add_all(alloc, place, out, otherwise),
+        [branch, rest @ ..] => {
+            let arm = begin_arm(alloc, place, out, &branch.condition)?;
+            add_all(alloc, arm, out, branch.body.as_slice())?;
+            add_otherwise(alloc, place, arm, out, rest, otherwise)
+        }
+    }
+}
+
+// what stands behind an arm: nothing, or more arms under a mask of their own
+#[cycle(conversion)]
+#[tactic(auto)]
+fn add_otherwise(
+    alloc: Global,
+    place: Place,
+    arm: Place,
+    out: &mut Vec<SpStmt>,
+    rest: &[Branch],
+    otherwise: &[Action],
+) -> Result<(), OutOfMemory>
+    ensures { OnOk result (stmts_of out.new.items ≡ joined (stmts_of out.old.items)
+        (specs.made_otherwise place (specs.is_no_branch (branches_of rest.now) && specs.is_no_action (actions_of otherwise.now))
+        (specs.made_branches arm (branches_of rest.now) (specs.is_no_action (actions_of otherwise.now)) (λ q. specs.made q (actions_of otherwise.now))))) }
+{
+    if stands_nothing(rest, otherwise) {
+        return Ok(());
+    }
+    begin_otherwise(alloc, place, out)?;
+    add_arms(alloc, arm, out, rest, otherwise)
+}
+
+// a loop
+#[cycle(conversion)]
+#[tactic(auto)]
+fn add_repeated(
+    alloc: Global,
+    place: Place,
+    out: &mut Vec<SpStmt>,
+    max: u32,
+    condition: &SpExpr,
+    body: &[Action],
+    step: &Option<Assignment>,
+) -> Result<(), OutOfMemory>
+    ensures { OnOk result (stmts_of out.new.items ≡ joined (stmts_of out.old.items)
+        (specs.made_action place (plain.turns max (plain_sp condition.now) (actions_of body.now) (option_map plain_assignment step.now)))) }
+{
+    if max == 0 {
+        return add_flag(alloc, out, place.own, condition);
+    }
+    let mut turn = begin_turn(alloc, place, condition)?;
+    let inner = place.in_loop()?;
+    add_all(alloc, inner, &mut turn, body)?;
+    end_turn(alloc, place, &mut turn, step)?;
+    add_loop(alloc, place, out, max, condition, List::of(turn))
+}

@@ -1,0 +1,165 @@
+//! Functions and units, made of programs whose names are resolved.
+ghost use Rattle.std.specs.Prelude.{◌≡◌, ◌+◌, ◌<◌, ◌≤◌, ℕ, List, length, map, slice_index, slice_index_or, IfOk, true};
+ghost use Rattle.std.specs.List.{list_any};
+ghost use Rattle.c_tree.specs.Fits.{GrammarFits};
+ghost use Rattle.c_tree.specs.Layout as layout;
+ghost use Rattle.c_tree.specs.Plain.{plain, plain_item};
+ghost use Rattle.sp_tree.specs.Begun.{straight};
+ghost use Rattle.sp_tree.specs.Cost.{cost};
+ghost use Rattle.sp_tree.specs.Formed.{is_formed};
+ghost use Rattle.sp_tree.specs.Shown.{plain_function, functions_of, plain_unit};
+ghost use Rattle.sp_tree.specs.Statements.{no_function};
+ghost use Rattle.sp_tree.specs.Uses.{uses_of};
+ghost use Rattle.c_meaning.specs.Begun.{meaning};
+ghost use Rattle.c_meaning.specs.Shown.{actions_of, bodies_of};
+ghost use Rattle.c_mentions.specs.Mentions.{Array, mentions, assigns, sends_to};
+ghost use Rattle.single_path.specs.Meant.{IsMeant};
+ghost use Rattle.single_path.specs.Single as specs;
+ghost use Rattle.single_path.specs.Used.{reads_region, writes_region, is_send_to, memory_of};
+
+use crate::masks::begun_mask;
+use crate::places::{Place, behind};
+use crate::statements::{add_all, add_mask};
+use crate::widths::{levels_of, width_of};
+use c_meaning::{Action, InputPlace, Routine, add_initial, input_place, resolve};
+use c_tree::{Checked, Item};
+use sp_tree::{SpFunction, SpUnit};
+use std::alloc::{AllocError, Global};
+use tc_word::{List, OutOfMemory};
+
+// a number that fits into a word; those of a valid program do
+fn word_of(number: usize) -> Result<u32, OutOfMemory>
+    ensures { IfOk result (λ n. n ≡ number) }
+{
+    u32::try_from(number).map_err(|_| AllocError)
+}
+
+// the words of a frame: those that are named, and those that code keeps for turns and the return
+fn frame_of(free: u32, masks: u32, levels: u32) -> Result<u32, OutOfMemory>
+    ensures { IfOk result (λ n. n ≡ free + masks + (levels + 2)) }
+{
+    let kept = levels.checked_add(2).ok_or(AllocError)?;
+    let named = free.checked_add(masks).ok_or(AllocError)?;
+    named.checked_add(kept).ok_or(AllocError)
+}
+
+// a function with so many parameters
+fn function(alloc: Global, parameters: u32, body: &[Action]) -> Result<SpFunction, OutOfMemory>
+    ensures { IfOk result (λ f. plain_function f ≡ specs.made_function parameters (actions_of body.now)) }
+{
+    let width = width_of(body)?;
+    let place = Place::outermost(parameters.max(width.variables))?;
+    let mut made = Vec::new(alloc);
+    let mask = begun_mask(alloc, place)?;
+    add_mask(&mut made, place.function, mask)?;
+    add_all(alloc, place, &mut made, body)?;
+    let levels = levels_of(made.as_slice())?;
+    let frame = frame_of(place.free, width.masks, levels)?;
+    Ok(SpFunction {
+        frame,
+        parameters,
+        mask: place.function,
+        result: place.result,
+        body: List::of(made),
+    })
+}
+
+// how many parameters each function has
+#[tactic(auto, using(crate::proofs::Assembled::counts_next))]
+fn parameter_counts(alloc: Global, items: &[Item]) -> Result<Vec<u32>, OutOfMemory>
+    ensures { IfOk result (λ v. v.items ≡ specs.parameters_in (map plain_item items.now)) }
+{
+    let mut counts = Vec::new(alloc);
+    for item in items {
+        if let Item::Function { function } = item {
+            let count = word_of(function.parameters.as_slice().len())?;
+            counts.push(count)?;
+        }
+    }
+    Ok(counts)
+}
+
+// functions, each of so many parameters and of these actions
+#[tactic(auto, using(crate::proofs::Assembled::function_next, crate::proofs::Assembled::no_more_functions))]
+fn functions(
+    alloc: Global,
+    counts: &[u32],
+    routines: &[Routine],
+) -> Result<List<SpFunction>, OutOfMemory>
+    ensures { IfOk result (λ fs. functions_of fs ≡ specs.made_functions counts.now (bodies_of routines.now)) }
+{
+    let mut made = Vec::new(alloc);
+    let both = counts.len().min(routines.len());
+    for number in 0..both {
+        let one = function(alloc, counts[number], routines[number].body.as_slice())?;
+        made.push(one)?;
+    }
+    Ok(List::of(made))
+}
+
+// the number of `main`, which a valid program has
+fn entry_of(main: Option<usize>) -> Result<u32, OutOfMemory>
+    ensures { IfOk result (λ n. n ≡ specs.entry_of main) }
+{
+    match main {
+        None => Ok(0),
+        Some(number) => word_of(number),
+    }
+}
+
+// the words that private memory begins with, from word 4 on
+fn initial_words(alloc: Global, items: &[Item]) -> Result<List<u32>, OutOfMemory>
+    ensures { IfOk result (λ ws. ws ≡ layout.initial_of (map plain_item items.now)) }
+{
+    let mut words = Vec::new(alloc);
+    add_initial(&mut words, items)?;
+    Ok(List::of(words))
+}
+
+// the tree, part by part
+fn tree_of(alloc: Global, program: &Checked) -> Result<SpUnit, OutOfMemory>
+    ensures { IfOk result (λ u. plain_unit u ≡ specs.single (plain program.now.unit)) }
+{
+    let items = program.unit.items.as_slice();
+    let resolved = resolve(alloc, program)?;
+    let counts = parameter_counts(alloc, items)?;
+    let functions = functions(alloc, counts.as_slice(), resolved.routines.as_slice())?;
+    let entry = entry_of(resolved.main)?;
+    let initial = initial_words(alloc, items)?;
+    let InputPlace { at, room } = input_place(items);
+    let input_at = word_of(at)?;
+    let input_room = word_of(room)?;
+    Ok(SpUnit {
+        functions,
+        entry,
+        initial,
+        input_at,
+        input_room,
+    })
+}
+
+/// The single-path tree of a valid program. It is `Err` where memory runs out.
+pub fn convert(alloc: Global, program: &Checked) -> Result<SpUnit, OutOfMemory>
+    ensures told { IfOk result (λ u. plain_unit u ≡ specs.single (plain program.now.unit)) }
+    ensures formed { IfOk result (λ u. is_formed (plain_unit u) ≡ true) }
+
+    // For every input, and all words that shared and communication memory begin with.
+    ensures meaning { IfOk result (λ u. (input : List ℕ) (shared comm : ℕ → ℕ)
+        → IsMeant (straight (plain_unit u) input shared comm) (meaning (plain program.now.unit) input shared comm)) }
+
+    // Each function costs at most what it weighs, where the text fits the grammar, and has at most the frame that is counted.
+    ensures cost { GrammarFits program.now.unit → IfOk result (λ u. (k : ℕ) → k < length (plain_unit u).functions
+        → cost (slice_index_or (plain_unit u).functions k no_function) ≤ slice_index (specs.weights_in (plain program.now.unit)) k) }
+    ensures frame { IfOk result (λ u. (k : ℕ) → k < length (plain_unit u).functions
+        → (slice_index_or (plain_unit u).functions k no_function).frame ≤ slice_index (specs.frames_in (plain program.now.unit)) k) }
+
+    // What others see is used only where the text uses it.
+    ensures reads { IfOk result (λ u. (a : Array) → list_any (reads_region (memory_of a)) (uses_of (plain_unit u)) ≡ true
+        → mentions a (plain program.now.unit) ≡ true) }
+    ensures writes { IfOk result (λ u. (a : Array) → list_any (writes_region (memory_of a)) (uses_of (plain_unit u)) ≡ true
+        → assigns a (plain program.now.unit) ≡ true) }
+    ensures sends { IfOk result (λ u. (core : ℕ) → list_any (is_send_to core) (uses_of (plain_unit u)) ≡ true
+        → sends_to core (plain program.now.unit) ≡ true) }
+{
+    tree_of(alloc, program)
+}

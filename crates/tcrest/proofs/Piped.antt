@@ -1,0 +1,69 @@
+-- The steps of a pipeline, one after another.
+use Rattle.std.proofs.Common.{◌≡◌, ℕ, zero, suc, ◌+◌, ◌<◌, ◌≤◌, arith, Bool, true, false, List, [], ◌∷◌, ◌++◌, length, min, sym, ap, ◌∙◌, append_assoc, Option, None, Some}
+use Rattle.std.specs.Prelude.{◌&&◌, Result, Ok, Err, IfOk}
+use Rattle.std.proofs.Math.ListN.{length-append}
+use Rattle.slot_arbiter.specs.Slot.{period}
+use Rattle.patmos_model.specs.Outcome.{state_at}
+use Rattle.patmos_model.specs.State.{Core, is_running, is_free}
+use Rattle.core_pace.specs.Moment.{Done, done_by, landed, passes, fetched_in}
+use Rattle.pipe_five.specs.Pipe.{IsStep}
+use Rattle.pipe_five.specs.Stages.{stages_of}
+use Rattle.pipe_five.specs.Steps.{core_before, done_below, first_of}
+use Rattle.tc_job.specs.declared.job.Job.{Job}
+use Rattle.tc_report.specs.declared.rows.RowState.{RowState}
+use Rattle.tc_report.specs.Line.{step_line}
+use Rattle.tc_report.specs.Report.{platform_line, state_line}
+use Rattle.tcrest.specs.declared.answers.Answer.{Answer}
+use Rattle.tcrest.specs.Pipe.{step_text, steps_text, row_in, end_row, pipe_of}
+use Rattle.tcrest.specs.Rows.{row_state, status_of}
+
+-- in each cycle there is at most one bundle
+one_at_most : (cycle : ℕ) (c : Core) → length (done_by cycle c) ≤ 1
+one_at_most cycle c = by (is_running c.plain && (is_free cycle c.plain && passes (fetched_in c.plain) c.plain))
+  where
+    by : (does : Bool) → length (elim does as (λ _. List Done) [ true ↦ record { base = c.plain.base; offset = c.plain.offset; cycle = cycle } ∷ [] | false ↦ [] ]) ≤ 1
+    by true = omega arith
+    by false = omega arith
+
+few_bundles : (x : Core) (t : ℕ) → length (done_below x t) ≤ t
+few_bundles x zero = omega arith
+few_bundles x (suc t) = let before = few_bundles x t in
+    omega (arith, length-append (done_by t (landed t (core_before x t))) (done_below x t), one_at_most t (landed t (core_before x t)), before)
+
+-- so there are no more than the limit
+pub no_more : (x : Core) (limit count : ℕ) → count ≤ length (done_below x limit) → limit < count → ⊥
+no_more x limit count few more = omega (arith, few, more, few_bundles x limit)
+
+step_told : (x : Core) (limit k cycle : ℕ) (places : List (Option ℕ)) → IsStep x limit k cycle places → step_text x limit k ≡ step_line cycle places
+step_told x limit k cycle places is =
+    let told : Option ℕ → List ℕ = λ o. elim o as (λ _. List ℕ) [ None ↦ [] | Some t ↦ step_line t (stages_of x (first_of (k + 1) (done_below x limit))) ] in
+    ap told is.bundle ∙ ap (step_line cycle) (sym is.stages)
+
+-- one more step is told
+pub next_step : (x : Core) (limit k trace cycle : ℕ) (places : List (Option ℕ)) (first text more : List ℕ) → IsStep x limit k cycle places → k < trace
+    → more ≡ text ++ step_line cycle places → text ≡ first ++ steps_text x limit (min trace k) → more ≡ first ++ steps_text x limit (min trace (k + 1))
+next_step x limit k trace cycle places first text more is below grown so_far =
+    let before : min trace k ≡ k = omega (arith, below) in
+    let behind : suc k ≡ min trace (k + 1) = omega (arith, below) in
+    grown ∙ ap (λ t. t ++ step_line cycle places) (so_far ∙ ap (λ n. first ++ steps_text x limit n) before)
+    ∙ append_assoc first (steps_text x limit k) (step_line cycle places)
+    ∙ ap (λ l. first ++ (steps_text x limit k ++ l)) (sym (step_told x limit k cycle places is))
+    ∙ ap (λ n. first ++ steps_text x limit n) behind
+
+-- or it is not, where enough were told
+pub untold_step : (x : Core) (limit k trace : ℕ) (first text : List ℕ) → trace ≤ k
+    → text ≡ first ++ steps_text x limit (min trace k) → text ≡ first ++ steps_text x limit (min trace (k + 1))
+untold_step x limit k trace first text enough so_far =
+    let same : min trace k ≡ min trace (k + 1) = omega (arith, enough) in
+    so_far ∙ ap (λ n. first ++ steps_text x limit n) same
+
+-- the platform and the steps, with what became of the task behind them, are all that is told
+pub told_whole : {E : Type 0} (job : Job) (x : Core) (state : RowState) (text : List ℕ) (result : Result Answer E) → state ≡ row_state (state_at job.cycles (core_before x job.cycles).plain)
+    → text ≡ platform_line job.cores job.slot (period job.table job.slot) ++ steps_text x job.cycles (min job.trace (length (done_below x job.cycles)))
+    → IfOk result (λ a. a ≡ record { status = status_of (row_in state ∷ []); text = text ++ state_line 0 (row_in state) }) → IfOk result (λ a. a ≡ pipe_of job x)
+told_whole job x state text (Err e) is so_far answer = tt
+told_whole job x state text (Ok a) is so_far answer =
+    let end = end_row x job.cycles in
+    answer ∙ ap (λ s. record { status = status_of (row_in s ∷ []); text = text ++ state_line 0 (row_in s) }) is
+    ∙ ap (λ t. record { status = status_of (end ∷ []); text = t }) (ap (λ t. t ++ state_line 0 end) so_far
+    ∙ append_assoc (platform_line job.cores job.slot (period job.table job.slot)) (steps_text x job.cycles (min job.trace (length (done_below x job.cycles)))) (state_line 0 end))

@@ -1,0 +1,23 @@
+use Rattle.std.proofs.Common.{◌≡◌, ◌++◌, ◌∙◌, ap, length, min}
+use Rattle.slot_arbiter.specs.Slot.{period}
+use Rattle.patmos_model.specs.Apart.{site_of}
+use Rattle.patmos_model.specs.Begin.{begun}
+use Rattle.patmos_model.specs.Outcome.{state_at}
+use Rattle.patmos_model.specs.State.{Core}
+use Rattle.pipe_five.specs.Steps.{core_before, done_below}
+use Rattle.tc_report.specs.Report.{platform_line}
+use Rattle.tcrest.specs.Pipe.{steps_text}
+use Rattle.tcrest.specs.Rows.{row_state}
+use Rattle.tcrest.proofs.Piped.{told_whole}
+use Rattle.tcrest.proofs.pipe.stages_answer.Goals as goal
+
+pub returns : goal.returns
+returns c =
+    let job = c.args.job.now in
+    let x : Core = begun (site_of c.args.place c.args.image.now) c.args.input.now in
+    let count = length (done_below x job.cycles) in
+    let platform : c.put_platform_line.new.text.items ≡ platform_line job.cores job.slot (period job.table job.slot) = c.in_ok-put_platform_line.ensures
+    ∙ ap (λ t. t ++ platform_line job.cores job.slot c.period_of.result) c.new-text.ensures.items ∙ ap (platform_line job.cores job.slot) c.period_of.ensures in
+    told_whole job x c.row_state.result c.put_steps.new.text.items c.ended.result
+    (c.row_state.ensures ∙ ap row_state (c.state.ensures x count (c.in_ok-put_steps.ensures.stands x c.in_ok-core.ensures.stands) ∙ ap (λ t. state_at t (core_before x t).plain) c.in_ok-put_steps.ensures.limit))
+    (c.in_ok-put_steps.ensures.told x c.in_ok-core.ensures.stands ∙ ap (λ t. t ++ steps_text x job.cycles (min job.trace count)) platform) c.ended.ensures

@@ -1,0 +1,60 @@
+-- What `pipe` writes: what the five stages of a job's only core hold at each step, and what became of its task.
+use Rattle.std.specs.Prelude.{ℕ, zero, suc, ◌+◌, ◌==◌, min, Bool, true, false, ◌&&◌, List, [], ◌∷◌, ◌++◌, length, None, Some, option_map}
+use Rattle.slot_arbiter.specs.Slot.{period}
+use Rattle.patmos_model.specs.Outcome.{state_at}
+use Rattle.patmos_model.specs.State.{Core}
+use Rattle.pipe_five.specs.Stages.{stages_of}
+use Rattle.pipe_five.specs.Steps.{core_before, done_below, first_of, number}
+use Rattle.tc_job.specs.declared.job.Job.{Job}
+use Rattle.tc_job.specs.declared.task.Task.{Task}
+use Rattle.tc_report.specs.declared.rows.Row.{Row}
+use Rattle.tc_report.specs.declared.rows.RowState.{RowState}
+use Rattle.tc_report.specs.Line.{step_line}
+use Rattle.tc_report.specs.Report.{platform_line, state_line}
+use Rattle.tcrest.specs.declared.answers.Answer.{Answer}
+use Rattle.tcrest.specs.Rows.{row_state, status_of}
+
+-- the job has one core, and a task
+abbrev pub has_task : List Task → Bool
+has_task [] = false
+has_task (t ∷ tasks) = true
+
+abbrev pub is_lone : Job → Bool
+is_lone job = job.cores == 1 && has_task job.tasks
+
+-- Step k of a core's run below a limit: bundle k is done in its cycle, and the stages hold this
+abbrev pub step_text : Core → ℕ → ℕ → List ℕ
+step_text x limit k = elim (option_map (λ d. d.cycle) (number k (done_below x limit))) [
+  | None ↦ []
+  | Some cycle ↦ step_line cycle (stages_of x (first_of (k + 1) (done_below x limit)))
+]
+
+-- the first so many steps
+abbrev pub steps_text : Core → ℕ → ℕ → List ℕ
+steps_text x limit zero = []
+steps_text x limit (suc n) = steps_text x limit n ++ step_text x limit n
+
+-- a core of which only is told what became of its task
+abbrev pub row_in : RowState → Row
+row_in s = record {
+  state = s;
+  bound = None;
+  alone = false;
+  overrun = false;
+  outs = [];
+  outs_unsigned = false;
+  dropped = 0;
+  accesses = [];
+}
+
+abbrev pub end_row : Core → ℕ → Row
+end_row x limit = row_in (row_state (state_at limit (core_before x limit).plain))
+
+-- the platform, the first steps as far as the job asks for them and there are, and the core at the limit
+abbrev pub pipe_text : Job → Core → List ℕ
+pipe_text job x =
+    platform_line job.cores job.slot (period job.table job.slot)
+    ++ (steps_text x job.cycles (min job.trace (length (done_below x job.cycles))) ++ state_line 0 (end_row x job.cycles))
+
+abbrev pub pipe_of : Job → Core → Answer
+pipe_of job x = record { status = status_of (end_row x job.cycles ∷ []); text = pipe_text job x }

@@ -1,0 +1,209 @@
+//! That valid texts are converted to single-path trees, which no clause can say: want of memory may come at any time. What
+//! the trees come to stands beside what the texts mean.
+use crate::kernels::KERNELS;
+use c_check::check;
+use c_lex::lex;
+use c_parse::parse;
+use c_run::{Outcome, mean};
+use c_tree::{Checked, Slot};
+use local_store::Cell;
+use single_path::convert;
+use slot_arbiter::Place;
+use sp_tree::{SpOutcome, plain_straight};
+use std::alloc::Global;
+use std::test::Fail;
+use tc_word::List;
+
+/// What a text means, what its tree comes to, and where its variables and arrays stand.
+#[derive(Drop)]
+struct Compared {
+    meant: Outcome,
+    came: SpOutcome,
+    layout: List<Slot>,
+}
+
+fn checked(alloc: Global, text: &str) -> Option<Checked> {
+    if text.len() > 1_000_000 {
+        return None;
+    }
+    let tokens = lex(alloc, text).ok()?;
+    if tokens.as_slice().len() > 1_000_000 {
+        return None;
+    }
+    let unit = parse(alloc, &tokens).ok()?;
+    let place = Place::new(4, 0, 10, 0)?;
+    check(alloc, unit, &place).ok()
+}
+
+fn compare(alloc: Global, text: &str, input: &[u32]) -> Option<Compared> {
+    let program = checked(alloc, text)?;
+    let Ok(unit) = convert(alloc, &program) else {
+        return None;
+    };
+    let came = plain_straight(alloc, &unit, input).ok()?;
+    let meant = mean(alloc, &program, input).ok()?;
+    Some(Compared {
+        meant,
+        came,
+        layout: program.layout,
+    })
+}
+
+/// The memory in which a slot stands, and its first word there.
+fn words_of<'a>(came: &'a SpOutcome, slot: &Slot) -> Option<(&'a [u32], usize)> {
+    match slot.cell {
+        Cell::Private(word) => Some((came.private.as_slice(), word as usize)),
+        Cell::Scratch(word) => Some((came.scratch.as_slice(), word as usize)),
+        Cell::Comm(word) => Some((came.comm.as_slice(), word as usize)),
+        Cell::Shared(word) => Some((came.shared.as_slice(), word as usize)),
+        Cell::Port { .. } => None,
+    }
+}
+
+/// Whether a memory has these words from one on.
+fn has_words(memory: &[u32], first: usize, words: &[u32]) -> bool {
+    let mut at = first;
+    for word in words {
+        if memory.get(at) != Some(word) {
+            return false;
+        }
+        at = at.saturating_add(1);
+    }
+    true
+}
+
+/// The tree comes to what is meant: value, flag, and all words of variables and arrays.
+fn is_meant(both: &Compared) -> bool {
+    let mut number = 0usize;
+    for slot in both.layout.as_slice() {
+        let Some(store) = both.meant.stores.as_slice().get(number) else {
+            return false;
+        };
+        let Some((memory, first)) = words_of(&both.came, slot) else {
+            return false;
+        };
+        if !has_words(memory, first, store.as_slice()) {
+            return false;
+        }
+        number = number.saturating_add(1);
+    }
+    both.came.value == both.meant.value && both.came.overrun == both.meant.overrun
+}
+
+/// The words of the array `out`.
+fn out_of<'a>(both: &'a Compared) -> &'a [u32] {
+    let mut number = 0usize;
+    for slot in both.layout.as_slice() {
+        if slot.name.as_str() == "out" {
+            if let Some(store) = both.meant.stores.as_slice().get(number) {
+                return store.as_slice();
+            }
+        }
+        number = number.saturating_add(1);
+    }
+    &[]
+}
+
+const SUM: &str =
+    "int main() { int s = 0; int i = 0; _Pragma(\"loopbound min 10 max 10\") while (i < 10) { s = s + i; i = i + 1; } return s; }";
+
+const CUT_OFF: &str =
+    "int main() { int s = 0; int i = 0; _Pragma(\"loopbound min 5 max 5\") while (i < 10) { s = s + i; i = i + 1; } return s; }";
+
+const UNDEFINED: &str =
+    "int out[6]; int main() { out[0] = -7 / 2; out[1] = -7 % 2; out[2] = 5 / 0; out[3] = 5 % 0; out[4] = (0 - 2147483647 - 1) / -1; out[5] = 1 << 33; return 0; }";
+
+const ENDLESS: &str = "int main() { _Pragma(\"loopbound min 0 max 0\") while (1) { } return 0; }";
+
+const MASKED: &str =
+    "int in[2]; int a[4]; int out[2]; int main() { int n = in[0]; if (in[1]) { a[n] = 1; } out[0] = a[n]; out[1] = a[-1]; return a[0]; }";
+
+const CALLS: &str =
+    "int g; int f(int a, int b) { if (a < b) { g = g + 1; return b - a; } return a - b; } int main() { int x = f(3, 8); int y = f(x, 2); g = y + g; if (g > 100) { x = f(1, 2); } return x * 100 + g; }";
+
+#[test]
+fn small_programs_come_to_what_they_mean(rt: HostRuntime) -> Result<(), Fail> {
+    for (text, input, value, overrun) in [
+        (SUM, [0u32, 0], 45u32, false),
+        (CUT_OFF, [0, 0], 10, true),
+        (UNDEFINED, [0, 0], 0, false),
+        (ENDLESS, [0, 0], 0, true),
+        (MASKED, [0, 1], 1, false),
+        (MASKED, [9, 0], 0, false),
+        (CALLS, [0, 0], 504, false),
+    ] {
+        let Some(both) = compare(rt.alloc(), text, &input) else {
+            assert!(rt; false, "not converted: {text}");
+            return Ok(());
+        };
+        assert_eq!(rt; both.came.value, value);
+        assert_eq!(rt; both.came.overrun, overrun);
+        assert!(rt; is_meant(&both), "{text}");
+    }
+    Ok(())
+}
+
+#[test]
+fn kernels_come_to_what_gcc_gives(rt: HostRuntime) -> Result<(), Fail> {
+    for kernel in &KERNELS {
+        let Some(both) = compare(rt.alloc(), kernel.text, kernel.input) else {
+            assert!(rt; false, "not converted: {}", kernel.text);
+            return Ok(());
+        };
+        assert_eq!(rt; both.came.value, kernel.value);
+        assert_eq!(rt; out_of(&both), kernel.out);
+        assert!(rt; is_meant(&both), "{}", kernel.text);
+    }
+    Ok(())
+}
+
+/// Ways out of an arm in a loop, of an `else` in an inner loop, and behind that loop.
+const EXITS: [&str; 4] = ["", "break;", "continue;", "return s;"];
+
+/// A loop in a loop, left in three places.
+fn nested(alloc: Global, exits: [&str; 3], bounds: [&str; 2]) -> Result<String, Fail> {
+    let mut text = String::new(alloc);
+    for piece in [
+        "int in[3]; int main() { int s = 0; int i = 0; int j = 0; _Pragma(\"loopbound min 0 max ",
+        bounds[0],
+        "\") while (i < 4) { i = i + 1; j = 0; if (i == in[0]) { s = s + 1; ",
+        exits[0],
+        " } else if (i == in[1]) { s = s + 2; } s = s + 16; _Pragma(\"loopbound min 0 max ",
+        bounds[1],
+        "\") for (j = 0; j < 3; j = j + 1) { if (j < in[2]) { s = s + 256; } else { ",
+        exits[1],
+        " s = s + 4096; } s = s + 65536; } ",
+        exits[2],
+        " } return s + 1048576 * i; }",
+    ] {
+        text.push_str(piece)?;
+    }
+    Ok(text)
+}
+
+/// Whether trees with these exits come to what is meant, under several bounds and on several inputs.
+fn exits_are_meant(alloc: Global, exits: [&str; 3]) -> Result<bool, Fail> {
+    for bounds in [["4", "3"], ["2", "3"], ["4", "0"], ["0", "2"]] {
+        let text = nested(alloc, exits, bounds)?;
+        for input in [[0, 0, 0], [1, 2, 3], [2, 1, 1], [3, 4, 2], [9, 3, 9]] {
+            let came = compare(alloc, text.as_str(), &input);
+            if !came.is_some_and(|both| is_meant(&both)) {
+                return Ok(false);
+            }
+        }
+    }
+    Ok(true)
+}
+
+#[test]
+fn nested_exits_come_to_what_they_mean(rt: HostRuntime) -> Result<(), Fail> {
+    for first in EXITS {
+        for second in EXITS {
+            for third in EXITS {
+                let meant = exits_are_meant(rt.alloc(), [first, second, third])?;
+                assert!(rt; meant, "{first} {second} {third}");
+            }
+        }
+    }
+    Ok(())
+}
