@@ -13,7 +13,7 @@ use Rattle.single_path.specs.Single.{variables, begun_mask, made_function, made_
 use Rattle.single_path.proofs.Acting.{Went, Serving, live_all}
 use Rattle.single_path.proofs.Fits.{Fits}
 use Rattle.single_path.proofs.Frames.{put_here, put_there, Order}
-use Rattle.single_path.proofs.Idle.{Quiet, gone, dead}
+use Rattle.single_path.proofs.Idle.{Quiet, Dead, gone, dead}
 
 -- an earlier function, with as many arguments as it has parameters
 abbrev pub Callable : List ℕ → ℕ → ℕ → ℕ → Type 0
@@ -56,12 +56,12 @@ other_word parameters body under args w x other =
 
 -- ---- what one function gives
 
-function_quiet : (g : Serves) → Quiet g → (parameters : ℕ) (body : PlainActions) (under : ℕ) (args : List ℕ) (w : World) → under ≢ 1
-    → (function_given g (made_function parameters body) under args w).world ≡ w
-function_quiet g quiet parameters body under args w other =
-    let n = variables parameters body in
-    let word : (masked_state parameters body under args w).frame (n + 1) ≡ 0 = mask_word parameters body under args w ∙ ap flag (ne_eqb under 1 other) in
-    (dead g quiet n body (outermost n) (masked_state parameters body under args w) (outermost_order n) (record {
+other_dead : (parameters : ℕ) (body : PlainActions) (under : ℕ) (args : List ℕ) (w : World) → under ≢ 1
+    → Dead (outermost (variables parameters body)) (masked_state parameters body under args w)
+other_dead parameters body under args w other =
+    let word : (masked_state parameters body under args w).frame (variables parameters body + 1) ≡ 0 =
+    mask_word parameters body under args w ∙ ap flag (ne_eqb under 1 other) in
+    record {
       own_word = 0;
       loop_word = 0;
       function_word = 0;
@@ -70,7 +70,26 @@ function_quiet g quiet parameters body under args w other =
       loop = word;
       function = word;
       alone = λ two. refl;
-    })).world
+    }
+
+function_quiet : (g : Serves) → Quiet g → (parameters : ℕ) (body : PlainActions) (under : ℕ) (args : List ℕ) (w : World) → under ≢ 1
+    → (function_given g (made_function parameters body) under args w).world ≡ w
+function_quiet g quiet parameters body under args w other =
+    let n = variables parameters body in
+    (dead g quiet n body (outermost n) (masked_state parameters body under args w) (outermost_order n)
+    (other_dead parameters body under args w other)).world
+
+-- and of its frame it changes masks alone
+function_stands : (g : Serves) → Quiet g → (parameters : ℕ) (body : PlainActions) (under : ℕ) (args : List ℕ) (w : World) (x : ℕ) → under ≢ 1
+    → x ≤ variables parameters body
+    → (stmts_done g (made_function parameters body).body (begun_state parameters body under args w)).frame x
+    ≡ begun_frame (made_function parameters body) under args x
+function_stands g quiet parameters body under args w x other within =
+    let n = variables parameters body in
+    let s = masked_state parameters body under args w in
+    (dead g quiet n body (outermost n) s (outermost_order n) (other_dead parameters body under args w other)).frame x (omega (arith, within))
+    ∙ put_there (n + 1) (worth (begun_mask (outermost n)) (begun_state parameters body under args w)) x (begun_frame (made_function parameters body) under args)
+    (omega (arith, within))
 
 function_serves : (Fit : ℕ → ℕ → Type 0) (gc : resolved.Serves) (g : Serves) → Serving Fit gc g → (parameters : ℕ) (body : PlainActions) (args : List ℕ) (w : World)
     → Fits Fit false body → length args ≡ parameters
@@ -188,3 +207,11 @@ functions_quiet counts bodies (suc n) = record { world = λ k under args w other
         → (if own then function_given earlier (slice_index_or (made_functions counts bodies) n no_function) under args w else earlier k under args w).world ≡ w
     by quiet k under args w other true = made_quiet earlier quiet counts bodies n under args w other
     by quiet k under args w other false = quiet.world k under args w other
+
+pub made_stands : (g : Serves) → Quiet g → (counts : List ℕ) (bodies : List PlainActions) (k under : ℕ) (args : List ℕ) (w : World) (x : ℕ) → under ≢ 1
+    → let f = slice_index_or (made_functions counts bodies) k no_function in x ≤ f.result
+    → (stmts_done g f.body (record { frame = begun_frame f under args; world = w })).frame x ≡ begun_frame f under args x
+made_stands g quiet [] bodies k under args w x other within = refl
+made_stands g quiet (c ∷ counts) [] k under args w x other within = refl
+made_stands g quiet (c ∷ counts) (body ∷ bodies) zero under args w x other within = function_stands g quiet c body under args w x other within
+made_stands g quiet (c ∷ counts) (body ∷ bodies) (suc k) under args w x other within = made_stands g quiet counts bodies k under args w x other within

@@ -1,0 +1,5 @@
+use Rattle.single_path.proofs.OtherMasks.{words_stand}
+use Rattle.single_path.proofs.laws.other_masks_change_nothing.Goals as goal
+
+pub returns-clause-frame : goal.returns-clause-frame
+returns-clause-frame c = words_stand
