@@ -10,7 +10,9 @@ use Rattle.c_meaning.specs.Resolved as resolved
 use Rattle.single_path.specs.Made.{made}
 use Rattle.single_path.specs.Places.{outermost}
 use Rattle.single_path.specs.Single.{variables, begun_mask, made_function, made_functions}
-use Rattle.single_path.proofs.Acting.{Went, Serving, live_all}
+use Rattle.single_path.proofs.Acting.{live_all}
+use Rattle.single_path.proofs.Calling.{Serving}
+use Rattle.single_path.proofs.Ways.{Went}
 use Rattle.single_path.proofs.Fits.{Fits}
 use Rattle.single_path.proofs.Frames.{put_here, put_there, Order}
 use Rattle.single_path.proofs.Idle.{Quiet, Dead, gone, dead}

@@ -1,6 +1,12 @@
 pub mod Frames
 pub mod Idle
 pub mod Fits
+pub mod Agreeing
+pub mod Ways
+pub mod Calling
+pub mod Leaving
+pub mod Arming
+pub mod Looping
 pub mod Acting
 pub mod Functions
 pub mod Valid

@@ -14,7 +14,7 @@ use Rattle.c_meaning.specs.Resolved as resolved
 use Rattle.c_meaning.proofs.Programs.{program_means}
 use Rattle.single_path.specs.Meant.{IsMeant}
 use Rattle.single_path.specs.Single.{entry_of, made_functions, parameters_in, single}
-use Rattle.single_path.proofs.Acting.{Serving}
+use Rattle.single_path.proofs.Calling.{Serving}
 use Rattle.single_path.proofs.Formed.{as_many, functions_fit, made_length}
 use Rattle.single_path.proofs.Functions.{Callable, functions_serve}
 use Rattle.single_path.proofs.Main.{MainThere, main_there}

@@ -1,0 +1,321 @@
+-- Loops that act: turn by turn, up to their bound.
+use Rattle.std.proofs.Common.{◌≡◌, ◌≢◌, ℕ, zero, suc, ◌+◌, ◌<◌, ◌≤◌, ◌==◌, Bool, true, false, Option, refl, ap, sym, ◌∙◌, arith, eq-eqb, ap₂, subst, ◌⊎◌, inl, inr}
+use Rattle.std.specs.Prelude.{bit_and, not}
+use Rattle.std.proofs.lemmas.Bool.{cases_eq}
+use Rattle.c_world.specs.Numbers.{flag, is_true, difference_of}
+use Rattle.c_world.specs.World.{with_overrun}
+use Rattle.sp_tree.specs.Plain.{PlainSp, frame_word}
+use Rattle.sp_tree.specs.Statements.{masks, overruns, PlainStmts, stmt}
+use Rattle.sp_tree.specs.Straight.{State, Serves, with_slot, in_world, overrun_done, worth, times, stmt_done, stmts_done}
+use Rattle.sp_tree.proofs.Joins.{joined_done}
+use Rattle.sp_tree.proofs.Runs.{on}
+use Rattle.c_meaning.specs.Actions.{PlainAssignment, PlainAction}
+use Rattle.c_meaning.specs.declared.ways.Way.{Way}
+use Rattle.c_meaning.specs.declared.ways.Way.TheVariants as way
+use Rattle.c_meaning.specs.Meaning.{Done, goes_on, then_done, turn_done, turns_done, way_value}
+use Rattle.c_meaning.specs.Meaning as meaning
+use Rattle.c_meaning.specs.Resolved as resolved
+use Rattle.c_meaning.specs.Values as values
+use Rattle.single_path.specs.declared.places.Place.{Place}
+use Rattle.single_path.specs.Places.{in_loop, where_so, where_not_returned, bit_of, not_zero}
+use Rattle.single_path.specs.Made.{made_step, made_turn, made_loop, ends}
+use Rattle.single_path.specs.Widths.{expr_words, step_words}
+use Rattle.single_path.proofs.Frames.{put_here, put_there, Order, Still, still_on, fewer, set_behind}
+use Rattle.single_path.proofs.Idle.{Idle, left, gone, Dead, Left, order_loop, still_dead, behind_still, ended_still, flagged_still}
+use Rattle.single_path.proofs.Agreeing.{Agrees, step_set, still_agrees, worth_same}
+use Rattle.single_path.proofs.Ways.{Acted, Live, Went, function_of, loop_of, low_acted}
+use Rattle.single_path.proofs.Leaving.{on_acted}
+use Rattle.single_path.proofs.Arming.{tested}
+
+-- behind the turns of a loop and its flag: the loop has ended, and its part goes on or the function has returned; the masks
+-- of the part stand
+record Turned (n : ℕ) (p : Place) (s : State) (d : Done) (u : State) : Type 0 where
+  same : Agrees n u d.state
+  result : u.frame p.result ≡ way_value d.way
+  function : u.frame p.function ≡ function_of d.way
+  settled : function_of d.way ≡ loop_of d.way
+  others : (x : ℕ) → n ≤ x → x < p.free → x ≢ p.result → x ≢ p.function → u.frame x ≡ s.frame x
+
+turned_still : (n : ℕ) (p : Place) (s : State) (d : Done) (u v : State) → Order n p → Turned n p s d u → Still p.free u v → Turned n p s d v
+turned_still n p s d u v o h k = record {
+  same = still_agrees n p.free u v d.state (omega (arith, o.result, o.function, o.loop, o.own, o.free)) k h.same;
+  result = k.frame p.result (omega (arith, o.function, o.loop, o.own, o.free)) ∙ h.result;
+  function = k.frame p.function (omega (arith, o.loop, o.own, o.free)) ∙ h.function;
+  settled = h.settled;
+  others = λ x behind below r f. k.frame x below ∙ h.others x behind below r f;
+}
+
+turned_from : (n : ℕ) (p : Place) (s t : State) (d : Done) (u : State)
+    → ((x : ℕ) → n ≤ x → x < p.free → x ≢ p.result → x ≢ p.function → t.frame x ≡ s.frame x) → Turned n p t d u → Turned n p s d u
+turned_from n p s t d u before h = record {
+  same = h.same;
+  result = h.result;
+  function = h.function;
+  settled = h.settled;
+  others = λ x behind below r f. h.others x behind below r f ∙ before x behind below r f;
+}
+
+-- the masks of a loop that was left in its turn
+left_there : (n : ℕ) (p : Place) (t : State) (w : Way) (m : values.State) (u : State) → loop_of w ≡ 0 → Idle 0 0 (function_of w)
+    → Went n (in_loop p) t (record { way = w; state = m }) u → Left p u
+left_there n p t w m u is idle h = record {
+  dead = record {
+    own_word = 0;
+    loop_word = 0;
+    function_word = function_of w;
+    idle = idle;
+    own = h.loop ∙ is;
+    loop = h.loop ∙ is;
+    function = h.function;
+    alone = λ two. absurd (omega (arith, two));
+  };
+  off = h.loop ∙ is;
+}
+
+-- what a loop needs of its body
+pub record Body (g : Serves) (n : ℕ) (p : Place) (body : PlainStmts) (meant : values.State → Done) : Type 0 where
+  pub acts : (t : State) (m : values.State) → Live (in_loop p) t → Agrees n t m → Went n (in_loop p) t (meant m) (stmts_done g body t)
+  pub idles : (t : State) → Dead (in_loop p) t → Still (p.free + 1) t (stmts_done g body t)
+
+no_turn : (g : Serves) (n : ℕ) (p : Place) (condition : PlainSp) (s : State) (l : values.State) → Live (in_loop p) s → Agrees n s l → expr_words condition ≤ n
+    → Turned n p s (goes_on (meaning.in_world l (with_overrun (resolved.holds condition l) l.world))) (stmt_done g (overruns p.free condition) s)
+no_turn g n p condition s l live h within =
+    let flagged : stmt_done g (overruns p.free condition) s ≡ in_world s (with_overrun (resolved.holds condition l) l.world) =
+    on p.free (overrun_done condition) s (eq-eqb (s.frame p.free) 1 live.own)
+    ∙ ap₂ (λ a w. in_world s (with_overrun (is_true a) w)) (worth_same n condition s l h within) h.world in
+    subst (λ u. Turned n p s (goes_on (meaning.in_world l (with_overrun (resolved.holds condition l) l.world))) u) (sym flagged) (record {
+      same = record { locals = h.locals; world = refl };
+      result = live.result;
+      function = live.function;
+      settled = refl;
+      others = λ x behind below r f. refl;
+    })
+
+turned : (g : Serves) (n : ℕ) (p : Place) (condition : PlainSp) (body : PlainStmts) (step : Option PlainAssignment) (meant : values.State → Done)
+    → Order n p → expr_words condition ≤ n → step_words step ≤ n → Body g n p body meant → (k : ℕ) (s : State) (l : values.State) → Live (in_loop p) s → Agrees n s l
+    → Turned n p s (turns_done (resolved.holds condition) meant (resolved.step_done step) k l)
+    (stmt_done g (overruns p.free condition) (times k (stmts_done g (made_turn p condition body step)) s))
+turned g n p condition body step meant o within step_within b zero s l live h = no_turn g n p condition s l live h within
+turned g n p condition body step meant o within step_within b (suc k) s l live h =
+    tests (λ x m. turned g n p condition body step meant o within step_within b k x m) (resolved.holds condition l) refl
+  where
+    t : State
+    t = with_slot p.free (worth (where_so p.free condition) s) s
+
+    begun : Still p.free s t
+    begun = set_behind p.free p.free (worth (where_so p.free condition) s) s (omega arith)
+
+    test_word : (holds : Bool) → resolved.holds condition l ≡ holds → t.frame p.free ≡ flag holds
+    test_word holds is = put_here p.free (worth (where_so p.free condition) s) s.frame
+        ∙ tested (in_loop p) condition holds s live.own (ap is_true (worth_same n condition s l h within) ∙ is)
+
+    function_there : t.frame p.function ≡ 1
+    function_there = begun.frame p.function (omega (arith, o.loop, o.own, o.free)) ∙ live.function
+
+    agrees : Agrees n t l
+    agrees = still_agrees n p.free s t l (omega (arith, o.result, o.function, o.loop, o.own, o.free)) begun h
+
+    turn : State → State
+    turn = stmts_done g (made_turn p condition body step)
+
+    end_of_turn : PlainStmts
+    end_of_turn = stmt (masks p.free (not_zero (frame_word p.free))) (made_step p.free step)
+
+    more : values.State → Done
+    more = turns_done (resolved.holds condition) meant (resolved.step_done step) k
+
+    ends_as : State → State
+    ends_as v = stmt_done g (overruns p.free condition) (times k turn v)
+
+    u : State
+    u = stmts_done g body t
+
+    -- the loop was left in this turn
+    over : (w : Way) (m : values.State) → Went n (in_loop p) t (record { way = w; state = m }) u → loop_of w ≡ 0 → Idle 0 0 (function_of w)
+        → Still p.free u (ends_as (stmts_done g end_of_turn u))
+    over w m went is idle =
+        let off_there = left_there n p t w m u is idle went in
+        let v = stmts_done g end_of_turn u in
+        let ended = ended_still g n p step u o off_there in
+        still_on p.free u v (ends_as v) (fewer (p.free + 1) p.free u v (omega arith) ended)
+        (flagged_still g n p condition body step o b.idles k v (record {
+          dead = still_dead n (in_loop p) u v (order_loop n p o) ended off_there.dead;
+          off = ended.frame p.free (omega arith) ∙ off_there.off;
+        }))
+
+    below_u : (d : Done) → Went n (in_loop p) t d u → (x : ℕ) → n ≤ x → x < p.free → x ≢ p.result → x ≢ p.function → u.frame x ≡ s.frame x
+    below_u d went x behind below r f =
+        went.others x behind (omega (arith, below)) r f (omega (arith, below)) (omega (arith, below)) ∙ begun.frame x below
+
+    -- what is so of the turns that are left
+    Rest : Type 0
+    Rest = (x : State) (m : values.State) → Live (in_loop p) x → Agrees n x m → Turned n p x (more m) (ends_as x)
+
+    -- the next turn comes
+    goes_further : Rest → (w : Way) (m : values.State) → Went n (in_loop p) t (record { way = w; state = m }) u → not (loop_of w == 0) ≡ true → function_of w ≡ 1
+        → way_value w ≡ 0 → Turned n p s (more (resolved.step_done step m)) (ends_as (stmts_done g end_of_turn u))
+    goes_further further w m went is function value =
+        let v = with_slot p.free (worth (not_zero (frame_word p.free)) u) u in
+        let again = set_behind p.free p.free (worth (not_zero (frame_word p.free)) u) u (omega arith) in
+        let one_there : v.frame p.free ≡ 1 = put_here p.free (worth (not_zero (frame_word p.free)) u) u.frame
+        ∙ ap (λ a. flag (not (a == 0))) went.loop ∙ ap flag is in
+        let stepped = step_set g n p.free step v m one_there (still_agrees n p.free u v m (omega (arith, o.result, o.function, o.loop, o.own, o.free)) again went.same) step_within in
+        let x = stmts_done g (made_step p.free step) v in
+        let live_there : Live (in_loop p) x = record {
+          own = stepped.others p.free (omega (arith, o.result, o.function, o.loop, o.own, o.free)) ∙ one_there;
+          loop = stepped.others p.free (omega (arith, o.result, o.function, o.loop, o.own, o.free)) ∙ one_there;
+          function = stepped.others p.function (omega (arith, o.result, o.function)) ∙ again.frame p.function (omega (arith, o.loop, o.own, o.free))
+              ∙ went.function ∙ function;
+          result = stepped.others p.result o.result ∙ again.frame p.result (omega (arith, o.function, o.loop, o.own, o.free)) ∙ went.result ∙ value;
+        } in
+        turned_from n p s x (more (resolved.step_done step m)) (ends_as x)
+        (λ y behind below r f. stepped.others y behind ∙ again.frame y below ∙ below_u (record { way = w; state = m }) went y behind below r f)
+        (further x (resolved.step_done step m) live_there stepped.agrees)
+
+    by_way : Rest → (w : Way) (m : values.State) → Went n (in_loop p) t (record { way = w; state = m }) u
+        → Turned n p s (turn_done more (resolved.step_done step) (record { way = w; state = m })) (ends_as (stmts_done g end_of_turn u))
+    by_way further way.On m went = goes_further further way.On m went refl refl refl
+    by_way further way.Continued m went = goes_further further way.Continued m went refl refl refl
+    by_way further way.Broken m went = turned_still n p s (goes_on m) u (ends_as (stmts_done g end_of_turn u)) o (record {
+      same = went.same;
+      result = went.result;
+      function = went.function;
+      settled = refl;
+      others = below_u (record { way = way.Broken; state = m }) went;
+    }) (over way.Broken m went refl left)
+    by_way further (way.Returned v) m went = turned_still n p s (record { way = way.Returned v; state = m }) u (ends_as (stmts_done g end_of_turn u)) o (record {
+      same = went.same;
+      result = went.result;
+      function = went.function;
+      settled = refl;
+      others = below_u (record { way = way.Returned v; state = m }) went;
+    }) (over (way.Returned v) m went refl gone)
+
+    tests : Rest → (holds : Bool) → resolved.holds condition l ≡ holds
+        → Turned n p s (elim holds as (λ _. Done) [ true ↦ turn_done more (resolved.step_done step) (meant l) | false ↦ goes_on l ]) (ends_as (turn s))
+    tests further true is =
+        let live_there : Live (in_loop p) t = record {
+          own = test_word true is;
+          loop = test_word true is;
+          function = function_there;
+          result = begun.frame p.result (omega (arith, o.function, o.loop, o.own, o.free)) ∙ live.result;
+        } in
+        subst (λ v. Turned n p s (turn_done more (resolved.step_done step) (meant l)) (ends_as v)) (sym (joined_done g body end_of_turn t))
+        (by_way further (meant l).way (meant l).state (b.acts t l live_there agrees))
+    tests further false is =
+        let off_there : Left p t = record {
+          dead = record {
+            own_word = 0;
+            loop_word = 0;
+            function_word = 1;
+            idle = left;
+            own = test_word false is;
+            loop = test_word false is;
+            function = function_there;
+            alone = λ two. absurd (omega (arith, two));
+          };
+          off = test_word false is;
+        } in
+        let v = turn s in
+        let turned_by = behind_still g n p body step o b.idles t off_there in
+        let so_far = still_on p.free s t v begun (fewer (p.free + 1) p.free t v (omega arith) turned_by) in
+        turned_still n p s (goes_on l) v (ends_as v) o (record {
+          same = still_agrees n p.free s v l (omega (arith, o.result, o.function, o.loop, o.own, o.free)) so_far h;
+          result = so_far.frame p.result (omega (arith, o.function, o.loop, o.own, o.free)) ∙ live.result;
+          function = so_far.frame p.function (omega (arith, o.loop, o.own, o.free)) ∙ live.function;
+          settled = refl;
+          others = λ x behind below r f. so_far.frame x below;
+        })
+        (flagged_still g n p condition body step o b.idles k v (record {
+          dead = still_dead n (in_loop p) t v (order_loop n p o) turned_by off_there.dead;
+          off = turned_by.frame p.free (omega arith) ∙ off_there.off;
+        }))
+
+-- behind a loop its part's masks are repaired
+behind_loop : (n : ℕ) (p : Place) (s : State) (d : Done) (u : State) → Order n p → Live p s → Turned n p s d u
+    → Went n p s d (with_slot p.turn (worth (where_not_returned p) u) u)
+behind_loop n p s d u o live h = by (cases_eq p.function p.turn)
+  where
+    v : ℕ
+    v = worth (where_not_returned p) u
+
+    there : (x : ℕ) → x ≢ p.turn → (with_slot p.turn v u).frame x ≡ u.frame x
+    there x other = put_there p.turn v x u.frame (λ e. other (sym e))
+
+    same : Agrees n (with_slot p.turn v u) d.state
+    same = still_agrees n p.turn u (with_slot p.turn v u) d.state (omega (arith, o.result, o.function, o.loop)) (set_behind p.turn p.turn v u (omega arith)) h.same
+
+    result : (with_slot p.turn v u).frame p.result ≡ way_value d.way
+    result = there p.result (omega (arith, o.function, o.loop)) ∙ h.result
+
+    word_of : (w : Way) → bit_and (function_of w) (difference_of 0 (function_of w)) ≡ function_of w
+    word_of way.On = refl
+    word_of way.Broken = refl
+    word_of way.Continued = refl
+    word_of (way.Returned v) = refl
+
+    word_in : (w : Way) → bit_and 1 (difference_of 0 (function_of w)) ≡ function_of w
+    word_in way.On = refl
+    word_in way.Broken = refl
+    word_in way.Continued = refl
+    word_in (way.Returned v) = refl
+
+    own : p.own ≢ p.turn → u.frame p.own ≡ 1
+    own apart = h.others p.own (omega (arith, o.result, o.function, o.loop, o.own)) o.free (omega (arith, o.function, o.loop, o.own))
+        (λ e. apart (omega (arith, o.loop, o.own, e))) ∙ live.own
+
+    others : (x : ℕ) → n ≤ x → x < p.free → x ≢ p.result → x ≢ p.function → x ≢ p.turn → x ≢ p.own → (with_slot p.turn v u).frame x ≡ s.frame x
+    others x behind below r f q w = there x q ∙ h.others x behind below r f
+
+    by : (p.function ≡ p.turn) ⊎ (p.function ≢ p.turn) → Went n p s d (with_slot p.turn v u)
+    by (inl alone) =
+        let word : (with_slot p.turn v u).frame p.turn ≡ function_of d.way = put_here p.turn v u.frame
+        ∙ ap₂ (λ b c. bit_and b (difference_of 0 c)) (ap u.frame (sym alone) ∙ h.function) h.function ∙ word_of d.way in
+        record {
+          same = same;
+          result = result;
+          function = ap (with_slot p.turn v u).frame alone ∙ word;
+          loop = word ∙ h.settled;
+          own = λ apart. inl (there p.own apart ∙ own apart);
+          others = others;
+        }
+    by (inr nested) =
+        let loop_word : u.frame p.turn ≡ 1 = h.others p.turn (omega (arith, o.result, o.function, o.loop)) (omega (arith, o.own, o.free))
+        (omega (arith, o.function, o.loop)) (λ e. nested (sym e)) ∙ live.loop in
+        record {
+          same = same;
+          result = result;
+          function = there p.function nested ∙ h.function;
+          loop = put_here p.turn v u.frame ∙ ap₂ (λ b c. bit_and b (difference_of 0 c)) loop_word h.function ∙ word_in d.way ∙ h.settled;
+          own = λ apart. inl (there p.own apart ∙ own apart);
+          others = others;
+        }
+
+pub loop_acted : (a : PlainAction) (g : Serves) (n : ℕ) (p : Place) (most : ℕ) (condition : PlainSp) (body : PlainStmts) (step : Option PlainAssignment)
+    (meant : values.State → Done) (s : State) (l : values.State) → ends a ≡ false → Order n p → expr_words condition ≤ n → step_words step ≤ n
+    → Body g n p body meant → Live p s → Agrees n s l
+    → Acted a n p s (turns_done (resolved.holds condition) meant (resolved.step_done step) most l)
+    (stmts_done g (made_loop p most condition (made_turn p condition body step)) s)
+loop_acted a g n p zero condition body step meant s l stays o within step_within b live h =
+    let m = meaning.in_world l (with_overrun (resolved.holds condition l) l.world) in
+    let flagged : stmt_done g (overruns p.own condition) s ≡ in_world s (with_overrun (resolved.holds condition l) l.world) =
+    on p.own (overrun_done condition) s (eq-eqb (s.frame p.own) 1 live.own)
+    ∙ ap₂ (λ v w. in_world s (with_overrun (is_true v) w)) (worth_same n condition s l h within) h.world in
+    subst (λ u. Acted a n p s (goes_on m) u) (sym flagged) (low_acted a n p s (in_world s m.world) m stays o live
+    (record { locals = h.locals; world = refl }) (λ x behind below. refl))
+loop_acted a g n p (suc k) condition body step meant s l stays o within step_within b live h =
+    let t = with_slot p.free (worth (bit_of p.own) s) s in
+    let begun = set_behind p.free p.free (worth (bit_of p.own) s) s (omega arith) in
+    let word : t.frame p.free ≡ 1 = put_here p.free (worth (bit_of p.own) s) s.frame ∙ ap (λ x. bit_and x 1) live.own in
+    let live_there : Live (in_loop p) t = record {
+      own = word;
+      loop = word;
+      function = begun.frame p.function (omega (arith, o.loop, o.own, o.free)) ∙ live.function;
+      result = begun.frame p.result (omega (arith, o.function, o.loop, o.own, o.free)) ∙ live.result;
+    } in
+    let d = turns_done (resolved.holds condition) meant (resolved.step_done step) (suc k) l in
+    let u = stmt_done g (overruns p.free condition) (times (suc k) (stmts_done g (made_turn p condition body step)) t) in
+    let there = turned g n p condition body step meant o within step_within b (suc k) t l live_there
+    (still_agrees n p.free s t l (omega (arith, o.result, o.function, o.loop, o.own, o.free)) begun h) in
+    on_acted a g n p s d (with_slot p.turn (worth (where_not_returned p) u) u) stays o
+    (behind_loop n p s d u o live (turned_from n p s t d u (λ x behind below r f. begun.frame x below) there))
