@@ -1,6 +1,6 @@
-//! The calls of a board. Each but [`Board::new`] is one atomic step of the table and constant work
-//! besides, apart from [`Board::give`], which may try its step again, and [`Board::close`], which
-//! goes over the words. Each call of a pass hands the pass on: its record grows by exactly what the
+//! The calls of a board, but those that wait. Each but [`Board::new`] is one atomic step of the table and
+//! constant work besides, apart from [`Board::give`], which may try its step again, and [`Board::close`],
+//! which goes over the words. Each call of a pass hands the pass on: its record grows by exactly what the
 //! call did.
 ghost use Rattle.std.specs.Prelude.{◌≡◌, ◌≢◌, ℕ, ◌+◌, ◌^◌, ◌<◌, ◌≤◌, [], ◌∷◌, length, max, slice_index, vec_capacity, IfOk, MatchBool};
 ghost use Rattle.std.specs.List.{AllByRecursion as Each};
@@ -17,10 +17,13 @@ use crate::course::Course;
 use crate::known::{Holding, View};
 use crate::parts::{Board, Pass};
 use crate::rule::{Claims, Looks, Makes, Parts, Publishes};
+use crate::waiting::NO_ALARM;
 use atomic_table::{Closed, Seat, Table};
 use std::alloc::Global;
+use std::array;
 use std::marker::PhantomData;
 use std::sync::Wait;
+use std::sync::atomic::{AtomicBool, AtomicU64};
 use tc_word::{List as Words, OutOfMemory};
 
 impl<C: Course> Board<C> {
@@ -48,6 +51,8 @@ impl<C: Course> Board<C> {
             cores,
             words,
             spare,
+            alarms: array::from_fn(|_| AtomicU64::new(NO_ALARM)),
+            peeks_first: AtomicBool::new(false),
         };
         let pass = Pass {
             seat,
@@ -135,6 +140,7 @@ impl<C: Course> Board<C> {
         self.table
             .shared
             .store::<Publishes>(&mut pass.seat, clock, stamp);
+        self.wake(pass.core, stamp);
     }
 
     /// Makes the core's next operation, a load: the word's value, which is the course's.
@@ -212,6 +218,8 @@ impl<C: Course> Board<C> {
             cores,
             words,
             mut spare,
+            alarms: _,
+            peeks_first: _,
         } = self;
         let Pass {
             seat,

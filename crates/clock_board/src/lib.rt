@@ -14,6 +14,7 @@
 //!   call is one atomic step. [`Pass`] is the right to act for one core, or the maker's right to
 //!   give such passes and take them back. It carries what its core has made, published and seen, its
 //!   [`Record`], which no program computes: contracts alone speak of it.
+//! - [`Board::wait_for`] waits for a clock, with the [`Patience`] of the thread that calls it.
 //! - [`rule_in_words`] tells what holds between any two steps of any threads: the operations that
 //!   all passes have made are the first ones of the course, each with the course's value, each core
 //!   has made the first ones of its own, and each shared word has what was stored last in it.
@@ -36,10 +37,12 @@ mod parts;
 mod rule;
 #[cfg(test)]
 mod tests;
+mod waiting;
 mod worked;
 
 pub use course::Course;
 pub use known::{Holding, Look, Record, View};
 pub use law::rule_in_words;
 pub use parts::{Board, Pass};
+pub use waiting::Patience;
 pub use worked::{TwoCores, two_cores_at_once, two_cores_by_turns, worked_records};

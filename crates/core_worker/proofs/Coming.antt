@@ -1,17 +1,16 @@
 -- What comes next in a core's run apart, and so in the course's list of it.
-use Rattle.std.proofs.Common.{◌≡◌, ℕ, zero, suc, ◌+◌, ◌*◌, ◌<◌, ◌≤◌, true, false, List, [], ◌∷◌, ◌++◌, length, take, drop, refl, sym, ap, ◌∙◌, subst, append_assoc, append-nil, ◌-◌, arith}
+use Rattle.std.proofs.Common.{◌≡◌, ℕ, zero, suc, ◌+◌, ◌*◌, ◌<◌, ◌≤◌, List, [], ◌++◌, length, take, sym, ap, ◌∙◌, subst, append_assoc, append-nil, ◌-◌, arith}
 use Rattle.std.specs.List.{AllByRecursion as Each}
 use Rattle.std.proofs.Math.Nat.{mul-le-mul_right}
 use Rattle.std.proofs.lemmas.List.{length-take, append_cancel_left}
 use Rattle.slot_arbiter.specs.Stamp.{stamp}
-use Rattle.slot_arbiter.specs.declared.event.WordOp.{WordOp}
 use Rattle.slot_arbiter.specs.declared.event.Event.{Event}
 use Rattle.slot_arbiter.specs.declared.place.Place.{Place}
 use Rattle.shared_order.specs.declared.operation.Operation.{Operation}
-use Rattle.shared_order.specs.Operation.{load, store, loads}
+use Rattle.shared_order.specs.Operation.{loads}
 use Rattle.shared_order.specs.Order.{GoesOn}
-use Rattle.shared_order.specs.Program.{Prog, Fed, fed, first, others}
-use Rattle.shared_order.specs.Event.{filled, asked_by}
+use Rattle.shared_order.specs.Program.{Prog, Fed, fed}
+use Rattle.shared_order.specs.Event.{asked_by}
 use Rattle.shared_order.specs.Apart.{Alone, turn_apart, apart}
 use Rattle.shared_order.proofs.Lists.{loads-append, each_map, each-append}
 use Rattle.shared_order.proofs.Runs.{stamps_fed}

@@ -2,7 +2,9 @@
 use Rattle.std.proofs.Common.{◌≡◌, ℕ, ◌<◌, List, length, get_or, set, sym, subst, ◌∙◌, inl, inr, arith}
 use Rattle.std.proofs.lemmas.Bool.{cases_eq}
 use Rattle.std.proofs.lemmas.List.{length-set, get_or-set_same, get_or-set_other, get_or_default}
-use Rattle.core_worker.specs.Worker.{WorkerFace, IsLater, AreLater}
+use Rattle.core_worker.specs.Worker.{WorkerFace, IsLater, AreLater, HasTurned, IsOver, IsDone}
+use Rattle.core_worker.specs.declared.turn.Turn.{Turn}
+use Rattle.core_worker.specs.declared.turn.Turn.TheVariants.{Ended}
 use Rattle.core_worker.proofs.Going.{both}
 
 -- what is later than a later one is later
@@ -11,6 +13,10 @@ later_both w w' w'' one two = record {
   goes_on = both w.limit w'.limit w.core w'.core w''.core w.pass.view w'.pass.view w''.pass.view one.limit one.goes_on two.goes_on;
   limit = two.limit ∙ one.limit;
 }
+
+-- a worker whose turn ended is done
+pub done_at_end : (turn : Turn) (w w' : WorkerFace) → HasTurned turn w w' → turn ≡ Ended → IsDone w'
+done_at_end turn w w' h is = let over : IsOver w w' = subst (λ t. HasTurned t w w') is h in over.ended
 
 -- one of them later
 pub all_set : (ws ws' : List WorkerFace) (k : ℕ) (d0 w' : WorkerFace) → AreLater ws ws' → k < length ws' → IsLater (get_or ws' k d0) w' → AreLater ws (set ws' k w')

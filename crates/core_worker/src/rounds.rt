@@ -3,15 +3,21 @@ ghost use Rattle.std.specs.Prelude.{IsTrue};
 ghost use Rattle.std.specs.List.{All};
 ghost use Rattle.core_worker.specs.Worker.{AreLater, IsOn, IsDone, HasPieces};
 
+use crate::turn::Turn;
 use crate::worker::Worker;
-use clock_board::{Board, Course};
+use clock_board::{Board, Course, Patience};
 use std::sync::Wait;
-use std::thread::yield_now;
 use tc_io::Gate;
 
-/// One turn of each of the workers, in their order: whether none of them has an event left. Where all others
-/// of them wait, it lets another thread run.
-fn round<C: Course, G: Gate>(workers: &mut [Worker<C>], board: &Board<C>, gate: &G) -> bool
+/// Each of the workers goes on as far as it can, in their order: whether none of them has an event left. Where
+/// all others wait, it waits for the clock that the least of their events waits for: the later ones wait for it too.
+fn round<R: Wait, C: Course, G: Gate>(
+    rt: &R,
+    workers: &mut [Worker<C>],
+    board: &Board<C>,
+    gate: &G,
+    patience: &mut Patience,
+) -> bool
     requires of { All (IsOn board.now) workers.old }
     ensures of { All (IsOn board.now) workers.new }
     ensures later { AreLater workers.old workers.new }
@@ -20,13 +26,15 @@ fn round<C: Course, G: Gate>(workers: &mut [Worker<C>], board: &Board<C>, gate: 
 {
     let mut ended = true;
     let mut moved = false;
+    let mut least = Turn::Ended;
     for k in 0..workers.len() {
-        let turn = workers[k].advance(board, gate);
+        let turn = workers[k].advance_on(board, gate);
         ended &= turn.has_ended();
         moved |= turn.has_moved();
+        least = turn.sooner(least);
     }
-    if !ended && !moved {
-        yield_now();
+    if !moved {
+        least.wait(rt, board, patience);
     }
     ended
 }
@@ -45,8 +53,9 @@ pub fn run_all<R: Wait, C: Course, G: Gate>(
     ensures pieces { All HasPieces workers.new }
     ensures ended { All IsDone workers.new }
 {
+    let mut patience = Patience::new();
     for _ in rt.forever() {
-        if round(workers, board, gate) {
+        if round(rt, workers, board, gate, &mut patience) {
             break;
         }
     }

@@ -1,5 +1,8 @@
 ghost use Rattle.std.specs.Prelude.{◌≡◌, ◌↔◌, IsTrue};
 
+use clock_board::{Board, Course, Patience};
+use std::sync::Wait;
+
 /// What came of one turn of a worker.
 #[derive(Clone, Copy, Debug, PartialEq, Eq)]
 pub enum Turn {
@@ -24,5 +27,27 @@ impl Turn {
         ensures { IsTrue result ↔ (self.now ≡ Turn.Ended) }
     {
         matches!(self, Turn::Ended)
+    }
+
+    /// Which of two turns that did not move waits with the event of the lesser stamp.
+    pub(crate) fn sooner(self, other: Turn) -> Turn {
+        match (self, other) {
+            (Turn::Blocked { wanted, .. }, Turn::Blocked { wanted: stamp, .. }) if stamp < wanted =>
+                other,
+            (Turn::Blocked { .. }, _) => self,
+            _ => other,
+        }
+    }
+
+    /// Waits for the clock that was too low, if one was.
+    pub(crate) fn wait<R: Wait, C: Course>(
+        &self,
+        rt: &R,
+        board: &Board<C>,
+        patience: &mut Patience,
+    ) {
+        if let Turn::Blocked { core, wanted, .. } = *self {
+            board.wait_for(rt, patience, core, wanted);
+        }
     }
 }

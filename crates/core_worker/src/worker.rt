@@ -9,13 +9,15 @@ ghost use Rattle.core_worker.specs.Worker.{face, HasTurned, IsLater, IsOn, IsDon
 
 use crate::progress::Progress;
 use crate::turn::Turn;
-use clock_board::{Board, Course, Pass};
+use clock_board::{Board, Course, Pass, Patience};
 use patmos_core::Core;
 use slot_arbiter::{MOST_CYCLES, Place};
 use std::marker::Model;
 use std::sync::Wait;
-use std::thread::yield_now;
 use tc_io::Gate;
+
+/// How many turns a worker takes at most before it is the next one's turn, but for the first.
+const MORE_TURNS: u32 = 63;
 
 /// A core that is run against a board of published clocks, and the core's pass of that board.
 ///
@@ -105,6 +107,25 @@ impl<C: Course> Worker<C> {
         self.progress.turn(board, gate)
     }
 
+    /// Takes turns as long as each makes an event, but not without end: the last of them.
+    #[tactic(auto, using(crate::proofs::Several::done_at_end, crate::proofs::Several::later_both))]
+    pub(crate) fn advance_on<G: Gate>(&mut self, board: &Board<C>, gate: &G) -> Turn
+        requires of { IsOn board.now self.old }
+        ensures of { IsOn board.now self.new }
+        ensures later { IsLater self.old self.new }
+        ensures ended { result ≡ Turn.Ended → IsDone self.new }
+        ensures pieces { HasPieces self.new }
+    {
+        let mut turn = self.advance(board, gate);
+        for _ in 0..MORE_TURNS {
+            if !turn.has_moved() {
+                break;
+            }
+            turn = self.advance(board, gate);
+        }
+        turn
+    }
+
     /// Takes turns until no event is left below the limit. It may wait for workers elsewhere.
     pub fn run<R: Wait, G: Gate>(&mut self, rt: &R, board: &Board<C>, gate: &G)
         requires of { IsOn board.now self.old }
@@ -113,11 +134,12 @@ impl<C: Course> Worker<C> {
         ensures ended { IsDone self.new }
         ensures pieces { HasPieces self.new }
     {
+        let mut patience = Patience::new();
         for _ in rt.forever() {
             match self.advance(board, gate) {
                 Turn::Moved => {}
-                Turn::Blocked { .. } => yield_now(),
                 Turn::Ended => break,
+                blocked => blocked.wait(rt, board, &mut patience),
             }
         }
     }

@@ -1,6 +1,7 @@
 pub mod Moving
 pub mod Eventful
 pub mod Stillness
+pub mod AloneOn
 pub mod AskedFor
 pub mod AtLimit
 pub mod Sites

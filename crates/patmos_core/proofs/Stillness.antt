@@ -19,7 +19,7 @@ use Rattle.patmos_core.specs.declared.phase.Phase.{Phase}
 use Rattle.patmos_core.specs.declared.phase.Phase.TheVariants.{Delivery, Act}
 use Rattle.patmos_core.specs.Position.{IsThere}
 use Rattle.patmos_core.proofs.Moving.{delivery_passed}
-use Rattle.patmos_core.specs.Progress.{half_at, TellsNext, IsQuietAt}
+use Rattle.patmos_core.specs.Progress.{half_at, TellsNext, IsStillIn, IsQuietAt}
 use Rattle.patmos_step.specs.Ready.{IsUpTo}
 
 -- neither the interface nor the core does something
@@ -36,15 +36,24 @@ half_bounds e = elim e.kind as (λ k. (2 * e.cycle ≤ elim k [ Inject target fi
   | Deliver target first count values ↦ (omega arith, omega arith)
 ]
 
+-- before its next act the interface does nothing
+pub still_before : (s : Standing) (next : Option NiEvent) (u : ℕ) → TellsNext s next → s.from ≤ 2 * u → IfSome next (λ e. u < e.cycle) → IsStillIn s.interface u
+still_before s None u tells from before = record {
+  delivery = tells.quiet refl (2 * u + 2) u 0 (omega arith) (omega (arith, from)) (omega arith);
+  injection = tells.quiet refl (2 * u + 2) u 1 (omega arith) (omega (arith, from)) (omega arith);
+}
+still_before s (Some e) u tells from before =
+    let bounds : (2 * e.cycle ≤ half_of e) × (half_of e ≤ 2 * e.cycle + 1) = half_bounds e in
+    record {
+      delivery = tells.between u 0 (omega arith) (omega (arith, from)) (omega (arith, before, bounds.0));
+      injection = tells.between u 1 (omega arith) (omega (arith, from)) (omega (arith, before, bounds.0));
+    }
+
 -- before the interface's next act and before the core next_active
 pub quiet_before : (s : Standing) (next : Option NiEvent) (y : Core) (u : ℕ) → TellsNext s next → y.plain.interface ≡ s.interface → s.from ≤ 2 * u → IfSome next (λ e. u < e.cycle) → own u y ≡ now y → IsQuietAt u y
-quiet_before s None y u tells same from before rests =
-    still u y (subst (λ i. delivery u i ≡ done i) (sym same) (tells.quiet refl (2 * u + 2) u 0 (omega arith) (omega (arith, from)) (omega arith)))
-    (subst (λ i. injection u i ≡ done i) (sym same) (tells.quiet refl (2 * u + 2) u 1 (omega arith) (omega (arith, from)) (omega arith))) rests
-quiet_before s (Some e) y u tells same from before rests =
-    let bounds : (2 * e.cycle ≤ half_of e) × (half_of e ≤ 2 * e.cycle + 1) = half_bounds e in
-    still u y (subst (λ i. delivery u i ≡ done i) (sym same) (tells.between u 0 (omega arith) (omega (arith, from)) (omega (arith, before, bounds.0))))
-    (subst (λ i. injection u i ≡ done i) (sym same) (tells.between u 1 (omega arith) (omega (arith, from)) (omega (arith, before, bounds.0)))) rests
+quiet_before s next y u tells same from before rests =
+    let quiet : IsStillIn y.plain.interface u = subst (λ i. IsStillIn i u) (sym same) (still_before s next u tells from before) in
+    still u y quiet.delivery quiet.injection rests
 
 -- nothing of the interface is left before its next act
 pub nothing_before : (s : Standing) (next : Option NiEvent) (cycle half : ℕ) → TellsNext s next → IfSome next (λ e. cycle ≤ e.cycle) → s.from ≤ half → acts s.interface half ≡ true → 2 * cycle ≤ half

@@ -1,8 +1,8 @@
 -- How far a core with a task has come in a cycle, and what its fields keep there.
-use Rattle.std.specs.Prelude.{◌≡◌, ℕ, ◌+◌, ◌*◌, ◌≤◌, true, false, Option, None, Some, IfSome, IsNone}
+use Rattle.std.specs.Prelude.{◌≡◌, ℕ, ◌+◌, ◌*◌, ◌≤◌, false, Option, None, Some, IfSome, IsNone}
 use Rattle.slot_arbiter.specs.declared.place.TheConstants.{MOST_CYCLES}
-use Rattle.argo_ni.specs.Interface.{Standing}
-use Rattle.argo_ni.specs.Turn.{acts}
+use Rattle.argo_ni.specs.Interface.{Interface, Standing}
+use Rattle.argo_ni.specs.Turn.{acts, delivery, injection}
 use Rattle.argo_ni.specs.Event.{half_of, IsNextAct, IsDone, IsQuiet}
 use Rattle.argo_ni.specs.declared.event.NiEvent.{NiEvent}
 use Rattle.shared_order.specs.Program.{done}
@@ -47,6 +47,11 @@ pub record TellsNext (s : Standing) (next : Option NiEvent) : Type 0 where
   pub between : IfSome next (λ e. IsQuiet s.interface s.from (half_of e))
   pub never : IsNone next → (half : ℕ) → acts s.interface half ≡ false
   pub quiet : IsNone next → (to : ℕ) → IsQuiet s.interface s.from to
+
+-- in both phases of the cycle the interface does nothing
+pub record IsStillIn (x : Interface) (cycle : ℕ) : Type 0 where
+  pub delivery : delivery cycle x ≡ done x
+  pub injection : injection cycle x ≡ done x
 
 -- in both phases of the cycle the core does nothing
 pub record IsQuietAt (cycle : ℕ) (y : Core) : Type 0 where

@@ -14,7 +14,7 @@ impl Tasked {
     ghost use Rattle.patmos_core.specs.declared.phase.Phase.TheVariants.{Delivery, Act};
     ghost use Rattle.patmos_core.specs.declared.phase.Phase.TheVariants as phase;
     ghost use Rattle.patmos_model.specs.State.{History};
-    ghost use Rattle.patmos_core.specs.Progress.{TellsNext, IsQuietAt};
+    ghost use Rattle.patmos_core.specs.Progress.{TellsNext, IsStillIn, IsQuietAt};
     ghost use Rattle.patmos_core.specs.Waiting.{IsAskedAt, IsOfPlace};
     ghost use Rattle.patmos_core.specs.Position.{GoesOnAs, phases_done};
     ghost use Rattle.patmos_step.specs.Shown.{core_of};
@@ -58,6 +58,38 @@ impl Tasked {
         ensures ni { self.new.body.ni ≡ self.old.body.ni }
     {
         self.cycle = self.next_active(next, limit);
+    }
+
+    /// Does the bundles that the core does by itself, as long as the interface does nothing.
+    fn go_alone(&mut self, next: Option<NiEvent>, limit: u64)
+        requires delivery { self.old.phase ≡ Delivery }
+        requires next { TellsNext self.old.body.ni next }
+        requires within { self.old.cycle ≤ limit }
+        requires most { limit ≤ MOST_CYCLES }
+        ensures goes_on { GoesOnAs self.old self.new }
+        ensures delivery { self.new.phase ≡ Delivery }
+        ensures within { self.new.cycle ≤ limit }
+        ensures ni { self.new.body.ni ≡ self.old.body.ni }
+    {
+        let until = self.still_until(next, limit);
+        self.cycle = self.body.run_alone(self.cycle, until);
+    }
+
+    // the cycle of the interface's next act, or the limit if that is earlier
+    #[tactic(auto, using(crate::proofs::Stillness::still_before, crate::proofs::Stillness::nothing_before, crate::proofs::Stillness::comes_later))]
+    fn still_until(&self, next: Option<NiEvent>, limit: u64) -> u64
+        requires delivery { self.now.phase ≡ Delivery }
+        requires next { TellsNext self.now.body.ni next }
+        requires within { self.now.cycle ≤ limit }
+        ensures from { self.now.cycle ≤ result }
+        ensures most { result ≤ limit }
+        ensures still { (u : ℕ) → self.now.cycle ≤ u → u < result → IsStillIn self.now.body.ni.interface u }
+        ensures nothing { (half : ℕ) → self.now.body.ni.from ≤ half → acts self.now.body.ni.interface half ≡ true → 2 * result ≤ half }
+    {
+        match next {
+            Some(act) => limit.min(act.cycle),
+            None => limit,
+        }
     }
 
     /// The packets that are due come to their words; without one, the second phase is next.
@@ -161,7 +193,8 @@ impl Tasked {
         }
     }
 
-    // goes over the cycles in which nothing happens, and through the first one in which something may
+    // goes over the cycles in which nothing happens and those which the core does by itself, and through the
+    // first one in which something else may happen
     fn begin(&mut self, limit: u64) -> Option<Event>
         requires delivery { self.old.phase ≡ Delivery }
         requires below { self.old.cycle < limit }
@@ -176,6 +209,7 @@ impl Tasked {
     {
         let next = self.next_act();
         self.skip(next, limit);
+        self.go_alone(next, limit);
         if self.cycle == limit {
             return None;
         }

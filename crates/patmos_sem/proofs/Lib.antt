@@ -1,1 +1,3 @@
 pub mod Told
+pub mod Loads
+pub mod Unnamed

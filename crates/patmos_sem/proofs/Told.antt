@@ -85,6 +85,9 @@ after_writes-append us vs regs = λ k. record {
 pub in_turn : (a b c : Write) (regs : Registers) → after_writes (c ∷ []) (after_writes (b ∷ []) (after_writes (a ∷ []) regs)) ≡ after_writes (a ∷ b ∷ c ∷ []) regs
 in_turn a b c regs = ap (after_writes (c ∷ [])) (after_writes-append (a ∷ []) (b ∷ []) regs) ∙ after_writes-append (a ∷ b ∷ []) (c ∷ []) regs
 
+pub one_alone : (a b : Write) (regs : Registers) → after_writes (b ∷ []) (after_writes (a ∷ []) regs) ≡ after_writes (a ∷ b ∷ write.Nothing ∷ []) regs
+one_alone a b regs = after_writes-append (a ∷ []) (b ∷ []) regs
+
 -- s0 written: each predicate gets its bit
 pub s0_bits : (xs : List Bool) (value : ℕ) → length xs ≡ 8
     → true ∷ has_bit value 1 ∷ has_bit value 2 ∷ has_bit value 3 ∷ has_bit value 4 ∷ has_bit value 5 ∷ has_bit value 6 ∷ has_bit value 7 ∷ [] ≡ renewed (pred_after (write.Special special.S0 value ∷ [])) xs

@@ -1,7 +1,7 @@
-ghost use Rattle.std.specs.Prelude.{◌≡◌};
+ghost use Rattle.std.specs.Prelude.{◌≡◌, Option, None, Some};
 ghost use Rattle.patmos_sem.specs.declared.pending.Pending.TheVariants as pending;
 ghost use Rattle.patmos_sem.specs.Effects.{address_of, width_bytes, store_bytes, write_of, begun, asked};
-ghost use Rattle.patmos_sem.specs.Bundles.{slot_write, second_write, slot_begun, slot_asked, after_bundle, effect_of, arrived, OnLoad};
+ghost use Rattle.patmos_sem.specs.Bundles.{slot_write, slot_begun, slot_asked, after_bundle, effect_of, arrived, OnLoad};
 
 use crate::effects::{Effect, FlowKind};
 use crate::operations::{combine, compare, operate, operate_short};
@@ -20,13 +20,50 @@ pub fn exec(regs: &mut Regs, bundle: &Bundle, st: u32, ss: u32) -> Effect
     ensures effect { result ≡ effect_of bundle.now regs.old }
     ensures load { OnLoad result (regs.new.pending ≡ pending.Nothing) }
 {
-    let instr = bundle.first();
-    let first = slot(regs, &instr, st, ss);
-    let second = second_slot(regs, bundle, st, ss);
-    let begun = begin(regs, &instr);
-    let effect = ask(regs, &instr);
-    regs.end_bundle(first, second, begun);
+    let effect = asked_by(regs, bundle);
+    write_back(regs, bundle, st, ss);
     effect
+}
+
+/// What a bundle asks for by the registers before it.
+pub fn asked_by(regs: &Regs, bundle: &Bundle) -> Effect
+    ensures { result ≡ effect_of bundle.now regs.now }
+{
+    ask(regs, &bundle.first())
+}
+
+/// Carries out a bundle on the registers alone, whatever it asks for. After one that asks for a load
+/// nothing is pending, as after an `exec`.
+pub fn write_back(regs: &mut Regs, bundle: &Bundle, st: u32, ss: u32)
+    ensures registers { regs.new ≡ after_bundle st ss bundle.now regs.old }
+    ensures load { OnLoad (effect_of bundle.now regs.old) (regs.new.pending ≡ pending.Nothing) }
+{
+    let first = bundle.first();
+    match bundle.second() {
+        None => write_single(regs, &first, st, ss),
+        Some(second) => write_pair(regs, &first, &second, st, ss),
+    }
+}
+
+// carries out a bundle of one instruction
+fn write_single(regs: &mut Regs, instr: &Instr, st: u32, ss: u32)
+    ensures registers { regs.new ≡ after_bundle st ss (record { first = instr.now; second = None }) regs.old }
+    ensures pending { regs.new.pending ≡ slot_begun regs.old instr.now }
+{
+    let first = slot(regs, instr, st, ss);
+    let begun = begin(regs, instr);
+    regs.end_single(first, begun);
+}
+
+// carries out a bundle of two instructions
+fn write_pair(regs: &mut Regs, instr: &Instr, other: &Instr, st: u32, ss: u32)
+    ensures registers { regs.new ≡ after_bundle st ss (record { first = instr.now; second = Some other.now }) regs.old }
+    ensures pending { regs.new.pending ≡ slot_begun regs.old instr.now }
+{
+    let first = slot(regs, instr, st, ss);
+    let second = slot(regs, other, st, ss);
+    let begun = begin(regs, instr);
+    regs.end_bundle(first, second, begun);
 }
 
 /// Makes a load's value pending. Nothing else may be, as after an `exec` that answered `Load`.
@@ -45,16 +82,6 @@ fn slot(regs: &Regs, instr: &Instr, st: u32, ss: u32) -> Write
         write_by(regs, &instr.op, st, ss)
     } else {
         Write::Nothing
-    }
-}
-
-// the write of the second slot, where there is one
-fn second_slot(regs: &Regs, bundle: &Bundle, st: u32, ss: u32) -> Write
-    ensures { result ≡ second_write st ss regs.now bundle.now.second }
-{
-    match bundle.second() {
-        Some(instr) => slot(regs, &instr, st, ss),
-        None => Write::Nothing,
     }
 }
 

@@ -5,7 +5,8 @@
 //! load's value come one bundle late: they are pending until the next bundle has read its operands, and
 //! a write of that bundle's own wins over them. `r0` stays 0 and `p0` stays true. What lies outside the
 //! registers is answered as an `Effect`: a load, a store, an operation of the stack cache or a flow.
-//! `arrive` makes a load's value pending. `pick` and `merge` take a byte or a half out of a word and put
+//! `asked_by` and `write_back` are its two halves, for a caller that looks at the effect before it lets the
+//! bundle write. `arrive` makes a load's value pending. `pick` and `merge` take a byte or a half out of a word and put
 //! it in; `load_bytes` and `store_bytes` say how many bytes an access has.
 //!
 //! The definitions in `specs/` tell the registers after a bundle one by one, from small pieces that
@@ -25,7 +26,7 @@ mod registers;
 mod writes;
 
 pub use effects::{Effect, FlowKind};
-pub use execution::{arrive, exec, load_bytes, store_bytes};
+pub use execution::{arrive, asked_by, exec, load_bytes, store_bytes, write_back};
 pub use laws::{after_bundle_by_register, worked_values};
 pub use narrow::{merge, pick};
 pub use pending::Pending;

@@ -34,6 +34,7 @@ impl Model for Regs {
 impl Regs {
     ghost use Rattle.std.specs.Prelude.{◌≡◌, [], ◌∷◌};
     ghost use Rattle.patmos_sem.specs.Registers.{FitsRegisters, at_start, word_in, pred_in, holds};
+    ghost use Rattle.patmos_sem.specs.declared.writes.Write.{Write};
     ghost use Rattle.patmos_sem.specs.Writes.{after_writes, came};
     ghost use Rattle.patmos_sem.specs.Effects.{special_in};
 
@@ -135,10 +136,30 @@ impl Regs {
     pub(crate) fn end_bundle(&mut self, first: Write, second: Write, begun: Pending)
         ensures { self.new ≡ record (after_writes (came self.old.pending ∷ first ∷ second ∷ []) self.old) { pending = begun } }
     {
-        self.write(Write::of_pending(self.pending));
+        self.come();
         self.write(first);
         self.write(second);
         self.set_pending(begun);
+    }
+
+    // the end of a bundle whose second slot is empty
+    #[tactic(auto, using(crate::proofs::Told::one_alone))]
+    pub(crate) fn end_single(&mut self, first: Write, begun: Pending)
+        ensures { self.new ≡ record (after_writes (came self.old.pending ∷ first ∷ Write.Nothing ∷ []) self.old) { pending = begun } }
+    {
+        self.come();
+        self.write(first);
+        self.set_pending(begun);
+    }
+
+    // what was pending comes, if anything was
+    fn come(&mut self)
+        ensures { self.new ≡ after_writes (came self.old.pending ∷ []) self.old }
+    {
+        match self.pending {
+            Pending::Nothing => {}
+            pending => self.write(Write::of_pending(pending)),
+        }
     }
 
     // carries out a write

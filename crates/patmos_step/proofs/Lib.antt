@@ -2,6 +2,10 @@ pub mod Branches
 pub mod Granted
 pub mod MainCells
 pub mod Places
+pub mod Fetching
+pub mod ByItself
+pub mod OwnWords
+pub mod Silent
 pub mod Spills
 pub mod Traces
 pub mod Sleeping

@@ -18,7 +18,7 @@ stopped c u is = ap (λ b. elim b as (λ _. Prog Acted) [
   | false ↦ now c
 ]) is
 
-flow_waits : (c : Core) (u : ℕ) → is_free u c.plain ≡ false → flowed u c ≡ c
+pub flow_waits : (c : Core) (u : ℕ) → is_free u c.plain ≡ false → flowed u c ≡ c
 unfolding flowed
 flow_waits c u busy = ap (λ b. elim b as (λ _. Core) [
   | true ↦ elim c.plain.flow [
@@ -28,7 +28,7 @@ flow_waits c u busy = ap (λ b. elim b as (λ _. Core) [
   | false ↦ c
 ]) busy
 
-bundle_waits : (c : Core) (u : ℕ) → is_free u c.plain ≡ false → bundle_step u c ≡ now c
+pub bundle_waits : (c : Core) (u : ℕ) → is_free u c.plain ≡ false → bundle_step u c ≡ now c
 bundle_waits c u busy = ap (λ b. elim b as (λ _. Prog Acted) [ true ↦ bundle u c | false ↦ now c ]) busy
 
 slot_waits : (a : Acted) (u : ℕ) → is_due u a.core.plain ≡ false → slot_step u a ≡ done a
@@ -58,7 +58,7 @@ sleeps_stopped x c u is same = stopped c u (ap is_running same ∙ is)
 sleeps : (x : Plain) (c : Core) (u : ℕ) → is_free u x ≡ false → is_due u x ≡ false → c.plain ≡ x → own u c ≡ now c
 sleeps x c u busy none same = waiting c u (is_running c.plain) refl (ap (is_free u) same ∙ busy) (ap (is_due u) same ∙ none)
 
-none_right : (a b : Bool) → b ≡ false → (a && b) ≡ false
+pub none_right : (a b : Bool) → b ≡ false → (a && b) ≡ false
 none_right true b h = h
 none_right false b h = refl
 

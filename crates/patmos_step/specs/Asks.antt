@@ -219,14 +219,15 @@ fetched_ask fetched cycle x cached = elim fetched [
   | Found b words ↦ bundle_ask cycle x cached b
 ]
 
+-- words that are still to be moved ask for it where they move
+abbrev pub wait_ask : ℕ → Plain → Ask
+wait_ask cycle x = elim (is_due cycle x) [ true ↦ then_ask x.site x.transfer.then | false ↦ asks.Nothing ]
+
 -- what a plan asks for
 abbrev pub plan_ask : Plan → ℕ → Plain → (ℕ → Option ℕ) → Ask
 plan_ask plan cycle x cached = elim plan [
   | Nothing ↦ asks.Nothing
-  | Waits ↦ elim (is_due cycle x) [
-    | true ↦ then_ask x.site x.transfer.then
-    | false ↦ asks.Nothing
-  ]
+  | Waits ↦ wait_ask cycle x
   | Does fetched ↦ fetched_ask fetched cycle x cached
 ]
 

@@ -9,7 +9,7 @@ use crate::plan::Plan;
 use local_store::{Cell, Space};
 use patmos_instr::{Bundle, Mem, Op, Reg, StoreWidth, Width};
 use patmos_model::{Fetched, Then};
-use patmos_sem::{Effect, exec};
+use patmos_sem::{Effect, asked_by};
 use slot_arbiter::MOST_CYCLES;
 
 /// What a core's own act in a cycle asks of the board.
@@ -58,14 +58,25 @@ impl Body {
     {
         match *plan {
             Plan::Nothing | Plan::Does(Fetched::Outside | Fetched::NoBundle) => Ask::Nothing,
-            Plan::Waits => {
+            Plan::Waits => self.ask_of_wait(cycle),
+            Plan::Does(Fetched::Found { bundle, .. }) => self.ask_of_bundle(&bundle, cycle),
+        }
+    }
+
+    // what words that are still to be moved ask for
+    fn ask_of_wait(&self, cycle: u64) -> Ask
+        requires early { cycle ≤ MOST_CYCLES }
+        ensures { result ≡ specs.wait_ask cycle (plain_of self.now) }
+    {
+        match self.ask_of_then(&self.transfer.then) {
+            Ask::Nothing => Ask::Nothing,
+            ask => {
                 if self.is_due(cycle) {
-                    self.ask_of_then(&self.transfer.then)
+                    ask
                 } else {
                     Ask::Nothing
                 }
             }
-            Plan::Does(Fetched::Found { bundle, .. }) => self.ask_of_bundle(&bundle, cycle),
         }
     }
 
@@ -77,8 +88,7 @@ impl Body {
         if !is_access(&bundle.first().op) {
             return Ask::Nothing;
         }
-        let mut regs = self.regs;
-        let effect = exec(&mut regs, bundle, self.stack.st(), self.stack.ss());
+        let effect = asked_by(&self.regs, bundle);
         match self.fault(&effect) {
             None => self.ask_of_effect(&effect, cycle),
             Some(_) => Ask::Nothing,
@@ -155,10 +165,15 @@ impl Body {
         requires early { cycle ≤ MOST_CYCLES }
         ensures { result ≡ specs.slot_ask cycle (plain_of self.now).site then.now }
     {
-        if self.is_slot_start(cycle) {
-            self.ask_of_then(then)
-        } else {
-            Ask::Nothing
+        match self.ask_of_then(then) {
+            Ask::Nothing => Ask::Nothing,
+            ask => {
+                if self.is_slot_start(cycle) {
+                    ask
+                } else {
+                    Ask::Nothing
+                }
+            }
         }
     }
 

@@ -5,6 +5,7 @@ ghost use Rattle.patmos_model.specs.Site.{size_at};
 ghost use Rattle.patmos_step.specs.Sound.{HasAllWords};
 
 use crate::body::Body;
+use crate::code::decode_all;
 use argo_ni::Ni;
 use data_cache::DataCache;
 use local_store::{PRIVATE_WORDS, Store};
@@ -41,6 +42,7 @@ impl Body {
         ensures room { IfOk result (λ b. b.room ≡ trace) }
     {
         let image = copy_of(alloc, image)?;
+        let code = decode_all(alloc, image.words())?;
         let (base, size) = first_function(&image);
         let mut methods = MethodCache::new();
         methods.touch(base, size);
@@ -62,6 +64,7 @@ impl Body {
             trace: Vec::with_capacity(alloc, trace as usize)?,
             room: trace as usize,
             image,
+            code,
         })
     }
 }
@@ -81,6 +84,7 @@ fn first_function(image: &Image) -> (u32, u32)
     ensures place { result.0 ≡ entry image.now }
     ensures size { result.1 ≡ size_at image.now (entry image.now) }
     ensures small { result.1 ≤ MOST_IN_FUNCTION }
+    ensures inside { result.0 + result.1 ≤ length image.now.words }
 {
     let base = image.starts()[0];
     let Some(size) = image.function_size(base) else {

@@ -1,7 +1,9 @@
-ghost use Rattle.std.specs.Prelude.{◌≡◌, ◌≤◌, vec_capacity};
+ghost use Rattle.std.specs.Prelude.{◌≡◌, ◌+◌, ◌≤◌, length, vec_capacity};
 ghost use Rattle.patmos_model.specs.Site.{size_at};
+ghost use Rattle.patmos_step.specs.Code.{IsCodeOf};
 ghost use Rattle.patmos_step.specs.Sound.{IsPortOf, HasAllWords};
 
+use crate::code::Decoded;
 use argo_ni::Ni;
 use data_cache::DataCache;
 use local_store::Store;
@@ -18,6 +20,8 @@ use stack_cache::StackCache;
 pub struct Body {
     pub place: Place,
     pub image: Image,
+    /// What begins at each word of the image.
+    pub code: Vec<Decoded>,
     pub regs: Regs,
     pub stack: StackCache,
     pub store: Store,
@@ -39,7 +43,9 @@ pub struct Body {
     pub room: usize,
     ghost words: { HasAllWords store },
     ghost port: { IsPortOf place ni },
+    ghost decoded: { IsCodeOf image.words code.items },
     ghost sized: { size ≡ size_at image base },
+    ghost inside: { base + size ≤ length image.words },
     ghost roomy: { room ≤ vec_capacity trace },
 }
 

@@ -81,9 +81,9 @@ impl Body {
         }
     }
 
-    // stores a word of the scratchpad
+    /// Stores a word of the scratchpad.
     #[tactic(auto, using(shared_order::proofs::Words::words_put))]
-    fn put_scratch(&mut self, word: u32, value: u32)
+    pub fn put_scratch(&mut self, word: u32, value: u32)
         requires { word < SCRATCH_WORDS }
         ensures plain { plain_of self.new ≡ record (plain_of self.old) { scratch = put word value (slice_index self.old.store.scratch) } }
         ensures shows { (h : History) → Shows self.old h → Shows self.new h }
@@ -94,9 +94,9 @@ impl Body {
         self.store.write(Cell::Scratch(word), value);
     }
 
-    // stores a word of private memory
+    /// Stores a word of private memory.
     #[tactic(auto, using(shared_order::proofs::Words::words_put))]
-    fn put_private(&mut self, word: u32, value: u32)
+    pub fn put_private(&mut self, word: u32, value: u32)
         requires { word < PRIVATE_WORDS }
         ensures plain { plain_of self.new ≡ record (plain_of self.old) { private = put word value (slice_index self.old.store.private) } }
         ensures shows { (h : History) → Shows self.old h → Shows self.new h }

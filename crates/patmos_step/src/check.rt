@@ -38,7 +38,8 @@ impl Body {
         }
     }
 
-    fn load_fault(&self, space: Mem, width: Width, address: u32) -> Option<Trap>
+    /// The check on a load that fails, if one does.
+    pub fn load_fault(&self, space: Mem, width: Width, address: u32) -> Option<Trap>
         ensures { result ≡ specs.load_fault (plain_of self.now) space width address }
     {
         if address % load_bytes(width) != 0 {
@@ -51,7 +52,14 @@ impl Body {
         }
     }
 
-    fn store_fault(&self, space: Mem, width: StoreWidth, address: u32, value: u32) -> Option<Trap>
+    /// The check on a store that fails, if one does.
+    pub fn store_fault(
+        &self,
+        space: Mem,
+        width: StoreWidth,
+        address: u32,
+        value: u32,
+    ) -> Option<Trap>
         ensures { result ≡ specs.store_fault (plain_of self.now) space width address value }
     {
         if address % store_bytes(width) != 0 {

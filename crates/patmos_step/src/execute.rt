@@ -7,7 +7,7 @@ use crate::check::cell_of;
 use local_store::Space;
 use patmos_instr::{Bundle, Mem, Reg, StoreWidth, Width};
 use patmos_model::{Flow, Goal, PendingStore, Then, Transfer};
-use patmos_sem::{Effect, FlowKind, Pending, Regs, arrive, exec, merge, pick};
+use patmos_sem::{Effect, FlowKind, Pending, arrive, asked_by, merge, pick, write_back};
 
 impl Body {
     ghost use Rattle.shared_order.specs.Program.{fed};
@@ -15,11 +15,12 @@ impl Body {
     ghost use Rattle.patmos_sem.specs.Effects.{width_bytes, store_bytes};
     ghost use Rattle.patmos_model.specs.State.{History, with_plain};
     ghost use Rattle.stack_cache.specs.Stack.{IsStack};
-    ghost use Rattle.patmos_sem.specs.Bundles.{OnLoad};
+    ghost use Rattle.patmos_sem.specs.Bundles.{effect_of, OnLoad};
     ghost use Rattle.patmos_model.specs.declared.transfer.Then.TheVariants as then_on;
     ghost use Rattle.patmos_model.specs.Transfers.{writes};
     ghost use Rattle.patmos_model.specs.Checks.{load_fault, store_fault, is_held};
     ghost use Rattle.patmos_model.specs.Cells.{with_value};
+    ghost use Rattle.patmos_step.specs.Alone.{passed};
     ghost use Rattle.patmos_step.specs.Ready.{StoresWithin, IsReady, IsGranted, IsAtRest, CanGoOn};
     ghost use Rattle.patmos_step.specs.Shown.{Shows, IsAt, IsActed, IsFramed, core_of, plain_of};
 
@@ -42,26 +43,39 @@ impl Body {
         ensures frame { IsFramed self.old self.new }
         ensures leaves { StoresWithin self.old.place result }
     {
-        let mut regs = self.regs;
-        let effect = exec(&mut regs, bundle, self.stack.st(), self.stack.ss());
+        let effect = asked_by(&self.regs, bundle);
         if let Some(trap) = self.fault(&effect) {
             self.stop(trap, cycle);
             return None;
         }
-        self.advance(regs, words, &effect);
+        self.advance(bundle, words, &effect);
         self.answer(&effect, cycle, values)
     }
 
-    // the registers, the offset and the flow after the bundle
-    fn advance(&mut self, regs: Regs, words: u32, effect: &Effect)
+    /// The registers, the offset and the flow after a bundle of so many words, which asks for this.
+    pub fn advance(&mut self, bundle: &Bundle, words: u32, effect: &Effect)
         requires within { self.old.offset + words < 2 ^ 32 }
-        ensures plain { plain_of self.new ≡ record (plain_of self.old) {
-          regs = regs;
-          offset = self.old.offset + words;
-          flow = flows.counted self.old.flow (bundles.asked_flow self.old.offset effect.now);
-        } }
+        requires asks { effect.now ≡ effect_of bundle.now self.old.regs }
+        ensures plain { plain_of self.new ≡ bundles.advanced words bundle.now (plain_of self.old) }
+        ensures pending { OnLoad effect.now (self.new.regs.pending ≡ pending.Nothing) }
         ensures shows { (h : History) → Shows self.old h → Shows self.new h }
         ensures ni { self.new.ni ≡ self.old.ni }
+        ensures stack { self.new.stack ≡ self.old.stack }
+        ensures held { IsStack self.new.stack }
+        ensures rest { IsAtRest self.old → IsAtRest self.new }
+        ensures frame { IsFramed self.old self.new }
+    {
+        write_back(&mut self.regs, bundle, self.stack.st(), self.stack.ss());
+        self.pass(words, effect);
+    }
+
+    /// The offset and the flow after a bundle of so many words, which asks for this.
+    pub fn pass(&mut self, words: u32, effect: &Effect)
+        requires within { self.old.offset + words < 2 ^ 32 }
+        ensures plain { plain_of self.new ≡ passed words effect.now (plain_of self.old) }
+        ensures shows { (h : History) → Shows self.old h → Shows self.new h }
+        ensures ni { self.new.ni ≡ self.old.ni }
+        ensures regs { self.new.regs ≡ self.old.regs }
         ensures stack { self.new.stack ≡ self.old.stack }
         ensures rest { IsAtRest self.old → IsAtRest self.new }
         ensures frame { IsFramed self.old self.new }
@@ -73,7 +87,6 @@ impl Body {
             }),
             None => asked_flow(self.offset, effect),
         };
-        self.regs = regs;
         self.offset += words;
     }
 
@@ -250,8 +263,8 @@ impl Body {
         self.moves(Transfer::write(1, then), cycle);
     }
 
-    // a store to a word of the stack that is held
-    fn store_stack(&mut self, width: StoreWidth, address: u32, value: u32)
+    /// A store to a word of the stack that is held.
+    pub fn store_stack(&mut self, width: StoreWidth, address: u32, value: u32)
         requires aligned { address % store_bytes width ≡ 0 }
         requires held { is_held self.old.stack address ≡ true }
         ensures plain { plain_of self.new ≡ record (plain_of self.old) { stack = bundles.stack_set width address value self.old.stack } }

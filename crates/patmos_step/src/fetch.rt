@@ -1,37 +1,46 @@
 use crate::body::Body;
-use patmos_code::decode;
+use crate::code::Decoded;
 use patmos_model::Fetched;
 
-/// Bit 31 of a bundle's first word says that there is a second.
-const TWO_WORDS: u32 = 0x8000_0000;
-
 impl Body {
-    ghost use Rattle.std.specs.Prelude.{◌≡◌, ◌+◌, ◌≤◌, slice_index};
+    ghost use Rattle.std.specs.Prelude.{◌≡◌, ◌+◌, ◌≤◌, ◌<◌, false, true, IsNone, IfSome, slice_index};
+    ghost use Rattle.patmos_model.specs.Site.{is_inside};
     ghost use Rattle.patmos_model.specs.Bundle.{fetched_at, IsWithin};
+    ghost use Rattle.patmos_step.specs.Code.{StandsAt};
 
     /// The bundle at the core's offset.
-    #[tactic(auto, unfolding(patmos_model::specs::Bundle::fetched_at))]
+    #[tactic(auto, using(crate::proofs::Fetching::nothing_inside, crate::proofs::Fetching::a_bundle, crate::proofs::Fetching::no_bundle))]
     pub fn fetch(&self) -> Fetched
         ensures bundle { result ≡ fetched_at self.now.image self.now.base self.now.offset }
         ensures within { IsWithin self.now.offset self.now.size result }
     {
-        let first = self.word(0);
-        let words = if first < TWO_WORDS { 1 } else { 2 };
-        if u64::from(self.offset) + u64::from(words) > u64::from(self.size) {
+        let Some(found) = self.decoded_at(self.offset) else {
             return Fetched::Outside;
-        }
-        match decode(first, self.word(1)) {
-            Some(bundle) => Fetched::Found { bundle, words },
+        };
+        match found.bundle {
+            Some(bundle) => Fetched::Found {
+                bundle,
+                words: found.words,
+            },
             None => Fetched::NoBundle,
         }
     }
 
-    // a word of code, so many words behind the core's offset
-    fn word(&self, behind: usize) -> u32
-        requires { behind ≤ 1 }
-        ensures { result ≡ slice_index self.now.image.words (self.now.base + (self.now.offset + behind)) }
+    /// What begins at an offset of the core's function, if it ends inside the function.
+    #[tactic(auto, using(crate::proofs::Fetching::stands_inside, crate::proofs::Fetching::ends_outside))]
+    pub fn decoded_at(&self, offset: u32) -> Option<&Decoded>
+        ensures found { IfSome result (λ found. StandsAt self.now.image self.now.base offset found.now) }
+        ensures inside { IfSome result (λ found. offset < self.now.size) }
+        ensures within { IfSome result (λ found. offset + found.now.words ≤ self.now.size) }
+        ensures none { IsNone result → is_inside self.now.image self.now.base offset ≡ false }
     {
-        let at = self.base as usize + (self.offset as usize + behind);
-        self.image.words().get(at).copied().unwrap_or(0)
+        if offset >= self.size {
+            return None;
+        }
+        let found = &self.code[self.base as usize + offset as usize];
+        if found.words > self.size - offset {
+            return None;
+        }
+        Some(found)
     }
 }

@@ -4,7 +4,7 @@ use patmos_model::{Flow, Goal, Then, Transfer, Trap};
 use slot_arbiter::MOST_CYCLES;
 
 impl Body {
-    ghost use Rattle.std.specs.Prelude.{◌≡◌, ◌≤◌, ◌<◌, ◌+◌, ◌-◌, IfSome, IsTrue, None, true};
+    ghost use Rattle.std.specs.Prelude.{◌≡◌, ◌≤◌, ◌<◌, ◌+◌, ◌-◌, IfSome, IsTrue, None, true, length};
     ghost use Rattle.std.specs.Option.{SomeIff};
     ghost use Rattle.patmos_model.specs.declared.flow.Goal.{Goal};
     ghost use Rattle.patmos_model.specs.State.{History, is_running};
@@ -93,6 +93,7 @@ impl Body {
     fn place(&self, base: u32, offset: u32) -> Option<u32>
         ensures size { SomeIff result (IsTrue (has_place self.now.image base offset)) (size_at self.now.image base) }
         ensures small { IfSome result (λ size. size ≤ MOST_IN_FUNCTION) }
+        ensures inside { IfSome result (λ size. base + size ≤ length self.now.image.words) }
     {
         let size = self.image.function_size(base)?;
         if offset < size { Some(size) } else { None }
@@ -102,6 +103,7 @@ impl Body {
     fn enter(&mut self, base: u32, offset: u32, size: u32)
         requires size { size ≡ size_at self.old.image base }
         requires small { size ≤ MOST_IN_FUNCTION }
+        requires inside { base + size ≤ length self.old.image.words }
         requires near { self.old.free ≤ MOST_CYCLES + 64 }
         ensures at { (h : History) → Shows self.old h → IsAt self.new (flows.entered base offset (core_of self.old h)) }
         ensures gone { self.new.flow ≡ None }

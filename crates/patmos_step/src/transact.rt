@@ -1,4 +1,4 @@
-ghost use Rattle.std.specs.Prelude.{◌≡◌, ℕ, ◌%◌, true, List, [], ◌∷◌, IfSome, slice_index};
+ghost use Rattle.std.specs.Prelude.{◌≡◌, ℕ, ◌%◌, ◌≤◌, true, List, [], ◌∷◌, IfSome, slice_index};
 ghost use Rattle.slot_arbiter.specs.declared.place.Place.{Place};
 ghost use Rattle.local_store.specs.declared.map.Space.TheVariants.{Main};
 ghost use Rattle.patmos_model.specs.Cells.{Acted, cell_of};
@@ -13,7 +13,7 @@ use local_store::{Cell, Space};
 use patmos_instr::{Reg, StoreWidth, Width};
 use patmos_model::{PendingStore, Then};
 use patmos_sem::{arrive, merge, pick};
-use slot_arbiter::{Access, start_of};
+use slot_arbiter::{Access, MOST_CYCLES, start_of};
 
 /// The most words that a slot moves.
 const BURST: u32 = 4;
@@ -83,10 +83,10 @@ impl Body {
         }
     }
 
-    // the transaction counts among the core's, and the core goes on when its slot ends
+    /// The transaction counts among the core's, and the core goes on when its slot ends.
     #[tactic(auto, using(crate::proofs::Traces::trace_grows, crate::proofs::Traces::trace_full))]
-    fn count(&mut self, cycle: u64)
-        requires ready { IsReady cycle self.old.ni }
+    pub fn count(&mut self, cycle: u64)
+        requires early { cycle ≤ MOST_CYCLES }
         ensures plain { plain_of self.new ≡ specs.moved cycle (plain_of self.old) }
         ensures shows { (h : History) → Shows self.old h → Shows self.new (specs.accessed self.old.transfer cycle h) }
         ensures ni { self.new.ni ≡ self.old.ni }
@@ -107,8 +107,8 @@ impl Body {
         self.free = cycle + u64::from(self.place.slot);
     }
 
-    // a load's value is on its way into its register
-    fn arrive(&mut self, rd: Reg, width: Width, address: u32, word: u32)
+    /// A load's value is on its way into its register.
+    pub fn arrive(&mut self, rd: Reg, width: Width, address: u32, word: u32)
         requires awaited { IsAwaited self.old.regs (width_bytes width) address }
         ensures plain { plain_of self.new ≡ with_value rd width address word (plain_of self.old) }
         ensures shows { (h : History) → Shows self.old h → Shows self.new h }

@@ -7,11 +7,12 @@ use crate::begin::count_of;
 use crate::crew::{Crew, run_groups};
 use crate::ending::{Final, end_of};
 use crate::making::{board_of, groups_of};
+use clock_board::Board;
 use global_step::Loaded;
 use std::alloc::Global;
 use std::sync::Wait;
 use std::sync::atomic::AtomicBool;
-use std::thread::Threads;
+use std::thread::{Threads, available_parallelism};
 use tc_io::Gate;
 use tc_word::OutOfMemory;
 
@@ -28,12 +29,23 @@ pub fn run_machine<R: Threads + Wait + Sync, G: Gate + Sync>(
     ensures board { IfOk result (λ end. length end.words ≡ comm_word (length machine.now.cores) 0) }
 {
     let (board, mut maker) = board_of(alloc, machine)?;
+    choose_waiting(rt, machine, &board);
     let mut groups = groups_of(rt, alloc, machine, &board, &mut maker)?;
     let crew = Crew::with_last(alloc, &mut groups, count_of(machine))?;
     let refused = flags_of(alloc, groups.len())?;
     let cores = Vec::with_capacity(alloc, count_of(machine))?;
     let workers = run_groups(rt, groups, crew, refused.as_slice(), &board, gate);
     Ok(end_of(machine, board, maker, workers, cores))
+}
+
+// has threads that wait peek for a while where each worker can have a processor of its own
+fn choose_waiting<R: Threads>(rt: &R, machine: &Loaded, board: &Board<Loaded>) {
+    let Ok(count) = available_parallelism(rt) else {
+        return;
+    };
+    if machine.workers() as usize <= count.get() {
+        board.peek_first();
+    }
 }
 
 // so many flags, each down

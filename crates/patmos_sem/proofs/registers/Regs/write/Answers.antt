@@ -1,17 +1,10 @@
-use Rattle.std.proofs.Common.{◌≡◌, ℕ, Bool, [], ◌∷◌, refl}
+use Rattle.std.proofs.Common.{refl}
 use Rattle.patmos_instr.specs.declared.specials.WritableSpecial.TheVariants as special
-use Rattle.patmos_sem.specs.declared.writes.Write.{Write}
 use Rattle.patmos_sem.specs.declared.writes.Write.TheVariants as write
-use Rattle.patmos_sem.specs.declared.registers.Regs.TheInside.{Inside}
-use Rattle.patmos_sem.specs.contracts.registers.Regs.{the_view, the_invariant}
-use Rattle.patmos_sem.specs.Writes.{register_by, pred_by, low_by, high_by, base_by, offset_by, after_writes}
+use Rattle.patmos_sem.specs.contracts.registers.Regs.{the_view}
 use Rattle.patmos_sem.proofs.Told.{parts_after, kept_registers, kept_preds}
+use Rattle.patmos_sem.proofs.Unnamed.{quiet}
 use Rattle.patmos_sem.proofs.registers.Regs.write.Goals as goal
-
--- a write that names no general register and no predicate
-quiet : (w : Write) (r : Inside) → the_invariant r → ((n old : ℕ) → register_by n w old ≡ old) → ((n : ℕ) (old : Bool) → pred_by n w old ≡ old)
-    → record (the_view r) { sl = low_by w r.sl; sh = high_by w r.sh; srb = base_by w r.srb; sro = offset_by w r.sro } ≡ after_writes (w ∷ []) (the_view r)
-quiet w r fits g p = parts_after w (the_view r) r.general r.preds (kept_registers w r.general fits.zero (λ n old _. g n old)) (kept_preds w r.preds fits.always (λ n old _. p n old))
 
 pub returns-in-Nothing : goal.returns-in-Nothing
 returns-in-Nothing c = rw (c.in-Nothing.is, ← c.self.view_is) (quiet write.Nothing c.self.inside c.self.invariant (λ n old. refl) (λ n old. refl))

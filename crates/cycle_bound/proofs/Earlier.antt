@@ -1,0 +1,91 @@
+-- Functions of a well-formed shape call those of lesser number.
+use Rattle.std.proofs.Common.{◌≡◌, ℕ, zero, suc, ◌<◌, ◌≤◌, true, true≢false, List, [], ◌∷◌, length, get_or, slice_index_or, ap, sym, subst, arith, inl, inr}
+use Rattle.std.proofs.lemmas.Bool.{cases_lt, and_parts, ltb-true, leb-true}
+use Rattle.std.specs.Prelude.{nat_lt, nat_le, ◌&&◌}
+use Rattle.patmos_instr.specs.Bundles.{Slots}
+use Rattle.sp_shape.specs.Formed.{are_calm, is_turn, is_way, is_call, part_formed, parts_formed, function_formed, functions_formed, is_formed}
+use Rattle.sp_shape.specs.Parts.{PlainPart, straight, repeats, calls_to, leaves, PlainParts, no_part, part, PlainShape}
+use Rattle.sp_shape.specs.Shown.{plain_part, parts_of, functions_of}
+use Rattle.sp_shape.specs.declared.parts.Part.{Part, CallTo}
+use Rattle.sp_shape.specs.declared.parts.Part.TheViews.{Repeat}
+use Rattle.cycle_bound.specs.Calls.{PartCallsBelow, CallsBelow}
+use Rattle.sp_shape.proofs.Plain.{repeat_said, call_said}
+
+-- ---- of what is well formed
+
+mutual
+  part_below : (n : ℕ) (p : PlainPart) → part_formed n p ≡ true → PartCallsBelow n p
+  part_below n (straight bs) h = tt
+  part_below n (repeats count body tail) h =
+      parts_below n body (and_parts (parts_formed n body) (is_turn tail) (and_parts (nat_lt 0 count) (parts_formed n body && is_turn tail) h).1).0
+  part_below n (calls_to k tail) h = ltb-true k n (and_parts (nat_lt k n) (is_way is_call tail) h).0
+  part_below n (leaves tail) h = tt
+
+  parts_below : (n : ℕ) (ps : PlainParts) → parts_formed n ps ≡ true → CallsBelow n ps
+  parts_below n no_part h = tt
+  parts_below n (part p rest) h =
+      let both = and_parts (part_formed n p) (parts_formed n rest) h in
+      (part_below n p both.0, parts_below n rest both.1)
+
+-- the parts before a function's return, and those behind them
+function_below : (n : ℕ) (ps : PlainParts) → function_formed n ps ≡ true → CallsBelow n ps
+function_below n no_part h = tt
+function_below n (part (leaves tail) no_part) h = (tt, tt)
+function_below n (part (leaves tail) (part p rest)) h = absurd (true≢false (sym h))
+function_below n (part (straight bs) rest) h =
+    (tt, function_below n rest (and_parts (are_calm bs) (function_formed n rest) h).1)
+function_below n (part (repeats count body tail) rest) h =
+    let both = and_parts (part_formed n (repeats count body tail)) (function_formed n rest) h in
+    (part_below n (repeats count body tail) both.0, function_below n rest both.1)
+function_below n (part (calls_to k tail) rest) h =
+    let both = and_parts (part_formed n (calls_to k tail)) (function_formed n rest) h in
+    (part_below n (calls_to k tail) both.0, function_below n rest both.1)
+
+earlier_one : (fs : List PlainParts) (k n : ℕ) → k < n → functions_formed fs n ≡ true → function_formed k (slice_index_or fs k no_part) ≡ true
+earlier_one fs k zero below h = absurd (omega arith)
+earlier_one fs k (suc n) below h =
+    let both = and_parts (functions_formed fs n) (function_formed n (slice_index_or fs n no_part)) h in
+    elim (cases_lt k n) [
+      | inl less ↦ earlier_one fs k n less both.0
+      | inr more ↦ let same : n ≡ k = omega arith in subst (λ j. function_formed j (slice_index_or fs j no_part) ≡ true) same both.1
+    ]
+
+pub function_at : (functions : List (List Part)) (n : ℕ) (f : List Part) → n < length functions → f ≡ get_or functions n f
+    → slice_index_or (functions_of functions) n no_part ≡ parts_of f
+function_at [] n f within is = absurd (omega arith)
+function_at (x ∷ functions) zero f within is = ap parts_of (sym is)
+function_at (x ∷ functions) (suc n) f within is = function_at functions n f (omega arith) is
+
+pub known_below : (functions : List (List Part)) (n : ℕ) (f : List Part) → n < length functions → f ≡ get_or functions n f
+    → functions_formed (functions_of functions) (length functions) ≡ true → CallsBelow n (parts_of f)
+known_below functions n f within is h =
+    subst (CallsBelow n) (function_at functions n f within is)
+    (function_below n (slice_index_or (functions_of functions) n no_part) (earlier_one (functions_of functions) n (length functions) within h))
+
+-- ---- of parts
+
+pub body_below : (n : ℕ) (p : Part) (count : ℕ) (body : List Part) (tail : List Slots) → p ≡ Repeat count body tail → PartCallsBelow n (plain_part p)
+    → CallsBelow n (parts_of body)
+body_below n p count body tail is h = subst (PartCallsBelow n) (repeat_said p count body tail is) h
+
+pub called_below : (n : ℕ) (p : Part) (k : ℕ) (tail : List Slots) → p ≡ CallTo k tail → PartCallsBelow n (plain_part p) → k < n
+called_below n p k tail is h = subst (PartCallsBelow n) (call_said p k tail is) h
+
+pub item_below : (n : ℕ) (ps : List Part) (i : ℕ) (p : Part) → i < length ps → p ≡ get_or ps i p → CallsBelow n (parts_of ps) → PartCallsBelow n (plain_part p)
+item_below n [] i p within is h = absurd (omega arith)
+item_below n (x ∷ ps) zero p within is h = subst (λ y. PartCallsBelow n (plain_part y)) (sym is) h.0
+item_below n (x ∷ ps) (suc i) p within is h = item_below n ps i p (omega arith) is h.1
+
+-- ---- of shapes
+
+-- what is known of a shape
+pub record ShapeFormed (s : PlainShape) : Type 0 where
+  pub few : length s.functions ≤ 512
+  pub functions : functions_formed s.functions (length s.functions) ≡ true
+  pub entry : s.entry < length s.functions
+
+pub shape_parts : (s : PlainShape) → is_formed s ≡ true → ShapeFormed s
+shape_parts s h =
+    let a = and_parts (nat_le (length s.functions) 512) (functions_formed s.functions (length s.functions) && nat_lt s.entry (length s.functions)) h in
+    let b = and_parts (functions_formed s.functions (length s.functions)) (nat_lt s.entry (length s.functions)) a.1 in
+    record { few = leb-true (length s.functions) 512 a.0; functions = b.0; entry = ltb-true s.entry (length s.functions) b.1 }

@@ -1,0 +1,7 @@
+pub mod Bodies
+pub mod Building
+pub mod Earlier
+pub mod Gaps
+pub mod Holding
+pub mod Learning
+pub mod Sums

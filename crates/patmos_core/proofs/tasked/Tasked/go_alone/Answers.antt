@@ -1,0 +1,18 @@
+use Rattle.std.proofs.Common.{arith}
+use Rattle.patmos_step.specs.Alone.{ComesAlone}
+use Rattle.patmos_step.specs.Shown.{core_of}
+use Rattle.patmos_core.proofs.SecondPhase.{on_moved}
+use Rattle.patmos_core.proofs.AloneOn.{there_alone}
+use Rattle.patmos_core.proofs.tasked.Tasked.go_alone.Goals as goal
+
+pub returns-clause-goes_on : goal.returns-clause-goes_on
+returns-clause-goes_on c = record {
+  stands = λ x made on.
+      let come : ComesAlone c.args.self.now.cycle c.run_alone-self.result (core_of c.args.self.now.body on.seen) c.run_alone-self.new.self = c.run_alone-self.ensures.alone on.seen on.shows in
+      on_moved c.args.self.now _ x made made c.run_alone-self.ensures.frame on come.seen come.shows
+      (there_alone c.args.self.now.body.place.cores c.args.self.now.body.place.core x made c.args.self.now.body.place.in_range.among
+      c.args.self.now.cycle c.run_alone-self.result c.args.self.now.phase (core_of c.args.self.now.body on.seen) c.run_alone-self.new.self c.requires.delivery c.run_alone-self.ensures.from
+      (λ u from below. c.still_until-until.ensures.still u from (omega (arith, below, c.run_alone-self.ensures.within))) come on.there);
+  frame = c.run_alone-self.ensures.frame;
+  phases = omega (arith, c.run_alone-self.ensures.from);
+}

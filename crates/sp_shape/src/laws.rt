@@ -1,0 +1,13 @@
+//! Laws of shapes.
+ghost use Rattle.std.specs.Prelude.{◌≡◌, ◌++◌, ℕ, List};
+ghost use Rattle.sp_shape.specs.Parts.{PlainParts, joined};
+ghost use Rattle.sp_shape.specs.Shown.{parts_of};
+ghost use Rattle.sp_shape.specs.Trail.{Step, parts_trail};
+ghost use Rattle.sp_shape.specs.declared.parts.Part.{Part};
+
+/// Parts behind others: what they say is told of both, and they are run one after another.
+#[tactic(auto, using(crate::proofs::Joins::shown, crate::proofs::Joins::trail_joined))]
+pub fn parts_join()
+    ensures shown { (xs ys : List Part) → parts_of (xs ++ ys) ≡ joined (parts_of xs) (parts_of ys) }
+    ensures trail { (f : ℕ → List Step) (xs ys : PlainParts) → parts_trail f (joined xs ys) ≡ parts_trail f xs ++ parts_trail f ys }
+{}

@@ -1,0 +1,22 @@
+//! The shape of compiled code.
+//!
+//! Single-path code has no branch but those of loops that always make all their turns, so its bundles stand in few
+//! kinds of parts: straight code, a body that is repeated, a call, and the return at a function's end. A [`Shape`] is
+//! the functions of a task in such parts, before the targets of its flows are known.
+//!
+//! - What is said: [`Part`] and [`Shape`]. `specs/Parts.antt` is the same without places in memory, and
+//!   `specs/Shown.antt` what a shape in code says.
+//! - What is well formed: `specs/Formed.antt`.
+//! - In which order its bundles are run: `specs/Trail.antt`.
+//! - How many words it takes: `specs/Words.antt`.
+//!
+//! What its words mean stands in [the glossary](../../../docs/GLOSSARY.md).
+#![tactic(auto)]
+
+mod laws;
+mod parts;
+mod worked;
+
+pub use laws::parts_join;
+pub use parts::{Part, Shape};
+pub use worked::{worked_shapes, worked_trails};

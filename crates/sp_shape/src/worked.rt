@@ -1,0 +1,32 @@
+//! Worked examples: which shapes are well formed, and in which order their bundles are run.
+ghost use Rattle.std.specs.Prelude.{◌≡◌, ◌+◌, ℕ, [], ◌∷◌, ◌++◌, List, true, false, length};
+ghost use Rattle.sp_shape.specs.Formed.{part_formed, function_formed, is_formed};
+ghost use Rattle.sp_shape.specs.Parts.{PlainParts, no_part, part, one, straight, repeats, calls_to, leaves};
+ghost use Rattle.sp_shape.specs.Small as small;
+ghost use Rattle.sp_shape.specs.Trail.{does, begins, all_done, trail, copies};
+
+/// Shapes that are well formed, and one row for each cause for which one is not.
+pub fn worked_shapes()
+    ensures one_function { is_formed (small.shape_of (small.empty ∷ []) 0) ≡ true }
+    ensures calls_and_turns { is_formed (small.shape_of (small.empty ∷ small.caller 0 ∷ []) 1) ≡ true }
+    ensures no_entry { is_formed (small.shape_of (small.empty ∷ []) 1) ≡ false }
+    ensures own_call { is_formed (small.shape_of (small.empty ∷ small.caller 1 ∷ []) 1) ≡ false }
+    ensures no_return { function_formed 1 (one (straight [])) ≡ false }
+    ensures two_returns { function_formed 1 (part (leaves small.return) small.empty) ≡ false }
+    ensures return_in_turns { function_formed 1 (part (repeats 1 small.empty small.again) small.empty) ≡ false }
+    ensures no_turns { part_formed 1 (repeats 0 no_part small.again) ≡ false }
+    ensures turn_with_more { part_formed 1 (repeats 1 no_part (small.add 1 ∷ small.again)) ≡ true }
+    ensures turn_with_one_slot { part_formed 1 (repeats 1 no_part (small.under small.always small.branch ∷ small.idle ∷ [])) ≡ false }
+    ensures branch_in_slot { part_formed 1 (repeats 1 no_part (small.under small.always small.branch ∷ small.again)) ≡ false }
+    ensures flow_in_straight { part_formed 1 (straight small.return) ≡ false }
+    ensures call_with_two_slots { part_formed 1 (calls_to 0 (small.under small.always small.call_op ∷ small.idle ∷ small.idle ∷ [])) ≡ false }
+    ensures call_under_a_guard { part_formed 1 (calls_to 0 (small.under small.p1 small.call_op ∷ small.idle ∷ small.idle ∷ small.idle ∷ [])) ≡ false }
+    ensures call_by_return { part_formed 1 (calls_to 0 small.return) ≡ false }
+{}
+
+/// The trail of a function that does three turns with a call in each.
+pub fn worked_trails()
+    ensures trail { trail (small.shape_of (small.empty ∷ small.caller 0 ∷ []) 1)
+        ≡ does (small.add 1) ∷ (copies 3 (all_done small.call ++ begins ∷ all_done (small.return ++ small.again)) ++ all_done (small.add 2 ∷ small.return)) }
+    ensures length { length (trail (small.shape_of (small.empty ∷ small.caller 0 ∷ []) 1)) ≡ 42 }
+{}
