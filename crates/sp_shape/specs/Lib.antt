@@ -1,5 +1,8 @@
+pub mod Bundles
 pub mod Formed
+pub mod Memory
 pub mod Parts
+pub mod Run
 pub mod Shown
 pub mod Small
 pub mod Trail

@@ -1,11 +1,16 @@
 -- Small shapes for worked examples.
-use Rattle.std.specs.Prelude.{ℕ, pos, false, List, [], ◌∷◌, None}
+use Rattle.std.specs.Prelude.{ℕ, pos, true, false, List, [], ◌∷◌, None}
 use Rattle.patmos_instr.specs.Bundles.{Slots}
 use Rattle.patmos_instr.specs.Instructions.{nop}
 use Rattle.patmos_instr.specs.declared.guards.Guard.{Guard}
 use Rattle.patmos_instr.specs.declared.instructions.Op.{Op}
-use Rattle.patmos_instr.specs.declared.instructions.Op.TheVariants.{AluImm, Branch, Call, Return}
+use Rattle.patmos_instr.specs.declared.instructions.Op.TheVariants.{AluImm, Branch, Call, Load, Mul, Return}
 use Rattle.patmos_instr.specs.declared.functions.ImmFunc.TheVariants as imm
+use Rattle.patmos_instr.specs.declared.memories.Mem.TheVariants as mem
+use Rattle.patmos_instr.specs.declared.memories.Width.TheVariants as load_width
+use Rattle.shared_order.specs.Words.{put}
+use Rattle.sp_shape.specs.Memory.{Memory}
+use Rattle.sp_shape.specs.Run.{Run, at_begin}
 use Rattle.sp_shape.specs.Parts.{straight, repeats, calls_to, leaves, PlainParts, part, one, PlainShape}
 
 abbrev pub always : Guard
@@ -50,3 +55,29 @@ caller k = part (straight (add 1 ∷ [])) (part (repeats 3 (one (calls_to k call
 
 abbrev pub shape_of : List PlainParts → ℕ → PlainShape
 shape_of functions entry = record { functions = functions; entry = entry; initial = []; input_at = 4; input_room = 0 }
+
+-- ---- runs
+
+-- r1 = the first word of the scratchpad
+abbrev pub load : Slots
+load = under always (Load mem.L load_width.Word 1 0 0)
+
+-- r1 = r1 * r1, as far as it fits sl
+abbrev pub square : Slots
+square = under always (Mul true 1 1)
+
+-- the first word of the scratchpad is 7, and all others are 0
+abbrev pub memory : Memory
+memory = record {
+  scratch = put 0 7 (λ _. 0);
+  comm = λ _. 0;
+  private = λ _. 0;
+  shared = λ _. 0;
+  source = λ _. 0;
+  target = λ _. 0;
+  starts = [];
+}
+
+-- a task that begins, whose loads give 5 where that is told, and whose call returns to offset 9 of the function at 3
+abbrev pub beginning : Run
+beginning = at_begin memory (5 ∷ []) (record { base = 3; offset = 9 } ∷ [])

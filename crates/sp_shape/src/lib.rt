@@ -7,8 +7,9 @@
 //! - What is said: [`Part`] and [`Shape`]. `specs/Parts.antt` is the same without places in memory, and
 //!   `specs/Shown.antt` what a shape in code says.
 //! - What is well formed: `specs/Formed.antt`.
-//! - In which order its bundles are run: `specs/Trail.antt`.
-//! - How many words it takes: `specs/Words.antt`.
+//! - In which order its bundles are run: `specs/Trail.antt`; and what comes of it: `specs/Run.antt`, over the words of
+//!   `specs/Memory.antt`.
+//! - How many words it takes: `specs/Words.antt`; what is said of each bundle: `specs/Bundles.antt`.
 //!
 //! What its words mean stands in [the glossary](../../../docs/GLOSSARY.md).
 #![tactic(auto)]
@@ -19,4 +20,4 @@ mod worked;
 
 pub use laws::parts_join;
 pub use parts::{Part, Shape};
-pub use worked::{worked_shapes, worked_trails};
+pub use worked::{worked_runs, worked_shapes, worked_trails};

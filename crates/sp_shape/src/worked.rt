@@ -2,6 +2,8 @@
 ghost use Rattle.std.specs.Prelude.{◌≡◌, ◌+◌, ℕ, [], ◌∷◌, ◌++◌, List, true, false, length};
 ghost use Rattle.sp_shape.specs.Formed.{part_formed, function_formed, is_formed};
 ghost use Rattle.sp_shape.specs.Parts.{PlainParts, no_part, part, one, straight, repeats, calls_to, leaves};
+ghost use Rattle.patmos_sem.specs.Registers.{word_in};
+ghost use Rattle.sp_shape.specs.Run.{by_list, by_words, calls, run, run_late, settled};
 ghost use Rattle.sp_shape.specs.Small as small;
 ghost use Rattle.sp_shape.specs.Trail.{does, begins, all_done, trail, copies};
 
@@ -29,4 +31,17 @@ pub fn worked_trails()
     ensures trail { trail (small.shape_of (small.empty ∷ small.caller 0 ∷ []) 1)
         ≡ does (small.add 1) ∷ (copies 3 (all_done small.call ++ begins ∷ all_done (small.return ++ small.again)) ++ all_done (small.add 2 ∷ small.return)) }
     ensures length { length (trail (small.shape_of (small.empty ∷ small.caller 0 ∷ []) 1)) ≡ 42 }
+{}
+
+/// A load's value and a product, read at once and read late: then what stands in the next bundle does not see them. The
+/// values of loads from the words, or as they are given; and the place to which a call's function returns.
+pub fn worked_runs()
+    ensures at_once { word_in (run by_words (all_done (small.load ∷ small.add 1 ∷ [])) small.beginning).regs 1 ≡ 8 }
+    ensures late { word_in (settled (run_late by_words (all_done (small.load ∷ small.add 1 ∷ [])) small.beginning).regs) 1 ≡ 1 }
+    ensures late_behind { word_in (settled (run_late by_words (all_done (small.load ∷ small.idle ∷ small.add 1 ∷ [])) small.beginning).regs) 1 ≡ 8 }
+    ensures product { (run by_words (all_done (small.load ∷ small.square ∷ [])) small.beginning).regs.sl ≡ 49 }
+    ensures given { word_in (run by_list (all_done (small.load ∷ small.add 1 ∷ [])) small.beginning).regs 1 ≡ 6 }
+    ensures asked { length (run by_list (all_done (small.load ∷ small.add 1 ∷ [])) small.beginning).asked ≡ 1 }
+    ensures called { (run by_words (all_done small.call ++ begins ∷ []) small.beginning).regs.sro ≡ 9 }
+    ensures ways { (run by_words (all_done small.call ++ begins ∷ []) small.beginning).ways ≡ calls ∷ [] }
 {}

@@ -1,0 +1,10 @@
+pub mod Fitting
+pub mod Formed
+pub mod Idle
+pub mod Kept
+pub mod Looping
+pub mod Needs
+pub mod Pushed
+pub mod Room
+pub mod Sizes
+pub mod Steady

@@ -1,0 +1,107 @@
+-- Parts that are pushed behind others.
+use Rattle.std.proofs.Common.{◌≡◌, ℕ, ◌+◌, ◌-◌, Option, Bool, true, false, if◌then◌else◌, List, [], ◌∷◌, ◌++◌, ap, sym, ◌∙◌}
+use Rattle.std.specs.Prelude.{nat_lt}
+use Rattle.sp_tree.specs.Cost.{is_held}
+use Rattle.sp_tree.specs.Need.{need}
+use Rattle.sp_tree.specs.Plain.{PlainSp, between_two}
+use Rattle.sp_tree.specs.declared.operators.SpBinary.{SpBinary}
+use Rattle.sp_emit.specs.Expressions.{binary_code, held_code, number_of, expr_code}
+use Rattle.patmos_instr.specs.Bundles.{Slots}
+use Rattle.sp_shape.proofs.Joins.{shown, joined-assoc, joined-nothing}
+use Rattle.sp_shape.specs.Parts.{PlainParts, no_part, part, straight, repeats, one, joined}
+use Rattle.sp_shape.specs.Shown.{plain_part, parts_of}
+use Rattle.sp_shape.specs.declared.parts.Part.{Part, Straight}
+use Rattle.sp_emit.specs.Division.{digits, around}
+use Rattle.sp_emit.specs.Functions.{function_begin, function_end, leaving, function_code}
+use Rattle.sp_emit.specs.Statements.{mask_handed, way_to, behind_call, call_code, turns_begin, turns_tail, stmt_code, stmts_code}
+use Rattle.sp_tree.specs.Shown.{plain_function, stmts_of}
+use Rattle.sp_tree.specs.Statements.{PlainStmts, turns}
+use Rattle.sp_tree.specs.declared.statements.SpFunction.{SpFunction}
+use Rattle.sp_tree.specs.declared.statements.SpStmt.{SpStmt}
+
+pub straight_push : (xs : List Part) (bundles : List Slots) → parts_of (xs ++ Straight bundles ∷ []) ≡ joined (parts_of xs) (one (straight bundles))
+unfolding plain_part
+straight_push xs bundles = shown xs (Straight bundles ∷ [])
+
+pub part_push : (xs : List Part) (p : Part) → parts_of (xs ++ p ∷ []) ≡ joined (parts_of xs) (one (plain_part p))
+part_push xs p = shown xs (p ∷ [])
+
+pub none_pushed : (old : PlainParts) → old ≡ joined old no_part
+none_pushed old = sym (joined-nothing old)
+
+pub two_pushed : (old first second a b : PlainParts) → first ≡ joined old a → second ≡ joined first b → second ≡ joined old (joined a b)
+two_pushed old first second a b one two = two ∙ ap (λ p. joined p b) one ∙ joined-assoc old a b
+
+pub three_pushed : (old first second third a b c : PlainParts) → first ≡ joined old a → second ≡ joined first b → third ≡ joined second c → third ≡ joined old (joined a (joined b c))
+three_pushed old first second third a b c one two three = three ∙ ap (λ p. joined p c) (two_pushed old first second a b one two) ∙ joined-assoc old (joined a b) c
+    ∙ ap (joined old) (joined-assoc a b c)
+
+pub around_pushed : (old first second third : PlainParts) (before behind : List Slots) → first ≡ joined old (one (straight before)) → second ≡ joined first (one digits)
+    → third ≡ joined second (one (straight behind)) → third ≡ joined old (around before behind)
+around_pushed old first second third before behind one two three = three_pushed old first second third (part (straight before) no_part) (part digits no_part) (part (straight behind) no_part) one two three
+
+pub function_pushed : (f : SpFunction) (xs : List Part) (ts : List SpStmt) (first second third fourth : PlainParts) → xs ≡ [] → ts ≡ f.body
+    → first ≡ joined (parts_of xs) (one (straight (function_begin (plain_function f)))) → second ≡ joined first (stmts_code f.frame (f.frame - 3) (stmts_of ts))
+    → third ≡ joined second (one (straight (function_end (plain_function f)))) → fourth ≡ joined third (one leaving) → fourth ≡ function_code (plain_function f)
+function_pushed f xs ts first second third fourth none is a b c d =
+    let begin = one (straight (function_begin (plain_function f))) in
+    let body = stmts_code f.frame (f.frame - 3) (stmts_of f.body) in
+    let end = one (straight (function_end (plain_function f))) in
+    let b' : second ≡ joined first body = b ∙ ap (λ s. joined first (stmts_code f.frame (f.frame - 3) (stmts_of s))) is in
+    let a' : first ≡ begin = a ∙ ap (λ l. joined (parts_of l) begin) none in
+    d ∙ ap (λ x. joined x (one leaving)) (c ∙ ap (λ x. joined x end) (b' ∙ ap (λ x. joined x body) a')) ∙ joined-assoc (joined begin body) end (one leaving)
+    ∙ joined-assoc begin body (joined end (one leaving))
+
+-- ---- operands in their order
+
+pub held_pushed : (old first second : PlainParts) (op : SpBinary) (a b : PlainSp) (rd : ℕ) → is_held op b ≡ true → first ≡ joined old (expr_code a rd)
+    → second ≡ joined first (one (straight (held_code op rd (number_of b)))) → second ≡ joined old (expr_code (between_two op a b) rd)
+held_pushed old first second op a b rd held f s =
+    two_pushed old first second (expr_code a rd) (one (straight (held_code op rd (number_of b)))) f s
+    ∙ ap (joined old) (sym (ap (λ c. if c then joined (expr_code a rd) (one (straight (held_code op rd (number_of b))))
+    else if nat_lt (need a) (need b) then joined (expr_code b rd) (joined (expr_code a (rd + 1)) (binary_code op rd (rd + 1) rd))
+    else joined (expr_code a rd) (joined (expr_code b (rd + 1)) (binary_code op rd rd (rd + 1)))) held))
+
+not_held : (op : SpBinary) (a b : PlainSp) (rd : ℕ) (less : Bool) → is_held op b ≡ false → nat_lt (need a) (need b) ≡ less → expr_code (between_two op a b) rd
+    ≡ (if less then joined (expr_code b rd) (joined (expr_code a (rd + 1)) (binary_code op rd (rd + 1) rd))
+    else joined (expr_code a rd) (joined (expr_code b (rd + 1)) (binary_code op rd rd (rd + 1))))
+not_held op a b rd less not is =
+    ap (λ c. if c then joined (expr_code a rd) (one (straight (held_code op rd (number_of b))))
+    else if nat_lt (need a) (need b) then joined (expr_code b rd) (joined (expr_code a (rd + 1)) (binary_code op rd (rd + 1) rd))
+    else joined (expr_code a rd) (joined (expr_code b (rd + 1)) (binary_code op rd rd (rd + 1)))) not
+    ∙ ap (λ c. if c then joined (expr_code b rd) (joined (expr_code a (rd + 1)) (binary_code op rd (rd + 1) rd))
+    else joined (expr_code a rd) (joined (expr_code b (rd + 1)) (binary_code op rd rd (rd + 1)))) is
+
+pub second_pushed : (old first second : PlainParts) (op : SpBinary) (a b : PlainSp) (rd : ℕ) → is_held op b ≡ false → nat_lt (need a) (need b) ≡ true
+    → first ≡ joined old (joined (expr_code b rd) (expr_code a (rd + 1))) → second ≡ joined first (binary_code op rd (rd + 1) rd) → second ≡ joined old (expr_code (between_two op a b) rd)
+second_pushed old first second op a b rd not less f s =
+    two_pushed old first second (joined (expr_code b rd) (expr_code a (rd + 1))) (binary_code op rd (rd + 1) rd) f s
+    ∙ ap (joined old) (joined-assoc (expr_code b rd) (expr_code a (rd + 1)) (binary_code op rd (rd + 1) rd) ∙ sym (not_held op a b rd true not less))
+
+pub first_pushed : (old first second : PlainParts) (op : SpBinary) (a b : PlainSp) (rd : ℕ) → is_held op b ≡ false → nat_lt (need a) (need b) ≡ false
+    → first ≡ joined old (joined (expr_code a rd) (expr_code b (rd + 1))) → second ≡ joined first (binary_code op rd rd (rd + 1)) → second ≡ joined old (expr_code (between_two op a b) rd)
+first_pushed old first second op a b rd not less f s =
+    two_pushed old first second (joined (expr_code a rd) (expr_code b (rd + 1))) (binary_code op rd rd (rd + 1)) f s
+    ∙ ap (joined old) (joined-assoc (expr_code a rd) (expr_code b (rd + 1)) (binary_code op rd rd (rd + 1)) ∙ sym (not_held op a b rd false not less))
+
+-- ---- sends
+
+pub send_pushed : (old first second a b c d : PlainParts) → first ≡ joined old (joined a (joined b c)) → second ≡ joined first d → second ≡ joined old (joined a (joined b (joined c d)))
+send_pushed old first second a b c d one two =
+    two_pushed old first second (joined a (joined b c)) d one two ∙ ap (joined old) (joined-assoc a (joined b c) d ∙ ap (joined a) (joined-assoc b c d))
+
+-- ---- calls and turns
+
+pub call_pushed : (old first second third : PlainParts) (frame mask k : ℕ) (slot : Option ℕ) → first ≡ joined old (one (straight (mask_handed mask)))
+    → second ≡ joined first (one (way_to k)) → third ≡ joined second (one (straight (behind_call frame mask slot))) → third ≡ joined old (call_code frame mask k slot)
+call_pushed old first second third frame mask k slot a b c =
+    three_pushed old first second third (one (straight (mask_handed mask))) (one (way_to k)) (one (straight (behind_call frame mask slot))) a b c
+
+pub turns_pushed : (old first second turn : PlainParts) (frame counter count : ℕ) (body : PlainStmts) → first ≡ joined old (one (straight (turns_begin counter count)))
+    → turn ≡ stmts_code frame (counter - 1) body → second ≡ joined first (one (repeats count turn (turns_tail counter))) → second ≡ joined old (stmt_code frame counter (turns count body))
+turns_pushed old first second turn frame counter count body a is b =
+    two_pushed old first second (one (straight (turns_begin counter count))) (one (repeats count (stmts_code frame (counter - 1) body) (turns_tail counter))) a
+    (b ∙ ap (λ t. joined first (one (repeats count t (turns_tail counter)))) is)
+
+pub straight_as : (old new : PlainParts) (xs ys : List Slots) → new ≡ joined old (one (straight xs)) → xs ≡ ys → new ≡ joined old (one (straight ys))
+straight_as old new xs ys is same = is ∙ ap (λ l. joined old (one (straight l))) same

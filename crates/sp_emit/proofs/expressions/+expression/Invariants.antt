@@ -1,0 +1,13 @@
+use Rattle.std.proofs.Common.{◌+◌, ◌*◌}
+use Rattle.sp_tree.specs.Plain.{plain_sp}
+use Rattle.sp_emit.proofs.Sizes.{size}
+use Rattle.sp_emit.proofs.expressions.+expression.Given as goal
+
+abbrev pub decreases-expression : goal.decreases-expression
+decreases-expression l = 2 * size (plain_sp l.e.now)
+
+abbrev pub decreases-operands : goal.decreases-operands
+decreases-operands l = 2 + 2 * (size (plain_sp l.a.now) + size (plain_sp l.b.now))
+
+abbrev pub decreases-values : goal.decreases-values
+decreases-values l = 1 + 2 * (size (plain_sp l.first.now) + size (plain_sp l.second.now))

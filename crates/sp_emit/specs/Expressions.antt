@@ -1,0 +1,147 @@
+-- The code of expressions: it leaves a value in a register and uses only registers from that one on, and those that are
+-- spare. Of two operands the one of the greater need is worked out first, so that registers suffice.
+use Rattle.std.specs.Prelude.{ℕ, ◌+◌, ◌*◌, nat_lt, if◌then◌else◌, List, [], ◌∷◌}
+use Rattle.patmos_instr.specs.Bundles.{Slots}
+use Rattle.patmos_instr.specs.declared.functions.AluFunc.{AluFunc}
+use Rattle.patmos_instr.specs.declared.functions.AluFunc.TheVariants as alu
+use Rattle.patmos_instr.specs.declared.functions.CmpFunc.{CmpFunc}
+use Rattle.patmos_instr.specs.declared.functions.CmpFunc.TheVariants as cmp
+use Rattle.patmos_instr.specs.declared.functions.ImmFunc.TheVariants as imm
+use Rattle.patmos_instr.specs.declared.functions.PredFunc.{PredFunc}
+use Rattle.patmos_instr.specs.declared.functions.PredFunc.TheVariants as comb
+use Rattle.patmos_instr.specs.declared.memories.Mem.{Mem}
+use Rattle.patmos_instr.specs.declared.memories.Mem.TheVariants as mem
+use Rattle.patmos_instr.specs.declared.specials.Special.TheVariants as special
+use Rattle.c_world.specs.declared.region.Region.{Region}
+use Rattle.c_world.specs.declared.region.Region.TheVariants as region
+use Rattle.sp_tree.specs.Cost.{is_held}
+use Rattle.sp_tree.specs.Need.{need}
+use Rattle.sp_tree.specs.Plain.{PlainSp, constant, frame_word, cell_word, array_word, before_one, between_two}
+use Rattle.sp_tree.specs.declared.expressions.SpArray.{SpArray}
+use Rattle.sp_tree.specs.declared.expressions.SpCell.{SpCell}
+use Rattle.sp_tree.specs.declared.operators.SpBinary.{SpBinary}
+use Rattle.sp_tree.specs.declared.operators.SpBinary.TheVariants as binary
+use Rattle.sp_tree.specs.declared.operators.SpUnary.{SpUnary}
+use Rattle.sp_tree.specs.declared.operators.SpUnary.TheVariants as unary
+use Rattle.sp_shape.specs.Parts.{straight, PlainParts, one, joined}
+use Rattle.sp_emit.specs.Division.{quotient_to, rest_to, signed_quotient_to, signed_rest_to, unsigned_division, signed_division}
+use Rattle.sp_emit.specs.Instructions.{always, where_so, where_not, set_long, set_short, compute, with_short, compare, compare_short, combine, multiply, from_special, load_from, load_slot}
+use Rattle.sp_emit.specs.declared.registers.TheConstants.{SPARE, TEST, SECOND}
+
+-- ---- addresses
+
+-- the byte at which the words of a memory begin
+abbrev pub base_of : Region → ℕ
+base_of region.Scratch = 0
+base_of region.Comm = 0x10000
+base_of region.Private = 0
+base_of region.Shared = 0x1000000
+
+abbrev pub address_of : Region → ℕ → ℕ
+address_of r word = base_of r + 4 * word
+
+-- by which kind of access variables are reached, and elements: the data cache holds private variables alone
+abbrev pub cell_space : Region → Mem
+cell_space region.Scratch = mem.L
+cell_space region.Comm = mem.L
+cell_space region.Private = mem.C
+cell_space region.Shared = mem.M
+
+abbrev pub array_space : Region → Mem
+array_space region.Scratch = mem.L
+array_space region.Comm = mem.L
+array_space region.Private = mem.M
+array_space region.Shared = mem.M
+
+-- ---- operators
+
+-- 1 where a predicate is true, else 0
+abbrev pub truth_to : ℕ → List Slots
+truth_to rd = set_short always rd 0 ∷ set_short (where_so TEST) rd 1 ∷ []
+
+abbrev pub unary_code : SpUnary → ℕ → List Slots
+unary_code unary.Minus rd = compute always alu.Sub rd 0 rd ∷ []
+unary_code unary.Complement rd = compute always alu.Nor rd rd 0 ∷ []
+unary_code unary.Not rd = compare_short cmp.Eq TEST rd 0 ∷ truth_to rd
+
+abbrev pub both_code : PredFunc → ℕ → ℕ → ℕ → List Slots
+both_code func rd ra rb =
+    compare_short cmp.Neq TEST ra 0 ∷ compare_short cmp.Neq SECOND rb 0 ∷ combine func TEST TEST SECOND ∷ truth_to rd
+
+abbrev pub compared_code : CmpFunc → ℕ → ℕ → ℕ → List Slots
+compared_code func rd ra rb = compare func TEST ra rb ∷ truth_to rd
+
+abbrev pub computed : AluFunc → ℕ → ℕ → ℕ → PlainParts
+computed func rd ra rb = one (straight (compute always func rd ra rb ∷ []))
+
+-- the value of an operator on the words of two registers
+abbrev pub binary_code : SpBinary → ℕ → ℕ → ℕ → PlainParts
+binary_code binary.Or rd ra rb = one (straight (both_code comb.Por rd ra rb))
+binary_code binary.And rd ra rb = one (straight (both_code comb.Pand rd ra rb))
+binary_code binary.BitOr rd ra rb = computed alu.Or rd ra rb
+binary_code binary.BitXor rd ra rb = computed alu.Xor rd ra rb
+binary_code binary.BitAnd rd ra rb = computed alu.And rd ra rb
+binary_code binary.Equal rd ra rb = one (straight (compared_code cmp.Eq rd ra rb))
+binary_code binary.NotEqual rd ra rb = one (straight (compared_code cmp.Neq rd ra rb))
+binary_code binary.Less rd ra rb = one (straight (compared_code cmp.Lt rd ra rb))
+binary_code binary.LessUnsigned rd ra rb = one (straight (compared_code cmp.Ult rd ra rb))
+binary_code binary.LessEqual rd ra rb = one (straight (compared_code cmp.Le rd ra rb))
+binary_code binary.LessEqualUnsigned rd ra rb = one (straight (compared_code cmp.Ule rd ra rb))
+binary_code binary.ShiftLeft rd ra rb = computed alu.Sl rd ra rb
+binary_code binary.ShiftRight rd ra rb = computed alu.Sra rd ra rb
+binary_code binary.ShiftRightUnsigned rd ra rb = computed alu.Sr rd ra rb
+binary_code binary.Plus rd ra rb = computed alu.Add rd ra rb
+binary_code binary.Minus rd ra rb = computed alu.Sub rd ra rb
+binary_code binary.Times rd ra rb = one (straight (multiply ra rb ∷ from_special rd special.Sl ∷ []))
+binary_code binary.Divide rd ra rb = signed_division (signed_quotient_to rd) ra rb
+binary_code binary.DivideUnsigned rd ra rb = unsigned_division (quotient_to rd) ra rb
+binary_code binary.Remainder rd ra rb = signed_division (signed_rest_to rd) ra rb
+binary_code binary.RemainderUnsigned rd ra rb = unsigned_division (rest_to rd) ra rb
+
+-- the same where the second operand is a constant that an instruction holds
+abbrev pub held_compared : CmpFunc → ℕ → ℕ → List Slots
+held_compared func rd n = compare_short func TEST rd n ∷ truth_to rd
+
+abbrev pub held_code : SpBinary → ℕ → ℕ → List Slots
+held_code binary.BitAnd rd n = with_short always imm.And rd rd n ∷ []
+held_code binary.Equal rd n = held_compared cmp.Eq rd n
+held_code binary.NotEqual rd n = held_compared cmp.Neq rd n
+held_code binary.Less rd n = held_compared cmp.Lt rd n
+held_code binary.LessUnsigned rd n = held_compared cmp.Ult rd n
+held_code binary.LessEqual rd n = held_compared cmp.Le rd n
+held_code binary.LessEqualUnsigned rd n = held_compared cmp.Ule rd n
+held_code _ rd n = []
+
+-- ---- expressions
+
+abbrev pub cell_code : SpCell → ℕ → List Slots
+cell_code c rd = set_long rd (address_of c.region c.word) ∷ load_from (cell_space c.region) rd rd ∷ []
+
+-- the index stands in the register. Where it is at or past the length the load is made at word 0, and 0 is taken in its
+-- place
+abbrev pub element_code : SpArray → ℕ → List Slots
+element_code a rd =
+    set_long SPARE a.length
+    ∷ compare cmp.Ult TEST rd SPARE
+    ∷ set_long SPARE (address_of a.region a.first)
+    ∷ compute always alu.Shadd2 rd rd SPARE
+    ∷ set_short (where_not TEST) rd 0
+    ∷ load_from (array_space a.region) rd rd
+    ∷ set_short (where_not TEST) rd 0
+    ∷ []
+
+-- the number of a constant
+abbrev pub number_of : PlainSp → ℕ
+number_of (constant n) = n
+number_of _ = 0
+
+abbrev pub expr_code : PlainSp → ℕ → PlainParts
+expr_code (constant n) rd = one (straight (set_long rd n ∷ []))
+expr_code (frame_word slot) rd = one (straight (load_slot rd slot ∷ []))
+expr_code (cell_word cell) rd = one (straight (cell_code cell rd))
+expr_code (array_word array index) rd = joined (expr_code index rd) (one (straight (element_code array rd)))
+expr_code (before_one op of) rd = joined (expr_code of rd) (one (straight (unary_code op rd)))
+expr_code (between_two op a b) rd =
+    if is_held op b then joined (expr_code a rd) (one (straight (held_code op rd (number_of b))))
+    else if nat_lt (need a) (need b) then joined (expr_code b rd) (joined (expr_code a (rd + 1)) (binary_code op rd (rd + 1) rd))
+    else joined (expr_code a rd) (joined (expr_code b (rd + 1)) (binary_code op rd rd (rd + 1)))

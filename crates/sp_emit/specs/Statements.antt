@@ -1,0 +1,156 @@
+-- The code of statements. Where a mask is not 1, a word of the stack, the scratchpad, communication memory and the
+-- interface is not stored; and a word of main memory is stored at word 0, which nothing else uses: so the bundles and
+-- the transactions are the same.
+use Rattle.std.specs.Prelude.{ℕ, ◌+◌, ◌-◌, ◌*◌, List, [], ◌∷◌, ◌++◌, Option, None, Some}
+use Rattle.patmos_instr.specs.Bundles.{Slots}
+use Rattle.patmos_instr.specs.declared.functions.AluFunc.TheVariants as alu
+use Rattle.patmos_instr.specs.declared.functions.CmpFunc.TheVariants as cmp
+use Rattle.patmos_instr.specs.declared.functions.ImmFunc.TheVariants as imm
+use Rattle.patmos_instr.specs.declared.functions.PredFunc.TheVariants as comb
+use Rattle.patmos_instr.specs.declared.functions.StackFunc.TheVariants.{Sens}
+use Rattle.patmos_instr.specs.declared.memories.Mem.{Mem}
+use Rattle.patmos_instr.specs.declared.memories.Mem.TheVariants as mem
+use Rattle.sp_tree.specs.Plain.{PlainSp}
+use Rattle.sp_tree.specs.Statements.{PlainPlace, to_slot, to_cell, to_array, PlainStmt, masks, writes, calls, transfers, overruns, turns, PlainStmts, no_stmt, stmt}
+use Rattle.sp_tree.specs.declared.expressions.SpArray.{SpArray}
+use Rattle.sp_tree.specs.declared.expressions.SpCell.{SpCell}
+use Rattle.sp_shape.specs.Parts.{PlainPart, straight, repeats, calls_to, PlainParts, no_part, one, joined}
+use Rattle.sp_emit.specs.Expressions.{address_of, cell_space, array_space, expr_code}
+use Rattle.sp_emit.specs.Instructions.{always, where_so, where_not, idle, set_long, set_short, compute, with_short, compare, compare_short, combine, stack_op, load_slot, store_to, store_slot, branch, call}
+use Rattle.sp_emit.specs.declared.registers.TheConstants.{RESULT, MASK, FIRST, SPARE, OVERRUN, TEST, SECOND}
+
+-- whether a mask is 1
+abbrev pub mask_test : ℕ → List Slots
+mask_test mask = load_slot SPARE mask ∷ compare_short cmp.Eq TEST SPARE 1 ∷ []
+
+-- ---- what is set: the value stands in the first register, an index in the one behind it
+
+abbrev pub slot_write : ℕ → ℕ → List Slots
+slot_write mask slot = mask_test mask ++ store_slot (where_so TEST) slot FIRST ∷ []
+
+-- a store at an address that a register holds: off the predicate it is not made, or is made at word 0
+abbrev pub masked_store : Mem → ℕ → List Slots
+masked_store mem.S at = []
+masked_store mem.L at = store_to (where_so TEST) mem.L at FIRST 0 ∷ []
+masked_store mem.C at = set_short (where_not TEST) at 0 ∷ store_to always mem.C at FIRST 0 ∷ []
+masked_store mem.M at = set_short (where_not TEST) at 0 ∷ store_to always mem.M at FIRST 0 ∷ []
+
+abbrev pub cell_write : ℕ → SpCell → List Slots
+cell_write mask c = mask_test mask ++ set_long SPARE (address_of c.region c.word) ∷ masked_store (cell_space c.region) SPARE
+
+abbrev pub element_write : ℕ → SpArray → List Slots
+element_write mask a =
+    mask_test mask
+    ++ set_long SPARE a.length
+    ∷ compare cmp.Ult SECOND (FIRST + 1) SPARE
+    ∷ combine comb.Pand TEST TEST SECOND
+    ∷ set_long SPARE (address_of a.region a.first)
+    ∷ compute always alu.Shadd2 (FIRST + 1) (FIRST + 1) SPARE
+    ∷ masked_store (array_space a.region) (FIRST + 1)
+
+abbrev pub place_write : ℕ → PlainPlace → PlainParts
+place_write mask (to_slot slot) = one (straight (slot_write mask slot))
+place_write mask (to_cell cell) = one (straight (cell_write mask cell))
+place_write mask (to_array array index) = joined (expr_code index (FIRST + 1)) (one (straight (element_write mask array)))
+
+-- ---- calls
+
+-- the arguments stand one behind another, from a register on
+abbrev pub args_code : List PlainSp → ℕ → PlainParts
+args_code [] rd = no_part
+args_code (e ∷ args) rd = joined (expr_code e rd) (args_code args (rd + 1))
+
+abbrev pub mask_handed : ℕ → List Slots
+mask_handed mask = load_slot MASK mask ∷ with_short always imm.Xor MASK MASK 1 ∷ []
+
+abbrev pub call_tail : List Slots
+call_tail = call ∷ idle ∷ idle ∷ idle ∷ []
+
+-- behind the call the words of the own frame are brought back, and the result is set where the mask is 1
+abbrev pub result_write : ℕ → Option ℕ → List Slots
+result_write mask None = []
+result_write mask (Some slot) = mask_test mask ++ store_slot (where_so TEST) slot RESULT ∷ []
+
+abbrev pub behind_call : ℕ → ℕ → Option ℕ → List Slots
+behind_call frame mask result = stack_op Sens frame ∷ result_write mask result
+
+abbrev pub way_to : ℕ → PlainPart
+way_to k = calls_to k call_tail
+
+abbrev pub call_code : ℕ → ℕ → ℕ → Option ℕ → PlainParts
+call_code frame mask k result = joined (one (straight (mask_handed mask))) (joined (one (way_to k)) (one (straight (behind_call frame mask result))))
+
+-- ---- sends
+
+-- source, target and count stand one behind another. 512 words has a communication memory; a count of 0 less 1 is past
+-- all counts
+abbrev pub send_test : List Slots
+send_test =
+    set_long SPARE 512
+    ∷ with_short always imm.Sub (FIRST + 3) (FIRST + 2) 1
+    ∷ compare cmp.Ult SECOND (FIRST + 3) SPARE
+    ∷ combine comb.Pand TEST TEST SECOND
+    ∷ compute always alu.Sub SPARE SPARE (FIRST + 2)
+    ∷ compare cmp.Ule SECOND FIRST SPARE
+    ∷ combine comb.Pand TEST TEST SECOND
+    ∷ compare cmp.Ule SECOND (FIRST + 1) SPARE
+    ∷ combine comb.Pand TEST TEST SECOND
+    ∷ []
+
+-- the registers of the interface for a core: 16 bytes each
+abbrev pub send_start : ℕ → List Slots
+send_start core =
+    set_long SPARE (0x20000 + 16 * core)
+    ∷ store_to (where_so TEST) mem.L SPARE FIRST 0
+    ∷ store_to (where_so TEST) mem.L SPARE (FIRST + 1) 1
+    ∷ store_to (where_so TEST) mem.L SPARE (FIRST + 2) 2
+    ∷ []
+
+abbrev pub send_code : ℕ → ℕ → List Slots
+send_code mask core = mask_test mask ++ (send_test ++ send_start core)
+
+-- ---- loops
+
+abbrev pub overrun_code : ℕ → List Slots
+overrun_code mask =
+    mask_test mask
+    ++ compare_short cmp.Neq SECOND FIRST 0
+    ∷ combine comb.Pand TEST TEST SECOND
+    ∷ set_short (where_so TEST) OVERRUN 1
+    ∷ []
+
+-- the turns that are left stand in a word of the frame
+abbrev pub turns_begin : ℕ → ℕ → List Slots
+turns_begin counter count = set_long SPARE count ∷ store_slot always counter SPARE ∷ []
+
+abbrev pub turns_tail : ℕ → List Slots
+turns_tail counter =
+    load_slot SPARE counter
+    ∷ with_short always imm.Sub SPARE SPARE 1
+    ∷ store_slot always counter SPARE
+    ∷ compare_short cmp.Neq TEST SPARE 0
+    ∷ branch TEST
+    ∷ idle
+    ∷ idle
+    ∷ []
+
+-- ---- statements of a function whose frame has so many words, and where the next counter of turns stands; those inside
+-- stand before it
+
+abbrev pub slot_set : ℕ → PlainParts
+slot_set slot = one (straight (store_slot always slot FIRST ∷ []))
+
+abbrev mutual
+  pub stmt_code : ℕ → ℕ → PlainStmt → PlainParts
+  stmt_code frame counter (masks slot e) = joined (expr_code e FIRST) (slot_set slot)
+  stmt_code frame counter (writes mask place e) = joined (expr_code e FIRST) (place_write mask place)
+  stmt_code frame counter (calls mask k args result) = joined (args_code args FIRST) (call_code frame mask k result)
+  stmt_code frame counter (transfers mask core source target count) =
+      joined (expr_code source FIRST) (joined (expr_code target (FIRST + 1)) (joined (expr_code count (FIRST + 2)) (one (straight (send_code mask core)))))
+  stmt_code frame counter (overruns mask e) = joined (expr_code e FIRST) (one (straight (overrun_code mask)))
+  stmt_code frame counter (turns count body) =
+      joined (one (straight (turns_begin counter count))) (one (repeats count (stmts_code frame (counter - 1) body) (turns_tail counter)))
+
+  pub stmts_code : ℕ → ℕ → PlainStmts → PlainParts
+  stmts_code frame counter no_stmt = no_part
+  stmts_code frame counter (stmt t rest) = joined (stmt_code frame counter t) (stmts_code frame counter rest)

@@ -1,0 +1,191 @@
+//! Calls, sends, loops that went past their bound, and the counters of turns.
+ghost use Rattle.std.specs.Prelude.{◌≡◌, ◌<◌, ◌≤◌, OnOk, IfSome};
+ghost use Rattle.sp_emit.specs.Statements as specs;
+ghost use Rattle.sp_shape.specs.Parts.{straight, repeats, one, joined};
+ghost use Rattle.sp_shape.specs.Shown.{parts_of};
+
+use crate::instructions::{
+    always, branch, call, combine, compare, compare_short, compute, idle, load_slot, set_long,
+    set_short, stack_op, store_slot, store_to, where_so, with_short,
+};
+use crate::parts::{listed, push, push_straight};
+use crate::registers::{FIRST, MASK, OVERRUN, RESULT, SECOND, SPARE, TEST, behind, pred, reg};
+use crate::writes::mask_test;
+use patmos_instr::{AluFunc, Bundle, CmpFunc, ImmFunc, Mem, PredFunc, StackFunc};
+use sp_shape::Part;
+use tc_word::{List, OutOfMemory};
+
+// the mask is handed to the function that is called
+fn hand_mask(out: &mut Vec<Part>, mask: u32) -> Result<(), OutOfMemory>
+    requires { mask < 128 }
+    ensures { OnOk result (parts_of out.new.items ≡ joined (parts_of out.old.items) (one (straight (specs.mask_handed mask)))) }
+{
+    let handed = reg(MASK);
+    let bundles = [
+        load_slot(handed, mask),
+        with_short(always(), ImmFunc::Xor, handed, handed, 1),
+    ];
+    push_straight(out, &bundles)
+}
+
+// the call, before its function has a place
+#[tactic(auto, unfolding(sp_shape::specs::Shown::plain_part))]
+fn push_call(out: &mut Vec<Part>, function: u32) -> Result<(), OutOfMemory>
+    ensures { OnOk result (parts_of out.new.items ≡ joined (parts_of out.old.items) (one (specs.way_to function))) }
+{
+    let tail = listed(*out.allocator(), &[call(), idle(), idle(), idle()])?;
+    push(out, Part::CallTo { function, tail })
+}
+
+// the words of the own frame are brought back, and the result is set
+fn come_back(
+    out: &mut Vec<Part>,
+    frame: u32,
+    mask: u32,
+    slot: Option<u32>,
+) -> Result<(), OutOfMemory>
+    requires frame { frame ≤ 128 }
+    requires mask { mask < 128 }
+    requires slot { IfSome slot (λ word. word < 128) }
+    ensures { OnOk result (parts_of out.new.items ≡ joined (parts_of out.old.items) (one (straight (specs.behind_call frame mask slot)))) }
+{
+    let back = stack_op(StackFunc::Sens, frame);
+    match slot {
+        None => push_straight(out, &[back]),
+        Some(word) => {
+            let [load, test] = mask_test(mask);
+            let set = store_slot(where_so(pred(TEST)), word, reg(RESULT));
+            push_straight(out, &[back, load, test, set])
+        }
+    }
+}
+
+/// A function is called, whose arguments stand in registers. It is `Err` where memory runs out.
+#[tactic(auto, using(crate::proofs::Pushed::call_pushed))]
+pub fn call_of(
+    out: &mut Vec<Part>,
+    frame: u32,
+    mask: u32,
+    function: u32,
+    slot: Option<u32>,
+) -> Result<(), OutOfMemory>
+    requires frame { frame ≤ 128 }
+    requires mask { mask < 128 }
+    requires slot { IfSome slot (λ word. word < 128) }
+    ensures { OnOk result (parts_of out.new.items ≡ joined (parts_of out.old.items) (specs.call_code frame mask function slot)) }
+{
+    hand_mask(out, mask)?;
+    push_call(out, function)?;
+    come_back(out, frame, mask, slot)
+}
+
+// whether a send starts
+fn send_test() -> [Bundle; 9]
+    ensures { result ≡ specs.send_test }
+{
+    let source = reg(FIRST);
+    let target = behind(source);
+    let count = behind(target);
+    let (less, spare) = (behind(count), reg(SPARE));
+    let (test, second) = (pred(TEST), pred(SECOND));
+    [
+        set_long(spare, 512),
+        with_short(always(), ImmFunc::Sub, less, count, 1),
+        compare(CmpFunc::Ult, second, less, spare),
+        combine(PredFunc::Pand, test, test, second),
+        compute(always(), AluFunc::Sub, spare, spare, count),
+        compare(CmpFunc::Ule, second, source, spare),
+        combine(PredFunc::Pand, test, test, second),
+        compare(CmpFunc::Ule, second, target, spare),
+        combine(PredFunc::Pand, test, test, second),
+    ]
+}
+
+// the registers of the interface are set
+fn send_start(core: u32) -> [Bundle; 4]
+    requires { core < 16 }
+    ensures { result ≡ specs.send_start core }
+{
+    let source = reg(FIRST);
+    let target = behind(source);
+    let count = behind(target);
+    let (spare, test) = (reg(SPARE), pred(TEST));
+    [
+        set_long(spare, 0x2_0000 + 16 * core),
+        store_to(where_so(test), Mem::L, spare, source, 0),
+        store_to(where_so(test), Mem::L, spare, target, 1),
+        store_to(where_so(test), Mem::L, spare, count, 2),
+    ]
+}
+
+/// A send, whose source, target and count stand in registers. It is `Err` where memory runs out.
+pub fn send(out: &mut Vec<Part>, mask: u32, core: u32) -> Result<(), OutOfMemory>
+    requires mask { mask < 128 }
+    requires core { core < 16 }
+    ensures { OnOk result (parts_of out.new.items ≡ joined (parts_of out.old.items) (one (straight (specs.send_code mask core)))) }
+{
+    let mut bundles = Vec::new(*out.allocator());
+    bundles.extend_from_slice(&mask_test(mask))?;
+    bundles.extend_from_slice(&send_test())?;
+    bundles.extend_from_slice(&send_start(core))?;
+    push_straight(out, &bundles)
+}
+
+/// The flag is set where the first register's word is not 0. It is `Err` where memory runs out.
+pub fn overrun(out: &mut Vec<Part>, mask: u32) -> Result<(), OutOfMemory>
+    requires { mask < 128 }
+    ensures { OnOk result (parts_of out.new.items ≡ joined (parts_of out.old.items) (one (straight (specs.overrun_code mask)))) }
+{
+    let (test, second) = (pred(TEST), pred(SECOND));
+    let [load, masked] = mask_test(mask);
+    let bundles = [
+        load,
+        masked,
+        compare_short(CmpFunc::Neq, second, reg(FIRST), 0),
+        combine(PredFunc::Pand, test, test, second),
+        set_short(where_so(test), reg(OVERRUN), 1),
+    ];
+    push_straight(out, &bundles)
+}
+
+/// The counter of turns begins. It is `Err` where memory runs out.
+pub fn begin_turns(out: &mut Vec<Part>, counter: u32, count: u32) -> Result<(), OutOfMemory>
+    requires { counter < 128 }
+    ensures { OnOk result (parts_of out.new.items ≡ joined (parts_of out.old.items) (one (straight (specs.turns_begin counter count)))) }
+{
+    let begin = set_long(reg(SPARE), count);
+    push_straight(out, &[begin, store_slot(always(), counter, reg(SPARE))])
+}
+
+// a turn ends: the next one begins where the counter is not at its end
+fn turns_tail(counter: u32) -> [Bundle; 7]
+    requires { counter < 128 }
+    ensures { result ≡ specs.turns_tail counter }
+{
+    let (spare, test) = (reg(SPARE), pred(TEST));
+    [
+        load_slot(spare, counter),
+        with_short(always(), ImmFunc::Sub, spare, spare, 1),
+        store_slot(always(), counter, spare),
+        compare_short(CmpFunc::Neq, test, spare, 0),
+        branch(test),
+        idle(),
+        idle(),
+    ]
+}
+
+/// Parts are repeated so many times. It is `Err` where memory runs out.
+#[tactic(auto, using(sp_shape::proofs::Plain::plain_repeat))]
+pub fn repeat(
+    out: &mut Vec<Part>,
+    counter: u32,
+    count: u32,
+    turn: Vec<Part>,
+) -> Result<(), OutOfMemory>
+    requires { counter < 128 }
+    ensures { OnOk result (parts_of out.new.items ≡ joined (parts_of out.old.items) (one (repeats count (parts_of turn.items) (specs.turns_tail counter)))) }
+{
+    let tail = listed(*out.allocator(), &turns_tail(counter))?;
+    let body = List::of(turn);
+    push(out, Part::Repeat { count, body, tail })
+}

@@ -1,0 +1,164 @@
+//! Quotients and remainders.
+ghost use Rattle.std.specs.Prelude.{◌≡◌, ◌<◌, IfOk, OnOk};
+ghost use Rattle.sp_emit.specs.Division as specs;
+ghost use Rattle.sp_emit.specs.Instructions as code;
+ghost use Rattle.sp_shape.specs.Parts.{part, straight, no_part, joined};
+ghost use Rattle.sp_shape.specs.Shown.{plain_part, parts_of};
+
+use crate::instructions::{
+    always, branch, combine, compare, compare_short, compute, copy, idle, set_short, where_so,
+    with_short,
+};
+use crate::parts::{listed, push, push_straight};
+use crate::registers::{
+    DIGITS, DIVIDEND, DIVISOR, QUOTIENT_NEGATIVE, REMAINDER, REST_NEGATIVE, SECOND, SPARE, TEST,
+    pred, reg,
+};
+use patmos_instr::{AluFunc, Bundle, CmpFunc, ImmFunc, PredFunc, Reg};
+use sp_shape::Part;
+use std::alloc::Global;
+use tc_word::{List, OutOfMemory};
+
+// the operands are brought to their places
+fn operands(ra: Reg, rb: Reg) -> [Bundle; 4]
+    ensures { result ≡ specs.operands ra rb }
+{
+    [
+        copy(reg(DIVIDEND), ra),
+        copy(reg(DIVISOR), rb),
+        set_short(always(), reg(REMAINDER), 0),
+        set_short(always(), reg(DIGITS), 32),
+    ]
+}
+
+// signs are kept apart
+fn without_signs() -> [Bundle; 5]
+    ensures { result ≡ specs.without_signs }
+{
+    let (dividend, divisor) = (reg(DIVIDEND), reg(DIVISOR));
+    let (rest, quotient) = (pred(REST_NEGATIVE), pred(QUOTIENT_NEGATIVE));
+    [
+        compare_short(CmpFunc::Btest, rest, dividend, 31),
+        compare_short(CmpFunc::Btest, quotient, divisor, 31),
+        compute(where_so(rest), AluFunc::Sub, dividend, reg(0), dividend),
+        compute(where_so(quotient), AluFunc::Sub, divisor, reg(0), divisor),
+        combine(PredFunc::Pxor, quotient, rest, quotient),
+    ]
+}
+
+// the bundles of one digit, with the branch behind them
+fn digit() -> [Bundle; 13]
+    ensures { result ≡ specs.digit_tail }
+{
+    let (dividend, divisor) = (reg(DIVIDEND), reg(DIVISOR));
+    let (remainder, spare) = (reg(REMAINDER), reg(SPARE));
+    let (test, second) = (pred(TEST), pred(SECOND));
+    [
+        compare_short(CmpFunc::Btest, second, remainder, 31),
+        with_short(always(), ImmFunc::Sr, spare, dividend, 31),
+        compute(always(), AluFunc::Shadd, remainder, remainder, spare),
+        compute(always(), AluFunc::Add, dividend, dividend, dividend),
+        compare(CmpFunc::Ule, test, divisor, remainder),
+        combine(PredFunc::Por, test, test, second),
+        compute(where_so(test), AluFunc::Sub, remainder, remainder, divisor),
+        with_short(where_so(test), ImmFunc::Add, dividend, dividend, 1),
+        with_short(always(), ImmFunc::Sub, reg(DIGITS), reg(DIGITS), 1),
+        compare_short(CmpFunc::Neq, test, reg(DIGITS), 0),
+        branch(test),
+        idle(),
+        idle(),
+    ]
+}
+
+// all digits
+#[tactic(auto, using(sp_shape::proofs::Plain::plain_repeat))]
+fn digits(alloc: Global) -> Result<Part, OutOfMemory>
+    ensures { IfOk result (λ p. plain_part p ≡ specs.digits) }
+{
+    let tail = listed(alloc, &digit())?;
+    Ok(Part::Repeat {
+        count: 32,
+        body: List::of(Vec::new(alloc)),
+        tail,
+    })
+}
+
+// the digits stand between what is before and what is behind them
+#[tactic(auto, using(crate::proofs::Pushed::around_pushed))]
+fn around(out: &mut Vec<Part>, before: &[Bundle], behind: &[Bundle]) -> Result<(), OutOfMemory>
+    ensures { OnOk result (parts_of out.new.items ≡ joined (parts_of out.old.items) (specs.around before.now behind.now)) }
+{
+    push_straight(out, before)?;
+    let digits = digits(*out.allocator())?;
+    push(out, digits)?;
+    push_straight(out, behind)
+}
+
+/// A division of unsigned words behind the parts, with what makes its answer. It is `Err` where memory runs out.
+pub fn unsigned_division(
+    out: &mut Vec<Part>,
+    behind: &[Bundle],
+    ra: Reg,
+    rb: Reg,
+) -> Result<(), OutOfMemory>
+    ensures { OnOk result (parts_of out.new.items ≡ joined (parts_of out.old.items) (specs.unsigned_division behind.now ra rb)) }
+{
+    around(out, &operands(ra, rb), behind)
+}
+
+/// A division of signed words behind the parts, with what makes its answer. It is `Err` where memory runs out.
+pub fn signed_division(
+    out: &mut Vec<Part>,
+    behind: &[Bundle],
+    ra: Reg,
+    rb: Reg,
+) -> Result<(), OutOfMemory>
+    ensures { OnOk result (parts_of out.new.items ≡ joined (parts_of out.old.items) (specs.signed_division behind.now ra rb)) }
+{
+    let mut before = Vec::new(*out.allocator());
+    before.extend_from_slice(&operands(ra, rb))?;
+    before.extend_from_slice(&without_signs())?;
+    around(out, &before, behind)
+}
+
+/// The quotient goes to a register, 0 where the divisor is 0.
+pub fn quotient_to(rd: Reg) -> [Bundle; 3]
+    ensures { result ≡ specs.quotient_to rd }
+{
+    let test = pred(TEST);
+    [
+        compare_short(CmpFunc::Eq, test, reg(DIVISOR), 0),
+        copy(rd, reg(DIVIDEND)),
+        set_short(where_so(test), rd, 0),
+    ]
+}
+
+/// What is left goes to a register.
+pub fn rest_to(rd: Reg) -> [Bundle; 1]
+    ensures { result ≡ specs.rest_to rd }
+{
+    [copy(rd, reg(REMAINDER))]
+}
+
+/// The quotient of signed words, with its sign.
+pub fn signed_quotient_to(rd: Reg) -> [Bundle; 4]
+    ensures { result ≡ specs.signed_quotient_to rd }
+{
+    let [zero, quotient, none] = quotient_to(rd);
+    [zero, quotient, none, negated(QUOTIENT_NEGATIVE, rd)]
+}
+
+/// What is left of signed words, with its sign.
+pub fn signed_rest_to(rd: Reg) -> [Bundle; 2]
+    ensures { result ≡ specs.signed_rest_to rd }
+{
+    [copy(rd, reg(REMAINDER)), negated(REST_NEGATIVE, rd)]
+}
+
+// a register's word is taken from 0 where a predicate is true
+fn negated(negative: u32, rd: Reg) -> Bundle
+    requires { negative < 8 }
+    ensures { result ≡ code.compute (code.where_so negative) AluFunc.Sub rd 0 rd }
+{
+    compute(where_so(pred(negative)), AluFunc::Sub, rd, reg(0), rd)
+}

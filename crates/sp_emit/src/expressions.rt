@@ -1,0 +1,186 @@
+//! Expressions.
+ghost use Rattle.std.specs.Prelude.{◌≡◌, ◌+◌, ◌<◌, ◌≤◌, nat_lt, true, OnOk, SomeIff, IfSome};
+ghost use Rattle.sp_emit.specs.Expressions as specs;
+ghost use Rattle.sp_shape.specs.Parts.{straight, one, joined};
+ghost use Rattle.sp_shape.specs.Shown.{parts_of};
+ghost use Rattle.sp_tree.specs.Cost.{held_below, is_held};
+ghost use Rattle.sp_emit.specs.Fits.{ExprFits};
+ghost use Rattle.sp_tree.specs.Formed.{cell_formed, array_formed};
+ghost use Rattle.sp_tree.specs.Need.{need};
+ghost use Rattle.sp_tree.specs.Plain.{plain_sp, between_two};
+
+use crate::instructions::{
+    always, compare, compute, load_from, load_slot, set_long, set_short, where_not,
+};
+use crate::operators::{binary, held, held_below, unary};
+use crate::parts::push_straight;
+use crate::registers::{SPARE, TEST, behind, pred, reg};
+use patmos_instr::{AluFunc, CmpFunc, Mem, Reg};
+use sp_shape::Part;
+use sp_tree::{Region, SpArray, SpBinary, SpCell, SpExpr};
+use tc_word::OutOfMemory;
+
+/// The address in bytes of a word of a memory.
+pub fn address_of(region: Region, word: u32) -> u32
+    requires { word < 65536 }
+    ensures { result ≡ specs.address_of region word }
+{
+    let base = match region {
+        Region::Scratch | Region::Private => 0,
+        Region::Comm => 0x1_0000,
+        Region::Shared => 0x100_0000,
+    };
+    base + 4 * word
+}
+
+/// The memory, as instructions name it, in which a variable stands.
+pub fn cell_space(region: Region) -> Mem
+    ensures { result ≡ specs.cell_space region }
+{
+    match region {
+        Region::Scratch | Region::Comm => Mem::L,
+        Region::Private => Mem::C,
+        Region::Shared => Mem::M,
+    }
+}
+
+/// The memory, as instructions name it, in which an array stands.
+pub fn array_space(region: Region) -> Mem
+    ensures { result ≡ specs.array_space region }
+{
+    match region {
+        Region::Scratch | Region::Comm => Mem::L,
+        Region::Private | Region::Shared => Mem::M,
+    }
+}
+
+// the word of a variable goes to a register
+fn cell(out: &mut Vec<Part>, cell: SpCell, rd: Reg) -> Result<(), OutOfMemory>
+    requires { cell_formed cell ≡ true }
+    ensures { OnOk result (parts_of out.new.items ≡ joined (parts_of out.old.items) (one (straight (specs.cell_code cell rd)))) }
+{
+    let bundles = [
+        set_long(rd, address_of(cell.region, cell.word)),
+        load_from(cell_space(cell.region), rd, rd),
+    ];
+    push_straight(out, &bundles)
+}
+
+// the element at the index in a register goes there
+fn element(out: &mut Vec<Part>, array: SpArray, rd: Reg) -> Result<(), OutOfMemory>
+    requires { array_formed array ≡ true }
+    ensures { OnOk result (parts_of out.new.items ≡ joined (parts_of out.old.items) (one (straight (specs.element_code array rd)))) }
+{
+    let spare = reg(SPARE);
+    let test = pred(TEST);
+    let bundles = [
+        set_long(spare, array.length),
+        compare(CmpFunc::Ult, test, rd, spare),
+        set_long(spare, address_of(array.region, array.first)),
+        compute(always(), AluFunc::Shadd2, rd, rd, spare),
+        set_short(where_not(test), rd, 0),
+        load_from(array_space(array.region), rd, rd),
+        set_short(where_not(test), rd, 0),
+    ];
+    push_straight(out, &bundles)
+}
+
+// how many registers an expression takes
+#[tactic(auto, unfolding(sp_tree::specs::Plain::plain_sp))]
+fn need_of(e: &SpExpr) -> u32
+    requires { need (plain_sp e.now) ≤ 21 }
+    ensures { result ≡ need (plain_sp e.now) }
+{
+    match e {
+        SpExpr::Const { .. } | SpExpr::Frame { .. } | SpExpr::Scalar { .. } => 1,
+        SpExpr::Element { index, .. } => need_of(index),
+        SpExpr::Unary { of, .. } => need_of(of),
+        SpExpr::Binary { a, b, .. } => {
+            let (a, b) = (need_of(a), need_of(b));
+            if a < b { b.max(a + 1) } else { a.max(b + 1) }
+        }
+    }
+}
+
+// whether the second operand is worked out first: the one of the greater need is
+fn is_second_first(a: &SpExpr, b: &SpExpr) -> bool
+    requires first { need (plain_sp a.now) ≤ 21 }
+    requires second { need (plain_sp b.now) ≤ 21 }
+    ensures { result ≡ nat_lt (need (plain_sp a.now)) (need (plain_sp b.now)) }
+{
+    need_of(a) < need_of(b)
+}
+
+// the number of a constant that an instruction for the operator holds
+#[tactic(auto, unfolding(sp_tree::specs::Plain::plain_sp))]
+fn held_constant(op: SpBinary, b: &SpExpr) -> Option<u32>
+    ensures held { SomeIff result (is_held op (plain_sp b.now) ≡ true) (specs.number_of (plain_sp b.now)) }
+    ensures below { IfSome result (λ n. n < held_below op) }
+{
+    match b {
+        SpExpr::Const { value } if *value < held_below(op) => Some(*value),
+        _ => None,
+    }
+}
+
+/// The value of an expression goes to a register. It is `Err` where memory runs out.
+#[cycle(expression)]
+#[tactic(auto, using(crate::proofs::Pushed::two_pushed, crate::proofs::Needs::word_named, crate::proofs::Needs::cell_named, crate::proofs::Needs::array_named, crate::proofs::Needs::index_named, crate::proofs::Needs::operand_fits), unfolding(sp_tree::specs::Plain::plain_sp))]
+pub fn expression(out: &mut Vec<Part>, e: &SpExpr, rd: Reg) -> Result<(), OutOfMemory>
+    requires { ExprFits (plain_sp e.now) rd }
+    ensures { OnOk result (parts_of out.new.items ≡ joined (parts_of out.old.items) (specs.expr_code (plain_sp e.now) rd)) }
+{
+    match e {
+        SpExpr::Const { value } => push_straight(out, &[set_long(rd, *value)]),
+        SpExpr::Frame { slot } => push_straight(out, &[load_slot(rd, *slot)]),
+        SpExpr::Scalar { cell: of } => cell(out, *of, rd),
+        SpExpr::Element { array, index } => {
+            expression(out, index, rd)?;
+            element(out, *array, rd)
+        }
+        SpExpr::Unary { op, of } => {
+            expression(out, of, rd)?;
+            unary(out, *op, rd)
+        }
+        SpExpr::Binary { op, a, b } => operands(out, *op, a, b, rd),
+    }
+}
+
+// of two operands the one of the greater need is worked out first
+#[cycle(expression)]
+#[tactic(auto, using(crate::proofs::Pushed::held_pushed, crate::proofs::Pushed::second_pushed, crate::proofs::Pushed::first_pushed, crate::proofs::Needs::few_needs, crate::proofs::Needs::first_fits, crate::proofs::Needs::second_fits, crate::proofs::Needs::first_fits_behind, crate::proofs::Needs::second_fits_behind, crate::proofs::Needs::one_behind))]
+fn operands(
+    out: &mut Vec<Part>,
+    op: SpBinary,
+    a: &SpExpr,
+    b: &SpExpr,
+    rd: Reg,
+) -> Result<(), OutOfMemory>
+    requires { ExprFits (between_two op (plain_sp a.now) (plain_sp b.now)) rd }
+    ensures { OnOk result (parts_of out.new.items ≡ joined (parts_of out.old.items) (specs.expr_code (between_two op (plain_sp a.now) (plain_sp b.now)) rd)) }
+{
+    if let Some(n) = held_constant(op, b) {
+        expression(out, a, rd)?;
+        return held(out, op, rd, n);
+    }
+    if is_second_first(a, b) {
+        values(out, b, a, rd)?;
+        binary(out, op, rd, behind(rd), rd)
+    } else {
+        values(out, a, b, rd)?;
+        binary(out, op, rd, rd, behind(rd))
+    }
+}
+
+// the values of two expressions go to a register and to the one behind it
+#[cycle(expression)]
+#[tactic(auto, using(crate::proofs::Pushed::two_pushed))]
+fn values(out: &mut Vec<Part>, first: &SpExpr, second: &SpExpr, rd: Reg) -> Result<(), OutOfMemory>
+    requires first { ExprFits (plain_sp first.now) rd }
+    requires second { ExprFits (plain_sp second.now) (rd + 1) }
+    requires room { rd + 1 < 32 }
+    ensures { OnOk result (parts_of out.new.items ≡ joined (parts_of out.old.items) (joined (specs.expr_code (plain_sp first.now) rd) (specs.expr_code (plain_sp second.now) (rd + 1)))) }
+{
+    expression(out, first, rd)?;
+    expression(out, second, behind(rd))
+}

@@ -1,0 +1,163 @@
+//! Functions and tasks.
+ghost use Rattle.std.specs.Prelude.{◌≡◌, ◌+◌, ◌++◌, ◌<◌, ◌≤◌, ℕ, true, IfOk, OnOk, length, map, slice_index_or};
+ghost use Rattle.sp_emit.specs.Functions as specs;
+ghost use Rattle.sp_emit.specs.Fits.{FunctionFits};
+ghost use Rattle.sp_shape.specs.Formed as shape;
+ghost use Rattle.sp_shape.specs.Bundles.{is_steady, parts_all, parts_idle};
+ghost use Rattle.sp_shape.specs.Parts.{no_part, straight, one, joined};
+ghost use Rattle.sp_shape.specs.Shown.{parts_of, functions_of, plain_shape};
+ghost use Rattle.sp_shape.specs.Words.{parts_room};
+ghost use Rattle.sp_tree.specs.Cost.{cost};
+ghost use Rattle.sp_tree.specs.Formed as tree;
+ghost use Rattle.sp_tree.specs.Statements.{no_function};
+ghost use Rattle.sp_tree.specs.Shown.{plain_function, plain_unit};
+ghost use Rattle.sp_tree.specs.Shown as trees;
+
+use crate::instructions::{
+    always, copy, from_special, idle, load_slot, returning, stack_op, store_slot, to_special,
+    with_short,
+};
+use crate::parts::{listed, push, push_straight};
+use crate::registers::{FIRST, MASK, OVERRUN, RESULT, SPARE, reg};
+use crate::statements::statements;
+use patmos_instr::{Bundle, ImmFunc, Special, StackFunc, WritableSpecial};
+use sp_shape::{Part, Shape};
+use sp_tree::{SpFunction, SpUnit};
+use std::alloc::Global;
+use tc_word::{List, OutOfMemory};
+
+// the arguments go to the first words
+fn keep_arguments(bundles: &mut Vec<Bundle>, parameters: u32) -> Result<(), OutOfMemory>
+    requires { parameters ≤ 6 }
+    ensures { OnOk result (bundles.new.items ≡ bundles.old.items ++ specs.arguments_kept parameters) }
+{
+    for n in 0..parameters {
+        bundles.push(store_slot(always(), n, reg(FIRST + n)))?;
+    }
+    Ok(())
+}
+
+// a function takes its frame, and keeps its arguments, its mask and the place to which it returns
+#[tactic(auto, using(crate::proofs::Fitting::frame_most, crate::proofs::Fitting::frame_least, crate::proofs::Fitting::few_parameters, crate::proofs::Fitting::mask_fits))]
+fn begin(out: &mut Vec<Part>, f: &SpFunction) -> Result<(), OutOfMemory>
+    requires fits { FunctionFits (plain_function f.now) }
+    ensures { OnOk result (parts_of out.new.items ≡ joined (parts_of out.old.items) (one (straight (specs.function_begin (plain_function f.now))))) }
+{
+    let (mask, spare) = (reg(MASK), reg(SPARE));
+    let mut bundles = Vec::new(*out.allocator());
+    bundles.push(stack_op(StackFunc::Sres, f.frame))?;
+    keep_arguments(&mut bundles, f.parameters)?;
+    bundles.extend_from_slice(&[
+        with_short(always(), ImmFunc::Xor, mask, mask, 1),
+        store_slot(always(), f.mask, mask),
+        from_special(spare, Special::Srb),
+        store_slot(always(), f.frame - 2, spare),
+        from_special(spare, Special::Sro),
+        store_slot(always(), f.frame - 1, spare),
+    ])?;
+    push_straight(out, &bundles)
+}
+
+// a function gives its result and the flag, and frees its frame
+#[tactic(auto, using(crate::proofs::Fitting::frame_most, crate::proofs::Fitting::frame_least, crate::proofs::Fitting::result_fits))]
+fn end_of(f: &SpFunction) -> [Bundle; 7]
+    requires fits { FunctionFits (plain_function f.now) }
+    ensures { result ≡ specs.function_end (plain_function f.now) }
+{
+    let spare = reg(SPARE);
+    [
+        load_slot(spare, f.frame - 2),
+        to_special(WritableSpecial::Srb, spare),
+        load_slot(spare, f.frame - 1),
+        to_special(WritableSpecial::Sro, spare),
+        load_slot(reg(RESULT), f.result),
+        copy(reg(MASK), reg(OVERRUN)),
+        stack_op(StackFunc::Sfree, f.frame),
+    ]
+}
+
+fn end(out: &mut Vec<Part>, f: &SpFunction) -> Result<(), OutOfMemory>
+    requires fits { FunctionFits (plain_function f.now) }
+    ensures { OnOk result (parts_of out.new.items ≡ joined (parts_of out.old.items) (one (straight (specs.function_end (plain_function f.now))))) }
+{
+    push_straight(out, &end_of(f))
+}
+
+// the return
+#[tactic(auto, unfolding(sp_shape::specs::Shown::plain_part))]
+fn leave(out: &mut Vec<Part>) -> Result<(), OutOfMemory>
+    ensures { OnOk result (parts_of out.new.items ≡ joined (parts_of out.old.items) (one specs.leaving)) }
+{
+    let tail = listed(*out.allocator(), &[returning(), idle(), idle(), idle()])?;
+    push(out, Part::Leave { tail })
+}
+
+// the code of a function
+#[tactic(auto, using(crate::proofs::Pushed::function_pushed, crate::proofs::Fitting::frame_least, crate::proofs::Fitting::body_fits))]
+fn function(alloc: Global, f: &SpFunction) -> Result<List<Part>, OutOfMemory>
+    requires fits { FunctionFits (plain_function f.now) }
+    ensures { IfOk result (λ parts. parts_of parts ≡ specs.function_code (plain_function f.now)) }
+{
+    let mut parts = Vec::new(alloc);
+    begin(&mut parts, f)?;
+    statements(&mut parts, f.body.as_slice(), f.frame, f.frame - 3)?;
+    end(&mut parts, f)?;
+    leave(&mut parts)?;
+    Ok(List::of(parts))
+}
+
+// the code of functions
+#[tactic(auto, using(crate::proofs::Fitting::function_fits))]
+fn functions(alloc: Global, fs: &[SpFunction]) -> Result<List<List<Part>>, OutOfMemory>
+    requires formed { tree.functions_formed (trees.functions_of fs.now) (length fs.now) ≡ true }
+    ensures { IfOk result (λ made. functions_of made ≡ map specs.function_code (trees.functions_of fs.now)) }
+{
+    let mut made = Vec::new(alloc);
+    for f in fs {
+        let parts = function(alloc, f)?;
+        made.push(parts)?;
+    }
+    Ok(List::of(made))
+}
+
+// the same words once more
+fn words(alloc: Global, words: &[u32]) -> Result<List<u32>, OutOfMemory>
+    ensures { IfOk result (λ list. list ≡ words.now) }
+{
+    let mut list = Vec::new(alloc);
+    list.extend_from_slice(words)?;
+    Ok(List::of(list))
+}
+
+// the shape of the definition
+fn shape_of(alloc: Global, unit: &SpUnit) -> Result<Shape, OutOfMemory>
+    requires { tree.is_formed (plain_unit unit.now) ≡ true }
+    ensures { IfOk result (λ s. plain_shape s ≡ specs.emitted (plain_unit unit.now)) }
+{
+    let functions = functions(alloc, unit.functions.as_slice())?;
+    let initial = words(alloc, unit.initial.as_slice())?;
+    Ok(Shape {
+        functions,
+        entry: unit.entry,
+        initial,
+        input_at: unit.input_at,
+        input_room: unit.input_room,
+    })
+}
+
+/// The code of a task's single-path trees, in the parts of a shape. It takes memory for all of it, and is `Err` where
+/// memory runs out.
+pub fn emit(alloc: Global, unit: &SpUnit) -> Result<Shape, OutOfMemory>
+    requires formed { tree.is_formed (plain_unit unit.now) ≡ true }
+    ensures told { IfOk result (λ s. plain_shape s ≡ specs.emitted (plain_unit unit.now)) }
+    ensures formed { IfOk result (λ s. shape.is_formed (plain_shape s) ≡ true) }
+    ensures slots { IfOk result (λ s. (k : ℕ) → k < length (plain_unit unit.now).functions
+        → parts_idle (slice_index_or (plain_shape s).functions k no_part) ≡ true) }
+    ensures steady { IfOk result (λ s. (k : ℕ) → k < length (plain_unit unit.now).functions
+        → parts_all is_steady (slice_index_or (plain_shape s).functions k no_part) ≡ true) }
+    ensures room { IfOk result (λ s. (k : ℕ) → k < length (plain_unit unit.now).functions
+        → 1 + parts_room (slice_index_or (plain_shape s).functions k no_part) ≤ cost (slice_index_or (plain_unit unit.now).functions k no_function)) }
+{
+    let shape = shape_of(alloc, unit)?;
+    Ok(shape)
+}

@@ -1,0 +1,40 @@
+//! Code for single-path trees.
+//!
+//! Each construct of a tree has its bundles, one instruction in each, whatever the masks and the values are: so a tree's
+//! code always runs the same bundles. What is off is kept off by a predicate where it is a word of the stack, of the
+//! scratchpad, of communication memory or of the interface; a word of main memory is then stored at word 0, which nothing
+//! else uses, so that the transactions are the same too.
+//!
+//! [`emit`] writes the code of a well-formed task, as the shape that `specs/Functions.antt` defines. It promises besides
+//! that the shape is well formed, that its delay slots do nothing, that whatever may have a transaction with main memory
+//! is always done, and that a function takes at most as many words as its tree costs. That the code does what the tree
+//! means is not proved yet; worked examples show it of small tasks.
+//!
+//! - `specs/Instructions.antt` has the bundles, `src/registers.rt` which registers they use for what.
+//! - `specs/Expressions.antt` and `specs/Division.antt` have the code of values, `specs/Statements.antt` that of what
+//!   statements do, `specs/Functions.antt` that of functions and tasks.
+//! - `specs/Fits.antt` says when a statement's code fits a frame, `specs/Ran.antt` what comes of a task's code.
+//!
+//! What its words mean stands in [the glossary](../../../docs/GLOSSARY.md).
+#![tactic(auto)]
+
+mod calls;
+mod division;
+mod expressions;
+mod functions;
+mod instructions;
+mod operators;
+mod parts;
+mod registers;
+mod statements;
+#[cfg(test)]
+mod tests;
+mod worked;
+mod writes;
+
+pub use functions::emit;
+pub use registers::{
+    DIGITS, DIVIDEND, DIVISOR, FIRST, MASK, OVERRUN, QUOTIENT_NEGATIVE, REMAINDER, REST_NEGATIVE,
+    RESULT, SECOND, SPARE, TEST,
+};
+pub use worked::{worked_calls, worked_divisions, worked_effects};

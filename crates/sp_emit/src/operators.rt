@@ -1,0 +1,167 @@
+//! Operators on the words of registers.
+ghost use Rattle.std.specs.Prelude.{◌≡◌, ◌<◌, OnOk};
+ghost use Rattle.sp_emit.specs.Expressions as specs;
+ghost use Rattle.sp_shape.specs.Parts.{straight, one, joined};
+ghost use Rattle.sp_shape.specs.Shown.{parts_of};
+ghost use Rattle.sp_tree.specs.Cost.{held_below};
+
+use crate::division::{
+    quotient_to, rest_to, signed_division, signed_quotient_to, signed_rest_to, unsigned_division,
+};
+use crate::instructions::{
+    always, combine, compare, compare_short, compute, from_special, multiply, set_short, where_so,
+    with_short,
+};
+use crate::parts::push_straight;
+use crate::registers::{SECOND, TEST, pred, reg};
+use patmos_instr::{AluFunc, Bundle, CmpFunc, ImmFunc, PredFunc, Reg, Special};
+use sp_shape::Part;
+use sp_tree::{SpBinary, SpUnary};
+use tc_word::OutOfMemory;
+
+// 1 where the test is true, else 0
+fn truth_to(rd: Reg) -> [Bundle; 2]
+    ensures { result ≡ specs.truth_to rd }
+{
+    [
+        set_short(always(), rd, 0),
+        set_short(where_so(pred(TEST)), rd, 1),
+    ]
+}
+
+/// The value of an operator on a register's word goes there. It is `Err` where memory runs out.
+pub fn unary(out: &mut Vec<Part>, op: SpUnary, rd: Reg) -> Result<(), OutOfMemory>
+    ensures { OnOk result (parts_of out.new.items ≡ joined (parts_of out.old.items) (one (straight (specs.unary_code op rd)))) }
+{
+    match op {
+        SpUnary::Minus => push_straight(out, &[compute(always(), AluFunc::Sub, rd, reg(0), rd)]),
+        SpUnary::Complement => {
+            push_straight(out, &[compute(always(), AluFunc::Nor, rd, rd, reg(0))])
+        }
+        SpUnary::Not => {
+            let [zero, one] = truth_to(rd);
+            let test = compare_short(CmpFunc::Eq, pred(TEST), rd, 0);
+            push_straight(out, &[test, zero, one])
+        }
+    }
+}
+
+// `||` and `&&`
+fn both(out: &mut Vec<Part>, func: PredFunc, rd: Reg, ra: Reg, rb: Reg) -> Result<(), OutOfMemory>
+    ensures { OnOk result (parts_of out.new.items ≡ joined (parts_of out.old.items) (one (straight (specs.both_code func rd ra rb)))) }
+{
+    let (test, second) = (pred(TEST), pred(SECOND));
+    let [zero, one] = truth_to(rd);
+    let bundles = [
+        compare_short(CmpFunc::Neq, test, ra, 0),
+        compare_short(CmpFunc::Neq, second, rb, 0),
+        combine(func, test, test, second),
+        zero,
+        one,
+    ];
+    push_straight(out, &bundles)
+}
+
+// a comparison
+fn compared(
+    out: &mut Vec<Part>,
+    func: CmpFunc,
+    rd: Reg,
+    ra: Reg,
+    rb: Reg,
+) -> Result<(), OutOfMemory>
+    ensures { OnOk result (parts_of out.new.items ≡ joined (parts_of out.old.items) (one (straight (specs.compared_code func rd ra rb)))) }
+{
+    let [zero, one] = truth_to(rd);
+    push_straight(out, &[compare(func, pred(TEST), ra, rb), zero, one])
+}
+
+// what one instruction gives
+fn computed(
+    out: &mut Vec<Part>,
+    func: AluFunc,
+    rd: Reg,
+    ra: Reg,
+    rb: Reg,
+) -> Result<(), OutOfMemory>
+    ensures { OnOk result (parts_of out.new.items ≡ joined (parts_of out.old.items) (specs.computed func rd ra rb)) }
+{
+    push_straight(out, &[compute(always(), func, rd, ra, rb)])
+}
+
+/// The value of an operator on the words of two registers goes to one. It is `Err` where memory runs out.
+pub fn binary(
+    out: &mut Vec<Part>,
+    op: SpBinary,
+    rd: Reg,
+    ra: Reg,
+    rb: Reg,
+) -> Result<(), OutOfMemory>
+    ensures { OnOk result (parts_of out.new.items ≡ joined (parts_of out.old.items) (specs.binary_code op rd ra rb)) }
+{
+    match op {
+        SpBinary::Or => both(out, PredFunc::Por, rd, ra, rb),
+        SpBinary::And => both(out, PredFunc::Pand, rd, ra, rb),
+        SpBinary::BitOr => computed(out, AluFunc::Or, rd, ra, rb),
+        SpBinary::BitXor => computed(out, AluFunc::Xor, rd, ra, rb),
+        SpBinary::BitAnd => computed(out, AluFunc::And, rd, ra, rb),
+        SpBinary::Equal => compared(out, CmpFunc::Eq, rd, ra, rb),
+        SpBinary::NotEqual => compared(out, CmpFunc::Neq, rd, ra, rb),
+        SpBinary::Less => compared(out, CmpFunc::Lt, rd, ra, rb),
+        SpBinary::LessUnsigned => compared(out, CmpFunc::Ult, rd, ra, rb),
+        SpBinary::LessEqual => compared(out, CmpFunc::Le, rd, ra, rb),
+        SpBinary::LessEqualUnsigned => compared(out, CmpFunc::Ule, rd, ra, rb),
+        SpBinary::ShiftLeft => computed(out, AluFunc::Sl, rd, ra, rb),
+        SpBinary::ShiftRight => computed(out, AluFunc::Sra, rd, ra, rb),
+        SpBinary::ShiftRightUnsigned => computed(out, AluFunc::Sr, rd, ra, rb),
+        SpBinary::Plus => computed(out, AluFunc::Add, rd, ra, rb),
+        SpBinary::Minus => computed(out, AluFunc::Sub, rd, ra, rb),
+        SpBinary::Times => push_straight(out, &[multiply(ra, rb), from_special(rd, Special::Sl)]),
+        SpBinary::Divide => signed_division(out, &signed_quotient_to(rd), ra, rb),
+        SpBinary::DivideUnsigned => unsigned_division(out, &quotient_to(rd), ra, rb),
+        SpBinary::Remainder => signed_division(out, &signed_rest_to(rd), ra, rb),
+        SpBinary::RemainderUnsigned => unsigned_division(out, &rest_to(rd), ra, rb),
+    }
+}
+
+// a comparison with a constant that an instruction holds
+fn held_compared(out: &mut Vec<Part>, func: CmpFunc, rd: Reg, n: u32) -> Result<(), OutOfMemory>
+    requires { n < 32 }
+    ensures { OnOk result (parts_of out.new.items ≡ joined (parts_of out.old.items) (one (straight (specs.held_compared func rd n)))) }
+{
+    let [zero, one] = truth_to(rd);
+    push_straight(out, &[compare_short(func, pred(TEST), rd, n), zero, one])
+}
+
+/// The constants that an instruction for an operator holds as its second operand are those below this number.
+pub fn held_below(op: SpBinary) -> u32
+    ensures { result ≡ held_below op }
+{
+    match op {
+        SpBinary::BitAnd => 4096,
+        SpBinary::Equal
+        | SpBinary::NotEqual
+        | SpBinary::Less
+        | SpBinary::LessUnsigned
+        | SpBinary::LessEqual
+        | SpBinary::LessEqualUnsigned => 32,
+        _ => 0,
+    }
+}
+
+/// The value of an operator on a register's word and such a constant goes there. It is `Err` where memory runs out.
+pub fn held(out: &mut Vec<Part>, op: SpBinary, rd: Reg, n: u32) -> Result<(), OutOfMemory>
+    requires { n < held_below op }
+    ensures { OnOk result (parts_of out.new.items ≡ joined (parts_of out.old.items) (one (straight (specs.held_code op rd n)))) }
+{
+    match op {
+        SpBinary::BitAnd => push_straight(out, &[with_short(always(), ImmFunc::And, rd, rd, n)]),
+        SpBinary::Equal => held_compared(out, CmpFunc::Eq, rd, n),
+        SpBinary::NotEqual => held_compared(out, CmpFunc::Neq, rd, n),
+        SpBinary::Less => held_compared(out, CmpFunc::Lt, rd, n),
+        SpBinary::LessUnsigned => held_compared(out, CmpFunc::Ult, rd, n),
+        SpBinary::LessEqual => held_compared(out, CmpFunc::Le, rd, n),
+        SpBinary::LessEqualUnsigned => held_compared(out, CmpFunc::Ule, rd, n),
+        _ => unreachable!(),
+    }
+}

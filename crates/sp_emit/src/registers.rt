@@ -1,0 +1,69 @@
+//! Which registers compiled code uses for what. Those from [`FIRST`] on hold the values of expressions, and a function's
+//! arguments, one behind another; those from [`SPARE`] on what an operator or a statement needs beside them.
+ghost use Rattle.std.specs.Prelude.{◌≡◌, ◌+◌, ◌<◌, ◌%◌, ◌^◌};
+
+use patmos_instr::{Pred, Reg};
+
+/// What a function gives.
+pub const RESULT: u32 = 1;
+
+/// The mask that a function is run under, with its lowest bit inverted: a task begins with 0 here, which is the mask 1.
+/// A function ends with the task's flag here.
+pub const MASK: u32 = 2;
+
+/// The first value of a statement, and a function's first argument.
+pub const FIRST: u32 = 3;
+
+/// A word that is used at once: an address, a length, a mask, a bit.
+pub const SPARE: u32 = 21;
+
+/// What is divided; while it is, the digits of the quotient come in from the right.
+pub const DIVIDEND: u32 = 22;
+
+/// By what it is divided.
+pub const DIVISOR: u32 = 23;
+
+/// What is left of the digits that were taken so far.
+pub const REMAINDER: u32 = 24;
+
+/// How many digits are still to be taken.
+pub const DIGITS: u32 = 25;
+
+/// Whether a loop went past its bound, in all functions of the task: 0 or 1.
+pub const OVERRUN: u32 = 26;
+
+/// The predicate of a test, or of a mask.
+pub const TEST: u32 = 1;
+
+/// The predicate of a second test, which is joined with the first; and the highest bit of what is left in a division.
+pub const SECOND: u32 = 2;
+
+/// The predicate that what is left of a signed division is negative.
+pub const REST_NEGATIVE: u32 = 3;
+
+/// The predicate that the quotient is negative.
+pub const QUOTIENT_NEGATIVE: u32 = 4;
+
+/// The register of a number.
+pub fn reg(number: u32) -> Reg
+    requires { number < 32 }
+    ensures { result ≡ number }
+{
+    Reg::low(number)
+}
+
+/// The predicate of a number.
+pub fn pred(number: u32) -> Pred
+    requires { number < 8 }
+    ensures { result ≡ number }
+{
+    Pred::low(number)
+}
+
+/// The register behind one.
+pub fn behind(rd: Reg) -> Reg
+    requires { rd + 1 < 32 }
+    ensures { result ≡ rd + 1 }
+{
+    Reg::low(rd.number() + 1)
+}

@@ -1,0 +1,189 @@
+//! Statements.
+ghost use Rattle.std.specs.Prelude.{◌≡◌, ◌+◌, ◌<◌, map, OnOk};
+ghost use Rattle.sp_emit.specs.Fits.{ExprFits, ArgsFit, PlaceFits, StmtFits, StmtsFit};
+ghost use Rattle.sp_emit.specs.Statements as specs;
+ghost use Rattle.sp_shape.specs.Parts.{joined};
+ghost use Rattle.sp_shape.specs.Shown.{parts_of};
+ghost use Rattle.sp_tree.specs.Plain.{plain_sp};
+ghost use Rattle.sp_tree.specs.Shown.{plain_place, plain_stmt, stmts_of};
+ghost use Rattle.sp_tree.specs.Statements as plain;
+ghost use Rattle.sp_emit.specs.Expressions.{expr_code};
+ghost use Rattle.sp_emit.specs.declared.registers.TheConstants.{FIRST};
+
+use crate::calls::{begin_turns, call_of, overrun, repeat, send};
+use crate::expressions::expression;
+use crate::instructions::{always, store_slot};
+use crate::parts::push_straight;
+use crate::registers::{FIRST, behind, reg};
+use crate::writes::{cell_write, element_write, slot_write};
+use patmos_instr::Reg;
+use sp_shape::Part;
+use sp_tree::{SpExpr, SpPlace, SpStmt};
+use tc_word::OutOfMemory;
+
+// a place is set to the value in the first register
+#[tactic(auto, using(crate::proofs::Pushed::two_pushed, crate::proofs::Fitting::place_mask, crate::proofs::Fitting::slot_fits, crate::proofs::Fitting::index_fits, crate::proofs::Fitting::cell_fits, crate::proofs::Fitting::array_fits))]
+fn place(out: &mut Vec<Part>, mask: u32, to: &SpPlace) -> Result<(), OutOfMemory>
+    requires fits { PlaceFits mask (plain_place to.now) }
+    ensures { OnOk result (parts_of out.new.items ≡ joined (parts_of out.old.items) (specs.place_write mask (plain_place to.now))) }
+{
+    match to {
+        SpPlace::Frame { slot } => slot_write(out, mask, *slot),
+        SpPlace::Scalar { cell } => cell_write(out, mask, *cell),
+        SpPlace::Element { array, index } => {
+            expression(out, index, behind(reg(FIRST)))?;
+            element_write(out, mask, *array)
+        }
+    }
+}
+
+// the values of arguments go to registers, one behind another
+#[tactic(auto, using(crate::proofs::Fitting::first_argument, crate::proofs::Fitting::room_behind))]
+fn arguments(out: &mut Vec<Part>, args: &[SpExpr], first: Reg) -> Result<(), OutOfMemory>
+    requires fits { ArgsFit (map plain_sp args.now) first }
+    ensures { OnOk result (parts_of out.new.items ≡ joined (parts_of out.old.items) (specs.args_code (map plain_sp args.now) first)) }
+{
+    let mut rd = first;
+    for e in args {
+        expression(out, e, rd)?;
+        rd = behind(rd);
+    }
+    Ok(())
+}
+
+// the values of a send go to registers
+#[tactic(auto, using(crate::proofs::Pushed::three_pushed))]
+fn send_values(
+    out: &mut Vec<Part>,
+    source: &SpExpr,
+    target: &SpExpr,
+    count: &SpExpr,
+) -> Result<(), OutOfMemory>
+    requires source { ExprFits (plain_sp source.now) FIRST }
+    requires target { ExprFits (plain_sp target.now) (FIRST + 1) }
+    requires count { ExprFits (plain_sp count.now) (FIRST + 2) }
+    ensures { OnOk result (parts_of out.new.items ≡ joined (parts_of out.old.items)
+        (joined (expr_code (plain_sp source.now) FIRST) (joined (expr_code (plain_sp target.now) (FIRST + 1)) (expr_code (plain_sp count.now) (FIRST + 2))))) }
+{
+    let first = reg(FIRST);
+    let second = behind(first);
+    expression(out, source, first)?;
+    expression(out, target, second)?;
+    expression(out, count, behind(second))
+}
+
+// a send with its values
+#[tactic(auto, using(crate::proofs::Pushed::send_pushed))]
+fn send_of(
+    out: &mut Vec<Part>,
+    mask: u32,
+    core: u32,
+    source: &SpExpr,
+    target: &SpExpr,
+    count: &SpExpr,
+) -> Result<(), OutOfMemory>
+    requires mask { mask < 128 }
+    requires core { core < 16 }
+    requires source { ExprFits (plain_sp source.now) FIRST }
+    requires target { ExprFits (plain_sp target.now) (FIRST + 1) }
+    requires count { ExprFits (plain_sp count.now) (FIRST + 2) }
+    ensures { OnOk result (parts_of out.new.items ≡ joined (parts_of out.old.items)
+        (specs.stmt_code 0 0 (plain.transfers mask core (plain_sp source.now) (plain_sp target.now) (plain_sp count.now)))) }
+{
+    send_values(out, source, target, count)?;
+    send(out, mask, core)
+}
+
+// a word of the frame is set in any case
+fn set_slot(out: &mut Vec<Part>, slot: u32) -> Result<(), OutOfMemory>
+    requires { slot < 128 }
+    ensures { OnOk result (parts_of out.new.items ≡ joined (parts_of out.old.items) (specs.slot_set slot)) }
+{
+    push_straight(out, &[store_slot(always(), slot, reg(FIRST))])
+}
+
+/// The code of a statement stands behind the parts. It is `Err` where memory runs out.
+#[cycle(statement)]
+#[tactic(auto, using(crate::proofs::Pushed::two_pushed, crate::proofs::Fitting::masks_value, crate::proofs::Fitting::masks_slot, crate::proofs::Fitting::writes_value, crate::proofs::Fitting::writes_place, crate::proofs::Fitting::calls_mask, crate::proofs::Fitting::calls_args, crate::proofs::Fitting::calls_result, crate::proofs::Fitting::sends_mask, crate::proofs::Fitting::sends_core, crate::proofs::Fitting::sends_source, crate::proofs::Fitting::sends_target, crate::proofs::Fitting::sends_count, crate::proofs::Fitting::overruns_mask, crate::proofs::Fitting::overruns_value), unfolding(sp_tree::specs::Shown::plain_stmt))]
+pub fn statement(
+    out: &mut Vec<Part>,
+    t: &SpStmt,
+    frame: u32,
+    counter: u32,
+) -> Result<(), OutOfMemory>
+    requires fits { StmtFits frame counter (plain_stmt t.now) }
+    ensures { OnOk result (parts_of out.new.items ≡ joined (parts_of out.old.items) (specs.stmt_code frame counter (plain_stmt t.now))) }
+{
+    match t {
+        SpStmt::Mask { slot, value } => {
+            expression(out, value, reg(FIRST))?;
+            set_slot(out, *slot)
+        }
+        SpStmt::Write {
+            mask,
+            place: to,
+            value,
+        } => {
+            expression(out, value, reg(FIRST))?;
+            place(out, *mask, to)
+        }
+        SpStmt::Call {
+            mask,
+            function,
+            args,
+            result,
+        } => {
+            arguments(out, args.as_slice(), reg(FIRST))?;
+            call_of(out, frame, *mask, *function, *result)
+        }
+        SpStmt::Send {
+            mask,
+            core,
+            source,
+            target,
+            count,
+        } => send_of(out, *mask, *core, source, target, count),
+        SpStmt::Overrun { mask, value } => {
+            expression(out, value, reg(FIRST))?;
+            overrun(out, *mask)
+        }
+        SpStmt::Turns { count, body } => turns(out, *count, body.as_slice(), frame, counter),
+    }
+}
+
+// so many turns of statements
+#[cycle(statement)]
+#[tactic(auto, using(crate::proofs::Pushed::turns_pushed, crate::proofs::Fitting::counter_fits, crate::proofs::Fitting::counter_some, crate::proofs::Fitting::turns_body))]
+fn turns(
+    out: &mut Vec<Part>,
+    count: u32,
+    body: &[SpStmt],
+    frame: u32,
+    counter: u32,
+) -> Result<(), OutOfMemory>
+    requires fits { StmtFits frame counter (plain.turns count (stmts_of body.now)) }
+    ensures { OnOk result (parts_of out.new.items ≡ joined (parts_of out.old.items) (specs.stmt_code frame counter (plain.turns count (stmts_of body.now)))) }
+{
+    begin_turns(out, counter, count)?;
+    let mut turn = Vec::new(*out.allocator());
+    statements(&mut turn, body, frame, counter - 1)?;
+    repeat(out, counter, count, turn)
+}
+
+/// The code of statements stands behind the parts. It is `Err` where memory runs out.
+#[cycle(statement)]
+#[tactic(auto)]
+pub fn statements(
+    out: &mut Vec<Part>,
+    body: &[SpStmt],
+    frame: u32,
+    counter: u32,
+) -> Result<(), OutOfMemory>
+    requires fits { StmtsFit frame counter (stmts_of body.now) }
+    ensures { OnOk result (parts_of out.new.items ≡ joined (parts_of out.old.items) (specs.stmts_code frame counter (stmts_of body.now))) }
+{
+    for t in body {
+        statement(out, t, frame, counter)?;
+    }
+    Ok(())
+}
