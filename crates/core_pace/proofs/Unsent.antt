@@ -241,12 +241,6 @@ forgets_slot u y = by (is_due u y.core.plain)
 
 -- ---- a flow
 
-forgets_gone : (goal : Goal) (c : Core) → gone goal (unsent c) ≡ unsent (gone goal c)
-forgets_gone (Within offset) c = refl
-forgets_gone (Call target) c = refl
-forgets_gone (Fill target) c = refl
-forgets_gone (Return base offset) c = refl
-
 forgets_taken : (u : ℕ) (goal : Goal) (c : Core) → taken u goal (unsent c) ≡ unsent (taken u goal c)
 forgets_taken u (Within offset) c = by (is_placed (Within offset) c.plain)
   where

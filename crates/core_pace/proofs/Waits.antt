@@ -15,7 +15,6 @@ use Rattle.patmos_model.proofs.Leaves.{Leaves}
 use Rattle.core_pace.specs.Moment.{Moment, core_in, done_in, interfaced, finished, Passes, before}
 use Rattle.core_pace.specs.Next.{acting, next_cycle, waited, until, freed}
 use Rattle.core_pace.specs.Growth.{IsSameTask}
-use Rattle.core_pace.specs.Pace.{pace_of}
 use Rattle.core_pace.proofs.Parts.{leaves_then, fed_leaves, by_task_in_parts, by_nothing, with_interface_left}
 use Rattle.core_pace.proofs.OwnActs.{Sleeps, asleep, none_done, idle_or_busy, sleeps_early, sleeps_unslotted}
 
@@ -61,9 +60,6 @@ module _ (n core : ℕ) where
 
   pub until_cycle : (u : ℕ) (m : Moment) → m.cycle ≤ u → (until n core u m).cycle ≡ u
   until_cycle u m reached = waited_cycle (u - m.cycle) m ∙ omega (arith, reached)
-
-  pub waited_pace : (d : ℕ) (m : Moment) → pace_of (core_in (waited n core d m)) ≡ pace_of (core_in m)
-  waited_pace d m = ap pace_of (waited_same d m)
 
   -- what the task does by a program is left of its core by that alone
   pub acting_leaves : (P : Core → Type 0) (p : Prog Acted) (m : Moment) → Leaves (λ y. P y.core) p → P (core_in (acting n core p m))

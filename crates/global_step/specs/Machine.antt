@@ -3,13 +3,13 @@
 -- and what a core does in a cycle in patmos_model.
 use Rattle.std.specs.Prelude.{ℕ, List, [], length, None, Some, slice_get}
 use Rattle.shared_order.specs.declared.operation.Operation.{Operation}
-use Rattle.shared_order.specs.Operation.{loads, operations_of as operations_among}
+use Rattle.shared_order.specs.Operation.{operations_of as operations_among}
 use Rattle.shared_order.specs.Machine.{State, cycled}
 use Rattle.patmos_model.specs.declared.state.CoreState.{CoreState}
 use Rattle.patmos_model.specs.State.{Core}
 use Rattle.patmos_model.specs.Begin.{begun, idle, no_code}
 use Rattle.patmos_model.specs.Cycle.{turn}
-use Rattle.patmos_model.specs.Apart.{site_of, followed}
+use Rattle.patmos_model.specs.Apart.{site_of}
 use Rattle.patmos_model.specs.Outcome.{state_at}
 use Rattle.global_step.specs.declared.loaded.LoadedCore.{LoadedCore}
 use Rattle.global_step.specs.Loaded.{Machine}
@@ -47,8 +47,3 @@ all_operations m = (at_limit m).made
 
 abbrev pub operations_of : Machine → ℕ → List Operation
 operations_of m core = operations_among (length m.cores) core (all_operations m)
-
--- those of the core's task itself, without those of its interface
-abbrev pub task_operations : Machine → ℕ → List Operation
-task_operations m core =
-    (followed (length m.cores) core (core_among m.cores core) (loads (operations_of m core)) m.limit).own

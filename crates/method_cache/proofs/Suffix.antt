@@ -14,9 +14,6 @@ fits_push methods method = rw (length-append methods (method ∷ []), sum_by_pus
 overfull : (methods : List Method) (method : Method) → fits methods ≡ false → fits (methods ++ method ∷ []) ≡ false
 overfull methods method full = let e = fits_push methods method in grind (arith, nat_tests, e)
 
-pub resident_drops : (oldest : Method) (later : List Method) → fits (oldest ∷ later) ≡ false → resident (oldest ∷ later) ≡ resident later
-resident_drops oldest later full = rw full refl
-
 pub resident_keeps : (methods : List Method) → fits methods ≡ true → resident methods ≡ methods
 resident_keeps [] all = refl
 resident_keeps (oldest ∷ later) all = rw all refl

@@ -1,11 +1,10 @@
 -- Each list holds at the place of a number what has that number, and the numbers fit their fields.
 use Rattle.std.proofs.Common.{◌≡◌, ℕ, ◌<◌, ◌%◌, refl, Some, slice_get, slice_index_or, arith}
 use Rattle.std.proofs.lemmas.Grind.{common_steps}
-use Rattle.patmos_instr.specs.Functions.{imm_func_number, imm_funcs, alu_func_number, alu_funcs, cmp_func_number, cmp_funcs, pred_func_number, pred_funcs, stack_func_number, stack_funcs}
+use Rattle.patmos_instr.specs.Functions.{imm_func_number, alu_func_number, alu_funcs, cmp_func_number, cmp_funcs, pred_func_number, pred_funcs, stack_func_number, stack_funcs}
 use Rattle.patmos_instr.specs.Specials.{special_number, specials, writable_special_number, writable_specials}
 use Rattle.patmos_instr.specs.Memories.{mem_number, mems, width_number, widths, store_width_number, store_widths, mem_of}
 use Rattle.patmos_instr.specs.declared.functions.ImmFunc.{ImmFunc}
-use Rattle.patmos_instr.specs.declared.functions.ImmFunc.TheVariants as imm_func
 use Rattle.patmos_instr.specs.declared.functions.AluFunc.{AluFunc}
 use Rattle.patmos_instr.specs.declared.functions.AluFunc.TheVariants as alu_func
 use Rattle.patmos_instr.specs.declared.functions.CmpFunc.{CmpFunc}
@@ -27,9 +26,6 @@ use Rattle.patmos_instr.specs.declared.memories.StoreWidth.TheVariants as store_
 
 pub imm_func_small : (x : ImmFunc) → imm_func_number x < 8
 imm_func_small x = grind (arith, common_steps)
-
-pub imm_func_back : (x : ImmFunc) → slice_get imm_funcs (imm_func_number x) ≡ Some x
-imm_func_back x = elim x as (λ y. slice_get imm_funcs (imm_func_number y) ≡ Some y) [ imm_func.Add ↦ refl | _ ↦ refl ]
 
 pub alu_func_small : (x : AluFunc) → alu_func_number x < 11
 alu_func_small x = grind (arith, common_steps)

@@ -46,7 +46,33 @@ pub fn write_back(regs: &mut Regs, bundle: &Bundle, st: u32, ss: u32)
 }
 
 // carries out a bundle of one instruction
+#[inline(always)]
 fn write_single(regs: &mut Regs, instr: &Instr, st: u32, ss: u32)
+    ensures registers { regs.new ≡ after_bundle st ss (record { first = instr.now; second = None }) regs.old }
+    ensures pending { regs.new.pending ≡ slot_begun regs.old instr.now }
+{
+    if regs.waits() {
+        write_behind(regs, instr, st, ss);
+    } else {
+        write_alone(regs, instr, st, ss);
+    }
+}
+
+// carries it out where nothing is pending, as before most bundles
+#[inline(always)]
+fn write_alone(regs: &mut Regs, instr: &Instr, st: u32, ss: u32)
+    requires nothing { regs.old.pending ≡ pending.Nothing }
+    ensures registers { regs.new ≡ after_bundle st ss (record { first = instr.now; second = None }) regs.old }
+    ensures pending { regs.new.pending ≡ slot_begun regs.old instr.now }
+{
+    let begun = begin(regs, instr);
+    let first = slot(regs, instr, st, ss);
+    regs.end_alone(first, begun);
+}
+
+// carries it out where something may be pending
+#[inline(never)]
+fn write_behind(regs: &mut Regs, instr: &Instr, st: u32, ss: u32)
     ensures registers { regs.new ≡ after_bundle st ss (record { first = instr.now; second = None }) regs.old }
     ensures pending { regs.new.pending ≡ slot_begun regs.old instr.now }
 {
@@ -56,6 +82,7 @@ fn write_single(regs: &mut Regs, instr: &Instr, st: u32, ss: u32)
 }
 
 // carries out a bundle of two instructions
+#[inline(never)]
 fn write_pair(regs: &mut Regs, instr: &Instr, other: &Instr, st: u32, ss: u32)
     ensures registers { regs.new ≡ after_bundle st ss (record { first = instr.now; second = Some other.now }) regs.old }
     ensures pending { regs.new.pending ≡ slot_begun regs.old instr.now }
@@ -75,6 +102,7 @@ pub fn arrive(regs: &mut Regs, rd: Reg, value: u32)
 }
 
 // the write of a slot
+#[inline(always)]
 fn slot(regs: &Regs, instr: &Instr, st: u32, ss: u32) -> Write
     ensures { result ≡ slot_write st ss regs.now instr.now }
 {
@@ -86,6 +114,7 @@ fn slot(regs: &Regs, instr: &Instr, st: u32, ss: u32) -> Write
 }
 
 // the write of an operation
+#[inline(always)]
 fn write_by(regs: &Regs, op: &Op, st: u32, ss: u32) -> Write
     ensures { result ≡ write_of st ss regs.now op.now }
 {

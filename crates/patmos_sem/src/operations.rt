@@ -21,6 +21,7 @@ fn wide(func: ImmFunc) -> AluFunc
 }
 
 // an operation on two words
+#[inline(always)]
 pub fn operate(func: AluFunc, a: u32, b: u32) -> u32
     ensures { result ≡ alu_value func a b }
 {
@@ -40,6 +41,7 @@ pub fn operate(func: AluFunc, a: u32, b: u32) -> u32
 }
 
 // an operation on a word and an immediate
+#[inline(always)]
 pub fn operate_short(func: ImmFunc, a: u32, imm: u32) -> u32
     ensures { result ≡ alu_value (alu_of func) a imm }
 {
@@ -62,6 +64,7 @@ pub fn bit(word: u32, k: u32) -> bool
 }
 
 // a compare of two words
+#[inline(always)]
 pub fn compare(func: CmpFunc, a: u32, b: u32) -> bool
     ensures { result ≡ compare_value func a b }
 {

@@ -32,8 +32,9 @@ impl Model for Regs {
 }
 
 impl Regs {
-    ghost use Rattle.std.specs.Prelude.{◌≡◌, [], ◌∷◌};
+    ghost use Rattle.std.specs.Prelude.{◌≡◌, false, [], ◌∷◌};
     ghost use Rattle.patmos_sem.specs.Registers.{FitsRegisters, at_start, word_in, pred_in, holds};
+    ghost use Rattle.patmos_sem.specs.declared.pending.Pending.TheVariants as pending;
     ghost use Rattle.patmos_sem.specs.declared.writes.Write.{Write};
     ghost use Rattle.patmos_sem.specs.Writes.{after_writes, came};
     ghost use Rattle.patmos_sem.specs.Effects.{special_in};
@@ -100,6 +101,13 @@ impl Regs {
         self.sro = offset;
     }
 
+    // whether something is pending
+    pub(crate) fn waits(&self) -> bool
+        ensures { result ≡ false → self.now.pending ≡ pending.Nothing }
+    {
+        !matches!(self.pending, Pending::Nothing)
+    }
+
     // makes something pending
     pub(crate) fn set_pending(&mut self, pending: Pending)
         ensures { self.new ≡ record self.old { pending = pending } }
@@ -152,6 +160,16 @@ impl Regs {
         self.set_pending(begun);
     }
 
+    // the end of such a bundle where nothing was pending
+    #[inline(always)]
+    pub(crate) fn end_alone(&mut self, first: Write, begun: Pending)
+        requires nothing { self.old.pending ≡ pending.Nothing }
+        ensures { self.new ≡ record (after_writes (came self.old.pending ∷ first ∷ Write.Nothing ∷ []) self.old) { pending = begun } }
+    {
+        self.write(first);
+        self.set_pending(begun);
+    }
+
     // what was pending comes, if anything was
     fn come(&mut self)
         ensures { self.new ≡ after_writes (came self.old.pending ∷ []) self.old }
@@ -163,6 +181,7 @@ impl Regs {
     }
 
     // carries out a write
+    #[inline(always)]
     fn write(&mut self, write: Write)
         ensures { self.new ≡ after_writes (write ∷ []) self.old }
     {

@@ -59,8 +59,3 @@ asked_ops asked p s values h = (asked_for (λ a. LeavesPending asked a.pending_s
 -- at its end the store is pending that the ask leaves
 pub asked_pending : (asked : Ask) (p : Prog Acted) (s : ℕ) (values : List ℕ) → FollowsAsk asked p → LeavesPending asked (fed s p values).core.pending_store
 asked_pending asked p s values h = (asked_for (λ a. LeavesPending asked a.pending_store) asked p h s values).1
-
-ended_left : (Is : Acted → Type 0) (p : Prog Acted) (s : ℕ) (values : List ℕ) → Ends Is p → ((fed s p values).left ≡ values) × ((fed s p values).ops ≡ [])
-ended_left Is (done a) s values h = (refl, refl)
-ended_left Is (get word go_on) s values h = absurd h
-ended_left Is (set word value rest) s values h = absurd h

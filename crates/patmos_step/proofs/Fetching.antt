@@ -1,5 +1,5 @@
 -- What the decoded words give is what is fetched.
-use Rattle.std.proofs.Common.{◌≡◌, ℕ, ◌+◌, ◌<◌, ◌≤◌, Bool, true, false, nat_lt, ◌^◌, List, Option, None, Some, length, sym, ap, ◌∙◌, arith}
+use Rattle.std.proofs.Common.{◌≡◌, ℕ, ◌+◌, ◌<◌, ◌≤◌, Bool, true, false, List, Option, None, Some, length, sym, ap, ◌∙◌, arith}
 use Rattle.std.proofs.lemmas.Bool.Decides.{nat_tests}
 use Rattle.std.specs.Prelude.{slice_index, slice_index_or}
 use Rattle.patmos_instr.specs.Bundles.{Slots}
@@ -19,10 +19,6 @@ some_words false = omega arith
 -- what begins behind a function's end, or ends there, does not lie inside it
 pub ends_outside : (image : Parts) (base offset size : ℕ) → size ≡ size_at image base → size < offset + bundle_words (word_at image base offset) → is_inside image base offset ≡ false
 ends_outside image base offset size is past = grind (arith, nat_tests)
-
-pub begins_outside : (image : Parts) (base offset size : ℕ) → size ≡ size_at image base → size ≤ offset → is_inside image base offset ≡ false
-begins_outside image base offset size is past =
-    ends_outside image base offset size is (omega (arith, past, some_words (nat_lt (word_at image base offset) (2 ^ 31))))
 
 -- the code of a place inside a function
 pub stands_inside : (image : Parts) (code : List Decoded) (base offset size : ℕ) (found d : Decoded) → IsCodeOf image.words code → size ≡ size_at image base

@@ -14,7 +14,7 @@ use Rattle.sp_emit.specs.Fits.{ExprFits}
 
 -- ---- needs
 
-some_need : (e : PlainSp) → 1 ≤ need e
+pub some_need : (e : PlainSp) → 1 ≤ need e
 some_need (constant n) = omega arith
 some_need (frame_word slot) = omega arith
 some_need (cell_word cell) = omega arith

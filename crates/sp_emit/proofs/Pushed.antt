@@ -7,7 +7,7 @@ use Rattle.sp_tree.specs.Plain.{PlainSp, between_two}
 use Rattle.sp_tree.specs.declared.operators.SpBinary.{SpBinary}
 use Rattle.sp_emit.specs.Expressions.{binary_code, held_code, number_of, expr_code}
 use Rattle.patmos_instr.specs.Bundles.{Slots}
-use Rattle.sp_shape.proofs.Joins.{shown, joined-assoc, joined-nothing}
+use Rattle.sp_shape.proofs.Joins.{shown, joined-assoc}
 use Rattle.sp_shape.specs.Parts.{PlainParts, no_part, part, straight, repeats, one, joined}
 use Rattle.sp_shape.specs.Shown.{plain_part, parts_of}
 use Rattle.sp_shape.specs.declared.parts.Part.{Part, Straight}
@@ -25,9 +25,6 @@ straight_push xs bundles = shown xs (Straight bundles ∷ [])
 
 pub part_push : (xs : List Part) (p : Part) → parts_of (xs ++ p ∷ []) ≡ joined (parts_of xs) (one (plain_part p))
 part_push xs p = shown xs (p ∷ [])
-
-pub none_pushed : (old : PlainParts) → old ≡ joined old no_part
-none_pushed old = sym (joined-nothing old)
 
 pub two_pushed : (old first second a b : PlainParts) → first ≡ joined old a → second ≡ joined first b → second ≡ joined old (joined a b)
 two_pushed old first second a b one two = two ∙ ap (λ p. joined p b) one ∙ joined-assoc old a b

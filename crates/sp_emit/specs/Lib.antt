@@ -2,6 +2,9 @@ pub mod Division
 pub mod Expressions
 pub mod Fits
 pub mod Functions
+pub mod Holding
 pub mod Instructions
+pub mod Means
 pub mod Ran
+pub mod Serving
 pub mod Statements

@@ -7,13 +7,18 @@
 //!
 //! [`emit`] writes the code of a well-formed task, as the shape that `specs/Functions.antt` defines. It promises besides
 //! that the shape is well formed, that its delay slots do nothing, that whatever may have a transaction with main memory
-//! is always done, and that a function takes at most as many words as its tree costs. That the code does what the tree
-//! means is not proved yet; worked examples show it of small tasks.
+//! is always done, and that a function takes at most as many words as its tree costs.
+//!
+//! [`tasks_do_what_they_mean`] says that what comes of a task's code is what its tree means, where each load gives what
+//! was stored last in its word. [`expressions_are_worked_out`] says it of an expression, and what its code keeps whatever
+//! loads give.
 //!
 //! - `specs/Instructions.antt` has the bundles, `src/registers.rt` which registers they use for what.
 //! - `specs/Expressions.antt` and `specs/Division.antt` have the code of values, `specs/Statements.antt` that of what
 //!   statements do, `specs/Functions.antt` that of functions and tasks.
 //! - `specs/Fits.antt` says when a statement's code fits a frame, `specs/Ran.antt` what comes of a task's code.
+//! - `specs/Holding.antt` says what code keeps, `specs/Means.antt` when a run shows the words that a tree works on,
+//!   `specs/Serving.antt` what a function's code has where it begins and leaves where it has returned.
 //!
 //! What its words mean stands in [the glossary](../../../docs/GLOSSARY.md).
 #![tactic(auto)]
@@ -23,6 +28,7 @@ mod division;
 mod expressions;
 mod functions;
 mod instructions;
+mod laws;
 mod operators;
 mod parts;
 mod registers;
@@ -33,6 +39,7 @@ mod worked;
 mod writes;
 
 pub use functions::emit;
+pub use laws::{expressions_are_worked_out, tasks_do_what_they_mean};
 pub use registers::{
     DIGITS, DIVIDEND, DIVISOR, FIRST, MASK, OVERRUN, QUOTIENT_NEGATIVE, REMAINDER, REST_NEGATIVE,
     RESULT, SECOND, SPARE, TEST,

@@ -1,12 +1,12 @@
 -- The cores of a job, one after another.
-use Rattle.std.proofs.Common.{◌≡◌, ℕ, zero, suc, ◌+◌, arith, List, [], ◌∷◌, ◌++◌, length, map, sym, ap, ◌∙◌, subst, Option, Some, None, IfSome, slice_get}
+use Rattle.std.proofs.Common.{◌≡◌, ℕ, zero, suc, ◌+◌, arith, List, [], ◌∷◌, ◌++◌, length, map, sym, ap, ◌∙◌, subst, Option, IfSome, slice_get}
 use Rattle.std.proofs.lemmas.List.{map-append, length-map}
 use Rattle.slot_arbiter.specs.declared.place.Place.{Place}
 use Rattle.slot_arbiter.specs.Place.HasNumbers.{HasNumbers}
 use Rattle.patmos_code.specs.Images.{Parts}
 use Rattle.patmos_model.specs.Apart.{site_of}
 use Rattle.global_step.specs.declared.loaded.LoadedCore.{LoadedCore}
-use Rattle.global_step.specs.Loaded.{IsBeside, AreOnePlatform}
+use Rattle.global_step.specs.Loaded.{IsBeside}
 use Rattle.global_step.specs.Machine.{first_core}
 use Rattle.tc_job.specs.declared.job.Job.{Job}
 use Rattle.tcrest.specs.declared.tasks.CodedTask.{CodedTask}
@@ -54,15 +54,6 @@ beside job n k first l count one other = record {
   slot = other.slot ∙ sym one.slot;
   table = other.table ∙ sym one.table;
 }
-
--- so they are the cores of one platform
-pub placed_platform : (job : Job) (ls : List LoadedCore) → length ls ≡ job.cores → ArePlaced job ls → AreOnePlatform ls
-placed_platform job [] count placed = tt
-placed_platform job (first ∷ others) count placed = λ k below. from k (slice_get (first ∷ others) k) (placed k)
-  where
-    from : (k : ℕ) (found : Option LoadedCore) → IfSome found (IsPlaced job k) → IfSome found (λ l. IsBeside (length (first ∷ others)) k first.place l.place)
-    from k None is = tt
-    from k (Some l) is = beside job (length (first ∷ others)) k first l count (placed 0) is
 
 -- the place with the job's numbers is where the job's core stands
 pub same_site : (job : Job) (core start : ℕ) (place : Place) (image : Parts) → HasNumbers place job.cores core job.slot start → place.table ≡ job.table

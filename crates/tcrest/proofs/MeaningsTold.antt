@@ -1,5 +1,5 @@
 -- What `mean` tells of cores, one after another.
-use Rattle.std.proofs.Common.{◌≡◌, ℕ, suc, ◌+◌, arith, List, [], ◌++◌, refl, sym, ap, ◌∙◌, append_assoc}
+use Rattle.std.proofs.Common.{◌≡◌, ℕ, suc, ◌+◌, arith, List, ◌++◌, refl, sym, ap, ◌∙◌, append_assoc}
 use Rattle.std.specs.Prelude.{Result, Ok, Err}
 use Rattle.c_tree.specs.Reading.{Trees}
 use Rattle.tc_job.specs.declared.task.Task.{Task}
@@ -17,10 +17,6 @@ told text later = later >>= λ rest. Ok (text ++ rest)
 told-more : (text lines : List ℕ) (later : Result (List ℕ) CoreRefusal) → told (text ++ lines) later ≡ told text (later >>= λ rest. Ok (lines ++ rest))
 told-more text lines (Ok rest) = ap Ok (append_assoc text lines rest)
 told-more text lines (Err refusal) = refl
-
-pub told_nothing : (later : Result (List ℕ) CoreRefusal) → told [] later ≡ later
-told_nothing (Ok rest) = refl
-told_nothing (Err refusal) = refl
 
 at_core : (trees : Trees) (cores : ℕ) (tasks : List Task) (core count more : ℕ) → count ≡ more + 1
     → meanings_from trees cores tasks core count

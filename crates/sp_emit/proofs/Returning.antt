@@ -1,0 +1,105 @@
+-- What a function's code leaves behind its body: its result, the flag, and the stack without its frame.
+use Rattle.std.proofs.Common.{◌≡◌, ℕ, zero, suc, ◌+◌, ◌<◌, if◌then◌else◌, [], ◌∷◌, ◌++◌, refl, sym, ap, ◌∙◌, subst, arith, ne_eqb}
+use Rattle.patmos_instr.specs.Bundles.{Slots}
+use Rattle.patmos_instr.specs.declared.functions.StackFunc.TheVariants.{Sfree}
+use Rattle.patmos_instr.specs.declared.instructions.Op.TheVariants.{ToSpecial, Return}
+use Rattle.patmos_instr.specs.declared.specials.WritableSpecial.{WritableSpecial}
+use Rattle.patmos_instr.specs.declared.specials.WritableSpecial.TheVariants as writable
+use Rattle.patmos_sem.specs.Effects.{asked}
+use Rattle.patmos_sem.specs.Registers.{holds}
+use Rattle.patmos_sem.specs.declared.effects.Effect.TheVariants as effect
+use Rattle.patmos_sem.specs.declared.pending.Pending.TheVariants as pending
+use Rattle.patmos_sem.specs.declared.writes.Write.TheVariants as write
+use Rattle.c_world.specs.World.{World}
+use Rattle.sp_shape.specs.Run.{Run, by_words, once, run, effected, with_settled, settled}
+use Rattle.sp_shape.specs.Run as runs
+use Rattle.sp_shape.specs.Trail.{all_done}
+use Rattle.sp_emit.specs.Functions.{return_tail}
+use Rattle.sp_emit.specs.Holding.{held, IsWhole, Keeps}
+use Rattle.sp_emit.specs.Instructions.{always, copy, load_slot, to_special, stack_op, return}
+use Rattle.sp_emit.specs.Means.{HasWords}
+use Rattle.sp_emit.specs.Serving.{Carries}
+use Rattle.sp_emit.specs.declared.registers.TheConstants.{RESULT, MASK, SPARE, OVERRUN}
+use Rattle.sp_emit.proofs.Arguments.{did_stack}
+use Rattle.sp_emit.proofs.Calling.{Begins, idle_begins}
+use Rattle.sp_emit.proofs.Calm.{calm_run}
+use Rattle.sp_emit.proofs.Leaving.{slot_leaves}
+use Rattle.sp_emit.proofs.Once.{behind_slot, slot_behind, unchanged, with_regs, with_written, did_write, whole_written, held_written, stays_zero}
+
+-- a special register is written: no general one is
+kept_by_special : (s : WritableSpecial) (v r : ℕ) (m : Run) → IsWhole m → r < 32 → held r (with_written (write.Special s v) m) ≡ held r m
+kept_by_special s v zero m whole lt = stays_zero (write.Special s v) m whole
+kept_by_special s v (suc r) m whole lt = held_written (write.Special s v) (suc r) m whole lt ∙ rw (ne_eqb (suc r) 0 (omega arith))
+
+-- the stack and the world as they were
+pub record Ends (w : World) (m t : Run) : Type 0 where
+  pub carries : Carries w t
+  pub stack : t.stack ≡ m.stack
+  pub st : t.st ≡ m.st
+
+ends_calm : (w : World) (m n : Run) (b : Slots) → Ends w m n → Keeps 1 n (once by_words b n) → Ends w m (once by_words b n)
+ends_calm w m n b x k = record {
+  carries = record { whole = k.whole; has = subst (HasWords w) (sym k.memory) x.carries.has; words = x.carries.words; flag = k.flag ∙ x.carries.flag };
+  stack = k.stack ∙ x.stack;
+  st = k.st ∙ x.st;
+}
+
+-- a word of the stack comes to the spare register and from there to a special one
+ends_special : (w : World) (m n : Run) (slot : ℕ) (s : WritableSpecial) → Ends w m n → Ends w m (once by_words (to_special s SPARE) (once by_words (load_slot SPARE slot) n))
+ends_special w m n slot s x =
+    let y = ends_calm w m n (load_slot SPARE slot) x (calm_run by_words 1 (all_done (load_slot SPARE slot ∷ [])) n (omega arith) x.carries.whole refl) in
+    let n1 = once by_words (load_slot SPARE slot) n in
+    let v = held SPARE n1 in
+    subst (Ends w m) (sym (did_write by_words always (ToSpecial s SPARE) n1 y.carries.whole y.carries.whole.fits.always refl refl)) (record {
+      carries = record { whole = whole_written (write.Special s v) n1 y.carries.whole; has = y.carries.has; words = y.carries.words; flag = kept_by_special s v OVERRUN n1 y.carries.whole (omega arith) ∙ y.carries.flag };
+      stack = y.stack;
+      st = y.st;
+    })
+
+-- a function returns
+did_return : (m : Run) → IsWhole m → once by_words return m ≡ record m { ways = m.ways ++ runs.returns m.regs.srb m.regs.sro ∷ [] }
+unfolding slot_behind with_regs
+did_return m whole =
+    ap (λ e. with_settled (effected by_words e (with_regs m (slot_behind (holds m.regs always) Return m)))) (ap (λ h. if h then asked m.regs Return else effect.Nothing) whole.fits.always)
+    ∙ ap (λ h. with_regs (record m { ways = m.ways ++ runs.returns m.regs.srb m.regs.sro ∷ [] }) (settled (slot_behind h Return m))) whole.fits.always
+    ∙ ap (with_regs (record m { ways = m.ways ++ runs.returns m.regs.srb m.regs.sro ∷ [] })) (behind_slot write.Nothing pending.Nothing m.regs whole.pending ∙ unchanged m.regs whole.fits whole.pending)
+
+returns_with : (m : Run) → IsWhole m → Begins m (run by_words (all_done return_tail) m)
+returns_with m whole =
+    let c : Begins m (once by_words return m) = subst (Begins m) (sym (did_return m whole)) (record { whole = record { fits = whole.fits; pending = whole.pending }; regs = λ x lt. refl; stack = refl; st = refl; memory = refl }) in
+    idle_begins m _ (idle_begins m _ (idle_begins m _ c))
+
+-- the end of a function whose frame has so many words
+pub record Returned (w : World) (frame v : ℕ) (m t : Run) : Type 0 where
+  pub carries : Carries w t
+  pub value : held RESULT t ≡ v
+  pub stack : t.stack ≡ m.stack
+  pub st : t.st ≡ m.st + frame
+
+pub returns_value : (w : World) (frame base offset slot v : ℕ) (m : Run) → Carries w m → slot < 128 → m.stack (m.st + slot) ≡ v
+    → Returned w frame v m (run by_words (all_done return_tail) (run by_words (all_done (load_slot SPARE base ∷ to_special writable.Srb SPARE ∷ load_slot SPARE offset ∷ to_special writable.Sro SPARE ∷ load_slot RESULT slot ∷ copy MASK OVERRUN
+    ∷ stack_op Sfree frame ∷ [])) m))
+returns_value w frame base offset slot v m carries few value =
+    let a = ends_special w m m base writable.Srb (record { carries = carries; stack = refl; st = refl }) in
+    let b = ends_special w m _ offset writable.Sro a in
+    let n = once by_words (to_special writable.Sro SPARE) (once by_words (load_slot SPARE offset) (once by_words (to_special writable.Srb SPARE) (once by_words (load_slot SPARE base) m))) in
+    let c = ends_calm w m n (load_slot RESULT slot) b (calm_run by_words 1 (all_done (load_slot RESULT slot ∷ [])) n (omega arith) b.carries.whole refl) in
+    let n1 = once by_words (load_slot RESULT slot) n in
+    let is : held RESULT n1 ≡ v = slot_leaves by_words RESULT slot n refl b.carries.whole (omega arith) (omega arith) few ∙ ap (λ words. words (n.st + slot)) b.stack ∙ ap (λ st. m.stack (st + slot)) b.st ∙ value in
+    let k = calm_run by_words 2 (all_done (copy MASK OVERRUN ∷ [])) n1 (omega arith) c.carries.whole refl in
+    let n2 = once by_words (copy MASK OVERRUN) n1 in
+    let free = did_stack by_words Sfree frame n2 k.whole in
+    let n3 = once by_words (stack_op Sfree frame) n2 in
+    let whole3 : IsWhole n3 = subst IsWhole (sym free) (record { fits = k.whole.fits; pending = k.whole.pending }) in
+    let r = returns_with n3 whole3 in
+    record {
+      carries = record {
+        whole = r.whole;
+        has = subst (HasWords w) (sym (r.memory ∙ ap (λ t. t.memory) free ∙ k.memory)) c.carries.has;
+        words = c.carries.words;
+        flag = r.regs OVERRUN (omega arith) ∙ ap (held OVERRUN) free ∙ k.flag ∙ c.carries.flag;
+      };
+      value = r.regs RESULT (omega arith) ∙ ap (held RESULT) free ∙ k.low RESULT (omega arith) ∙ is;
+      stack = r.stack ∙ ap (λ t. t.stack) free ∙ k.stack ∙ c.stack;
+      st = r.st ∙ ap (λ t. t.st) free ∙ ap (λ n. n + frame) (k.st ∙ c.st);
+    }

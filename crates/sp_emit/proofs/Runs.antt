@@ -1,0 +1,74 @@
+-- The code of statements leaves the run where their meaning leaves the state, where the code of calls does.
+use Rattle.std.proofs.Common.{◌≡◌, ℕ, ◌+◌, ◌-◌, ◌<◌, ◌≤◌, true, ◌&&◌, List, Option, refl, sym, subst, arith, nat_lt}
+use Rattle.std.proofs.lemmas.Bool.{and_parts, ltb-true}
+use Rattle.sp_tree.specs.Formed.{send_formed, place_formed, array_formed, expr_formed, stmt_formed, stmts_formed, stmt_levels, stmts_levels}
+use Rattle.sp_tree.specs.Plain.{PlainSp}
+use Rattle.sp_tree.specs.Statements.{PlainPlace, to_slot, to_cell, to_array, PlainStmt, masks, writes, calls, transfers, overruns, turns, PlainStmts, no_stmt, stmt, PlainFunction}
+use Rattle.sp_tree.specs.Straight.{State, Serves, stmt_done, stmts_done}
+use Rattle.sp_shape.specs.Run.{Run, by_words, run}
+use Rattle.sp_shape.specs.Trail.{Step, parts_trail}
+use Rattle.sp_emit.specs.Means.{Follows, KeepsBehind, HasStmtConstants, HasStmtsConstants}
+use Rattle.sp_emit.specs.Statements.{stmt_code, stmts_code}
+use Rattle.sp_emit.proofs.Masks.{Done, mask_done, slot_done}
+use Rattle.sp_emit.proofs.Overruns.{overrun_is_done}
+use Rattle.sp_emit.proofs.PlaceWrites.{cell_done, element_done}
+use Rattle.sp_emit.proofs.Sends.{send_done}
+use Rattle.sp_emit.proofs.Turns.{done_then, turns_done}
+use Rattle.sp_emit.proofs.Values.{run_joined}
+
+-- the code of a statement does what it means, over functions and what they give
+abbrev pub Runs : (ℕ → List Step) → Serves → ℕ → ℕ → ℕ → ℕ → PlainStmt → Type 0
+Runs f g frame counter slots low t = (s : State) (m : Run) → low ≤ m.st → Follows slots s m → Done slots (counter + 1) (stmt_done g t s) m (run by_words (parts_trail f (stmt_code frame counter t)) m)
+
+-- so does that of calls
+pub record CallsRun (f : ℕ → List Step) (g : Serves) (fs : List PlainFunction) (number frame slots low : ℕ) : Type 0 where
+  pub calls : (counter mask k : ℕ) (args : List PlainSp) (result : Option ℕ) → slots ≤ counter + 1 → counter + 3 ≤ frame → stmt_formed fs number slots (calls mask k args result) ≡ true → HasStmtConstants (calls mask k args result)
+      → Runs f g frame counter slots low (calls mask k args result)
+
+fewer_kept : {count more : ℕ} {m t : Run} → count ≤ more → KeepsBehind count m t → KeepsBehind more m t
+fewer_kept le k = record { st = k.st; stack = λ a above. k.stack a (omega (arith, above, le)) }
+
+write_run : (f : ℕ → List Step) (g : Serves) (frame counter slots low mask : ℕ) (place : PlainPlace) (e : PlainSp) → slots ≤ 128 → slots ≤ counter + 1 → mask < slots → place_formed slots place ≡ true → expr_formed slots e ≡ true → HasStmtConstants (writes mask place e)
+    → Runs f g frame counter slots low (writes mask place e)
+write_run f g frame counter slots low mask (to_slot slot) e most fits masked placed formed constants s m enough x = slot_done f frame counter slots mask slot e s m most fits masked (ltb-true slot slots placed) formed constants.1 x
+write_run f g frame counter slots low mask (to_cell cell) e most fits masked placed formed constants s m enough x = cell_done f frame counter slots mask cell e s m most masked placed formed constants.1 x
+write_run f g frame counter slots low mask (to_array array index) e most fits masked placed formed constants s m enough x =
+    let parts = and_parts (array_formed array) (expr_formed slots index) placed in
+    element_done f frame counter slots mask array index e s m most masked parts.0 parts.1 constants.0 formed constants.1 x
+
+mutual
+  pub stmt_runs : (f : ℕ → List Step) (g : Serves) (fs : List PlainFunction) (number frame slots counter low : ℕ) → CallsRun f g fs number frame slots low → slots ≤ 128 → counter < 128 → counter + 3 ≤ frame
+      → (t : PlainStmt) → slots + stmt_levels t ≤ counter + 1 → stmt_formed fs number slots t ≡ true → HasStmtConstants t → Runs f g frame counter slots low t
+  stmt_runs f g fs number frame slots counter low others most few within (masks slot e) levels formed constants s m enough x =
+      let parts = and_parts (nat_lt slot slots) (expr_formed slots e) formed in
+      mask_done f frame counter slots slot e s m most (omega (arith, levels)) (ltb-true slot slots parts.0) parts.1 constants x
+  stmt_runs f g fs number frame slots counter low others most few within (writes mask place e) levels formed constants s m enough x =
+      let parts = and_parts (nat_lt mask slots) (place_formed slots place && expr_formed slots e) formed in
+      let places = and_parts (place_formed slots place) (expr_formed slots e) parts.1 in
+      write_run f g frame counter slots low mask place e most (omega (arith, levels)) (ltb-true mask slots parts.0) places.0 places.1 constants s m enough x
+  stmt_runs f g fs number frame slots counter low others most few within (calls mask k args result) levels formed constants s m enough x = others.calls counter mask k args result (omega (arith, levels)) within formed constants s m enough x
+  stmt_runs f g fs number frame slots counter low others most few within (transfers mask core source target count) levels formed constants s m enough x =
+      let parts = and_parts (nat_lt mask slots) (send_formed slots core source target count) formed in
+      let send = and_parts (nat_lt core 16) (expr_formed slots source && (expr_formed slots target && expr_formed slots count)) parts.1 in
+      let first = and_parts (expr_formed slots source) (expr_formed slots target && expr_formed slots count) send.1 in
+      let rest = and_parts (expr_formed slots target) (expr_formed slots count) first.1 in
+      send_done f frame counter slots mask core source target count s m most (ltb-true mask slots parts.0) (ltb-true core 16 send.0) first.0 rest.0 rest.1 constants.0 constants.1 constants.2 x
+  stmt_runs f g fs number frame slots counter low others most few within (overruns mask e) levels formed constants s m enough x =
+      let parts = and_parts (nat_lt mask slots) (expr_formed slots e) formed in
+      overrun_is_done f frame counter slots mask e s m most (ltb-true mask slots parts.0) parts.1 constants x
+  stmt_runs f g fs number frame slots counter low others most few within (turns count body) levels formed constants s m enough x =
+      let parts = and_parts (nat_lt 0 count) (stmts_formed fs number slots body) formed in
+      turns_done f slots counter low count (stmts_code frame (counter - 1) body) (stmts_done g body) s m (omega (arith, levels)) few
+      (λ z n more y. let d = stmts_run f g fs number frame slots (counter - 1) low others most (omega (arith, few)) (omega (arith, within)) body (omega (arith, levels)) parts.1 constants z n more y in
+      record { follows = d.follows; keeps = fewer_kept (omega (arith, levels)) d.keeps }) enough x
+
+  pub stmts_run : (f : ℕ → List Step) (g : Serves) (fs : List PlainFunction) (number frame slots counter low : ℕ) → CallsRun f g fs number frame slots low → slots ≤ 128 → counter < 128 → counter + 3 ≤ frame
+      → (ts : PlainStmts) → slots + stmts_levels ts ≤ counter + 1 → stmts_formed fs number slots ts ≡ true → HasStmtsConstants ts
+      → (s : State) (m : Run) → low ≤ m.st → Follows slots s m → Done slots (counter + 1) (stmts_done g ts s) m (run by_words (parts_trail f (stmts_code frame counter ts)) m)
+  stmts_run f g fs number frame slots counter low others most few within no_stmt levels formed constants s m enough x = record { follows = x; keeps = record { st = refl; stack = λ a above. refl } }
+  stmts_run f g fs number frame slots counter low others most few within (stmt t rest) levels formed constants s m enough x =
+      let parts = and_parts (stmt_formed fs number slots t) (stmts_formed fs number slots rest) formed in
+      let d = stmt_runs f g fs number frame slots counter low others most few within t (omega (arith, levels)) parts.0 constants.0 s m enough x in
+      let n = run by_words (parts_trail f (stmt_code frame counter t)) m in
+      let e = stmts_run f g fs number frame slots counter low others most few within rest (omega (arith, levels)) parts.1 constants.1 (stmt_done g t s) n (subst (λ st. low ≤ st) (sym d.keeps.st) enough) d.follows in
+      subst (Done slots (counter + 1) (stmts_done g rest (stmt_done g t s)) m) (sym (run_joined by_words f (stmt_code frame counter t) (stmts_code frame counter rest) m)) (done_then d.keeps e)
