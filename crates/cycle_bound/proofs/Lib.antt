@@ -1,5 +1,4 @@
 pub mod Bodies
-pub mod Building
 pub mod Earlier
 pub mod Gaps
 pub mod Holding

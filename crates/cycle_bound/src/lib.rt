@@ -21,8 +21,6 @@ mod known;
 mod parts;
 mod shapes;
 mod steps;
-#[cfg(test)]
-mod tests;
 mod words;
 mod worked;
 

@@ -11,10 +11,10 @@ use Rattle.patmos_sem.specs.declared.writes.Write.TheVariants as write
 use Rattle.sp_tree.specs.Formed.{expr_formed, args_formed}
 use Rattle.sp_tree.specs.Plain.{PlainSp}
 use Rattle.sp_tree.specs.Straight.{State, worth, args_worth}
-use Rattle.sp_shape.specs.Run.{Run, Sources, by_words, once, run, effected, with_settled, settled, stacked}
+use Rattle.sp_shape.specs.Run.{Run, Sources, by_words, once, run, effected, with_settled, settled, stacked, IsWhole}
 use Rattle.sp_shape.specs.Trail.{Step, parts_trail}
 use Rattle.sp_emit.specs.Expressions.{expr_code}
-use Rattle.sp_emit.specs.Holding.{held, IsWhole, Keeps}
+use Rattle.sp_emit.specs.Holding.{held, Keeps}
 use Rattle.sp_emit.specs.Instructions.{always, stack_op}
 use Rattle.sp_emit.specs.Means.{HasArgsConstants, Follows}
 use Rattle.sp_emit.specs.Statements.{args_code}

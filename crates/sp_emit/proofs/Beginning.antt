@@ -5,14 +5,14 @@ use Rattle.shared_order.specs.Words.{put}
 use Rattle.patmos_instr.specs.Bundles.{Slots}
 use Rattle.patmos_instr.specs.declared.functions.StackFunc.TheVariants.{Sres}
 use Rattle.patmos_sem.specs.Registers.{word_in}
-use Rattle.sp_shape.specs.Run.{Run, by_words, once, run, reserved}
+use Rattle.sp_shape.proofs.Whole.{run_append}
+use Rattle.sp_shape.specs.Run.{Run, Sources, by_words, once, run, reserved, IsWhole}
 use Rattle.sp_shape.specs.Trail.{does, all_done}
 use Rattle.sp_emit.specs.Functions.{argument_kept, arguments_kept}
-use Rattle.sp_emit.specs.Holding.{held, IsWhole}
+use Rattle.sp_emit.specs.Holding.{held}
 use Rattle.sp_emit.specs.Instructions.{always, stack_op, store_slot}
 use Rattle.sp_emit.specs.declared.registers.TheConstants.{FIRST}
 use Rattle.sp_emit.proofs.Arguments.{did_stack}
-use Rattle.sp_emit.proofs.Calm.{run_append}
 use Rattle.sp_emit.proofs.Frames.{put_same, put_other, put_behind}
 use Rattle.sp_emit.proofs.Storing.{did_store_slot}
 
@@ -35,8 +35,8 @@ reserved_word st count word stack from below = rw (le-leb (st - count) word from
 reserved_behind : (st count word : ℕ) (stack : ℕ → ℕ) → st ≤ word → reserved st count stack word ≡ stack word
 reserved_behind st count word stack above = rw (le-leb (st - count) word (omega (arith, above)), le-ltb word st above) refl
 
-pub takes_frame : (frame : ℕ) (args : List ℕ) (m : Run) → IsWhole m → frame ≤ m.st → Taken frame (first_words 0 args) m (once by_words (stack_op Sres frame) m)
-takes_frame frame args m whole enough = subst (Taken frame (first_words 0 args) m) (sym (did_stack by_words Sres frame m whole)) (record {
+pub takes_frame : (from : Sources) (frame : ℕ) (args : List ℕ) (m : Run) → IsWhole m → frame ≤ m.st → Taken frame (first_words 0 args) m (once from (stack_op Sres frame) m)
+takes_frame from frame args m whole enough = subst (Taken frame (first_words 0 args) m) (sym (did_stack from Sres frame m whole)) (record {
   whole = record { fits = whole.fits; pending = whole.pending };
   regs = refl;
   memory = refl;
@@ -107,7 +107,7 @@ pub begins_frame : (frame parameters : ℕ) (args : List ℕ) (m : Run) → IsWh
     → Taken frame (slice_index args) m (run by_words (all_done (arguments_kept parameters)) (once by_words (stack_op Sres frame) m))
 begins_frame frame parameters args m whole count fits most enough given =
     subst (λ p. Taken frame (slice_index args) m (run by_words (all_done (arguments_kept p)) (once by_words (stack_op Sres frame) m))) count
-    (retold (stores_arguments frame (length args) args m (once by_words (stack_op Sres frame) m) (omega arith) (omega (arith, count, fits)) most enough given (takes_frame frame args m whole enough)))
+    (retold (stores_arguments frame (length args) args m (once by_words (stack_op Sres frame) m) (omega arith) (omega (arith, count, fits)) most enough given (takes_frame by_words frame args m whole enough)))
   where
     retold : {t : Run} → Taken frame (first_words (length args) args) m t → Taken frame (slice_index args) m t
     retold x = record { whole = x.whole; regs = x.regs; memory = x.memory; st = x.st; frame_is = λ u lt. x.frame_is u lt ∙ all_words args u; behind = x.behind }

@@ -7,10 +7,10 @@ use Rattle.c_world.specs.Numbers.{flag}
 use Rattle.sp_tree.specs.Operators.{binary_value}
 use Rattle.sp_tree.specs.declared.operators.SpBinary.{SpBinary}
 use Rattle.sp_tree.specs.declared.operators.SpBinary.TheVariants as binary
-use Rattle.sp_shape.specs.Run.{Run, Sources, run}
+use Rattle.sp_shape.specs.Run.{Run, Sources, run, IsWhole}
 use Rattle.sp_shape.specs.Trail.{Step, parts_trail}
 use Rattle.sp_emit.specs.Expressions.{binary_code}
-use Rattle.sp_emit.specs.Holding.{held, IsWhole}
+use Rattle.sp_emit.specs.Holding.{held}
 use Rattle.sp_emit.proofs.Products.{low_product}
 use Rattle.sp_emit.proofs.Leaving.{computed_leaves, compared_leaves, both_leaves, times_leaves, not_lt}
 use Rattle.sp_emit.proofs.Quotients.{unsigned_quotient_left, unsigned_rest_left, signed_quotient_left, signed_rest_left}

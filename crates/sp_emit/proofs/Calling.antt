@@ -17,10 +17,10 @@ use Rattle.sp_tree.specs.Straight.{State, Given, Serves, args_worth, in_world, w
 use Rattle.sp_tree.specs.Statements.{calls}
 use Rattle.c_world.specs.World.{World}
 use Rattle.sp_shape.specs.Parts.{straight, one, joined}
-use Rattle.sp_shape.specs.Run.{Run, by_words, word_given, once, run, begun, effected, with_settled, settled}
+use Rattle.sp_shape.specs.Run.{Run, Sources, by_words, word_given, once, run, begun, effected, with_settled, settled, IsWhole}
 use Rattle.sp_shape.specs.Run as runs
 use Rattle.sp_shape.specs.Trail.{Step, all_done, parts_trail}
-use Rattle.sp_emit.specs.Holding.{held, IsWhole, Keeps}
+use Rattle.sp_emit.specs.Holding.{held, Keeps}
 use Rattle.sp_emit.specs.Instructions.{always, idle, call, with_short, stack_op}
 use Rattle.sp_emit.specs.Means.{HasArgsConstants, HasWords, Follows, KeepsBehind}
 use Rattle.sp_emit.specs.Serving.{CalledWith, Answers}
@@ -135,15 +135,15 @@ follows_answer slots s g m c t x same_stack same_st a = record {
   flag = a.carries.flag;
 }
 
-call_run : (f : ℕ → List Step) (frame mask k : ℕ) (result : Option ℕ) (n : Run)
-    → run by_words (parts_trail f (call_code frame mask k result)) n
-    ≡ run by_words (all_done (behind_call frame mask result)) (run by_words (f k) (begun (run by_words (all_done call_tail) (run by_words (all_done (mask_handed mask)) n))))
-call_run f frame mask k result n =
-    let u = run by_words (all_done (mask_handed mask)) n in
-    run_joined by_words f (one (straight (mask_handed mask))) (joined (one (way_to k)) (one (straight (behind_call frame mask result)))) n
-    ∙ run_joined by_words f (one (way_to k)) (one (straight (behind_call frame mask result))) u
-    ∙ ap (λ steps. run by_words (parts_trail f (one (straight (behind_call frame mask result)))) (run by_words steps (begun (run by_words (all_done call_tail) u)))) (append-nil (f k))
-    ∙ run_lone by_words f (behind_call frame mask result) (run by_words (f k) (begun (run by_words (all_done call_tail) u)))
+pub call_run : (from : Sources) (f : ℕ → List Step) (frame mask k : ℕ) (result : Option ℕ) (n : Run)
+    → run from (parts_trail f (call_code frame mask k result)) n
+    ≡ run from (all_done (behind_call frame mask result)) (run from (f k) (begun (run from (all_done call_tail) (run from (all_done (mask_handed mask)) n))))
+call_run from f frame mask k result n =
+    let u = run from (all_done (mask_handed mask)) n in
+    run_joined from f (one (straight (mask_handed mask))) (joined (one (way_to k)) (one (straight (behind_call frame mask result)))) n
+    ∙ run_joined from f (one (way_to k)) (one (straight (behind_call frame mask result))) u
+    ∙ ap (λ steps. run from (parts_trail f (one (straight (behind_call frame mask result)))) (run from steps (begun (run from (all_done call_tail) u)))) (append-nil (f k))
+    ∙ run_lone from f (behind_call frame mask result) (run from (f k) (begun (run from (all_done call_tail) u)))
 
 args_count : (args : List PlainSp) (s : State) → length (args_worth args s) ≡ length args
 args_count [] s = refl
@@ -182,7 +182,7 @@ call_is_done f g frame counter slots room mask k args result s m most fits maske
       st = answers.st ∙ b.st;
       stack = λ at above. answers.stack at (subst (λ st. st ≤ at) (sym b.st) (omega (arith, above))) ∙ ap (λ words. words at) b.stack;
     }) in
-    subst (Done slots (counter + 1) (stmt_done g (calls mask k args result) s) m) (sym (run_joined by_words f (args_code args FIRST) (call_code frame mask k result) m ∙ call_run f frame mask k result n)) (record {
+    subst (Done slots (counter + 1) (stmt_done g (calls mask k args result) s) m) (sym (run_joined by_words f (args_code args FIRST) (call_code frame mask k result) m ∙ call_run by_words f frame mask k result n)) (record {
       follows = d.follows;
       keeps = keeps_then (behind_still (counter + 1) a.keeps) (keeps_then (behind_still (counter + 1) h.keeps) (keeps_then behind d.keeps));
     })

@@ -12,11 +12,10 @@ use Rattle.patmos_instr.specs.declared.memories.Mem.{Mem}
 use Rattle.patmos_instr.specs.declared.memories.Width.TheVariants as load
 use Rattle.patmos_sem.specs.Registers.{holds}
 use Rattle.patmos_sem.specs.declared.writes.Write.TheVariants as write
-use Rattle.sp_shape.specs.Run.{Run, Sources, word_given, once, run}
-use Rattle.sp_shape.specs.Run as runs
+use Rattle.sp_shape.specs.Run.{Run, Sources, word_given, once, run, IsWhole}
 use Rattle.sp_shape.specs.Parts.{PlainPart, straight, repeats, calls_to, leaves, PlainParts, no_part, part}
 use Rattle.sp_shape.specs.Trail.{Step, does, begins, all_done, copies, part_trail, parts_trail}
-use Rattle.sp_emit.specs.Holding.{held, IsWhole, Keeps}
+use Rattle.sp_emit.specs.Holding.{held, Keeps}
 use Rattle.sp_emit.specs.Instructions.{under}
 use Rattle.sp_emit.specs.declared.registers.TheConstants.{OVERRUN}
 use Rattle.sp_emit.proofs.Once.{with_written, loaded, did_write, did_nothing, did_multiply, did_branch, did_load, whole_written, stays_zero, kept, kept_by_pred, kept_by_product}
@@ -227,8 +226,3 @@ mutual
   parts_trail_calm f rd (part p rest) a =
       let both = and_parts (part_calm rd p) (parts_calm rd rest) a in
       calm_append rd (part_trail f p) (parts_trail f rest) (part_trail_calm f rd p both.0) (parts_trail_calm f rd rest both.1)
-
-pub run_append : (from : Sources) (xs ys : List Step) (m : Run) → run from (xs ++ ys) m ≡ run from ys (run from xs m)
-run_append from [] ys m = refl
-run_append from (does b ∷ xs) ys m = run_append from xs ys (once from b m)
-run_append from (begins ∷ xs) ys m = run_append from xs ys (runs.begun m)

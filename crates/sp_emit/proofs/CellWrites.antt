@@ -16,8 +16,8 @@ use Rattle.c_world.specs.declared.region.Region.{Region}
 use Rattle.c_world.specs.declared.region.Region.TheVariants as region
 use Rattle.sp_tree.specs.Straight.{State, in_world}
 use Rattle.sp_shape.specs.Memory.{Memory, cell_of, with_cell, with_word as cell_set}
-use Rattle.sp_shape.specs.Run.{Run, by_words, once}
-use Rattle.sp_emit.specs.Holding.{held, IsWhole}
+use Rattle.sp_shape.specs.Run.{Run, by_words, once, IsWhole}
+use Rattle.sp_emit.specs.Holding.{held}
 use Rattle.sp_emit.specs.Instructions.{always, where_so, where_not, set_short, store_to}
 use Rattle.sp_emit.specs.Means.{HasWords, HoldsWords, Follows}
 use Rattle.sp_emit.specs.declared.registers.TheConstants.{FIRST, OVERRUN, TEST}

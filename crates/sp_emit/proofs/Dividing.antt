@@ -10,13 +10,14 @@ use Rattle.patmos_instr.specs.declared.functions.PredFunc.TheVariants as comb
 use Rattle.patmos_instr.specs.declared.instructions.Op.TheVariants.{AluImm, AluReg, Branch}
 use Rattle.patmos_sem.specs.Operations.{has_bit}
 use Rattle.patmos_sem.specs.declared.writes.Write.TheVariants as write
-use Rattle.sp_shape.specs.Run.{Run, Sources, once, run}
+use Rattle.sp_shape.proofs.Whole.{run_append}
+use Rattle.sp_shape.specs.Run.{Run, Sources, once, run, IsWhole}
 use Rattle.sp_shape.specs.Trail.{does, all_done, copies}
 use Rattle.sp_emit.specs.Division.{digit_tail}
-use Rattle.sp_emit.specs.Holding.{held, IsWhole}
+use Rattle.sp_emit.specs.Holding.{held}
 use Rattle.sp_emit.specs.Instructions.{always, where_so, idle, with_short, compute, compare, compare_short, combine, branch}
 use Rattle.sp_emit.specs.declared.registers.TheConstants.{SPARE, DIVIDEND, DIVISOR, REMAINDER, DIGITS, TEST, SECOND, REST_NEGATIVE, QUOTIENT_NEGATIVE}
-use Rattle.sp_emit.proofs.Calm.{is_calm, calm_run, run_append}
+use Rattle.sp_emit.proofs.Calm.{is_calm, calm_run}
 use Rattle.sp_emit.proofs.Digits.{shifted, goes, next_rest, next_dividend, turned}
 use Rattle.sp_emit.proofs.Leaving.{did_compare, did_compare_short, did_combine, did_compute, did_with_short}
 use Rattle.sp_emit.proofs.Once.{so, with_written, did_write, did_nothing, did_branch, whole_written, held_written, so_written, so_by_register, so_kept}

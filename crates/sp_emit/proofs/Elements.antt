@@ -14,10 +14,10 @@ use Rattle.c_world.specs.World as world
 use Rattle.sp_tree.specs.Formed.{all_rooms, first_of, array_formed}
 use Rattle.sp_tree.specs.Values.{array_value}
 use Rattle.sp_tree.specs.declared.expressions.SpArray.{SpArray}
-use Rattle.sp_shape.specs.Run.{Run, by_words, word_given, once, run}
+use Rattle.sp_shape.specs.Run.{Run, Sources, by_words, word_given, once, run, IsWhole}
 use Rattle.sp_shape.specs.Trail.{all_done}
 use Rattle.sp_emit.specs.Expressions.{address_of, array_space, element_code}
-use Rattle.sp_emit.specs.Holding.{held, IsWhole}
+use Rattle.sp_emit.specs.Holding.{held}
 use Rattle.sp_emit.specs.Instructions.{always, where_not, set_long, set_short, compute, compare, load_from}
 use Rattle.sp_emit.specs.Means.{HasWords}
 use Rattle.sp_emit.specs.declared.registers.TheConstants.{SPARE, TEST}
@@ -26,20 +26,21 @@ use Rattle.sp_emit.proofs.Leaving.{did_set_long, did_compare, did_compute, did_s
 use Rattle.sp_emit.proofs.Once.{so, with_written, loaded, did_nothing, did_load, whole_written, whole_loaded, got, kept, kept_by_pred, so_got, so_by_register}
 
 -- behind the test of the index and the address: what the register and the predicate hold
-record Reached (a : SpArray) (rd index : ℕ) (m t : Run) : Type 0 where
-  whole : IsWhole t
-  test : so TEST t ≡ nat_lt index a.length
-  address : held rd t ≡ (4 * index + address_of a.region a.first) % 2 ^ 32
-  memory : t.memory ≡ m.memory
+pub record Reached (a : SpArray) (rd index : ℕ) (m t : Run) : Type 0 where
+  pub whole : IsWhole t
+  pub test : so TEST t ≡ nat_lt index a.length
+  pub address : held rd t ≡ (4 * index + address_of a.region a.first) % 2 ^ 32
+  pub memory : t.memory ≡ m.memory
+  pub asked : t.asked ≡ m.asked
 
 -- the load, and 0 in its place where the test fails
-abbrev looked_up : SpArray → ℕ → Run → Run
-looked_up a rd t = once by_words (set_short (where_not TEST) rd 0) (once by_words (load_from (array_space a.region) rd rd) (once by_words (set_short (where_not TEST) rd 0) t))
+abbrev pub looked_up : Sources → SpArray → ℕ → Run → Run
+looked_up from a rd t = once from (set_short (where_not TEST) rd 0) (once from (load_from (array_space a.region) rd rd) (once from (set_short (where_not TEST) rd 0) t))
 
 -- the index in the register is tested, and its address made
-reaches : (a : SpArray) (rd : ℕ) (m : Run) → IsWhole m → 1 ≤ rd → rd < 21 → a.length < 2 ^ 32 → address_of a.region a.first < 2 ^ 32
-    → (t : Run) × (run by_words (all_done (element_code a rd)) m ≡ looked_up a rd t) × Reached a rd (held rd m) m t
-reaches a rd m whole some few len_small at_small =
+pub reaches : (from : Sources) (a : SpArray) (rd : ℕ) (m : Run) → IsWhole m → 1 ≤ rd → rd < 21 → a.length < 2 ^ 32 → address_of a.region a.first < 2 ^ 32
+    → (t : Run) × (run from (all_done (element_code a rd)) m ≡ looked_up from a rd t) × Reached a rd (held rd m) m t
+reaches from a rd m whole some few len_small at_small =
     let i = held rd m in
     let at = address_of a.region a.first in
     let len_w = write.Register SPARE ((0 + a.length) % 2 ^ 32) in
@@ -64,30 +65,31 @@ reaches a rd m whole some few len_small at_small =
     let m4 = with_written sum_w m3 in
     let w4 = whole_written sum_w m3 w3 in (
       m4,
-      ap (λ t. looked_up a rd (once by_words (compute always alu.Shadd2 rd rd SPARE) (once by_words (set_long SPARE at) (once by_words (compare cmp.Ult TEST rd SPARE) t)))) (did_set_long by_words SPARE a.length m whole)
-          ∙ ap (λ t. looked_up a rd (once by_words (compute always alu.Shadd2 rd rd SPARE) (once by_words (set_long SPARE at) t))) (did_compare by_words cmp.Ult TEST rd SPARE m1 w1)
-          ∙ ap (λ t. looked_up a rd (once by_words (compute always alu.Shadd2 rd rd SPARE) t)) (did_set_long by_words SPARE at m2 w2)
-          ∙ ap (looked_up a rd) (did_compute by_words alu.Shadd2 rd rd SPARE m3 w3),
+      ap (λ t. looked_up from a rd (once from (compute always alu.Shadd2 rd rd SPARE) (once from (set_long SPARE at) (once from (compare cmp.Ult TEST rd SPARE) t)))) (did_set_long from SPARE a.length m whole)
+          ∙ ap (λ t. looked_up from a rd (once from (compute always alu.Shadd2 rd rd SPARE) (once from (set_long SPARE at) t))) (did_compare from cmp.Ult TEST rd SPARE m1 w1)
+          ∙ ap (λ t. looked_up from a rd (once from (compute always alu.Shadd2 rd rd SPARE) t)) (did_set_long from SPARE at m2 w2)
+          ∙ ap (looked_up from a rd) (did_compute from alu.Shadd2 rd rd SPARE m3 w3),
       record {
         whole = w4;
         test = so_by_register rd v TEST m3 w3 (omega arith) ∙ t3 ∙ ap (λ x. nat_lt x (held SPARE m1)) i1 ∙ ap (nat_lt i) l1;
         address = got rd v m3 w3 some (omega (arith, few)) ∙ ap (λ x. (4 * x + held SPARE m3) % 2 ^ 32) i3 ∙ ap (λ x. (4 * i + x) % 2 ^ 32) b3;
         memory = refl;
+        asked = refl;
       },
     )
 
 -- where the test holds both settings of 0 are skipped
-looks_up : (a : SpArray) (rd : ℕ) (t : Run) → IsWhole t → so TEST t ≡ true
-    → looked_up a rd t ≡ loaded by_words (array_space a.region) rd (address_by (held rd t) 0 4) t
-looks_up a rd t whole test =
+pub looks_up : (from : Sources) (a : SpArray) (rd : ℕ) (t : Run) → IsWhole t → so TEST t ≡ true
+    → looked_up from a rd t ≡ loaded from (array_space a.region) rd (address_by (held rd t) 0 4) t
+looks_up from a rd t whole test =
     let at = address_by (held rd t) 0 4 in
-    ap (λ x. once by_words (set_short (where_not TEST) rd 0) (once by_words (load_from (array_space a.region) rd rd) x)) (did_nothing by_words (where_not TEST) (AluImm imm.Add rd 0 0) t whole (ap not test))
-    ∙ ap (once by_words (set_short (where_not TEST) rd 0)) (did_load by_words always (array_space a.region) rd rd 0 t whole whole.fits.always)
-    ∙ did_nothing by_words (where_not TEST) (AluImm imm.Add rd 0 0) (loaded by_words (array_space a.region) rd at t) (whole_loaded by_words (array_space a.region) rd at t whole)
-    (ap not (so_by_register rd (word_given by_words (array_space a.region) at t) TEST t whole (omega arith) ∙ test))
+    ap (λ x. once from (set_short (where_not TEST) rd 0) (once from (load_from (array_space a.region) rd rd) x)) (did_nothing from (where_not TEST) (AluImm imm.Add rd 0 0) t whole (ap not test))
+    ∙ ap (once from (set_short (where_not TEST) rd 0)) (did_load from always (array_space a.region) rd rd 0 t whole whole.fits.always)
+    ∙ did_nothing from (where_not TEST) (AluImm imm.Add rd 0 0) (loaded from (array_space a.region) rd at t) (whole_loaded from (array_space a.region) rd at t whole)
+    (ap not (so_by_register rd (word_given from (array_space a.region) at t) TEST t whole (omega arith) ∙ test))
 
 -- where it fails 0 stands there in the end
-gives_zero : (a : SpArray) (rd : ℕ) (t : Run) → IsWhole t → 1 ≤ rd → rd < 32 → so TEST t ≡ false → held rd (looked_up a rd t) ≡ 0
+gives_zero : (a : SpArray) (rd : ℕ) (t : Run) → IsWhole t → 1 ≤ rd → rd < 32 → so TEST t ≡ false → held rd (looked_up by_words a rd t) ≡ 0
 gives_zero a rd t whole some few test =
     let n = with_written (write.Register rd 0) t in
     let whole_n = whole_written (write.Register rd 0) t whole in
@@ -105,16 +107,16 @@ element_leaves a rd w m whole some few formed shows =
     let parts = and_parts (nat_le (first_of a.region) a.first) (nat_le (a.first + a.length) (room_in a.region all_rooms)) formed in
     let from = leb-true (first_of a.region) a.first parts.0 in
     let within = leb-true (a.first + a.length) (room_in a.region all_rooms) parts.1 in
-    let all = reaches a rd m whole some few (omega (arith, within, few_words a.region)) (first_small a.region a.first (omega (arith, within))) in
+    let all = reaches by_words a rd m whole some few (omega (arith, within, few_words a.region)) (first_small a.region a.first (omega (arith, within))) in
     ap (held rd) all.1 ∙ by from within all.0 all.2 (nat_lt (held rd m) a.length) refl
   where
     by : first_of a.region ≤ a.first → a.first + a.length ≤ room_in a.region all_rooms → (t : Run) → Reached a rd (held rd m) m t → (b : Bool) → nat_lt (held rd m) a.length ≡ b
-        → held rd (looked_up a rd t) ≡ (if b then world.word_at a.region (a.first + held rd m) w else 0)
+        → held rd (looked_up by_words a rd t) ≡ (if b then world.word_at a.region (a.first + held rd m) w else 0)
     by from within t r true less =
         let i = held rd m in
         let lies : a.first + i < room_in a.region all_rooms = omega (arith, within, ltb-true i a.length less) in
         let at = address_of a.region (a.first + i) in
-        ap (held rd) (looks_up a rd t r.whole (r.test ∙ less))
+        ap (held rd) (looks_up by_words a rd t r.whole (r.test ∙ less))
         ∙ got rd (word_given by_words (array_space a.region) (address_by (held rd t) 0 4) t) t r.whole some (omega (arith, few))
         ∙ ap (λ x. word_given by_words (array_space a.region) (address_by x 0 4) t) r.address
         ∙ ap (λ x. word_given by_words (array_space a.region) x t) (element_address a.region a.first i lies)

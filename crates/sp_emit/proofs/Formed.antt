@@ -49,7 +49,7 @@ unary_calm unary.Minus rd = refl
 unary_calm unary.Complement rd = refl
 unary_calm unary.Not rd = refl
 
-binary_formed : (n : ℕ) (op : SpBinary) (rd ra rb : ℕ) → parts_formed n (binary_code op rd ra rb) ≡ true
+pub binary_formed : (n : ℕ) (op : SpBinary) (rd ra rb : ℕ) → parts_formed n (binary_code op rd ra rb) ≡ true
 binary_formed n binary.Or rd ra rb = refl
 binary_formed n binary.And rd ra rb = refl
 binary_formed n binary.BitOr rd ra rb = refl
@@ -137,7 +137,7 @@ place_formed n mask (to_array array index) =
     both n (expr_code index 4) (one (straight (element_write mask array))) (expr_formed n index 4)
     (lone n (element_write mask array) (element_calm mask array.region array.first array.length))
 
-args_formed : (n : ℕ) (args : List PlainSp) (rd : ℕ) → parts_formed n (args_code args rd) ≡ true
+pub args_formed : (n : ℕ) (args : List PlainSp) (rd : ℕ) → parts_formed n (args_code args rd) ≡ true
 args_formed n [] rd = refl
 args_formed n (e ∷ args) rd = both n (expr_code e rd) (args_code args (rd + 1)) (expr_formed n e rd) (args_formed n args (rd + 1))
 
@@ -145,13 +145,13 @@ behind_calm : (frame mask : ℕ) (result : Option ℕ) → are_calm (behind_call
 behind_calm frame mask None = refl
 behind_calm frame mask (Some slot) = refl
 
-call_formed : (n frame mask k : ℕ) (result : Option ℕ) → nat_lt k n ≡ true → parts_formed n (call_code frame mask k result) ≡ true
+pub call_formed : (n frame mask k : ℕ) (result : Option ℕ) → nat_lt k n ≡ true → parts_formed n (call_code frame mask k result) ≡ true
 call_formed n frame mask k result earlier =
     and_from (nat_lt k n && true) (parts_formed n (one (straight (behind_call frame mask result)))) (and_from (nat_lt k n) true earlier refl)
     (lone n (behind_call frame mask result) (behind_calm frame mask result))
 
 mutual
-  stmt_formed : (fs : List PlainFunction) (n slots frame counter : ℕ) (t : PlainStmt) → tree.stmt_formed fs n slots t ≡ true → parts_formed n (stmt_code frame counter t) ≡ true
+  pub stmt_formed : (fs : List PlainFunction) (n slots frame counter : ℕ) (t : PlainStmt) → tree.stmt_formed fs n slots t ≡ true → parts_formed n (stmt_code frame counter t) ≡ true
   stmt_formed fs n slots frame counter (masks slot e) h = both n (expr_code e 3) (slot_set slot) (expr_formed n e 3) refl
   stmt_formed fs n slots frame counter (writes mask place e) h = both n (expr_code e 3) (place_write mask place) (expr_formed n e 3) (place_formed n mask place)
   stmt_formed fs n slots frame counter (calls mask k args result) h =
@@ -170,7 +170,7 @@ mutual
       and_from (nat_lt 0 count && (parts_formed n (stmts_code frame (counter - 1) body) && true)) true
       (and_from (nat_lt 0 count) (parts_formed n (stmts_code frame (counter - 1) body) && true) b.0 turn) refl
 
-  stmts_formed : (fs : List PlainFunction) (n slots frame counter : ℕ) (ts : PlainStmts) → tree.stmts_formed fs n slots ts ≡ true → parts_formed n (stmts_code frame counter ts) ≡ true
+  pub stmts_formed : (fs : List PlainFunction) (n slots frame counter : ℕ) (ts : PlainStmts) → tree.stmts_formed fs n slots ts ≡ true → parts_formed n (stmts_code frame counter ts) ≡ true
   stmts_formed fs n slots frame counter no_stmt h = refl
   stmts_formed fs n slots frame counter (stmt t rest) h =
       let b = and_parts (tree.stmt_formed fs n slots t) (tree.stmts_formed fs n slots rest) h in

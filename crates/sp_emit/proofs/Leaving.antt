@@ -32,10 +32,10 @@ use Rattle.sp_tree.specs.declared.operators.SpBinary.{SpBinary}
 use Rattle.sp_tree.specs.declared.operators.SpBinary.TheVariants as binary
 use Rattle.sp_tree.specs.declared.operators.SpUnary.{SpUnary}
 use Rattle.sp_tree.specs.declared.operators.SpUnary.TheVariants as unary
-use Rattle.sp_shape.specs.Run.{Run, Sources, by_words, word_given, first_load, once, run}
+use Rattle.sp_shape.specs.Run.{Run, Sources, by_words, word_given, first_load, once, run, IsWhole}
 use Rattle.sp_shape.specs.Trail.{Step, all_done, parts_trail}
 use Rattle.sp_emit.specs.Expressions.{truth_to, unary_code, binary_code, computed, both_code, compared_code, held_compared, held_code, address_of, cell_space, cell_code}
-use Rattle.sp_emit.specs.Holding.{held, IsWhole}
+use Rattle.sp_emit.specs.Holding.{held}
 use Rattle.sp_emit.specs.Instructions.{always, where_so, set_long, set_short, with_short, compute, compare, compare_short, combine, from_special, load_from, load_slot}
 use Rattle.sp_emit.specs.Means.{HasWords}
 use Rattle.sp_emit.specs.declared.registers.TheConstants.{TEST, SECOND}

@@ -11,9 +11,9 @@ use Rattle.sp_tree.specs.Need.{need}
 use Rattle.sp_tree.specs.Plain.{PlainSp}
 use Rattle.sp_tree.specs.Statements.{masks, writes, to_slot}
 use Rattle.sp_tree.specs.Straight.{State, worth, with_slot, where_on, write_done}
-use Rattle.sp_shape.specs.Run.{Run, by_words, once, run}
+use Rattle.sp_shape.specs.Run.{Run, by_words, once, run, IsWhole}
 use Rattle.sp_shape.specs.Trail.{Step, all_done, parts_trail}
-use Rattle.sp_emit.specs.Holding.{held, IsWhole, Keeps}
+use Rattle.sp_emit.specs.Holding.{held, Keeps}
 use Rattle.sp_emit.specs.Means.{HasWordConstants, IsReady, Follows, KeepsBehind}
 use Rattle.sp_emit.specs.Expressions.{expr_code}
 use Rattle.sp_emit.specs.Instructions.{always, where_so, compare_short, load_slot, store_slot}

@@ -16,8 +16,8 @@ use Rattle.patmos_sem.specs.declared.pending.Pending.TheVariants as pending
 use Rattle.patmos_sem.specs.declared.writes.Write.{Write}
 use Rattle.patmos_sem.specs.declared.writes.Write.TheVariants as write
 use Rattle.patmos_sem.proofs.Told.{after_writes-append, kept_registers, kept_preds, get_or-renewed, length-renewed_from}
-use Rattle.sp_shape.specs.Run.{Run, Sources, branches, word_given, other_loads, settled, once, effected, with_settled}
-use Rattle.sp_emit.specs.Holding.{held, IsWhole}
+use Rattle.sp_shape.specs.Run.{Run, Sources, branches, word_given, other_loads, settled, once, effected, with_settled, IsWhole}
+use Rattle.sp_emit.specs.Holding.{held}
 use Rattle.sp_emit.specs.Instructions.{under}
 
 -- ---- what a bundle leaves

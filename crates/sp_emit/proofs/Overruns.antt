@@ -12,10 +12,10 @@ use Rattle.sp_tree.specs.Plain.{PlainSp}
 use Rattle.sp_tree.specs.Statements.{overruns}
 use Rattle.sp_tree.specs.Straight.{State, worth, in_world, where_on, overrun_done}
 use Rattle.sp_shape.specs.Parts.{straight, one}
-use Rattle.sp_shape.specs.Run.{Run, by_words, once, run}
+use Rattle.sp_shape.specs.Run.{Run, by_words, once, run, IsWhole}
 use Rattle.sp_shape.specs.Trail.{Step, all_done, parts_trail}
 use Rattle.sp_emit.specs.Expressions.{expr_code}
-use Rattle.sp_emit.specs.Holding.{held, IsWhole}
+use Rattle.sp_emit.specs.Holding.{held}
 use Rattle.sp_emit.specs.Instructions.{where_so, set_short, compare_short, combine}
 use Rattle.sp_emit.specs.Means.{HasWordConstants, Follows}
 use Rattle.sp_emit.specs.Statements.{mask_test, overrun_code, stmt_code}

@@ -21,10 +21,10 @@ use Rattle.sp_tree.specs.declared.expressions.SpArray.{SpArray}
 use Rattle.sp_tree.specs.declared.expressions.SpCell.{SpCell}
 use Rattle.sp_shape.specs.Parts.{straight, one}
 use Rattle.sp_shape.specs.Memory.{cell_of}
-use Rattle.sp_shape.specs.Run.{Run, by_words, once, run}
+use Rattle.sp_shape.specs.Run.{Run, Sources, by_words, once, run, IsWhole}
 use Rattle.sp_shape.specs.Trail.{Step, all_done, parts_trail}
 use Rattle.sp_emit.specs.Expressions.{address_of, cell_space, array_space, expr_code}
-use Rattle.sp_emit.specs.Holding.{held, IsWhole, Keeps}
+use Rattle.sp_emit.specs.Holding.{held, Keeps}
 use Rattle.sp_emit.specs.Instructions.{always, set_long, compute, compare, combine}
 use Rattle.sp_emit.specs.Means.{HasWordConstants, Follows}
 use Rattle.sp_emit.specs.Statements.{mask_test, cell_write, element_write, masked_store, place_write, stmt_code}
@@ -117,19 +117,19 @@ same_element true r first length index v s = by (nat_lt index length)
     by false = refl
 
 -- the bundles behind the test of the mask: the test of the index joins it, and the address is made
-pub element_address_made : List Slots → ℕ → ℕ → List Slots
+unfoldable pub element_address_made : List Slots → ℕ → ℕ → List Slots
 element_address_made rest length address =
     set_long SPARE length ∷ compare cmp.Ult SECOND (FIRST + 1) SPARE ∷ combine comb.Pand TEST TEST SECOND ∷ set_long SPARE address ∷ compute always alu.Shadd2 (FIRST + 1) (FIRST + 1) SPARE ∷ rest
 
 pub record Reaches (b : Bool) (v index length address : ℕ) (u t : Run) : Type 0 where
-  keeps : Keeps (FIRST + 1) u t
-  test : so TEST t ≡ (b && nat_lt index length)
-  at : held (FIRST + 1) t ≡ (4 * index + address) % 2 ^ 32
+  pub keeps : Keeps (FIRST + 1) u t
+  pub test : so TEST t ≡ (b && nat_lt index length)
+  pub at : held (FIRST + 1) t ≡ (4 * index + address) % 2 ^ 32
 
-pub reaches : (b : Bool) (v index length address : ℕ) (u : Run) → IsWhole u → so TEST u ≡ b → held (FIRST + 1) u ≡ index → length < 2 ^ 32 → address < 2 ^ 32
-    → Reaches b v index length address u (run by_words (all_done (element_address_made [] length address)) u)
+pub reaches : (from : Sources) (b : Bool) (v index length address : ℕ) (u : Run) → IsWhole u → so TEST u ≡ b → held (FIRST + 1) u ≡ index → length < 2 ^ 32 → address < 2 ^ 32
+    → Reaches b v index length address u (run from (all_done (element_address_made [] length address)) u)
 unfolding element_address_made
-reaches b v index length address u whole test is len_small at_small =
+reaches from b v index length address u whole test is len_small at_small =
     let w1 = write.Register SPARE ((0 + length) % 2 ^ 32) in
     let m1 = with_written w1 u in
     let h1 = whole_written w1 u whole in
@@ -143,12 +143,12 @@ reaches b v index length address u whole test is len_small at_small =
     let m4 = with_written w4 m3 in
     let h4 = whole_written w4 m3 h3 in
     let w5 = write.Register (FIRST + 1) ((4 * held (FIRST + 1) m4 + held SPARE m4) % 2 ^ 32) in
-    let steps : run by_words (all_done (element_address_made [] length address)) u ≡ with_written w5 m4 =
-    ap (λ t. once by_words (compute always alu.Shadd2 (FIRST + 1) (FIRST + 1) SPARE) (once by_words (set_long SPARE address) (once by_words (combine comb.Pand TEST TEST SECOND) (once by_words (compare cmp.Ult SECOND (FIRST + 1) SPARE) t))))
-    (did_set_long by_words SPARE length u whole)
-    ∙ ap (λ t. once by_words (compute always alu.Shadd2 (FIRST + 1) (FIRST + 1) SPARE) (once by_words (set_long SPARE address) (once by_words (combine comb.Pand TEST TEST SECOND) t))) (did_compare by_words cmp.Ult SECOND (FIRST + 1) SPARE m1 h1)
-    ∙ ap (λ t. once by_words (compute always alu.Shadd2 (FIRST + 1) (FIRST + 1) SPARE) (once by_words (set_long SPARE address) t)) (did_combine by_words comb.Pand TEST TEST SECOND m2 h2)
-    ∙ ap (once by_words (compute always alu.Shadd2 (FIRST + 1) (FIRST + 1) SPARE)) (did_set_long by_words SPARE address m3 h3) ∙ did_compute by_words alu.Shadd2 (FIRST + 1) (FIRST + 1) SPARE m4 h4 in
+    let steps : run from (all_done (element_address_made [] length address)) u ≡ with_written w5 m4 =
+    ap (λ t. once from (compute always alu.Shadd2 (FIRST + 1) (FIRST + 1) SPARE) (once from (set_long SPARE address) (once from (combine comb.Pand TEST TEST SECOND) (once from (compare cmp.Ult SECOND (FIRST + 1) SPARE) t))))
+    (did_set_long from SPARE length u whole)
+    ∙ ap (λ t. once from (compute always alu.Shadd2 (FIRST + 1) (FIRST + 1) SPARE) (once from (set_long SPARE address) (once from (combine comb.Pand TEST TEST SECOND) t))) (did_compare from cmp.Ult SECOND (FIRST + 1) SPARE m1 h1)
+    ∙ ap (λ t. once from (compute always alu.Shadd2 (FIRST + 1) (FIRST + 1) SPARE) (once from (set_long SPARE address) t)) (did_combine from comb.Pand TEST TEST SECOND m2 h2)
+    ∙ ap (once from (compute always alu.Shadd2 (FIRST + 1) (FIRST + 1) SPARE)) (did_set_long from SPARE address m3 h3) ∙ did_compute from alu.Shadd2 (FIRST + 1) (FIRST + 1) SPARE m4 h4 in
     let i1 = held_written w1 (FIRST + 1) u whole (omega arith) ∙ is in
     let l1 = held_written w1 SPARE u whole (omega arith) ∙ (let e : (0 + length) % 2 ^ 32 ≡ length = omega (arith, len_small) in e) in
     let t2 = so_written w2 TEST m1 h1 (omega arith) ∙ so_written w1 TEST u whole (omega arith) ∙ test in
@@ -156,7 +156,7 @@ reaches b v index length address u whole test is len_small at_small =
     let i4 = held_written w4 (FIRST + 1) m3 h3 (omega arith) ∙ held_written w3 (FIRST + 1) m2 h2 (omega arith) ∙ held_written w2 (FIRST + 1) m1 h1 (omega arith) ∙ i1 in
     let a4 = held_written w4 SPARE m3 h3 (omega arith) ∙ (let e : (0 + address) % 2 ^ 32 ≡ address = omega (arith, at_small) in e) in
     record {
-      keeps = calm_run by_words (FIRST + 1) (all_done (element_address_made [] length address)) u (omega arith) whole refl;
+      keeps = calm_run from (FIRST + 1) (all_done (element_address_made [] length address)) u (omega arith) whole refl;
       test = ap (so TEST) steps ∙ so_written w5 TEST m4 h4 (omega arith) ∙ so_written w4 TEST m3 h3 (omega arith) ∙ so_written w3 TEST m2 h2 (omega arith) ∙ ap (λ x. x && so SECOND m2) t2 ∙ ap (λ x. b && x) s2;
       at = ap (held (FIRST + 1)) steps ∙ held_written w5 (FIRST + 1) m4 h4 (omega arith) ∙ ap (λ n. (4 * n + held SPARE m4) % 2 ^ 32) i4 ∙ ap (λ n. (4 * index + n) % 2 ^ 32) a4;
     }
@@ -183,7 +183,7 @@ element_done f frame counter slots mask array index e s m most masked formed_arr
     let b = s.frame mask == 1 in
     let v = worth e s in
     let address = address_of array.region array.first in
-    let reached = reaches b v i array.length address u t.keeps.whole t.test (t.keeps.low (FIRST + 1) (omega arith) ∙ value_left f index ri) (omega (arith, within, few_words array.region)) (first_small array.region array.first (omega (arith, within))) in
+    let reached = reaches by_words b v i array.length address u t.keeps.whole t.test (t.keeps.low (FIRST + 1) (omega arith) ∙ value_left f index ri) (omega (arith, within, few_words array.region)) (first_small array.region array.first (omega (arith, within))) in
     let w = run by_words (all_done (element_address_made [] array.length address)) u in
     let lies : (b && nat_lt i array.length) ≡ true → array.first + i < room_in array.region all_rooms = λ on. omega (arith, within, ltb-true i array.length (and_parts b (nat_lt i array.length) on).1) in
     let done = element_stored slots (counter + 1) array.region (array.first + i) (FIRST + 1) v (b && nat_lt i array.length) s w (record {

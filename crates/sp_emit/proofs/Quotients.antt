@@ -10,13 +10,13 @@ use Rattle.patmos_instr.specs.declared.instructions.Op.TheVariants.{AluImm, AluR
 use Rattle.patmos_sem.specs.Operations.{has_bit}
 use Rattle.patmos_sem.specs.declared.writes.Write.TheVariants as write
 use Rattle.tc_word.specs.Word.{quotient, rest, quotient_unsigned, rest_unsigned}
-use Rattle.sp_shape.specs.Run.{Run, Sources, once, run}
+use Rattle.sp_shape.proofs.Whole.{run_append}
+use Rattle.sp_shape.specs.Run.{Run, Sources, once, run, IsWhole}
 use Rattle.sp_shape.specs.Trail.{Step, all_done, copies, parts_trail}
 use Rattle.sp_emit.specs.Division.{operands, without_signs, digit_tail, quotient_to, rest_to, signed_quotient_to, signed_rest_to, around, unsigned_division, signed_division}
-use Rattle.sp_emit.specs.Holding.{held, IsWhole}
+use Rattle.sp_emit.specs.Holding.{held}
 use Rattle.sp_emit.specs.Instructions.{always, where_so, set_short, copy, compute, compare_short, combine}
 use Rattle.sp_emit.specs.declared.registers.TheConstants.{DIVIDEND, DIVISOR, REMAINDER, DIGITS, TEST, REST_NEGATIVE, QUOTIENT_NEGATIVE}
-use Rattle.sp_emit.proofs.Calm.{run_append}
 use Rattle.sp_emit.proofs.Digits.{turned, divides_words, divides_by_zero, quotient_word, rest_word}
 use Rattle.sp_emit.proofs.Dividing.{Signs, Divides, digits_done}
 use Rattle.sp_emit.proofs.Leaving.{did_compare_short, did_combine, did_set_short}

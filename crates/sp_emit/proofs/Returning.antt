@@ -11,11 +11,11 @@ use Rattle.patmos_sem.specs.declared.effects.Effect.TheVariants as effect
 use Rattle.patmos_sem.specs.declared.pending.Pending.TheVariants as pending
 use Rattle.patmos_sem.specs.declared.writes.Write.TheVariants as write
 use Rattle.c_world.specs.World.{World}
-use Rattle.sp_shape.specs.Run.{Run, by_words, once, run, effected, with_settled, settled}
+use Rattle.sp_shape.specs.Run.{Run, Sources, by_words, once, run, effected, with_settled, settled, IsWhole}
 use Rattle.sp_shape.specs.Run as runs
 use Rattle.sp_shape.specs.Trail.{all_done}
 use Rattle.sp_emit.specs.Functions.{return_tail}
-use Rattle.sp_emit.specs.Holding.{held, IsWhole, Keeps}
+use Rattle.sp_emit.specs.Holding.{held, Keeps}
 use Rattle.sp_emit.specs.Instructions.{always, copy, load_slot, to_special, stack_op, return}
 use Rattle.sp_emit.specs.Means.{HasWords}
 use Rattle.sp_emit.specs.Serving.{Carries}
@@ -57,16 +57,16 @@ ends_special w m n slot s x =
     })
 
 -- a function returns
-did_return : (m : Run) → IsWhole m → once by_words return m ≡ record m { ways = m.ways ++ runs.returns m.regs.srb m.regs.sro ∷ [] }
+pub did_return : (from : Sources) (m : Run) → IsWhole m → once from return m ≡ record m { ways = m.ways ++ runs.returns m.regs.srb m.regs.sro ∷ [] }
 unfolding slot_behind with_regs
-did_return m whole =
-    ap (λ e. with_settled (effected by_words e (with_regs m (slot_behind (holds m.regs always) Return m)))) (ap (λ h. if h then asked m.regs Return else effect.Nothing) whole.fits.always)
+did_return from m whole =
+    ap (λ e. with_settled (effected from e (with_regs m (slot_behind (holds m.regs always) Return m)))) (ap (λ h. if h then asked m.regs Return else effect.Nothing) whole.fits.always)
     ∙ ap (λ h. with_regs (record m { ways = m.ways ++ runs.returns m.regs.srb m.regs.sro ∷ [] }) (settled (slot_behind h Return m))) whole.fits.always
     ∙ ap (with_regs (record m { ways = m.ways ++ runs.returns m.regs.srb m.regs.sro ∷ [] })) (behind_slot write.Nothing pending.Nothing m.regs whole.pending ∙ unchanged m.regs whole.fits whole.pending)
 
 returns_with : (m : Run) → IsWhole m → Begins m (run by_words (all_done return_tail) m)
 returns_with m whole =
-    let c : Begins m (once by_words return m) = subst (Begins m) (sym (did_return m whole)) (record { whole = record { fits = whole.fits; pending = whole.pending }; regs = λ x lt. refl; stack = refl; st = refl; memory = refl }) in
+    let c : Begins m (once by_words return m) = subst (Begins m) (sym (did_return by_words m whole)) (record { whole = record { fits = whole.fits; pending = whole.pending }; regs = λ x lt. refl; stack = refl; st = refl; memory = refl }) in
     idle_begins m _ (idle_begins m _ (idle_begins m _ c))
 
 -- the end of a function whose frame has so many words

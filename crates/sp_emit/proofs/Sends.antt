@@ -18,9 +18,9 @@ use Rattle.patmos_instr.specs.declared.functions.ImmFunc.TheVariants as imm
 use Rattle.patmos_instr.specs.declared.functions.PredFunc.TheVariants as comb
 use Rattle.patmos_sem.specs.declared.writes.Write.TheVariants as write
 use Rattle.sp_shape.specs.Memory.{Memory, cell_of, with_port, with_word as cell_set}
-use Rattle.sp_shape.specs.Run.{Run, by_words, once, run}
+use Rattle.sp_shape.specs.Run.{Run, by_words, once, run, IsWhole}
 use Rattle.sp_shape.specs.Trail.{Step, all_done, parts_trail}
-use Rattle.sp_emit.specs.Holding.{held, IsWhole, Keeps}
+use Rattle.sp_emit.specs.Holding.{held, Keeps}
 use Rattle.sp_emit.specs.Instructions.{always, where_so, set_long, compute, with_short, compare, combine, store_to}
 use Rattle.sp_emit.specs.Means.{start_of, HasWordConstants, HasWords, Follows}
 use Rattle.sp_emit.specs.Statements.{mask_test, send_test, send_code, stmt_code}

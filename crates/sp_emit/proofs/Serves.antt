@@ -10,9 +10,10 @@ use Rattle.sp_tree.specs.Plain.{PlainSp}
 use Rattle.sp_tree.specs.Statements.{PlainFunction, no_function, calls}
 use Rattle.sp_tree.specs.Straight.{State, Serves, stmts_done, begun_frame, function_given, serves}
 use Rattle.patmos_instr.specs.declared.functions.StackFunc.TheVariants.{Sres}
+use Rattle.sp_shape.proofs.Whole.{run_append}
 use Rattle.sp_shape.specs.Parts.{no_part, joined}
 use Rattle.sp_emit.specs.Instructions.{stack_op}
-use Rattle.sp_shape.specs.Run.{Run, by_words, once, run}
+use Rattle.sp_shape.specs.Run.{Run, Sources, by_words, once, run}
 use Rattle.sp_shape.specs.Trail.{Step, all_done, parts_trail, trails}
 use Rattle.sp_emit.specs.Functions.{arguments_kept, state_kept, function_begin, function_end, function_rest, function_code, first_counter, return_tail}
 use Rattle.sp_emit.specs.Means.{Follows, HasStmtConstants, HasStmtsConstants, HasConstants}
@@ -20,7 +21,6 @@ use Rattle.sp_emit.specs.Serving.{CalledWith, Answers}
 use Rattle.sp_emit.specs.Statements.{stmts_code}
 use Rattle.sp_emit.proofs.Beginning.{begins_frame, all_done_append}
 use Rattle.sp_emit.proofs.Calling.{ServedBy, call_is_done}
-use Rattle.sp_emit.proofs.Calm.{run_append}
 use Rattle.sp_emit.proofs.Entering.{enters}
 use Rattle.sp_emit.proofs.Frames.{put_word}
 use Rattle.sp_emit.proofs.Returning.{returns_value}
@@ -29,15 +29,15 @@ use Rattle.sp_emit.proofs.Values.{run_joined}
 
 -- what is well formed of a function, part by part
 pub record Parts (fs : List PlainFunction) (number : ℕ) (f : PlainFunction) : Type 0 where
-  frame : f.frame ≤ 128
-  parameters : f.parameters ≤ 6
-  before_mask : f.parameters ≤ f.mask
-  mask : f.mask < slots_of f
-  result : f.result < slots_of f
-  body : stmts_formed fs number (slots_of f) f.body ≡ true
-  room : slots_of f + stmts_levels f.body + 2 ≡ f.frame
+  pub frame : f.frame ≤ 128
+  pub parameters : f.parameters ≤ 6
+  pub before_mask : f.parameters ≤ f.mask
+  pub mask : f.mask < slots_of f
+  pub result : f.result < slots_of f
+  pub body : stmts_formed fs number (slots_of f) f.body ≡ true
+  pub room : slots_of f + stmts_levels f.body + 2 ≡ f.frame
 
-parts_of_function : (fs : List PlainFunction) (number : ℕ) (f : PlainFunction) → function_formed fs number f ≡ true → Parts fs number f
+pub parts_of_function : (fs : List PlainFunction) (number : ℕ) (f : PlainFunction) → function_formed fs number f ≡ true → Parts fs number f
 parts_of_function fs number f formed =
     let a = and_parts (nat_le f.frame 128) _ formed in
     let b = and_parts (nat_le f.parameters 6) _ a.1 in
@@ -57,17 +57,17 @@ parts_of_function fs number f formed =
     }
 
 -- the run of a function's code, piece by piece
-function_run : (code : ℕ → List Step) (f : PlainFunction) (m : Run)
-    → run by_words (parts_trail code (function_code f)) m
-    ≡ run by_words (all_done return_tail) (run by_words (all_done (function_end f)) (run by_words (parts_trail code (stmts_code f.frame (first_counter f) f.body))
-    (run by_words (all_done (state_kept f)) (run by_words (all_done (arguments_kept f.parameters)) (once by_words (stack_op Sres f.frame) m)))))
-function_run code f m =
-    let t0 = once by_words (stack_op Sres f.frame) m in
+pub function_run : (from : Sources) (code : ℕ → List Step) (f : PlainFunction) (m : Run)
+    → run from (parts_trail code (function_code f)) m
+    ≡ run from (all_done return_tail) (run from (all_done (function_end f)) (run from (parts_trail code (stmts_code f.frame (first_counter f) f.body))
+    (run from (all_done (state_kept f)) (run from (all_done (arguments_kept f.parameters)) (once from (stack_op Sres f.frame) m)))))
+function_run from code f m =
+    let t0 = once from (stack_op Sres f.frame) m in
     let body = stmts_code f.frame (first_counter f) f.body in
-    run_append by_words (all_done (function_begin f)) (parts_trail code (joined body (function_rest f))) m
-    ∙ ap (λ steps. run by_words (parts_trail code (joined body (function_rest f))) (run by_words steps t0)) (all_done_append (arguments_kept f.parameters) (state_kept f))
-    ∙ ap (run by_words (parts_trail code (joined body (function_rest f)))) (run_append by_words (all_done (arguments_kept f.parameters)) (all_done (state_kept f)) t0)
-    ∙ run_joined by_words code body (function_rest f) (run by_words (all_done (state_kept f)) (run by_words (all_done (arguments_kept f.parameters)) t0))
+    run_append from (all_done (function_begin f)) (parts_trail code (joined body (function_rest f))) m
+    ∙ ap (λ steps. run from (parts_trail code (joined body (function_rest f))) (run from steps t0)) (all_done_append (arguments_kept f.parameters) (state_kept f))
+    ∙ ap (run from (parts_trail code (joined body (function_rest f)))) (run_append from (all_done (arguments_kept f.parameters)) (all_done (state_kept f)) t0)
+    ∙ run_joined from code body (function_rest f) (run from (all_done (state_kept f)) (run from (all_done (arguments_kept f.parameters)) t0))
 
 -- a function over what the earlier ones do
 pub function_serves : (code : ℕ → List Step) (g : Serves) (fs : List PlainFunction) (number low : ℕ) (f : PlainFunction) → function_formed fs number f ≡ true → HasStmtsConstants f.body → CallsRun code g fs number f.frame (slots_of f) low
@@ -91,7 +91,7 @@ function_serves code g fs number low f formed constants others mask args w m cou
     let z = stmts_done g f.body s in
     let r = returns_value z.world f.frame (f.frame - 2) (f.frame - 1) f.result (z.frame f.result) t3 (record { whole = d.follows.whole; has = d.follows.shows.world; words = d.follows.words.world; flag = d.follows.flag })
     (omega (arith, p.result, p.room, p.frame)) (d.follows.shows.frame f.result p.result) in
-    subst (Answers (function_given g f mask args w) m) (sym (function_run code f m)) (record {
+    subst (Answers (function_given g f mask args w) m) (sym (function_run by_words code f m)) (record {
       carries = r.carries;
       value = r.value;
       value_word = d.follows.words.frame f.result p.result;

@@ -11,8 +11,8 @@ use Rattle.patmos_sem.specs.Registers.{Registers, holds}
 use Rattle.patmos_sem.specs.declared.effects.Effect.TheVariants as effect
 use Rattle.patmos_sem.specs.declared.pending.Pending.TheVariants as pending
 use Rattle.patmos_sem.specs.declared.writes.Write.TheVariants as write
-use Rattle.sp_shape.specs.Run.{Run, Sources, once, effected, with_settled, settled, stored}
-use Rattle.sp_emit.specs.Holding.{held, IsWhole}
+use Rattle.sp_shape.specs.Run.{Run, Sources, once, effected, with_settled, settled, stored, IsWhole}
+use Rattle.sp_emit.specs.Holding.{held}
 use Rattle.sp_emit.specs.Instructions.{under, store_slot}
 use Rattle.sp_emit.proofs.Once.{behind_slot, slot_behind, unchanged, with_regs}
 

@@ -4,6 +4,7 @@ use Rattle.patmos_instr.specs.Bundles.{Slots}
 use Rattle.patmos_instr.specs.declared.functions.CmpFunc.TheVariants as cmp
 use Rattle.patmos_instr.specs.declared.functions.ImmFunc.TheVariants as imm
 use Rattle.sp_tree.specs.Straight.{State, times}
+use Rattle.sp_shape.proofs.Whole.{run_append}
 use Rattle.sp_shape.specs.Parts.{straight, repeats, PlainParts, one, joined}
 use Rattle.sp_shape.specs.Run.{Run, by_words, once, run}
 use Rattle.sp_shape.specs.Trail.{Step, all_done, copies, parts_trail}
@@ -12,7 +13,7 @@ use Rattle.sp_emit.specs.Instructions.{always, idle, set_long, with_short, compa
 use Rattle.sp_emit.specs.Means.{Follows, KeepsBehind}
 use Rattle.sp_emit.specs.Statements.{turns_begin, turns_tail}
 use Rattle.sp_emit.specs.declared.registers.TheConstants.{SPARE, TEST}
-use Rattle.sp_emit.proofs.Calm.{is_calm_trail, calm_run, run_append}
+use Rattle.sp_emit.proofs.Calm.{is_calm_trail, calm_run}
 use Rattle.sp_emit.proofs.Frames.{put_other}
 use Rattle.sp_emit.proofs.Masks.{Done, follows_still, behind_still, keeps_then, keeps_slot}
 use Rattle.sp_emit.proofs.Storing.{with_slot_word, did_store_slot}

@@ -12,16 +12,17 @@ use Rattle.sp_tree.specs.Values.{sp_value, array_value}
 use Rattle.sp_tree.specs.declared.expressions.SpArray.{SpArray}
 use Rattle.sp_tree.specs.declared.operators.SpBinary.{SpBinary}
 use Rattle.sp_tree.specs.declared.operators.SpUnary.{SpUnary}
+use Rattle.sp_shape.proofs.Whole.{run_append}
 use Rattle.sp_shape.specs.Parts.{straight, PlainParts, one, joined}
-use Rattle.sp_shape.specs.Run.{Run, Sources, by_words, run}
+use Rattle.sp_shape.specs.Run.{Run, Sources, by_words, run, IsWhole}
 use Rattle.sp_shape.specs.Trail.{Step, all_done, parts_trail}
 use Rattle.sp_shape.proofs.Joins.{trail_joined}
 use Rattle.sp_emit.specs.Expressions.{unary_code, binary_code, held_code, cell_code, element_code, number_of, expr_code}
 use Rattle.sp_emit.specs.Fits.{ExprFits}
-use Rattle.sp_emit.specs.Holding.{held, IsWhole, Keeps}
+use Rattle.sp_emit.specs.Holding.{held, Keeps}
 use Rattle.sp_emit.specs.Instructions.{set_long, load_slot}
 use Rattle.sp_emit.specs.Means.{HasWords, Shows, IsReady}
-use Rattle.sp_emit.proofs.Calm.{parts_calm, calm_run, parts_trail_calm, run_append, keeps_all}
+use Rattle.sp_emit.proofs.Calm.{parts_calm, calm_run, parts_trail_calm, keeps_all}
 use Rattle.sp_emit.proofs.CalmCode.{joined_calm, lone_calm, unary_calm, binary_calm, held_calm, constant_calm, slot_calm, cell_calm, element_calm}
 use Rattle.sp_emit.proofs.Elements.{element_leaves}
 use Rattle.sp_emit.proofs.Leaving.{constant_leaves, slot_leaves, cell_leaves, unary_leaves, held_leaves}

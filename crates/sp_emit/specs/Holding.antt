@@ -1,18 +1,12 @@
 -- What the registers of a run hold, and what one state of a run has of an earlier one.
 use Rattle.std.specs.Prelude.{ℕ, ◌≡◌, ◌<◌}
-use Rattle.patmos_sem.specs.Registers.{FitsRegisters, word_in}
-use Rattle.patmos_sem.specs.declared.pending.Pending.TheVariants as pending
-use Rattle.sp_shape.specs.Run.{Run}
+use Rattle.patmos_sem.specs.Registers.{word_in}
+use Rattle.sp_shape.specs.Run.{Run, IsWhole}
 use Rattle.sp_emit.specs.declared.registers.TheConstants.{OVERRUN}
 
 -- the word in a register
 abbrev pub held : ℕ → Run → ℕ
 held r m = word_in m.regs r
-
--- all registers are there, and nothing is pending
-pub record IsWhole (m : Run) : Type 0 where
-  pub fits : FitsRegisters m.regs
-  pub pending : m.regs.pending ≡ pending.Nothing
 
 -- a later state has the registers below one as they were, the flag of loops, the stack and all memories
 pub record Keeps (rd : ℕ) (m t : Run) : Type 0 where

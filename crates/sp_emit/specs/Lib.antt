@@ -1,3 +1,6 @@
+pub mod Accesses
+pub mod Chains
+pub mod Counts
 pub mod Division
 pub mod Expressions
 pub mod Fits

@@ -9,8 +9,8 @@ use Rattle.sp_tree.specs.Plain.{PlainSp, constant, frame_word, cell_word, array_
 use Rattle.sp_tree.specs.Statements.{PlainPlace, to_slot, to_cell, to_array, PlainStmt, masks, writes, calls, transfers, overruns, turns, PlainStmts, no_stmt, stmt, PlainFunction, no_function}
 use Rattle.sp_tree.specs.Straight.{State}
 use Rattle.sp_shape.specs.Memory.{Memory, Start}
-use Rattle.sp_shape.specs.Run.{Run}
-use Rattle.sp_emit.specs.Holding.{held, IsWhole}
+use Rattle.sp_shape.specs.Run.{Run, IsWhole}
+use Rattle.sp_emit.specs.Holding.{held}
 use Rattle.sp_emit.specs.declared.registers.TheConstants.{OVERRUN}
 
 -- a send of the world is a transfer of the run

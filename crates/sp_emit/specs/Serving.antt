@@ -3,8 +3,8 @@ use Rattle.std.specs.Prelude.{ℕ, ◌≡◌, ◌+◌, ◌<◌, ◌≤◌, ◌^�
 use Rattle.c_world.specs.Numbers.{flag}
 use Rattle.c_world.specs.World.{World}
 use Rattle.sp_tree.specs.Straight.{Given}
-use Rattle.sp_shape.specs.Run.{Run}
-use Rattle.sp_emit.specs.Holding.{held, IsWhole}
+use Rattle.sp_shape.specs.Run.{Run, IsWhole}
+use Rattle.sp_emit.specs.Holding.{held}
 use Rattle.sp_emit.specs.Means.{HasWords, HoldsWords}
 use Rattle.sp_emit.specs.declared.registers.TheConstants.{RESULT, MASK, FIRST, OVERRUN}
 

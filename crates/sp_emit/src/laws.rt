@@ -1,15 +1,29 @@
 //! Laws of code.
-ghost use Rattle.std.specs.Prelude.{◌≡◌, ℕ, List, [], true};
+ghost use Rattle.std.specs.Prelude.{◌≡◌, ◌+◌, ◌≤◌, ℕ, List, [], true, length};
+ghost use Rattle.std.specs.List.{Contains};
+ghost use Rattle.patmos_instr.specs.declared.memories.Mem.TheVariants as mem;
+ghost use Rattle.patmos_instr.specs.declared.memories.StoreWidth.{StoreWidth};
+ghost use Rattle.patmos_instr.specs.declared.memories.Width.{Width};
+ghost use Rattle.patmos_sem.specs.declared.effects.Effect.TheVariants as effect;
 ghost use Rattle.sp_tree.specs.Begun.{begun, straight};
 ghost use Rattle.sp_tree.specs.Formed.{is_formed};
 ghost use Rattle.sp_tree.specs.Plain.{PlainSp};
 ghost use Rattle.sp_tree.specs.Statements.{PlainUnit};
 ghost use Rattle.sp_tree.specs.Straight.{State, worth};
-ghost use Rattle.sp_shape.specs.Run.{Run, Sources, at_begin, by_words, run};
-ghost use Rattle.sp_shape.specs.Trail.{Step, parts_trail};
+ghost use Rattle.sp_tree.specs.Uses.{Use, uses_of, are_apart};
+ghost use Rattle.sp_shape.specs.Memory.{Memory};
+ghost use Rattle.stack_cache.specs.declared.stack.TheConstants.{STACK_END, STACK_LOWEST};
+ghost use Rattle.sp_shape.specs.Pointers.{pointers_of, AreWithinStack};
+ghost use Rattle.sp_shape.specs.Run.{Run, IsWhole, Back, Sources, at_begin, by_words, run};
+ghost use Rattle.sp_shape.specs.Trail.{Step, parts_trail, trail};
+ghost use Rattle.sp_shape.specs.Turning.{ShapeTurns};
+ghost use Rattle.sp_emit.specs.Accesses.{MayAsk, AsksOnly};
+ghost use Rattle.sp_emit.specs.Chains.{chains};
+ghost use Rattle.sp_emit.specs.Counts.{HasCounts};
 ghost use Rattle.sp_emit.specs.Expressions.{expr_code};
 ghost use Rattle.sp_emit.specs.Fits.{ExprFits};
-ghost use Rattle.sp_emit.specs.Holding.{held, IsWhole, Keeps};
+ghost use Rattle.sp_emit.specs.Functions.{emitted};
+ghost use Rattle.sp_emit.specs.Holding.{held, Keeps};
 ghost use Rattle.sp_emit.specs.Means.{IsReady, HoldsWords, HasConstants};
 ghost use Rattle.sp_emit.specs.Ran.{begun_memory, ran};
 ghost use Rattle.sp_emit.specs.Serving.{Answers};
@@ -30,4 +44,30 @@ pub fn expressions_are_worked_out()
 pub fn tasks_do_what_they_mean()
     ensures { (u : PlainUnit) (input : List ℕ) (shared comm : ℕ → ℕ) → is_formed u ≡ true → HasConstants u.functions → HoldsWords (begun u input shared comm)
         → Answers (straight u input shared comm) (at_begin (begun_memory u input shared comm) [] []) (ran u input shared comm) }
+{}
+
+/// Where a load from the stack gives what was stored last in its word, whatever other loads give, all loops of a
+/// well-formed task's code make all their turns, and each function returns to the place that was set when it began. The
+/// counts of the tree's turns are words of 32 bits.
+pub fn loops_make_all_turns()
+    ensures { (u : PlainUnit) (from : Sources) (memory : Memory) (loads : List ℕ) (backs : List Back) → from.stack ≡ true → is_formed u ≡ true → HasCounts u.functions
+        → ShapeTurns (run from) (emitted u) (at_begin memory loads backs) }
+{}
+
+/// Whatever loads give, outside the stack a well-formed task's code reads and stores only what its tree names, and word 0
+/// in the place of what is masked or past the end; and the loads by the data cache have the same addresses. What is
+/// loaded so is stored by no access past the cache.
+pub fn tasks_ask_for_what_they_name()
+    ensures asks { (u : PlainUnit) → is_formed u ≡ true → AsksOnly (Contains (uses_of u)) (trail (emitted u)) }
+    ensures apart { (uses : List Use) (width : Width) (rd : ℕ) (wide : StoreWidth) (value address : ℕ) → are_apart uses ≡ true
+        → MayAsk (Contains uses) (effect.Load mem.C width rd address) → MayAsk (Contains uses) (effect.Store mem.M wide address value) → ⊥ }
+{}
+
+/// Whatever loads give, all that a well-formed task's code asks of the stack is within it: each access reaches a word that
+/// the stack cache holds, and the top stays in the stack's region, where that has room for the frames on each chain of
+/// calls.
+pub fn tasks_stay_within_the_stack()
+    ensures { (u : PlainUnit) (from : Sources) (memory : Memory) (loads : List ℕ) (backs : List Back) → is_formed u ≡ true
+        → STACK_LOWEST + chains u.functions (length u.functions) u.entry ≤ STACK_END
+        → AreWithinStack (run from (trail (emitted u)) (at_begin memory loads backs)).asked (pointers_of (at_begin memory loads backs)) }
 {}

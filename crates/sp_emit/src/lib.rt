@@ -11,12 +11,16 @@
 //!
 //! [`tasks_do_what_they_mean`] says that what comes of a task's code is what its tree means, where each load gives what
 //! was stored last in its word. [`expressions_are_worked_out`] says it of an expression, and what its code keeps whatever
-//! loads give.
+//! loads give. [`loops_make_all_turns`] says that the branches and returns of a task's code go where its trail goes on, and
+//! [`tasks_ask_for_what_they_name`] which words it may read and store, and [`tasks_stay_within_the_stack`] that it never leaves
+//! the stack: all three whatever is loaded from outside the stack.
 //!
 //! - `specs/Instructions.antt` has the bundles, `src/registers.rt` which registers they use for what.
 //! - `specs/Expressions.antt` and `specs/Division.antt` have the code of values, `specs/Statements.antt` that of what
 //!   statements do, `specs/Functions.antt` that of functions and tasks.
 //! - `specs/Fits.antt` says when a statement's code fits a frame, `specs/Ran.antt` what comes of a task's code.
+//! - `specs/Accesses.antt` says what code may ask for, `specs/Counts.antt` that the counts of turns are words,
+//!   `specs/Chains.antt` how many words frames take on a chain of calls.
 //! - `specs/Holding.antt` says what code keeps, `specs/Means.antt` when a run shows the words that a tree works on,
 //!   `specs/Serving.antt` what a function's code has where it begins and leaves where it has returned.
 //!
@@ -33,13 +37,14 @@ mod operators;
 mod parts;
 mod registers;
 mod statements;
-#[cfg(test)]
-mod tests;
 mod worked;
 mod writes;
 
 pub use functions::emit;
-pub use laws::{expressions_are_worked_out, tasks_do_what_they_mean};
+pub use laws::{
+    expressions_are_worked_out, loops_make_all_turns, tasks_ask_for_what_they_name,
+    tasks_do_what_they_mean, tasks_stay_within_the_stack,
+};
 pub use registers::{
     DIGITS, DIVIDEND, DIVISOR, FIRST, MASK, OVERRUN, QUOTIENT_NEGATIVE, REMAINDER, REST_NEGATIVE,
     RESULT, SECOND, SPARE, TEST,

@@ -2,8 +2,10 @@ pub mod Bundles
 pub mod Formed
 pub mod Memory
 pub mod Parts
+pub mod Pointers
 pub mod Run
 pub mod Shown
 pub mod Small
 pub mod Trail
+pub mod Turning
 pub mod Words

@@ -4,7 +4,7 @@
 -- A run is read late, as the processor does it (a load's value and a product come behind the next bundle's operands), or
 -- at once, each value at the end of its own bundle. The values of loads are those of the memories, or are given as a
 -- list: so it is told what a task asks for whatever its loads give.
-use Rattle.std.specs.Prelude.{ℕ, ◌+◌, ◌-◌, ◌/◌, min, max, nat_le, nat_lt, Bool, true, false, ◌&&◌, List, [], ◌∷◌, ◌++◌, if◌then◌else◌}
+use Rattle.std.specs.Prelude.{◌≡◌, ℕ, ◌+◌, ◌-◌, ◌/◌, min, max, nat_le, nat_lt, Bool, true, false, ◌&&◌, List, [], ◌∷◌, ◌++◌, if◌then◌else◌}
 use Rattle.shared_order.specs.Words.{put}
 use Rattle.stack_cache.specs.declared.slots.TheConstants.{STACK_CACHE_WORDS}
 use Rattle.stack_cache.specs.declared.stack.TheConstants.{STACK_END}
@@ -16,7 +16,7 @@ use Rattle.patmos_instr.specs.declared.memories.Mem.TheVariants as mem
 use Rattle.patmos_instr.specs.declared.memories.StoreWidth.{StoreWidth}
 use Rattle.patmos_sem.specs.Bundles.{after_bundle, effect_of, arrived}
 use Rattle.patmos_sem.specs.Narrow.{picked, merged}
-use Rattle.patmos_sem.specs.Registers.{Registers, at_start}
+use Rattle.patmos_sem.specs.Registers.{Registers, FitsRegisters, at_start}
 use Rattle.patmos_sem.specs.Writes.{after_writes, came}
 use Rattle.patmos_sem.specs.declared.effects.Effect.{Effect}
 use Rattle.patmos_sem.specs.declared.effects.Effect.TheVariants as effect
@@ -51,6 +51,11 @@ pub record Run : Type 0 where
   pub backs : List Back
   pub asked : List Effect
   pub ways : List Way
+
+-- all registers are there, and nothing is pending
+pub record IsWhole (m : Run) : Type 0 where
+  pub fits : FitsRegisters m.regs
+  pub pending : m.regs.pending ≡ pending.Nothing
 
 -- where the values of loads come from: the stack, and the other memories, or else the list of what loads give
 pub record Sources : Type 0 where

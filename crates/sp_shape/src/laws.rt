@@ -1,6 +1,7 @@
 //! Laws of shapes.
 ghost use Rattle.std.specs.Prelude.{◌≡◌, ◌++◌, ℕ, List};
 ghost use Rattle.sp_shape.specs.Parts.{PlainParts, joined};
+ghost use Rattle.sp_shape.specs.Run.{Run, IsWhole, Sources, run};
 ghost use Rattle.sp_shape.specs.Shown.{parts_of};
 ghost use Rattle.sp_shape.specs.Trail.{Step, parts_trail};
 ghost use Rattle.sp_shape.specs.declared.parts.Part.{Part};
@@ -10,4 +11,12 @@ ghost use Rattle.sp_shape.specs.declared.parts.Part.{Part};
 pub fn parts_join()
     ensures shown { (xs ys : List Part) → parts_of (xs ++ ys) ≡ joined (parts_of xs) (parts_of ys) }
     ensures trail { (f : ℕ → List Step) (xs ys : PlainParts) → parts_trail f (joined xs ys) ≡ parts_trail f xs ++ parts_trail f ys }
+{}
+
+/// A trail that is read at once leaves nothing pending where nothing was, and all registers are there; trails are run one
+/// after another.
+#[tactic(auto, using(crate::proofs::Whole::run_append))]
+pub fn trails_go_on()
+    ensures whole { (from : Sources) (steps : List Step) (m : Run) → IsWhole m → IsWhole (run from steps m) }
+    ensures append { (from : Sources) (xs ys : List Step) (m : Run) → run from (xs ++ ys) m ≡ run from ys (run from xs m) }
 {}

@@ -9,6 +9,9 @@
 //! - What is well formed: `specs/Formed.antt`.
 //! - In which order its bundles are run: `specs/Trail.antt`; and what comes of it: `specs/Run.antt`, over the words of
 //!   `specs/Memory.antt`.
+//! - When its loops make all the turns that the order says, and its functions return to where they were called from:
+//!   `specs/Turning.antt`.
+//! - When all that is asked of the stack is within it: `specs/Pointers.antt`.
 //! - How many words it takes: `specs/Words.antt`; what is said of each bundle: `specs/Bundles.antt`.
 //!
 //! What its words mean stands in [the glossary](../../../docs/GLOSSARY.md).
@@ -18,6 +21,6 @@ mod laws;
 mod parts;
 mod worked;
 
-pub use laws::parts_join;
+pub use laws::{parts_join, trails_go_on};
 pub use parts::{Part, Shape};
-pub use worked::{worked_runs, worked_shapes, worked_trails};
+pub use worked::{worked_runs, worked_shapes, worked_trails, worked_turns};

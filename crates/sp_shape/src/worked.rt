@@ -1,4 +1,4 @@
-//! Worked examples: which shapes are well formed, and in which order their bundles are run.
+//! Worked examples: which shapes are well formed, in which order their bundles are run, and which loops make all turns.
 ghost use Rattle.std.specs.Prelude.{◌≡◌, ◌+◌, ℕ, [], ◌∷◌, ◌++◌, List, true, false, length};
 ghost use Rattle.sp_shape.specs.Formed.{part_formed, function_formed, is_formed};
 ghost use Rattle.sp_shape.specs.Parts.{PlainParts, no_part, part, one, straight, repeats, calls_to, leaves};
@@ -6,6 +6,9 @@ ghost use Rattle.patmos_sem.specs.Registers.{word_in};
 ghost use Rattle.sp_shape.specs.Run.{by_list, by_words, calls, run, run_late, settled};
 ghost use Rattle.sp_shape.specs.Small as small;
 ghost use Rattle.sp_shape.specs.Trail.{does, begins, all_done, trail, copies};
+ghost use Rattle.sp_shape.specs.Turning.{AsksNoMore, ShapeTurns};
+
+use patmos_instr::{CmpFunc, Op};
 
 /// Shapes that are well formed, and one row for each cause for which one is not.
 pub fn worked_shapes()
@@ -44,4 +47,17 @@ pub fn worked_runs()
     ensures asked { length (run by_list (all_done (small.load ∷ small.add 1 ∷ [])) small.beginning).asked ≡ 1 }
     ensures called { (run by_words (all_done small.call ++ begins ∷ []) small.beginning).regs.sro ≡ 9 }
     ensures ways { (run by_words (all_done small.call ++ begins ∷ []) small.beginning).ways ≡ calls ∷ [] }
+{}
+
+/// A loop that counts its turns in r1, and goes back while p1 says that r1 is not 3: it makes all of three turns, read
+/// late or at once, and not two, since the second asks for one more. Where p1 is as a task begins, no turn asks for one.
+pub fn worked_turns()
+    ensures no_more { AsksNoMore (run by_words) small.again small.beginning }
+    ensures three { let count = small.add 1 ∷ small.under small.always (Op.CmpImm CmpFunc.Neq 1 1 3) ∷ [] in
+        ShapeTurns (run by_words) (small.shape_of (part (repeats 3 (one (straight count)) small.again) small.empty ∷ []) 0) small.beginning }
+    ensures three_late { let count = small.add 1 ∷ small.under small.always (Op.CmpImm CmpFunc.Neq 1 1 3) ∷ [] in
+        ShapeTurns (run_late by_words) (small.shape_of (part (repeats 3 (one (straight count)) small.again) small.empty ∷ []) 0) small.beginning }
+    ensures two { let count = small.add 1 ∷ small.under small.always (Op.CmpImm CmpFunc.Neq 1 1 3) ∷ [] in
+        ShapeTurns (run by_words) (small.shape_of (part (repeats 2 (one (straight count)) small.again) small.empty ∷ []) 0) small.beginning → ⊥ }
+    ensures none { ShapeTurns (run by_words) (small.shape_of (small.empty ∷ small.caller 0 ∷ []) 1) small.beginning → ⊥ }
 {}

@@ -1,0 +1,100 @@
+//! Bounds of shapes in memory, worked out by hand for a place where a transaction takes 29 cycles at most.
+ghost use Rattle.std.specs.Prelude.{◌≡◌, ℕ, ◌<◌, IfOk, true};
+ghost use Rattle.sp_shape.specs.Formed.{is_formed, part_formed, function_formed};
+ghost use Rattle.sp_shape.specs.Shown.{parts_of, plain_part, plain_shape};
+
+use crate::making::{again, idle, leave};
+use cycle_bound::{Long, bound_uncounted};
+use slot_arbiter::Place;
+use sp_shape::{Part, Shape};
+use std::alloc::{AllocError, Global};
+use std::test::Fail;
+use tc_word::List;
+
+// one bundle
+#[tactic(auto, unfolding(sp_shape::specs::Shown::plain_part))]
+fn bundle(alloc: Global) -> Result<Part, AllocError>
+    ensures { IfOk result (λ p. (n : ℕ) → part_formed n (plain_part p) ≡ true) }
+{
+    Ok(Part::Straight {
+        bundles: List::of(vec![in alloc; idle()]?),
+    })
+}
+
+// a part in a million turns
+fn million_turns(alloc: Global, body: Part) -> Result<Part, AllocError>
+    requires body { (n : ℕ) → part_formed n (plain_part body) ≡ true }
+    ensures { IfOk result (λ p. (n : ℕ) → part_formed n (plain_part p) ≡ true) }
+{
+    let tail = again(alloc)?;
+    Ok(Part::Repeat {
+        count: 1_000_000,
+        body: List::of(vec![in alloc; body]?),
+        tail,
+    })
+}
+
+// a function of one part and its return
+fn function(alloc: Global, body: Part) -> Result<List<Part>, AllocError>
+    requires body { (n : ℕ) → part_formed n (plain_part body) ≡ true }
+    ensures { IfOk result (λ f. (n : ℕ) → function_formed n (parts_of f) ≡ true) }
+{
+    let leave = leave(alloc)?;
+    Ok(List::of(vec![in alloc; body, leave]?))
+}
+
+// a function of five loops inside one another
+fn five_loops(alloc: Global) -> Result<List<Part>, AllocError>
+    ensures { IfOk result (λ f. (n : ℕ) → function_formed n (parts_of f) ≡ true) }
+{
+    let bundle = bundle(alloc)?;
+    let fifth = million_turns(alloc, bundle)?;
+    let fourth = million_turns(alloc, fifth)?;
+    let third = million_turns(alloc, fourth)?;
+    let second = million_turns(alloc, third)?;
+    let first = million_turns(alloc, second)?;
+    function(alloc, first)
+}
+
+// a function of one bundle and the return
+fn one_bundle(alloc: Global) -> Result<List<Part>, AllocError>
+    ensures { IfOk result (λ f. (n : ℕ) → function_formed n (parts_of f) ≡ true) }
+{
+    let bundle = bundle(alloc)?;
+    function(alloc, bundle)
+}
+
+// a shape of two functions, of which the one of a number is run
+fn shape_of(
+    alloc: Global,
+    first: List<Part>,
+    second: List<Part>,
+    entry: u32,
+) -> Result<Shape, AllocError>
+    requires first { (n : ℕ) → function_formed n (parts_of first) ≡ true }
+    requires second { (n : ℕ) → function_formed n (parts_of second) ≡ true }
+    requires entry { entry < 2 }
+    ensures { IfOk result (λ s. is_formed (plain_shape s) ≡ true) }
+{
+    Ok(Shape {
+        functions: List::of(vec![in alloc; first, second]?),
+        entry,
+        initial: List::of(Vec::new(alloc)),
+        input_at: 4,
+        input_room: 0,
+    })
+}
+
+// Of the function that is run, 1 + 5 words are 2 transactions of 29 cycles, and 5 bundles are run. The other is never
+// called, and its bound of more than 10^30 cycles counts only where it is the one that is run.
+#[test]
+fn only_what_is_run_counts(rt: HostRuntime) -> Result<(), Fail> {
+    let place = Place::new(4, 2, 6, 0).expect(&rt, "a place");
+    for (entry, want) in [(0, Err(Long)), (1, Ok(63))] {
+        let long = five_loops(rt.alloc())?;
+        let short = one_bundle(rt.alloc())?;
+        let shape = shape_of(rt.alloc(), long, short, entry)?;
+        assert_eq!(rt; bound_uncounted(&shape, &place), want, "entry {entry}");
+    }
+    Ok(())
+}

@@ -1,0 +1,16 @@
+//! Tests of the crates that make code of single-path trees: code, its scheduling and linking, and its bound.
+//!
+//! A crate with tests is proved twice, with them and without. So the tests of several crates stand here, over their
+//! public calls alone, and have no part in the program. What a command shows is a case of `cases/` at the top instead.
+#![tactic(auto)]
+
+#[cfg(test)]
+mod bounds;
+#[cfg(test)]
+mod emission;
+#[cfg(test)]
+mod linking;
+#[cfg(test)]
+mod making;
+#[cfg(test)]
+mod scheduling;

@@ -1,0 +1,141 @@
+-- What code asks for, whatever its loads give: bundles that reach the stack alone; and code behind other code.
+use Rattle.std.proofs.Common.{◌≡◌, ℕ, zero, suc, ◌<◌, Bool, true, false, ◌&&◌, if◌then◌else◌, List, [], ◌∷◌, ◌++◌, append-nil, nat_lt, refl, sym, ap, ◌∙◌, subst, true≢false}
+use Rattle.std.specs.List.{list_all}
+use Rattle.std.proofs.lemmas.Bool.{and_parts, ltb-true}
+use Rattle.std.proofs.lemmas.List.{append_assoc}
+use Rattle.std.proofs.lemmas.List.Elements.{All-nil, All-cons, All-append}
+use Rattle.patmos_instr.specs.Bundles.{Slots}
+use Rattle.patmos_instr.specs.declared.functions.StackFunc.TheVariants.{Sres, Sens, Sfree}
+use Rattle.patmos_instr.specs.declared.instructions.Op.{Op}
+use Rattle.patmos_instr.specs.declared.instructions.Op.TheVariants.{AluImm, AluReg, AluLong, Mul, Cmp, CmpImm, Comb, ToSpecial, FromSpecial, Stack, Load, Store, Branch, Call, BranchFill, Return}
+use Rattle.patmos_instr.specs.declared.memories.Mem.TheVariants as mem
+use Rattle.patmos_sem.specs.Effects.{asked}
+use Rattle.patmos_sem.specs.Registers.{Registers, holds}
+use Rattle.patmos_sem.specs.declared.effects.Effect.{Effect}
+use Rattle.patmos_sem.specs.declared.effects.Effect.TheVariants as effect
+use Rattle.sp_tree.specs.Uses.{Use}
+use Rattle.sp_shape.proofs.Whole.{behind, run_append, run_whole}
+use Rattle.sp_shape.specs.Bundles.{part_all, parts_all}
+use Rattle.sp_shape.specs.Formed.{is_call, is_way, is_turn, part_formed, parts_formed}
+use Rattle.sp_shape.specs.Parts.{PlainPart, straight, repeats, calls_to, leaves, PlainParts, no_part, part}
+use Rattle.sp_shape.specs.Run.{Run, Sources, once, effected, run, begun}
+use Rattle.sp_shape.specs.Trail.{Step, begins, all_done, copies, part_trail, parts_trail}
+use Rattle.sp_emit.specs.Accesses.{MayAsk, cached_addresses, cached_address, Asks, AsksOnly}
+
+-- ---- one after another
+
+cached_append : (xs ys : List Effect) → cached_addresses (xs ++ ys) ≡ cached_addresses xs ++ cached_addresses ys
+cached_append [] ys = refl
+cached_append (x ∷ xs) ys = ap (λ l. cached_address x ++ l) (cached_append xs ys) ∙ sym (append_assoc (cached_address x) (cached_addresses xs) (cached_addresses ys))
+
+pub asks_none : (Named : Use → Type 0) (m t : Run) → t.asked ≡ m.asked → Asks Named [] m t
+asks_none Named m t same = record { news = []; is = same ∙ sym (append-nil m.asked); may = All-nil (MayAsk Named); loads = refl }
+
+pub asks_then : {Named : Use → Type 0} {xs ys : List ℕ} {m n t : Run} → Asks Named xs m n → Asks Named ys n t → Asks Named (xs ++ ys) m t
+asks_then {Named} {xs} {ys} {m} {n} {t} a b = record {
+  news = a.news ++ b.news;
+  is = b.is ∙ ap (λ l. l ++ b.news) a.is ∙ append_assoc m.asked a.news b.news;
+  may = All-append (MayAsk Named) a.news b.news a.may b.may;
+  loads = cached_append a.news b.news ∙ ap (λ l. l ++ cached_addresses b.news) a.loads ∙ ap (λ l. xs ++ l) b.loads;
+}
+
+pub asks_append : {Named : Use → Type 0} {xs ys : List Step} → AsksOnly Named xs → AsksOnly Named ys → AsksOnly Named (xs ++ ys)
+asks_append {Named} {xs} {ys} a b = record {
+  cached = a.cached ++ b.cached;
+  asks = λ from m whole. subst (Asks Named (a.cached ++ b.cached) m) (sym (run_append from xs ys m)) (asks_then (a.asks from m whole) (b.asks from (run from xs m) (run_whole from xs m whole)));
+}
+
+pub asks_nothing : (Named : Use → Type 0) → AsksOnly Named []
+asks_nothing Named = record { cached = []; asks = λ from m whole. asks_none Named m m refl }
+
+asks_begun : {Named : Use → Type 0} {xs : List Step} → AsksOnly Named xs → AsksOnly Named (begins ∷ xs)
+asks_begun {Named} {xs} a = record {
+  cached = a.cached;
+  asks = λ from m whole. asks_then (asks_none Named m (begun m) refl) (a.asks from (begun m) (run_whole from (begins ∷ []) m whole));
+}
+
+pub asks_copies : {Named : Use → Type 0} (n : ℕ) (xs : List Step) → AsksOnly Named xs → AsksOnly Named (copies n xs)
+asks_copies {Named} zero xs a = asks_nothing Named
+asks_copies {Named} (suc n) xs a = asks_append a (asks_copies n xs a)
+
+-- ---- bundles that reach no memory but the stack
+
+abbrev is_near_op : Op → Bool
+is_near_op (Load mem.S width rd ra imm) = true
+is_near_op (Load mem.L width rd ra imm) = false
+is_near_op (Load mem.C width rd ra imm) = false
+is_near_op (Load mem.M width rd ra imm) = false
+is_near_op (Store mem.S width ra rs imm) = true
+is_near_op (Store mem.L width ra rs imm) = false
+is_near_op (Store mem.C width ra rs imm) = false
+is_near_op (Store mem.M width ra rs imm) = false
+is_near_op _ = true
+
+abbrev pub is_near : Slots → Bool
+is_near b = is_near_op b.first.op
+
+asks_one : (Named : Use → Type 0) (e : Effect) (m t : Run) → t.asked ≡ m.asked ++ e ∷ [] → MayAsk Named e → cached_address e ≡ [] → Asks Named [] m t
+asks_one Named e m t is may none = record { news = e ∷ []; is = is; may = All-cons (MayAsk Named) e [] may (All-nil (MayAsk Named)); loads = append-nil (cached_address e) ∙ none }
+
+near_effect : (Named : Use → Type 0) (from : Sources) (on : Bool) (op : Op) (regs : Registers) (m : Run) → is_near_op op ≡ true → Asks Named [] m (effected from (if on then asked regs op else effect.Nothing) m)
+near_effect Named from false op regs m near = asks_none Named m m refl
+near_effect Named from true (AluImm func rd ra imm) regs m near = asks_none Named m m refl
+near_effect Named from true (AluReg func rd ra rb) regs m near = asks_none Named m m refl
+near_effect Named from true (AluLong func rd ra constant) regs m near = asks_none Named m m refl
+near_effect Named from true (Mul unsigned ra rb) regs m near = asks_none Named m m refl
+near_effect Named from true (Cmp func pd ra rb) regs m near = asks_none Named m m refl
+near_effect Named from true (CmpImm func pd ra imm) regs m near = asks_none Named m m refl
+near_effect Named from true (Comb func pd a b) regs m near = asks_none Named m m refl
+near_effect Named from true (ToSpecial special ra) regs m near = asks_none Named m m refl
+near_effect Named from true (FromSpecial rd special) regs m near = asks_none Named m m refl
+near_effect Named from true (Branch offset) regs m near = asks_none Named m _ refl
+near_effect Named from true (Call target) regs m near = asks_none Named m _ refl
+near_effect Named from true (BranchFill target) regs m near = asks_none Named m _ refl
+near_effect Named from true Return regs m near = asks_none Named m _ refl
+near_effect Named from true (Load mem.S width rd ra imm) regs m near = asks_one Named (asked regs (Load mem.S width rd ra imm)) m _ refl tt refl
+near_effect Named from true (Load mem.L width rd ra imm) regs m near = absurd (true≢false (sym near))
+near_effect Named from true (Load mem.C width rd ra imm) regs m near = absurd (true≢false (sym near))
+near_effect Named from true (Load mem.M width rd ra imm) regs m near = absurd (true≢false (sym near))
+near_effect Named from true (Store mem.S width ra rs imm) regs m near = asks_one Named (asked regs (Store mem.S width ra rs imm)) m _ refl tt refl
+near_effect Named from true (Store mem.L width ra rs imm) regs m near = absurd (true≢false (sym near))
+near_effect Named from true (Store mem.C width ra rs imm) regs m near = absurd (true≢false (sym near))
+near_effect Named from true (Store mem.M width ra rs imm) regs m near = absurd (true≢false (sym near))
+near_effect Named from true (Stack Sres n) regs m near = asks_one Named (effect.StackOp Sres n) m _ refl tt refl
+near_effect Named from true (Stack Sens n) regs m near = asks_one Named (effect.StackOp Sens n) m _ refl tt refl
+near_effect Named from true (Stack Sfree n) regs m near = asks_one Named (effect.StackOp Sfree n) m _ refl tt refl
+
+near_once : (Named : Use → Type 0) (from : Sources) (b : Slots) (m : Run) → is_near b ≡ true → Asks Named [] m (once from b m)
+near_once Named from b m near =
+    let a = near_effect Named from (holds m.regs b.first.guard) b.first.op m.regs (behind b m) near in
+    record { news = a.news; is = a.is; may = a.may; loads = a.loads }
+
+pub near_run : (Named : Use → Type 0) (from : Sources) (bs : List Slots) (m : Run) → list_all is_near bs ≡ true → Asks Named [] m (run from (all_done bs) m)
+near_run Named from [] m near = asks_none Named m m refl
+near_run Named from (b ∷ bs) m near =
+    let both = and_parts (is_near b) (list_all is_near bs) near in
+    asks_then (near_once Named from b m both.0) (near_run Named from bs (once from b m) both.1)
+
+pub near_asks : (Named : Use → Type 0) (bs : List Slots) → list_all is_near bs ≡ true → AsksOnly Named (all_done bs)
+near_asks Named bs near = record { cached = []; asks = λ from m whole. near_run Named from bs m near }
+
+-- ---- parts of such bundles, and calls
+
+mutual
+  near_part : (Named : Use → Type 0) (f : ℕ → List Step) (number : ℕ) → ((k : ℕ) → k < number → AsksOnly Named (f k)) → (p : PlainPart) → part_formed number p ≡ true → part_all is_near p ≡ true → AsksOnly Named (part_trail f p)
+  near_part Named f number called (straight bs) formed near = near_asks Named bs near
+  near_part Named f number called (repeats n body tail) formed near =
+      let a = and_parts (nat_lt 0 n) (parts_formed number body && is_turn tail) formed in
+      let b = and_parts (parts_formed number body) (is_turn tail) a.1 in
+      let c = and_parts (parts_all is_near body) (list_all is_near tail) near in
+      asks_copies n (parts_trail f body ++ all_done tail) (asks_append (near_parts Named f number called body b.0 c.0) (near_asks Named tail c.1))
+  near_part Named f number called (calls_to k tail) formed near =
+      let a = and_parts (nat_lt k number) (is_way is_call tail) formed in
+      asks_append (near_asks Named tail near) (asks_begun (called k (ltb-true k number a.0)))
+  near_part Named f number called (leaves tail) formed near = near_asks Named tail near
+
+  pub near_parts : (Named : Use → Type 0) (f : ℕ → List Step) (number : ℕ) → ((k : ℕ) → k < number → AsksOnly Named (f k)) → (ps : PlainParts) → parts_formed number ps ≡ true → parts_all is_near ps ≡ true → AsksOnly Named (parts_trail f ps)
+  near_parts Named f number called no_part formed near = asks_nothing Named
+  near_parts Named f number called (part p rest) formed near =
+      let a = and_parts (part_formed number p) (parts_formed number rest) formed in
+      let c = and_parts (part_all is_near p) (parts_all is_near rest) near in
+      asks_append (near_part Named f number called p a.0 c.0) (near_parts Named f number called rest a.1 c.1)

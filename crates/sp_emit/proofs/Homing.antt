@@ -1,0 +1,123 @@
+-- A function returns to the place that was set when it began, whatever its loads from other memories give.
+use Rattle.std.proofs.Common.{◌≡◌, ℕ, Bool, true, false, ◌&&◌, if◌then◌else◌, is_none, Option, None, Some, List, [], ◌∷◌, refl, sym, ◌∙◌, true≢false}
+use Rattle.std.specs.List.{list_all}
+use Rattle.std.proofs.lemmas.Bool.{and_parts}
+use Rattle.patmos_instr.specs.Bundles.{Slots}
+use Rattle.patmos_instr.specs.declared.functions.StackFunc.TheVariants.{Sres, Sens, Sfree}
+use Rattle.patmos_instr.specs.declared.instructions.Instr.{Instr}
+use Rattle.patmos_instr.specs.declared.instructions.Op.{Op}
+use Rattle.patmos_instr.specs.declared.instructions.Op.TheVariants.{AluImm, AluReg, AluLong, Mul, Cmp, CmpImm, Comb, ToSpecial, FromSpecial, Stack, Load, Store, Branch, Call, BranchFill, Return}
+use Rattle.patmos_instr.specs.declared.memories.Mem.TheVariants as mem
+use Rattle.patmos_sem.specs.Bundles.{slot_write, second_write, effect_of}
+use Rattle.patmos_sem.specs.Effects.{write_of}
+use Rattle.patmos_sem.specs.Registers.{Registers, holds}
+use Rattle.patmos_sem.specs.Writes.{came, base_by, offset_by}
+use Rattle.patmos_sem.specs.declared.effects.Effect.{Effect}
+use Rattle.patmos_sem.specs.declared.effects.Effect.TheVariants as effect
+use Rattle.patmos_sem.specs.declared.pending.Pending.{Pending}
+use Rattle.patmos_sem.specs.declared.pending.Pending.TheVariants as pending
+use Rattle.patmos_sem.specs.declared.writes.Write.{Write}
+use Rattle.patmos_sem.specs.declared.writes.Write.TheVariants as write
+use Rattle.sp_shape.proofs.Whole.{behind}
+use Rattle.sp_shape.specs.Run.{Run, Sources, once, effected, run}
+use Rattle.sp_shape.specs.Trail.{all_done}
+
+-- the place that is set, in another state
+pub record SameBack (m t : Run) : Type 0 where
+  pub base : t.regs.srb ≡ m.regs.srb
+  pub offset : t.regs.sro ≡ m.regs.sro
+
+pub back_then : {m n t : Run} → SameBack m n → SameBack n t → SameBack m t
+back_then a b = record { base = b.base ∙ a.base; offset = b.offset ∙ a.offset }
+
+-- a write that sets no special register sets no place
+abbrev is_special : Write → Bool
+is_special (write.Special special value) = true
+is_special _ = false
+
+base_same : (w : Write) (old : ℕ) → is_special w ≡ false → base_by w old ≡ old
+base_same write.Nothing old none = refl
+base_same (write.Register rd value) old none = refl
+base_same (write.Predicate pd value) old none = refl
+base_same (write.Product low high) old none = refl
+base_same (write.Special special value) old none = absurd (true≢false none)
+
+offset_same : (w : Write) (old : ℕ) → is_special w ≡ false → offset_by w old ≡ old
+offset_same write.Nothing old none = refl
+offset_same (write.Register rd value) old none = refl
+offset_same (write.Predicate pd value) old none = refl
+offset_same (write.Product low high) old none = refl
+offset_same (write.Special special value) old none = absurd (true≢false none)
+
+came_none : (p : Pending) → is_special (came p) ≡ false
+came_none pending.Nothing = refl
+came_none (pending.Value rd value) = refl
+came_none (pending.Product low high) = refl
+
+back_effected : (from : Sources) (e : Effect) (m : Run) → SameBack m (effected from e m)
+back_effected from effect.Nothing m = record { base = refl; offset = refl }
+back_effected from (effect.Load space width rd address) m = record { base = refl; offset = refl }
+back_effected from (effect.Store mem.S width address value) m = record { base = refl; offset = refl }
+back_effected from (effect.Store mem.L width address value) m = record { base = refl; offset = refl }
+back_effected from (effect.Store mem.C width address value) m = record { base = refl; offset = refl }
+back_effected from (effect.Store mem.M width address value) m = record { base = refl; offset = refl }
+back_effected from (effect.StackOp Sres count) m = record { base = refl; offset = refl }
+back_effected from (effect.StackOp Sens count) m = record { base = refl; offset = refl }
+back_effected from (effect.StackOp Sfree count) m = record { base = refl; offset = refl }
+back_effected from (effect.Flow kind) m = record { base = refl; offset = refl }
+
+-- nor does an instruction that writes no special register
+abbrev sets_none : Op → Bool
+sets_none (ToSpecial special ra) = false
+sets_none _ = true
+
+abbrev pub keeps_place : Slots → Bool
+keeps_place b = sets_none b.first.op && is_none b.second
+
+written_none : (st ss : ℕ) (regs : Registers) (on : Bool) (op : Op) → sets_none op ≡ true → is_special (if on then write_of st ss regs op else write.Nothing) ≡ false
+written_none st ss regs false op none = refl
+written_none st ss regs true (AluImm func rd ra imm) none = refl
+written_none st ss regs true (AluReg func rd ra rb) none = refl
+written_none st ss regs true (AluLong func rd ra constant) none = refl
+written_none st ss regs true (Mul unsigned ra rb) none = refl
+written_none st ss regs true (Cmp func pd ra rb) none = refl
+written_none st ss regs true (CmpImm func pd ra imm) none = refl
+written_none st ss regs true (Comb func pd a b) none = refl
+written_none st ss regs true (FromSpecial rd special) none = refl
+written_none st ss regs true (Stack func count) none = refl
+written_none st ss regs true (Load space width rd ra imm) none = refl
+written_none st ss regs true (Store space width ra rs imm) none = refl
+written_none st ss regs true (Branch offset) none = refl
+written_none st ss regs true (Call target) none = refl
+written_none st ss regs true (BranchFill target) none = refl
+written_none st ss regs true Return none = refl
+written_none st ss regs true (ToSpecial special ra) none = absurd (true≢false (sym none))
+
+second_none : (st ss : ℕ) (regs : Registers) (second : Option Instr) → is_none second ≡ true → is_special (second_write st ss regs second) ≡ false
+second_none st ss regs None none = refl
+second_none st ss regs (Some i) none = absurd (true≢false (sym none))
+
+behind_back : (b : Slots) (m : Run) → keeps_place b ≡ true → SameBack m (behind b m)
+behind_back b m keeps =
+    let both = and_parts (sets_none b.first.op) (is_none b.second) keeps in
+    let p = came m.regs.pending in
+    let w = slot_write m.st m.ss m.regs b.first in
+    let v = second_write m.st m.ss m.regs b.second in
+    let first = written_none m.st m.ss m.regs (holds m.regs b.first.guard) b.first.op both.0 in
+    let second = second_none m.st m.ss m.regs b.second both.1 in
+    record {
+      base = base_same v (base_by w (base_by p m.regs.srb)) second ∙ base_same w (base_by p m.regs.srb) first ∙ base_same p m.regs.srb (came_none m.regs.pending);
+      offset = offset_same v (offset_by w (offset_by p m.regs.sro)) second ∙ offset_same w (offset_by p m.regs.sro) first ∙ offset_same p m.regs.sro (came_none m.regs.pending);
+    }
+
+once_back : (from : Sources) (b : Slots) (m : Run) → keeps_place b ≡ true → SameBack m (once from b m)
+once_back from b m keeps =
+    let e = effected from (effect_of b m.regs) (behind b m) in
+    let x = back_then (behind_back b m keeps) (back_effected from (effect_of b m.regs) (behind b m)) in
+    record { base = base_same (came e.regs.pending) e.regs.srb (came_none e.regs.pending) ∙ x.base; offset = offset_same (came e.regs.pending) e.regs.sro (came_none e.regs.pending) ∙ x.offset }
+
+pub done_back : (from : Sources) (bs : List Slots) (m : Run) → list_all keeps_place bs ≡ true → SameBack m (run from (all_done bs) m)
+done_back from [] m keeps = record { base = refl; offset = refl }
+done_back from (b ∷ bs) m keeps =
+    let both = and_parts (keeps_place b) (list_all keeps_place bs) keeps in
+    back_then (once_back from b m both.0) (done_back from bs (once from b m) both.1)

@@ -1,0 +1,136 @@
+-- The code of statements stores no word of the stack behind the next counter of turns.
+use Rattle.std.proofs.Common.{◌≡◌, ℕ, ◌+◌, ◌-◌, ◌<◌, ◌≤◌, ◌==◌, true, ◌&&◌, List, Option, None, Some, length, nat_lt, refl, arith}
+use Rattle.std.specs.List.{list_all}
+use Rattle.std.proofs.lemmas.Bool.{and_parts, and_from, lt-ltb, ltb-true}
+use Rattle.patmos_instr.specs.Bundles.{Slots}
+use Rattle.patmos_instr.specs.declared.instructions.Op.{Op}
+use Rattle.patmos_instr.specs.declared.instructions.Op.TheVariants.{AluImm, AluReg, AluLong, Mul, Cmp, CmpImm, Comb, ToSpecial, FromSpecial, Stack, Load, Store, Branch, Call, BranchFill, Return}
+use Rattle.patmos_instr.specs.declared.functions.StackFunc.TheVariants.{Sres, Sens, Sfree}
+use Rattle.patmos_instr.specs.declared.memories.Mem.TheVariants as mem
+use Rattle.patmos_instr.specs.declared.memories.StoreWidth.TheVariants as store
+use Rattle.c_world.specs.declared.region.Region.{Region}
+use Rattle.sp_tree.specs.Formed.{place_formed, expr_formed, callee_formed, args_formed, result_formed, stmt_formed, stmts_formed, stmt_levels, stmts_levels}
+use Rattle.sp_tree.specs.Plain.{PlainSp}
+use Rattle.sp_tree.specs.Statements.{PlainPlace, to_slot, to_cell, to_array, PlainStmt, masks, writes, calls, transfers, overruns, turns, PlainStmts, no_stmt, stmt, PlainFunction}
+use Rattle.sp_shape.specs.Bundles.{parts_all}
+use Rattle.sp_shape.specs.Parts.{straight, repeats, PlainParts, one, joined}
+use Rattle.sp_emit.specs.Expressions.{expr_code}
+use Rattle.sp_emit.specs.Statements.{slot_write, cell_write, element_write, place_write, args_code, call_code, send_code, overrun_code, slot_set, turns_begin, turns_tail, stmt_code, stmts_code}
+use Rattle.sp_emit.specs.declared.registers.TheConstants.{FIRST}
+use Rattle.sp_emit.proofs.Passing.{is_low, passes}
+use Rattle.sp_emit.proofs.Quiet.{each_joined, each_lone, each_so, is_quiet, expr_quiet, args_quiet}
+
+abbrev pub Low : ℕ → PlainParts → Type 0
+Low count parts = parts_all (passes count) parts ≡ true
+
+abbrev pub AreLow : ℕ → List Slots → Type 0
+AreLow count bs = list_all (passes count) bs ≡ true
+
+low_quiet : (count : ℕ) (b : Slots) → is_quiet b ≡ true → passes count b ≡ true
+low_quiet count b quiet = grind (arith, quiet)
+
+low_more : (count more : ℕ) → count ≤ more → (op : Op) → is_low count op ≡ true → is_low more op ≡ true
+low_more count more le (Store mem.S store.Word ra rs imm) low =
+    let both = and_parts (ra == 0) (nat_lt imm count) low in
+    and_from (ra == 0) (nat_lt imm more) both.0 (lt-ltb imm more (omega (arith, le, ltb-true imm count both.1)))
+low_more count more le (Store mem.S store.Half ra rs imm) low = low
+low_more count more le (Store mem.S store.Byte ra rs imm) low = low
+low_more count more le (Store mem.L width ra rs imm) low = refl
+low_more count more le (Store mem.C width ra rs imm) low = refl
+low_more count more le (Store mem.M width ra rs imm) low = refl
+low_more count more le (Stack Sres n) low = low
+low_more count more le (Stack Sens n) low = refl
+low_more count more le (Stack Sfree n) low = low
+low_more count more le (AluImm func rd ra imm) low = refl
+low_more count more le (AluReg func rd ra rb) low = refl
+low_more count more le (AluLong func rd ra constant) low = refl
+low_more count more le (Mul unsigned ra rb) low = refl
+low_more count more le (Cmp func pd ra rb) low = refl
+low_more count more le (CmpImm func pd ra imm) low = refl
+low_more count more le (Comb func pd a b) low = refl
+low_more count more le (ToSpecial special ra) low = refl
+low_more count more le (FromSpecial rd special) low = refl
+low_more count more le (Load space width rd ra imm) low = refl
+low_more count more le (Branch offset) low = refl
+low_more count more le (Call target) low = refl
+low_more count more le (BranchFill target) low = refl
+low_more count more le Return low = refl
+
+pub low_all_more : (count more : ℕ) (parts : PlainParts) → count ≤ more → Low count parts → Low more parts
+low_all_more count more parts le low = each_so (passes count) (passes more) (λ b x. low_more count more le b.first.op x) parts low
+
+pub expr_low : (count : ℕ) (e : PlainSp) (rd : ℕ) → Low count (expr_code e rd)
+expr_low count e rd = each_so is_quiet (passes count) (low_quiet count) (expr_code e rd) (expr_quiet e rd)
+
+pub args_low : (count : ℕ) (args : List PlainSp) (rd : ℕ) → Low count (args_code args rd)
+args_low count args rd = each_so is_quiet (passes count) (low_quiet count) (args_code args rd) (args_quiet args rd)
+
+both : (count : ℕ) (a b : PlainParts) → Low count a → Low count b → Low count (joined a b)
+both count = each_joined (passes count)
+
+-- ---- statements
+
+slot_low : (count slot : ℕ) → slot < count → Low count (slot_set slot)
+slot_low count slot lt = rw (lt-ltb slot count lt) refl
+
+slot_write_low : (count mask slot : ℕ) → slot < count → AreLow count (slot_write mask slot)
+slot_write_low count mask slot lt = rw (lt-ltb slot count lt) refl
+
+cell_write_low : (count mask : ℕ) (r : Region) (word : ℕ) → AreLow count (cell_write mask (record { region = r; word = word }))
+cell_write_low count mask r word = grind arith
+
+element_write_low : (count mask : ℕ) (r : Region) (first length : ℕ) → AreLow count (element_write mask (record { region = r; first = first; length = length }))
+element_write_low count mask r first length = grind arith
+
+place_low : (count slots mask : ℕ) (place : PlainPlace) → slots ≤ count → place_formed slots place ≡ true → Low count (place_write mask place)
+place_low count slots mask (to_slot slot) le formed = each_lone (passes count) (slot_write mask slot) (slot_write_low count mask slot (omega (arith, le, ltb-true slot slots formed)))
+place_low count slots mask (to_cell cell) le formed = each_lone (passes count) (cell_write mask cell) (cell_write_low count mask cell.region cell.word)
+place_low count slots mask (to_array array index) le formed =
+    both count (expr_code index (FIRST + 1)) (one (straight (element_write mask array))) (expr_low count index (FIRST + 1))
+    (each_lone (passes count) (element_write mask array) (element_write_low count mask array.region array.first array.length))
+
+call_low : (count slots frame mask k : ℕ) (result : Option ℕ) → slots ≤ count → result_formed slots result ≡ true → Low count (call_code frame mask k result)
+call_low count slots frame mask k None le formed = refl
+call_low count slots frame mask k (Some slot) le formed = rw (lt-ltb slot count (omega (arith, le, ltb-true slot slots formed))) refl
+
+pub turns_begin_low : (count counter n : ℕ) → counter < count → AreLow count (turns_begin counter n)
+turns_begin_low count counter n lt = rw (lt-ltb counter count lt) refl
+
+pub turns_tail_low : (count counter : ℕ) → counter < count → AreLow count (turns_tail counter)
+turns_tail_low count counter lt = rw (lt-ltb counter count lt) refl
+
+mutual
+  pub stmt_low : (fs : List PlainFunction) (number slots frame counter : ℕ) (t : PlainStmt) → 1 ≤ slots → slots + stmt_levels t ≤ counter + 1 → stmt_formed fs number slots t ≡ true → Low (counter + 1) (stmt_code frame counter t)
+  stmt_low fs number slots frame counter (masks slot e) some levels formed =
+      let parts = and_parts (nat_lt slot slots) (expr_formed slots e) formed in
+      both (counter + 1) (expr_code e FIRST) (slot_set slot) (expr_low (counter + 1) e FIRST) (slot_low (counter + 1) slot (omega (arith, levels, ltb-true slot slots parts.0)))
+  stmt_low fs number slots frame counter (writes mask place e) some levels formed =
+      let parts = and_parts (nat_lt mask slots) (place_formed slots place && expr_formed slots e) formed in
+      let places = and_parts (place_formed slots place) (expr_formed slots e) parts.1 in
+      both (counter + 1) (expr_code e FIRST) (place_write mask place) (expr_low (counter + 1) e FIRST) (place_low (counter + 1) slots mask place (omega (arith, levels)) places.0)
+  stmt_low fs number slots frame counter (calls mask k args result) some levels formed =
+      let a = and_parts (nat_lt mask slots) (callee_formed fs number k (length args) && (args_formed slots args && result_formed slots result)) formed in
+      let b = and_parts (callee_formed fs number k (length args)) (args_formed slots args && result_formed slots result) a.1 in
+      let c = and_parts (args_formed slots args) (result_formed slots result) b.1 in
+      both (counter + 1) (args_code args FIRST) (call_code frame mask k result) (args_low (counter + 1) args FIRST) (call_low (counter + 1) slots frame mask k result (omega (arith, levels)) c.1)
+  stmt_low fs number slots frame counter (transfers mask core source target count) some levels formed =
+      let low = counter + 1 in
+      let sent = one (straight (send_code mask core)) in
+      both low (expr_code source FIRST) (joined (expr_code target (FIRST + 1)) (joined (expr_code count (FIRST + 2)) sent)) (expr_low low source FIRST)
+      (both low (expr_code target (FIRST + 1)) (joined (expr_code count (FIRST + 2)) sent) (expr_low low target (FIRST + 1)) (both low (expr_code count (FIRST + 2)) sent (expr_low low count (FIRST + 2)) refl))
+  stmt_low fs number slots frame counter (overruns mask e) some levels formed =
+      both (counter + 1) (expr_code e FIRST) (one (straight (overrun_code mask))) (expr_low (counter + 1) e FIRST) refl
+  stmt_low fs number slots frame counter (turns count body) some levels formed =
+      let parts = and_parts (nat_lt 0 count) (stmts_formed fs number slots body) formed in
+      let inner = stmts_low fs number slots frame (counter - 1) body some (omega (arith, levels, some)) parts.1 in
+      let low = counter + 1 in
+      let within : Low low (stmts_code frame (counter - 1) body) = low_all_more (counter - 1 + 1) low (stmts_code frame (counter - 1) body) (omega (arith, levels, some)) inner in
+      both low (one (straight (turns_begin counter count))) (one (repeats count (stmts_code frame (counter - 1) body) (turns_tail counter))) (each_lone (passes low) (turns_begin counter count) (turns_begin_low low counter count (omega arith)))
+      (and_from _ true (and_from (parts_all (passes low) (stmts_code frame (counter - 1) body)) (list_all (passes low) (turns_tail counter)) within (turns_tail_low low counter (omega arith))) refl)
+
+  pub stmts_low : (fs : List PlainFunction) (number slots frame counter : ℕ) (ts : PlainStmts) → 1 ≤ slots → slots + stmts_levels ts ≤ counter + 1 → stmts_formed fs number slots ts ≡ true → Low (counter + 1) (stmts_code frame counter ts)
+  stmts_low fs number slots frame counter no_stmt some levels formed = refl
+  stmts_low fs number slots frame counter (stmt t rest) some levels formed =
+      let parts = and_parts (stmt_formed fs number slots t) (stmts_formed fs number slots rest) formed in
+      both (counter + 1) (stmt_code frame counter t) (stmts_code frame counter rest) (stmt_low fs number slots frame counter t some (omega (arith, levels)) parts.0)
+      (stmts_low fs number slots frame counter rest some (omega (arith, levels)) parts.1)

@@ -1,0 +1,177 @@
+-- What the code of writes and sends asks for: the variables and elements that it stores, word 0 of main memory, and the
+-- registers of the interface.
+use Rattle.std.proofs.Common.{◌≡◌, ℕ, ◌+◌, ◌*◌, ◌%◌, ◌^◌, ◌<◌, ◌≤◌, ◌⊎◌, inl, inr, Bool, true, false, not, ◌&&◌, [], ◌∷◌, ◌++◌, nat_lt, refl, sym, ap, ◌∙◌, subst, arith}
+use Rattle.std.specs.Prelude.{nat_le}
+use Rattle.std.proofs.lemmas.Bool.{and_parts, leb-true, ltb-true}
+use Rattle.std.proofs.lemmas.List.Elements.{All-nil, All-cons}
+use Rattle.patmos_instr.specs.declared.functions.ImmFunc.TheVariants as imm
+use Rattle.patmos_instr.specs.declared.instructions.Op.TheVariants.{AluImm, Store}
+use Rattle.patmos_instr.specs.declared.memories.Mem.{Mem}
+use Rattle.patmos_instr.specs.declared.memories.Mem.TheVariants as mem
+use Rattle.patmos_instr.specs.declared.memories.StoreWidth.TheVariants as store
+use Rattle.patmos_sem.specs.Effects.{address_of as address_by}
+use Rattle.patmos_sem.specs.declared.effects.Effect.TheVariants as effect
+use Rattle.patmos_sem.specs.declared.writes.Write.TheVariants as write
+use Rattle.c_world.specs.Shown.{room_in}
+use Rattle.sp_tree.specs.Formed.{all_rooms, first_of, cell_formed, array_formed}
+use Rattle.sp_tree.specs.Uses.{Use, writes_cell, writes_array, sends_to}
+use Rattle.sp_tree.specs.declared.expressions.SpArray.{SpArray}
+use Rattle.sp_tree.specs.declared.expressions.SpCell.{SpCell}
+use Rattle.sp_shape.proofs.Whole.{run_whole}
+use Rattle.sp_shape.specs.Run.{Run, Sources, once, run, IsWhole}
+use Rattle.sp_shape.specs.Trail.{all_done}
+use Rattle.sp_emit.specs.Accesses.{IsStoredPlace, MayAsk, Asks, AsksOnly}
+use Rattle.sp_emit.specs.Expressions.{address_of, cell_space, array_space}
+use Rattle.sp_emit.specs.Holding.{held}
+use Rattle.sp_emit.specs.Instructions.{always, where_so, where_not, set_long, set_short, store_to}
+use Rattle.sp_emit.specs.Statements.{mask_test, masked_store, cell_write, element_write, send_test, send_code}
+use Rattle.sp_emit.specs.declared.registers.TheConstants.{FIRST, SPARE, TEST}
+use Rattle.sp_emit.proofs.Accessing.{asks_none, asks_then, near_run}
+use Rattle.sp_emit.proofs.Cells.{element_address, few_words, first_small}
+use Rattle.sp_emit.proofs.Leaving.{did_set_short, constant_leaves}
+use Rattle.sp_emit.proofs.Once.{so, with_written, did_nothing, whole_written, got}
+use Rattle.sp_emit.proofs.PlaceWrites.{element_address_made, reaches}
+use Rattle.sp_emit.proofs.Storing.{with_store, did_store}
+
+-- ---- stores
+
+-- one store more of a whole word
+asks_store : (Named : Use → Type 0) (space : Mem) (address value : ℕ) (m t : Run) → t.asked ≡ m.asked ++ effect.Store space store.Word address value ∷ [] → MayAsk Named (effect.Store space store.Word address value) → Asks Named [] m t
+asks_store Named space address value m t is may = record { news = effect.Store space store.Word address value ∷ []; is = is; may = All-cons (MayAsk Named) (effect.Store space store.Word address value) [] may (All-nil (MayAsk Named)); loads = refl }
+
+may_store : (Named : Use → Type 0) (space : Mem) (address value : ℕ) → IsStoredPlace Named space address → MayAsk Named (effect.Store space store.Word address value)
+may_store Named mem.S address value place = tt
+may_store Named mem.L address value place = (refl, place)
+may_store Named mem.C address value place = (refl, place)
+may_store Named mem.M address value place = (refl, place)
+
+-- a store of a word asks for itself, and leaves the registers
+asked_by_store : (space : Mem) (address value : ℕ) (m : Run) → (with_store space address value m).asked ≡ m.asked ++ effect.Store space store.Word address value ∷ []
+asked_by_store mem.S address value m = refl
+asked_by_store mem.L address value m = refl
+asked_by_store mem.C address value m = refl
+asked_by_store mem.M address value m = refl
+
+-- a store that is always made, at an address
+store_asks : (Named : Use → Type 0) (from : Sources) (space : Mem) (at address : ℕ) (m : Run) → IsWhole m → address_by (held at m) 0 4 ≡ address → IsStoredPlace Named space address → Asks Named [] m (once from (store_to always space at FIRST 0) m)
+store_asks Named from space at address m whole is place =
+    asks_store Named space address (held FIRST m) m (once from (store_to always space at FIRST 0) m)
+    (ap (λ t. t.asked) (did_store from always space at FIRST 0 m whole whole.fits.always) ∙ asked_by_store space (address_by (held at m) 0 4) (held FIRST m) m
+    ∙ ap (λ a. m.asked ++ effect.Store space store.Word a (held FIRST m) ∷ []) is)
+    (may_store Named space address (held FIRST m) place)
+
+-- one that is made where the predicate is true
+store_where : (Named : Use → Type 0) (from : Sources) (at rs imm address : ℕ) (b : Bool) (m : Run) → IsWhole m → so TEST m ≡ b → (b ≡ true → address_by (held at m) imm 4 ≡ address) → (b ≡ true → IsStoredPlace Named mem.L address)
+    → Asks Named [] m (once from (store_to (where_so TEST) mem.L at rs imm) m)
+store_where Named from at rs imm address false m whole off is place = asks_none Named m _ (ap (λ t. t.asked) (did_nothing from (where_so TEST) (Store mem.L store.Word at rs imm) m whole off))
+store_where Named from at rs imm address true m whole on is place =
+    asks_store Named mem.L address (held rs m) m (once from (store_to (where_so TEST) mem.L at rs imm) m)
+    (ap (λ t. t.asked) (did_store from (where_so TEST) mem.L at rs imm m whole on) ∙ ap (λ a. m.asked ++ effect.Store mem.L store.Word a (held rs m) ∷ []) (is refl))
+    (refl, place refl)
+
+-- one that is made at address 0 where it is false
+store_or_0 : (Named : Use → Type 0) (from : Sources) (space : Mem) (at address : ℕ) (b : Bool) (m : Run) → (space ≡ mem.C) ⊎ (space ≡ mem.M) → 1 ≤ at → at < 32 → IsWhole m → so TEST m ≡ b → (b ≡ true → address_by (held at m) 0 4 ≡ address)
+    → (b ≡ true → IsStoredPlace Named space address) → Asks Named [] m (once from (store_to always space at FIRST 0) (once from (set_short (where_not TEST) at 0) m))
+store_or_0 Named from space at address true m main some few whole on is place =
+    subst (λ n. Asks Named [] m (once from (store_to always space at FIRST 0) n)) (sym (did_nothing from (where_not TEST) (AluImm imm.Add at 0 0) m whole (ap not on))) (store_asks Named from space at address m whole (is refl) (place refl))
+store_or_0 Named from space at address false m main some few whole off is place =
+    let w = write.Register at ((0 + 0) % 2 ^ 32) in
+    let n = with_written w m in
+    let h = whole_written w m whole in
+    let set = did_set_short from (where_not TEST) at 0 m whole (ap not off) in
+    let zero_is : address_by (held at n) 0 4 ≡ 0 = ap (λ a. address_by a 0 4) (got at ((0 + 0) % 2 ^ 32) m whole some few) in
+    let a = store_asks Named from space at 0 n h zero_is (inr (inr (inl (record { space_is = main; address_is = refl })))) in
+    subst (λ n. Asks Named [] m (once from (store_to always space at FIRST 0) n)) (sym set) (record { news = a.news; is = a.is; may = a.may; loads = a.loads })
+
+-- a masked store, at an address that is made where the predicate is true
+masked_asks : (Named : Use → Type 0) (from : Sources) (space : Mem) (at address : ℕ) (b : Bool) (m : Run) → 1 ≤ at → at < 32 → IsWhole m → so TEST m ≡ b → (b ≡ true → address_by (held at m) 0 4 ≡ address)
+    → (b ≡ true → IsStoredPlace Named space address) → Asks Named [] m (run from (all_done (masked_store space at)) m)
+masked_asks Named from mem.S at address b m some few whole test is place = asks_none Named m m refl
+masked_asks Named from mem.L at address b m some few whole test is place = store_where Named from at FIRST 0 address b m whole test is place
+masked_asks Named from mem.C at address b m some few whole test is place = store_or_0 Named from mem.C at address b m (inl refl) some few whole test is place
+masked_asks Named from mem.M at address b m some few whole test is place = store_or_0 Named from mem.M at address b m (inr refl) some few whole test is place
+
+-- ---- variables
+
+pub cell_write_asks : (Named : Use → Type 0) (mask : ℕ) (c : SpCell) → cell_formed c ≡ true → Named (writes_cell c) → AsksOnly Named (all_done (cell_write mask c))
+cell_write_asks Named mask c formed named = record { cached = []; asks = asks }
+  where
+    at : ℕ
+    at = address_of c.region c.word
+
+    small : address_of c.region c.word < 2 ^ 32
+    small = first_small c.region c.word (omega (arith, ltb-true c.word (room_in c.region all_rooms) (and_parts (nat_le (first_of c.region) c.word) (nat_lt c.word (room_in c.region all_rooms)) formed).1))
+
+    asks : (from : Sources) (m : Run) → IsWhole m → Asks Named [] m (run from (all_done (cell_write mask c)) m)
+    asks from m whole =
+        let n = run from (all_done (mask_test mask)) m in
+        let h = run_whole from (all_done (mask_test mask)) m whole in
+        let u = once from (set_long SPARE at) n in
+        let hu = run_whole from (all_done (set_long SPARE at ∷ [])) n h in
+        asks_then (near_run Named from (mask_test mask) m refl) (asks_then (near_run Named from (set_long SPARE at ∷ []) n refl)
+        (masked_asks Named from (cell_space c.region) SPARE at (so TEST u) u (omega arith) (omega arith) hu refl
+        (λ on. ap (λ a. address_by a 0 4) (constant_leaves from SPARE at n h (omega arith) (omega arith) small) ∙ omega (arith, small))
+        (λ on. inl (c, named, record { formed = formed; space_is = refl; address_is = refl }))))
+
+-- ---- elements
+
+pub element_write_asks : (Named : Use → Type 0) (mask : ℕ) (a : SpArray) → array_formed a ≡ true → Named (writes_array a) → AsksOnly Named (all_done (element_write mask a))
+unfolding element_address_made
+element_write_asks Named mask a formed named = record { cached = []; asks = asks }
+  where
+    within : a.first + a.length ≤ room_in a.region all_rooms
+    within = leb-true (a.first + a.length) (room_in a.region all_rooms) (and_parts (nat_le (first_of a.region) a.first) (nat_le (a.first + a.length) (room_in a.region all_rooms)) formed).1
+
+    asks : (from : Sources) (m : Run) → IsWhole m → Asks Named [] m (run from (all_done (element_write mask a)) m)
+    asks from m whole =
+        let n = run from (all_done (mask_test mask)) m in
+        let h = run_whole from (all_done (mask_test mask)) m whole in
+        let made = element_address_made [] a.length (address_of a.region a.first) in
+        let u = run from (all_done made) n in
+        let i = held (FIRST + 1) n in
+        let b = so TEST n in
+        let r = reaches from b 0 i a.length (address_of a.region a.first) n h refl refl (omega (arith, within, few_words a.region)) (first_small a.region a.first (omega (arith, within))) in
+        let less : (b && nat_lt i a.length) ≡ true → i < a.length = λ on. ltb-true i a.length (and_parts b (nat_lt i a.length) on).1 in
+        asks_then (near_run Named from (mask_test mask) m refl) (asks_then (near_run Named from made n refl)
+        (masked_asks Named from (array_space a.region) (FIRST + 1) (address_of a.region (a.first + i)) (b && nat_lt i a.length) u (omega arith) (omega arith) r.keeps.whole r.test
+        (λ on. ap (λ x. address_by x 0 4) r.at ∙ element_address a.region a.first i (omega (arith, within, less on)))
+        (λ on. inr (inl (a, named, record { formed = formed; index = i; within = less on; space_is = refl; address_is = refl })))))
+
+-- ---- sends
+
+pub send_asks : (Named : Use → Type 0) (mask core : ℕ) → core < 16 → Named (sends_to core) → AsksOnly Named (all_done (send_code mask core))
+send_asks Named mask core few named = record { cached = []; asks = asks }
+  where
+    address : ℕ
+    address = 0x20000 + 16 * core
+
+    -- a register of the interface, where the spare register has the address of the core's registers
+    port : (from : Sources) (rs i : ℕ) (n : Run) → i < 3 → IsWhole n → held SPARE n ≡ 0x20000 + 16 * core → Asks Named [] n (once from (store_to (where_so TEST) mem.L SPARE rs i) n)
+    port from rs i n low h at =
+        store_where Named from SPARE rs i (0x20000 + 16 * core + 4 * i) (so TEST n) n h refl
+        (λ on. ap (λ a. address_by a i 4) at ∙ omega (arith, few, low))
+        (λ on. inr (inr (inr (core, named, record { register = i; within = low; space_is = refl; address_is = refl }))))
+
+    same : (from : Sources) (rs i : ℕ) (n : Run) → IsWhole n → held SPARE (once from (store_to (where_so TEST) mem.L SPARE rs i) n) ≡ held SPARE n
+    same from rs i n h = by (so TEST n) refl
+      where
+        by : (b : Bool) → so TEST n ≡ b → held SPARE (once from (store_to (where_so TEST) mem.L SPARE rs i) n) ≡ held SPARE n
+        by true on = ap (held SPARE) (did_store from (where_so TEST) mem.L SPARE rs i n h on)
+        by false off = ap (held SPARE) (did_nothing from (where_so TEST) (Store mem.L store.Word SPARE rs i) n h off)
+
+    asks : (from : Sources) (m : Run) → IsWhole m → Asks Named [] m (run from (all_done (send_code mask core)) m)
+    asks from m whole =
+        let before = mask_test mask ++ (send_test ++ set_long SPARE (0x20000 + 16 * core) ∷ []) in
+        let n = run from (all_done (mask_test mask ++ send_test)) m in
+        let h = run_whole from (all_done (mask_test mask ++ send_test)) m whole in
+        let u = once from (set_long SPARE (0x20000 + 16 * core)) n in
+        let hu = run_whole from (all_done (set_long SPARE (0x20000 + 16 * core) ∷ [])) n h in
+        let at = constant_leaves from SPARE (0x20000 + 16 * core) n h (omega arith) (omega arith) (omega (arith, few)) in
+        let u1 = once from (store_to (where_so TEST) mem.L SPARE FIRST 0) u in
+        let h1 = run_whole from (all_done (store_to (where_so TEST) mem.L SPARE FIRST 0 ∷ [])) u hu in
+        let at1 = same from FIRST 0 u hu ∙ at in
+        let u2 = once from (store_to (where_so TEST) mem.L SPARE (FIRST + 1) 1) u1 in
+        let h2 = run_whole from (all_done (store_to (where_so TEST) mem.L SPARE (FIRST + 1) 1 ∷ [])) u1 h1 in
+        let at2 = same from (FIRST + 1) 1 u1 h1 ∙ at1 in
+        asks_then (near_run Named from before m refl)
+        (asks_then (port from FIRST 0 u (omega arith) hu at) (asks_then (port from (FIRST + 1) 1 u1 (omega arith) h1 at1) (port from (FIRST + 2) 2 u2 (omega arith) h2 at2)))

@@ -1,0 +1,159 @@
+-- The code of statements, functions and tasks asks for what their trees name.
+use Rattle.std.proofs.Common.{◌≡◌, ℕ, zero, suc, ◌+◌, ◌-◌, ◌<◌, ◌≤◌, ◌==◌, ◌⊎◌, inl, inr, Bool, true, false, ◌&&◌, if◌then◌else◌, Option, None, Some, List, [], ◌∷◌, ◌++◌, length, map, slice_index_or, nat_lt, refl, sym, subst, arith}
+use Rattle.std.specs.Prelude.{nat_le}
+use Rattle.std.specs.List.{All, list_all}
+use Rattle.std.proofs.lemmas.Bool.{cases_lt, and_parts, leb-true, ltb-true, eqb-true, eqb-false}
+use Rattle.std.proofs.lemmas.List.{get_or-map, length-map}
+use Rattle.patmos_instr.specs.Bundles.{Slots}
+use Rattle.sp_tree.proofs.Forms.{earlier_one}
+use Rattle.sp_tree.specs.Formed.{names_words, send_formed, place_formed, array_formed, expr_formed, callee_formed, args_formed, result_formed, stmt_formed, stmts_formed, function_formed, functions_formed, entry_formed, is_formed, slots_of}
+use Rattle.sp_tree.specs.Need.{need}
+use Rattle.sp_tree.specs.Plain.{PlainSp}
+use Rattle.sp_tree.specs.Statements.{PlainPlace, to_slot, to_cell, to_array, PlainStmt, masks, writes, calls, transfers, overruns, turns, PlainStmts, no_stmt, stmt, PlainFunction, no_function, PlainUnit}
+use Rattle.sp_tree.specs.Uses.{Use, expr_uses, args_uses, place_uses, stmt_uses, stmts_uses, functions_uses, uses_of}
+use Rattle.sp_shape.specs.Bundles.{parts_all}
+use Rattle.sp_shape.specs.Parts.{straight, no_part, one, joined}
+use Rattle.sp_shape.specs.Trail.{Step, all_done, parts_trail, trails, trail}
+use Rattle.sp_emit.specs.Accesses.{AsksOnly}
+use Rattle.sp_emit.specs.Expressions.{expr_code}
+use Rattle.sp_emit.specs.Fits.{ExprFits}
+use Rattle.sp_emit.specs.Functions.{arguments_kept, argument_kept, state_kept, first_counter, function_begin, function_end, function_rest, function_code, return_tail, emitted}
+use Rattle.sp_emit.specs.Statements.{slot_write, cell_write, element_write, place_write, args_code, call_code, send_code, overrun_code, slot_set, turns_begin, turns_tail, stmt_code, stmts_code}
+use Rattle.sp_emit.specs.Instructions.{always, store_slot}
+use Rattle.sp_emit.specs.declared.registers.TheConstants.{FIRST}
+use Rattle.sp_emit.proofs.Accessing.{asks_append, asks_nothing, asks_copies, is_near, near_asks, near_parts}
+use Rattle.sp_emit.proofs.Formed.{call_formed}
+use Rattle.sp_emit.proofs.Quiet.{each_append}
+use Rattle.sp_emit.proofs.Serves.{parts_of_function, code_of}
+use Rattle.sp_emit.proofs.StoreAsks.{cell_write_asks, element_write_asks, send_asks}
+use Rattle.sp_emit.proofs.ValueAsks.{AreNamed, are_named, named_left, named_right, asks_joined, asks_lone, expr_asks}
+
+-- ---- values
+
+fits : (slots rd : ℕ) (e : PlainSp) → slots ≤ 128 → rd ≤ 9 → expr_formed slots e ≡ true → ExprFits e rd
+fits slots rd e most few formed =
+    let parts = and_parts (names_words slots e) (nat_le (need e) 12) formed in
+    record { slots = slots; most = most; names = parts.0; registers = omega (arith, few, leb-true (need e) 12 parts.1) }
+
+value_asks : (Named : Use → Type 0) (f : ℕ → List Step) (slots rd : ℕ) (e : PlainSp) → slots ≤ 128 → 1 ≤ rd → rd ≤ 9 → expr_formed slots e ≡ true → AreNamed Named (expr_uses e) → AsksOnly Named (parts_trail f (expr_code e rd))
+value_asks Named f slots rd e most some few formed named = expr_asks Named f e rd some (fits slots rd e most few formed) named
+
+args_ask : (Named : Use → Type 0) (f : ℕ → List Step) (slots : ℕ) (args : List PlainSp) (rd : ℕ) → slots ≤ 128 → 1 ≤ rd → rd + length args ≤ 10 → args_formed slots args ≡ true → AreNamed Named (args_uses args) → AsksOnly Named (parts_trail f (args_code args rd))
+args_ask Named f slots [] rd most some few formed named = asks_nothing Named
+args_ask Named f slots (e ∷ args) rd most some few formed named =
+    let parts = and_parts (expr_formed slots e) (args_formed slots args) formed in
+    asks_joined f (expr_code e rd) (args_code args (rd + 1)) (value_asks Named f slots rd e most some (omega (arith, few)) parts.0 (named_left Named (expr_uses e) (args_uses args) named))
+    (args_ask Named f slots args (rd + 1) most (omega arith) (omega (arith, few)) parts.1 (named_right Named (expr_uses e) (args_uses args) named))
+
+-- bundles that reach the stack alone
+near_lone : (Named : Use → Type 0) (f : ℕ → List Step) (bs : List Slots) → list_all is_near bs ≡ true → AsksOnly Named (parts_trail f (one (straight bs)))
+near_lone Named f bs near = asks_lone f bs (near_asks Named bs near)
+
+place_asks : (Named : Use → Type 0) (f : ℕ → List Step) (slots mask : ℕ) (place : PlainPlace) → slots ≤ 128 → place_formed slots place ≡ true → AreNamed Named (place_uses place) → AsksOnly Named (parts_trail f (place_write mask place))
+place_asks Named f slots mask (to_slot slot) most formed named = near_lone Named f (slot_write mask slot) refl
+place_asks Named f slots mask (to_cell cell) most formed named = asks_lone f (cell_write mask cell) (cell_write_asks Named mask cell formed named.0)
+place_asks Named f slots mask (to_array array index) most formed named =
+    let parts = and_parts (array_formed array) (expr_formed slots index) formed in
+    asks_joined f (expr_code index (FIRST + 1)) (one (straight (element_write mask array))) (value_asks Named f slots (FIRST + 1) index most (omega arith) (omega arith) parts.1 named.1)
+    (asks_lone f (element_write mask array) (element_write_asks Named mask array parts.0 named.0))
+
+-- ---- statements, over what earlier functions ask for
+
+call_near : (frame mask k : ℕ) (result : Option ℕ) → parts_all is_near (call_code frame mask k result) ≡ true
+call_near frame mask k None = refl
+call_near frame mask k (Some slot) = refl
+
+mutual
+  stmt_asks : (Named : Use → Type 0) (f : ℕ → List Step) (fs : List PlainFunction) (number slots frame counter : ℕ) → ((k : ℕ) → k < number → AsksOnly Named (f k)) → functions_formed fs number ≡ true → slots ≤ 128
+      → (t : PlainStmt) → stmt_formed fs number slots t ≡ true → AreNamed Named (stmt_uses t) → AsksOnly Named (parts_trail f (stmt_code frame counter t))
+  stmt_asks Named f fs number slots frame counter called earlier most (masks slot e) formed named =
+      let parts = and_parts (nat_lt slot slots) (expr_formed slots e) formed in
+      asks_joined f (expr_code e FIRST) (slot_set slot) (value_asks Named f slots FIRST e most (omega arith) (omega arith) parts.1 named) (near_lone Named f (store_slot always slot FIRST ∷ []) refl)
+  stmt_asks Named f fs number slots frame counter called earlier most (writes mask place e) formed named =
+      let parts = and_parts (nat_lt mask slots) (place_formed slots place && expr_formed slots e) formed in
+      let places = and_parts (place_formed slots place) (expr_formed slots e) parts.1 in
+      asks_joined f (expr_code e FIRST) (place_write mask place) (value_asks Named f slots FIRST e most (omega arith) (omega arith) places.1 (named_right Named (place_uses place) (expr_uses e) named))
+      (place_asks Named f slots mask place most places.0 (named_left Named (place_uses place) (expr_uses e) named))
+  stmt_asks Named f fs number slots frame counter called earlier most (calls mask k args result) formed named =
+      let a = and_parts (nat_lt mask slots) (callee_formed fs number k (length args) && (args_formed slots args && result_formed slots result)) formed in
+      let b = and_parts (callee_formed fs number k (length args)) (args_formed slots args && result_formed slots result) a.1 in
+      let callee = and_parts (nat_lt k number) (length args == (slice_index_or fs k no_function).parameters) b.0 in
+      let c = and_parts (args_formed slots args) (result_formed slots result) b.1 in
+      let few = (parts_of_function fs k (slice_index_or fs k no_function) (earlier_one fs k number (ltb-true k number callee.0) earlier)).parameters in
+      asks_joined f (args_code args FIRST) (call_code frame mask k result)
+      (args_ask Named f slots args FIRST most (omega arith) (omega (arith, few, eqb-true (length args) (slice_index_or fs k no_function).parameters callee.1)) c.0 named)
+      (near_parts Named f number called (call_code frame mask k result) (call_formed number frame mask k result callee.0) (call_near frame mask k result))
+  stmt_asks Named f fs number slots frame counter called earlier most (transfers mask core source target count) formed named =
+      let parts = and_parts (nat_lt mask slots) (send_formed slots core source target count) formed in
+      let send = and_parts (nat_lt core 16) (expr_formed slots source && (expr_formed slots target && expr_formed slots count)) parts.1 in
+      let first = and_parts (expr_formed slots source) (expr_formed slots target && expr_formed slots count) send.1 in
+      let rest = and_parts (expr_formed slots target) (expr_formed slots count) first.1 in
+      let behind = named_right Named (expr_uses source) (expr_uses target ++ expr_uses count) named.1 in
+      let sent = one (straight (send_code mask core)) in
+      asks_joined f (expr_code source FIRST) (joined (expr_code target (FIRST + 1)) (joined (expr_code count (FIRST + 2)) sent))
+      (value_asks Named f slots FIRST source most (omega arith) (omega arith) first.0 (named_left Named (expr_uses source) (expr_uses target ++ expr_uses count) named.1))
+      (asks_joined f (expr_code target (FIRST + 1)) (joined (expr_code count (FIRST + 2)) sent) (value_asks Named f slots (FIRST + 1) target most (omega arith) (omega arith) rest.0 (named_left Named (expr_uses target) (expr_uses count) behind))
+      (asks_joined f (expr_code count (FIRST + 2)) sent (value_asks Named f slots (FIRST + 2) count most (omega arith) (omega arith) rest.1 (named_right Named (expr_uses target) (expr_uses count) behind))
+      (asks_lone f (send_code mask core) (send_asks Named mask core (ltb-true core 16 send.0) named.0))))
+  stmt_asks Named f fs number slots frame counter called earlier most (overruns mask e) formed named =
+      let parts = and_parts (nat_lt mask slots) (expr_formed slots e) formed in
+      asks_joined f (expr_code e FIRST) (one (straight (overrun_code mask))) (value_asks Named f slots FIRST e most (omega arith) (omega arith) parts.1 named) (near_lone Named f (overrun_code mask) refl)
+  stmt_asks Named f fs number slots frame counter called earlier most (turns count body) formed named =
+      let parts = and_parts (nat_lt 0 count) (stmts_formed fs number slots body) formed in
+      let code = stmts_code frame (counter - 1) body in
+      asks_append (near_asks Named (turns_begin counter count) refl)
+      (asks_append (asks_copies count (parts_trail f code ++ all_done (turns_tail counter)) (asks_append (stmts_ask Named f fs number slots frame (counter - 1) called earlier most body parts.1 named) (near_asks Named (turns_tail counter) refl))) (asks_nothing Named))
+
+  stmts_ask : (Named : Use → Type 0) (f : ℕ → List Step) (fs : List PlainFunction) (number slots frame counter : ℕ) → ((k : ℕ) → k < number → AsksOnly Named (f k)) → functions_formed fs number ≡ true → slots ≤ 128
+      → (ts : PlainStmts) → stmts_formed fs number slots ts ≡ true → AreNamed Named (stmts_uses ts) → AsksOnly Named (parts_trail f (stmts_code frame counter ts))
+  stmts_ask Named f fs number slots frame counter called earlier most no_stmt formed named = asks_nothing Named
+  stmts_ask Named f fs number slots frame counter called earlier most (stmt t rest) formed named =
+      let parts = and_parts (stmt_formed fs number slots t) (stmts_formed fs number slots rest) formed in
+      asks_joined f (stmt_code frame counter t) (stmts_code frame counter rest) (stmt_asks Named f fs number slots frame counter called earlier most t parts.0 (named_left Named (stmt_uses t) (stmts_uses rest) named))
+      (stmts_ask Named f fs number slots frame counter called earlier most rest parts.1 (named_right Named (stmt_uses t) (stmts_uses rest) named))
+
+-- ---- functions
+
+arguments_near : (n : ℕ) → list_all is_near (arguments_kept n) ≡ true
+arguments_near zero = refl
+arguments_near (suc n) = each_append is_near (arguments_kept n) (argument_kept n) (arguments_near n) refl
+
+function_asks : (Named : Use → Type 0) (code : ℕ → List Step) (fs : List PlainFunction) (number : ℕ) (f : PlainFunction) → ((k : ℕ) → k < number → AsksOnly Named (code k)) → functions_formed fs number ≡ true → function_formed fs number f ≡ true
+    → AreNamed Named (stmts_uses f.body) → AsksOnly Named (parts_trail code (function_code f))
+function_asks Named code fs number f called earlier formed named =
+    let p = parts_of_function fs number f formed in
+    asks_append (near_asks Named (function_begin f) (each_append is_near (arguments_kept f.parameters) (state_kept f) (arguments_near f.parameters) refl))
+    (asks_joined code (stmts_code f.frame (first_counter f) f.body) (function_rest f) (stmts_ask Named code fs number (slots_of f) f.frame (first_counter f) called earlier (omega (arith, p.room, p.frame)) f.body p.body named)
+    (asks_append (near_asks Named (function_end f) refl) (asks_append (near_asks Named return_tail refl) (asks_nothing Named))))
+
+-- what is said of all uses is said of each function's
+function_named : (Named : Use → Type 0) (fs : List PlainFunction) (k : ℕ) → AreNamed Named (functions_uses fs) → k < length fs → AreNamed Named (stmts_uses (slice_index_or fs k no_function).body)
+function_named Named [] k named less = absurd (omega (arith, less))
+function_named Named (f ∷ fs) zero named less = named_left Named (stmts_uses f.body) (functions_uses fs) named
+function_named Named (f ∷ fs) (suc k) named less = function_named Named fs k (named_right Named (stmts_uses f.body) (functions_uses fs) named) (omega (arith, less))
+
+functions_ask : (Named : Use → Type 0) (fs : List PlainFunction) → AreNamed Named (functions_uses fs) → (n : ℕ) → n ≤ length fs → functions_formed fs n ≡ true → (k : ℕ) → k < n → AsksOnly Named (code_of fs n k)
+functions_ask Named fs named zero within formed k less = absurd (omega (arith, less))
+functions_ask Named fs named (suc n) within formed k less =
+    let parts = and_parts (functions_formed fs n) (function_formed fs n (slice_index_or fs n no_function)) formed in
+    by parts.0 parts.1 (functions_ask Named fs named n (omega (arith, within)) parts.0) (k == n) refl
+  where
+    by : functions_formed fs n ≡ true → function_formed fs n (slice_index_or fs n no_function) ≡ true → ((j : ℕ) → j < n → AsksOnly Named (code_of fs n j)) → (b : Bool) → (k == n) ≡ b
+        → AsksOnly Named (if b then parts_trail (code_of fs n) (slice_index_or (map function_code fs) n no_part) else code_of fs n k)
+    by earlier own before true is =
+        subst (λ c. AsksOnly Named (parts_trail (code_of fs n) c)) (sym (get_or-map function_code fs n no_function no_part (omega (arith, within))))
+        (function_asks Named (code_of fs n) fs n (slice_index_or fs n no_function) before earlier own (function_named Named fs n named (omega (arith, within))))
+    by earlier own before false other = before k (less_still (cases_lt k n))
+      where
+        less_still : (k < n) ⊎ (n ≤ k) → k < n
+        less_still (inl lt) = lt
+        less_still (inr ge) = absurd (eqb-false k n other (omega (arith, ge, less)))
+
+pub task_asks : (Named : Use → Type 0) (u : PlainUnit) → is_formed u ≡ true → All Named (uses_of u) → AsksOnly Named (trail (emitted u))
+task_asks Named u formed named =
+    let a = and_parts (nat_le (length u.functions) 512) _ formed in
+    let b = and_parts (functions_formed u.functions (length u.functions)) _ a.1 in
+    let c = and_parts (entry_formed u) _ b.1 in
+    let d = and_parts (nat_lt u.entry (length u.functions)) ((slice_index_or u.functions u.entry no_function).parameters == 0) c.0 in
+    subst (λ n. AsksOnly Named (trails (map function_code u.functions) n u.entry)) (sym (length-map u.functions function_code))
+    (functions_ask Named u.functions (are_named Named (uses_of u) named) (length u.functions) (omega arith) b.0 u.entry (ltb-true u.entry (length u.functions) d.0))

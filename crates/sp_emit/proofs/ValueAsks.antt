@@ -1,0 +1,221 @@
+-- What the code of values asks for: the variables and elements that it reads.
+use Rattle.std.proofs.Common.{◌≡◌, ℕ, suc, ◌+◌, ◌*◌, ◌%◌, ◌^◌, ◌<◌, ◌≤◌, inl, inr, Bool, true, false, not, if◌then◌else◌, List, [], ◌∷◌, ◌++◌, append-nil, nat_lt, refl, sym, ap, ◌∙◌, subst, arith}
+use Rattle.std.specs.Prelude.{nat_le}
+use Rattle.std.specs.List.{All, list_all}
+use Rattle.std.proofs.lemmas.Bool.{and_parts, leb-true, ltb-true}
+use Rattle.std.proofs.lemmas.List.Elements.{All-nil, All-cons}
+use Rattle.patmos_instr.specs.Bundles.{Slots}
+use Rattle.patmos_instr.specs.declared.memories.Mem.{Mem}
+use Rattle.patmos_instr.specs.declared.memories.Mem.TheVariants as mem
+use Rattle.patmos_instr.specs.declared.memories.Width.TheVariants as load
+use Rattle.patmos_sem.specs.Effects.{address_of as address_by}
+use Rattle.patmos_sem.specs.declared.effects.Effect.{Effect}
+use Rattle.patmos_sem.specs.declared.effects.Effect.TheVariants as effect
+use Rattle.patmos_sem.specs.declared.writes.Write.TheVariants as write
+use Rattle.c_world.specs.Shown.{room_in}
+use Rattle.c_world.specs.declared.region.Region.{Region}
+use Rattle.c_world.specs.declared.region.Region.TheVariants as region
+use Rattle.sp_tree.specs.Cost.{is_held}
+use Rattle.sp_tree.specs.Formed.{all_rooms, first_of, cell_formed, array_formed}
+use Rattle.sp_tree.specs.Need.{need}
+use Rattle.sp_tree.specs.Plain.{PlainSp, constant, frame_word, cell_word, array_word, before_one, between_two}
+use Rattle.sp_tree.specs.Uses.{Use, reads_cell, reads_array, expr_uses}
+use Rattle.sp_tree.specs.declared.expressions.SpArray.{SpArray}
+use Rattle.sp_tree.specs.declared.expressions.SpCell.{SpCell}
+use Rattle.sp_tree.specs.declared.operators.SpBinary.{SpBinary}
+use Rattle.sp_tree.specs.declared.operators.SpUnary.{SpUnary}
+use Rattle.sp_shape.proofs.Joins.{trail_joined}
+use Rattle.sp_shape.specs.Bundles.{parts_all}
+use Rattle.sp_shape.specs.Parts.{straight, PlainParts, one, joined}
+use Rattle.sp_shape.specs.Run.{Run, Sources, word_given, once, run, IsWhole}
+use Rattle.sp_shape.specs.Trail.{Step, all_done, parts_trail}
+use Rattle.sp_emit.specs.Accesses.{IsReadPlace, MayLoad, MayAsk, cached_address, Asks, AsksOnly}
+use Rattle.sp_emit.specs.Expressions.{address_of, cell_space, array_space, unary_code, binary_code, held_code, cell_code, element_code, number_of, expr_code}
+use Rattle.sp_emit.specs.Fits.{ExprFits}
+use Rattle.sp_emit.specs.Holding.{held}
+use Rattle.sp_emit.specs.Instructions.{always, where_not, set_long, set_short, load_from, load_slot}
+use Rattle.sp_emit.specs.declared.registers.TheConstants.{TEST}
+use Rattle.sp_emit.proofs.Accessing.{asks_append, is_near, near_asks, near_parts}
+use Rattle.sp_emit.proofs.Cells.{element_address, few_words, first_small}
+use Rattle.sp_emit.proofs.Elements.{Reached, looked_up, reaches, looks_up}
+use Rattle.sp_emit.proofs.Formed.{binary_formed}
+use Rattle.sp_emit.proofs.Leaving.{did_set_long, did_set_short}
+use Rattle.sp_emit.proofs.Needs.{some_need, array_named, index_named, operand_fits, first_fits, second_fits, first_fits_behind, second_fits_behind}
+use Rattle.sp_emit.proofs.Once.{so, with_written, loaded, did_load, whole_written, whole_loaded, got, so_by_register}
+
+-- a load of a whole word
+abbrev word_load : Mem → ℕ → ℕ → Effect
+word_load space rd address = effect.Load space load.Word rd address
+
+-- one load more
+asks_load : (Named : Use → Type 0) (space : Mem) (rd address : ℕ) (m t : Run) → t.asked ≡ m.asked ++ word_load space rd address ∷ [] → MayAsk Named (word_load space rd address) → Asks Named (cached_address (word_load space rd address)) m t
+asks_load Named space rd address m t is may = record { news = word_load space rd address ∷ []; is = is; may = All-cons (MayAsk Named) (word_load space rd address) [] may (All-nil (MayAsk Named)); loads = append-nil (cached_address (word_load space rd address)) }
+
+-- ---- variables
+
+variable_read : (Named : Use → Type 0) (r : Region) (word rd : ℕ) → cell_formed (record { region = r; word = word }) ≡ true → Named (reads_cell (record { region = r; word = word })) → MayAsk Named (word_load (cell_space r) rd (address_of r word))
+variable_read Named region.Scratch word rd formed named = (refl, inl (record { region = region.Scratch; word = word }, named, record { formed = formed; space_is = refl; address_is = refl }))
+variable_read Named region.Comm word rd formed named = (refl, inl (record { region = region.Comm; word = word }, named, record { formed = formed; space_is = refl; address_is = refl }))
+variable_read Named region.Private word rd formed named = (refl, inl (record { region = region.Private; word = word }, named, record { formed = formed; space_is = refl; address_is = refl }))
+variable_read Named region.Shared word rd formed named = (refl, inl (record { region = region.Shared; word = word }, named, record { formed = formed; space_is = refl; address_is = refl }))
+
+pub cell_asks : (Named : Use → Type 0) (c : SpCell) (rd : ℕ) → 1 ≤ rd → rd < 32 → cell_formed c ≡ true → Named (reads_cell c) → AsksOnly Named (all_done (cell_code c rd))
+cell_asks Named c rd some few formed named = record {
+  cached = cached_address (word_load (cell_space c.region) rd at);
+  asks = λ from m whole.
+      let n = with_written (write.Register rd ((0 + at) % 2 ^ 32)) m in
+      let h = whole_written (write.Register rd ((0 + at) % 2 ^ 32)) m whole in
+      let is : held rd n ≡ at = got rd ((0 + at) % 2 ^ 32) m whole some few ∙ omega (arith, small) in
+      asks_load Named (cell_space c.region) rd at m (run from (all_done (cell_code c rd)) m)
+      (ap (λ t. (once from (load_from (cell_space c.region) rd rd) t).asked) (did_set_long from rd at m whole)
+      ∙ ap (λ t. t.asked) (did_load from always (cell_space c.region) rd rd 0 n h h.fits.always)
+      ∙ ap (λ a. m.asked ++ word_load (cell_space c.region) rd (address_by a 0 4) ∷ []) is
+      ∙ ap (λ a. m.asked ++ word_load (cell_space c.region) rd a ∷ []) (let e : (at + 0 * 4) % 2 ^ 32 ≡ at = omega (arith, small) in e))
+      (variable_read Named c.region c.word rd formed named);
+}
+  where
+    at : ℕ
+    at = address_of c.region c.word
+
+    small : address_of c.region c.word < 2 ^ 32
+    small = first_small c.region c.word (omega (arith, ltb-true c.word (room_in c.region all_rooms) (and_parts (nat_le (first_of c.region) c.word) (nat_lt c.word (room_in c.region all_rooms)) formed).1))
+
+-- ---- elements
+
+element_read : (Named : Use → Type 0) (a : SpArray) (index rd : ℕ) → array_formed a ≡ true → Named (reads_array a) → index < a.length → MayAsk Named (word_load (array_space a.region) rd (address_of a.region (a.first + index)))
+element_read Named a index rd formed named within = by a.region refl
+  where
+    place : (space : Mem) → space ≡ array_space a.region → IsReadPlace Named space (address_of a.region (a.first + index))
+    place space is = inr (inl (a, named, record { formed = formed; index = index; within = within; space_is = is; address_is = refl }))
+
+    by : (r : Region) → a.region ≡ r → MayLoad Named (array_space r) load.Word (address_of a.region (a.first + index))
+    by region.Scratch is = (refl, place mem.L (sym (ap array_space is)))
+    by region.Comm is = (refl, place mem.L (sym (ap array_space is)))
+    by region.Private is = (refl, place mem.M (sym (ap array_space is)))
+    by region.Shared is = (refl, place mem.M (sym (ap array_space is)))
+
+no_element_read : (Named : Use → Type 0) (a : SpArray) (rd : ℕ) → Named (reads_array a) → MayAsk Named (word_load (array_space a.region) rd 0)
+no_element_read Named a rd named = by a.region refl
+  where
+    place : (space : Mem) → space ≡ array_space a.region → IsReadPlace Named space 0
+    place space is = inr (inr (a, named, record { space_is = is; address_is = refl }))
+
+    by : (r : Region) → a.region ≡ r → MayLoad Named (array_space r) load.Word 0
+    by region.Scratch is = (refl, place mem.L (sym (ap array_space is)))
+    by region.Comm is = (refl, place mem.L (sym (ap array_space is)))
+    by region.Private is = (refl, place mem.M (sym (ap array_space is)))
+    by region.Shared is = (refl, place mem.M (sym (ap array_space is)))
+
+-- elements are not loaded by the data cache
+not_cached : (r : Region) (rd address : ℕ) → cached_address (word_load (array_space r) rd address) ≡ []
+not_cached region.Scratch rd address = refl
+not_cached region.Comm rd address = refl
+not_cached region.Private rd address = refl
+not_cached region.Shared rd address = refl
+
+asks_element : (Named : Use → Type 0) (a : SpArray) (rd address : ℕ) (m t : Run) → t.asked ≡ m.asked ++ word_load (array_space a.region) rd address ∷ [] → MayAsk Named (word_load (array_space a.region) rd address) → Asks Named [] m t
+asks_element Named a rd address m t is may = subst (λ l. Asks Named l m t) (not_cached a.region rd address) (asks_load Named (array_space a.region) rd address m t is may)
+
+-- where the test of the index fails the load is made at address 0
+looks_at_0 : (from : Sources) (a : SpArray) (rd : ℕ) (t : Run) → IsWhole t → 1 ≤ rd → rd < 32 → so TEST t ≡ false → (looked_up from a rd t).asked ≡ t.asked ++ word_load (array_space a.region) rd 0 ∷ []
+looks_at_0 from a rd t whole some few test =
+    let n = with_written (write.Register rd ((0 + 0) % 2 ^ 32)) t in
+    let h = whole_written (write.Register rd ((0 + 0) % 2 ^ 32)) t whole in
+    let at = address_by (held rd n) 0 4 in
+    let l = loaded from (array_space a.region) rd at n in
+    let whole_l = whole_loaded from (array_space a.region) rd at n h in
+    let off : so TEST l ≡ false = so_by_register rd (word_given from (array_space a.region) at n) TEST n h (omega arith) ∙ so_by_register rd ((0 + 0) % 2 ^ 32) TEST t whole (omega arith) ∙ test in
+    ap (λ x. (once from (set_short (where_not TEST) rd 0) (once from (load_from (array_space a.region) rd rd) x)).asked) (did_set_short from (where_not TEST) rd 0 t whole (ap not test))
+    ∙ ap (λ x. (once from (set_short (where_not TEST) rd 0) x).asked) (did_load from always (array_space a.region) rd rd 0 n h h.fits.always)
+    ∙ ap (λ x. x.asked) (did_set_short from (where_not TEST) rd 0 l whole_l (ap not off))
+    ∙ ap (λ v. t.asked ++ word_load (array_space a.region) rd (address_by v 0 4) ∷ []) (got rd ((0 + 0) % 2 ^ 32) t whole some few)
+
+pub element_asks : (Named : Use → Type 0) (a : SpArray) (rd : ℕ) → 1 ≤ rd → rd < 21 → array_formed a ≡ true → Named (reads_array a) → AsksOnly Named (all_done (element_code a rd))
+element_asks Named a rd some few formed named = record { cached = []; asks = asks }
+  where
+    within : a.first + a.length ≤ room_in a.region all_rooms
+    within = leb-true (a.first + a.length) (room_in a.region all_rooms) (and_parts (nat_le (first_of a.region) a.first) (nat_le (a.first + a.length) (room_in a.region all_rooms)) formed).1
+
+    by : (from : Sources) (m t : Run) → Reached a rd (held rd m) m t → (b : Bool) → nat_lt (held rd m) a.length ≡ b → Asks Named [] m (looked_up from a rd t)
+    by from m t r true less =
+        let i = held rd m in
+        let lies : a.first + i < room_in a.region all_rooms = omega (arith, within, ltb-true i a.length less) in
+        asks_element Named a rd (address_of a.region (a.first + i)) m (looked_up from a rd t)
+        (ap (λ x. x.asked) (looks_up from a rd t r.whole (r.test ∙ less))
+        ∙ ap (λ l. l ++ word_load (array_space a.region) rd (address_by (held rd t) 0 4) ∷ []) r.asked
+        ∙ ap (λ x. m.asked ++ word_load (array_space a.region) rd (address_by x 0 4) ∷ []) r.address
+        ∙ ap (λ x. m.asked ++ word_load (array_space a.region) rd x ∷ []) (element_address a.region a.first i lies))
+        (element_read Named a i rd formed named (ltb-true i a.length less))
+    by from m t r false more =
+        asks_element Named a rd 0 m (looked_up from a rd t)
+        (looks_at_0 from a rd t r.whole some (omega (arith, few)) (r.test ∙ more) ∙ ap (λ l. l ++ word_load (array_space a.region) rd 0 ∷ []) r.asked)
+        (no_element_read Named a rd named)
+
+    asks : (from : Sources) (m : Run) → IsWhole m → Asks Named [] m (run from (all_done (element_code a rd)) m)
+    asks from m whole =
+        let all = reaches from a rd m whole some few (omega (arith, within, few_words a.region)) (first_small a.region a.first (omega (arith, within))) in
+        subst (Asks Named [] m) (sym all.1) (by from m all.0 all.2 (nat_lt (held rd m) a.length) refl)
+
+-- ---- expressions
+
+-- all of these uses are named
+abbrev pub AreNamed : (Use → Type 0) → List Use → Type 0
+AreNamed Named [] = Unit {0}
+AreNamed Named (u ∷ us) = Named u × AreNamed Named us
+
+pub are_named : (Named : Use → Type 0) (us : List Use) → All Named us → AreNamed Named us
+are_named Named [] all = tt
+are_named Named (u ∷ us) all = (all 0 u (omega arith), are_named Named us (λ k d less. all (suc k) d (omega (arith, less))))
+
+pub named_left : (Named : Use → Type 0) (xs ys : List Use) → AreNamed Named (xs ++ ys) → AreNamed Named xs
+named_left Named [] ys all = tt
+named_left Named (x ∷ xs) ys all = (all.0, named_left Named xs ys all.1)
+
+pub named_right : (Named : Use → Type 0) (xs ys : List Use) → AreNamed Named (xs ++ ys) → AreNamed Named ys
+named_right Named [] ys all = all
+named_right Named (x ∷ xs) ys all = named_right Named xs ys all.1
+
+unary_near : (op : SpUnary) (rd : ℕ) → list_all is_near (unary_code op rd) ≡ true
+unary_near op rd = grind arith
+
+held_near : (op : SpBinary) (rd n : ℕ) → list_all is_near (held_code op rd n) ≡ true
+held_near op rd n = grind arith
+
+binary_near : (op : SpBinary) (rd ra rb : ℕ) → parts_all is_near (binary_code op rd ra rb) ≡ true
+binary_near op rd ra rb = grind arith
+
+pub asks_joined : {Named : Use → Type 0} (f : ℕ → List Step) (xs ys : PlainParts) → AsksOnly Named (parts_trail f xs) → AsksOnly Named (parts_trail f ys) → AsksOnly Named (parts_trail f (joined xs ys))
+asks_joined {Named} f xs ys a b = subst (AsksOnly Named) (sym (trail_joined f xs ys)) (asks_append a b)
+
+pub asks_lone : {Named : Use → Type 0} (f : ℕ → List Step) (bs : List Slots) → AsksOnly Named (all_done bs) → AsksOnly Named (parts_trail f (one (straight bs)))
+asks_lone {Named} f bs a = subst (AsksOnly Named) (sym (append-nil (all_done bs))) a
+
+operator_asks : (Named : Use → Type 0) (f : ℕ → List Step) (op : SpBinary) (rd ra rb : ℕ) → AsksOnly Named (parts_trail f (binary_code op rd ra rb))
+operator_asks Named f op rd ra rb = near_parts Named f 0 (λ k less. absurd (omega (arith, less))) (binary_code op rd ra rb) (binary_formed 0 op rd ra rb) (binary_near op rd ra rb)
+
+two_ask : (Named : Use → Type 0) (f : ℕ → List Step) (op : SpBinary) (a b : PlainSp) (rd : ℕ) (held less : Bool) → AsksOnly Named (parts_trail f (expr_code a rd)) → AsksOnly Named (parts_trail f (expr_code b rd))
+    → (less ≡ true → AsksOnly Named (parts_trail f (expr_code a (rd + 1)))) → (less ≡ false → AsksOnly Named (parts_trail f (expr_code b (rd + 1))))
+    → AsksOnly Named (parts_trail f (if held then joined (expr_code a rd) (one (straight (held_code op rd (number_of b))))
+    else if less then joined (expr_code b rd) (joined (expr_code a (rd + 1)) (binary_code op rd (rd + 1) rd))
+    else joined (expr_code a rd) (joined (expr_code b (rd + 1)) (binary_code op rd rd (rd + 1)))))
+two_ask Named f op a b rd true less x y x1 y1 =
+    asks_joined f (expr_code a rd) (one (straight (held_code op rd (number_of b)))) x (asks_lone f (held_code op rd (number_of b)) (near_asks Named (held_code op rd (number_of b)) (held_near op rd (number_of b))))
+two_ask Named f op a b rd false true x y x1 y1 =
+    asks_joined f (expr_code b rd) (joined (expr_code a (rd + 1)) (binary_code op rd (rd + 1) rd)) y (asks_joined f (expr_code a (rd + 1)) (binary_code op rd (rd + 1) rd) (x1 refl) (operator_asks Named f op rd (rd + 1) rd))
+two_ask Named f op a b rd false false x y x1 y1 =
+    asks_joined f (expr_code a rd) (joined (expr_code b (rd + 1)) (binary_code op rd rd (rd + 1))) x (asks_joined f (expr_code b (rd + 1)) (binary_code op rd rd (rd + 1)) (y1 refl) (operator_asks Named f op rd rd (rd + 1)))
+
+pub expr_asks : (Named : Use → Type 0) (f : ℕ → List Step) (e : PlainSp) (rd : ℕ) → 1 ≤ rd → ExprFits e rd → AreNamed Named (expr_uses e) → AsksOnly Named (parts_trail f (expr_code e rd))
+expr_asks Named f (constant n) rd some fits named = asks_lone f (set_long rd n ∷ []) (near_asks Named (set_long rd n ∷ []) refl)
+expr_asks Named f (frame_word slot) rd some fits named = asks_lone f (load_slot rd slot ∷ []) (near_asks Named (load_slot rd slot ∷ []) refl)
+expr_asks Named f (cell_word cell) rd some fits named = asks_lone f (cell_code cell rd) (cell_asks Named cell rd some (omega (arith, fits.registers)) fits.names named.0)
+expr_asks Named f (array_word array index) rd some fits named =
+    asks_joined f (expr_code index rd) (one (straight (element_code array rd))) (expr_asks Named f index rd some (index_named array index fits) named.1)
+    (asks_lone f (element_code array rd) (element_asks Named array rd some (omega (arith, fits.registers, some_need (array_word array index))) (array_named array index fits) named.0))
+expr_asks Named f (before_one op of) rd some fits named =
+    asks_joined f (expr_code of rd) (one (straight (unary_code op rd))) (expr_asks Named f of rd some (operand_fits op of fits) named) (asks_lone f (unary_code op rd) (near_asks Named (unary_code op rd) (unary_near op rd)))
+expr_asks Named f (between_two op a b) rd some fits named =
+    let left = named_left Named (expr_uses a) (expr_uses b) named in
+    let right = named_right Named (expr_uses a) (expr_uses b) named in
+    two_ask Named f op a b rd (is_held op b) (nat_lt (need a) (need b)) (expr_asks Named f a rd some (first_fits op a b fits) left) (expr_asks Named f b rd some (second_fits op a b fits) right)
+    (λ less. expr_asks Named f a (rd + 1) (omega arith) (first_fits_behind op a b fits less) left) (λ more. expr_asks Named f b (rd + 1) (omega arith) (second_fits_behind op a b fits more) right)

@@ -1,0 +1,257 @@
+-- The code of statements stays within its frame, where that of the functions that are called stays within theirs.
+use Rattle.std.proofs.Common.{◌≡◌, ℕ, zero, suc, ◌+◌, ◌-◌, ◌<◌, ◌≤◌, ◌==◌, Bool, true, false, ◌&&◌, if◌then◌else◌, Option, None, Some, List, [], ◌∷◌, ◌++◌, length, slice_index_or, nat_lt, refl, sym, subst, arith, true≢false}
+use Rattle.std.specs.Prelude.{nat_le}
+use Rattle.std.specs.List.{list_all}
+use Rattle.std.proofs.lemmas.Bool.{and_parts, lt-ltb, ltb-true}
+use Rattle.patmos_instr.specs.Bundles.{Slots}
+use Rattle.patmos_instr.specs.declared.functions.StackFunc.TheVariants.{Sens}
+use Rattle.patmos_sem.specs.declared.effects.Effect.TheVariants as effect
+use Rattle.c_world.specs.declared.region.Region.{Region}
+use Rattle.sp_tree.specs.Cost.{is_held}
+use Rattle.sp_tree.specs.Formed.{names_words, array_formed, send_formed, place_formed, expr_formed, callee_formed, args_formed, result_formed, stmt_formed, stmts_formed, stmt_levels, stmts_levels}
+use Rattle.sp_tree.specs.Need.{need}
+use Rattle.sp_tree.specs.Plain.{PlainSp, constant, frame_word, cell_word, array_word, before_one, between_two}
+use Rattle.sp_tree.specs.Statements.{PlainPlace, to_slot, to_cell, to_array, PlainStmt, masks, writes, calls, transfers, overruns, turns, PlainStmts, no_stmt, stmt, PlainFunction, no_function}
+use Rattle.sp_tree.specs.declared.operators.SpBinary.{SpBinary}
+use Rattle.sp_tree.specs.declared.operators.SpUnary.{SpUnary}
+use Rattle.sp_shape.proofs.Whole.{begun_whole, run_append}
+use Rattle.sp_shape.specs.Bundles.{part_all, parts_all}
+use Rattle.sp_shape.specs.Formed.{is_turn, part_formed, parts_formed}
+use Rattle.sp_shape.specs.Parts.{PlainPart, straight, repeats, calls_to, leaves, PlainParts, no_part, part, one, joined}
+use Rattle.sp_shape.specs.Run.{Run, IsWhole, Sources, once, run, begun}
+use Rattle.sp_shape.specs.Trail.{Step, all_done, copies, part_trail, parts_trail}
+use Rattle.sp_emit.specs.Chains.{stmt_chain, stmts_chain}
+use Rattle.sp_emit.specs.Expressions.{unary_code, binary_code, held_code, cell_code, element_code, number_of, expr_code}
+use Rattle.sp_emit.specs.Instructions.{always, stack_op, store_slot}
+use Rattle.sp_emit.specs.Statements.{slot_write, cell_write, element_write, place_write, args_code, mask_handed, call_tail, result_write, call_code, send_code, overrun_code, slot_set, turns_begin, turns_tail, stmt_code, stmts_code}
+use Rattle.sp_emit.specs.declared.registers.TheConstants.{FIRST}
+use Rattle.sp_emit.proofs.Arguments.{did_stack}
+use Rattle.sp_emit.proofs.Calling.{call_run}
+use Rattle.sp_emit.proofs.Formed as formed
+use Rattle.sp_emit.proofs.Pointing.{Points, points_then, points_none, points_one, is_inside, Framed, Stays, stays_then, stays_all, inside_done}
+use Rattle.sp_emit.proofs.Quiet.{each_joined, each_lone}
+use Rattle.sp_emit.proofs.Values.{run_joined, run_lone}
+
+-- ---- values
+
+abbrev Inside : ℕ → PlainParts → Type 0
+Inside frame parts = parts_all (is_inside frame) parts ≡ true
+
+abbrev AreInside : ℕ → List Slots → Type 0
+AreInside frame bs = list_all (is_inside frame) bs ≡ true
+
+unary_inside : (frame : ℕ) (op : SpUnary) (rd : ℕ) → AreInside frame (unary_code op rd)
+unary_inside frame op rd = grind arith
+
+binary_inside : (frame : ℕ) (op : SpBinary) (rd ra rb : ℕ) → Inside frame (binary_code op rd ra rb)
+binary_inside frame op rd ra rb = grind arith
+
+held_inside : (frame : ℕ) (op : SpBinary) (rd n : ℕ) → AreInside frame (held_code op rd n)
+held_inside frame op rd n = grind arith
+
+cell_inside : (frame : ℕ) (r : Region) (word rd : ℕ) → AreInside frame (cell_code (record { region = r; word = word }) rd)
+cell_inside frame r word rd = grind arith
+
+element_inside : (frame : ℕ) (r : Region) (first length rd : ℕ) → AreInside frame (element_code (record { region = r; first = first; length = length }) rd)
+element_inside frame r first length rd = grind arith
+
+two_inside : (frame : ℕ) (op : SpBinary) (a b : PlainSp) (rd : ℕ) (held less : Bool) → Inside frame (expr_code a rd) → Inside frame (expr_code b rd) → Inside frame (expr_code a (rd + 1)) → Inside frame (expr_code b (rd + 1))
+    → Inside frame (if held then joined (expr_code a rd) (one (straight (held_code op rd (number_of b))))
+    else if less then joined (expr_code b rd) (joined (expr_code a (rd + 1)) (binary_code op rd (rd + 1) rd))
+    else joined (expr_code a rd) (joined (expr_code b (rd + 1)) (binary_code op rd rd (rd + 1))))
+two_inside frame op a b rd true less x y x1 y1 = each_joined (is_inside frame) (expr_code a rd) _ x (each_lone (is_inside frame) (held_code op rd (number_of b)) (held_inside frame op rd (number_of b)))
+two_inside frame op a b rd false true x y x1 y1 =
+    each_joined (is_inside frame) (expr_code b rd) _ y (each_joined (is_inside frame) (expr_code a (rd + 1)) _ x1 (binary_inside frame op rd (rd + 1) rd))
+two_inside frame op a b rd false false x y x1 y1 =
+    each_joined (is_inside frame) (expr_code a rd) _ x (each_joined (is_inside frame) (expr_code b (rd + 1)) _ y1 (binary_inside frame op rd rd (rd + 1)))
+
+expr_inside : (frame slots : ℕ) (e : PlainSp) (rd : ℕ) → slots ≤ frame → names_words slots e ≡ true → Inside frame (expr_code e rd)
+expr_inside frame slots (constant n) rd le named = refl
+expr_inside frame slots (frame_word slot) rd le named = rw (lt-ltb slot frame (omega (arith, le, ltb-true slot slots named))) refl
+expr_inside frame slots (cell_word cell) rd le named = each_lone (is_inside frame) (cell_code cell rd) (cell_inside frame cell.region cell.word rd)
+expr_inside frame slots (array_word array index) rd le named =
+    each_joined (is_inside frame) (expr_code index rd) (one (straight (element_code array rd))) (expr_inside frame slots index rd le (and_parts (array_formed array) (names_words slots index) named).1)
+    (each_lone (is_inside frame) (element_code array rd) (element_inside frame array.region array.first array.length rd))
+expr_inside frame slots (before_one op of) rd le named =
+    each_joined (is_inside frame) (expr_code of rd) (one (straight (unary_code op rd))) (expr_inside frame slots of rd le named) (each_lone (is_inside frame) (unary_code op rd) (unary_inside frame op rd))
+expr_inside frame slots (between_two op a b) rd le named =
+    let parts = and_parts (names_words slots a) (names_words slots b) named in
+    two_inside frame op a b rd (is_held op b) (nat_lt (need a) (need b)) (expr_inside frame slots a rd le parts.0) (expr_inside frame slots b rd le parts.1) (expr_inside frame slots a (rd + 1) le parts.0) (expr_inside frame slots b (rd + 1) le parts.1)
+
+args_inside : (frame slots : ℕ) (args : List PlainSp) (rd : ℕ) → slots ≤ frame → args_formed slots args ≡ true → Inside frame (args_code args rd)
+args_inside frame slots [] rd le named = refl
+args_inside frame slots (e ∷ args) rd le named =
+    let parts = and_parts (expr_formed slots e) (args_formed slots args) named in
+    each_joined (is_inside frame) (expr_code e rd) (args_code args (rd + 1)) (expr_inside frame slots e rd le (and_parts (names_words slots e) (nat_le (need e) 12) parts.0).0) (args_inside frame slots args (rd + 1) le parts.1)
+
+-- ---- parts without calls stay within the frame
+
+abbrev pub StaysIn : Sources → ℕ → List Step → Type 0
+StaysIn from frame steps = (m : Run) → Framed frame m → Stays frame m (run from steps m)
+
+pub stay_both : (from : Sources) (frame : ℕ) (xs ys : List Step) → StaysIn from frame xs → StaysIn from frame ys → StaysIn from frame (xs ++ ys)
+stay_both from frame xs ys a b m framed =
+    let first = a m framed in
+    subst (Stays frame m) (sym (run_append from xs ys m)) (stays_then first (b (run from xs m) first.framed))
+
+stay_copies : (from : Sources) (frame n : ℕ) (xs : List Step) → StaysIn from frame xs → StaysIn from frame (copies n xs)
+stay_copies from frame zero xs a m framed = stays_all frame m framed
+stay_copies from frame (suc n) xs a m framed = stay_both from frame xs (copies n xs) a (stay_copies from frame n xs a) m framed
+
+mutual
+  stay_part : (from : Sources) (f : ℕ → List Step) (frame : ℕ) (p : PlainPart) → part_formed 0 p ≡ true → part_all (is_inside frame) p ≡ true → StaysIn from frame (part_trail f p)
+  stay_part from f frame (straight bs) is inside m framed = inside_done from frame bs m framed inside
+  stay_part from f frame (repeats n body tail) is inside m framed =
+      let a = and_parts (nat_lt 0 n) (parts_formed 0 body && is_turn tail) is in
+      let b = and_parts (parts_formed 0 body) (is_turn tail) a.1 in
+      let c = and_parts (parts_all (is_inside frame) body) (list_all (is_inside frame) tail) inside in
+      stay_copies from frame n (parts_trail f body ++ all_done tail) (stay_both from frame (parts_trail f body) (all_done tail) (stay_parts from f frame body b.0 c.0) (λ t framed. inside_done from frame tail t framed c.1)) m framed
+  stay_part from f frame (calls_to k tail) is inside m framed = let less = ltb-true k 0 (and_parts (nat_lt k 0) _ is).0 in absurd (omega (arith, less))
+  stay_part from f frame (leaves tail) is inside m framed = absurd (true≢false (sym is))
+
+  stay_parts : (from : Sources) (f : ℕ → List Step) (frame : ℕ) (ps : PlainParts) → parts_formed 0 ps ≡ true → parts_all (is_inside frame) ps ≡ true → StaysIn from frame (parts_trail f ps)
+  stay_parts from f frame no_part is inside m framed = stays_all frame m framed
+  stay_parts from f frame (part p rest) is inside m framed =
+      let a = and_parts (part_formed 0 p) (parts_formed 0 rest) is in
+      let c = and_parts (part_all (is_inside frame) p) (parts_all (is_inside frame) rest) inside in
+      stay_both from frame (part_trail f p) (parts_trail f rest) (stay_part from f frame p a.0 c.0) (stay_parts from f frame rest a.1 c.1) m framed
+
+value_stays : (from : Sources) (f : ℕ → List Step) (frame slots : ℕ) (e : PlainSp) (rd : ℕ) → slots ≤ frame → expr_formed slots e ≡ true → StaysIn from frame (parts_trail f (expr_code e rd))
+value_stays from f frame slots e rd le is = stay_parts from f frame (expr_code e rd) (formed.expr_formed 0 e rd) (expr_inside frame slots e rd le (and_parts (names_words slots e) (nat_le (need e) 12) is).0)
+
+stay_joined : (from : Sources) (f : ℕ → List Step) (frame : ℕ) (xs ys : PlainParts) → StaysIn from frame (parts_trail f xs) → StaysIn from frame (parts_trail f ys) → StaysIn from frame (parts_trail f (joined xs ys))
+stay_joined from f frame xs ys a b m framed =
+    let first = a m framed in
+    subst (Stays frame m) (sym (run_joined from f xs ys m)) (stays_then first (b (run from (parts_trail f xs) m) first.framed))
+
+bundles_stay : (from : Sources) (f : ℕ → List Step) (frame : ℕ) (bs : List Slots) → AreInside frame bs → StaysIn from frame (parts_trail f (one (straight bs)))
+bundles_stay from f frame bs inside m framed = subst (Stays frame m) (sym (run_lone from f bs m)) (inside_done from frame bs m framed inside)
+
+-- ---- places
+
+cell_write_inside : (frame mask : ℕ) (r : Region) (word : ℕ) → nat_lt mask frame ≡ true → AreInside frame (cell_write mask (record { region = r; word = word }))
+cell_write_inside frame mask r word masked = grind (arith, masked)
+
+element_write_inside : (frame mask : ℕ) (r : Region) (first length : ℕ) → nat_lt mask frame ≡ true → AreInside frame (element_write mask (record { region = r; first = first; length = length }))
+element_write_inside frame mask r first length masked = grind (arith, masked)
+
+place_stays : (from : Sources) (f : ℕ → List Step) (frame slots mask : ℕ) (place : PlainPlace) → slots ≤ frame → mask < slots → place_formed slots place ≡ true → StaysIn from frame (parts_trail f (place_write mask place))
+place_stays from f frame slots mask (to_slot slot) le masked is =
+    bundles_stay from f frame (slot_write mask slot) (rw (lt-ltb mask frame (omega (arith, le, masked)), lt-ltb slot frame (omega (arith, le, ltb-true slot slots is))) refl)
+place_stays from f frame slots mask (to_cell cell) le masked is =
+    bundles_stay from f frame (cell_write mask cell) (cell_write_inside frame mask cell.region cell.word (lt-ltb mask frame (omega (arith, le, masked))))
+place_stays from f frame slots mask (to_array array index) le masked is =
+    stay_joined from f frame (expr_code index (FIRST + 1)) (one (straight (element_write mask array))) (value_stays from f frame slots index (FIRST + 1) le (and_parts (array_formed array) (expr_formed slots index) is).1)
+    (bundles_stay from f frame (element_write mask array) (element_write_inside frame mask array.region array.first array.length (lt-ltb mask frame (omega (arith, le, masked)))))
+
+-- ---- calls
+
+-- a function that was called has returned
+pub record GivesBack (m t : Run) : Type 0 where
+  pub points : Points m t
+  pub whole : IsWhole t
+  pub st : t.st ≡ m.st
+  pub held : t.st ≤ t.ss
+
+-- functions stay within the stack, where so many words are left for each
+pub record CalleesStay (from : Sources) (f : ℕ → List Step) (number : ℕ) (g : ℕ → ℕ) : Type 0 where
+  pub called : (k : ℕ) → k < number → (m : Run) → IsWhole m → m.st ≤ 65536 → m.st ≤ m.ss → 49152 + g k ≤ m.st → GivesBack m (run from (f k) m)
+
+-- the words of the own frame are brought back
+framed_again : (from : Sources) (frame : ℕ) (m t : Run) → Framed frame m → GivesBack m t → Stays frame m (once from (stack_op Sens frame) t)
+framed_again from frame m t framed b = subst (Stays frame m) (sym (did_stack from Sens frame t b.whole)) (record {
+  points = points_then b.points (points_one (effect.StackOp Sens frame) t _ refl (framed.few, omega (arith, b.st, framed.high)) refl);
+  framed = record { whole = record { fits = b.whole.fits; pending = b.whole.pending }; few = framed.few; high = omega (arith, b.st, framed.high); held = omega arith };
+  st = b.st;
+})
+
+call_stays : (from : Sources) (f : ℕ → List Step) (number frame slots mask k : ℕ) (g : ℕ → ℕ) (result : Option ℕ) → CalleesStay from f number g → k < number → slots ≤ frame → mask < slots → result_formed slots result ≡ true
+    → (m : Run) → Framed frame m → 49152 + g k ≤ m.st → Stays frame m (run from (parts_trail f (call_code frame mask k result)) m)
+call_stays from f number frame slots mask k g result callees earlier le masked is m framed enough =
+    let in_frame = lt-ltb mask frame (omega (arith, le, masked)) in
+    let handed = inside_done from frame (mask_handed mask) m framed (rw in_frame refl) in
+    let n = run from (all_done (mask_handed mask)) m in
+    let tail = inside_done from frame call_tail n handed.framed refl in
+    let c = run from (all_done call_tail) n in
+    let before = stays_then handed tail in
+    let begins : Stays frame m (begun c) = record {
+      points = points_then before.points (points_none c (begun c) refl refl);
+      framed = record { whole = begun_whole c before.framed.whole; few = framed.few; high = before.framed.high; held = before.framed.held };
+      st = before.st;
+    } in
+    let back = callees.called k earlier (begun c) begins.framed.whole (omega (arith, begins.framed.high)) (omega (arith, begins.framed.held)) (omega (arith, begins.st, enough)) in
+    let t = run from (f k) (begun c) in
+    let again = stays_then begins (framed_again from frame (begun c) t begins.framed back) in
+    let u = once from (stack_op Sens frame) t in
+    subst (Stays frame m) (sym (call_run from f frame mask k result m)) (stays_then again (inside_done from frame (result_write mask result) u again.framed (written result is)))
+  where
+    written : (r : Option ℕ) → result_formed slots r ≡ true → AreInside frame (result_write mask r)
+    written None is = refl
+    written (Some slot) is = rw (lt-ltb mask frame (omega (arith, le, masked)), lt-ltb slot frame (omega (arith, le, ltb-true slot slots is))) refl
+
+-- ---- statements
+
+-- turns of a body that wants so much room
+loop_stays : (from : Sources) (frame count : ℕ) (turn : List Step) (low : ℕ) → ((m : Run) → Framed frame m → low ≤ m.st → Stays frame m (run from turn m)) → (m : Run) → Framed frame m → low ≤ m.st → Stays frame m (run from (copies count turn) m)
+loop_stays from frame zero turn low one m framed enough = stays_all frame m framed
+loop_stays from frame (suc count) turn low one m framed enough =
+    let first = one m framed enough in
+    subst (Stays frame m) (sym (run_append from turn (copies count turn) m)) (stays_then first (loop_stays from frame count turn low one (run from turn m) first.framed (omega (arith, first.st, enough))))
+
+mutual
+  stmt_stays : (from : Sources) (f : ℕ → List Step) (g : ℕ → ℕ) (fs : List PlainFunction) (number slots frame counter : ℕ) → CalleesStay from f number g → 1 ≤ slots → counter + 3 ≤ frame
+      → (t : PlainStmt) → slots + stmt_levels t ≤ counter + 1 → stmt_formed fs number slots t ≡ true → (m : Run) → Framed frame m → 49152 + stmt_chain g t ≤ m.st → Stays frame m (run from (parts_trail f (stmt_code frame counter t)) m)
+  stmt_stays from f g fs number slots frame counter callees some within (masks slot e) levels is m framed enough =
+      let parts = and_parts (nat_lt slot slots) (expr_formed slots e) is in
+      stay_joined from f frame (expr_code e FIRST) (slot_set slot) (value_stays from f frame slots e FIRST (omega (arith, levels, within)) parts.1)
+      (bundles_stay from f frame (store_slot always slot FIRST ∷ []) (rw (lt-ltb slot frame (omega (arith, levels, within, ltb-true slot slots parts.0))) refl)) m framed
+  stmt_stays from f g fs number slots frame counter callees some within (writes mask place e) levels is m framed enough =
+      let parts = and_parts (nat_lt mask slots) (place_formed slots place && expr_formed slots e) is in
+      let places = and_parts (place_formed slots place) (expr_formed slots e) parts.1 in
+      stay_joined from f frame (expr_code e FIRST) (place_write mask place) (value_stays from f frame slots e FIRST (omega (arith, levels, within)) places.1)
+      (place_stays from f frame slots mask place (omega (arith, levels, within)) (ltb-true mask slots parts.0) places.0) m framed
+  stmt_stays from f g fs number slots frame counter callees some within (calls mask k args result) levels is m framed enough =
+      let a = and_parts (nat_lt mask slots) (callee_formed fs number k (length args) && (args_formed slots args && result_formed slots result)) is in
+      let b = and_parts (callee_formed fs number k (length args)) (args_formed slots args && result_formed slots result) a.1 in
+      let callee = and_parts (nat_lt k number) (length args == (slice_index_or fs k no_function).parameters) b.0 in
+      let c = and_parts (args_formed slots args) (result_formed slots result) b.1 in
+      let first = stay_parts from f frame (args_code args FIRST) (formed.args_formed 0 args FIRST) (args_inside frame slots args FIRST (omega (arith, levels, within)) c.0) m framed in
+      let n = run from (parts_trail f (args_code args FIRST)) m in
+      subst (Stays frame m) (sym (run_joined from f (args_code args FIRST) (call_code frame mask k result) m))
+      (stays_then first (call_stays from f number frame slots mask k g result callees (ltb-true k number callee.0) (omega (arith, levels, within)) (ltb-true mask slots a.0) c.1 n first.framed (omega (arith, first.st, enough))))
+  stmt_stays from f g fs number slots frame counter callees some within (transfers mask core source target count) levels is m framed enough =
+      let parts = and_parts (nat_lt mask slots) (send_formed slots core source target count) is in
+      let send = and_parts (nat_lt core 16) (expr_formed slots source && (expr_formed slots target && expr_formed slots count)) parts.1 in
+      let first = and_parts (expr_formed slots source) (expr_formed slots target && expr_formed slots count) send.1 in
+      let rest = and_parts (expr_formed slots target) (expr_formed slots count) first.1 in
+      let le : slots ≤ frame = omega (arith, levels, within) in
+      let sent = one (straight (send_code mask core)) in
+      stay_joined from f frame (expr_code source FIRST) (joined (expr_code target (FIRST + 1)) (joined (expr_code count (FIRST + 2)) sent)) (value_stays from f frame slots source FIRST le first.0)
+      (stay_joined from f frame (expr_code target (FIRST + 1)) (joined (expr_code count (FIRST + 2)) sent) (value_stays from f frame slots target (FIRST + 1) le rest.0)
+      (stay_joined from f frame (expr_code count (FIRST + 2)) sent (value_stays from f frame slots count (FIRST + 2) le rest.1)
+      (bundles_stay from f frame (send_code mask core) (rw (lt-ltb mask frame (omega (arith, le, ltb-true mask slots parts.0))) refl)))) m framed
+  stmt_stays from f g fs number slots frame counter callees some within (overruns mask e) levels is m framed enough =
+      let parts = and_parts (nat_lt mask slots) (expr_formed slots e) is in
+      stay_joined from f frame (expr_code e FIRST) (one (straight (overrun_code mask))) (value_stays from f frame slots e FIRST (omega (arith, levels, within)) parts.1)
+      (bundles_stay from f frame (overrun_code mask) (rw (lt-ltb mask frame (omega (arith, levels, within, ltb-true mask slots parts.0))) refl)) m framed
+  stmt_stays from f g fs number slots frame counter callees some within (turns count body) levels is m framed enough =
+      let parts = and_parts (nat_lt 0 count) (stmts_formed fs number slots body) is in
+      let code = stmts_code frame (counter - 1) body in
+      let counted = lt-ltb counter frame (omega (arith, within)) in
+      let begin = inside_done from frame (turns_begin counter count) m framed (rw counted refl) in
+      let n = run from (all_done (turns_begin counter count)) m in
+      let turn = parts_trail f code ++ all_done (turns_tail counter) in
+      let rest = loop_stays from frame count turn (49152 + stmts_chain g body) (λ t framed enough.
+      let b = stmts_stay from f g fs number slots frame (counter - 1) callees some (omega (arith, within)) body (omega (arith, levels, some)) parts.1 t framed enough in
+      subst (Stays frame t) (sym (run_append from (parts_trail f code) (all_done (turns_tail counter)) t)) (stays_then b (inside_done from frame (turns_tail counter) (run from (parts_trail f code) t) b.framed (rw counted refl)))) n begin.framed (omega (arith, begin.st, enough)) in
+      subst (Stays frame m) (sym (run_append from (copies count turn) [] n)) (stays_then begin rest)
+
+  pub stmts_stay : (from : Sources) (f : ℕ → List Step) (g : ℕ → ℕ) (fs : List PlainFunction) (number slots frame counter : ℕ) → CalleesStay from f number g → 1 ≤ slots → counter + 3 ≤ frame
+      → (ts : PlainStmts) → slots + stmts_levels ts ≤ counter + 1 → stmts_formed fs number slots ts ≡ true → (m : Run) → Framed frame m → 49152 + stmts_chain g ts ≤ m.st → Stays frame m (run from (parts_trail f (stmts_code frame counter ts)) m)
+  stmts_stay from f g fs number slots frame counter callees some within no_stmt levels is m framed enough = stays_all frame m framed
+  stmts_stay from f g fs number slots frame counter callees some within (stmt t rest) levels is m framed enough =
+      let parts = and_parts (stmt_formed fs number slots t) (stmts_formed fs number slots rest) is in
+      let first = stmt_stays from f g fs number slots frame counter callees some within t (omega (arith, levels)) parts.0 m framed (omega (arith, enough)) in
+      let n = run from (parts_trail f (stmt_code frame counter t)) m in
+      subst (Stays frame m) (sym (run_joined from f (stmt_code frame counter t) (stmts_code frame counter rest) m))
+      (stays_then first (stmts_stay from f g fs number slots frame counter callees some within rest (omega (arith, levels)) parts.1 n first.framed (omega (arith, first.st, enough))))

@@ -1,0 +1,121 @@
+-- Functions stay within the stack, where the frames on a chain of calls leave room for it.
+use Rattle.std.proofs.Common.{◌≡◌, ℕ, zero, suc, ◌+◌, ◌<◌, ◌≤◌, ◌==◌, ◌⊎◌, inl, inr, Bool, true, false, if◌then◌else◌, List, length, map, slice_index_or, nat_lt, refl, sym, ◌∙◌, subst, arith}
+use Rattle.std.specs.Prelude.{nat_le}
+use Rattle.std.specs.List.{list_all}
+use Rattle.std.proofs.lemmas.Bool.{cases_lt, and_parts, lt-ltb, ltb-true, eqb-false}
+use Rattle.std.proofs.lemmas.List.{get_or-map, length-map}
+use Rattle.patmos_instr.specs.declared.functions.StackFunc.TheVariants.{Sres, Sfree}
+use Rattle.patmos_sem.specs.declared.effects.Effect.TheVariants as effect
+use Rattle.sp_tree.specs.Formed.{slots_of, function_formed, functions_formed, entry_formed, is_formed}
+use Rattle.sp_tree.specs.Statements.{PlainFunction, no_function, PlainUnit}
+use Rattle.sp_shape.specs.Memory.{Memory}
+use Rattle.sp_shape.specs.Parts.{no_part}
+use Rattle.sp_shape.specs.Pointers.{pointers_of, AreWithinStack}
+use Rattle.sp_shape.specs.Run.{Run, IsWhole, Back, Sources, once, run, at_begin}
+use Rattle.sp_shape.specs.Trail.{Step, all_done, parts_trail, trails, trail}
+use Rattle.sp_emit.specs.Chains.{stmts_chain, chains}
+use Rattle.sp_emit.specs.Functions.{arguments_kept, argument_kept, state_kept, base_slot, offset_slot, first_counter, function_code, return_tail, emitted}
+use Rattle.sp_emit.specs.Instructions.{stack_op}
+use Rattle.sp_emit.specs.Statements.{stmts_code}
+use Rattle.sp_emit.proofs.Arguments.{did_stack}
+use Rattle.sp_emit.proofs.Passed.{given_back}
+use Rattle.sp_emit.proofs.Pointing.{Points, points_then, points_one, is_inside, Framed, Stays, inside_done}
+use Rattle.sp_emit.proofs.Quiet.{each_append}
+use Rattle.sp_emit.proofs.Serves.{parts_of_function, function_run, code_of}
+use Rattle.sp_emit.proofs.WithinFrames.{GivesBack, CalleesStay, stmts_stay}
+
+-- ---- before and behind the body
+
+arguments_inside : (frame n : ℕ) → n ≤ frame → list_all (is_inside frame) (arguments_kept n) ≡ true
+arguments_inside frame zero le = refl
+arguments_inside frame (suc n) le = each_append (is_inside frame) (arguments_kept n) (argument_kept n) (arguments_inside frame n (omega (arith, le))) (rw (lt-ltb n frame le) refl)
+
+state_inside : (frame : ℕ) (f : PlainFunction) → f.mask < frame → base_slot f < frame → offset_slot f < frame → list_all (is_inside frame) (state_kept f) ≡ true
+state_inside frame f mask base offset = rw (lt-ltb f.mask frame mask, lt-ltb (base_slot f) frame base, lt-ltb (offset_slot f) frame offset) refl
+
+end_inside : (frame : ℕ) (f : PlainFunction) → base_slot f < frame → offset_slot f < frame → f.result < frame → list_all (is_inside frame) (given_back f) ≡ true
+end_inside frame f base offset result = rw (lt-ltb (base_slot f) frame base, lt-ltb (offset_slot f) frame offset, lt-ltb f.result frame result) refl
+
+-- ---- functions
+
+-- a frame is taken, and all that is asked for until then and from then on lies within the stack
+record Entered (frame : ℕ) (m t : Run) : Type 0 where
+  stays : Framed frame t
+  points : Points m t
+  st : t.st + frame ≡ m.st
+
+entered_then : {frame : ℕ} {m n t : Run} → Entered frame m n → Stays frame n t → Entered frame m t
+entered_then a b = record { stays = b.framed; points = points_then a.points b.points; st = omega (arith, a.st, b.st) }
+
+takes : (from : Sources) (frame : ℕ) (m : Run) → IsWhole m → frame ≤ 128 → m.st ≤ 65536 → m.st ≤ m.ss → 49152 + frame ≤ m.st → Entered frame m (once from (stack_op Sres frame) m)
+takes from frame m whole few high held enough = subst (Entered frame m) (sym (did_stack from Sres frame m whole)) (record {
+  stays = record { whole = record { fits = whole.fits; pending = whole.pending }; few = few; high = omega (arith, high, enough); held = omega (arith, held, few, enough) };
+  points = points_one (effect.StackOp Sres frame) m _ refl (few, enough) refl;
+  st = omega (arith, enough);
+})
+
+frees : (from : Sources) (frame : ℕ) (m n : Run) → Entered frame m n → GivesBack m (once from (stack_op Sfree frame) n)
+frees from frame m n x = subst (GivesBack m) (sym (did_stack from Sfree frame n x.stays.whole)) (record {
+  points = points_then x.points (points_one (effect.StackOp Sfree frame) n _ refl (x.stays.few, x.stays.high) refl);
+  whole = record { fits = x.stays.whole.fits; pending = x.stays.whole.pending };
+  st = x.st;
+  held = omega arith;
+})
+
+-- bundles behind the frame that ask for nothing of the stack
+gives_then : (from : Sources) (m n : Run) → GivesBack m n → m.st ≤ 65536 → GivesBack m (run from (all_done return_tail) n)
+gives_then from m n b high =
+    let s = inside_done from 0 return_tail n (record { whole = b.whole; few = omega arith; high = omega (arith, b.st, high); held = omega (arith, b.held) }) refl in
+    record { points = points_then b.points s.points; whole = s.framed.whole; st = s.st ∙ b.st; held = omega (arith, s.framed.held) }
+
+function_stays : (from : Sources) (code : ℕ → List Step) (g : ℕ → ℕ) (fs : List PlainFunction) (number : ℕ) (f : PlainFunction) → function_formed fs number f ≡ true → CalleesStay from code number g
+    → (m : Run) → IsWhole m → m.st ≤ 65536 → m.st ≤ m.ss → 49152 + (f.frame + stmts_chain g f.body) ≤ m.st → GivesBack m (run from (parts_trail code (function_code f)) m)
+function_stays from code g fs number f formed callees m whole high held enough =
+    let p = parts_of_function fs number f formed in
+    let t0 = once from (stack_op Sres f.frame) m in
+    let x0 = takes from f.frame m whole p.frame high held (omega (arith, enough)) in
+    let x1 = entered_then x0 (inside_done from f.frame (arguments_kept f.parameters) t0 x0.stays (arguments_inside f.frame f.parameters (omega (arith, p.before_mask, p.mask, p.room)))) in
+    let t1 = run from (all_done (arguments_kept f.parameters)) t0 in
+    let x2 = entered_then x1 (inside_done from f.frame (state_kept f) t1 x1.stays (state_inside f.frame f (omega (arith, p.mask, p.room)) (omega (arith, p.mask, p.room)) (omega (arith, p.mask, p.room)))) in
+    let t2 = run from (all_done (state_kept f)) t1 in
+    let x3 = entered_then x2 (stmts_stay from code g fs number (slots_of f) f.frame (first_counter f) callees (omega (arith, p.mask)) (omega (arith, p.room, p.mask)) f.body (omega (arith, p.room, p.mask)) p.body t2 x2.stays (omega (arith, x2.st, enough))) in
+    let t3 = run from (parts_trail code (stmts_code f.frame (first_counter f) f.body)) t2 in
+    let x4 = entered_then x3 (inside_done from f.frame (given_back f) t3 x3.stays (end_inside f.frame f (omega (arith, p.mask, p.room)) (omega (arith, p.mask, p.room)) (omega (arith, p.result, p.room)))) in
+    let t4 = run from (all_done (given_back f)) t3 in
+    subst (GivesBack m) (sym (function_run from code f m)) (gives_then from m (once from (stack_op Sfree f.frame) t4) (frees from f.frame m t4 x4) high)
+
+-- ---- all of them, in order
+
+all_stay : (from : Sources) (fs : List PlainFunction) (n : ℕ) → n ≤ length fs → functions_formed fs n ≡ true → CalleesStay from (code_of fs n) n (chains fs n)
+all_stay from fs zero within formed = record { called = λ k less. absurd (omega (arith, less)) }
+all_stay from fs (suc n) within formed =
+    let parts = and_parts (functions_formed fs n) (function_formed fs n (slice_index_or fs n no_function)) formed in
+    record { called = λ k less m whole high held enough. by parts.1 (all_stay from fs n (omega (arith, within)) parts.0) k less m whole high held (k == n) refl enough }
+  where
+    f : PlainFunction
+    f = slice_index_or fs n no_function
+
+    by : function_formed fs n f ≡ true → CalleesStay from (code_of fs n) n (chains fs n) → (k : ℕ) → k < suc n → (m : Run) → IsWhole m → m.st ≤ 65536 → m.st ≤ m.ss → (b : Bool) → (k == n) ≡ b
+        → 49152 + (if b then f.frame + stmts_chain (chains fs n) f.body else chains fs n k) ≤ m.st
+        → GivesBack m (run from (if b then parts_trail (code_of fs n) (slice_index_or (map function_code fs) n no_part) else code_of fs n k) m)
+    by own before k less m whole high held true is enough =
+        subst (λ c. GivesBack m (run from (parts_trail (code_of fs n) c) m)) (sym (get_or-map function_code fs n no_function no_part (omega (arith, within))))
+        (function_stays from (code_of fs n) (chains fs n) fs n f own before m whole high held enough)
+    by own before k less m whole high held false other enough = before.called k (earlier (cases_lt k n)) m whole high held enough
+      where
+        earlier : (k < n) ⊎ (n ≤ k) → k < n
+        earlier (inl lt) = lt
+        earlier (inr ge) = absurd (eqb-false k n other (omega (arith, ge, less)))
+
+pub task_stays : (u : PlainUnit) (from : Sources) (memory : Memory) (loads : List ℕ) (backs : List Back) → is_formed u ≡ true → 49152 + chains u.functions (length u.functions) u.entry ≤ 65536
+    → AreWithinStack (run from (trail (emitted u)) (at_begin memory loads backs)).asked (pointers_of (at_begin memory loads backs))
+task_stays u from memory loads backs formed few =
+    let a = and_parts (nat_le (length u.functions) 512) _ formed in
+    let b = and_parts (functions_formed u.functions (length u.functions)) _ a.1 in
+    let c = and_parts (entry_formed u) _ b.1 in
+    let d = and_parts (nat_lt u.entry (length u.functions)) ((slice_index_or u.functions u.entry no_function).parameters == 0) c.0 in
+    let begin = at_begin memory loads backs in
+    let g = (all_stay from u.functions (length u.functions) (omega arith) b.0).called u.entry (ltb-true u.entry (length u.functions) d.0) begin
+    (record { fits = record { count = refl; pred_count = refl; zero = refl; always = refl }; pending = refl }) (omega arith) (omega arith) (omega (arith, few)) in
+    subst (λ n. AreWithinStack (run from (trails (map function_code u.functions) n u.entry) begin).asked (pointers_of begin)) (sym (length-map u.functions function_code))
+    (subst (λ l. AreWithinStack l (pointers_of begin)) (sym g.points.is) g.points.within)

@@ -1,0 +1,60 @@
+-- A run that makes all turns of its loops and comes back from each call. Behind each turn but the last the branch back is
+-- asked for, and behind the last no flow; and each function asks for the place that was set when it began. A trail runs
+-- all turns and calls whatever its flows ask for, so this is said apart from it.
+use Rattle.std.specs.Bool.{MatchBool}
+use Rattle.std.specs.Prelude.{ℕ, zero, suc, ◌≡◌, ◌==◌, List, [], ◌∷◌, ◌++◌, length, slice_index_or}
+use Rattle.patmos_instr.specs.Bundles.{Slots}
+use Rattle.sp_shape.specs.Parts.{PlainPart, straight, repeats, calls_to, leaves, PlainParts, no_part, part, PlainShape}
+use Rattle.sp_shape.specs.Run.{Run, Back, branches, returns}
+use Rattle.sp_shape.specs.Trail.{Step, begins, all_done, part_trail, parts_trail, trails}
+
+-- ---- flows, in a reading of trails: at once, or late
+
+-- the tail of a turn asks for one flow, the branch back
+abbrev pub AsksAgain : (List Step → Run → Run) → List Slots → Run → Type 0
+AsksAgain go tail m = (go (all_done tail) m).ways ≡ m.ways ++ branches ∷ []
+
+-- it asks for no flow
+abbrev pub AsksNoMore : (List Step → Run → Run) → List Slots → Run → Type 0
+AsksNoMore go tail m = (go (all_done tail) m).ways ≡ m.ways
+
+-- the tail of a function asks for one flow, to a place
+abbrev pub Returns : (List Step → Run → Run) → List Slots → Back → Run → Type 0
+Returns go tail back m = (go (all_done tail) m).ways ≡ m.ways ++ returns back.base back.offset ∷ []
+
+-- so many turns of a body's trail and a tail are made from here, and what is said of the body holds where each begins
+abbrev pub AllTurns : (List Step → Run → Run) → (Run → Type 0) → List Step → List Slots → ℕ → Run → Type 0
+AllTurns go Inside body tail zero m = Unit {0}
+AllTurns go Inside body tail (suc zero) m = Inside m × AsksNoMore go tail (go body m)
+AllTurns go Inside body tail (suc (suc n)) m = Inside m × AsksAgain go tail (go body m) × AllTurns go Inside body tail (suc n) (go (body ++ all_done tail) m)
+
+-- ---- parts
+
+-- each loop makes all its turns, those inside its body too, a return goes to a place, and what is said of a function by
+-- its number holds where it is called and begins; over the trails of functions by their number
+abbrev mutual
+  pub PartTurns : (List Step → Run → Run) → (ℕ → List Step) → (ℕ → Run → Type 0) → Back → PlainPart → Run → Type 0
+  PartTurns go f Called back (straight bs) m = Unit {0}
+  PartTurns go f Called back (repeats count body tail) m = AllTurns go (λ t. PartsTurn go f Called back body t) (parts_trail f body) tail count m
+  PartTurns go f Called back (calls_to k tail) m = Called k (go (all_done tail ++ begins ∷ []) m)
+  PartTurns go f Called back (leaves tail) m = Returns go tail back m
+
+  pub PartsTurn : (List Step → Run → Run) → (ℕ → List Step) → (ℕ → Run → Type 0) → Back → PlainParts → Run → Type 0
+  PartsTurn go f Called back no_part m = Unit {0}
+  PartsTurn go f Called back (part p rest) m = PartTurns go f Called back p m × PartsTurn go f Called back rest (go (part_trail f p) m)
+
+-- ---- functions and shapes
+
+-- the place that is set
+abbrev pub back_of : Run → Back
+back_of m = record { base = m.regs.srb; offset = m.regs.sro }
+
+-- the function of a number, and those that it calls; functions in order, each over the earlier ones
+abbrev pub FunctionsTurn : (List Step → Run → Run) → List PlainParts → ℕ → ℕ → Run → Type 0
+FunctionsTurn go fs zero k m = Unit {0}
+FunctionsTurn go fs (suc n) k m =
+    MatchBool (k == n) (PartsTurn go (trails fs n) (FunctionsTurn go fs n) (back_of m) (slice_index_or fs n no_part) m) (FunctionsTurn go fs n k m)
+
+-- all of it where the shape's trail is run from here
+abbrev pub ShapeTurns : (List Step → Run → Run) → PlainShape → Run → Type 0
+ShapeTurns go s m = FunctionsTurn go s.functions (length s.functions) s.entry m

@@ -1,0 +1,11 @@
+pub mod Counted
+pub mod Functions
+pub mod Bodies
+pub mod Order
+pub mod Linking
+pub mod Kept
+pub mod Standing
+pub mod Example
+pub mod Fetched
+pub mod Started
+pub mod Fitting

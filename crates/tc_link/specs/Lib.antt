@@ -1,0 +1,5 @@
+pub mod Examples
+pub mod Fits
+pub mod Flat
+pub mod Placed
+pub mod Stands
