@@ -52,7 +52,7 @@ leaves_nothing from true _ regs m early is = is
 early_once : (from : Sources) (b : Slots) (m : Run) → IsWhole m → is_late b.first.op ≡ false → late from b m ≡ once from b m
 early_once from b m whole early =
     let nothing = leaves_nothing from (holds m.regs b.first.guard) b.first.op m.regs (behind b m) early refl in
-    sym (ap (with_regs (late from b m)) (settled_same (late from b m).regs (late_fits from b m whole) nothing))
+    sym (ap (with_regs (late from b m)) (settled_same (late from b m).regs (late_fits from b m whole.fits) nothing))
 
 -- ---- a bundle that does nothing, behind one whose value comes late
 
@@ -86,5 +86,5 @@ pub one_runs : (from : Sources) (b : Slots) (m : Run) → IsWhole m → run_late
 one_runs from b m whole = placed_so (is_late b.first.op) refl
   where
     placed_so : (is : Bool) → is_late b.first.op ≡ is → run_late from (all_done (if is then b ∷ idle ∷ [] else b ∷ [])) m ≡ once from b m
-    placed_so true late_one = idle_settles from (late from b m) (late_fits from b m whole)
+    placed_so true late_one = idle_settles from (late from b m) (late_fits from b m whole.fits)
     placed_so false early = early_once from b m whole early

@@ -1,12 +1,13 @@
 //! Bundles: their words, and the cycles that they take at most.
 ghost use Rattle.std.specs.Prelude.{◌≡◌, ◌+◌, ◌≤◌, length};
 ghost use Rattle.cycle_bound.specs.Bound.{op_moves, stack_moves, access_moves, bundle_bound, bundles_bound};
-ghost use Rattle.sp_shape.specs.Words.{bundle_words, bundles_words};
+ghost use Rattle.sp_shape.specs.Words.{bundles_words};
 ghost use Rattle.cycle_bound.specs.Held.{held};
 
 use crate::held::plus;
 use crate::steps::Steps;
 use patmos_instr::{Bundle, Mem, Op, StackFunc};
+use sp_shape::words_of_bundle;
 use stack_cache::STACK_CACHE_WORDS;
 use std::sync::ledger::Ledger;
 
@@ -15,17 +16,6 @@ pub const LEAST_EACH: u64 = 6;
 
 /// The most cycles that a transaction takes at a place: at most a gap, of 4,096, and a slot, of 64.
 pub const MOST_EACH: u64 = 4_160;
-
-/// How many words a bundle has.
-fn words_of_bundle(bundle: &Bundle) -> u64
-    ensures { result ≡ bundle_words bundle.now }
-{
-    if bundle.first().op.is_long() || bundle.second().is_some() {
-        2
-    } else {
-        1
-    }
-}
 
 /// How many words bundles have together.
 #[tactic(auto, using(crate::proofs::Sums::words_next, crate::proofs::Sums::words_at_end))]
@@ -36,7 +26,7 @@ pub fn words_of_bundles<L: Ledger>(bundles: &[Bundle], steps: &mut Steps<L>) -> 
     let mut words = 0;
     for bundle in bundles {
         steps.tick();
-        words = plus(words, words_of_bundle(bundle));
+        words = plus(words, u64::from(words_of_bundle(bundle)));
     }
     words
 }

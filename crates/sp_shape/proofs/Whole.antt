@@ -15,7 +15,7 @@ use Rattle.patmos_sem.specs.declared.pending.Pending.{Pending}
 use Rattle.patmos_sem.specs.declared.pending.Pending.TheVariants as pending
 use Rattle.patmos_sem.specs.declared.writes.Write.{Write}
 use Rattle.patmos_sem.proofs.Told.{get_or-renewed, length-renewed_from}
-use Rattle.sp_shape.specs.Run.{Run, IsWhole, Sources, stored, stacked, effected, late, once, begun, run}
+use Rattle.sp_shape.specs.Run.{Run, IsWhole, Sources, stored, stacked, effected, late, once, begun, run_late, run}
 use Rattle.sp_shape.specs.Trail.{Step, does, begins}
 
 -- ---- registers that are written are still all there
@@ -57,14 +57,13 @@ effected_fits from (effect.Flow flow) m fits = fits
 abbrev pub behind : Slots → Run → Run
 behind b m = record m { regs = after_bundle m.st m.ss b m.regs }
 
-pub late_fits : (from : Sources) (b : Slots) (m : Run) → IsWhole m → FitsRegisters (late from b m).regs
-late_fits from b m whole =
-    effected_fits from (effect_of b m.regs) (behind b m) (writes_fit (all_writes m.st m.ss b m.regs) (slot_begun m.regs b.first) m.regs whole.fits)
+pub late_fits : (from : Sources) (b : Slots) (m : Run) → FitsRegisters m.regs → FitsRegisters (late from b m).regs
+late_fits from b m fits = effected_fits from (effect_of b m.regs) (behind b m) (writes_fit (all_writes m.st m.ss b m.regs) (slot_begun m.regs b.first) m.regs fits)
 
 pub once_whole : (from : Sources) (b : Slots) (m : Run) → IsWhole m → IsWhole (once from b m)
 once_whole from b m whole =
     let regs = (late from b m).regs in
-    record { fits = writes_fit (came regs.pending ∷ []) pending.Nothing regs (late_fits from b m whole); pending = refl }
+    record { fits = writes_fit (came regs.pending ∷ []) pending.Nothing regs (late_fits from b m whole.fits); pending = refl }
 
 pub begun_whole : (m : Run) → IsWhole m → IsWhole (begun m)
 begun_whole m whole = record {
@@ -81,3 +80,8 @@ pub run_append : (from : Sources) (xs ys : List Step) (m : Run) → run from (xs
 run_append from [] ys m = refl
 run_append from (does b ∷ xs) ys m = run_append from xs ys (once from b m)
 run_append from (begins ∷ xs) ys m = run_append from xs ys (begun m)
+
+pub late_append : (from : Sources) (xs ys : List Step) (m : Run) → run_late from (xs ++ ys) m ≡ run_late from ys (run_late from xs m)
+late_append from [] ys m = refl
+late_append from (does b ∷ xs) ys m = late_append from xs ys (late from b m)
+late_append from (begins ∷ xs) ys m = late_append from xs ys (begun m)

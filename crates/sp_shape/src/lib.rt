@@ -12,15 +12,17 @@
 //! - When its loops make all the turns that the order says, and its functions return to where they were called from:
 //!   `specs/Turning.antt`.
 //! - When all that is asked of the stack is within it: `specs/Pointers.antt`.
-//! - How many words it takes: `specs/Words.antt`; what is said of each bundle: `specs/Bundles.antt`.
+//! - How many words it takes: `specs/Words.antt`, of a bundle [`words_of_bundle`]; what is said of each bundle: `specs/Bundles.antt`.
 //!
 //! What its words mean stands in [the glossary](../../../docs/GLOSSARY.md).
 #![tactic(auto)]
 
 mod laws;
 mod parts;
+mod words;
 mod worked;
 
 pub use laws::{parts_join, trails_go_on};
 pub use parts::{Part, Shape};
+pub use words::words_of_bundle;
 pub use worked::{worked_runs, worked_shapes, worked_trails, worked_turns};

@@ -150,7 +150,7 @@ starts_later s k = elim (cases_eq k s.entry) [
   | inr ne ↦ omega (arith, other_placed (size_of s) s.entry k ne)
 ]
 
-flat_stands : (s : PlainShape) (k : ℕ) → k < length s.functions → HasAt (linked s).words (start_of s k) (flat s k)
+pub flat_stands : (s : PlainShape) (k : ℕ) → k < length s.functions → HasAt (linked s).words (start_of s k) (flat s k)
 flat_stands s k within =
     has_in (linked s).words (start_of s k) (flat s k)
     (holds_back (linked s).words (size_of s k ∷ []) (codes (flat s k)) (start_of s k - 1) (start_of s k) (omega (arith, starts_later s k)) (linked_holds s k within))

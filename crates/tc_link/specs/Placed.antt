@@ -26,8 +26,8 @@ abbrev pub others_below : (ℕ → ℕ) → ℕ → ℕ → ℕ
 others_below size entry zero = 0
 others_below size entry (suc n) = others_below size entry n + (if n == entry then 0 else 1 + size n)
 
--- the first word of a function, behind its size: that of the entry is word 0, and the others begin behind the entry's
--- words
+-- the first word of a function, behind its size: the entry's size is word 0, and the others come behind the entry's last
+-- word
 abbrev pub place : (ℕ → ℕ) → ℕ → ℕ → ℕ
 place size entry k = if k == entry then 1 else 1 + size entry + others_below size entry k + 1
 

@@ -1,17 +1,33 @@
 //! Laws of images that were made of shapes.
-ghost use Rattle.std.specs.Prelude.{◌≡◌, ℕ, ◌+◌, ◌-◌, ◌<◌, List, ◌∷◌, ◌++◌, Some, true, length, slice_index};
-ghost use Rattle.std.specs.List.{Contains};
+ghost use Rattle.std.specs.Prelude.{◌≡◌, ℕ, ◌+◌, ◌-◌, ◌<◌, List, ◌∷◌, ◌++◌, Some, None, true, length, slice_index};
+ghost use Rattle.std.specs.List.{All, Contains};
 ghost use Rattle.patmos_instr.specs.Bundles.{Slots, FitsBundle};
 ghost use Rattle.patmos_code.specs.Codes.{code};
 ghost use Rattle.patmos_code.specs.Decoding.{bundle_at};
 ghost use Rattle.patmos_code.specs.Images.{IsImage};
+ghost use Rattle.patmos_model.specs.Begin.{entry};
+ghost use Rattle.patmos_model.specs.Bundle.{advanced, asked_flow};
+ghost use Rattle.patmos_model.specs.Checks.{fault_of};
+ghost use Rattle.patmos_model.specs.Flows as model;
+ghost use Rattle.patmos_model.specs.Flows.{is_placed};
+ghost use Rattle.patmos_model.specs.State.{Plain, Core};
+ghost use Rattle.patmos_model.specs.declared.flow.Goal.{Goal};
+ghost use Rattle.patmos_sem.specs.Bundles.{effect_of};
+ghost use Rattle.patmos_sem.specs.Registers.{FitsRegisters};
+ghost use Rattle.patmos_sem.specs.declared.effects.Effect.TheVariants as effect;
+ghost use Rattle.patmos_sem.specs.declared.effects.FlowKind.{FlowKind};
 ghost use Rattle.sp_shape.specs.Formed.{is_formed};
 ghost use Rattle.sp_shape.specs.Parts.{PlainParts, PlainShape};
+ghost use Rattle.sp_shape.specs.Run.{Run, Sources, late, run_late};
+ghost use Rattle.sp_shape.specs.Trail.{trail};
+ghost use Rattle.sp_shape.specs.Turning.{ShapeTurns};
 ghost use Rattle.sp_shape.specs.Words.{bundles_words};
+ghost use Rattle.tc_link.specs.Backs.{backs_of};
 ghost use Rattle.tc_link.specs.Fits.{FitsImage};
 ghost use Rattle.tc_link.specs.Flat.{flat_parts};
 ghost use Rattle.tc_link.specs.Placed.{function, size_of, start_of, flat, linked};
 ghost use Rattle.tc_link.specs.Stands.{StandAt, HasAt, PartsAt};
+ghost use Rattle.tc_link.specs.Walk.{Walk, is_place, gone, bundle_done, erased, walk_from, IsAlone, Follows, IsAs};
 
 /// What is made of a well-formed shape that fits is an image.
 #[tactic(auto, using(crate::proofs::Kept::linked_is_image))]
@@ -42,4 +58,34 @@ pub fn parts_stand()
 pub fn standing_bundles_are_decoded()
     ensures { (words : List ℕ) (at : ℕ) (b : Slots) → FitsBundle b → StandAt words at (code b)
         → bundle_at (slice_index words at) (slice_index words (at + 1)) ≡ Some b }
+{}
+
+/// A target changes nothing of what a bundle does to registers and words.
+#[tactic(auto, using(crate::proofs::Erased::late_same))]
+pub fn targets_change_nothing()
+    ensures { (from : Sources) (b c : Slots) (m : Run) → erased b ≡ erased c → late from b m ≡ late from c m }
+{}
+
+/// A core that is put where the entry starts, and that fetches the words of the image and obeys its flows, does the
+/// bundles of the shape's trail one after another: where its loops make all their turns and its functions come back, and
+/// where the places to which its calls return are told as they are. Each flow goes to a place, and none stands in a delay
+/// slot of another. Behind the last bundle the entry's return is due.
+pub fn code_follows_the_trail()
+    ensures { (s : PlainShape) (from : Sources) (m : Run) → is_formed s ≡ true → FitsImage s
+        → ((k : ℕ) → k < length s.functions → All FitsBundle (flat s k))
+        → FitsRegisters m.regs → m.backs ≡ backs_of s → ShapeTurns (run_late from) s m
+        → Follows (linked s) from (trail s) (walk_from (entry (linked s)) m) }
+{}
+
+/// Flows take effect in a walk as they do in a core: the same goals are places, the core goes on where the walk does, and
+/// behind a bundle both are at the same offset with the same flow pending. A flow that stands in no delay slot passes the
+/// core's check.
+#[tactic(auto, using(crate::proofs::Cores::placed_alike, crate::proofs::Cores::gone_alike, crate::proofs::Cores::offset_alike, crate::proofs::Cores::flow_alike, crate::proofs::Cores::no_fault))]
+pub fn walks_go_as_cores()
+    ensures placed { (to : Goal) (x : Plain) → is_placed to x ≡ is_place x.site.image x.base to }
+    ensures gone { (to : Goal) (c : Core) (w : Walk) → IsAs w c.plain → IsAs (gone to w) (model.gone to c).plain }
+    ensures offset { (from : Sources) (b : Slots) (words : ℕ) (w : Walk) (x : Plain) → IsAs w x → (bundle_done from b words w).offset ≡ (advanced words b x).offset }
+    ensures flow { (from : Sources) (b : Slots) (words : ℕ) (w : Walk) (x : Plain) → IsAs w x → (bundle_done from b words w).flow ≡ (advanced words b x).flow }
+    ensures check { (b : Slots) (flow : FlowKind) (w : Walk) (x : Plain) → IsAs w x → IsAlone w.flow (asked_flow w.offset (effect_of b w.run.regs))
+        → effect_of b x.regs ≡ effect.Flow flow → fault_of x (effect.Flow flow) ≡ None }
 {}

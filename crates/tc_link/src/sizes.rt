@@ -3,23 +3,12 @@ ghost use Rattle.std.specs.Prelude.{◌≡◌, ℕ, ◌<◌, ◌≤◌, IfOk, le
 ghost use Rattle.patmos_code.specs.declared.images.TheConstants.{MOST_IN_FUNCTION};
 ghost use Rattle.sp_shape.specs.Parts.{no_part};
 ghost use Rattle.sp_shape.specs.Shown.{plain_part, parts_of, functions_of};
-ghost use Rattle.sp_shape.specs.Words.{bundle_words, bundles_words, part_words, parts_words};
+ghost use Rattle.sp_shape.specs.Words.{bundles_words, part_words, parts_words};
 
 use patmos_instr::Bundle;
-use sp_shape::Part;
+use sp_shape::{Part, words_of_bundle};
 use std::alloc::Global;
 use tc_word::{List, OutOfMemory};
-
-/// How many words a bundle has.
-pub fn words_of_bundle(bundle: &Bundle) -> u32
-    ensures { result ≡ bundle_words bundle.now }
-{
-    if bundle.first().op.is_long() || bundle.second().is_some() {
-        2
-    } else {
-        1
-    }
-}
 
 // how many words bundles have together
 fn words_of_bundles(bundles: &[Bundle]) -> u32

@@ -11,10 +11,9 @@ ghost use Rattle.tc_link.specs.Flat as flat;
 ghost use Rattle.tc_link.specs.Placed.{codes, others, function_words};
 
 use crate::flows::{branch_back, call_to};
-use crate::sizes::words_of_bundle;
 use patmos_code::encode;
 use patmos_instr::{Addr22, Bundle};
-use sp_shape::Part;
+use sp_shape::{Part, words_of_bundle};
 use std::alloc::Global;
 use tc_word::{List, OutOfMemory};
 

@@ -1,0 +1,113 @@
+-- How a core that fetches bundles goes on, bundle by bundle.
+use Rattle.std.proofs.Common.{◌≡◌, ℕ, suc, ◌+◌, ◌-◌, true, false, None, Some, List, [], ◌∷◌, ◌++◌, length, refl, sym, ap, ◌∙◌, subst, arith}
+use Rattle.patmos_code.specs.Images.{Parts}
+use Rattle.patmos_instr.specs.Bundles.{Slots}
+use Rattle.patmos_model.specs.Bundle.{fetched_at, asked_flow}
+use Rattle.patmos_model.specs.Flows.{counted}
+use Rattle.patmos_model.specs.declared.fetched.Fetched.TheVariants.{Found}
+use Rattle.patmos_model.specs.declared.flow.Goal.{Goal}
+use Rattle.patmos_sem.specs.Bundles.{effect_of}
+use Rattle.patmos_sem.specs.Registers.{FitsRegisters}
+use Rattle.sp_shape.proofs.Whole.{late_fits}
+use Rattle.sp_shape.specs.Formed.{is_flow, are_calm}
+use Rattle.sp_shape.specs.Run.{Run, Back, Sources, late, run_late}
+use Rattle.sp_shape.specs.Trail.{Step, does, begins, all_done}
+use Rattle.sp_shape.specs.Words.{bundle_words, bundles_words}
+use Rattle.tc_link.specs.Walk.{Walk, flowed, IsPlaced, bundle_done, erased, IsAlone, Fetches, Does}
+use Rattle.tc_link.proofs.Late.{calm_first, calm_rest, calm_asks, late_backs}
+
+-- bundles are what is fetched from an offset of a function on
+abbrev pub FetchAt : Parts → ℕ → ℕ → List Slots → Type 0
+FetchAt image base at [] = Unit {0}
+FetchAt image base at (b ∷ bs) = (fetched_at image base at ≡ Found b (bundle_words b)) × FetchAt image base (at + bundle_words b) bs
+
+-- at a place, with nothing pending, or with a flow that has so many delay slots left
+abbrev pub free : ℕ → ℕ → Run → Walk
+free base offset m = record { run = m; base = base; offset = offset; flow = None }
+
+abbrev pub waiting : Goal → ℕ → ℕ → ℕ → Run → Walk
+waiting goal slots base offset m = record { run = m; base = base; offset = offset; flow = Some (record { goal = goal; slots = slots }) }
+
+-- a walk comes to a place with this run, and these are the places to which later calls return
+pub record Comes (image : Parts) (base offset : ℕ) (rest : List Back) (m : Run) (w : Walk) : Type 0 where
+  pub placed : IsPlaced image w
+  pub lands : flowed w ≡ free base offset m
+  pub fits : FitsRegisters m.regs
+  pub backs : m.backs ≡ rest
+
+-- it does steps, and comes to a place with a run
+pub record Goes (image : Parts) (from : Sources) (steps : List Step) (base offset : ℕ) (rest : List Back) (w : Walk) (m : Run) : Type 0 where
+  pub last : Walk
+  pub does_so : Does image from steps w last
+  pub comes : Comes image base offset rest m last
+
+module _ (image : Parts) (from : Sources) where
+  -- ---- trails
+
+  pub does_then : (xs ys : List Step) (w e last : Walk) → Does image from xs w e → Does image from ys e last → Does image from (xs ++ ys) w last
+  does_then [] ys w e last a b = subst (λ x. Does image from ys x last) (sym a) b
+  does_then (does x ∷ xs) ys w e last a b = (a.0, (a.1.0, does_then xs ys (bundle_done from a.1.0.bundle a.1.0.words (flowed w)) e last a.1.1 b))
+  does_then (begins ∷ xs) ys w e last a b = (a.0, a.1, does_then xs ys (flowed w) e last a.2 b)
+
+  pub elsewhere : (steps : List Step) (base offset other : ℕ) (rest : List Back) (w : Walk) (m : Run) → offset ≡ other → Goes image from steps base offset rest w m → Goes image from steps base other rest w m
+  elsewhere steps base offset other rest w m is g = subst (λ n. Goes image from steps base n rest w m) is g
+
+  -- ---- a bundle
+
+  pub step : (b c : Slots) (steps : List Step) (w at e : Walk) → IsPlaced image w → flowed w ≡ at → erased c ≡ erased b → fetched_at image at.base at.offset ≡ Found c (bundle_words c)
+      → IsAlone at.flow (asked_flow at.offset (effect_of c at.run.regs)) → Does image from steps (bundle_done from c (bundle_words c) at) e → Does image from (does b ∷ steps) w e
+  step b c steps w at e placed lands same found alone then_on = (
+    placed,
+    subst (λ x. (f : Fetches image b x) × Does image from steps (bundle_done from f.bundle f.words x) e) (sym lands)
+        (record { bundle = c; words = bundle_words c; same = same; found = found; alone = alone }, then_on),
+  )
+
+  calm_done : (b : Slots) (w : Walk) → is_flow b.first.op ≡ false
+      → bundle_done from b (bundle_words b) w ≡ record { run = late from b w.run; base = w.base; offset = w.offset + bundle_words b; flow = counted w.flow None }
+  calm_done b w calm =
+      ap (λ f. record { run = late from b w.run; base = w.base; offset = w.offset + bundle_words b; flow = counted w.flow f }) (calm_asks w.offset b w.run.regs calm)
+
+  -- ---- without a flow
+
+  -- a bundle, and what is done behind it
+  pub calm_then : (b : Slots) (steps : List Step) (base at other offset : ℕ) (rest later : List Back) (m n : Run) (w : Walk) → is_flow b.first.op ≡ false
+      → fetched_at image base at ≡ Found b (bundle_words b) → Comes image base at rest m w
+      → (Comes image base (at + bundle_words b) rest (late from b m) (free base (at + bundle_words b) (late from b m)) → Goes image from steps other offset later (free base (at + bundle_words b) (late from b m)) n)
+      → Goes image from (does b ∷ steps) other offset later w n
+  calm_then b steps base at other offset rest later m n w calm found c more =
+      let g = more (record { placed = tt; lands = refl; fits = late_fits from b m c.fits; backs = late_backs from b m ∙ c.backs }) in
+      record {
+        last = g.last;
+        does_so = step b b steps w (free base at m) g.last c.placed c.lands refl found tt (subst (λ x. Does image from steps x g.last) (sym (calm_done b (free base at m) calm)) g.does_so);
+        comes = g.comes;
+      }
+
+  pub calm_goes : (bs : List Slots) (base at : ℕ) (rest : List Back) (m : Run) (w : Walk) → are_calm bs ≡ true → FetchAt image base at bs → Comes image base at rest m w
+      → Goes image from (all_done bs) base (at + bundles_words bs) rest w (run_late from (all_done bs) m)
+  calm_goes [] base at rest m w calm h c = elsewhere [] base at (at + 0) rest w m (omega arith) (record { last = w; does_so = refl; comes = c })
+  calm_goes (b ∷ bs) base at rest m w calm h c =
+      let end = run_late from (all_done (b ∷ bs)) m in
+      calm_then b (all_done bs) base at base (at + bundles_words (b ∷ bs)) rest rest m end w (calm_first b bs calm) h.0 c
+      (λ d. elsewhere (all_done bs) base (at + bundle_words b + bundles_words bs) (at + bundles_words (b ∷ bs)) rest (free base (at + bundle_words b) (late from b m)) end (omega arith)
+      (calm_goes bs base (at + bundle_words b) rest (late from b m) (free base (at + bundle_words b) (late from b m)) (calm_rest b bs calm) h.1 d))
+
+  -- ---- delay slots
+
+  slot_done : (b : Slots) (goal : Goal) (left base at : ℕ) (m : Run) → is_flow b.first.op ≡ false
+      → bundle_done from b (bundle_words b) (waiting goal (suc left) base at m) ≡ waiting goal left base (at + bundle_words b) (late from b m)
+  slot_done b goal left base at m calm =
+      let one : suc left - 1 ≡ left = omega arith in
+      calm_done b (waiting goal (suc left) base at m) calm ∙ ap (λ n. waiting goal n base (at + bundle_words b) (late from b m)) one
+
+  pub slots_do : (bs : List Slots) (goal : Goal) (base at : ℕ) (m : Run) → are_calm bs ≡ true → FetchAt image base at bs
+      → Does image from (all_done bs) (waiting goal (length bs) base at m) (waiting goal 0 base (at + bundles_words bs) (run_late from (all_done bs) m))
+  slots_do [] goal base at m calm h = let none : at ≡ at + 0 = omega arith in ap (λ n. waiting goal 0 base n m) none
+  slots_do (b ∷ bs) goal base at m calm h =
+      let w = waiting goal (suc (length bs)) base at m in
+      let next = waiting goal (length bs) base (at + bundle_words b) (late from b m) in
+      let end = λ (n : ℕ). waiting goal 0 base n (run_late from (all_done (b ∷ bs)) m) in
+      let so = slots_do bs goal base (at + bundle_words b) (late from b m) (calm_rest b bs calm) h.1 in
+      let there : at + bundle_words b + bundles_words bs ≡ at + bundles_words (b ∷ bs) = omega arith in
+      step b b (all_done bs) w w (end (at + bundles_words (b ∷ bs))) tt refl refl h.0 (calm_asks at b m.regs (calm_first b bs calm))
+      (subst (λ x. Does image from (all_done bs) x (end (at + bundles_words (b ∷ bs)))) (sym (slot_done b goal (length bs) base at m (calm_first b bs calm)))
+      (subst (λ n. Does image from (all_done bs) next (end n)) there so))
