@@ -1,6 +1,6 @@
 -- What else spaced code has of the code: its delay slots do nothing, what may have a transaction with main memory is
 -- always done, and it has as many words as there was room for.
-use Rattle.std.proofs.Common.{◌≡◌, ℕ, ◌+◌, ◌<◌, ◌≤◌, Bool, true, false, if◌then◌else◌, List, [], ◌∷◌, ◌++◌, length, slice_index_or, refl, ap, ◌∙◌, arith}
+use Rattle.std.proofs.Common.{◌≡◌, ℕ, ◌+◌, ◌<◌, ◌≤◌, Bool, true, false, if◌then◌else◌, List, [], ◌∷◌, ◌++◌, length, slice_index_or, refl, sym, ap, ◌∙◌, arith}
 use Rattle.std.specs.Prelude.{◌&&◌}
 use Rattle.std.specs.List.{list_all}
 use Rattle.std.proofs.lemmas.Bool.{and_parts, and_from}
@@ -40,6 +40,39 @@ mutual
   parts_all_placed holds nothing (part p rest) h =
       let both = and_parts (part_all holds p) (parts_all holds rest) h in
       and_from (part_all holds (part_placed p)) (parts_all holds (parts_placed rest)) (part_all_placed holds nothing p both.0) (parts_all_placed holds nothing rest both.1)
+
+-- ---- what holds of each spaced bundle holds of each bundle before
+
+one_spaced_all : (holds : Slots → Bool) (late : Bool) (b : Slots) (spaced_rest rest : List Slots) → (list_all holds spaced_rest ≡ true → list_all holds rest ≡ true)
+    → list_all holds ((if late then b ∷ idle ∷ [] else b ∷ []) ++ spaced_rest) ≡ true → list_all holds (b ∷ rest) ≡ true
+one_spaced_all holds true b spaced_rest rest others h =
+    let x = and_parts (holds b) (holds idle && list_all holds spaced_rest) h in
+    and_from (holds b) (list_all holds rest) x.0 (others (and_parts (holds idle) (list_all holds spaced_rest) x.1).1)
+one_spaced_all holds false b spaced_rest rest others h =
+    let x = and_parts (holds b) (list_all holds spaced_rest) h in
+    and_from (holds b) (list_all holds rest) x.0 (others x.1)
+
+spaced_all : (holds : Slots → Bool) → (bs : List Slots) → list_all holds (spaced bs) ≡ true → list_all holds bs ≡ true
+spaced_all holds [] h = refl
+spaced_all holds (b ∷ bs) h = one_spaced_all holds (is_late b.first.op) b (spaced bs) bs (λ x. spaced_all holds bs x) h
+
+mutual
+  part_placed_all : (holds : Slots → Bool) → (p : PlainPart) → part_all holds (part_placed p) ≡ true → part_all holds p ≡ true
+  part_placed_all holds (straight bs) h = spaced_all holds bs h
+  part_placed_all holds (repeats count body tail) h =
+      let both = and_parts (parts_all holds (parts_placed body)) (list_all holds (spaced tail)) h in
+      and_from (parts_all holds body) (list_all holds tail) (parts_placed_all holds body both.0) (spaced_all holds tail both.1)
+  part_placed_all holds (calls_to k tail) h = spaced_all holds tail h
+  part_placed_all holds (leaves tail) h = spaced_all holds tail h
+
+  parts_placed_all : (holds : Slots → Bool) → (ps : PlainParts) → parts_all holds (parts_placed ps) ≡ true → parts_all holds ps ≡ true
+  parts_placed_all holds no_part h = refl
+  parts_placed_all holds (part p rest) h =
+      let both = and_parts (part_all holds (part_placed p)) (parts_all holds (parts_placed rest)) h in
+      and_from (part_all holds p) (parts_all holds rest) (part_placed_all holds p both.0) (parts_placed_all holds rest both.1)
+
+pub placed_all : (holds : Slots → Bool) (s : PlainShape) (k : ℕ) → parts_all holds (slice_index_or (placed s).functions k no_part) ≡ true → parts_all holds (slice_index_or s.functions k no_part) ≡ true
+placed_all holds s k h = parts_placed_all holds (slice_index_or s.functions k no_part) (sym (ap (parts_all holds) (placed_at s.functions k)) ∙ h)
 
 -- ---- delay slots
 

@@ -13,13 +13,18 @@
 //! - The answer is well formed and its delay slots do nothing. Where whatever may have a transaction with main memory is
 //!   always done, it still is. A function takes at most as many words as sp_shape's `specs/Words.antt` gives it room.
 //!
+//! That no bundle is lost, so that what holds of each of the answer holds of each of the argument, is
+//! [`scheduling_only_adds`].
+//!
 //! What its words mean stands in [the glossary](../../../docs/GLOSSARY.md).
 #![tactic(auto)]
 
 mod bundles;
+mod laws;
 mod parts;
 mod shapes;
 mod worked;
 
+pub use laws::scheduling_only_adds;
 pub use shapes::schedule;
 pub use worked::worked_places;

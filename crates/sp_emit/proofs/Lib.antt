@@ -9,9 +9,10 @@ pub mod Calm
 pub mod CalmCode
 pub mod CellWrites
 pub mod Cells
+pub mod Constants
 pub mod Counters
-pub mod Digits
 pub mod DigitTurns
+pub mod Digits
 pub mod Dividing
 pub mod Elements
 pub mod Entering
@@ -23,8 +24,8 @@ pub mod Homing
 pub mod Idle
 pub mod Kept
 pub mod Leaving
-pub mod Looping
 pub mod LoopTurns
+pub mod Looping
 pub mod Low
 pub mod Masks
 pub mod Needs

@@ -3,7 +3,7 @@ use Rattle.std.specs.Prelude.{ℕ, List, []}
 use Rattle.sp_tree.specs.Begun.{begun_private}
 use Rattle.sp_tree.specs.Statements.{PlainUnit}
 use Rattle.sp_shape.specs.Memory.{Memory}
-use Rattle.sp_shape.specs.Run.{Run, at_begin, by_words, run}
+use Rattle.sp_shape.specs.Run.{Run, Back, at_begin, by_words, run}
 use Rattle.sp_shape.specs.Trail.{trail}
 use Rattle.sp_emit.specs.Functions.{emitted}
 
@@ -19,8 +19,9 @@ begun_memory u input shared comm = record {
   starts = [];
 }
 
-abbrev pub ran : PlainUnit → List ℕ → (ℕ → ℕ) → (ℕ → ℕ) → Run
-ran u input shared comm = run by_words (trail (emitted u)) (at_begin (begun_memory u input shared comm) [] [])
+-- its calls are given these places to return to
+abbrev pub ran : PlainUnit → List ℕ → (ℕ → ℕ) → (ℕ → ℕ) → List Back → Run
+ran u input shared comm backs = run by_words (trail (emitted u)) (at_begin (begun_memory u input shared comm) [] backs)
 
 abbrev pub ran_alone : PlainUnit → List ℕ → Run
-ran_alone u input = ran u input (λ _. 0) (λ _. 0)
+ran_alone u input = ran u input (λ _. 0) (λ _. 0) []

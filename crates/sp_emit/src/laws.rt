@@ -1,5 +1,5 @@
 //! Laws of code.
-ghost use Rattle.std.specs.Prelude.{◌≡◌, ◌+◌, ◌≤◌, ℕ, List, [], true, length};
+ghost use Rattle.std.specs.Prelude.{◌≡◌, ◌+◌, ◌≤◌, ℕ, List, [], true, length, slice_index_or};
 ghost use Rattle.std.specs.List.{Contains};
 ghost use Rattle.patmos_instr.specs.declared.memories.Mem.TheVariants as mem;
 ghost use Rattle.patmos_instr.specs.declared.memories.StoreWidth.{StoreWidth};
@@ -11,7 +11,9 @@ ghost use Rattle.sp_tree.specs.Plain.{PlainSp};
 ghost use Rattle.sp_tree.specs.Statements.{PlainUnit};
 ghost use Rattle.sp_tree.specs.Straight.{State, worth};
 ghost use Rattle.sp_tree.specs.Uses.{Use, uses_of, are_apart};
+ghost use Rattle.sp_shape.specs.Bundles.{has_word, parts_all};
 ghost use Rattle.sp_shape.specs.Memory.{Memory};
+ghost use Rattle.sp_shape.specs.Parts.{no_part};
 ghost use Rattle.stack_cache.specs.declared.stack.TheConstants.{STACK_END, STACK_LOWEST};
 ghost use Rattle.sp_shape.specs.Pointers.{pointers_of, AreWithinStack};
 ghost use Rattle.sp_shape.specs.Run.{Run, IsWhole, Back, Sources, at_begin, by_words, run};
@@ -39,11 +41,11 @@ pub fn expressions_are_worked_out()
 {}
 
 /// What comes of a well-formed task's code, where each load gives what was stored last in its word: what the task's tree
-/// means. Its result, the words of all memories but word 0, the transfers that it started and the flag are those of the
-/// tree, and the stack is as it was.
+/// means, to whatever places its calls are said to return. Its result, the words of all memories but word 0, the transfers
+/// that it started and the flag are those of the tree, and the stack is as it was.
 pub fn tasks_do_what_they_mean()
-    ensures { (u : PlainUnit) (input : List ℕ) (shared comm : ℕ → ℕ) → is_formed u ≡ true → HasConstants u.functions → HoldsWords (begun u input shared comm)
-        → Answers (straight u input shared comm) (at_begin (begun_memory u input shared comm) [] []) (ran u input shared comm) }
+    ensures { (u : PlainUnit) (input : List ℕ) (shared comm : ℕ → ℕ) (backs : List Back) → is_formed u ≡ true → HasConstants u.functions → HoldsWords (begun u input shared comm)
+        → Answers (straight u input shared comm) (at_begin (begun_memory u input shared comm) [] backs) (ran u input shared comm backs) }
 {}
 
 /// Where a load from the stack gives what was stored last in its word, whatever other loads give, all loops of a
@@ -70,4 +72,12 @@ pub fn tasks_stay_within_the_stack()
     ensures { (u : PlainUnit) (from : Sources) (memory : Memory) (loads : List ℕ) (backs : List Back) → is_formed u ≡ true
         → STACK_LOWEST + chains u.functions (length u.functions) u.entry ≤ STACK_END
         → AreWithinStack (run from (trail (emitted u)) (at_begin memory loads backs)).asked (pointers_of (at_begin memory loads backs)) }
+{}
+
+/// Where the long constants of a task's code are words of 32 bits, as those of all bundles that words can tell are, the
+/// constants of its tree and the counts of its turns are.
+#[tactic(auto, using(crate::proofs::Constants::constants_are_words, crate::proofs::Constants::counts_are_words))]
+pub fn code_holds_the_constants()
+    ensures constants { (u : PlainUnit) → ((k : ℕ) → parts_all has_word (slice_index_or (emitted u).functions k no_part) ≡ true) → HasConstants u.functions }
+    ensures counts { (u : PlainUnit) → ((k : ℕ) → parts_all has_word (slice_index_or (emitted u).functions k no_part) ≡ true) → HasCounts u.functions }
 {}

@@ -14,6 +14,8 @@
 //! loads give. [`loops_make_all_turns`] says that the branches and returns of a task's code go where its trail goes on, and
 //! [`tasks_ask_for_what_they_name`] which words it may read and store, and [`tasks_stay_within_the_stack`] that it never leaves
 //! the stack: all three whatever is loaded from outside the stack.
+//! Where these want the constants and the counts of a tree to be words, [`code_holds_the_constants`] says that they are if
+//! the constants of its code are.
 //!
 //! - `specs/Instructions.antt` has the bundles, `src/registers.rt` which registers they use for what.
 //! - `specs/Expressions.antt` and `specs/Division.antt` have the code of values, `specs/Statements.antt` that of what
@@ -42,8 +44,8 @@ mod writes;
 
 pub use functions::emit;
 pub use laws::{
-    expressions_are_worked_out, loops_make_all_turns, tasks_ask_for_what_they_name,
-    tasks_do_what_they_mean, tasks_stay_within_the_stack,
+    code_holds_the_constants, expressions_are_worked_out, loops_make_all_turns,
+    tasks_ask_for_what_they_name, tasks_do_what_they_mean, tasks_stay_within_the_stack,
 };
 pub use registers::{
     DIGITS, DIVIDEND, DIVISOR, FIRST, MASK, OVERRUN, QUOTIENT_NEGATIVE, REMAINDER, REST_NEGATIVE,

@@ -1,9 +1,9 @@
 -- What is said of each bundle of a shape, wherever it stands; and of delay slots.
-use Rattle.std.specs.Prelude.{Bool, true, false, ◌&&◌, ◌==◌, List, [], ◌∷◌, is_none, if◌then◌else◌}
+use Rattle.std.specs.Prelude.{◌^◌, nat_lt, Bool, true, false, ◌&&◌, ◌==◌, List, [], ◌∷◌, is_none, if◌then◌else◌}
 use Rattle.std.specs.List.{list_all}
 use Rattle.patmos_instr.specs.Bundles.{Slots}
 use Rattle.patmos_instr.specs.declared.instructions.Op.{Op}
-use Rattle.patmos_instr.specs.declared.instructions.Op.TheVariants.{AluImm, Load, Store, Stack}
+use Rattle.patmos_instr.specs.declared.instructions.Op.TheVariants.{AluImm, AluLong, Load, Store, Stack}
 use Rattle.patmos_instr.specs.declared.functions.ImmFunc.TheVariants as imm
 use Rattle.patmos_instr.specs.declared.memories.Mem.{Mem}
 use Rattle.patmos_instr.specs.declared.memories.Mem.TheVariants as mem
@@ -42,6 +42,16 @@ may_move _ = false
 -- what may have a transaction is always done
 abbrev pub is_steady : Slots → Bool
 is_steady b = if may_move b.first.op then is_always b.first.guard else true
+
+-- ---- constants
+
+-- the constant in it, if it has a long one, is a word
+abbrev pub is_word_op : Op → Bool
+is_word_op (AluLong func rd ra constant) = nat_lt constant (2 ^ 32)
+is_word_op _ = true
+
+abbrev pub has_word : Slots → Bool
+has_word b = is_word_op b.first.op
 
 -- ---- delay slots that do nothing
 

@@ -1,4 +1,5 @@
 pub mod Bodies
+pub mod Constants
 pub mod Cores
 pub mod Counted
 pub mod Erased

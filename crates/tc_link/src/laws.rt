@@ -16,6 +16,7 @@ ghost use Rattle.patmos_sem.specs.Bundles.{effect_of};
 ghost use Rattle.patmos_sem.specs.Registers.{FitsRegisters};
 ghost use Rattle.patmos_sem.specs.declared.effects.Effect.TheVariants as effect;
 ghost use Rattle.patmos_sem.specs.declared.effects.FlowKind.{FlowKind};
+ghost use Rattle.sp_shape.specs.Bundles.{has_word, parts_all};
 ghost use Rattle.sp_shape.specs.Formed.{is_formed};
 ghost use Rattle.sp_shape.specs.Parts.{PlainParts, PlainShape};
 ghost use Rattle.sp_shape.specs.Run.{Run, Sources, late, run_late};
@@ -58,6 +59,13 @@ pub fn parts_stand()
 pub fn standing_bundles_are_decoded()
     ensures { (words : List ℕ) (at : ℕ) (b : Slots) → FitsBundle b → StandAt words at (code b)
         → bundle_at (slice_index words at) (slice_index words (at + 1)) ≡ Some b }
+{}
+
+/// Bundles of a linked function that have their fields in range have words of 32 bits as their long constants, and so
+/// have those of its parts.
+#[tactic(auto, using(crate::proofs::Constants::function_words_fit))]
+pub fn linked_constants_are_words()
+    ensures { (s : PlainShape) (k : ℕ) → All FitsBundle (flat s k) → parts_all has_word (function s k) ≡ true }
 {}
 
 /// A target changes nothing of what a bundle does to registers and words.

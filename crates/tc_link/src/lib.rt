@@ -14,6 +14,7 @@
 //!   there on its bundles, one after another.
 //! - [`parts_stand`]: so each function has its parts there, with the targets of their flows.
 //! - [`standing_bundles_are_decoded`]: a bundle that stands in words is what is decoded there.
+//! - [`linked_constants_are_words`]: where bundles have their fields in range, the long constants of the shape are words.
 //! - [`targets_change_nothing`]: what a bundle does to registers and words is the same whatever its target.
 //! - [`code_follows_the_trail`]: a core that fetches the words of the image and obeys its flows does the bundles of the
 //!   shape's trail, one after another. `specs/Walk.antt` says what such a core does, without time, and
@@ -33,7 +34,7 @@ mod worked;
 
 pub use images::link;
 pub use laws::{
-    bundles_stand_in_order, code_follows_the_trail, images_are_kept, parts_stand,
-    standing_bundles_are_decoded, targets_change_nothing, walks_go_as_cores,
+    bundles_stand_in_order, code_follows_the_trail, images_are_kept, linked_constants_are_words,
+    parts_stand, standing_bundles_are_decoded, targets_change_nothing, walks_go_as_cores,
 };
 pub use worked::{worked_images, worked_targets, worked_walk, worked_walks};
