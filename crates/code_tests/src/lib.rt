@@ -1,4 +1,5 @@
-//! Tests of the crates that make code of single-path trees: code, its scheduling and linking, and its bound.
+//! Tests of the crates that make code of single-path trees: code, its scheduling and linking, its image, and its
+//! bound.
 //!
 //! A crate with tests is proved twice, with them and without. So the tests of several crates stand here, over their
 //! public calls alone, and have no part in the program. What a command shows is a case of `cases/` at the top instead.
@@ -6,6 +7,8 @@
 
 #[cfg(test)]
 mod bounds;
+#[cfg(test)]
+mod compiling;
 #[cfg(test)]
 mod emission;
 #[cfg(test)]

@@ -1,11 +1,14 @@
-//! Bundles and parts of small shapes.
+//! Bundles and parts of small shapes, and a small tree.
 ghost use Rattle.std.specs.Prelude.{◌≡◌, IfOk};
+ghost use Rattle.c_compile.specs.Examples as examples;
 ghost use Rattle.sp_shape.specs.Parts.{leaves};
 ghost use Rattle.sp_shape.specs.Shown.{plain_part};
 ghost use Rattle.sp_shape.specs.Small as small;
+ghost use Rattle.sp_tree.specs.Shown.{plain_unit};
 
 use patmos_instr::{Bundle, Guard, Instr, Off22, Op};
 use sp_shape::Part;
+use sp_tree::{SpExpr, SpFunction, SpStmt, SpUnit};
 use std::alloc::{AllocError, Global};
 use tc_word::List;
 
@@ -47,5 +50,30 @@ pub fn leave(alloc: Global) -> Result<Part, AllocError>
     let way_back = alone(Op::Return);
     Ok(Part::Leave {
         tail: List::of(vec![in alloc; way_back, idle(), idle(), idle()]?),
+    })
+}
+
+/// `int main() { return 9; }`, of one statement that sets word 1 of the frame.
+#[tactic(auto, unfolding(sp_tree::specs::Shown::plain_stmt, sp_tree::specs::Plain::plain_sp))]
+pub fn nine(alloc: Global) -> Result<SpUnit, AllocError>
+    ensures { IfOk result (λ u. plain_unit u ≡ examples.nine) }
+{
+    let nine = SpStmt::Mask {
+        slot: 1,
+        value: SpExpr::Const { value: 9 },
+    };
+    let main = SpFunction {
+        frame: 4,
+        parameters: 0,
+        mask: 0,
+        result: 1,
+        body: List::of(vec![in alloc; nine]?),
+    };
+    Ok(SpUnit {
+        functions: List::of(vec![in alloc; main]?),
+        entry: 0,
+        initial: List::of(Vec::new(alloc)),
+        input_at: 4,
+        input_room: 0,
     })
 }
