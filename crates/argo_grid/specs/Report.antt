@@ -1,7 +1,7 @@
 -- What is written for the bytes of a schedule. The form is our own; docs/GRID.md explains it to users.
 use Rattle.std.specs.Prelude.{ℕ, List, [], ◌∷◌, ◌++◌, codes, Result, Ok, Err}
 use Rattle.std.specs.Fmt.{decimal}
-use Rattle.argo_ni.specs.declared.port.TheConstants.{COMM_WORDS}
+use Rattle.local_store.specs.declared.map.TheConstants.{COMM_WORDS}
 use Rattle.tc_job.specs.Fault.{Fault, fault_text}
 use Rattle.argo_grid.specs.declared.grid.Grid.{Grid}
 use Rattle.argo_grid.specs.declared.fault.GridFault.{GridFault}

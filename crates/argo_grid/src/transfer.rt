@@ -4,7 +4,7 @@ ghost use Rattle.argo_ni.specs.Interface.{Interface, IsTarget, port_to};
 ghost use Rattle.argo_ni.specs.Start.{answer_to, started};
 ghost use Rattle.argo_grid.specs.Transfer.{Cycle, IsBrought, IsOneOf, latency_of};
 
-use argo_ni::COMM_WORDS;
+use local_store::COMM_WORDS;
 
 /// How many cycles after its start a transfer of `count` words has been delivered, of so many cores: one
 /// packet of up to two words goes in each round of windows, and the last one is under way for nine cycles.

@@ -4,7 +4,7 @@ use Rattle.slot_arbiter.specs.Order.{IsNext}
 use Rattle.shared_order.specs.Program.{done, gets, sets}
 use Rattle.argo_ni.specs.declared.event.NiEvent.{NiEvent}
 use Rattle.argo_ni.specs.declared.event.NiKind.TheVariants.{Inject, Deliver}
-use Rattle.argo_ni.specs.declared.port.TheConstants.{COMM_WORDS}
+use Rattle.local_store.specs.declared.map.TheConstants.{COMM_WORDS}
 use Rattle.argo_ni.specs.Packet.{comm_word}
 use Rattle.argo_ni.specs.Interface.{Interface, Standing, IsTarget, port_to}
 use Rattle.argo_ni.specs.Turn.{injection, injected, delivery, delivered, turn, acts}

@@ -5,7 +5,7 @@ use Rattle.shared_order.specs.Program.{Prog, sets, first, others}
 use Rattle.argo_ni.specs.declared.packet.Payload.{Payload}
 use Rattle.argo_ni.specs.declared.packet.Payload.TheVariants.{One, Two}
 use Rattle.argo_ni.specs.declared.packet.Packet.{Packet}
-use Rattle.argo_ni.specs.declared.port.TheConstants.{COMM_WORDS, SHARED_WORDS}
+use Rattle.local_store.specs.declared.map.TheConstants.{COMM_WORDS, SHARED_WORDS}
 
 -- the number, among all shared words, of a word of a core's communication memory: the words of
 -- shared memory come first, and then those of each core

@@ -5,7 +5,7 @@ use Rattle.std.specs.Prelude.{ℕ, ◌+◌, ◌≤◌, List, replicate, slice_in
 use Rattle.std.specs.List.{sum_by}
 use Rattle.argo_ni.specs.declared.port.Channel.{Channel}
 use Rattle.argo_ni.specs.declared.port.Port.{Port}
-use Rattle.argo_ni.specs.declared.port.TheConstants.{COMM_WORDS}
+use Rattle.local_store.specs.declared.map.TheConstants.{COMM_WORDS}
 
 -- a port that nothing was set in and nothing is sent through
 abbrev pub unused : Port

@@ -3,7 +3,7 @@ use Rattle.std.specs.Prelude.{◌≡◌, ◌≢◌, ℕ, ◌+◌, ◌*◌, ◌%�
 use Rattle.std.specs.List.{AllByRecursion as Each}
 use Rattle.argo_ni.specs.declared.port.Port.{Port}
 use Rattle.argo_ni.specs.declared.packet.Packet.{Packet}
-use Rattle.argo_ni.specs.declared.port.TheConstants.{COMM_WORDS}
+use Rattle.local_store.specs.declared.map.TheConstants.{COMM_WORDS}
 use Rattle.argo_ni.specs.Port.{port_at, words_left, IsWithin}
 use Rattle.argo_ni.specs.Packet.{carried}
 use Rattle.argo_ni.specs.Interface.{Standing}

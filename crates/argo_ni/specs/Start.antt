@@ -3,7 +3,7 @@
 -- straight to the channel.
 use Rattle.std.specs.Prelude.{ℕ, ◌+◌, ◌-◌, ◌*◌, ◌^◌, min, true, false, Bool, ◌&&◌, ◌==◌, nat_lt, nat_le, slice_set}
 use Rattle.argo_ni.specs.declared.port.Port.{Port}
-use Rattle.argo_ni.specs.declared.port.TheConstants.{COMM_WORDS}
+use Rattle.local_store.specs.declared.map.TheConstants.{COMM_WORDS}
 use Rattle.argo_ni.specs.declared.event.Started.{Started}
 use Rattle.argo_ni.specs.declared.event.Started.TheVariants.{Begun, Dropped, Refused}
 use Rattle.argo_ni.specs.Interface.{Interface, Standing, port_to}

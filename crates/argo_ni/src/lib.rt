@@ -33,7 +33,7 @@ mod worked;
 pub use event::{NiEvent, NiKind, Started};
 pub use ni::Ni;
 pub use packet::{Packet, Payload};
-pub use port::{COMM_WORDS, Channel, Port, SHARED_WORDS};
+pub use port::{Channel, Port};
 pub use range::interface_keeps_ranges;
 pub use run::interface_goes_on;
 pub use window::windows_by_cycles;

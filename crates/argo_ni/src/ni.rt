@@ -84,7 +84,7 @@ impl Ni {
     }
 
     /// Whether `count` words can be sent to target `d` by its registers: some, and none past the
-    /// [`COMM_WORDS`] of a communication memory. A start of any other count is refused.
+    /// [`local_store::COMM_WORDS`] of a communication memory. A start of any other count is refused.
     pub fn accepts(&self, d: u32, count: u32) -> bool
         requires target { IsTarget self.now.interface d }
         ensures { result ≡ is_in_range (port_to self.now.interface d) count }

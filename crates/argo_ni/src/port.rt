@@ -6,12 +6,7 @@ ghost use Rattle.argo_ni.specs.Turn.{packet_of, moved_on};
 
 use crate::event::Started;
 use crate::packet::{Packet, Payload};
-
-/// How many words the communication memory of a core has.
-pub const COMM_WORDS: u32 = 512;
-
-/// How many words the memory has that all cores share.
-pub const SHARED_WORDS: u32 = 4_096;
+use local_store::COMM_WORDS;
 
 /// How many words a packet carries at the most.
 pub const PACKET_WORDS: u32 = 2;

@@ -6,6 +6,7 @@ pub mod Items
 pub mod Kept
 pub mod Limits
 pub mod Next
+pub mod Pointed
 pub mod Signatures
 pub mod StmtRows
 pub mod Sums

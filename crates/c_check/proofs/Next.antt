@@ -1,6 +1,7 @@
 -- The faults of the rest of a list: those of its first item, and then those of the rest behind it.
-use Rattle.std.proofs.Common.{◌≡◌, ℕ, ◌+◌, ◌<◌, true, false, List, ◌++◌, length, get_or, drop, Option, ◌∙◌, ap}
+use Rattle.std.proofs.Common.{◌≡◌, ℕ, ◌+◌, ◌<◌, Bool, true, false, List, ◌++◌, length, get_or, drop, Option, ◌∙◌, ap}
 use Rattle.std.specs.Prelude.{◌||◌, map}
+use Rattle.std.proofs.lemmas.List.Sums.{sum_by-cons}
 use Rattle.c_tree.specs.declared.checks.Fault.{Fault}
 use Rattle.c_tree.specs.declared.checks.Meaning.TheVariants as meaning
 use Rattle.c_tree.specs.declared.checks.Within.{Within}
@@ -15,7 +16,7 @@ use Rattle.c_tree.specs.Names.{Named, declared}
 use Rattle.c_tree.specs.Plain.{plain_expr, plain_stmt, plain_item}
 use Rattle.c_tree.specs.Sizes.{expr_size, argument_size, kind_size, parameter_size, stmt_size, item_size}
 use Rattle.c_tree.specs.Checks.{expr_faults, steps_faults, whole_faults, args_faults, stmt_faults, block_faults, after, arms_faults, opened, twice_faults}
-use Rattle.c_tree.specs.Valid.{parameters_faults, with_parameters, item_faults, items_faults, with_item, item_words, is_main, has_main}
+use Rattle.c_tree.specs.Valid.{parameters_faults, with_parameters, item_faults, items_faults, with_item, item_words, words_in, is_main, has_main}
 use Rattle.c_tree.specs.Layout.{item_slots, slots_from}
 use Rattle.c_tree.proofs.Leasts.{least_of_both}
 use Rattle.c_tree.proofs.Plains.{steps_of, block_of, arms_of}
@@ -90,6 +91,12 @@ pub slots_next : (private scratch : ℕ) (items : List Item) (i : ℕ) (t : Item
     ≡ item_slots private scratch (plain_item t)
     ++ slots_from (private + item_words false (plain_item t)) (scratch + item_words true (plain_item t)) (map plain_item (drop (i + 1) items))
 slots_next private scratch items i t h is = ap (λ ts. slots_from private scratch (map plain_item ts)) (drop_item items i t h is)
+
+pub words_next : (scratch : Bool) (items : List Item) (i : ℕ) (t : Item) → i < length items → t ≡ get_or items i t
+    → words_in scratch (map plain_item (drop i items)) ≡ item_words scratch (plain_item t) + words_in scratch (map plain_item (drop (i + 1) items))
+words_next scratch items i t h is =
+    ap (λ ts. words_in scratch (map plain_item ts)) (drop_item items i t h is)
+    ∙ sum_by-cons (item_words scratch) (plain_item t) (map plain_item (drop (i + 1) items))
 
 pub main_next : (items : List Item) (i : ℕ) (t : Item) → i < length items → t ≡ get_or items i t
     → has_main (map plain_item (drop i items)) ≡ (is_main (plain_item t) || has_main (map plain_item (drop (i + 1) items)))

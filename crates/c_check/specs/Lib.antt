@@ -1,4 +1,5 @@
 pub mod Capped
 pub mod Entries
 pub mod Open
+pub mod Pointed
 pub mod Told

@@ -1,14 +1,12 @@
 //! How deep an expression is, where a depth above 2^32 - 1 is told as that.
 ghost use Rattle.std.specs.Prelude.{◌≡◌, nat_lt};
+ghost use Rattle.c_tree.specs.declared.limits.TheConstants.{MOST_DEPTH};
 ghost use Rattle.c_tree.specs.Depth.{expr_depth, steps_depth};
 ghost use Rattle.c_tree.specs.Plain.{plain_expr};
 ghost use Rattle.c_tree.proofs.Plains.{steps_of};
 ghost use Rattle.c_check.specs.Capped.{capped};
 
-use c_tree::{Expr, Step};
-
-/// How deep an expression may be.
-const DEEPEST: u32 = 12;
+use c_tree::{Expr, MOST_DEPTH, Step};
 
 #[cycle(expression)]
 #[tactic(auto, unfolding(c_tree::specs::Depth::expr_depth, c_tree::specs::Plain::plain_expr))]
@@ -40,7 +38,7 @@ fn deepest(steps: &[Step]) -> u32
 /// Whether an expression is too deep.
 #[tactic(auto, using(crate::proofs::Limits::above))]
 pub fn is_deep(e: &Expr) -> bool
-    ensures { result ≡ nat_lt 12 (expr_depth (plain_expr e.now)) }
+    ensures { result ≡ nat_lt MOST_DEPTH (expr_depth (plain_expr e.now)) }
 {
-    depth(e) > DEEPEST
+    depth(e) > MOST_DEPTH
 }

@@ -1,14 +1,12 @@
 //! The words that a function keeps on the stack, where a number above 2^32 - 1 is told as that.
 ghost use Rattle.std.specs.Prelude.{◌≡◌, nat_lt, map};
+ghost use Rattle.c_tree.specs.declared.limits.TheConstants.{MOST_FRAME_WORDS};
 ghost use Rattle.c_tree.specs.Frame as frame;
 ghost use Rattle.c_tree.specs.Plain.{plain_stmt};
 ghost use Rattle.c_tree.proofs.Plains.{block_of, arms_of};
 ghost use Rattle.c_check.specs.Capped.{capped};
 
-use c_tree::{Arm, Function, Stmt};
-
-/// How many words a function may keep.
-const MOST_WORDS: u32 = 120;
+use c_tree::{Arm, Function, MOST_FRAME_WORDS, Stmt, WORDS_BESIDES};
 
 #[cycle(statement)]
 #[tactic(auto, using(crate::proofs::Sums::inner_framed), unfolding(c_tree::specs::Frame::stmt_frame, c_tree::specs::Plain::plain_stmt))]
@@ -62,13 +60,13 @@ fn frame(f: &Function) -> u32
     let parameters = u32::try_from(f.parameters.as_slice().len()).unwrap_or(u32::MAX);
     block(f.body.as_slice())
         .saturating_add(parameters)
-        .saturating_add(24)
+        .saturating_add(WORDS_BESIDES)
 }
 
 /// Whether a function keeps too many words.
 #[tactic(auto, using(crate::proofs::Limits::above))]
 pub fn is_large(f: &Function) -> bool
-    ensures { result ≡ nat_lt 120 (frame.function_frame f.now.parameters (map plain_stmt f.now.body)) }
+    ensures { result ≡ nat_lt MOST_FRAME_WORDS (frame.function_frame f.now.parameters (map plain_stmt f.now.body)) }
 {
-    frame(f) > MOST_WORDS
+    frame(f) > MOST_FRAME_WORDS
 }

@@ -12,12 +12,9 @@ use crate::names::Names;
 use crate::statements::{kind_size, statements, twice};
 use crate::walk::Walk;
 use crate::{frames, weights};
-use c_tree::{CheckFault, Function, Item, Kind, Meaning, Parameter, Within};
+use c_tree::{CheckFault, Function, Item, Kind, MOST_PARAMETERS, Meaning, Parameter, Within};
 use slot_arbiter::Place;
 use tc_word::OutOfMemory;
-
-/// How many parameters a function may have.
-const MOST_PARAMETERS: usize = 6;
 
 // how many tokens stand before a function's name
 fn gives_size(kind: Option<Kind>) -> usize

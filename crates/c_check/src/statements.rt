@@ -12,11 +12,8 @@ ghost use Rattle.c_check.specs.Open.{names_of};
 use crate::expressions::{argument, array, call, right, scalar, whole};
 use crate::names::Names;
 use crate::walk::Walk;
-use c_tree::{Arm, Bound, CheckFault, Expr, Head, Kind, Meaning, Right, Stmt, Within};
+use c_tree::{Arm, Bound, CheckFault, Expr, Head, Kind, MOST_TURNS, Meaning, Right, Stmt, Within};
 use tc_word::{OutOfMemory, Text};
-
-/// The greatest bound of a loop.
-const MOST_TURNS: u32 = 65_535;
 
 /// How many tokens a type is written with.
 pub fn kind_size(kind: Kind) -> usize

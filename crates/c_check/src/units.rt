@@ -15,15 +15,13 @@ use crate::names::Names;
 use crate::statements::{kind_size, twice};
 use crate::walk::Walk;
 use crate::weights;
-use c_tree::{CheckFault, Const, Fault, Global, Item, Kind, Meaning, Unit};
+use c_tree::{
+    CheckFault, Const, Fault, Global, Item, Kind, MOST_PRIVATE_WORDS, MOST_SCRATCH_WORDS, Meaning,
+    Unit,
+};
 use slot_arbiter::Place;
 use std::alloc;
 use tc_word::OutOfMemory;
-
-/// How many words of private memory and of the scratchpad a program may have.
-const MOST_PRIVATE: u32 = 49_148;
-
-const MOST_SCRATCH: u32 = 2_048;
 
 /// How many words a variable or an array has.
 pub fn words(g: &Global) -> u32
@@ -206,8 +204,11 @@ fn whole(walk: &mut Walk, items: &[Item])
     ensures { walk.new.least ≡ least_with walk.old.least (valid.end_faults walk.old.at (map plain_item items.now)) }
 {
     walk.note_if(weights::is_heavy_task(items), CheckFault::Heavy);
-    walk.note_if(is_past(false, items, MOST_PRIVATE), CheckFault::Data);
-    walk.note_if(is_past(true, items, MOST_SCRATCH), CheckFault::Scratch);
+    walk.note_if(is_past(false, items, MOST_PRIVATE_WORDS), CheckFault::Data);
+    walk.note_if(
+        is_past(true, items, MOST_SCRATCH_WORDS),
+        CheckFault::Scratch,
+    );
     walk.note_if(!has_main(items), CheckFault::NoMain);
 }
 

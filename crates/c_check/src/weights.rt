@@ -1,16 +1,15 @@
 //! Weights, where those above 2^32 - 1 are told as that.
 ghost use Rattle.std.specs.Prelude.{◌≡◌, ◌+◌, ◌*◌, nat_lt, map, sum_by};
+ghost use Rattle.c_tree.specs.declared.limits.TheConstants.{MOST_FUNCTION_WEIGHT, MOST_TASK_WEIGHT};
 ghost use Rattle.c_tree.specs.Weight as weight;
 ghost use Rattle.c_tree.specs.Plain.{plain_expr, plain_right, plain_head, plain_stmt, plain_item};
 ghost use Rattle.c_tree.proofs.Plains.{steps_of, block_of, arms_of};
 ghost use Rattle.c_check.specs.Capped.{capped};
 
-use c_tree::{Arm, BinaryOp, Expr, Function, Head, Item, Right, Step, Stmt};
-
-/// What a function may weigh, and a task.
-const MOST_OF_FUNCTION: u32 = 4_096;
-
-const MOST_OF_TASK: u32 = 32_768;
+use c_tree::{
+    Arm, BinaryOp, Expr, Function, Head, Item, MOST_FUNCTION_WEIGHT, MOST_TASK_WEIGHT, Right, Step,
+    Stmt,
+};
 
 fn operator(op: BinaryOp) -> u32
     ensures { result ≡ weight.operator_weight op }
@@ -188,15 +187,15 @@ fn items(items: &[Item]) -> u32
 /// Whether a function is too heavy.
 #[tactic(auto, using(crate::proofs::Limits::above))]
 pub fn is_heavy(f: &Function) -> bool
-    ensures { result ≡ nat_lt 4096 (weight.function_weight (map plain_stmt f.now.body)) }
+    ensures { result ≡ nat_lt MOST_FUNCTION_WEIGHT (weight.function_weight (map plain_stmt f.now.body)) }
 {
-    function(f) > MOST_OF_FUNCTION
+    function(f) > MOST_FUNCTION_WEIGHT
 }
 
 /// Whether a task is too heavy.
 #[tactic(auto, using(crate::proofs::Limits::above))]
 pub fn is_heavy_task(list: &[Item]) -> bool
-    ensures { result ≡ nat_lt 32768 (weight.items_weight (map plain_item list.now)) }
+    ensures { result ≡ nat_lt MOST_TASK_WEIGHT (weight.items_weight (map plain_item list.now)) }
 {
-    items(list) > MOST_OF_TASK
+    items(list) > MOST_TASK_WEIGHT
 }

@@ -11,7 +11,8 @@ use Rattle.sp_emit.specs.Functions.{emitted}
 use Rattle.sp_emit.specs.Ran.{begun_memory}
 use Rattle.sp_emit.specs.Serving.{Answers}
 use Rattle.bundle_sched.specs.Placed.{placed}
-use Rattle.tc_link.specs.Backs.{backs_of}
+use Rattle.tc_link.specs.Backs.{back, backs_of}
+use Rattle.tc_link.specs.Dues.{dues_of}
 use Rattle.tc_link.specs.Placed.{linked}
 use Rattle.tc_link.specs.Walk.{Walk, walk_from, Follows}
 
@@ -33,5 +34,5 @@ begun_walk u input shared comm = walk_from (entry (image_of u)) (begun_run u inp
 -- a walk from there on does the bundles of its trail, one after another, and leaves what the tree means, where each load
 -- gives what was stored last in its word
 pub record CarriesOut (u : PlainUnit) (input : List ℕ) (shared comm : ℕ → ℕ) : Type 0 where
-  pub follows : Follows (image_of u) by_words (trail (code_of u)) (begun_walk u input shared comm)
+  pub follows : Follows (image_of u) by_words (trail (code_of u)) (dues_of (code_of u) (back 0 0)) (begun_walk u input shared comm)
   pub answers : Answers (straight u input shared comm) (begun_run u input shared comm) follows.last.run

@@ -1,61 +1,56 @@
 -- The words of a valid program fit into private memory, and its input among them.
 use Rattle.std.proofs.Common.{◌≡◌, ℕ, ◌+◌, ◌≤◌, Bool, true, false, List, [], ◌∷◌, ◌++◌, length, map, replicate, refl, arith}
-use Rattle.std.specs.Prelude.{IsTrue, if◌then◌else◌, ◌-◌, ◌==◌, ◌&&◌, ◌||◌, not, nat_lt, sum_by}
+use Rattle.std.specs.Prelude.{IsTrue, if◌then◌else◌, ◌-◌, ◌==◌, ◌&&◌, ◌||◌, nat_lt}
 use Rattle.std.proofs.Math.ListN.{length-append, length-map, length-replicate}
 use Rattle.std.proofs.lemmas.Bool.Decides.{nat_tests}
 use Rattle.std.proofs.lemmas.List.Sums.{sum_by-cons}
-use Rattle.c_tree.specs.declared.checks.CheckFault.{CheckFault}
 use Rattle.c_tree.specs.declared.checks.CheckFault.TheVariants as fault
 use Rattle.c_tree.specs.Checks.{twice_faults}
-use Rattle.c_tree.specs.declared.checks.Fault.{Fault}
+use Rattle.c_tree.specs.declared.limits.TheConstants.{MOST_PRIVATE_WORDS}
 use Rattle.c_tree.specs.declared.units.Global.{Global}
 use Rattle.c_tree.specs.Layout.{Input, const_word, first_words, item_initial, initial_from, initial_of, takes_input, input_from}
 use Rattle.c_tree.specs.Least.{where_so}
 use Rattle.c_tree.specs.Names.{Named, given}
 use Rattle.c_tree.specs.Plain.{PlainItem, global, function}
 use Rattle.c_tree.specs.Sizes.{kind_size, item_size}
-use Rattle.c_tree.specs.Weight.{items_weight}
-use Rattle.c_tree.specs.Valid.{IsValid, has_none, has_main, words_of, global_faults, item_faults, items_faults, end_faults, item_words, words_in, with_item}
-
--- ---- where two lists of faults have none, neither has
-
-pub none_left : (xs ys : List Fault) → IsTrue (has_none (xs ++ ys)) → IsTrue (has_none xs)
-none_left [] ys none = refl
-none_left (x ∷ xs) ys none = none
-
-pub none_right : (xs ys : List Fault) → IsTrue (has_none (xs ++ ys)) → IsTrue (has_none ys)
-none_right [] ys none = none
-none_right (x ∷ xs) ys none = absurd (cc)
-
-pub not_so : (so : Bool) (at : ℕ) (kind : CheckFault) → IsTrue (has_none (where_so so at kind)) → so ≡ false
-not_so true at kind none = absurd (cc)
-not_so false at kind none = refl
+use Rattle.c_tree.proofs.Faultless.{none_left, none_right, not_so, in_items, private_fits}
+use Rattle.c_tree.specs.Valid.{IsValid, has_none, words_of, global_faults, item_faults, items_faults, item_words, words_in, with_item}
 
 -- ---- the first words of what is declared in private memory
 
-global_enough : (names : List Named) (at : ℕ) (g : Global) → IsTrue (has_none (global_faults names at g)) → length g.initial ≤ words_of g
-global_enough names at g none =
+-- a variable or an array has a word, and words for its first values
+pub record GlobalFits (g : Global) : Type 0 where
+  pub some : 1 ≤ words_of g
+  pub enough : length g.initial ≤ words_of g
+
+pub global_fits : (names : List Named) (at : ℕ) (g : Global) → IsTrue (has_none (global_faults names at g)) → GlobalFits g
+global_fits names at g none =
     let name_at = at + (if g.scratch then 1 else 0) + kind_size g.kind in
     let twice = twice_faults 0 names name_at g.name in
     let typed = where_so (g.scratch && nat_lt 0 (length g.initial)) name_at fault.WrongType in
     let sized = where_so (words_of g == 0 || nat_lt (words_of g) (length g.initial)) name_at fault.Data in
-    enough (words_of g == 0) (length g.initial) (words_of g)
-    (not_so (words_of g == 0 || nat_lt (words_of g) (length g.initial)) name_at fault.Data (none_right typed sized (none_right twice (typed ++ sized) none)))
+    let so = not_so (words_of g == 0 || nat_lt (words_of g) (length g.initial)) name_at fault.Data (none_right typed sized (none_right twice (typed ++ sized) none)) in
+    record { some = one_word (words_of g) (length g.initial) so; enough = as_many (words_of g) (length g.initial) so }
   where
-    enough : (no_word : Bool) (values words : ℕ) → (no_word || nat_lt words values) ≡ false → values ≤ words
-    enough true values words h = absurd (cc)
-    enough false values words h = grind (arith, nat_tests, h)
+    one_word : (words values : ℕ) → (words == 0 || nat_lt words values) ≡ false → 1 ≤ words
+    one_word words values h = grind (arith, nat_tests, h)
+
+    as_many : (words values : ℕ) → (words == 0 || nat_lt words values) ≡ false → values ≤ words
+    as_many words values h = grind (arith, nat_tests, h)
 
 item_length : (cores own : ℕ) (names : List Named) (at : ℕ) (i : PlainItem) → IsTrue (has_none (item_faults cores own names at i))
     → length (item_initial i) ≡ item_words false i
 item_length cores own names at (function kind text void_word parameters body) none = refl
 item_length cores own names at (global g) none = by g.scratch
   where
+    enough : GlobalFits g
+    enough = global_fits names at g none
+
     by : (scratch : Bool) → length (if scratch then [] else first_words g) ≡ (if scratch then 0 else words_of g)
     by true = refl
     by false = omega (
       arith,
-      global_enough names at g none,
+      enough.enough,
       length-append (map const_word g.initial) (replicate (words_of g - length g.initial) 0),
       length-map g.initial const_word,
       length-replicate {A = ℕ} (words_of g - length g.initial) 0,
@@ -73,21 +68,8 @@ initial_length cores own names at (i ∷ items) none =
 
 -- ---- a whole program
 
-in_whole : (cores own : ℕ) (items : List PlainItem) → IsValid items cores own → IsTrue (has_none (items_faults cores own given 0 items))
-in_whole cores own items valid = none_left (items_faults cores own given 0 items) (end_faults (sum_by item_size items) items) valid
-
-pub data_fits : (cores own : ℕ) (items : List PlainItem) → IsValid items cores own → words_in false items ≤ 49148
-data_fits cores own items valid =
-    let at = sum_by item_size items in
-    let heavy = where_so (nat_lt 32768 (items_weight items)) at fault.Heavy in
-    let data_ = where_so (nat_lt 49148 (words_in false items)) at fault.Data in
-    let rest = where_so (nat_lt 2048 (words_in true items)) at fault.Scratch ++ where_so (not (has_main items)) at fault.NoMain in
-    let ends = none_right (items_faults cores own given 0 items) (heavy ++ (data_ ++ rest)) valid in
-    let few = not_so (nat_lt 49148 (words_in false items)) at fault.Data (none_left data_ rest (none_right heavy (data_ ++ rest) ends)) in
-    grind (arith, nat_tests, few)
-
-pub initial_fits : (cores own : ℕ) (items : List PlainItem) → IsValid items cores own → length (initial_of items) ≤ 49148
-initial_fits cores own items valid = omega (arith, initial_length cores own given 0 items (in_whole cores own items valid), data_fits cores own items valid)
+pub initial_fits : (cores own : ℕ) (items : List PlainItem) → IsValid items cores own → length (initial_of items) ≤ MOST_PRIVATE_WORDS
+initial_fits cores own items valid = omega (arith, initial_length cores own given 0 items (in_items cores own items valid), private_fits cores own items valid)
 
 -- the input lies behind the first words, and within those of all that is declared
 pub input_within : (private : ℕ) (items : List PlainItem) → 4 ≤ private → (4 ≤ (input_from private items).at) × ((input_from private items).at + (input_from private items).room ≤ private + words_in false items)

@@ -1,13 +1,17 @@
 pub mod Acted
 pub mod Declarations
 pub mod Falls
+pub mod Few
 pub mod Firsts
 pub mod Fits
+pub mod Fitting
 pub mod ItemParts
 pub mod Means
 pub mod Opened
 pub mod Operations
 pub mod Parts
 pub mod Programs
+pub mod Slots
+pub mod StmtFalls
 pub mod StmtParts
 pub mod Worths

@@ -1,5 +1,7 @@
 pub mod Actions
 pub mod Begun
+pub mod Entries
+pub mod Fits
 pub mod Globals
 pub mod Meaning
 pub mod Open

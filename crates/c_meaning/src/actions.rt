@@ -1,5 +1,6 @@
 //! Programs whose names are resolved: variables by their levels, all else by its place in memory, functions by number.
 ghost use Rattle.std.specs.Prelude.{◌+◌, ◌<◌, ◌≤◌, length};
+ghost use Rattle.c_tree.specs.declared.limits.TheConstants.{MOST_LEVELS, MOST_PARAMETERS};
 ghost use Rattle.c_world.specs.Shown.{room_in};
 ghost use Rattle.c_meaning.specs.Rooms.{all_rooms};
 
@@ -7,18 +8,11 @@ use c_world::Region;
 use sp_tree::SpExpr;
 use tc_word::List;
 
-/// How many words a function has for its variables. A valid function has fewer: its frame is at most 120 words, of
-/// which 24 are no variables.
-pub const FRAME_WORDS: usize = 96;
-
-/// How many words a task's private memory has.
-pub const PRIVATE_WORDS: usize = 65_536;
-
 /// The variable of a level.
 #[derive(Clone, Copy, Debug, PartialEq, Eq)]
 pub struct Level {
     pub number: u32,
-    pub ghost within: { number < 96 },
+    pub ghost within: { number < MOST_LEVELS },
 }
 
 /// A word of a memory.
@@ -53,11 +47,11 @@ pub struct Assignment {
     pub value: SpExpr,
 }
 
-/// The arguments of a call, as many at most as a function has words for its variables.
+/// The arguments of a call, as many at most as a function may have parameters.
 #[derive(Debug, Drop)]
 pub struct Arguments {
     pub values: List<SpExpr>,
-    pub ghost few: { length values ≤ 96 },
+    pub ghost few: { length values ≤ MOST_PARAMETERS },
 }
 
 /// A statement. Blocks and declarations are none: their statements stand among the others.

@@ -1,9 +1,11 @@
 //! Names of expressions, resolved.
-ghost use Rattle.std.specs.Prelude.{◌≡◌, map, IfOk};
+ghost use Rattle.std.specs.Prelude.{◌≡◌, length, map, IfOk};
 ghost use Rattle.c_tree.specs.Plain.{plain_expr};
 ghost use Rattle.c_tree.proofs.Plains.{steps_of};
 ghost use Rattle.sp_tree.specs.Plain.{plain_sp};
-ghost use Rattle.c_meaning.specs.Open.{names_of, found_shown};
+ghost use Rattle.c_meaning.specs.Fits.{StandsFits};
+ghost use Rattle.c_meaning.specs.Entries.{found_shown};
+ghost use Rattle.c_meaning.specs.Open.{names_of};
 ghost use Rattle.c_meaning.specs.Resolve as resolve;
 ghost use Rattle.c_meaning.specs.Scope as scope_specs;
 ghost use Rattle.c_meaning.specs.Values.{expr_unsigned, steps_unsigned};
@@ -14,7 +16,7 @@ use c_tree::{Expr, Slot, Step};
 use c_world::Region;
 use local_store::Cell;
 use sp_tree::{SpArray, SpCell, SpExpr, indexed};
-use std::alloc::{AllocError, Global};
+use std::alloc::Global;
 use tc_word::{List, OutOfMemory};
 
 /// A resolved expression, and whether it is unsigned.
@@ -76,36 +78,30 @@ fn is_fresh(fresh: Option<usize>, at: usize) -> bool
 
 // the variable that a name stands for
 #[tactic(auto, unfolding(sp_tree::specs::Plain::plain_sp))]
-fn variable(fresh: Option<usize>, found: Found<'_>) -> Result<Operand, OutOfMemory>
-    ensures value { IfOk result (λ r. plain_sp r.value ≡ resolve.resolved_variable fresh (found_shown found.entry)) }
-    ensures unsigned { IfOk result (λ r. r.unsigned ≡ scope_specs.stands_unsigned (found_shown found.entry)) }
+fn variable(fresh: Option<usize>, found: Found<'_>) -> Operand
+    requires { StandsFits (found_shown found) }
+    ensures value { plain_sp result.value ≡ resolve.resolved_variable fresh (found_shown found.entry) }
+    ensures unsigned { result.unsigned ≡ scope_specs.stands_unsigned (found_shown found.entry) }
 {
     match found {
         Found::Variable { at, unsigned } => {
-            if is_fresh(fresh, at) {
-                return Ok(Operand {
-                    value: SpExpr::Const { value: 0 },
-                    unsigned,
-                });
-            }
-            let Ok(slot) = u32::try_from(at) else {
-                return Err(AllocError);
+            let value = if is_fresh(fresh, at) {
+                SpExpr::Const { value: 0 }
+            } else {
+                SpExpr::Frame { slot: at as u32 }
             };
-            Ok(Operand {
-                value: SpExpr::Frame { slot },
-                unsigned,
-            })
+            Operand { value, unsigned }
         }
-        Found::Outside { slot } => Ok(Operand {
+        Found::Outside { slot } => Operand {
             value: SpExpr::Scalar {
                 cell: cell_of(slot),
             },
             unsigned: slot.unsigned,
-        }),
-        Found::Nothing => Ok(Operand {
+        },
+        Found::Nothing => Operand {
             value: SpExpr::Const { value: 0 },
             unsigned: false,
-        }),
+        },
     }
 }
 
@@ -159,10 +155,7 @@ pub fn expression(
             value: SpExpr::Const { value: *value },
             unsigned: *unsigned,
         }),
-        Expr::Name { name } => {
-            let named = variable(fresh, scope.find(name.as_str()))?;
-            Ok(named)
-        }
+        Expr::Name { name } => { Ok(variable(fresh, scope.find(name.as_str()))) }
         Expr::Element { name, index } => {
             let Operand { value, .. } = expression(alloc, scope, fresh, index)?;
             let named = element(alloc, scope.find(name.as_str()), value)?;
@@ -214,7 +207,8 @@ pub fn arguments(
     fresh: Option<usize>,
     args: &[Expr],
 ) -> Result<List<SpExpr>, OutOfMemory>
-    ensures { IfOk result (λ r. map plain_sp r ≡ resolve.resolved_args (names_of scope.now) fresh (map plain_expr args.now)) }
+    ensures values { IfOk result (λ r. map plain_sp r ≡ resolve.resolved_args (names_of scope.now) fresh (map plain_expr args.now)) }
+    ensures count { IfOk result (λ r. length r ≡ length args.now) }
 {
     let mut values = Vec::new(alloc);
     for e in args {

@@ -1,6 +1,7 @@
 //! What is declared outside functions, with the first slot of each name.
 ghost use Rattle.std.specs.Prelude.{◌≡◌, ℕ, List, bytes_eq, Some, None, IfOk, OnOk, if◌then◌else◌};
 ghost use Rattle.std.specs.Option.{option_copied, option_or};
+ghost use Rattle.c_meaning.specs.Fits.{SlotsFit};
 ghost use Rattle.c_meaning.specs.Globals.{first_in, slot_shown};
 ghost use Rattle.c_meaning.specs.Scope.{among_slots};
 
@@ -9,11 +10,12 @@ use std::alloc::{AllocError, Global};
 use std::collections::HashMap;
 use tc_word::OutOfMemory;
 
-/// The slots of what is declared outside functions, and the first slot of each name.
+/// The slots of what is declared outside functions, which lie within their memories, and the first slot of each name.
 #[derive(Debug, Drop)]
 pub struct Globals<'a> {
     slots: &'a [Slot],
     first: HashMap<&'a str, &'a Slot>,
+    ghost fit: { SlotsFit slots.now },
     ghost kept: { (name : List ℕ) → slot_shown (first_in first name) ≡ among_slots name slots.now },
 }
 
@@ -35,6 +37,7 @@ fn note<'a>(first: &mut HashMap<&'a str, &'a Slot>, slot: &'a Slot) -> Result<()
 impl<'a> Globals<'a> {
     /// The first slot of each name, among these.
     pub fn new(alloc: Global, slots: &'a [Slot]) -> Result<Globals<'a>, OutOfMemory>
+        requires { SlotsFit slots.now }
         ensures { IfOk result (λ g. g.slots.now ≡ slots.now) }
     {
         let mut first = HashMap::new(alloc);

@@ -28,11 +28,8 @@ mod targets;
 mod ways;
 mod worked;
 
-pub use actions::{
-    Action, Arguments, Array, Assignment, Branch, FRAME_WORDS, Level, PRIVATE_WORDS, Routine,
-    Target, Word,
-};
-pub use beginnings::{FIRST_PRIVATE, InputPlace, add_initial, input_place};
+pub use actions::{Action, Arguments, Array, Assignment, Branch, Level, Routine, Target, Word};
+pub use beginnings::{InputPlace, add_initial, input_place};
 pub use expressions::array_of;
 pub use laws::names_resolved_once;
 pub use routines::{Resolved, resolve};

@@ -1,6 +1,9 @@
 //! The names of a program, resolved.
-ghost use Rattle.std.specs.Prelude.{◌≡◌, [], ◌∷◌, ◌++◌, map, codes, IfOk, OnOk};
+ghost use Rattle.std.specs.Prelude.{◌≡◌, ◌<◌, ◌≤◌, ◌+◌, ◌^◌, [], ◌∷◌, ◌++◌, length, map, codes, IfOk, OnOk};
 ghost use Rattle.c_tree.specs.Plain.{plain_stmt, plain_item, plain};
+ghost use Rattle.c_tree.specs.declared.limits.TheConstants.{MOST_LEVELS};
+ghost use Rattle.c_tree.specs.declared.units.Item.TheVariants as item;
+ghost use Rattle.c_meaning.specs.Fits.{ItemFits};
 ghost use Rattle.c_meaning.specs.Meaning.{parameter_variables};
 ghost use Rattle.c_meaning.specs.Open.{names_of, functions_of};
 ghost use Rattle.c_meaning.specs.Resolve.{resolved_body, resolved_items, names_in, number_of};
@@ -22,6 +25,7 @@ pub struct Resolved {
 
 // a function's parameters are its first variables
 fn parameters<'a>(scope: &mut Scope<'a>, parameters: &'a [Parameter]) -> Result<(), OutOfMemory>
+    requires { length (names_of scope.old).variables + length parameters.now ≤ MOST_LEVELS }
     ensures names { OnOk result (names_of scope.new ≡ record {
       slots = (names_of scope.old).slots;
       variables = (names_of scope.old).variables ++ parameter_variables parameters.now;
@@ -40,7 +44,8 @@ fn routine<'a>(
     scope: &mut Scope<'a>,
     function: &'a Function,
 ) -> Result<Routine, OutOfMemory>
-    requires { (names_of scope.old).variables ≡ [] }
+    requires none { (names_of scope.old).variables ≡ [] }
+    requires fits { ItemFits (names_of scope.old).slots (plain_item (item.Function function.now)) }
     ensures body { IfOk result (λ r. actions_of r.body ≡ resolved_body (functions_of scope.old)
         (record { slots = (names_of scope.old).slots; variables = parameter_variables function.now.parameters })
         (map plain_stmt function.now.body)) }
@@ -63,7 +68,9 @@ fn add_item<'a>(
     routines: &mut Vec<Routine>,
     item: &'a Item,
 ) -> Result<(), OutOfMemory>
-    requires { (names_of scope.old).variables ≡ [] }
+    requires none { (names_of scope.old).variables ≡ [] }
+    requires fits { ItemFits (names_of scope.old).slots (plain_item item.now) }
+    requires number { length (functions_of scope.old) + 1 < 2 ^ 32 }
     ensures routines { OnOk result (bodies_of routines.new.items
         ≡ bodies_of routines.old.items ++ resolved_items (names_of scope.old).slots (functions_of scope.old) (plain_item item.now ∷ [])) }
     ensures names { OnOk result (names_of scope.new ≡ names_of scope.old) }
@@ -80,7 +87,7 @@ fn add_item<'a>(
     }
 }
 
-/// Resolves all names of a program.
+/// Resolves all names of a program. It is `Err` only where an allocation fails.
 pub fn resolve(alloc: Global, program: &Checked) -> Result<Resolved, OutOfMemory>
     ensures routines { IfOk result (λ r. bodies_of r.routines ≡ resolved_items program.now.layout [] (plain program.now.unit)) }
     ensures main { IfOk result (λ r. r.main ≡ number_of (codes "main") (names_in (plain program.now.unit))) }

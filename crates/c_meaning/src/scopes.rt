@@ -1,6 +1,8 @@
 //! The names that are open where names are resolved.
-ghost use Rattle.std.specs.Prelude.{◌≡◌, [], ◌∷◌, ◌++◌, length, map, option_map, IfOk, OnOk};
-ghost use Rattle.c_meaning.specs.Open.{names_of, closed, functions_of, shown_open, shown_known, found_shown};
+ghost use Rattle.std.specs.Prelude.{◌≡◌, ◌<◌, ◌≤◌, ◌+◌, ◌^◌, [], ◌∷◌, ◌++◌, length, map, option_map, IfOk, IfSome, OnOk};
+ghost use Rattle.c_tree.specs.declared.limits.TheConstants.{MOST_LEVELS};
+ghost use Rattle.c_meaning.specs.Entries.{shown_open, shown_known, found_shown};
+ghost use Rattle.c_meaning.specs.Fits.{SlotsFit, StandsFits};
 ghost use Rattle.c_meaning.specs.Resolve.{number_of};
 ghost use Rattle.c_meaning.specs.Scope.{level, among_levels};
 ghost use Rattle.c_meaning.specs.Values.{named};
@@ -34,17 +36,22 @@ pub enum Found<'a> {
 }
 
 /// The names that are open: what is declared outside functions, the functions before this one, and the function's
-/// variables, innermost last.
+/// variables, innermost last. No more variables are open than there are levels.
 #[derive(Debug, Drop)]
 pub struct Scope<'a> {
     globals: Globals<'a>,
     functions: Vec<Known<'a>>,
     open_names: Vec<Open<'a>>,
+    ghost numbered: { length functions.items < 2 ^ 32 },
+    ghost few: { length open_names.items ≤ MOST_LEVELS },
 }
 
 impl<'a> Scope<'a> {
+    ghost use Rattle.c_meaning.specs.Open.{names_of, closed, functions_of};
+
     /// What is declared outside functions.
     pub fn new(alloc: Global, slots: &'a [Slot]) -> Result<Scope<'a>, OutOfMemory>
+        requires { SlotsFit slots.now }
         ensures names { IfOk result (λ s. names_of s ≡ record { slots = slots.now; variables = [] }) }
         ensures functions { IfOk result (λ s. functions_of s ≡ []) }
     {
@@ -65,7 +72,8 @@ impl<'a> Scope<'a> {
 
     /// What a name stands for.
     pub fn find(&self, name: &str) -> Found<'a>
-        ensures { found_shown result ≡ named (names_of self.now) name.now }
+        ensures shown { found_shown result ≡ named (names_of self.now) name.now }
+        ensures fits { StandsFits (found_shown result) }
     {
         match last_open(&self.open_names, name) {
             Some((at, unsigned)) => Found::Variable { at, unsigned },
@@ -78,13 +86,15 @@ impl<'a> Scope<'a> {
 
     /// The number of a function.
     pub fn function(&self, name: &str) -> Option<usize>
-        ensures { result ≡ number_of name.now (functions_of self.now) }
+        ensures number { result ≡ number_of name.now (functions_of self.now) }
+        ensures small { IfSome result (λ n. n < 2 ^ 32) }
     {
         last_known(&self.functions, name)
     }
 
     /// Opens a variable.
     pub fn declare(&mut self, name: &'a str, unsigned: bool) -> Result<(), OutOfMemory>
+        requires { length (names_of self.old).variables < MOST_LEVELS }
         ensures names { OnOk result (names_of self.new ≡ record {
           slots = (names_of self.old).slots;
           variables = (names_of self.old).variables ++ record { name = name.now; unsigned = unsigned } ∷ [];
@@ -106,6 +116,7 @@ impl<'a> Scope<'a> {
 
     /// One function more.
     pub fn define(&mut self, name: &'a str) -> Result<(), OutOfMemory>
+        requires { length (functions_of self.old) + 1 < 2 ^ 32 }
         ensures names { OnOk result (names_of self.new ≡ names_of self.old) }
         ensures functions { OnOk result (functions_of self.new ≡ functions_of self.old ++ name.now ∷ []) }
     {
@@ -116,7 +127,8 @@ impl<'a> Scope<'a> {
 
 // the last variable so called: its level, and whether it is unsigned
 fn last_open(open_names: &[Open<'_>], name: &str) -> Option<(usize, bool)>
-    ensures { option_map (λ x. level x.0 x.1) result ≡ among_levels 0 name.now (map shown_open open_names.now) }
+    ensures last { option_map (λ x. level x.0 x.1) result ≡ among_levels 0 name.now (map shown_open open_names.now) }
+    ensures within { IfSome result (λ x. x.0 < length open_names.now) }
 {
     let mut last = None;
     for (at, variable) in open_names.iter().enumerate() {
@@ -129,7 +141,8 @@ fn last_open(open_names: &[Open<'_>], name: &str) -> Option<(usize, bool)>
 
 // the number of the last function so called
 fn last_known(functions: &[Known<'_>], name: &str) -> Option<usize>
-    ensures { result ≡ number_of name.now (map shown_known functions.now) }
+    ensures last { result ≡ number_of name.now (map shown_known functions.now) }
+    ensures within { IfSome result (λ n. n < length functions.now) }
 {
     let mut last = None;
     for (at, function) in functions.iter().enumerate() {

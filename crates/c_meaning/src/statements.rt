@@ -1,5 +1,6 @@
 //! Names of statements, resolved.
-ghost use Rattle.std.specs.Prelude.{◌≡◌, None, length, map, option_map, IfOk, OnOk};
+ghost use Rattle.std.specs.Prelude.{◌≡◌, ◌<◌, ◌≤◌, ◌^◌, None, length, map, option_map, IfOk, IfSome, OnOk};
+ghost use Rattle.c_tree.specs.declared.limits.TheConstants.{MOST_LEVELS, MOST_PARAMETERS};
 ghost use Rattle.c_tree.specs.Layout as layout;
 ghost use Rattle.c_tree.specs.Plain as tree;
 ghost use Rattle.c_tree.specs.Plain.{plain_expr, plain_right, plain_head, plain_stmt};
@@ -7,19 +8,20 @@ ghost use Rattle.c_tree.proofs.Plains.{block_of, arms_of};
 ghost use Rattle.sp_tree.specs.Plain.{plain_sp};
 ghost use Rattle.c_meaning.specs.Actions.{joined, one};
 ghost use Rattle.c_meaning.specs.Actions as plain;
+ghost use Rattle.c_meaning.specs.Fits.{RightFits, FirstFits, StmtFits, BlockFits, ArmsFit};
 ghost use Rattle.c_meaning.specs.Meaning as meaning;
 ghost use Rattle.c_meaning.specs.Meaning.{names_after, with_variable};
 ghost use Rattle.c_meaning.specs.Open.{names_of, functions_of, closed};
 ghost use Rattle.c_meaning.specs.Resolve as resolve;
 ghost use Rattle.c_meaning.specs.Shown.{plain_target, plain_assignment, plain_action, actions_of, branches_of};
 
-use crate::actions::{Action, Arguments, Assignment, Branch, FRAME_WORDS, Target};
+use crate::actions::{Action, Arguments, Assignment, Branch, Target};
 use crate::expressions::{Operand, arguments, expression, value_of};
 use crate::scopes::Scope;
 use crate::targets::{assignment_to, element_target, level_target, variable_target};
 use c_tree::{Arm, Bound, Expr, Head, Kind, Right, Stmt};
 use sp_tree::SpExpr;
-use std::alloc::{AllocError, Global};
+use std::alloc::Global;
 use tc_word::{List, OutOfMemory, Text};
 
 // one action more
@@ -51,23 +53,19 @@ fn add_call(
     args: List<SpExpr>,
     target: Option<Target>,
 ) -> Result<(), OutOfMemory>
+    requires number { IfSome function (λ n. n < 2 ^ 32) }
+    requires few { length args ≤ MOST_PARAMETERS }
     ensures { OnOk result (actions_of out.new.items
         ≡ joined (actions_of out.old.items) (resolve.numbered_call function (map plain_sp args) (option_map plain_target target))) }
 {
     match function {
         None => add_set(out, assignment_to(target, SpExpr::Const { value: 0 })),
         Some(number) => {
-            let Ok(function) = u32::try_from(number) else {
-                return Err(AllocError);
-            };
-            if args.as_slice().len() > FRAME_WORDS {
-                return Err(AllocError);
-            }
             let args = Arguments { values: args };
             add(
                 out,
                 Action::Call {
-                    function,
+                    function: number as u32,
                     args,
                     target,
                 },
@@ -85,6 +83,7 @@ fn add_right(
     target: Option<Target>,
     right: &Right,
 ) -> Result<(), OutOfMemory>
+    requires { RightFits (plain_right right.now) }
     ensures { OnOk result (actions_of out.new.items ≡ joined (actions_of out.old.items)
         (resolve.resolved_right (functions_of scope.now) (names_of scope.now) fresh (option_map plain_target target) (plain_right right.now))) }
 {
@@ -120,6 +119,8 @@ fn declare<'a>(
     name: &'a Text,
     value: &Option<Right>,
 ) -> Result<(), OutOfMemory>
+    requires room { length (names_of scope.old).variables < MOST_LEVELS }
+    requires first { FirstFits (option_map plain_right value.now) }
     ensures actions { OnOk result (actions_of out.new.items ≡ joined (actions_of out.old.items)
         (resolve.resolved_declaration (functions_of scope.old) (with_variable (names_of scope.old) kind name.now) (length (names_of scope.old).variables)
         (option_map plain_right value.now))) }
@@ -128,7 +129,7 @@ fn declare<'a>(
 {
     let at = scope.len();
     scope.declare(name.as_str(), is_unsigned(kind))?;
-    let target = level_target(at)?;
+    let target = level_target(at);
     match value {
         None => add_set(out, assignment_to(Some(target), SpExpr::Const { value: 0 })),
         Some(right) => add_right(alloc, scope, Some(at), out, Some(target), right),
@@ -144,7 +145,7 @@ fn assigned(
 ) -> Result<Option<Assignment>, OutOfMemory>
     ensures { IfOk result (λ a. option_map plain_assignment a ≡ resolve.resolved_assignment (names_of scope.now) name.now (plain_expr e.now)) }
 {
-    let target = variable_target(scope.find(name.as_str()))?;
+    let target = variable_target(scope.find(name.as_str()));
     let value = value_of(alloc, scope, e)?;
     Ok(assignment_to(target, value))
 }
@@ -204,11 +205,12 @@ fn set_element(
     index: &Expr,
     right: &Right,
 ) -> Result<(), OutOfMemory>
+    requires { RightFits (plain_right right.now) }
     ensures { OnOk result (actions_of out.new.items ≡ joined (actions_of out.old.items)
         (resolve.resolved_stmt (functions_of scope.now) (names_of scope.now) (tree.set_element name.now (plain_expr index.now) (plain_right right.now)))) }
 {
     let index = value_of(alloc, scope, index)?;
-    let target = element_target(scope.find(name.as_str()), index)?;
+    let target = element_target(scope.find(name.as_str()), index);
     add_right(alloc, scope, None, out, target, right)
 }
 
@@ -261,13 +263,14 @@ fn add_choice(
 
 /// A statement.
 #[cycle(statement)]
-#[tactic(auto)]
+#[tactic(auto, using(crate::proofs::Fitting::set_fits, crate::proofs::Fitting::set_element_fits))]
 fn stmt<'a>(
     alloc: Global,
     scope: &mut Scope<'a>,
     out: &mut Vec<Action>,
     s: &'a Stmt,
 ) -> Result<(), OutOfMemory>
+    requires { StmtFits (names_of scope.old) (plain_stmt s.now) }
     ensures actions { OnOk result (actions_of out.new.items ≡ joined (actions_of out.old.items)
         (resolve.resolved_stmt (functions_of scope.old) (names_of scope.old) (plain_stmt s.now))) }
     ensures names { OnOk result (names_of scope.new ≡ names_after (names_of scope.old) (plain_stmt s.now)) }
@@ -279,7 +282,7 @@ fn stmt<'a>(
             Ok(())
         }
         Stmt::Set { name, right } => {
-            let target = variable_target(scope.find(name.as_str()))?;
+            let target = variable_target(scope.find(name.as_str()));
             add_right(alloc, scope, None, out, target, right)?;
             Ok(())
         }
@@ -354,6 +357,7 @@ fn repeat<'a>(
     head: &'a Head,
     body: &'a [Stmt],
 ) -> Result<(), OutOfMemory>
+    requires { BlockFits (names_of scope.old) (block_of body.now) }
     ensures actions { OnOk result (actions_of out.new.items ≡ joined (actions_of out.old.items)
         (resolve.resolved_stmt (functions_of scope.old) (names_of scope.old) (tree.looped bound (plain_head head.now) (block_of body.now)))) }
     ensures names { OnOk result (names_of scope.new ≡ names_of scope.old) }
@@ -386,6 +390,7 @@ pub fn statements<'a>(
     out: &mut Vec<Action>,
     body: &'a [Stmt],
 ) -> Result<(), OutOfMemory>
+    requires { BlockFits (names_of scope.old) (block_of body.now) }
     ensures actions { OnOk result (actions_of out.new.items ≡ joined (actions_of out.old.items)
         (resolve.resolved_block (functions_of scope.old) (names_of scope.old) (block_of body.now))) }
     ensures kept { OnOk result (closed (length (names_of scope.old).variables) (names_of scope.new) ≡ names_of scope.old) }
@@ -405,6 +410,7 @@ fn block<'a>(
     scope: &mut Scope<'a>,
     body: &'a [Stmt],
 ) -> Result<List<Action>, OutOfMemory>
+    requires { BlockFits (names_of scope.old) (block_of body.now) }
     ensures actions { IfOk result (λ r. actions_of r ≡ resolve.resolved_block (functions_of scope.old) (names_of scope.old) (block_of body.now)) }
     ensures names { OnOk result (names_of scope.new ≡ names_of scope.old) }
     ensures functions { OnOk result (functions_of scope.new ≡ functions_of scope.old) }
@@ -423,6 +429,7 @@ fn branches<'a>(
     scope: &mut Scope<'a>,
     arms: &'a [Arm],
 ) -> Result<List<Branch>, OutOfMemory>
+    requires { ArmsFit (names_of scope.old) (arms_of arms.now) }
     ensures branches { IfOk result (λ r. branches_of r ≡ resolve.resolved_arms (functions_of scope.old) (names_of scope.old) (arms_of arms.now)) }
     ensures names { OnOk result (names_of scope.new ≡ names_of scope.old) }
     ensures functions { OnOk result (functions_of scope.new ≡ functions_of scope.old) }

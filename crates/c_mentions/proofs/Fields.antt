@@ -1,15 +1,17 @@
 -- What is noted of uses, by the fields.
-use Rattle.std.proofs.Common.{◌≡◌, ℕ, ◌==◌, ◌<◌, Bool, true, false, ◌||◌, List, [], ◌∷◌, length, inl, inr, refl, ap, sym, ◌∙◌, arith, length-set}
+use Rattle.std.proofs.Common.{◌≡◌, ℕ, ◌==◌, ◌<◌, ◌^◌, Bool, true, false, ◌||◌, List, [], ◌∷◌, length, inl, inr, refl, ap, sym, ◌∙◌, arith, length-set}
 use Rattle.std.proofs.lemmas.Bool.{cases_eq, eq-eqb, ne_eqb}
 use Rattle.std.proofs.lemmas.Grind.{get_or-set_at}
 use Rattle.std.proofs.lemmas.List.{get_or-set_other, get_or-replicate}
 use Rattle.std.specs.Prelude.{slice_index_or, slice_set}
 use Rattle.std.specs.List.{list_any}
 use Rattle.c_tree.specs.Plain.{PlainItem}
-use Rattle.c_mentions.specs.declared.noted.Mentions.{Mentions}
+use Rattle.c_mentions.specs.declared.noted.Flags.{Flags}
+use Rattle.c_mentions.specs.Bits.{has_bit, bits}
 use Rattle.c_mentions.specs.Mentions.{comm_array, shared_array, is_mention, is_assignment, is_send}
 use Rattle.c_mentions.specs.Noted.{none_noted, with_use, with_uses}
 use Rattle.c_mentions.specs.Told.{Tells}
+use Rattle.c_mentions.proofs.Flagged.{bit_of_flags}
 use Rattle.c_mentions.specs.Uses.{Use, reads, sets, sends, program_uses}
 
 pub or_none : (b : Bool) → b ≡ (b || false)
@@ -22,45 +24,34 @@ or_or false b c = refl
 
 -- ---- each field
 
-comm_one : (m : Mentions) (u : Use) → (with_use m u).comm ≡ (m.comm || is_mention comm_array u)
+comm_one : (m : Flags) (u : Use) → (with_use m u).comm ≡ (m.comm || is_mention comm_array u)
 comm_one m (reads s) = refl
 comm_one m (sets s) = refl
 comm_one m (sends core) = or_none m.comm
 
-comm_all : (m : Mentions) (us : List Use) → (with_uses m us).comm ≡ (m.comm || list_any (is_mention comm_array) us)
+comm_all : (m : Flags) (us : List Use) → (with_uses m us).comm ≡ (m.comm || list_any (is_mention comm_array) us)
 comm_all m [] = or_none m.comm
 comm_all m (u ∷ us) =
     comm_all (with_use m u) us ∙ ap (λ b. b || list_any (is_mention comm_array) us) (comm_one m u)
     ∙ or_or m.comm (is_mention comm_array u) (list_any (is_mention comm_array) us)
 
-shared_one : (m : Mentions) (u : Use) → (with_use m u).shared ≡ (m.shared || is_mention shared_array u)
+shared_one : (m : Flags) (u : Use) → (with_use m u).shared ≡ (m.shared || is_mention shared_array u)
 shared_one m (reads s) = refl
 shared_one m (sets s) = refl
 shared_one m (sends core) = or_none m.shared
 
-shared_all : (m : Mentions) (us : List Use) → (with_uses m us).shared ≡ (m.shared || list_any (is_mention shared_array) us)
+shared_all : (m : Flags) (us : List Use) → (with_uses m us).shared ≡ (m.shared || list_any (is_mention shared_array) us)
 shared_all m [] = or_none m.shared
 shared_all m (u ∷ us) =
     shared_all (with_use m u) us ∙ ap (λ b. b || list_any (is_mention shared_array) us) (shared_one m u)
     ∙ or_or m.shared (is_mention shared_array u) (list_any (is_mention shared_array) us)
 
-assigns_comm_one : (m : Mentions) (u : Use) → (with_use m u).assigns_comm ≡ (m.assigns_comm || is_assignment comm_array u)
-assigns_comm_one m (reads s) = or_none m.assigns_comm
-assigns_comm_one m (sets s) = refl
-assigns_comm_one m (sends core) = or_none m.assigns_comm
-
-assigns_comm_all : (m : Mentions) (us : List Use) → (with_uses m us).assigns_comm ≡ (m.assigns_comm || list_any (is_assignment comm_array) us)
-assigns_comm_all m [] = or_none m.assigns_comm
-assigns_comm_all m (u ∷ us) =
-    assigns_comm_all (with_use m u) us ∙ ap (λ b. b || list_any (is_assignment comm_array) us) (assigns_comm_one m u)
-    ∙ or_or m.assigns_comm (is_assignment comm_array u) (list_any (is_assignment comm_array) us)
-
-assigns_shared_one : (m : Mentions) (u : Use) → (with_use m u).assigns_shared ≡ (m.assigns_shared || is_assignment shared_array u)
+assigns_shared_one : (m : Flags) (u : Use) → (with_use m u).assigns_shared ≡ (m.assigns_shared || is_assignment shared_array u)
 assigns_shared_one m (reads s) = or_none m.assigns_shared
 assigns_shared_one m (sets s) = refl
 assigns_shared_one m (sends core) = or_none m.assigns_shared
 
-assigns_shared_all : (m : Mentions) (us : List Use) → (with_uses m us).assigns_shared ≡ (m.assigns_shared || list_any (is_assignment shared_array) us)
+assigns_shared_all : (m : Flags) (us : List Use) → (with_uses m us).assigns_shared ≡ (m.assigns_shared || list_any (is_assignment shared_array) us)
 assigns_shared_all m [] = or_none m.assigns_shared
 assigns_shared_all m (u ∷ us) =
     assigns_shared_all (with_use m u) us ∙ ap (λ b. b || list_any (is_assignment shared_array) us) (assigns_shared_one m u)
@@ -79,18 +70,18 @@ set_one flags at core within = elim (cases_eq at core) [
       ∙ ap (λ b. slice_index_or flags core false || b) (sym (ne_eqb at core other))
 ]
 
-sends_one : (m : Mentions) (u : Use) (core : ℕ) → core < length m.sends
+sends_one : (m : Flags) (u : Use) (core : ℕ) → core < length m.sends
     → slice_index_or (with_use m u).sends core false ≡ (slice_index_or m.sends core false || is_send core u)
 sends_one m (reads s) core within = or_none (slice_index_or m.sends core false)
 sends_one m (sets s) core within = or_none (slice_index_or m.sends core false)
 sends_one m (sends to) core within = set_one m.sends to core within
 
-sends_length : (m : Mentions) (u : Use) → length (with_use m u).sends ≡ length m.sends
+sends_length : (m : Flags) (u : Use) → length (with_use m u).sends ≡ length m.sends
 sends_length m (reads s) = refl
 sends_length m (sets s) = refl
 sends_length m (sends to) = length-set m.sends to true
 
-sends_all : (m : Mentions) (us : List Use) (core : ℕ) → core < length m.sends
+sends_all : (m : Flags) (us : List Use) (core : ℕ) → core < length m.sends
     → slice_index_or (with_uses m us).sends core false ≡ (slice_index_or m.sends core false || list_any (is_send core) us)
 sends_all m [] core within = or_none (slice_index_or m.sends core false)
 sends_all m (u ∷ us) core within =
@@ -100,14 +91,16 @@ sends_all m (u ∷ us) core within =
 
 -- ---- a whole program
 
-pub noted_tells : (m : Mentions) (items : List PlainItem) → m ≡ with_uses none_noted (program_uses items) → Tells m items
-noted_tells m items is = record {
-  comm = ap (λ n. n.comm) is ∙ comm_all none_noted (program_uses items);
-  shared = ap (λ n. n.shared) is ∙ shared_all none_noted (program_uses items);
-  assigns_comm = ap (λ n. n.assigns_comm) is ∙ assigns_comm_all none_noted (program_uses items);
-  assigns_shared = ap (λ n. n.assigns_shared) is ∙ assigns_shared_all none_noted (program_uses items);
+pub noted_tells : (m : Flags) (word : ℕ) (items : List PlainItem) → m ≡ with_uses none_noted (program_uses items) → word ≡ bits m.sends → word < 2 ^ 16
+    → Tells (record { comm = m.comm; shared = m.shared; assigns_shared = m.assigns_shared; sends = word }) items
+noted_tells m word items is same small = record {
+  comm = ap (λ (n : Flags). n.comm) is ∙ comm_all none_noted (program_uses items);
+  shared = ap (λ (n : Flags). n.shared) is ∙ shared_all none_noted (program_uses items);
+  assigns_shared = ap (λ (n : Flags). n.assigns_shared) is ∙ assigns_shared_all none_noted (program_uses items);
   sends = λ core within.
-      ap (λ n. slice_index_or n.sends core false) is
+      ap (has_bit core) same ∙ bit_of_flags core m.sends
+      ∙ ap (λ (n : Flags). slice_index_or n.sends core false) is
       ∙ sends_all none_noted (program_uses items) core within
       ∙ ap (λ b. b || list_any (is_send core) (program_uses items)) (get_or-replicate 16 core false false within);
+  small = small;
 }

@@ -6,7 +6,7 @@ use Rattle.std.proofs.lemmas.Slice.Eq.{bytes_eq-Decides}
 use Rattle.c_meaning.specs.Scope.{Variable, Stands, level, among_levels, among_slots}
 use Rattle.c_meaning.specs.Values.{Names, named}
 use Rattle.c_mentions.specs.declared.arrays.Arrays.{Arrays}
-use Rattle.c_mentions.specs.declared.noted.Mentions.{Mentions}
+use Rattle.c_mentions.specs.declared.noted.Flags.{Flags}
 use Rattle.c_mentions.specs.Hidden.{HidesIf, Hides}
 use Rattle.c_mentions.specs.Mentions.{Array, comm_array, shared_array, name_of, stands_for}
 use Rattle.c_mentions.specs.Noted.{Notes}
@@ -14,31 +14,29 @@ use Rattle.c_mentions.specs.Uses.{reads, sets}
 
 -- ---- a name
 
-pub read_noted : (before after : Mentions) (hidden means : Arrays) (text : List ℕ)
+pub read_noted : (before after : Flags) (hidden means : Arrays) (text : List ℕ)
     → means.comm ≡ (bytes_eq text (codes "comm") && not hidden.comm) → means.shared ≡ (bytes_eq text (codes "shared") && not hidden.shared)
     → after ≡ record before { comm = before.comm || means.comm; shared = before.shared || means.shared }
     → Notes hidden before after (λ names. reads (named names text) ∷ [])
 read_noted before after hidden means text comm shared is = record {
   noted = λ names hides.
-      is ∙ ap₂ (λ x y. let m : Mentions = record before { comm = before.comm || x; shared = before.shared || y } in m)
+      is ∙ ap₂ (λ x y. let m : Flags = record before { comm = before.comm || x; shared = before.shared || y } in m)
       (comm ∙ sym (hides.of_comm text)) (shared ∙ sym (hides.of_shared text));
 }
 
-pub set_noted : (before after : Mentions) (hidden means : Arrays) (text : List ℕ)
+pub set_noted : (before after : Flags) (hidden means : Arrays) (text : List ℕ)
     → means.comm ≡ (bytes_eq text (codes "comm") && not hidden.comm) → means.shared ≡ (bytes_eq text (codes "shared") && not hidden.shared)
     → after ≡ record before {
       comm = before.comm || means.comm;
       shared = before.shared || means.shared;
-      assigns_comm = before.assigns_comm || means.comm;
       assigns_shared = before.assigns_shared || means.shared;
     }
     → Notes hidden before after (λ names. sets (named names text) ∷ [])
 set_noted before after hidden means text comm shared is = record {
   noted = λ names hides.
-      is ∙ ap₂ (λ x y. let m : Mentions = record before {
+      is ∙ ap₂ (λ x y. let m : Flags = record before {
         comm = before.comm || x;
         shared = before.shared || y;
-        assigns_comm = before.assigns_comm || x;
         assigns_shared = before.assigns_shared || y;
       } in m)
       (comm ∙ sym (hides.of_comm text)) (shared ∙ sym (hides.of_shared text));

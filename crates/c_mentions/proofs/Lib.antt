@@ -1,4 +1,5 @@
 pub mod Fields
+pub mod Flagged
 pub mod Leaves
 pub mod Outside
 pub mod Uses

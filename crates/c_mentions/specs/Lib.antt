@@ -1,4 +1,5 @@
 pub mod Alone
+pub mod Bits
 pub mod Hidden
 pub mod Mentions
 pub mod Noted

@@ -14,7 +14,7 @@ fn reaches(task: &Task<'_>, core: usize) -> bool
     match task {
         Task::Idle => false,
         Task::Assembly => true,
-        Task::Program { program } => program.mentions.sends[core],
+        Task::Program { program } => program.mentions.sends_to(core),
     }
 }
 

@@ -6,13 +6,13 @@ ghost use Rattle.c_mentions.specs.Noted.{Notes};
 ghost use Rattle.c_mentions.specs.Uses.{expr_uses, steps_uses, args_uses, right_uses, first_uses, returned_uses};
 
 use crate::arrays::Arrays;
-use crate::noted::{Mentions, note_read};
+use crate::noted::{Flags, note_read};
 use c_tree::{Expr, Right, Step};
 
 /// An expression.
 #[cycle(expression)]
 #[tactic(auto)]
-pub fn note_expression(m: &mut Mentions, hidden: Arrays, e: &Expr)
+pub fn note_expression(m: &mut Flags, hidden: Arrays, e: &Expr)
     ensures { Notes hidden m.old m.new (λ names. expr_uses names (plain_expr e.now)) }
 {
     match e {
@@ -34,7 +34,7 @@ pub fn note_expression(m: &mut Mentions, hidden: Arrays, e: &Expr)
 // the operands of a chain
 #[cycle(expression)]
 #[tactic(auto)]
-fn note_steps(m: &mut Mentions, hidden: Arrays, steps: &[Step])
+fn note_steps(m: &mut Flags, hidden: Arrays, steps: &[Step])
     ensures { Notes hidden m.old m.new (λ names. steps_uses names (steps_of steps.now)) }
 {
     for step in steps {
@@ -43,7 +43,7 @@ fn note_steps(m: &mut Mentions, hidden: Arrays, steps: &[Step])
 }
 
 /// Arguments.
-pub fn note_arguments(m: &mut Mentions, hidden: Arrays, args: &[Expr])
+pub fn note_arguments(m: &mut Flags, hidden: Arrays, args: &[Expr])
     ensures { Notes hidden m.old m.new (λ names. args_uses names (map plain_expr args.now)) }
 {
     for e in args {
@@ -52,7 +52,7 @@ pub fn note_arguments(m: &mut Mentions, hidden: Arrays, args: &[Expr])
 }
 
 /// A right side.
-pub fn note_right(m: &mut Mentions, hidden: Arrays, right: &Right)
+pub fn note_right(m: &mut Flags, hidden: Arrays, right: &Right)
     ensures { Notes hidden m.old m.new (λ names. right_uses names (plain_right right.now)) }
 {
     match right {
@@ -62,7 +62,7 @@ pub fn note_right(m: &mut Mentions, hidden: Arrays, right: &Right)
 }
 
 /// The first value of a variable, if that is written.
-pub fn note_first(m: &mut Mentions, hidden: Arrays, right: &Option<Right>)
+pub fn note_first(m: &mut Flags, hidden: Arrays, right: &Option<Right>)
     ensures { Notes hidden m.old m.new (λ names. first_uses names (option_map plain_right right.now)) }
 {
     match right {
@@ -72,7 +72,7 @@ pub fn note_first(m: &mut Mentions, hidden: Arrays, right: &Option<Right>)
 }
 
 /// What a function gives, if that is written.
-pub fn note_returned(m: &mut Mentions, hidden: Arrays, value: &Option<Expr>)
+pub fn note_returned(m: &mut Flags, hidden: Arrays, value: &Option<Expr>)
     ensures { Notes hidden m.old m.new (λ names. returned_uses names (option_map plain_expr value.now)) }
 {
     match value {

@@ -2,8 +2,8 @@
 //!
 //! Each C task is given two arrays: `comm`, the words of its core's communication memory, and `shared`, the words that
 //! all cores share. A program mentions one of them where a name in its text means it: where the name stands for no
-//! variable that is open there (`specs/Uses.antt`, `specs/Mentions.antt`). [`mentions_of`] tells this of a program, which
-//! of the two it assigns elements of, and which cores it has a `send` to.
+//! variable that is open there (`specs/Uses.antt`, `specs/Mentions.antt`). [`mentions_of`] tells this of a program, whether
+//! it assigns elements of `shared`, and which cores it has a `send` to, as the bits of a word (`specs/Bits.antt`).
 //!
 //! A task is alone with its data where no other task of the job can change what it mentions (`specs/Alone.antt`,
 //! [`is_alone`]): assembly may change all, a C task what it assigns and the communication memory of the cores that it
@@ -21,10 +21,11 @@ mod statements;
 mod tasks;
 #[cfg(test)]
 mod tests;
+mod told;
 mod worked;
 
 pub use alone::is_alone;
-pub use noted::Mentions;
 pub use programs::mentions_of;
 pub use tasks::{Program, Task};
+pub use told::Mentions;
 pub use worked::{worked_alone, worked_mentions, worked_sends};

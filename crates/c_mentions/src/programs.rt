@@ -1,17 +1,19 @@
 //! What whole programs mention.
-ghost use Rattle.std.specs.Prelude.{◌≡◌, ℕ, ◌<◌, ◌||◌, [], List, slice_index_or, false, codes};
+ghost use Rattle.std.specs.Prelude.{◌≡◌, ℕ, ◌<◌, ◌^◌, ◌||◌, [], List, codes};
 ghost use Rattle.c_tree.specs.declared.layout.Slot.{Slot};
 ghost use Rattle.c_tree.specs.Layout.{layout_of};
 ghost use Rattle.c_tree.specs.Plain.{plain_item, plain};
 ghost use Rattle.c_meaning.specs.Meaning.{parameter_variables};
+ghost use Rattle.c_mentions.specs.Bits.{has_bit};
 ghost use Rattle.c_mentions.specs.Hidden.{Hides, declares};
 ghost use Rattle.c_mentions.specs.Mentions.{comm_array, shared_array, mentions, assigns, sends_to};
 ghost use Rattle.c_mentions.specs.Noted.{with_uses, none_noted};
 ghost use Rattle.c_mentions.specs.Uses.{item_uses, program_uses};
 
 use crate::arrays::{Arrays, hidden_behind};
-use crate::noted::{Mentions, nothing_noted};
+use crate::noted::{Flags, nothing_noted};
 use crate::statements::note_block;
+use crate::told::{Mentions, bits_of};
 use c_tree::{Item, Parameter, Unit};
 
 // which arrays are hidden where a function's parameters are open
@@ -26,7 +28,7 @@ fn hidden_within(hidden: Arrays, parameters: &[Parameter]) -> Arrays
     behind
 }
 
-fn note_item(m: &mut Mentions, hidden: Arrays, item: &Item)
+fn note_item(m: &mut Flags, hidden: Arrays, item: &Item)
     ensures { (slots : List Slot) → Hides hidden (record { slots = slots; variables = [] })
         → m.new ≡ with_uses m.old (item_uses slots (plain_item item.now)) }
 {
@@ -65,7 +67,7 @@ fn hidden_outside(unit: &Unit) -> Arrays
 }
 
 // all uses of a program, noted
-fn noted(unit: &Unit) -> Mentions
+fn noted(unit: &Unit) -> Flags
     ensures { result ≡ with_uses none_noted (program_uses (plain unit.now)) }
 {
     let hidden = hidden_outside(unit);
@@ -80,9 +82,15 @@ fn noted(unit: &Unit) -> Mentions
 pub fn mentions_of(unit: &Unit) -> Mentions
     ensures comm { result.comm ≡ mentions comm_array (plain unit.now) }
     ensures shared { result.shared ≡ mentions shared_array (plain unit.now) }
-    ensures assigns_comm { result.assigns_comm ≡ assigns comm_array (plain unit.now) }
     ensures assigns_shared { result.assigns_shared ≡ assigns shared_array (plain unit.now) }
-    ensures sends { (core : ℕ) → core < 16 → slice_index_or result.sends core false ≡ sends_to core (plain unit.now) }
+    ensures sends { (core : ℕ) → core < 16 → has_bit core result.sends ≡ sends_to core (plain unit.now) }
+    ensures small { result.sends < 2 ^ 16 }
 {
-    noted(unit)
+    let flags = noted(unit);
+    Mentions {
+        comm: flags.comm,
+        shared: flags.shared,
+        assigns_shared: flags.assigns_shared,
+        sends: bits_of(flags.sends),
+    }
 }

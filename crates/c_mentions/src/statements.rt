@@ -10,11 +10,11 @@ ghost use Rattle.c_mentions.specs.Uses.{sends, expr_uses, head_uses, stmt_uses, 
 
 use crate::arrays::{Arrays, hidden_behind};
 use crate::expressions::{note_arguments, note_expression, note_first, note_returned, note_right};
-use crate::noted::{Mentions, note_send, note_set};
+use crate::noted::{Flags, note_send, note_set};
 use c_tree::{Arm, Expr, Head, Stmt};
 
 // how a loop goes on
-fn note_head(m: &mut Mentions, hidden: Arrays, head: &Head)
+fn note_head(m: &mut Flags, hidden: Arrays, head: &Head)
     ensures { Notes hidden m.old m.new (λ names. head_uses names (plain_head head.now)) }
 {
     match head {
@@ -37,7 +37,7 @@ fn note_head(m: &mut Mentions, hidden: Arrays, head: &Head)
 
 // words that are sent
 fn note_sending(
-    m: &mut Mentions,
+    m: &mut Flags,
     hidden: Arrays,
     core: u32,
     source: &Expr,
@@ -75,7 +75,7 @@ fn hidden_after(hidden: Arrays, s: &Stmt) -> Arrays
 // a statement: a variable that is declared stands in its own first value
 #[cycle(statement)]
 #[tactic(auto)]
-fn note_statement(m: &mut Mentions, hidden: Arrays, s: &Stmt)
+fn note_statement(m: &mut Flags, hidden: Arrays, s: &Stmt)
     ensures { Notes hidden m.old m.new (λ names. stmt_uses names (plain_stmt s.now)) }
 {
     match s {
@@ -121,7 +121,7 @@ fn note_statement(m: &mut Mentions, hidden: Arrays, s: &Stmt)
 /// The statements of a block, whose names are closed at its end.
 #[cycle(statement)]
 #[tactic(auto)]
-pub fn note_block(m: &mut Mentions, hidden: Arrays, body: &[Stmt])
+pub fn note_block(m: &mut Flags, hidden: Arrays, body: &[Stmt])
     ensures { Notes hidden m.old m.new (λ names. block_uses names (block_of body.now)) }
 {
     let mut behind = hidden;
@@ -134,7 +134,7 @@ pub fn note_block(m: &mut Mentions, hidden: Arrays, body: &[Stmt])
 // the arms of an `if`
 #[cycle(statement)]
 #[tactic(auto)]
-fn note_arms(m: &mut Mentions, hidden: Arrays, arms: &[Arm])
+fn note_arms(m: &mut Flags, hidden: Arrays, arms: &[Arm])
     ensures { Notes hidden m.old m.new (λ names. arms_uses names (arms_of arms.now)) }
 {
     for arm in arms {

@@ -3,8 +3,8 @@ ghost use Rattle.std.specs.Prelude.{◌≡◌};
 ghost use Rattle.c_tree.specs.Plain.{plain};
 ghost use Rattle.c_mentions.specs.Told.{Tells};
 
-use crate::noted::Mentions;
 use crate::programs::mentions_of;
+use crate::told::Mentions;
 use c_tree::Unit;
 
 /// A C program, and what it mentions.

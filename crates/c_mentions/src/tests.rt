@@ -101,9 +101,8 @@ fn comm_is_mentioned_before_it_is_hidden(rt: HostRuntime) -> Result<(), Fail> {
     let unit = reader(rt.alloc())?;
     let told = mentions_of(&unit);
     assert!(rt; told.comm);
-    assert!(rt; !told.assigns_comm);
     assert!(rt; !told.shared);
-    assert_eq!(rt; told.sends, [false; 16]);
+    assert_eq!(rt; told.sends, 0);
     Ok(())
 }
 
@@ -114,8 +113,9 @@ fn shared_is_assigned_and_core_2_sent_to(rt: HostRuntime) -> Result<(), Fail> {
     assert!(rt; told.shared);
     assert!(rt; told.assigns_shared);
     assert!(rt; !told.comm);
-    assert!(rt; told.sends[2]);
-    assert!(rt; !told.sends[0]);
+    assert_eq!(rt; told.sends, 4);
+    assert!(rt; told.sends_to(2));
+    assert!(rt; !told.sends_to(0));
     Ok(())
 }
 

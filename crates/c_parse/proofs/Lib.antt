@@ -15,6 +15,7 @@ pub mod OneStatement
 pub mod Programs
 pub mod Pushed
 pub mod ReadWhole
+pub mod Reading
 pub mod Refused
 pub mod Shortest
 pub mod Starts

@@ -5,6 +5,7 @@ ghost use Rattle.c_tree.specs.Tokens.{tokens_of};
 ghost use Rattle.c_tree.specs.Fits.{Fits};
 ghost use Rattle.c_tree.specs.Places.{IsProgram, IsPlace};
 ghost use Rattle.c_tree.specs.Plain.{plain};
+ghost use Rattle.c_tree.specs.Reading.{Trees, IsReading};
 ghost use Rattle.c_parse.specs.Answers.{place_of};
 
 /// Tokens are written by one tree alone: two fitting trees with the same tokens differ in nothing but where their boxes
@@ -20,4 +21,11 @@ pub fn one_tree()
 pub fn reading_is_the_grammar()
     ensures program { (ts : List Token) → place_of ts ≡ None ↔ IsProgram ts }
     ensures place { (ts : List Token) (at : ℕ) → place_of ts ≡ Some at → IsPlace ts at }
+{}
+
+/// There is a reading, a function that gives each program its tree. By [`one_tree`] any two agree on programs. A law:
+/// it does nothing.
+#[tactic(auto, using(crate::proofs::Reading::a_reading))]
+pub fn a_reading_exists()
+    ensures { (trees : Trees) × IsReading trees }
 {}

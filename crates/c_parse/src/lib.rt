@@ -26,5 +26,5 @@ mod statements;
 mod units;
 
 pub use faults::ParseFault;
-pub use laws::{one_tree, reading_is_the_grammar};
+pub use laws::{a_reading_exists, one_tree, reading_is_the_grammar};
 pub use parser::parse;

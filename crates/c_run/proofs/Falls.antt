@@ -1,19 +1,14 @@
 -- A call goes to something smaller.
-use Rattle.std.proofs.Common.{◌≡◌, ℕ, zero, suc, ◌+◌, ◌<◌, ◌≤◌, List, [], ◌∷◌, length, get_or, slice_index_or, ap, sym, ◌∙◌, arith, subst, inl, inr}
+use Rattle.std.proofs.Common.{◌≡◌, ℕ, zero, suc, ◌+◌, ◌<◌, ◌≤◌, List, [], ◌∷◌, length, get_or, slice_index_or, ap, sym, arith, subst, inl, inr}
 use Rattle.std.proofs.lemmas.Bool.{cases_lt}
 use Rattle.std.specs.Prelude.{Option}
-use Rattle.sp_tree.specs.declared.expressions.SpExpr.{SpExpr}
 use Rattle.c_meaning.specs.declared.actions.Action.{Action, Call}
-use Rattle.c_meaning.specs.declared.actions.Action.TheViews.{Choose, Loop}
 use Rattle.c_meaning.specs.declared.actions.Arguments.{Arguments}
-use Rattle.c_meaning.specs.declared.actions.Assignment.{Assignment}
-use Rattle.c_meaning.specs.declared.actions.Branch.{Branch}
 use Rattle.c_meaning.specs.declared.actions.Routine.{Routine}
 use Rattle.c_meaning.specs.declared.actions.Target.{Target}
 use Rattle.c_meaning.specs.Actions.{PlainActions, no_action}
-use Rattle.c_meaning.specs.Shown.{plain_action, actions_of, branches_of, bodies_of}
-use Rattle.c_meaning.proofs.Acted.{plain_choose, plain_loop}
-use Rattle.c_meaning.specs.Sizes.{action_size, actions_size, branches_size}
+use Rattle.c_meaning.specs.Shown.{plain_action, actions_of, bodies_of}
+use Rattle.c_meaning.specs.Sizes.{action_size, actions_size}
 use Rattle.c_run.specs.Sizes.{total}
 
 -- ---- a call

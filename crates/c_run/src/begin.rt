@@ -6,9 +6,10 @@ ghost use Rattle.c_world.specs.Shown.{shown, rooms};
 ghost use Rattle.c_meaning.specs.Begun.{begun, begun_private};
 ghost use Rattle.c_meaning.specs.Rooms.{all_rooms};
 
-use c_meaning::{FIRST_PRIVATE, PRIVATE_WORDS, add_initial, input_place};
+use c_meaning::{add_initial, input_place};
 use c_tree::{Checked, Item};
 use c_world::Memory;
+use local_store::{FIRST_DATA_WORD, PRIVATE_WORDS};
 use std::alloc;
 use tc_word::OutOfMemory;
 
@@ -56,9 +57,9 @@ fn lay(words: &mut Vec<u32>, at: usize, over: &[u32])
 
 // the words up to the last first value
 fn first_words(alloc: alloc::Global, items: &[Item]) -> Result<Vec<u32>, OutOfMemory>
-    ensures { IfOk result (λ v. v.items ≡ replicate 4 0 ++ layout.initial_of (map plain_item items.now)) }
+    ensures { IfOk result (λ v. v.items ≡ replicate FIRST_DATA_WORD 0 ++ layout.initial_of (map plain_item items.now)) }
 {
-    let mut words = vec![in alloc; 0; FIRST_PRIVATE]?;
+    let mut words = vec![in alloc; 0; FIRST_DATA_WORD as usize]?;
     add_initial(&mut words, items)?;
     Ok(words)
 }

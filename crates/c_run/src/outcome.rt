@@ -1,5 +1,5 @@
 //! What a program means on its input.
-ghost use Rattle.std.specs.Prelude.{◌≡◌, [], List, IfOk, length, map};
+ghost use Rattle.std.specs.Prelude.{◌≡◌, ◌<◌, ◌^◌, [], List, IfOk, length, map};
 ghost use Rattle.c_tree.specs.Plain.{plain, plain_item};
 ghost use Rattle.c_world.specs.Shown.{shown, rooms};
 ghost use Rattle.c_world.specs.World.{Sending};
@@ -13,12 +13,10 @@ ghost use Rattle.c_run.specs.Told as told;
 
 use crate::begin::begun_memory;
 use crate::run::called;
-use c_meaning::{
-    Arguments, FRAME_WORDS, Resolved, Routine, array_of, names_resolved_once, resolve,
-};
-use c_tree::{Checked, Global, Item, Slot};
+use c_meaning::{Arguments, Resolved, Routine, array_of, names_resolved_once, resolve};
+use c_tree::{Checked, Global, Item, MOST_LEVELS, Slot};
 use c_world::Memory;
-use std::alloc::{self, AllocError};
+use std::alloc;
 use tc_word::{List, OutOfMemory};
 
 /// What a program means on its input.
@@ -32,7 +30,7 @@ pub struct Outcome {
     pub stores: List<List<u32>>,
 }
 
-/// What a program means on its input, where `shared` and `comm` begin with 0.
+/// What a program means on its input, where `shared` and `comm` begin with 0. It is `Err` only where an allocation fails.
 pub fn mean(alloc: alloc::Global, program: &Checked, input: &[u32]) -> Result<Outcome, OutOfMemory>
     ensures value { IfOk result (λ o. o.value ≡ (meaning (plain program.now.unit) input.now (λ _. 0) (λ _. 0)).value) }
     ensures overrun { IfOk result (λ o. o.overrun ≡ (meaning (plain program.now.unit) input.now (λ _. 0) (λ _. 0)).world.overrun) }
@@ -57,7 +55,8 @@ fn main_given(
     resolved: &Resolved,
     memory: &mut Memory,
 ) -> Result<u32, OutOfMemory>
-    requires { rooms memory.old ≡ all_rooms }
+    requires rooms { rooms memory.old ≡ all_rooms }
+    requires number { length resolved.now.routines < 2 ^ 32 }
     ensures { IfOk result (λ value. HasGiven (numbered (serves (bodies_of resolved.now.routines) (length resolved.now.routines)) resolved.now.main [] (shown memory.old [])) value memory.new) }
 {
     match resolved.main {
@@ -73,13 +72,11 @@ fn first_called(
     routines: &[Routine],
     memory: &mut Memory,
 ) -> Result<u32, OutOfMemory>
-    requires { rooms memory.old ≡ all_rooms }
+    requires rooms { rooms memory.old ≡ all_rooms }
+    requires number { length routines.now < 2 ^ 32 }
     ensures { IfOk result (λ value. HasGiven (serves (bodies_of routines.now) (length routines.now) function [] (shown memory.old [])) value memory.new) }
 {
-    let Some(room) = routines.len().checked_mul(FRAME_WORDS) else {
-        return Err(AllocError);
-    };
-    let mut frames = vec![in alloc; 0; room]?;
+    let mut frames = vec![in alloc; 0; routines.len() * MOST_LEVELS]?;
     let args = Arguments {
         values: List::of(Vec::new(alloc)),
     };

@@ -1,5 +1,6 @@
 //! Places: where a word is set.
 ghost use Rattle.std.specs.Prelude.{◌≡◌, ℕ, List, length, option_map};
+ghost use Rattle.c_tree.specs.declared.limits.TheConstants.{MOST_LEVELS};
 ghost use Rattle.c_world.specs.Shown.{rooms};
 ghost use Rattle.c_world.specs.World.{Sending, with_element};
 ghost use Rattle.c_meaning.specs.Resolved.{with_target, with_result};
@@ -62,7 +63,7 @@ pub fn result_place(target: &Option<Target>, frame: &[u32], memory: &Memory) -> 
 /// Sets a word at a place.
 #[tactic(auto, using(c_world::proofs::Words::word_set))]
 pub fn put(place: Place, given: u32, frame: &mut [u32], memory: &mut Memory)
-    requires frame { length frame.old ≡ 96 }
+    requires frame { length frame.old ≡ MOST_LEVELS }
     requires rooms { rooms memory.old ≡ all_rooms }
     ensures done { (sends : List Sending) → with_place place given (state_of frame.old memory.old sends)
         ≡ state_of frame.new memory.new sends }

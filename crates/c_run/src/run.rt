@@ -14,7 +14,8 @@ ghost use Rattle.c_meaning.specs.Sizes.{actions_size, branches_size};
 
 use crate::places::{put, result_place};
 use crate::settings::{assign, pass, step};
-use c_meaning::{Action, Arguments, Assignment, Branch, FRAME_WORDS, Routine, Target, Way};
+use c_meaning::{Action, Arguments, Assignment, Branch, Routine, Target, Way};
+use c_tree::MOST_LEVELS;
 use c_world::Memory;
 use sp_tree::{SpExpr, value};
 
@@ -27,8 +28,8 @@ fn act(
     rest: &mut [u32],
     memory: &mut Memory,
 ) -> Way
-    requires frame { length frame.old ≡ 96 }
-    requires rest { 96 * length routines.now ≤ length rest.old }
+    requires frame { length frame.old ≡ MOST_LEVELS }
+    requires rest { MOST_LEVELS * length routines.now ≤ length rest.old }
     requires rooms { rooms memory.old ≡ all_rooms }
     ensures done { (sends : List Sending) → HasDone
         (action_done (served_by routines.now) (plain_action action.now) (state_of frame.old memory.old sends)) result frame.new memory.new }
@@ -81,8 +82,8 @@ fn call(
     rest: &mut [u32],
     memory: &mut Memory,
 ) -> Way
-    requires frame { length frame.old ≡ 96 }
-    requires rest { 96 * length routines.now ≤ length rest.old }
+    requires frame { length frame.old ≡ MOST_LEVELS }
+    requires rest { MOST_LEVELS * length routines.now ≤ length rest.old }
     requires rooms { rooms memory.old ≡ all_rooms }
     ensures done { (sends : List Sending) → HasDone
         (goes_on (given_done (option_map plain_target target.now) (state_of frame.old memory.old sends)
@@ -106,8 +107,8 @@ fn all(
     rest: &mut [u32],
     memory: &mut Memory,
 ) -> Way
-    requires frame { length frame.old ≡ 96 }
-    requires rest { 96 * length routines.now ≤ length rest.old }
+    requires frame { length frame.old ≡ MOST_LEVELS }
+    requires rest { MOST_LEVELS * length routines.now ≤ length rest.old }
     requires rooms { rooms memory.old ≡ all_rooms }
     ensures done { (sends : List Sending) → HasDone
         (actions_done (served_by routines.now) (actions_of actions.now) (state_of frame.old memory.old sends)) result frame.new memory.new }
@@ -149,8 +150,8 @@ fn choose(
     rest: &mut [u32],
     memory: &mut Memory,
 ) -> Way
-    requires frame { length frame.old ≡ 96 }
-    requires rest { 96 * length routines.now ≤ length rest.old }
+    requires frame { length frame.old ≡ MOST_LEVELS }
+    requires rest { MOST_LEVELS * length routines.now ≤ length rest.old }
     requires rooms { rooms memory.old ≡ all_rooms }
     ensures done { (sends : List Sending) → HasDone
         (branches_done (served_by routines.now) (branches_of branches.now)
@@ -173,8 +174,8 @@ fn turn(
     rest: &mut [u32],
     memory: &mut Memory,
 ) -> Option<Way>
-    requires frame { length frame.old ≡ 96 }
-    requires rest { 96 * length routines.now ≤ length rest.old }
+    requires frame { length frame.old ≡ MOST_LEVELS }
+    requires rest { MOST_LEVELS * length routines.now ≤ length rest.old }
     requires rooms { rooms memory.old ≡ all_rooms }
     ensures turned { (sends : List Sending) → HasTurned (step_done (option_map plain_assignment next.now))
         (actions_done (served_by routines.now) (actions_of body.now) (state_of frame.old memory.old sends)) result frame.new memory.new }
@@ -206,8 +207,8 @@ fn turns(
     rest: &mut [u32],
     memory: &mut Memory,
 ) -> Way
-    requires frame { length frame.old ≡ 96 }
-    requires rest { 96 * length routines.now ≤ length rest.old }
+    requires frame { length frame.old ≡ MOST_LEVELS }
+    requires rest { MOST_LEVELS * length routines.now ≤ length rest.old }
     requires rooms { rooms memory.old ≡ all_rooms }
     ensures done { (sends : List Sending) → HasDone
         (turns_done (holds (plain_sp condition.now)) (actions_done (served_by routines.now) (actions_of body.now))
@@ -238,7 +239,7 @@ fn served(
     rest: &mut [u32],
     memory: &mut Memory,
 ) -> u32
-    requires rest { 96 * length routines.now ≤ length rest.old }
+    requires rest { MOST_LEVELS * length routines.now ≤ length rest.old }
     requires rooms { rooms memory.old ≡ all_rooms }
     ensures given { (sends : List Sending) → HasGiven
         (served_by routines.now function (args_worth (map plain_sp args.now.values) (state_of frame.now memory.old sends)) (shown memory.old sends))
@@ -248,7 +249,7 @@ fn served(
     if function >= routines.len() {
         return 0;
     }
-    let (own, further) = rest.split_at_mut(FRAME_WORDS);
+    let (own, further) = rest.split_at_mut(MOST_LEVELS);
     pass(args.values.as_slice(), frame, own, memory);
     let (earlier, _others) = routines.split_at(function);
     let body = routines[function].body.as_slice();
@@ -266,7 +267,7 @@ pub fn called(
     rest: &mut [u32],
     memory: &mut Memory,
 ) -> u32
-    requires rest { 96 * known ≤ length rest.old }
+    requires rest { MOST_LEVELS * known ≤ length rest.old }
     requires rooms { rooms memory.old ≡ all_rooms }
     ensures given { (sends : List Sending) → HasGiven
         (serves (bodies_of routines.now) known function (args_worth (map plain_sp args.now.values) (state_of frame.now memory.old sends)) (shown memory.old sends))

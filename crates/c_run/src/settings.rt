@@ -1,6 +1,7 @@
 //! What actions set.
 ghost use Rattle.std.specs.Prelude.{◌≡◌, ℕ, List, length, map, option_map, slice_index};
 ghost use Rattle.std.specs.Prelude.{◌≤◌};
+ghost use Rattle.c_tree.specs.declared.limits.TheConstants.{MOST_LEVELS};
 ghost use Rattle.c_world.specs.Shown.{rooms};
 ghost use Rattle.c_world.specs.World.{Sending};
 ghost use Rattle.sp_tree.specs.Plain.{plain_sp};
@@ -16,7 +17,7 @@ use sp_tree::{SpExpr, value};
 
 /// What is set, and to what.
 pub fn assign(assignment: &Assignment, frame: &mut [u32], memory: &mut Memory)
-    requires frame { length frame.old ≡ 96 }
+    requires frame { length frame.old ≡ MOST_LEVELS }
     requires rooms { rooms memory.old ≡ all_rooms }
     ensures done { (sends : List Sending) → assignment_done (plain_assignment assignment.now) (state_of frame.old memory.old sends)
         ≡ state_of frame.new memory.new sends }
@@ -29,7 +30,7 @@ pub fn assign(assignment: &Assignment, frame: &mut [u32], memory: &mut Memory)
 
 /// What is set behind a turn of a loop, if anything.
 pub fn step(assignment: &Option<Assignment>, frame: &mut [u32], memory: &mut Memory)
-    requires frame { length frame.old ≡ 96 }
+    requires frame { length frame.old ≡ MOST_LEVELS }
     requires rooms { rooms memory.old ≡ all_rooms }
     ensures done { (sends : List Sending) → step_done (option_map plain_assignment assignment.now) (state_of frame.old memory.old sends)
         ≡ state_of frame.new memory.new sends }

@@ -1,5 +1,6 @@
 pub mod Blocks
 pub mod Chains
+pub mod Faultless
 pub mod Leasts
 pub mod Plains
 pub mod Sizes

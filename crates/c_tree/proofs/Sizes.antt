@@ -66,11 +66,11 @@ size_of_right (right.Call text args) = size_of_call text args
 
 -- ---- statements
 
-size_of_bound : (b : Option Bound) → length (bound_tokens b) ≡ bound_size b
+pub size_of_bound : (b : Option Bound) → length (bound_tokens b) ≡ bound_size b
 size_of_bound None = refl
 size_of_bound (Some b) = refl
 
-size_of_head : (h : Head) → length (head_tokens h) ≡ head_size (plain_head h)
+pub size_of_head : (h : Head) → length (head_tokens h) ≡ head_size (plain_head h)
 size_of_head (head.While condition) = omega (arith, length-append (expr_tokens condition) (one sign.CloseParenthesis ∷ []), size_of_expr condition)
 size_of_head (head.For first from condition next to) =
     omega (
@@ -83,7 +83,7 @@ size_of_head (head.For first from condition next to) =
       size_of_expr to,
     )
 
-size_of_arm : (c : Expr) (ts : List Token) → length (arm_tokens c ts) ≡ expr_size (plain_expr c) + length ts + 5
+pub size_of_arm : (c : Expr) (ts : List Token) → length (arm_tokens c ts) ≡ expr_size (plain_expr c) + length ts + 5
 size_of_arm c ts = omega (arith, size_of_expr c, length-append (expr_tokens c) (one sign.CloseParenthesis ∷ braced ts), braced_size ts)
 
 mutual
@@ -125,11 +125,11 @@ mutual
   size_of_stmt (Return (Some e)) = ended_size (word keyword.Return ∷ expr_tokens e) ∙ omega (arith, size_of_expr e)
   size_of_stmt (Inner' l body) = omega (arith, braced_size (block_tokens body), size_of_block body)
 
-  size_of_block : {n : _} (row : Row_of-Stmt n) → length (block_tokens row) ≡ block_size (plain_block row)
+  pub size_of_block : {n : _} (row : Row_of-Stmt n) → length (block_tokens row) ≡ block_size (plain_block row)
   size_of_block end_of-Stmt = refl
   size_of_block (more_of-Stmt s rest) = length-append (stmt_tokens s) (block_tokens rest) ∙ omega (arith, size_of_stmt s, size_of_block rest)
 
-  size_of_arms : {n : _} (row : Row_of-Arm n) → length (arms_tokens row) ≡ arms_size (plain_arms row)
+  pub size_of_arms : {n : _} (row : Row_of-Arm n) → length (arms_tokens row) ≡ arms_size (plain_arms row)
   size_of_arms end_of-Arm = refl
   size_of_arms (more_of-Arm c l body rest) =
       length-append (arm_tokens c (block_tokens body)) (further_tokens rest) ∙ omega (arith, size_of_arm c (block_tokens body), size_of_block body, size_of_further rest)

@@ -5,6 +5,7 @@ use Rattle.c_tree.specs.declared.checks.Fault.{Fault}
 use Rattle.c_tree.specs.declared.checks.Meaning.{Meaning}
 use Rattle.c_tree.specs.declared.checks.Meaning.TheVariants as meaning
 use Rattle.c_tree.specs.declared.checks.Within.{Within}
+use Rattle.c_tree.specs.declared.limits.TheConstants.{MOST_DEPTH, MOST_TURNS}
 use Rattle.c_tree.specs.declared.statements.Bound.{Bound}
 use Rattle.c_tree.specs.declared.statements.Kind.{Kind}
 use Rattle.c_tree.specs.Plain.{PlainExpr, PlainSteps, chain, unary, number, name, element, paren, no_step, step, PlainRight, value, call, PlainHead, turns_while, turns_for, PlainStmt, PlainBlock, PlainArms, PlainOtherwise, declared as declares, set, set_element, called, sent, chosen, looped as loops, broken, continued, returned, inner, no_stmt, stmt, no_arm, arm, no_else, or_else}
@@ -62,9 +63,9 @@ unfoldable mutual
   steps_faults names at (step op operand rest) =
       expr_faults names (at + 1) operand ++ steps_faults names (at + (1 + expr_size operand)) rest
 
--- an expression by itself, which may be 12 deep
+-- an expression by itself, which may be only so deep
 abbrev pub whole_faults : List Named → ℕ → PlainExpr → List Fault
-whole_faults names at e = where_so (nat_lt 12 (expr_depth e)) at fault.Deep ++ expr_faults names at e
+whole_faults names at e = where_so (nat_lt MOST_DEPTH (expr_depth e)) at fault.Deep ++ expr_faults names at e
 
 -- arguments, each with one token behind it
 abbrev pub args_faults : List Named → ℕ → List PlainExpr → List Fault
@@ -119,7 +120,7 @@ assigned_faults names at text e = scalar_faults names at text ++ whole_faults na
 -- a bound, or the loop's keyword where there is none
 abbrev pub bound_faults : ℕ → Option Bound → List Fault
 bound_faults at None = where_so true at fault.NoBound
-bound_faults at (Some b) = where_so (nat_lt b.max b.min || nat_lt 65535 b.max) at fault.BoundRange
+bound_faults at (Some b) = where_so (nat_lt b.max b.min || nat_lt MOST_TURNS b.max) at fault.BoundRange
 
 -- the head of a loop, whose first token is its keyword
 abbrev pub head_faults : List Named → ℕ → PlainHead → List Fault

@@ -1,6 +1,7 @@
--- Which trees fit our subset: the grammar with its levels of operators, and at most 64 brackets open at once.
+-- Which trees fit our subset: the grammar with its levels of operators, and a limit of brackets open at once.
 use Rattle.std.specs.Prelude.{◌≡◌, ℕ, ◌+◌, ◌-◌, ◌≤◌, max, IsTrue, List, [], ◌∷◌, length, None, Some, IfSome, ⊤}
 use Rattle.std.specs.List.{AllByRecursion as Each}
+use Rattle.c_tree.specs.declared.limits.TheConstants.{MOST_BRACKETS}
 use Rattle.c_tree.specs.declared.tokens.Token.{Token}
 use Rattle.c_tree.specs.declared.tokens.Token.TheVariants.{Word, Number as NumberToken, Bound, Keyword, Sign as SignToken}
 use Rattle.c_tree.specs.declared.tokens.Sign.{Sign}
@@ -153,9 +154,9 @@ most_open so_far (t ∷ ts) = max so_far (most_open (open_after t so_far) ts)
 abbrev pub GrammarFits : Program → Type 0
 GrammarFits u = Each ItemFits u.items
 
--- at most 64 brackets are open at once
+-- so many brackets are open at once, at most
 abbrev pub BracketsFit : List Token → Type 0
-BracketsFit ts = most_open 0 ts ≤ 64
+BracketsFit ts = most_open 0 ts ≤ MOST_BRACKETS
 
 -- the tree fits
 pub record Fits (u : Program) : Type 0 where

@@ -1,6 +1,7 @@
--- The words that a function keeps on the stack (our subset): 24 that compiled code keeps besides, one for each
+-- The words that a function keeps on the stack (our subset): those that compiled code keeps besides, one for each
 -- parameter and each declared variable, two for each loop, and one for each arm of an `if`.
 use Rattle.std.specs.Prelude.{ℕ, ◌+◌, List, length, sum_by}
+use Rattle.c_tree.specs.declared.limits.TheConstants.{WORDS_BESIDES}
 use Rattle.c_tree.specs.declared.units.Parameter.{Parameter}
 use Rattle.c_tree.specs.Plain.{PlainStmt, PlainBlock, PlainArms, PlainOtherwise, declared, chosen, looped, inner, no_stmt, stmt, no_arm, arm, no_else, or_else}
 
@@ -28,4 +29,4 @@ abbrev pub body_frame : List PlainStmt → ℕ
 body_frame body = sum_by stmt_frame body
 
 abbrev pub function_frame : List Parameter → List PlainStmt → ℕ
-function_frame parameters body = 24 + length parameters + body_frame body
+function_frame parameters body = WORDS_BESIDES + length parameters + body_frame body

@@ -1,8 +1,10 @@
 -- Where a program's variables and arrays stand, and what they begin with (our subset): those in private memory from
--- word 4 on and those in the scratchpad from word 0 on, in the order of their declarations; then the words that all
--- cores share, and the core's communication memory.
+-- its first data word on and those in the scratchpad from word 0 on, in the order of their declarations; then the words
+-- that all cores share, and the core's communication memory.
 use Rattle.std.specs.Prelude.{ℕ, ◌+◌, ◌-◌, ◌%◌, ◌^◌, Bool, true, false, not, ◌&&◌, if◌then◌else◌, List, [], ◌∷◌, ◌++◌, length, map, replicate, is_some, bytes_eq, codes}
 use Rattle.local_store.specs.declared.map.Cell.TheVariants as cell
+use Rattle.local_store.specs.declared.map.TheConstants.{COMM_WORDS, SHARED_WORDS}
+use Rattle.local_store.specs.declared.store.TheConstants.{FIRST_DATA_WORD}
 use Rattle.c_tree.specs.declared.statements.Kind.{Kind}
 use Rattle.c_tree.specs.declared.statements.Kind.TheVariants as kind
 use Rattle.c_tree.specs.declared.layout.Slot.{Slot}
@@ -30,8 +32,8 @@ item_slots private scratch (function its_kind text void_word parameters body) = 
 -- what is declared before the text
 abbrev pub given_slots : List Slot
 given_slots =
-    record { name = codes "shared"; cell = cell.Shared 0; length = 4096; unsigned = false }
-    ∷ record { name = codes "comm"; cell = cell.Comm 0; length = 512; unsigned = false }
+    record { name = codes "shared"; cell = cell.Shared 0; length = SHARED_WORDS; unsigned = false }
+    ∷ record { name = codes "comm"; cell = cell.Comm 0; length = COMM_WORDS; unsigned = false }
     ∷ []
 
 abbrev pub slots_from : ℕ → ℕ → List PlainItem → List Slot
@@ -40,7 +42,7 @@ slots_from private scratch (i ∷ items) =
     item_slots private scratch i ++ slots_from (private + item_words false i) (scratch + item_words true i) items
 
 abbrev pub layout_of : List PlainItem → List Slot
-layout_of items = slots_from 4 0 items
+layout_of items = slots_from FIRST_DATA_WORD 0 items
 
 -- ---- what private memory begins with
 
@@ -56,7 +58,7 @@ abbrev pub item_initial : PlainItem → List ℕ
 item_initial (global of) = if of.scratch then [] else first_words of
 item_initial (function its_kind text void_word parameters body) = []
 
--- the private words from word 4 on
+-- the private words from the first data word on
 abbrev pub initial_from : List PlainItem → List ℕ
 initial_from [] = []
 initial_from (i ∷ items) = item_initial i ++ initial_from items
@@ -77,9 +79,9 @@ takes_input (global of) = bytes_eq of.name (codes "in") && (is_some of.length &&
 takes_input (function its_kind text void_word parameters body) = false
 
 abbrev pub input_from : ℕ → List PlainItem → Input
-input_from private [] = record { at = 4; room = 0 }
+input_from private [] = record { at = FIRST_DATA_WORD; room = 0 }
 input_from private (i ∷ items) =
     if takes_input i then record { at = private; room = item_words false i } else input_from (private + item_words false i) items
 
 abbrev pub input_of : List PlainItem → Input
-input_of items = input_from 4 items
+input_of items = input_from FIRST_DATA_WORD items

@@ -12,7 +12,7 @@ pub record IsProgram (ts : List Token) : Type 0 where
   pub written : tokens_of tree ≡ ts
 
 -- The tokens can go on: a tree that fits the grammar begins with them, however many brackets it opens behind them,
--- and they themselves open at most 64 at once.
+-- and they themselves open no more at once than may be.
 pub record CanGoOn (ts : List Token) : Type 0 where
   pub tree : Program
   pub rest : List Token

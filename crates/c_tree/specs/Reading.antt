@@ -11,7 +11,3 @@ Trees = List Token → List PlainItem
 -- A reading gives each program its tree: the one that is written so. Of tokens that are no program it may give any.
 pub record IsReading (trees : Trees) : Type 0 where
   pub reads : (ts : List Token) (program : IsProgram ts) → trees ts ≡ plain program.tree
-
--- what holds for every reading
-abbrev pub OnReading : (Trees → Type 0) → Type 0
-OnReading P = (trees : Trees) → IsReading trees → P trees

@@ -6,6 +6,7 @@ use Rattle.c_tree.specs.declared.checks.Fault.{Fault}
 use Rattle.c_tree.specs.declared.checks.Meaning.{Meaning}
 use Rattle.c_tree.specs.declared.checks.Meaning.TheVariants as meaning
 use Rattle.c_tree.specs.declared.checks.Within.{Within}
+use Rattle.c_tree.specs.declared.limits.TheConstants.{MOST_FRAME_WORDS, MOST_FUNCTION_WEIGHT, MOST_PARAMETERS, MOST_PRIVATE_WORDS, MOST_SCRATCH_WORDS, MOST_TASK_WEIGHT}
 use Rattle.c_tree.specs.declared.statements.Kind.{Kind}
 use Rattle.c_tree.specs.declared.statements.Kind.TheVariants as kind
 use Rattle.c_tree.specs.declared.units.Global.{Global}
@@ -56,9 +57,9 @@ with_parameters names (p ∷ ps) = with_parameters (declared names p.name meanin
 abbrev pub named_faults : List Named → ℕ → List ℕ → List Parameter → List PlainStmt → List Fault
 named_faults names at text parameters body =
     twice_faults 0 names at text
-    ++ (where_so (nat_lt 6 (length parameters)) at fault.Params
-    ++ (where_so (nat_lt 120 (function_frame parameters body)) at fault.Frame
-    ++ where_so (nat_lt 4096 (function_weight body)) at fault.Heavy))
+    ++ (where_so (nat_lt MOST_PARAMETERS (length parameters)) at fault.Params
+    ++ (where_so (nat_lt MOST_FRAME_WORDS (function_frame parameters body)) at fault.Frame
+    ++ where_so (nat_lt MOST_FUNCTION_WEIGHT (function_weight body)) at fault.Heavy))
 
 -- a function's parameters and its block are one scope, in which its own name is open
 abbrev pub inner_faults : ℕ → ℕ → List Named → ℕ → Option Kind → Bool → List Parameter → List PlainStmt → List Fault
@@ -115,9 +116,9 @@ has_main items = list_any is_main items
 -- what is told of the whole, at its end
 abbrev pub end_faults : ℕ → List PlainItem → List Fault
 end_faults at items =
-    where_so (nat_lt 32768 (items_weight items)) at fault.Heavy
-    ++ (where_so (nat_lt 49148 (words_in false items)) at fault.Data
-    ++ (where_so (nat_lt 2048 (words_in true items)) at fault.Scratch
+    where_so (nat_lt MOST_TASK_WEIGHT (items_weight items)) at fault.Heavy
+    ++ (where_so (nat_lt MOST_PRIVATE_WORDS (words_in false items)) at fault.Data
+    ++ (where_so (nat_lt MOST_SCRATCH_WORDS (words_in true items)) at fault.Scratch
     ++ where_so (not (has_main items)) at fault.NoMain))
 
 -- all faults of a program on a core of so many, in the order of its text and none left out for another

@@ -12,21 +12,22 @@ pub enum CheckFault {
     WrongType,
     /// A loop has no bound.
     NoBound,
-    /// A bound has its least above its most, or its most above 65,535.
+    /// A bound has its least above its most, or its most above [`crate::MOST_TURNS`].
     BoundRange,
     /// A function calls itself.
     Recursion,
-    /// A function has more than 6 parameters, or a call another number of arguments than parameters.
+    /// A function has more than [`crate::MOST_PARAMETERS`] parameters, or a call another number of arguments than parameters.
     Params,
-    /// An expression is deeper than 12.
+    /// An expression is deeper than [`crate::MOST_DEPTH`].
     Deep,
-    /// A function's frame is above 120 words.
+    /// A function's frame is above [`crate::MOST_FRAME_WORDS`].
     Frame,
-    /// A function weighs more than 4,096, or a task more than 32,768.
+    /// A function weighs more than [`crate::MOST_FUNCTION_WEIGHT`], or a task more than [`crate::MOST_TASK_WEIGHT`].
     Heavy,
-    /// An array has no element, or too few for its first values, or the private words pass 49,148.
+    /// An array has no element, or too few for its first values, or the private words pass
+    /// [`crate::MOST_PRIVATE_WORDS`].
     Data,
-    /// The scratchpad's words pass 2,048.
+    /// The scratchpad's words pass [`crate::MOST_SCRATCH_WORDS`].
     Scratch,
     /// A send goes to no core, or to the own.
     Target,

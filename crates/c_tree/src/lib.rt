@@ -8,7 +8,8 @@
 //!
 //! All else is told of plain trees: the place of a part, counted in tokens (`specs/Sizes.antt`, [`sizes_are_tokens`]),
 //! its depth, weight and frame, the faults of a program (`specs/Valid.antt` and the files that it names), and where its
-//! variables and arrays stand (`specs/Layout.antt`). A [`Checked`] is a program that is valid on its place.
+//! variables and arrays stand (`specs/Layout.antt`). How much a program may have of each, [`subset_limits`] says in numbers.
+//! A [`Checked`] is a program that is valid on its place.
 //!
 //! What its words mean stands in [the glossary](../../../docs/GLOSSARY.md).
 #![tactic(auto)]
@@ -17,6 +18,7 @@ mod checks;
 mod expressions;
 mod laws;
 mod layout;
+mod limits;
 mod statements;
 mod tokens;
 mod units;
@@ -25,8 +27,13 @@ mod worked_checks;
 
 pub use checks::{CheckFault, Fault, Meaning, Within};
 pub use expressions::{BinaryOp, Expr, Step, UnaryOp};
-pub use laws::sizes_are_tokens;
+pub use laws::{sizes_are_tokens, subset_limits};
 pub use layout::{Checked, Slot};
+pub use limits::{
+    MOST_BRACKETS, MOST_DEPTH, MOST_FRAME_WORDS, MOST_FUNCTION_WEIGHT, MOST_LEVELS,
+    MOST_PARAMETERS, MOST_PRIVATE_WORDS, MOST_SCRATCH_WORDS, MOST_TASK_WEIGHT, MOST_TURNS,
+    WORDS_BESIDES,
+};
 pub use statements::{Arm, Bound, Head, Kind, Right, Stmt};
 pub use tokens::{Keyword, Sign, Token};
 pub use units::{Const, Function, Global, Item, Length, Parameter, Unit};

@@ -1,8 +1,8 @@
-//! The calls of a board, but those that wait. Each but [`Board::new`] is one atomic step of the table and
-//! constant work besides, apart from [`Board::give`], which may try its step again, and [`Board::close`],
-//! which goes over the words. Each call of a pass hands the pass on: its record grows by exactly what the
-//! call did.
-ghost use Rattle.std.specs.Prelude.{◌≡◌, ◌≢◌, ℕ, ◌+◌, ◌^◌, ◌<◌, ◌≤◌, [], ◌∷◌, length, max, slice_index, vec_capacity, IfOk, MatchBool};
+//! The calls of a board. Each but [`Board::new`] is one atomic step of the table and constant work besides,
+//! apart from [`Board::give`], which may try its step again and is the only one that may wait, and
+//! [`Board::close`], which goes over the words. Each call of a pass hands the pass on: its record grows by
+//! exactly what the call did.
+ghost use Rattle.std.specs.Prelude.{◌≡◌, ◌≢◌, ℕ, ◌+◌, ◌^◌, ◌<◌, ◌≤◌, ◌↔◌, [], ◌∷◌, length, max, slice_index, vec_capacity, IfOk, IsSome, MatchBool};
 ghost use Rattle.std.specs.List.{AllByRecursion as Each};
 ghost use Rattle.std.specs.Mem.Slots.{slots_items, slots_len, IsFull};
 ghost use Rattle.shared_order.specs.Operation.{load, store};
@@ -17,13 +17,10 @@ use crate::course::Course;
 use crate::known::{Holding, View};
 use crate::parts::{Board, Pass};
 use crate::rule::{Claims, Looks, Makes, Parts, Publishes};
-use crate::waiting::NO_ALARM;
 use atomic_table::{Closed, Seat, Table};
 use std::alloc::Global;
-use std::array;
 use std::marker::PhantomData;
 use std::sync::Wait;
-use std::sync::atomic::{AtomicBool, AtomicU64};
 use tc_word::{List as Words, OutOfMemory};
 
 impl<C: Course> Board<C> {
@@ -51,8 +48,6 @@ impl<C: Course> Board<C> {
             cores,
             words,
             spare,
-            alarms: array::from_fn(|_| AtomicU64::new(NO_ALARM)),
-            peeks_first: AtomicBool::new(false),
         };
         let pass = Pass {
             seat,
@@ -123,6 +118,18 @@ impl<C: Course> Board<C> {
         shown
     }
 
+    /// What core d's clock shows, or nothing of a core that the board does not have. It is no look: no pass
+    /// learns of it.
+    pub fn peek(&self, d: u32) -> Option<u64>
+        ensures { IsSome result ↔ (d < self.now.cores) }
+    {
+        if d < self.cores {
+            Some(self.table.shared.peek(d as usize))
+        } else {
+            None
+        }
+    }
+
     /// Sets the own clock to a stamp, which says that the core makes no operation of a lesser stamp
     /// from here on.
     pub fn publish(&self, pass: &mut Pass<C>, stamp: u64)
@@ -140,7 +147,6 @@ impl<C: Course> Board<C> {
         self.table
             .shared
             .store::<Publishes>(&mut pass.seat, clock, stamp);
-        self.wake(pass.core, stamp);
     }
 
     /// Makes the core's next operation, a load: the word's value, which is the course's.
@@ -218,8 +224,6 @@ impl<C: Course> Board<C> {
             cores,
             words,
             mut spare,
-            alarms: _,
-            peeks_first: _,
         } = self;
         let Pass {
             seat,

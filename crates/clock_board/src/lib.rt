@@ -14,7 +14,6 @@
 //!   call is one atomic step. [`Pass`] is the right to act for one core, or the maker's right to
 //!   give such passes and take them back. It carries what its core has made, published and seen, its
 //!   [`Record`], which no program computes: contracts alone speak of it.
-//! - [`Board::wait_for`] waits for a clock, with the [`Patience`] of the thread that calls it.
 //! - [`rule_in_words`] tells what holds between any two steps of any threads: the operations that
 //!   all passes have made are the first ones of the course, each with the course's value, each core
 //!   has made the first ones of its own, and each shared word has what was stored last in it.
@@ -22,6 +21,10 @@
 //!   and each has published a stamp past it.
 //! - [`two_cores_by_turns`] and [`two_cores_at_once`] make a worked course, [`TwoCores`], and
 //!   [`worked_records`] shows the definitions at work on it.
+//!
+//! No call but [`Board::give`] may wait, and none but [`Board::new`] takes memory. Who has to wait for a
+//! clock looks again, and sees to it that other threads run meanwhile: [`Board::peek`] shows a clock to
+//! those who wait beside the board.
 //!
 //! What is not promised: that a core gets on, that waiting ends, that no two cores wait for one
 //! another, or that threads run at the same time.
@@ -37,12 +40,10 @@ mod parts;
 mod rule;
 #[cfg(test)]
 mod tests;
-mod waiting;
 mod worked;
 
 pub use course::Course;
 pub use known::{Holding, Look, Record, View};
 pub use law::rule_in_words;
 pub use parts::{Board, Pass};
-pub use waiting::Patience;
 pub use worked::{TwoCores, two_cores_at_once, two_cores_by_turns, worked_records};

@@ -5,7 +5,6 @@ use crate::rule::Law;
 use atomic_table::{Seat, Table};
 use std::alloc::Global;
 use std::marker::{Model, PhantomData};
-use std::sync::atomic::{AtomicBool, AtomicU64};
 
 /// The words that the cores of a course share, and a clock and a claim word for each core.
 ///
@@ -19,10 +18,6 @@ pub struct Board<C: Course> {
     pub(crate) words: u32,
     // Room for the words at the end.
     pub(crate) spare: Vec<u32>,
-    // For each clock, the least stamp that a thread sleeps for.
-    pub(crate) alarms: [AtomicU64; 16],
-    // Whether a thread that waits peeks for a while first, or lets others run.
-    pub(crate) peeks_first: AtomicBool,
 }
 
 impl<C: Course> Model for Board<C> {

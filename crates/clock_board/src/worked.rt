@@ -8,10 +8,10 @@ ghost use Rattle.clock_board.specs.View.{own, todo, maker as new_maker, given, I
 ghost use Rattle.clock_board.specs.Board.{IsPassOf};
 ghost use Rattle.clock_board.specs.Two.{two, Stands, IsBoardOfTwo};
 
-use crate::{Board, Course, Pass, Patience};
+use crate::{Board, Course, Pass};
 use std::alloc::Global;
 use std::sync::Wait;
-use std::thread::{Threads, join};
+use std::thread::{Threads, join, yield_now};
 use tc_word::{List as Words, OutOfMemory};
 
 /// The course: core 0 stores 7 in word 5 at stamp 8, and core 1 loads word 5 at stamps 5 and 13.
@@ -39,13 +39,13 @@ fn watch<R: Wait>(rt: &R, board: &Board<TwoCores>, pass: &mut Pass<TwoCores>, d:
     ensures clock { (own pass.new.view).published ≡ (own pass.old.view).published }
     ensures seen { stamp ≤ greatest d (own pass.new.view).looks }
 {
-    let mut patience = Patience::new();
     for _ in rt.forever() {
         if pass.seen(d) >= stamp {
             break;
         }
-        board.wait_for(rt, &mut patience, d, stamp);
-        board.look(pass, d);
+        if board.look(pass, d) < stamp {
+            yield_now();
+        }
     }
 }
 
@@ -172,7 +172,6 @@ pub fn two_cores_at_once<R: Threads + Wait + Sync>(
     let (board, mut maker) = Board::new(alloc, &TwoCores, 2, 6)?;
     let zero = board.give(rt, &mut maker, 0);
     let one = board.give(rt, &mut maker, 1);
-    board.peek_first();
     let shared = &board;
     let (zero, (one, first, second)) = join(
         rt,

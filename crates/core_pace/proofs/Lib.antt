@@ -18,5 +18,8 @@ pub mod OwnStores
 pub mod Quick
 pub mod StackKept
 pub mod SentTo
+pub mod SentKept
 pub mod SentOnly
+pub mod SentGrows
+pub mod Owned
 pub mod Outcomes

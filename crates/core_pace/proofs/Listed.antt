@@ -32,7 +32,7 @@ module _ (n core : ℕ) where
       ∙ waited_bundles (core_in m).plain.site.slot (transacted n core (until n core u m))
       ∙ waited_bundles (u - m.cycle) m
 
-  all_moved_bundles : (m : Moment) → (all_moved n core m).bundles ≡ m.bundles
+  pub all_moved_bundles : (m : Moment) → (all_moved n core m).bundles ≡ m.bundles
   all_moved_bundles m =
       let m' : Moment = moved n core (slots_of (core_in m).plain.transfer.words) m in
       waited_bundles ((core_in m').plain.free - m'.cycle) m' ∙ moved_bundles (slots_of (core_in m).plain.transfer.words) m

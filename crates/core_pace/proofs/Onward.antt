@@ -425,6 +425,17 @@ module _ (n core : ℕ) where
           ended runs (has_end (has_ended y) test) free
       by false still (inr stop) = trapped stop.0 (stop.1.0 ∙ ap (Trapped stop.0) free)
 
+  -- behind its bundle, the words of which are moved, a core has nothing to move, and goes on in that cycle
+  pub record IsBehind (m : Moment) : Type 0 where
+    pub words : (core_in (all_moved n core (bundled n core m))).plain.transfer.words ≡ 0
+    pub free : (core_in (all_moved n core (bundled n core m))).plain.free ≡ (all_moved n core (bundled n core m)).cycle
+
+  pub is_behind : (x : Core) (values : List ℕ) (m : Moment) → IsAtBundle n core x values m → IsBehind m
+  is_behind x values m at =
+      let one : IsBundled n core x values m = is_bundled n core x values m at.about at.slots in
+      let a : IsAllMoved n core x values (bundled n core m) = moves_all n core x values (bundled n core m) one.due (at.passes ∙ bundle_finishes n core m at.about) in
+      record { words = a.words; free = sym a.cycle }
+
   pub goes_onward : (x : Core) (values : List ℕ) (m : Moment) → IsAtBundle n core x values m → GoesOnward x values m
   goes_onward x values m at =
       let slots : IsSlotted (core_in m).plain.site = at.slots in

@@ -3,7 +3,7 @@
 use Rattle.std.specs.Prelude.{◌≡◌, ℕ, ◌<◌, ◌==◌, Bool, true, ◌⊎◌, List}
 use Rattle.std.specs.List.{list_any, AllByRecursion as Each}
 use Rattle.shared_order.specs.declared.operation.Operation.{Operation}
-use Rattle.argo_ni.specs.declared.port.TheConstants.{COMM_WORDS, SHARED_WORDS}
+use Rattle.local_store.specs.declared.map.TheConstants.{COMM_WORDS, SHARED_WORDS}
 use Rattle.argo_ni.specs.Packet.{comm_word}
 use Rattle.argo_ni.specs.Interface.{Interface, port_to}
 use Rattle.patmos_model.specs.State.{Sending}

@@ -9,6 +9,8 @@
 //!   clock that it has not seen there yet; and it makes the event, or tells which clock is before it
 //!   ([`Turn`]). It neither waits nor takes memory.
 //! - [`Worker::run`] and [`run_all`] take turns until the limit; they may wait for workers elsewhere.
+//! - [`Waiting`] is what the workers of a run share to do so, beside the board: who waits peeks at a clock and
+//!   then sleeps, and who publishes a stamp that is waited for wakes it.
 //! - [`two_idle_cores`] and [`two_idle_cores_at_once`] show how workers are made, run and taken apart.
 //!
 //! Contracts tell of the core for whose run apart a worker stands (`specs/Runs.antt`), of the stamps that it
@@ -25,10 +27,12 @@ mod rounds;
 #[cfg(test)]
 mod tests;
 mod turn;
+mod waiting;
 mod worked;
 mod worker;
 
 pub use rounds::run_all;
 pub use turn::Turn;
+pub use waiting::Waiting;
 pub use worked::{NoOperations, two_idle_cores, two_idle_cores_at_once};
 pub use worker::Worker;

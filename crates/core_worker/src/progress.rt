@@ -11,6 +11,7 @@ ghost use Rattle.core_worker.specs.Worker.{face, HasTurned};
 use crate::looking::look_around;
 use crate::making::perform;
 use crate::turn::Turn;
+use crate::waiting::Waiting;
 use clock_board::{Board, Course, Pass};
 use patmos_core::{Core, Next};
 use slot_arbiter::Event;
@@ -33,7 +34,7 @@ pub(crate) struct Progress<C> {
 
 impl<C: Course> Progress<C> {
     /// Runs the core to its next event, or else to the end of the next piece, and publishes how far it came.
-    fn run_piece(&mut self, board: &Board<C>) -> Option<Event>
+    fn run_piece(&mut self, board: &Board<C>, waiting: Option<&Waiting>) -> Option<Event>
         requires of { IsPassOf board.now self.old.pass }
         requires kept { IsKept self.old.limit self.old.reached self.old.ended self.old.core self.old.pass.view }
         requires free { waiting_of self.old.core ≡ None }
@@ -51,10 +52,12 @@ impl<C: Course> Progress<C> {
         match self.core.next(end) {
             Next::Event(event) => {
                 board.publish(&mut self.pass, event.stamp);
+                self.tell(waiting, event.stamp);
                 Some(event)
             }
             Next::Limit | Next::Ended => {
                 board.publish(&mut self.pass, 2 * end * cores);
+                self.tell(waiting, 2 * end * cores);
                 self.reached = end;
                 self.ended = end == self.limit;
                 None
@@ -62,8 +65,15 @@ impl<C: Course> Progress<C> {
         }
     }
 
+    /// Tells those that wait, if anybody may, of a stamp that was published.
+    fn tell(&self, waiting: Option<&Waiting>, stamp: u64) {
+        if let Some(waiting) = waiting {
+            waiting.tell(self.core.place().core, stamp);
+        }
+    }
+
     /// Runs the core piece by piece to its next event, or to the limit where none is left.
-    fn find(&mut self, board: &Board<C>) -> Option<Event>
+    fn find(&mut self, board: &Board<C>, waiting: Option<&Waiting>) -> Option<Event>
         requires of { IsPassOf board.now self.old.pass }
         requires kept { IsKept self.old.limit self.old.reached self.old.ended self.old.core self.old.pass.view }
         requires free { waiting_of self.old.core ≡ None }
@@ -76,7 +86,7 @@ impl<C: Course> Progress<C> {
         ensures ended { IsNone result → IsTrue self.new.ended }
     {
         while !self.ended {
-            if let Some(event) = self.run_piece(board) {
+            if let Some(event) = self.run_piece(board, waiting) {
                 return Some(event);
             }
         }
@@ -84,7 +94,12 @@ impl<C: Course> Progress<C> {
     }
 
     /// The event that the core waits to be told, or else its next one, which the gate is told once.
-    fn next_event<G: Gate>(&mut self, board: &Board<C>, gate: &G) -> Option<Event>
+    fn next_event<G: Gate>(
+        &mut self,
+        board: &Board<C>,
+        waiting: Option<&Waiting>,
+        gate: &G,
+    ) -> Option<Event>
         requires of { IsPassOf board.now self.old.pass }
         requires kept { IsKept self.old.limit self.old.reached self.old.ended self.old.core self.old.pass.view }
         ensures of { IsPassOf board.now self.new.pass }
@@ -99,7 +114,7 @@ impl<C: Course> Progress<C> {
         if let Some(event) = self.core.waiting() {
             return Some(event);
         }
-        let event = self.find(board)?;
+        let event = self.find(board, waiting)?;
         gate.at(self.core.place().core, event.stamp);
         Some(event)
     }
@@ -122,8 +137,13 @@ impl<C: Course> Progress<C> {
         self.core.resume(values, event.count);
     }
 
-    /// One turn.
-    pub(crate) fn turn<G: Gate>(&mut self, board: &Board<C>, gate: &G) -> Turn
+    /// One turn. Those that wait, if anybody may, are told each stamp that it publishes.
+    pub(crate) fn turn<G: Gate>(
+        &mut self,
+        board: &Board<C>,
+        waiting: Option<&Waiting>,
+        gate: &G,
+    ) -> Turn
         requires of { IsPassOf board.now self.old.pass }
         requires kept { IsKept self.old.limit self.old.reached self.old.ended self.old.core self.old.pass.view }
         ensures of { IsPassOf board.now self.new.pass }
@@ -133,7 +153,7 @@ impl<C: Course> Progress<C> {
         ensures turn { HasTurned result (face self.old.core self.old.pass self.old.limit)
             (face self.new.core self.new.pass self.new.limit) }
     {
-        let Some(event) = self.next_event(board, gate) else {
+        let Some(event) = self.next_event(board, waiting, gate) else {
             return Turn::Ended;
         };
         let place = self.core.place();

@@ -4,8 +4,9 @@ ghost use Rattle.std.specs.List.{All};
 ghost use Rattle.core_worker.specs.Worker.{AreLater, IsOn, IsDone, HasPieces};
 
 use crate::turn::Turn;
+use crate::waiting::{Patience, Waiting};
 use crate::worker::Worker;
-use clock_board::{Board, Course, Patience};
+use clock_board::{Board, Course};
 use std::sync::Wait;
 use tc_io::Gate;
 
@@ -15,6 +16,7 @@ fn round<R: Wait, C: Course, G: Gate>(
     rt: &R,
     workers: &mut [Worker<C>],
     board: &Board<C>,
+    waiting: &Waiting,
     gate: &G,
     patience: &mut Patience,
 ) -> bool
@@ -28,23 +30,24 @@ fn round<R: Wait, C: Course, G: Gate>(
     let mut moved = false;
     let mut least = Turn::Ended;
     for k in 0..workers.len() {
-        let turn = workers[k].advance_on(board, gate);
+        let turn = workers[k].advance_on(board, waiting, gate);
         ended &= turn.has_ended();
         moved |= turn.has_moved();
         least = turn.sooner(least);
     }
     if !moved {
-        least.wait(rt, board, patience);
+        least.wait(rt, board, waiting, patience);
     }
     ended
 }
 
 /// Takes turns of the workers, in their order, until no event is left for any of them below its limit. It may
-/// wait for workers elsewhere.
+/// wait for workers elsewhere, and wakes those that sleep for the clocks of these.
 pub fn run_all<R: Wait, C: Course, G: Gate>(
     rt: &R,
     workers: &mut [Worker<C>],
     board: &Board<C>,
+    waiting: &Waiting,
     gate: &G,
 )
     requires of { All (IsOn board.now) workers.old }
@@ -55,7 +58,7 @@ pub fn run_all<R: Wait, C: Course, G: Gate>(
 {
     let mut patience = Patience::new();
     for _ in rt.forever() {
-        if round(rt, workers, board, gate, &mut patience) {
+        if round(rt, workers, board, waiting, gate, &mut patience) {
             break;
         }
     }

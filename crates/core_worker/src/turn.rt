@@ -1,6 +1,7 @@
 ghost use Rattle.std.specs.Prelude.{◌≡◌, ◌↔◌, IsTrue};
 
-use clock_board::{Board, Course, Patience};
+use crate::waiting::{Patience, Waiting};
+use clock_board::{Board, Course};
 use std::sync::Wait;
 
 /// What came of one turn of a worker.
@@ -44,10 +45,11 @@ impl Turn {
         &self,
         rt: &R,
         board: &Board<C>,
+        waiting: &Waiting,
         patience: &mut Patience,
     ) {
         if let Turn::Blocked { core, wanted, .. } = *self {
-            board.wait_for(rt, patience, core, wanted);
+            waiting.wait_for(rt, board, patience, core, wanted);
         }
     }
 }

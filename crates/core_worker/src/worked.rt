@@ -7,6 +7,7 @@ ghost use Rattle.clock_board.specs.Board.{IsPassOf};
 ghost use Rattle.core_worker.specs.Worker.{IsOn, IsDone};
 
 use crate::rounds::run_all;
+use crate::waiting::Waiting;
 use crate::worker::Worker;
 use clock_board::{Board, Course, Pass};
 use patmos_core::Core;
@@ -32,7 +33,7 @@ impl Course for NoOperations {
 }
 
 /// The worker of core number `core` of two.
-fn idle_worker(pass: Pass<NoOperations>, core: u32, limit: u64) -> Worker<NoOperations>
+pub(crate) fn idle_worker(pass: Pass<NoOperations>, core: u32, limit: u64) -> Worker<NoOperations>
     requires two { core < 2 }
     requires given { IsGiven pass.view }
     requires fresh { own pass.view ≡ empty core }
@@ -51,13 +52,14 @@ fn idle_worker(pass: Pass<NoOperations>, core: u32, limit: u64) -> Worker<NoOper
 fn run_to_end<R: Wait>(
     rt: &R,
     board: &Board<NoOperations>,
+    waiting: &Waiting,
     mut worker: Worker<NoOperations>,
 ) -> Pass<NoOperations>
     requires of { IsOn board.now worker }
     ensures of { IsPassOf board.now result }
     ensures given { IsGiven result.view }
 {
-    worker.run(rt, board, &FreeGate);
+    worker.run(rt, board, waiting, &FreeGate);
     let (_, pass) = worker.finish();
     pass
 }
@@ -76,8 +78,9 @@ pub fn two_idle_cores<R: Wait>(
     let (board, mut maker) = Board::new(alloc, &NoOperations, 2, words)?;
     let zero = idle_worker(board.give(rt, &mut maker, 0), 0, limit);
     let mut one = idle_worker(board.give(rt, &mut maker, 1), 1, limit);
-    let zero = run_to_end(rt, &board, zero);
-    run_all(rt, from_mut(&mut one), &board, &FreeGate);
+    let waiting = Waiting::new(false);
+    let zero = run_to_end(rt, &board, &waiting, zero);
+    run_all(rt, from_mut(&mut one), &board, &waiting, &FreeGate);
     let (_, one) = one.finish();
     board.take_back(&mut maker, zero);
     board.take_back(&mut maker, one);
@@ -97,11 +100,12 @@ pub fn two_idle_cores_at_once<R: Threads + Wait + Sync>(
     let (board, mut maker) = Board::new(alloc, &NoOperations, 2, words)?;
     let zero = idle_worker(board.give(rt, &mut maker, 0), 0, limit);
     let one = idle_worker(board.give(rt, &mut maker, 1), 1, limit);
-    let shared = &board;
+    let waiting = Waiting::new(false);
+    let (shared, beside) = (&board, &waiting);
     let (zero, one) = join(
         rt,
-        || run_to_end(rt, shared, zero),
-        || run_to_end(rt, shared, one),
+        || run_to_end(rt, shared, beside, zero),
+        || run_to_end(rt, shared, beside, one),
     );
     board.take_back(&mut maker, zero);
     board.take_back(&mut maker, one);

@@ -9,7 +9,8 @@ ghost use Rattle.core_worker.specs.Worker.{face, HasTurned, IsLater, IsOn, IsDon
 
 use crate::progress::Progress;
 use crate::turn::Turn;
-use clock_board::{Board, Course, Pass, Patience};
+use crate::waiting::{Patience, Waiting};
+use clock_board::{Board, Course, Pass};
 use patmos_core::Core;
 use slot_arbiter::{MOST_CYCLES, Place};
 use std::marker::Model;
@@ -96,7 +97,9 @@ impl<C> Worker<C> {
 impl<C: Course> Worker<C> {
     /// One turn: finds the core's next event and publishes its stamp, looks at the clocks of the others that
     /// were not seen at or past it, and makes the event, unless one of them is before it. On the way to the
-    /// event it runs the core by pieces and publishes each piece's end. The gate is told each event once.
+    /// event it runs the core by pieces and publishes each piece's end. The gate is told each event once. Nobody
+    /// who sleeps for its clock is woken: a worker that others wait for is run by [`Worker::run`] or
+    /// [`crate::run_all`].
     pub fn advance<G: Gate>(&mut self, board: &Board<C>, gate: &G) -> Turn
         requires of { IsOn board.now self.old }
         ensures of { IsOn board.now self.new }
@@ -104,30 +107,47 @@ impl<C: Course> Worker<C> {
         ensures turn { HasTurned result self.old self.new }
         ensures pieces { HasPieces self.new }
     {
-        self.progress.turn(board, gate)
+        self.progress.turn(board, None, gate)
+    }
+
+    /// The same, and those that wait are told each stamp that it publishes.
+    fn advance_telling<G: Gate>(&mut self, board: &Board<C>, waiting: &Waiting, gate: &G) -> Turn
+        requires of { IsOn board.now self.old }
+        ensures of { IsOn board.now self.new }
+        ensures later { IsLater self.old self.new }
+        ensures turn { HasTurned result self.old self.new }
+        ensures pieces { HasPieces self.new }
+    {
+        self.progress.turn(board, Some(waiting), gate)
     }
 
     /// Takes turns as long as each makes an event, but not without end: the last of them.
     #[tactic(auto, using(crate::proofs::Several::done_at_end, crate::proofs::Several::later_both))]
-    pub(crate) fn advance_on<G: Gate>(&mut self, board: &Board<C>, gate: &G) -> Turn
+    pub(crate) fn advance_on<G: Gate>(
+        &mut self,
+        board: &Board<C>,
+        waiting: &Waiting,
+        gate: &G,
+    ) -> Turn
         requires of { IsOn board.now self.old }
         ensures of { IsOn board.now self.new }
         ensures later { IsLater self.old self.new }
         ensures ended { result ≡ Turn.Ended → IsDone self.new }
         ensures pieces { HasPieces self.new }
     {
-        let mut turn = self.advance(board, gate);
+        let mut turn = self.advance_telling(board, waiting, gate);
         for _ in 0..MORE_TURNS {
             if !turn.has_moved() {
                 break;
             }
-            turn = self.advance(board, gate);
+            turn = self.advance_telling(board, waiting, gate);
         }
         turn
     }
 
-    /// Takes turns until no event is left below the limit. It may wait for workers elsewhere.
-    pub fn run<R: Wait, G: Gate>(&mut self, rt: &R, board: &Board<C>, gate: &G)
+    /// Takes turns until no event is left below the limit. It may wait for workers elsewhere, and wakes those that
+    /// sleep for its clock.
+    pub fn run<R: Wait, G: Gate>(&mut self, rt: &R, board: &Board<C>, waiting: &Waiting, gate: &G)
         requires of { IsOn board.now self.old }
         ensures of { IsOn board.now self.new }
         ensures later { IsLater self.old self.new }
@@ -136,10 +156,10 @@ impl<C: Course> Worker<C> {
     {
         let mut patience = Patience::new();
         for _ in rt.forever() {
-            match self.advance(board, gate) {
+            match self.advance_telling(board, waiting, gate) {
                 Turn::Moved => {}
                 Turn::Ended => break,
-                blocked => blocked.wait(rt, board, &mut patience),
+                blocked => blocked.wait(rt, board, waiting, &mut patience),
             }
         }
     }

@@ -3,7 +3,7 @@
 //! Single-path code runs the same bundles whatever its input, and each of its transactions with main memory waits for
 //! a slot of its core, however little the other cores do. So the bundles that are run, and the most that each possible
 //! transaction can take at the core's place, bound its time on every input and beside every neighbour. This crate works
-//! the number out; that the time of code is at most the number is not proved yet.
+//! the number out; that the time of code is at most the number is a law of code_times.
 //!
 //! - [`bound`] is that number of a [`Shape`](sp_shape::Shape) at a [`Place`](slot_arbiter::Place): exactly the one of
 //!   `specs/Bound.antt`, or [`Long`] exactly where it is more than [`MOST_BOUND`]. It takes no memory.
@@ -18,6 +18,7 @@ mod bundles;
 mod functions;
 mod held;
 mod known;
+mod laws;
 mod parts;
 mod shapes;
 mod steps;
@@ -25,6 +26,7 @@ mod words;
 mod worked;
 
 pub use held::MOST_BOUND;
+pub use laws::limits;
 pub use shapes::{Long, bound, bound_uncounted};
 pub use steps::Steps;
 pub use worked::{worked_bounds, worked_bundles, worked_fills, worked_gaps, worked_nodes};

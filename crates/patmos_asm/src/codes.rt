@@ -9,7 +9,8 @@ use crate::checks::first_fault;
 use crate::faults::{AsmError, AsmFault};
 use crate::names::{Places, functions_of};
 use crate::words::words_of;
-use patmos_code::{INPUT_WORDS, Image};
+use local_store::{FIRST_DATA_WORD, INPUT_WORDS};
+use patmos_code::Image;
 use patmos_syntax::{AsmKind, Item, items_of};
 use std::alloc::{AllocError, Global};
 use std::marker::Model;
@@ -139,7 +140,7 @@ impl Code {
 /// private word 4 on with room for [`INPUT_WORDS`].
 #[tactic(auto, using(crate::proofs::Images::code_is_image))]
 pub fn image_of(code: Code) -> Image
-    ensures { result ≡ parts code.words code.starts [] 4 INPUT_WORDS }
+    ensures { result ≡ parts code.words code.starts [] FIRST_DATA_WORD INPUT_WORDS }
 {
     let Code {
         names: _,
@@ -148,5 +149,11 @@ pub fn image_of(code: Code) -> Image
     } = code;
     let words = words.into_vec();
     let initial = Vec::new(*words.allocator());
-    Image::of(List::of(words), starts, List::of(initial), 4, INPUT_WORDS)
+    Image::of(
+        List::of(words),
+        starts,
+        List::of(initial),
+        FIRST_DATA_WORD,
+        INPUT_WORDS,
+    )
 }

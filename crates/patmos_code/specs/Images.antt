@@ -3,7 +3,8 @@
 -- profile of Patmos, with its method cache and its code store.
 use Rattle.std.specs.Prelude.{◌≡◌, ℕ, zero, suc, ◌+◌, ◌-◌, ◌<◌, ◌≤◌, List, [], ◌∷◌, length, slice_index}
 use Rattle.std.specs.List.{All}
-use Rattle.patmos_code.specs.declared.images.TheConstants.{DATA_WORDS, MOST_IN_FUNCTION, MOST_IN_IMAGE}
+use Rattle.local_store.specs.declared.store.TheConstants.{DATA_WORDS, FIRST_DATA_WORD}
+use Rattle.patmos_code.specs.declared.images.TheConstants.{MOST_IN_FUNCTION, MOST_IN_IMAGE}
 
 -- the parts of an image: the words of code; the places of words at which its functions start; the words
 -- that private memory has at first, from private word 4 on; the private word from which on the input is
@@ -71,7 +72,7 @@ pub record IsImage (p : Parts) : Type 0 where
   pub small : All (λ size. size ≤ MOST_IN_FUNCTION) (sizes_of p.words)
   pub within : length p.words ≤ MOST_IN_IMAGE
   -- the initial words, from private word 4 on, end where the stack begins
-  pub initial : length p.initial ≤ DATA_WORDS - 4
+  pub initial : length p.initial ≤ DATA_WORDS - FIRST_DATA_WORD
   -- so does the room for the input, and it leaves private words 0 to 3 alone
   pub input_from : 4 ≤ p.input_at
   pub input_room : p.input_at + p.input_room ≤ DATA_WORDS

@@ -12,13 +12,6 @@ pub const MOST_IN_FUNCTION: usize = 4_096;
 /// The most words of code of an image, the size words of its functions counted.
 pub const MOST_IN_IMAGE: usize = 32_768;
 
-/// How many words private memory has below the stack: those that an image's first words and its input
-/// may take.
-pub const DATA_WORDS: usize = 49_152;
-
-/// How many words of input an image that was assembled has room for.
-pub const INPUT_WORDS: u32 = 4_096;
-
 /// The code and the first memory of one core's task.
 ///
 /// The words of code are for each function its size in words, at most [`MOST_IN_FUNCTION`], and then its
@@ -46,7 +39,7 @@ impl Model for Image {
 impl Image {
     /// The image of these parts: the words of code, the places at which its functions start, the words
     /// of private memory from word 4 on, and the private word at which the input begins (at least 4) with
-    /// the words of room for it; the former and the latter end within the first [`DATA_WORDS`].
+    /// the words of room for it; the former and the latter end within the first [`local_store::DATA_WORDS`].
     pub fn of(
         words: List<u32>,
         starts: List<u32>,

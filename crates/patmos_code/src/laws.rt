@@ -4,6 +4,7 @@ ghost use Rattle.patmos_code.specs.Codes.{code, StandFor};
 ghost use Rattle.patmos_code.specs.Decoding.{bundle_at};
 ghost use Rattle.patmos_code.specs.Images.{starts_of};
 ghost use Rattle.patmos_code.specs.Worked.{long_add, byte_store, guarded_add};
+ghost use Rattle.patmos_code.specs.declared.images.TheConstants.{MOST_IN_FUNCTION, MOST_IN_IMAGE};
 
 /// A law for contracts: different bundles have different codes. It does nothing.
 pub fn codes_differ()
@@ -29,4 +30,10 @@ pub fn worked_words()
     ensures words { code guarded_add ≡ 0xd206_4280 ∷ 0 ∷ [] }
     ensures none { bundle_at 0x0540_0001 0 ≡ None }
     ensures starts { starts_of (2 ∷ 0 ∷ 0 ∷ 0 ∷ 1 ∷ 0 ∷ []) ≡ 1 ∷ 4 ∷ 5 ∷ [] }
+{}
+
+/// The most words of a function and of an image, in numbers. A law: it does nothing.
+pub fn limits()
+    ensures function { MOST_IN_FUNCTION ≡ 4096 }
+    ensures image { MOST_IN_IMAGE ≡ 32768 }
 {}

@@ -21,5 +21,5 @@ mod laws;
 
 pub use coding::{Coded, encode};
 pub use decoding::decode;
-pub use images::{DATA_WORDS, INPUT_WORDS, Image, MOST_IN_FUNCTION, MOST_IN_IMAGE};
-pub use laws::{codes_differ, decoding_is_exact, worked_words};
+pub use images::{Image, MOST_IN_FUNCTION, MOST_IN_IMAGE};
+pub use laws::{codes_differ, decoding_is_exact, limits, worked_words};

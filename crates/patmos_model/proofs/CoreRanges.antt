@@ -51,6 +51,7 @@ use Rattle.patmos_model.specs.Cells.{Acted, now, cell_of, with_value}
 use Rattle.patmos_model.specs.Checks.{fault_of}
 use Rattle.patmos_model.specs.Bundle.{ends, moves, advanced, refilled, stacked, cache_loaded, loaded, stack_set, stored, answered, performed, taken_for, fetched_at, done_as, bundle, words_from, with_words}
 use Rattle.patmos_model.specs.Transaction.{moved, counted, line_taken, with_store, line_address, transaction_then, transaction, is_due}
+use Rattle.patmos_model.specs.Apart.{injected}
 use Rattle.patmos_model.specs.Cycle.{with_interface, if_running, bundle_step, slot_step, own, settled, delivered, acted, turn}
 use Rattle.patmos_model.specs.Range.{IsWord, HasWords, HasCode, ConstantsFit, AccessFits, ThenFits, SiteFits, PlainFits, InRange, PendingStoreFits, ActedFits}
 use Rattle.shared_order.proofs.Fits.{fit-then}
@@ -214,7 +215,7 @@ fit_done_as words Outside cycle c h fits = plain_changed words (stopped trap.Flo
 fit_done_as words NoBundle cycle c h fits = plain_changed words (stopped trap.Decode cycle c.plain) c (stopped_fit words trap.Decode cycle c.plain h.plain) h
 fit_done_as words (Found b size) cycle c h fits = fit_performed words size cycle b c h fits.0 fits.1
 
-fit_bundle : (words cycle : ℕ) (c : Core) → InRange words c → IsFit (ActedFits words) words (bundle cycle c)
+pub fit_bundle : (words cycle : ℕ) (c : Core) → InRange words c → IsFit (ActedFits words) words (bundle cycle c)
 fit_bundle words cycle c h = fit_done_as words (fetched_at c.plain.site.image c.plain.base c.plain.offset) cycle c h
     (fetched_fits c.plain.site.image c.plain.base c.plain.offset h.plain.code)
 
@@ -269,7 +270,7 @@ taken_range words cycle goal c h = either (is_placed goal c.plain) refl
     either true placed = gone_fits words goal c h placed
     either false none = record { plain = stopped_fit words trap.Flow cycle c.plain h.plain; cached = h.cached }
 
-flowed_fits : (words cycle : ℕ) (c : Core) → InRange words c → InRange words (flowed cycle c)
+pub flowed_fits : (words cycle : ℕ) (c : Core) → InRange words c → InRange words (flowed cycle c)
 unfolding flowed
 flowed_fits words cycle c h = elim (is_free cycle c.plain) as (λ b. InRange words (elim b [
   | true ↦ elim c.plain.flow [ None ↦ c | Some f ↦ elim (f.slots == 0) [ true ↦ taken cycle f.goal c | false ↦ c ] ]
@@ -316,7 +317,7 @@ fit_transaction_then words (then_on.Store cached width address value) cycle c h 
     fit_writing words (cell_of Main address) width address value (record { plain = moved cycle c.plain; seen = with_store cached width address value (counted cycle c).seen })
     (record { plain = after.plain; cached = store_fits cached width address value (counted cycle c).seen h.cached fits }) (cell_in_range Main address) fits
 
-fit_transaction : (words cycle : ℕ) (c : Core) → InRange words c → IsFit (ActedFits words) words (transaction cycle c)
+pub fit_transaction : (words cycle : ℕ) (c : Core) → InRange words c → IsFit (ActedFits words) words (transaction cycle c)
 unfolding transaction
 fit_transaction words cycle c h = fit_transaction_then words c.plain.transfer.then cycle c h h.plain.transfer
 
@@ -338,7 +339,7 @@ fit_own words cycle c h =
     (fit-then (ActedFits words) (ActedFits words) words (if_running (bundle_step cycle) running) (slot_step cycle)
     (fit_if_running words (bundle_step cycle) running is (fit_bundle_step words cycle running is)) (λ a fits. fit_slot_step words cycle a fits))
 
-fit_settled : (words : ℕ) (a : Acted) → ActedFits words a → IsFit (InRange words) words (settled a)
+pub fit_settled : (words : ℕ) (a : Acted) → ActedFits words a → IsFit (InRange words) words (settled a)
 fit_settled words a h = pending_store_fits a.pending_store h.pending_store
   where
     pending_store_fits : (pending_store : Option PendingStore) → PendingStoreFits words pending_store → IsFit (InRange words) words (elim pending_store [ None ↦ done a.core | Some o ↦ set o.word o.value (done a.core) ])
@@ -353,9 +354,13 @@ module _ (words cycle : ℕ) (c : Core) (h : InRange words c) where
   interface_left : (i : Interface) → ni.InRange i × IsSamePlace c.plain.interface i → InRange words (with_interface c i)
   interface_left i is = interface_fits words i c h is.0 is.1.core is.1.cores
 
-  fit_delivered : IsFit (InRange words) words (delivered cycle c)
+  pub fit_delivered : IsFit (InRange words) words (delivered cycle c)
   fit_delivered = fit-then (λ i. ni.InRange i × IsSamePlace c.plain.interface i) (InRange words) words (ni_turn.delivery cycle c.plain.interface) (λ i. done (with_interface c i))
       (fit_leaves ni.InRange (IsSamePlace c.plain.interface) words (ni_turn.delivery cycle c.plain.interface) (fit_turn c.plain.interface 0 cycle words h.plain.interface room) (same_delivery cycle c.plain.interface)) interface_left
+
+  pub fit_injected : IsFit (InRange words) words (injected cycle c)
+  fit_injected = fit-then (λ i. ni.InRange i × IsSamePlace c.plain.interface i) (InRange words) words (ni_turn.injection cycle c.plain.interface) (λ i. done (with_interface c i))
+      (fit_leaves ni.InRange (IsSamePlace c.plain.interface) words (ni_turn.injection cycle c.plain.interface) (fit_turn c.plain.interface 1 cycle words h.plain.interface room) (same_injection cycle c.plain.interface)) interface_left
 
   fit_acted : IsFit (ActedFits words) words (acted cycle c)
   fit_acted = fit-then (λ i. ni.InRange i × IsSamePlace c.plain.interface i) (ActedFits words) words (ni_turn.injection cycle c.plain.interface) (λ i. own cycle (with_interface c i))

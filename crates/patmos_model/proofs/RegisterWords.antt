@@ -32,7 +32,7 @@ use Rattle.patmos_sem.specs.declared.writes.Write.{Write}
 use Rattle.patmos_sem.specs.declared.writes.Write.TheVariants as write
 use Rattle.patmos_sem.specs.Operations.{alu_of, alu_value}
 use Rattle.patmos_sem.specs.Registers.{Registers, word_in, holds, flag, preds_number, at_start}
-use Rattle.patmos_sem.specs.Writes.{register_by, low_by, high_by, base_by, offset_by, last_by, register_after, renewed_from, came}
+use Rattle.patmos_sem.specs.Writes.{register_by, low_by, high_by, base_by, offset_by, last_by, register_after, renewed_from, after_writes, came}
 use Rattle.patmos_sem.specs.Effects.{special_in, write_of, begun, asked}
 use Rattle.patmos_sem.specs.Bundles.{slot_write, second_write, all_writes, after_bundle, effect_of, arrived}
 use Rattle.patmos_model.specs.Range.{IsWord, PendingFits, HasWords, constant_of, ConstantsFit}
@@ -196,6 +196,20 @@ after_bundle_words st ss b regs h constants =
       sro = last_word offset_by offset_keeps ws regs.sro fits h.sro;
       pending = elim (holds regs b.first.guard) as (λ acts. PendingFits (if acts then begun regs b.first.op else pending.Nothing))
           [ true ↦ begun_fits regs b.first.op h | false ↦ tt ];
+    }
+
+-- the registers hold words once what is pending has come
+pub settled_words : (regs : Registers) → HasWords regs → HasWords (record (after_writes (came regs.pending ∷ []) regs) { pending = pending.Nothing })
+settled_words regs h =
+    let ws : List Write = came regs.pending ∷ [] in
+    let fits : Each WriteFits ws = (came_fits regs.pending h.pending, tt) in
+    record {
+      general = told_word 0 (register_after ws) regs.general (λ r old. after_word ws r old fits) h.general;
+      sl = last_word low_by low_keeps ws regs.sl fits h.sl;
+      sh = last_word high_by high_keeps ws regs.sh fits h.sh;
+      srb = last_word base_by base_keeps ws regs.srb fits h.srb;
+      sro = last_word offset_by offset_keeps ws regs.sro fits h.sro;
+      pending = tt;
     }
 
 -- what an operation stores

@@ -16,7 +16,7 @@ use Rattle.patmos_instr.specs.declared.instructions.Op.{Op}
 use Rattle.patmos_instr.specs.declared.instructions.Op.TheVariants.{AluImm, AluReg, AluLong, CmpImm, ToSpecial, Stack, Load, Store, Call, Return}
 use Rattle.patmos_code.specs.Codes.{code}
 use Rattle.patmos_code.specs.Images.{Parts, starts_of}
-use Rattle.patmos_code.specs.declared.images.TheConstants.{INPUT_WORDS}
+use Rattle.local_store.specs.declared.store.TheConstants.{INPUT_WORDS}
 use Rattle.patmos_model.specs.State.{Core}
 use Rattle.patmos_model.specs.Begin.{begun, idle}
 

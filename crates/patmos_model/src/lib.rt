@@ -48,15 +48,5 @@ pub use transfer::{Then, Transfer};
 pub use trap::Trap;
 pub use worked::{worked_flows, worked_memory, worked_task, worked_traps};
 
-// The crates below, which do not know one another, mean the same memories: the words on the board are
-// those of the memory map, private memory ends where the stack begins, an image's data end below the
-// stack, and a function fits the method cache.
-const _: () = prove!(argo_ni::COMM_WORDS == local_store::COMM_WORDS);
-
-const _: () = prove!(argo_ni::SHARED_WORDS == local_store::SHARED_WORDS);
-
-const _: () = prove!(stack_cache::STACK_END as usize == local_store::PRIVATE_WORDS);
-
-const _: () = prove!(patmos_code::DATA_WORDS == stack_cache::STACK_LOWEST as usize);
-
+// The crates below, which do not know one another, mean the same: a function fits the method cache.
 const _: () = prove!(patmos_code::MOST_IN_FUNCTION == method_cache::METHOD_CACHE_WORDS as usize);

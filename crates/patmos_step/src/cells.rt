@@ -7,8 +7,7 @@ ghost use Rattle.patmos_model.specs.Cells as cells;
 
 use crate::body::Body;
 use crate::values::first;
-use argo_ni::{COMM_WORDS, SHARED_WORDS};
-use local_store::{Cell, PRIVATE_WORDS, SCRATCH_WORDS};
+use local_store::{COMM_WORDS, Cell, PRIVATE_WORDS, SCRATCH_WORDS, SHARED_WORDS};
 use patmos_instr::StoreWidth;
 use patmos_model::PendingStore;
 use patmos_sem::merge;

@@ -27,7 +27,7 @@ use Rattle.single_path.proofs.Checked.{function_checked}
 use Rattle.single_path.proofs.OpenNames.{Keeps, found_same, found_before, keeps_function}
 use Rattle.single_path.proofs.Doing.{Do, functions_do}
 use Rattle.single_path.proofs.Resolving.{Outside, CellRead, ArrayRead}
-use Rattle.c_meaning.proofs.Fits.{none_left, none_right, not_so}
+use Rattle.c_tree.proofs.Faultless.{none_left, none_right, not_so}
 use Rattle.single_path.proofs.Valid.{found_last}
 
 -- ---- names outside functions

@@ -1,10 +1,12 @@
 -- Functions, made one after another.
-use Rattle.std.proofs.Common.{◌≡◌, ℕ, ◌+◌, ◌<◌, ◌≤◌, ◌⊎◌, inl, inr, List, [], ◌∷◌, ◌++◌, length, map, drop, get_or, min, refl, ap, ap₂, sym, ◌∙◌, arith, subst, IfOk, append_assoc, append-nil}
+use Rattle.std.proofs.Common.{◌≡◌, ℕ, zero, suc, ◌+◌, ◌^◌, ◌<◌, ◌≤◌, ◌⊎◌, inl, inr, List, [], ◌∷◌, ◌++◌, length, map, drop, get_or, min, refl, ap, ap₂, sym, ◌∙◌, arith, slice_index, slice_index_or, subst, IfOk, append_assoc, append-nil}
 use Rattle.std.specs.Prelude.{Result, Ok, Err}
 use Rattle.std.proofs.lemmas.Bool.{cases_lt}
 use Rattle.std.proofs.lemmas.List.{drop_all, map-append}
 use Rattle.c_tree.specs.declared.units.Item.{Item}
 use Rattle.c_tree.specs.Plain.{PlainItem, plain_item}
+use Rattle.c_meaning.specs.Actions.{no_action}
+use Rattle.c_meaning.specs.declared.actions.Action.{Action}
 use Rattle.c_meaning.specs.declared.actions.Routine.{Routine}
 use Rattle.c_meaning.specs.Shown.{actions_of, bodies_of}
 use Rattle.c_meaning.proofs.Parts.{drop_item}
@@ -61,3 +63,30 @@ pub so_of_tree : {E : Type 0} (made : Result SpUnit E) (items : List PlainItem) 
     → IfOk made (λ u. plain_unit u ≡ single items) → Holds (single items) → IfOk made (λ u. Holds (plain_unit u))
 so_of_tree (Ok u) items Holds is holds = subst Holds (sym is) holds
 so_of_tree (Err e) items Holds is holds = tt
+
+-- the actions of a function, by its number
+pub body_at : (routines : List Routine) (k : ℕ) (r : Routine) → k < length routines → r ≡ get_or routines k r
+    → slice_index_or (bodies_of routines) k no_action ≡ actions_of r.body
+body_at [] k r within is = absurd (omega (arith, within))
+body_at (x ∷ routines) zero r within is = ap (λ (y : Routine). actions_of y.body) (sym is)
+body_at (x ∷ routines) (suc k) r within is = body_at routines k r (omega (arith, within)) is
+
+pub bodies_length : (routines : List Routine) → length (bodies_of routines) ≡ length routines
+bodies_length [] = refl
+bodies_length (x ∷ routines) = ap suc (bodies_length routines)
+
+pub count_at : (counts : List ℕ) (k c : ℕ) → k < length counts → c ≡ get_or counts k c → slice_index counts k ≡ c
+count_at [] k c within is = absurd (omega (arith, within))
+count_at (n ∷ counts) zero c within is = sym is
+count_at (n ∷ counts) (suc k) c within is = count_at counts k c (omega (arith, within)) is
+
+-- each frame fits, and that of the function of a number among them
+pub frame_at : (counts : List ℕ) (routines : List Routine) (k c : ℕ) (r : Routine) (body : List Action)
+    → ((j : ℕ) → j < length (bodies_of routines) → (made_function (slice_index counts j) (slice_index_or (bodies_of routines) j no_action)).frame < 2 ^ 32)
+    → k < length counts → c ≡ get_or counts k c → k < length routines → r ≡ get_or routines k r → body ≡ r.body
+    → (made_function c (actions_of body)).frame < 2 ^ 32
+frame_at counts routines k c r body each in_counts is_count in_routines is_routine same =
+    subst (λ xs. (made_function c (actions_of xs)).frame < 2 ^ 32) (sym same)
+    (subst (λ n. (made_function n (actions_of r.body)).frame < 2 ^ 32) (count_at counts k c in_counts is_count)
+    (subst (λ xs. (made_function (slice_index counts k) xs).frame < 2 ^ 32) (body_at routines k r in_routines is_routine)
+    (each k (omega (arith, in_routines, bodies_length routines)))))

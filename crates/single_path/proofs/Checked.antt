@@ -30,7 +30,7 @@ use Rattle.c_meaning.specs.Values.{Names, named, expr_unsigned}
 use Rattle.single_path.proofs.Doing.{ExprDoes, ResultDoes, StepDoes, Do, BranchesDo}
 use Rattle.single_path.proofs.OpenNames.{Keeps, keeps_variable, keeps_after, keeps_function, keeps_parameters}
 use Rattle.single_path.proofs.Resolving.{variable_does, element_does, variable_target_does, element_target_does, between_does, signs_do, assigned_does, sets_do, numbered_does, actions_joined}
-use Rattle.c_meaning.proofs.Fits.{none_left, none_right}
+use Rattle.c_tree.proofs.Faultless.{none_left, none_right}
 
 -- ---- names
 

@@ -1,5 +1,5 @@
 -- Actions, converted one after another.
-use Rattle.std.proofs.Common.{◌≡◌, ℕ, suc, ◌+◌, ◌<◌, ◌≤◌, Bool, true, false, if◌then◌else◌, List, [], ◌∷◌, length, take, drop, get_or, ◌-◌, ◌==◌, Option, refl, ap, ap₂, sym, ◌∙◌, arith, ne_eqb}
+use Rattle.std.proofs.Common.{◌≡◌, ℕ, zero, suc, ◌+◌, max, ◌<◌, ◌≤◌, Bool, true, false, if◌then◌else◌, List, [], ◌∷◌, length, take, drop, get_or, ◌-◌, ◌==◌, Option, refl, ap, ap₂, sym, ◌∙◌, arith, ne_eqb}
 use Rattle.std.specs.Prelude.{option_map, ◌&&◌}
 use Rattle.std.proofs.lemmas.List.{drop_all, take_all}
 use Rattle.c_meaning.specs.Actions.{PlainActions, chooses, turns, no_action, action, branch}
@@ -15,6 +15,7 @@ use Rattle.sp_tree.specs.Plain.{plain_sp}
 use Rattle.sp_tree.specs.Statements.{PlainStmts, no_stmt, masks, one, joined}
 use Rattle.single_path.specs.declared.places.Place.{Place}
 use Rattle.single_path.specs.Made.{made, made_action, made_branches, made_otherwise, is_no_branch, is_no_action, ends}
+use Rattle.single_path.specs.Widths as width
 use Rattle.single_path.specs.Places.{in_arm, where_so, where_not_taken}
 use Rattle.c_meaning.specs.Sizes.{actions_size, branches_size}
 use Rattle.single_path.proofs.Stated.{joined_none, joined_joined}
@@ -120,3 +121,16 @@ pub split_size : (branches : List Branch) (b : Branch) → 1 ≤ length branches
 split_size branches b some is =
     let size = ap branches_size (branches_split branches b some is) in
     omega (arith, size, some_size (actions_of b.body))
+
+-- ---- and take no more masks
+
+pub part_masks : (actions : List Action) (i : ℕ) (a : Action) → i < length actions → a ≡ get_or actions i a
+    → width.action_masks (plain_action a) ≤ width.masks (actions_of actions)
+part_masks [] i a within is = absurd (omega (arith, within))
+part_masks (x ∷ actions) zero a within is = let same = ap (λ y. width.action_masks (plain_action y)) is in omega (arith, same)
+part_masks (x ∷ actions) (suc i) a within is = let rest = part_masks actions i a (omega (arith, within)) is in omega (arith, rest)
+
+pub split_masks : (branches : List Branch) (b : Branch) (n : ℕ) → 1 ≤ length branches → b ≡ get_or branches 0 b
+    → width.branches_masks (branches_of branches) n
+    ≡ 1 + max (width.masks (actions_of b.body)) (width.branches_masks (branches_of (take (length branches - 1) (drop 1 branches))) n)
+split_masks branches b n some is = ap (λ bs. width.branches_masks bs n) (branches_split branches b some is)

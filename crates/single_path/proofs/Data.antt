@@ -9,7 +9,9 @@ use Rattle.c_tree.specs.Valid.{IsValid}
 use Rattle.c_tree.specs.Weight.{item_weight, items_weight}
 use Rattle.sp_tree.specs.Formed.{data_formed}
 use Rattle.c_meaning.specs.Resolve.{resolved_items}
-use Rattle.c_meaning.proofs.Fits.{data_fits, initial_fits, input_within}
+use Rattle.c_tree.specs.declared.limits.TheConstants.{MOST_PRIVATE_WORDS}
+use Rattle.c_tree.proofs.Faultless.{private_fits}
+use Rattle.c_meaning.proofs.Fits.{initial_fits, input_within}
 use Rattle.single_path.specs.Single.{parameters_in, single}
 use Rattle.single_path.proofs.Ends.{ends_of}
 use Rattle.single_path.proofs.Formed.{as_many, made_length}
@@ -17,7 +19,7 @@ use Rattle.single_path.proofs.Formed.{as_many, made_length}
 pub data_is_formed : (cores own : ℕ) (items : List PlainItem) → IsValid items cores own → data_formed (single items) ≡ true
 data_is_formed cores own items valid =
     let input = input_within 4 items (omega arith) in
-    let private = data_fits cores own items valid in
+    let private = private_fits cores own items valid in
     and_from _ _ (le-leb (4 + length (initial_of items)) 49152 (omega (arith, initial_fits cores own items valid)))
     (and_from _ _ (le-leb 4 (input_of items).at input.0)
     (le-leb ((input_of items).at + (input_of items).room) 49152 (omega (arith, input.1, private))))

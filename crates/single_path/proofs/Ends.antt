@@ -10,7 +10,7 @@ use Rattle.c_tree.specs.Plain.{PlainItem}
 use Rattle.c_tree.specs.Sizes.{item_size}
 use Rattle.c_tree.specs.Weight.{items_weight}
 use Rattle.c_tree.specs.Valid.{IsValid, has_none, has_main, items_faults, end_faults, words_in}
-use Rattle.c_meaning.proofs.Fits.{none_left, none_right, not_so}
+use Rattle.c_tree.proofs.Faultless.{none_left, none_right, not_so}
 
 pub record Ends (cores own : ℕ) (items : List PlainItem) : Type 0 where
   pub each : IsTrue (has_none (items_faults cores own given 0 items))

@@ -1,5 +1,5 @@
 -- The functions of a valid program are well formed.
-use Rattle.std.proofs.Common.{◌≡◌, ℕ, zero, suc, ◌+◌, ◌<◌, ◌≤◌, Bool, true, false, List, [], ◌∷◌, ◌++◌, length, Option, is_some, slice_index, slice_index_or, refl, ap, sym, ◌∙◌, subst, arith, lt-ltb, le-leb, eq-eqb}
+use Rattle.std.proofs.Common.{◌≡◌, ℕ, zero, suc, ◌+◌, ◌^◌, ◌<◌, ◌≤◌, Bool, true, false, List, [], ◌∷◌, ◌++◌, length, Option, is_some, slice_index, slice_index_or, refl, ap, ap₂, sym, ◌∙◌, subst, arith, lt-ltb, le-leb, eq-eqb}
 use Rattle.std.proofs.lemmas.Bool.{and_from}
 use Rattle.std.proofs.lemmas.Bool.Decides.{nat_tests}
 use Rattle.std.specs.List.{AllByRecursion as Each}
@@ -38,7 +38,7 @@ use Rattle.single_path.proofs.Items.{array_hides, items_fit}
 use Rattle.single_path.proofs.MasksFormed.{below, begun_formed, more_formed}
 use Rattle.single_path.proofs.Placed.{SlotFits, layout_fits}
 use Rattle.single_path.proofs.Sound.{AllSound, body_sound}
-use Rattle.c_meaning.proofs.Fits.{none_left, none_right, not_so}
+use Rattle.c_tree.proofs.Faultless.{none_left, none_right, not_so}
 use Rattle.single_path.proofs.Valid.{Knows, knows_more}
 
 -- ---- the functions of a valid program fit
@@ -192,3 +192,20 @@ functions_are_formed cores own items few valid =
     all_formed counts bodies same (functions_fit cores own items valid)
     (items_sound (layout_of items) (layout_fits cores own items valid) [] cores own few given 0 items (ends_of cores own items valid).each)
     (length (made_functions counts bodies)) (omega (arith, made_length counts bodies same))
+
+-- the frame of each function of a valid program
+pub frames_small : (cores own : ℕ) (items : List PlainItem) → cores ≤ 16 → IsValid items cores own → (k : ℕ)
+    → k < length (resolved_items (layout_of items) [] items)
+    → (made_function (slice_index (parameters_in items) k) (slice_index_or (resolved_items (layout_of items) [] items) k no_action)).frame ≤ 120
+frames_small cores own items few valid k within =
+    (items_sound (layout_of items) (layout_fits cores own items valid) [] cores own few given 0 items (ends_of cores own items valid).each k within).frame
+
+-- the same of parameters and actions that were found to be those of the program
+pub frames_fit : (cores own : ℕ) (items : List PlainItem) → cores ≤ 16 → IsValid items cores own → (slots : List Slot) (counts : List ℕ)
+    (bodies : List PlainActions) → slots ≡ layout_of items → counts ≡ parameters_in items → bodies ≡ resolved_items slots [] items → (k : ℕ)
+    → k < length bodies → (made_function (slice_index counts k) (slice_index_or bodies k no_action)).frame < 2 ^ 32
+frames_fit cores own items few valid slots counts bodies laid counted resolved k within =
+    let same = resolved ∙ ap (λ l. resolved_items l [] items) laid in
+    let many = ap length same in
+    let frames = ap₂ (λ cs bs. (made_function (slice_index cs k) (slice_index_or bs k no_action)).frame) counted same in
+    omega (arith, frames, frames_small cores own items few valid k (omega (arith, within, many)))

@@ -16,6 +16,7 @@ use Rattle.single_path.proofs.Ways.{Went}
 use Rattle.single_path.proofs.Fits.{Fits}
 use Rattle.single_path.proofs.Frames.{put_here, put_there, Order}
 use Rattle.single_path.proofs.Idle.{Quiet, Dead, gone, dead}
+use Rattle.single_path.proofs.Resting.{AllRest, actions_rest}
 
 -- an earlier function, with as many arguments as it has parameters
 abbrev pub Callable : List ℕ → ℕ → ℕ → ℕ → Type 0
@@ -217,3 +218,17 @@ made_stands g quiet [] bodies k under args w x other within = refl
 made_stands g quiet (c ∷ counts) [] k under args w x other within = refl
 made_stands g quiet (c ∷ counts) (body ∷ bodies) zero under args w x other within = function_stands g quiet c body under args w x other within
 made_stands g quiet (c ∷ counts) (body ∷ bodies) (suc k) under args w x other within = made_stands g quiet counts bodies k under args w x other within
+
+-- of all words of its frame a function sets masks alone
+function_rests : (g : Serves) → Quiet g → (parameters : ℕ) (body : PlainActions) (under : ℕ) (args : List ℕ) (w : World) → under ≢ 1
+    → AllRest g (made_function parameters body).body (begun_state parameters body under args w)
+function_rests g quiet parameters body under args w other =
+    let n = variables parameters body in
+    (tt, actions_rest g quiet n body (outermost n) (masked_state parameters body under args w) (outermost_order n) (other_dead parameters body under args w other))
+
+pub made_rests : (g : Serves) → Quiet g → (counts : List ℕ) (bodies : List PlainActions) (k under : ℕ) (args : List ℕ) (w : World) → under ≢ 1
+    → let f = slice_index_or (made_functions counts bodies) k no_function in AllRest g f.body (record { frame = begun_frame f under args; world = w })
+made_rests g quiet [] bodies k under args w other = tt
+made_rests g quiet (c ∷ counts) [] k under args w other = tt
+made_rests g quiet (c ∷ counts) (body ∷ bodies) zero under args w other = function_rests g quiet c body under args w other
+made_rests g quiet (c ∷ counts) (body ∷ bodies) (suc k) under args w other = made_rests g quiet counts bodies k under args w other

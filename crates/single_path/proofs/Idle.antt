@@ -159,7 +159,7 @@ pub still_dead : (n : ℕ) (p : Place) (s t : State) → Order n p → Still p.f
 still_dead n p s t o h d =
     dead_on p.free p s t o.free (omega (arith, o.own, o.free)) (omega (arith, o.loop, o.own, o.free)) h d
 
-dead_arm : (n : ℕ) (p : Place) (s t : State) → Order n p → Still p.free s t → t.frame p.free ≡ 0 → Dead p s → Dead (in_arm p) t
+pub dead_arm : (n : ℕ) (p : Place) (s t : State) → Order n p → Still p.free s t → t.frame p.free ≡ 0 → Dead p s → Dead (in_arm p) t
 dead_arm n p s t o h off d = record {
   own_word = 0;
   loop_word = d.loop_word;
@@ -191,7 +191,7 @@ order_loop n p o = record { result = o.result; function = o.function; loop = ome
 
 -- ---- statements under masks that are not 1
 
-off : (p : Place) (s : State) → Dead p s → s.frame p.own ≢ 1
+pub off : (p : Place) (s : State) → Dead p s → s.frame p.own ≢ 1
 off p s d is = not_1 d.own_word d.loop_word d.function_word d.idle (sym d.own ∙ is)
 
 same_still : (n : ℕ) (s t : State) → t ≡ s → Still n s t
@@ -202,7 +202,7 @@ joined_still : (g : Serves) (n : ℕ) (xs ys : PlainStmts) (s : State) → Still
 joined_still g n xs ys s h k =
     subst (λ u. Still n s u) (sym (joined_done g xs ys s)) (still_on n s (stmts_done g xs s) (stmts_done g ys (stmts_done g xs s)) h k)
 
-call_still : (g : Serves) → Quiet g → (n mask k : ℕ) (args : List PlainSp) (result : Option ℕ) (s : State) → s.frame mask ≢ 1
+pub call_still : (g : Serves) → Quiet g → (n mask k : ℕ) (args : List PlainSp) (result : Option ℕ) (s : State) → s.frame mask ≢ 1
     → Still n s (stmt_done g (tree.calls mask k args result) s)
 call_still g quiet n mask k args result s is = let same = call_off g mask k args result s is in record {
   frame = λ x below. ap (λ (u : State). u.frame x) same;
@@ -271,18 +271,25 @@ pub record Left (p : Place) (s : State) : Type 0 where
   pub dead : Dead (in_loop p) s
   pub off : s.frame p.free ≡ 0
 
-left_on : (n : ℕ) (p : Place) (s t : State) → Order n p → Still (p.free + 1) s t → Left p s → Left p t
+pub left_on : (n : ℕ) (p : Place) (s t : State) → Order n p → Still (p.free + 1) s t → Left p s → Left p t
 left_on n p s t o h l = record { dead = still_dead n (in_loop p) s t (order_loop n p o) h l.dead; off = h.frame p.free (omega arith) ∙ l.off }
 
 pub left_off : (p : Place) (s : State) → Left p s → s.frame p.free ≢ 1
 left_off p s l e = absurd (let z = l.off in omega (arith, e, z))
+
+-- the mask of a loop that is left stays, whether the turn ends or the condition is tested
+pub again_still : (p : Place) (s : State) → Left p s → Still (p.free + 1) s (with_slot p.free (worth (not_zero (frame_word p.free)) s) s)
+again_still p s l = set_same (p.free + 1) p.free (worth (not_zero (frame_word p.free)) s) s (ap (λ a. flag (not (a == 0))) l.off ∙ sym l.off)
+
+pub tested_still : (p : Place) (condition : PlainSp) (s : State) → Left p s → Still (p.free + 1) s (with_slot p.free (worth (where_so p.free condition) s) s)
+tested_still p condition s l = set_same (p.free + 1) p.free (worth (where_so p.free condition) s) s (ap (λ a. bit_and a (worth (not_zero condition) s)) l.off ∙ sym l.off)
 
 -- the end of a turn
 pub ended_still : (g : Serves) (n : ℕ) (p : Place) (step : Option PlainAssignment) (s : State) → Order n p → Left p s
     → Still (p.free + 1) s (stmts_done g (stmt (masks p.free (not_zero (frame_word p.free))) (made_step p.free step)) s)
 ended_still g n p step s o l =
     let t = with_slot p.free (worth (not_zero (frame_word p.free)) s) s in
-    let again = set_same (p.free + 1) p.free (worth (not_zero (frame_word p.free)) s) s (ap (λ a. flag (not (a == 0))) l.off ∙ sym l.off) in
+    let again = again_still p s l in
     still_on (p.free + 1) s t (stmts_done g (made_step p.free step) t) again
     (step_still g (p.free + 1) p.free step t (left_off p t (left_on n p s t o again l)))
 
@@ -300,8 +307,7 @@ turn_still : (g : Serves) (n : ℕ) (p : Place) (condition : PlainSp) (body : Pl
     → (s : State) → Left p s → Still (p.free + 1) s (stmts_done g (made_turn p condition body step) s)
 turn_still g n p condition body step o each s l =
     let t = with_slot p.free (worth (where_so p.free condition) s) s in
-    let tested = set_same (p.free + 1) p.free (worth (where_so p.free condition) s) s
-    (ap (λ a. bit_and a (worth (not_zero condition) s)) l.off ∙ sym l.off) in
+    let tested = tested_still p condition s l in
     still_on (p.free + 1) s t (stmts_done g (joined body (stmt (masks p.free (not_zero (frame_word p.free))) (made_step p.free step))) t) tested
     (behind_still g n p body step o each t (left_on n p s t o tested l))
 
@@ -327,6 +333,14 @@ on_still : (g : Serves) (p : Place) (s : State) → Dead p s → Still p.free s 
 on_still g p s d = set_same p.free p.own (worth (mask.where_on p) s) s
     (ap₂ bit_and d.own d.loop ∙ idle_on d.own_word d.loop_word d.function_word d.idle ∙ sym d.own)
 
+-- a loop begins where its part does not act
+pub loop_left : (n : ℕ) (p : Place) (s : State) → Order n p → Dead p s → Left p (with_slot p.free (worth (bit_of p.own) s) s)
+loop_left n p s o d =
+    let t = with_slot p.free (worth (bit_of p.own) s) s in
+    let off_there : t.frame p.free ≡ 0 =
+    put_here p.free (worth (bit_of p.own) s) s.frame ∙ ap (λ x. bit_and x 1) d.own ∙ idle_bit d.own_word d.loop_word d.function_word d.idle in
+    record { dead = dead_loop n p s t o (set_behind p.free p.free (worth (bit_of p.own) s) s (omega arith)) off_there d; off = off_there }
+
 -- behind the turns the flag stands, and so do the masks
 loop_still : (g : Serves) (n : ℕ) (p : Place) (most : ℕ) (condition : PlainSp) (body : PlainStmts) (step : Option PlainAssignment) → Order n p
     → ((t : State) → Dead (in_loop p) t → Still (p.free + 1) t (stmts_done g body t))
@@ -334,12 +348,9 @@ loop_still : (g : Serves) (n : ℕ) (p : Place) (most : ℕ) (condition : PlainS
 loop_still g n p zero condition body step o each s d =
     same_still p.free s (stmt_done g (overruns p.own condition) s) (overrun_off g p.own condition s (off p s d))
 loop_still g n p (suc k) condition body step o each s d =
-    let a = s.frame p.own in
     let t = with_slot p.free (worth (bit_of p.own) s) s in
     let begun = set_behind p.free p.free (worth (bit_of p.own) s) s (omega arith) in
-    let off_there : t.frame p.free ≡ 0 =
-    put_here p.free (worth (bit_of p.own) s) s.frame ∙ ap (λ x. bit_and x 1) d.own ∙ idle_bit d.own_word d.loop_word d.function_word d.idle in
-    let left_there : Left p t = record { dead = dead_loop n p s t o begun off_there d; off = off_there } in
+    let left_there = loop_left n p s o d in
     let v = stmt_done g (overruns p.free condition) (times (suc k) (stmts_done g (made_turn p condition body step)) t) in
     let so_far = still_on p.free s t v begun (flagged_still g n p condition body step o each (suc k) t left_there) in
     let w = with_slot p.turn (worth (where_not_returned p) v) v in
@@ -352,16 +363,26 @@ loop_still g n p (suc k) condition body step o each s d =
 
 -- ---- arms
 
+-- the mask of an arm, as it begins and behind `else`
+pub arm_off : (p : Place) (condition : PlainSp) (s : State) → Dead p s → (with_slot p.free (worth (where_so p.own condition) s) s).frame p.free ≡ 0
+arm_off p condition s d =
+    put_here p.free (worth (where_so p.own condition) s) s.frame
+    ∙ ap (λ a. bit_and a (flag (not (worth condition s == 0)))) d.own
+    ∙ idle_so d.own_word d.loop_word d.function_word d.idle (not (worth condition s == 0))
+
+pub not_taken_still : (p : Place) (s : State) → Dead p s → s.frame p.free ≡ 0 → Still (p.free + 1) s (with_slot p.free (worth (where_not_taken p) s) s)
+not_taken_still p s d is = set_same (p.free + 1) p.free (worth (where_not_taken p) s) s
+    (ap₂ (λ b a. bit_and (bit_and b 1) (bit_xor a (s.frame p.free))) d.loop d.own
+    ∙ ap (λ f. bit_and (bit_and d.loop_word 1) (bit_xor d.own_word f)) is
+    ∙ idle_otherwise d.own_word d.loop_word d.function_word d.idle ∙ sym is)
+
 otherwise_still : (g : Serves) (n : ℕ) (p : Place) (nothing : Bool) (rest : PlainStmts) → Order n p
     → ((t : State) → Dead (in_arm p) t → Still (p.free + 1) t (stmts_done g rest t))
     → (s : State) → Dead p s → Dead (in_arm p) s → s.frame p.free ≡ 0 → Still (p.free + 1) s (stmts_done g (made_otherwise p nothing rest) s)
 otherwise_still g n p true rest o each s d inner is = still_here (p.free + 1) s
 otherwise_still g n p false rest o each s d inner is =
     let t = with_slot p.free (worth (where_not_taken p) s) s in
-    let tested = set_same (p.free + 1) p.free (worth (where_not_taken p) s) s
-    (ap₂ (λ b a. bit_and (bit_and b 1) (bit_xor a (s.frame p.free))) d.loop d.own
-    ∙ ap (λ f. bit_and (bit_and d.loop_word 1) (bit_xor d.own_word f)) is
-    ∙ idle_otherwise d.own_word d.loop_word d.function_word d.idle ∙ sym is) in
+    let tested = not_taken_still p s d is in
     still_on (p.free + 1) s t (stmts_done g rest t) tested (each t (still_dead n (in_arm p) s t (order_arm n p o) tested inner))
 
 arm_still : (g : Serves) (n : ℕ) (p : Place) (condition : PlainSp) (arm : PlainStmts) (nothing : Bool) (rest : PlainStmts) → Order n p
@@ -369,12 +390,9 @@ arm_still : (g : Serves) (n : ℕ) (p : Place) (condition : PlainSp) (arm : Plai
     → ((t : State) → Dead (in_arm p) t → Still (p.free + 1) t (stmts_done g rest t))
     → (s : State) → Dead p s → Still p.free s (stmts_done g (made_arm p condition arm (made_otherwise p nothing rest)) s)
 arm_still g n p condition arm nothing rest o inside behind s d =
-    let holds = not (worth condition s == 0) in
     let t = with_slot p.free (worth (where_so p.own condition) s) s in
     let begun = set_behind p.free p.free (worth (where_so p.own condition) s) s (omega arith) in
-    let off_there : t.frame p.free ≡ 0 =
-    put_here p.free (worth (where_so p.own condition) s) s.frame
-    ∙ ap (λ a. bit_and a (flag holds)) d.own ∙ idle_so d.own_word d.loop_word d.function_word d.idle holds in
+    let off_there = arm_off p condition s d in
     let inner = dead_arm n p s t o begun off_there d in
     let u = stmts_done g arm t in
     let taken = inside t inner in
@@ -388,7 +406,7 @@ arm_still g n p condition arm nothing rest o inside behind s d =
 -- ---- all actions
 
 mutual
-  dead_action : (g : Serves) → Quiet g → (n : ℕ) (a : PlainAction) (p : Place) (s : State) → Order n p → Dead p s
+  pub dead_action : (g : Serves) → Quiet g → (n : ℕ) (a : PlainAction) (p : Place) (s : State) → Order n p → Dead p s
       → Still p.free s (stmts_done g (made_action p a) s)
   dead_action g quiet n (sets a) p s o d =
       same_still p.free s (stmt_done g (made_assignment p.own a) s) (write_off g p.own (made_place a.target) a.value s (off p s d))

@@ -17,7 +17,7 @@ use Rattle.c_meaning.specs.Actions.{no_action}
 use Rattle.c_meaning.specs.Meaning.{parameter_variables}
 use Rattle.c_meaning.specs.Resolve.{resolved_body, resolved_items}
 use Rattle.c_meaning.specs.Values.{Names}
-use Rattle.c_meaning.proofs.Fits.{none_left, none_right}
+use Rattle.c_tree.proofs.Faultless.{none_left, none_right}
 use Rattle.c_meaning.proofs.Programs.{number_same, number_other}
 use Rattle.single_path.specs.Single.{parameters_in}
 use Rattle.single_path.proofs.Fits.{Fits}

@@ -1,5 +1,6 @@
 pub mod Frames
 pub mod Idle
+pub mod Resting
 pub mod Fits
 pub mod Agreeing
 pub mod Ways

@@ -22,7 +22,7 @@ use Rattle.single_path.specs.Single.{parameters_in, single, entry_of}
 use Rattle.single_path.proofs.Ends.{ends_of}
 use Rattle.single_path.proofs.Formed.{as_many, made_length}
 use Rattle.single_path.proofs.Functions.{made_at}
-use Rattle.c_meaning.proofs.Fits.{none_left, none_right, not_so}
+use Rattle.c_tree.proofs.Faultless.{none_left, none_right, not_so}
 use Rattle.single_path.proofs.Valid.{found_last}
 
 -- ---- names that are declared

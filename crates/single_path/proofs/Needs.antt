@@ -26,7 +26,7 @@ use Rattle.c_meaning.specs.Scope as scope
 use Rattle.c_meaning.specs.Values.{Names, named, expr_unsigned}
 use Rattle.single_path.specs.Widths.{expr_words, args_words}
 use Rattle.single_path.proofs.Placed.{SlotFits, slot_cell_formed, slot_array_formed, StandsFit, named_fits}
-use Rattle.c_meaning.proofs.Fits.{none_left, none_right, not_so}
+use Rattle.c_tree.proofs.Faultless.{none_left, none_right, not_so}
 
 -- ---- what is named outside of frames
 

@@ -24,7 +24,7 @@ use Rattle.c_meaning.specs.Scope.{Variable, Stands, level, outside, among_levels
 use Rattle.c_meaning.specs.Scope as scope
 use Rattle.c_meaning.specs.Values.{Names, named}
 use Rattle.single_path.proofs.Ends.{ends_of}
-use Rattle.c_meaning.proofs.Fits.{none_left, none_right, not_so}
+use Rattle.c_tree.proofs.Faultless.{none_left, none_right, not_so}
 
 -- ---- slots
 

@@ -20,7 +20,7 @@ use Rattle.c_meaning.specs.Actions.{PlainTarget, to_level, PlainAssignment, Plai
 use Rattle.c_meaning.specs.Meaning.{with_variable, names_after, most_turns}
 use Rattle.c_meaning.specs.Resolve.{resolved, resolved_args, resolved_right, resolved_declaration, resolved_stmt, resolved_block, resolved_arms, resolved_otherwise, resolved_body, resolved_begin, resolved_condition, resolved_next, maybe_sets, assignment_to, variable_target, element_target, numbered_call, number_of}
 use Rattle.c_meaning.specs.Values.{Names, named}
-use Rattle.c_meaning.proofs.Fits.{none_left, none_right, not_so}
+use Rattle.c_tree.proofs.Faultless.{none_left, none_right, not_so}
 use Rattle.single_path.proofs.Fits.{Fits, FitsBranches}
 use Rattle.single_path.proofs.Functions.{Callable}
 

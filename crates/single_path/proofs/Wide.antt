@@ -6,18 +6,29 @@ use Rattle.sp_tree.specs.Formed.{stmt_levels, stmts_levels}
 use Rattle.sp_tree.specs.Shown.{plain_stmt, stmts_of}
 use Rattle.sp_tree.proofs.Forms.{plain_turns}
 use Rattle.single_path.specs.Widths as specs
+use Rattle.single_path.specs.Widths.{capped}
+use Rattle.c_meaning.specs.Actions.{PlainBranches, no_branch, branch}
 
-pub no_masks : (most body : ℕ) → most ≡ 0 → specs.loop_masks most body ≡ 0
+pub capped_loop : (most body n : ℕ) → n ≡ capped body → capped (specs.loop_masks most n) ≡ capped (specs.loop_masks most body)
+capped_loop zero body n is = refl
+capped_loop (suc k) body n is = omega (arith, is)
+
+pub no_masks : (most body : ℕ) → most ≡ 0 → capped (specs.loop_masks most body) ≡ 0
 no_masks zero body is = refl
 no_masks (suc n) body is = absurd (omega (arith, is))
 
-pub some_masks : (most body : ℕ) → most ≢ 0 → specs.loop_masks most body ≡ body + 1
+pub some_masks : (most body : ℕ) → most ≢ 0 → capped (specs.loop_masks most body) ≡ capped (body + 1)
 some_masks zero body other = absurd (other refl)
 some_masks (suc n) body other = omega arith
 
-pub turns_levels : (t : SpStmt) (count : ℕ) (body shown : List SpStmt) (n m : ℕ) → t ≡ Turns count body → shown ≡ body → n ≡ stmts_levels (stmts_of shown)
-    → m ≡ n + 1 → m ≡ stmt_levels (plain_stmt t)
-turns_levels t count body shown n m is same inner more =
+-- so many masks behind the last `else`, as a word counts them
+pub capped_arms : (bs : PlainBranches) (masks n : ℕ) → n ≡ capped masks → capped (specs.branches_masks bs n) ≡ capped (specs.branches_masks bs masks)
+capped_arms no_branch masks n is = omega (arith, is)
+capped_arms (branch condition body rest) masks n is = let behind = capped_arms rest masks n is in omega (arith, behind)
+
+pub turns_levels : (t : SpStmt) (count : ℕ) (body shown : List SpStmt) (n : ℕ) → t ≡ Turns count body → shown ≡ body → n ≡ capped (stmts_levels (stmts_of shown))
+    → capped (n + 1) ≡ capped (stmt_levels (plain_stmt t))
+turns_levels t count body shown n is same inner =
     let levels = ap (λ b. stmts_levels (stmts_of b)) same in
     let whole : stmt_levels (plain_stmt t) ≡ 1 + stmts_levels (stmts_of body) = ap (λ x. stmt_levels (plain_stmt x)) is ∙ ap stmt_levels (plain_turns count body) in
-    omega (arith, levels, whole, inner, more)
+    omega (arith, levels, whole, inner)

@@ -2,5 +2,6 @@ pub mod Places
 pub mod Made
 pub mod Widths
 pub mod Single
+pub mod Masked
 pub mod Used
 pub mod Meant

@@ -1,5 +1,5 @@
 -- How many words of a frame actions need.
-use Rattle.std.specs.Prelude.{ℕ, zero, suc, ◌+◌, max, List, [], ◌∷◌, Option, None, Some}
+use Rattle.std.specs.Prelude.{ℕ, zero, suc, ◌+◌, ◌-◌, ◌^◌, min, max, List, [], ◌∷◌, Option, None, Some}
 use Rattle.sp_tree.specs.Plain.{PlainSp, constant, frame_word, cell_word, array_word, before_one, between_two}
 use Rattle.c_meaning.specs.Actions.{PlainTarget, to_level, to_cell, to_array, PlainAssignment, PlainAction, sets, calls, transfers, chooses, turns, breaks, continues, returns, PlainActions, no_action, action, PlainBranches, no_branch, branch}
 
@@ -84,3 +84,8 @@ abbrev mutual
   pub branches_masks : PlainBranches → ℕ → ℕ
   branches_masks no_branch otherwise = otherwise
   branches_masks (branch condition body rest) otherwise = 1 + max (masks body) (branches_masks rest otherwise)
+
+-- ---- numbers as words count them: the greatest word stands for each that passes it
+
+abbrev pub capped : ℕ → ℕ
+capped n = min n (2 ^ 32 - 1)

@@ -8,6 +8,7 @@
 //! - `specs/Made.antt`: the statements that are made of actions.
 //! - `specs/Widths.antt`: how many words of a frame actions need.
 //! - `specs/Single.antt`: functions and units; what each function may weigh, and how many words its frame may have.
+//! - `specs/Masked.antt`: in which words of a frame masks are set.
 //! - `specs/Used.antt`: what the tree uses, beside what the text does.
 //!
 //! What its words mean stands in [the glossary](../../../docs/GLOSSARY.md), and how C texts become code in

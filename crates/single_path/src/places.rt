@@ -1,9 +1,6 @@
 //! Where the words stand that decide what has an effect.
-ghost use Rattle.std.specs.Prelude.{◌≡◌, ◌+◌, IfOk};
+ghost use Rattle.std.specs.Prelude.{◌≡◌, ◌+◌, ◌<◌, ◌^◌};
 ghost use Rattle.single_path.specs.Places as specs;
-
-use std::alloc::AllocError;
-use tc_word::OutOfMemory;
 
 /// Words of a function's frame, by their numbers, as a part of the function has them.
 #[derive(Clone, Copy, Debug, PartialEq, Eq)]
@@ -21,51 +18,44 @@ pub struct Place {
     pub free: u32,
 }
 
-/// The next word. A frame never has so many that there is none.
-pub fn behind(word: u32) -> Result<u32, OutOfMemory>
-    ensures { IfOk result (λ n. n ≡ word + 1) }
-{
-    word.checked_add(1).ok_or(AllocError)
-}
-
 impl Place {
     /// The place of a function's body, behind its first so many words.
-    pub fn outermost(words: u32) -> Result<Place, OutOfMemory>
-        ensures { IfOk result (λ p. p ≡ specs.outermost words) }
+    pub fn outermost(words: u32) -> Place
+        requires { words + 2 < 2 ^ 32 }
+        ensures { result ≡ specs.outermost words }
     {
-        let mask = behind(words)?;
-        let free = behind(mask)?;
-        Ok(Place {
+        let mask = words + 1;
+        Place {
             result: words,
             function: mask,
             turn: mask,
             own: mask,
-            free,
-        })
+            free: words + 2,
+        }
     }
 
     /// The place of an arm inside a part.
-    pub fn in_arm(self) -> Result<Place, OutOfMemory>
-        ensures { IfOk result (λ p. p ≡ specs.in_arm self) }
+    pub fn in_arm(self) -> Place
+        requires { self.free + 1 < 2 ^ 32 }
+        ensures { result ≡ specs.in_arm self }
     {
-        let free = behind(self.free)?;
-        Ok(Place {
+        Place {
             own: self.free,
-            free,
+            free: self.free + 1,
             ..self
-        })
+        }
     }
 
     /// The place of a loop's body inside a part.
-    pub fn in_loop(self) -> Result<Place, OutOfMemory>
-        ensures { IfOk result (λ p. p ≡ specs.in_loop self) }
+    pub fn in_loop(self) -> Place
+        requires { self.free + 1 < 2 ^ 32 }
+        ensures { result ≡ specs.in_loop self }
     {
-        let free = behind(self.free)?;
-        Ok(Place {
+        Place {
             turn: self.free,
             own: self.free,
-            free,
+            free: self.free + 1,
             ..self
-        })
+        }
     }
 }

@@ -1,5 +1,5 @@
 //! Statements, made of actions.
-ghost use Rattle.std.specs.Prelude.{◌≡◌, ◌&&◌, Option, map, option_map, IfOk, OnOk};
+ghost use Rattle.std.specs.Prelude.{◌≡◌, ◌&&◌, ◌+◌, ◌<◌, ◌^◌, Option, map, option_map, IfOk, OnOk};
 ghost use Rattle.sp_tree.specs.Plain.{plain_sp, frame_word};
 ghost use Rattle.sp_tree.specs.Shown.{plain_place, plain_stmt, stmts_of};
 ghost use Rattle.sp_tree.specs.Statements.{masks, writes, calls, overruns, joined, one, stmt};
@@ -8,6 +8,7 @@ ghost use Rattle.c_meaning.specs.Shown.{plain_target, plain_assignment, plain_ac
 ghost use Rattle.c_meaning.specs.Actions as plain;
 ghost use Rattle.single_path.specs.Made as specs;
 ghost use Rattle.single_path.specs.Places as places;
+ghost use Rattle.single_path.specs.Widths as widths;
 
 use crate::masks::{
     bit_of, broken, continued, not_zero, returned_function, returned_turn, where_not_returned,
@@ -290,6 +291,7 @@ fn begin_arm(
     out: &mut Vec<SpStmt>,
     condition: &SpExpr,
 ) -> Result<Place, OutOfMemory>
+    requires { place.free + 1 < 2 ^ 32 }
     ensures arm { IfOk result (λ p. p ≡ places.in_arm place) }
     ensures mask { OnOk result (stmts_of out.new.items
         ≡ joined (stmts_of out.old.items) (one (masks place.free (places.where_so place.own (plain_sp condition.now))))) }
@@ -297,7 +299,7 @@ fn begin_arm(
     let condition = copied(alloc, condition)?;
     let taken = where_so(alloc, place.own, condition)?;
     add_mask(out, place.free, taken)?;
-    place.in_arm()
+    Ok(place.in_arm())
 }
 
 // the mask of what stands behind `else`
@@ -399,6 +401,7 @@ fn add_action(
     out: &mut Vec<SpStmt>,
     action: &Action,
 ) -> Result<(), OutOfMemory>
+    requires { place.free + widths.action_masks (plain_action action.now) < 2 ^ 32 }
     ensures { OnOk result (stmts_of out.new.items ≡ joined (stmts_of out.old.items) (specs.made_action place (plain_action action.now))) }
 {
     match action {
@@ -439,6 +442,7 @@ pub fn add_all(
     out: &mut Vec<SpStmt>,
     actions: &[Action],
 ) -> Result<(), OutOfMemory>
+    requires { place.free + widths.masks (actions_of actions.now) < 2 ^ 32 }
     ensures { OnOk result (stmts_of out.new.items ≡ joined (stmts_of out.old.items) (specs.made place (actions_of actions.now))) }
 {
     for action in actions {
@@ -460,6 +464,7 @@ fn add_choice(
     branches: &[Branch],
     otherwise: &[Action],
 ) -> Result<(), OutOfMemory>
+    requires { place.free + widths.branches_masks (branches_of branches.now) (widths.masks (actions_of otherwise.now)) < 2 ^ 32 }
     ensures { OnOk result (stmts_of out.new.items
         ≡ joined (stmts_of out.old.items) (specs.made_action place (plain.chooses (branches_of branches.now) (actions_of otherwise.now)))) }
 {
@@ -477,6 +482,7 @@ fn add_arms(
     branches: &[Branch],
     otherwise: &[Action],
 ) -> Result<(), OutOfMemory>
+    requires { place.free + widths.branches_masks (branches_of branches.now) (widths.masks (actions_of otherwise.now)) < 2 ^ 32 }
     ensures { OnOk result (stmts_of out.new.items
         ≡ joined (stmts_of out.old.items) (specs.made_branches place (branches_of branches.now) (specs.is_no_action (actions_of otherwise.now)) (λ q. specs.made q (actions_of otherwise.now)))) }
 {
@@ -501,6 +507,7 @@ fn add_otherwise(
     rest: &[Branch],
     otherwise: &[Action],
 ) -> Result<(), OutOfMemory>
+    requires { arm.free + widths.branches_masks (branches_of rest.now) (widths.masks (actions_of otherwise.now)) < 2 ^ 32 }
     ensures { OnOk result (stmts_of out.new.items ≡ joined (stmts_of out.old.items)
         (specs.made_otherwise place (specs.is_no_branch (branches_of rest.now) && specs.is_no_action (actions_of otherwise.now))
         (specs.made_branches arm (branches_of rest.now) (specs.is_no_action (actions_of otherwise.now)) (λ q. specs.made q (actions_of otherwise.now))))) }
@@ -524,6 +531,7 @@ fn add_repeated(
     body: &[Action],
     step: &Option<Assignment>,
 ) -> Result<(), OutOfMemory>
+    requires { place.free + widths.loop_masks max (widths.masks (actions_of body.now)) < 2 ^ 32 }
     ensures { OnOk result (stmts_of out.new.items ≡ joined (stmts_of out.old.items)
         (specs.made_action place (plain.turns max (plain_sp condition.now) (actions_of body.now) (option_map plain_assignment step.now)))) }
 {
@@ -531,7 +539,7 @@ fn add_repeated(
         return add_flag(alloc, out, place.own, condition);
     }
     let mut turn = begin_turn(alloc, place, condition)?;
-    let inner = place.in_loop()?;
+    let inner = place.in_loop();
     add_all(alloc, inner, &mut turn, body)?;
     end_turn(alloc, place, &mut turn, step)?;
     add_loop(alloc, place, out, max, condition, List::of(turn))

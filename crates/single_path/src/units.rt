@@ -1,5 +1,5 @@
 //! Functions and units, made of programs whose names are resolved.
-ghost use Rattle.std.specs.Prelude.{◌≡◌, ◌+◌, ◌<◌, ◌≤◌, ℕ, List, length, map, slice_index, slice_index_or, IfOk, true};
+ghost use Rattle.std.specs.Prelude.{◌≡◌, ◌+◌, ◌<◌, ◌≤◌, ◌^◌, ℕ, List, length, map, slice_index, slice_index_or, IfOk, true};
 ghost use Rattle.std.specs.List.{list_any};
 ghost use Rattle.c_tree.specs.Fits.{GrammarFits};
 ghost use Rattle.c_tree.specs.Layout as layout;
@@ -10,6 +10,7 @@ ghost use Rattle.sp_tree.specs.Formed.{is_formed};
 ghost use Rattle.sp_tree.specs.Shown.{plain_function, functions_of, plain_unit};
 ghost use Rattle.sp_tree.specs.Statements.{no_function};
 ghost use Rattle.sp_tree.specs.Uses.{uses_of};
+ghost use Rattle.c_meaning.specs.Actions.{no_action};
 ghost use Rattle.c_meaning.specs.Begun.{meaning};
 ghost use Rattle.c_meaning.specs.Shown.{actions_of, bodies_of};
 ghost use Rattle.c_mentions.specs.Mentions.{Array, mentions, assigns, sends_to};
@@ -18,45 +19,31 @@ ghost use Rattle.single_path.specs.Single as specs;
 ghost use Rattle.single_path.specs.Used.{reads_region, writes_region, is_send_to, memory_of};
 
 use crate::masks::begun_mask;
-use crate::places::{Place, behind};
+use crate::places::Place;
 use crate::statements::{add_all, add_mask};
-use crate::widths::{levels_of, width_of};
+use crate::widths::{exact_levels, exact_width};
 use c_meaning::{Action, InputPlace, Routine, add_initial, input_place, resolve};
 use c_tree::{Checked, Item};
 use sp_tree::{SpFunction, SpUnit};
-use std::alloc::{AllocError, Global};
+use std::alloc::Global;
 use tc_word::{List, OutOfMemory};
 
-// a number that fits into a word; those of a valid program do
-fn word_of(number: usize) -> Result<u32, OutOfMemory>
-    ensures { IfOk result (λ n. n ≡ number) }
-{
-    u32::try_from(number).map_err(|_| AllocError)
-}
-
-// the words of a frame: those that are named, and those that code keeps for turns and the return
-fn frame_of(free: u32, masks: u32, levels: u32) -> Result<u32, OutOfMemory>
-    ensures { IfOk result (λ n. n ≡ free + masks + (levels + 2)) }
-{
-    let kept = levels.checked_add(2).ok_or(AllocError)?;
-    let named = free.checked_add(masks).ok_or(AllocError)?;
-    named.checked_add(kept).ok_or(AllocError)
-}
-
 // a function with so many parameters
-fn function(alloc: Global, parameters: u32, body: &[Action]) -> Result<SpFunction, OutOfMemory>
+fn function(alloc: Global, parameters: usize, body: &[Action]) -> Result<SpFunction, OutOfMemory>
+    requires { (specs.made_function parameters (actions_of body.now)).frame < 2 ^ 32 }
     ensures { IfOk result (λ f. plain_function f ≡ specs.made_function parameters (actions_of body.now)) }
 {
-    let width = width_of(body)?;
-    let place = Place::outermost(parameters.max(width.variables))?;
+    let parameters = parameters as u32;
+    let width = exact_width(body);
+    let place = Place::outermost(parameters.max(width.variables));
     let mut made = Vec::new(alloc);
     let mask = begun_mask(alloc, place)?;
     add_mask(&mut made, place.function, mask)?;
     add_all(alloc, place, &mut made, body)?;
-    let levels = levels_of(made.as_slice())?;
-    let frame = frame_of(place.free, width.masks, levels)?;
+    let levels = exact_levels(made.as_slice());
     Ok(SpFunction {
-        frame,
+        // behind the words that are named stand those that code keeps for turns and the return
+        frame: place.free + width.masks + (levels + 2),
         parameters,
         mask: place.function,
         result: place.result,
@@ -66,26 +53,27 @@ fn function(alloc: Global, parameters: u32, body: &[Action]) -> Result<SpFunctio
 
 // how many parameters each function has
 #[tactic(auto, using(crate::proofs::Assembled::counts_next))]
-fn parameter_counts(alloc: Global, items: &[Item]) -> Result<Vec<u32>, OutOfMemory>
+fn parameter_counts(alloc: Global, items: &[Item]) -> Result<Vec<usize>, OutOfMemory>
     ensures { IfOk result (λ v. v.items ≡ specs.parameters_in (map plain_item items.now)) }
 {
     let mut counts = Vec::new(alloc);
     for item in items {
         if let Item::Function { function } = item {
-            let count = word_of(function.parameters.as_slice().len())?;
-            counts.push(count)?;
+            counts.push(function.parameters.as_slice().len())?;
         }
     }
     Ok(counts)
 }
 
 // functions, each of so many parameters and of these actions
-#[tactic(auto, using(crate::proofs::Assembled::function_next, crate::proofs::Assembled::no_more_functions))]
+#[tactic(auto, using(crate::proofs::Assembled::frame_at, crate::proofs::Assembled::function_next, crate::proofs::Assembled::no_more_functions))]
 fn functions(
     alloc: Global,
-    counts: &[u32],
+    counts: &[usize],
     routines: &[Routine],
 ) -> Result<List<SpFunction>, OutOfMemory>
+    requires { (k : ℕ) → k < length (bodies_of routines.now)
+        → (specs.made_function (slice_index counts.now k) (slice_index_or (bodies_of routines.now) k no_action)).frame < 2 ^ 32 }
     ensures { IfOk result (λ fs. functions_of fs ≡ specs.made_functions counts.now (bodies_of routines.now)) }
 {
     let mut made = Vec::new(alloc);
@@ -98,12 +86,13 @@ fn functions(
 }
 
 // the number of `main`, which a valid program has
-fn entry_of(main: Option<usize>) -> Result<u32, OutOfMemory>
-    ensures { IfOk result (λ n. n ≡ specs.entry_of main) }
+fn entry_of(main: Option<usize>) -> u32
+    requires { specs.entry_of main < 2 ^ 32 }
+    ensures { result ≡ specs.entry_of main }
 {
     match main {
-        None => Ok(0),
-        Some(number) => word_of(number),
+        None => 0,
+        Some(number) => number as u32,
     }
 }
 
@@ -124,17 +113,15 @@ fn tree_of(alloc: Global, program: &Checked) -> Result<SpUnit, OutOfMemory>
     let resolved = resolve(alloc, program)?;
     let counts = parameter_counts(alloc, items)?;
     let functions = functions(alloc, counts.as_slice(), resolved.routines.as_slice())?;
-    let entry = entry_of(resolved.main)?;
+    let entry = entry_of(resolved.main);
     let initial = initial_words(alloc, items)?;
     let InputPlace { at, room } = input_place(items);
-    let input_at = word_of(at)?;
-    let input_room = word_of(room)?;
     Ok(SpUnit {
         functions,
         entry,
         initial,
-        input_at,
-        input_room,
+        input_at: at as u32,
+        input_room: room as u32,
     })
 }
 

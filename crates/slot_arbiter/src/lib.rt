@@ -7,19 +7,22 @@
 //! - [`Table`] holds a slot table, and [`Place`] what one core knows of its place among the others.
 //! - [`start_of`] is the first slot start of a core at or after a cycle, and [`gap_of`] the
 //!   greatest distance from one of its slot starts to the next.
+//! - [`limits`] says in numbers how large platforms and runs may be.
 //! - [`stamp_of`] numbers what the cores do to shared words, so that all of it has one order.
 //!
 //! What its words mean stands in [the glossary](../../../docs/GLOSSARY.md).
 #![tactic(auto)]
 
 mod event;
+mod laws;
 mod place;
 mod stamp;
 mod start;
 mod table;
 
 pub use event::{Access, Event, MOST_TRACE, WordOp};
+pub use laws::limits;
 pub use place::{LATEST_START, MOST_CYCLES, Place};
 pub use stamp::{stamp_of, stamps_in_order};
 pub use start::{gap_of, start_of, starts_in_turn};
-pub use table::Table;
+pub use table::{MOST_CORES, Table};

@@ -1,7 +1,7 @@
 -- What code asks for, whatever its loads give: bundles that reach the stack alone; and code behind other code.
-use Rattle.std.proofs.Common.{◌≡◌, ℕ, zero, suc, ◌<◌, Bool, true, false, ◌&&◌, if◌then◌else◌, List, [], ◌∷◌, ◌++◌, append-nil, nat_lt, refl, sym, ap, ◌∙◌, subst, true≢false}
+use Rattle.std.proofs.Common.{◌≡◌, ℕ, zero, suc, ◌+◌, ◌*◌, ◌%◌, ◌^◌, ◌<◌, ◌==◌, arith, slice_index, Bool, true, false, ◌&&◌, if◌then◌else◌, List, [], ◌∷◌, ◌++◌, append-nil, nat_lt, refl, sym, ap, ◌∙◌, subst, true≢false}
 use Rattle.std.specs.List.{list_all}
-use Rattle.std.proofs.lemmas.Bool.{and_parts, ltb-true}
+use Rattle.std.proofs.lemmas.Bool.{and_parts, and_from, ltb-true, eqb-true}
 use Rattle.std.proofs.lemmas.List.{append_assoc}
 use Rattle.std.proofs.lemmas.List.Elements.{All-nil, All-cons, All-append}
 use Rattle.patmos_instr.specs.Bundles.{Slots}
@@ -9,18 +9,21 @@ use Rattle.patmos_instr.specs.declared.functions.StackFunc.TheVariants.{Sres, Se
 use Rattle.patmos_instr.specs.declared.instructions.Op.{Op}
 use Rattle.patmos_instr.specs.declared.instructions.Op.TheVariants.{AluImm, AluReg, AluLong, Mul, Cmp, CmpImm, Comb, ToSpecial, FromSpecial, Stack, Load, Store, Branch, Call, BranchFill, Return}
 use Rattle.patmos_instr.specs.declared.memories.Mem.TheVariants as mem
+use Rattle.patmos_instr.specs.declared.memories.StoreWidth.TheVariants as store
+use Rattle.patmos_instr.specs.declared.memories.Width.TheVariants as load
 use Rattle.patmos_sem.specs.Effects.{asked}
-use Rattle.patmos_sem.specs.Registers.{Registers, holds}
+use Rattle.patmos_sem.specs.Registers.{Registers, holds, word_in}
 use Rattle.patmos_sem.specs.declared.effects.Effect.{Effect}
 use Rattle.patmos_sem.specs.declared.effects.Effect.TheVariants as effect
 use Rattle.sp_tree.specs.Uses.{Use}
-use Rattle.sp_shape.proofs.Whole.{behind, run_append, run_whole}
+use Rattle.sp_shape.proofs.Whole.{behind, once_whole, run_append, run_whole}
 use Rattle.sp_shape.specs.Bundles.{part_all, parts_all}
 use Rattle.sp_shape.specs.Formed.{is_call, is_way, is_turn, part_formed, parts_formed}
 use Rattle.sp_shape.specs.Parts.{PlainPart, straight, repeats, calls_to, leaves, PlainParts, no_part, part}
-use Rattle.sp_shape.specs.Run.{Run, Sources, once, effected, run, begun}
+use Rattle.sp_shape.specs.Run.{Run, IsWhole, Sources, once, effected, run, begun}
 use Rattle.sp_shape.specs.Trail.{Step, begins, all_done, copies, part_trail, parts_trail}
 use Rattle.sp_emit.specs.Accesses.{MayAsk, cached_addresses, cached_address, Asks, AsksOnly}
+use Rattle.sp_emit.proofs.Portless.{is_portless_op, is_portless, portless_start, start_append, words_left, words_right}
 
 -- ---- one after another
 
@@ -43,15 +46,18 @@ pub asks_append : {Named : Use → Type 0} {xs ys : List Step} → AsksOnly Name
 asks_append {Named} {xs} {ys} a b = record {
   cached = a.cached ++ b.cached;
   asks = λ from m whole. subst (Asks Named (a.cached ++ b.cached) m) (sym (run_append from xs ys m)) (asks_then (a.asks from m whole) (b.asks from (run from xs m) (run_whole from xs m whole)));
+  starts = λ from m whole words.
+      start_append from xs ys m (a.starts from m whole (words_left from xs ys m words)) (b.starts from (run from xs m) (run_whole from xs m whole) (words_right from xs ys m words));
 }
 
 pub asks_nothing : (Named : Use → Type 0) → AsksOnly Named []
-asks_nothing Named = record { cached = []; asks = λ from m whole. asks_none Named m m refl }
+asks_nothing Named = record { cached = []; asks = λ from m whole. asks_none Named m m refl; starts = λ from m whole words. tt }
 
 asks_begun : {Named : Use → Type 0} {xs : List Step} → AsksOnly Named xs → AsksOnly Named (begins ∷ xs)
 asks_begun {Named} {xs} a = record {
   cached = a.cached;
   asks = λ from m whole. asks_then (asks_none Named m (begun m) refl) (a.asks from (begun m) (run_whole from (begins ∷ []) m whole));
+  starts = λ from m whole words. a.starts from (begun m) (run_whole from (begins ∷ []) m whole) words;
 }
 
 pub asks_copies : {Named : Use → Type 0} (n : ℕ) (xs : List Step) → AsksOnly Named xs → AsksOnly Named (copies n xs)
@@ -61,11 +67,17 @@ asks_copies {Named} (suc n) xs a = asks_append a (asks_copies n xs a)
 -- ---- bundles that reach no memory but the stack
 
 abbrev is_near_op : Op → Bool
-is_near_op (Load mem.S width rd ra imm) = true
+is_near_op (Load mem.S load.Word rd ra imm) = ra == 0
+is_near_op (Load mem.S load.Half rd ra imm) = false
+is_near_op (Load mem.S load.Byte rd ra imm) = false
+is_near_op (Load mem.S load.HalfUnsigned rd ra imm) = false
+is_near_op (Load mem.S load.ByteUnsigned rd ra imm) = false
 is_near_op (Load mem.L width rd ra imm) = false
 is_near_op (Load mem.C width rd ra imm) = false
 is_near_op (Load mem.M width rd ra imm) = false
-is_near_op (Store mem.S width ra rs imm) = true
+is_near_op (Store mem.S store.Word ra rs imm) = ra == 0
+is_near_op (Store mem.S store.Half ra rs imm) = false
+is_near_op (Store mem.S store.Byte ra rs imm) = false
 is_near_op (Store mem.L width ra rs imm) = false
 is_near_op (Store mem.C width ra rs imm) = false
 is_near_op (Store mem.M width ra rs imm) = false
@@ -77,46 +89,68 @@ is_near b = is_near_op b.first.op
 asks_one : (Named : Use → Type 0) (e : Effect) (m t : Run) → t.asked ≡ m.asked ++ e ∷ [] → MayAsk Named e → cached_address e ≡ [] → Asks Named [] m t
 asks_one Named e m t is may none = record { news = e ∷ []; is = is; may = All-cons (MayAsk Named) e [] may (All-nil (MayAsk Named)); loads = append-nil (cached_address e) ∙ none }
 
-near_effect : (Named : Use → Type 0) (from : Sources) (on : Bool) (op : Op) (regs : Registers) (m : Run) → is_near_op op ≡ true → Asks Named [] m (effected from (if on then asked regs op else effect.Nothing) m)
-near_effect Named from false op regs m near = asks_none Named m m refl
-near_effect Named from true (AluImm func rd ra imm) regs m near = asks_none Named m m refl
-near_effect Named from true (AluReg func rd ra rb) regs m near = asks_none Named m m refl
-near_effect Named from true (AluLong func rd ra constant) regs m near = asks_none Named m m refl
-near_effect Named from true (Mul unsigned ra rb) regs m near = asks_none Named m m refl
-near_effect Named from true (Cmp func pd ra rb) regs m near = asks_none Named m m refl
-near_effect Named from true (CmpImm func pd ra imm) regs m near = asks_none Named m m refl
-near_effect Named from true (Comb func pd a b) regs m near = asks_none Named m m refl
-near_effect Named from true (ToSpecial special ra) regs m near = asks_none Named m m refl
-near_effect Named from true (FromSpecial rd special) regs m near = asks_none Named m m refl
-near_effect Named from true (Branch offset) regs m near = asks_none Named m _ refl
-near_effect Named from true (Call target) regs m near = asks_none Named m _ refl
-near_effect Named from true (BranchFill target) regs m near = asks_none Named m _ refl
-near_effect Named from true Return regs m near = asks_none Named m _ refl
-near_effect Named from true (Load mem.S width rd ra imm) regs m near = asks_one Named (asked regs (Load mem.S width rd ra imm)) m _ refl tt refl
-near_effect Named from true (Load mem.L width rd ra imm) regs m near = absurd (true≢false (sym near))
-near_effect Named from true (Load mem.C width rd ra imm) regs m near = absurd (true≢false (sym near))
-near_effect Named from true (Load mem.M width rd ra imm) regs m near = absurd (true≢false (sym near))
-near_effect Named from true (Store mem.S width ra rs imm) regs m near = asks_one Named (asked regs (Store mem.S width ra rs imm)) m _ refl tt refl
-near_effect Named from true (Store mem.L width ra rs imm) regs m near = absurd (true≢false (sym near))
-near_effect Named from true (Store mem.C width ra rs imm) regs m near = absurd (true≢false (sym near))
-near_effect Named from true (Store mem.M width ra rs imm) regs m near = absurd (true≢false (sym near))
-near_effect Named from true (Stack Sres n) regs m near = asks_one Named (effect.StackOp Sres n) m _ refl tt refl
-near_effect Named from true (Stack Sens n) regs m near = asks_one Named (effect.StackOp Sens n) m _ refl tt refl
-near_effect Named from true (Stack Sfree n) regs m near = asks_one Named (effect.StackOp Sfree n) m _ refl tt refl
+-- a word of the stack, counted from its top
+slot_aligned : (ra imm : ℕ) (regs : Registers) → slice_index regs.general 0 ≡ 0 → (ra == 0) ≡ true → (word_in regs ra + imm * 4) % 2 ^ 32 % 4 ≡ 0
+slot_aligned ra imm regs zero_is near =
+    let first : word_in regs ra ≡ 0 = ap (word_in regs) (eqb-true ra 0 near) ∙ zero_is in
+    omega (arith, first)
 
-near_once : (Named : Use → Type 0) (from : Sources) (b : Slots) (m : Run) → is_near b ≡ true → Asks Named [] m (once from b m)
-near_once Named from b m near =
-    let a = near_effect Named from (holds m.regs b.first.guard) b.first.op m.regs (behind b m) near in
+near_effect : (Named : Use → Type 0) (from : Sources) (on : Bool) (op : Op) (regs : Registers) (m : Run) → slice_index regs.general 0 ≡ 0 → is_near_op op ≡ true → Asks Named [] m (effected from (if on then asked regs op else effect.Nothing) m)
+near_effect Named from false op regs m zero_is near = asks_none Named m m refl
+near_effect Named from true (AluImm func rd ra imm) regs m zero_is near = asks_none Named m m refl
+near_effect Named from true (AluReg func rd ra rb) regs m zero_is near = asks_none Named m m refl
+near_effect Named from true (AluLong func rd ra constant) regs m zero_is near = asks_none Named m m refl
+near_effect Named from true (Mul unsigned ra rb) regs m zero_is near = asks_none Named m m refl
+near_effect Named from true (Cmp func pd ra rb) regs m zero_is near = asks_none Named m m refl
+near_effect Named from true (CmpImm func pd ra imm) regs m zero_is near = asks_none Named m m refl
+near_effect Named from true (Comb func pd a b) regs m zero_is near = asks_none Named m m refl
+near_effect Named from true (ToSpecial special ra) regs m zero_is near = asks_none Named m m refl
+near_effect Named from true (FromSpecial rd special) regs m zero_is near = asks_none Named m m refl
+near_effect Named from true (Branch offset) regs m zero_is near = asks_none Named m _ refl
+near_effect Named from true (Call target) regs m zero_is near = asks_none Named m _ refl
+near_effect Named from true (BranchFill target) regs m zero_is near = asks_none Named m _ refl
+near_effect Named from true Return regs m zero_is near = asks_none Named m _ refl
+near_effect Named from true (Load mem.S load.Word rd ra imm) regs m zero_is near = asks_one Named (asked regs (Load mem.S load.Word rd ra imm)) m _ refl (refl, slot_aligned ra imm regs zero_is near) refl
+near_effect Named from true (Load mem.S load.Half rd ra imm) regs m zero_is near = absurd (true≢false (sym near))
+near_effect Named from true (Load mem.S load.Byte rd ra imm) regs m zero_is near = absurd (true≢false (sym near))
+near_effect Named from true (Load mem.S load.HalfUnsigned rd ra imm) regs m zero_is near = absurd (true≢false (sym near))
+near_effect Named from true (Load mem.S load.ByteUnsigned rd ra imm) regs m zero_is near = absurd (true≢false (sym near))
+near_effect Named from true (Load mem.L width rd ra imm) regs m zero_is near = absurd (true≢false (sym near))
+near_effect Named from true (Load mem.C width rd ra imm) regs m zero_is near = absurd (true≢false (sym near))
+near_effect Named from true (Load mem.M width rd ra imm) regs m zero_is near = absurd (true≢false (sym near))
+near_effect Named from true (Store mem.S store.Word ra rs imm) regs m zero_is near = asks_one Named (asked regs (Store mem.S store.Word ra rs imm)) m _ refl (refl, slot_aligned ra imm regs zero_is near) refl
+near_effect Named from true (Store mem.S store.Half ra rs imm) regs m zero_is near = absurd (true≢false (sym near))
+near_effect Named from true (Store mem.S store.Byte ra rs imm) regs m zero_is near = absurd (true≢false (sym near))
+near_effect Named from true (Store mem.L width ra rs imm) regs m zero_is near = absurd (true≢false (sym near))
+near_effect Named from true (Store mem.C width ra rs imm) regs m zero_is near = absurd (true≢false (sym near))
+near_effect Named from true (Store mem.M width ra rs imm) regs m zero_is near = absurd (true≢false (sym near))
+near_effect Named from true (Stack Sres n) regs m zero_is near = asks_one Named (effect.StackOp Sres n) m _ refl tt refl
+near_effect Named from true (Stack Sens n) regs m zero_is near = asks_one Named (effect.StackOp Sens n) m _ refl tt refl
+near_effect Named from true (Stack Sfree n) regs m zero_is near = asks_one Named (effect.StackOp Sfree n) m _ refl tt refl
+
+near_once : (Named : Use → Type 0) (from : Sources) (b : Slots) (m : Run) → IsWhole m → is_near b ≡ true → Asks Named [] m (once from b m)
+near_once Named from b m whole near =
+    let a = near_effect Named from (holds m.regs b.first.guard) b.first.op m.regs (behind b m) whole.fits.zero near in
     record { news = a.news; is = a.is; may = a.may; loads = a.loads }
 
-pub near_run : (Named : Use → Type 0) (from : Sources) (bs : List Slots) (m : Run) → list_all is_near bs ≡ true → Asks Named [] m (run from (all_done bs) m)
-near_run Named from [] m near = asks_none Named m m refl
-near_run Named from (b ∷ bs) m near =
+pub near_run : (Named : Use → Type 0) (from : Sources) (bs : List Slots) (m : Run) → IsWhole m → list_all is_near bs ≡ true → Asks Named [] m (run from (all_done bs) m)
+near_run Named from [] m whole near = asks_none Named m m refl
+near_run Named from (b ∷ bs) m whole near =
     let both = and_parts (is_near b) (list_all is_near bs) near in
-    asks_then (near_once Named from b m both.0) (near_run Named from bs (once from b m) both.1)
+    asks_then (near_once Named from b m whole both.0) (near_run Named from bs (once from b m) (once_whole from b m whole) both.1)
+
+near_portless : (op : Op) → is_near_op op ≡ true → is_portless_op op ≡ true
+near_portless (Store mem.L width ra rs imm) near = absurd (true≢false (sym near))
+near_portless _ near = refl
+
+near_all : (bs : List Slots) → list_all is_near bs ≡ true → list_all is_portless bs ≡ true
+near_all [] near = refl
+near_all (b ∷ bs) near =
+    let both = and_parts (is_near b) (list_all is_near bs) near in
+    and_from (is_portless b) (list_all is_portless bs) (near_portless b.first.op both.0) (near_all bs both.1)
 
 pub near_asks : (Named : Use → Type 0) (bs : List Slots) → list_all is_near bs ≡ true → AsksOnly Named (all_done bs)
-near_asks Named bs near = record { cached = []; asks = λ from m whole. near_run Named from bs m near }
+near_asks Named bs near = record { cached = []; asks = λ from m whole. near_run Named from bs m whole near; starts = λ from m whole words. portless_start from bs m (near_all bs near) }
 
 -- ---- parts of such bundles, and calls
 

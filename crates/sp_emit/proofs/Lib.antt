@@ -57,3 +57,6 @@ pub mod Values
 pub mod WithinFrames
 pub mod WithinStack
 pub mod Words
+pub mod Aligned
+pub mod Portless
+pub mod Starts

@@ -25,7 +25,7 @@ use Rattle.sp_emit.proofs.Signs.{signed, size_of, differ, size_word, signed_quot
 
 -- ---- before the digits
 
-did_copy : (from : Sources) (rd ra : ℕ) (m : Run) → IsWhole m → once from (copy rd ra) m ≡ with_written (write.Register rd ((held ra m + 0) % 2 ^ 32)) m
+pub did_copy : (from : Sources) (rd ra : ℕ) (m : Run) → IsWhole m → once from (copy rd ra) m ≡ with_written (write.Register rd ((held ra m + 0) % 2 ^ 32)) m
 did_copy from rd ra m whole = did_write from always (AluImm imm.Add rd ra 0) m whole whole.fits.always refl refl
 
 word_copied : (a : ℕ) → a < 2 ^ 32 → (a + 0) % 2 ^ 32 ≡ a

@@ -1,5 +1,5 @@
 -- What a function's code leaves behind its body: its result, the flag, and the stack without its frame.
-use Rattle.std.proofs.Common.{◌≡◌, ℕ, zero, suc, ◌+◌, ◌<◌, if◌then◌else◌, [], ◌∷◌, ◌++◌, refl, sym, ap, ◌∙◌, subst, arith, ne_eqb}
+use Rattle.std.proofs.Common.{◌≡◌, ℕ, zero, suc, ◌+◌, ◌%◌, ◌^◌, ◌<◌, Bool, true, false, if◌then◌else◌, [], ◌∷◌, ◌++◌, refl, sym, ap, ◌∙◌, subst, arith, ne_eqb}
 use Rattle.patmos_instr.specs.Bundles.{Slots}
 use Rattle.patmos_instr.specs.declared.functions.StackFunc.TheVariants.{Sfree}
 use Rattle.patmos_instr.specs.declared.instructions.Op.TheVariants.{ToSpecial, Return}
@@ -10,6 +10,7 @@ use Rattle.patmos_sem.specs.Registers.{holds}
 use Rattle.patmos_sem.specs.declared.effects.Effect.TheVariants as effect
 use Rattle.patmos_sem.specs.declared.pending.Pending.TheVariants as pending
 use Rattle.patmos_sem.specs.declared.writes.Write.TheVariants as write
+use Rattle.c_world.specs.Numbers.{flag}
 use Rattle.c_world.specs.World.{World}
 use Rattle.sp_shape.specs.Run.{Run, Sources, by_words, once, run, effected, with_settled, settled, IsWhole}
 use Rattle.sp_shape.specs.Run as runs
@@ -24,6 +25,7 @@ use Rattle.sp_emit.proofs.Arguments.{did_stack}
 use Rattle.sp_emit.proofs.Calling.{Begins, idle_begins}
 use Rattle.sp_emit.proofs.Calm.{calm_run}
 use Rattle.sp_emit.proofs.Leaving.{slot_leaves}
+use Rattle.sp_emit.proofs.Quotients.{did_copy}
 use Rattle.sp_emit.proofs.Once.{behind_slot, slot_behind, unchanged, with_regs, with_written, did_write, whole_written, held_written, stays_zero}
 
 -- a special register is written: no general one is
@@ -73,8 +75,13 @@ returns_with m whole =
 pub record Returned (w : World) (frame v : ℕ) (m t : Run) : Type 0 where
   pub carries : Carries w t
   pub value : held RESULT t ≡ v
+  pub flagged : held MASK t ≡ flag w.overrun
   pub stack : t.stack ≡ m.stack
   pub st : t.st ≡ m.st + frame
+
+flag_copied : (b : Bool) → (flag b + 0) % 2 ^ 32 ≡ flag b
+flag_copied true = refl
+flag_copied false = refl
 
 pub returns_value : (w : World) (frame base offset slot v : ℕ) (m : Run) → Carries w m → slot < 128 → m.stack (m.st + slot) ≡ v
     → Returned w frame v m (run by_words (all_done return_tail) (run by_words (all_done (load_slot SPARE base ∷ to_special writable.Srb SPARE ∷ load_slot SPARE offset ∷ to_special writable.Sro SPARE ∷ load_slot RESULT slot ∷ copy MASK OVERRUN
@@ -100,6 +107,8 @@ returns_value w frame base offset slot v m carries few value =
         flag = r.regs OVERRUN (omega arith) ∙ ap (held OVERRUN) free ∙ k.flag ∙ c.carries.flag;
       };
       value = r.regs RESULT (omega arith) ∙ ap (held RESULT) free ∙ k.low RESULT (omega arith) ∙ is;
+      flagged = r.regs MASK (omega arith) ∙ ap (held MASK) free ∙ ap (held MASK) (did_copy by_words MASK OVERRUN n1 c.carries.whole) ∙ held_written (write.Register MASK ((held OVERRUN n1 + 0) % 2 ^ 32)) MASK n1 c.carries.whole (omega arith)
+          ∙ ap (λ z. (z + 0) % 2 ^ 32) c.carries.flag ∙ flag_copied w.overrun;
       stack = r.stack ∙ ap (λ t. t.stack) free ∙ k.stack ∙ c.stack;
       st = r.st ∙ ap (λ t. t.st) free ∙ ap (λ n. n + frame) (k.st ∙ c.st);
     }

@@ -18,7 +18,7 @@ use Rattle.patmos_instr.specs.declared.functions.ImmFunc.TheVariants as imm
 use Rattle.patmos_instr.specs.declared.functions.PredFunc.TheVariants as comb
 use Rattle.patmos_sem.specs.declared.writes.Write.TheVariants as write
 use Rattle.sp_shape.specs.Memory.{Memory, cell_of, with_port, with_word as cell_set}
-use Rattle.sp_shape.specs.Run.{Run, by_words, once, run, IsWhole}
+use Rattle.sp_shape.specs.Run.{Run, Sources, by_words, once, run, IsWhole}
 use Rattle.sp_shape.specs.Trail.{Step, all_done, parts_trail}
 use Rattle.sp_emit.specs.Holding.{held, Keeps}
 use Rattle.sp_emit.specs.Instructions.{always, where_so, set_long, compute, with_short, compare, combine, store_to}
@@ -86,9 +86,9 @@ pub record Allowed (core : ℕ) (on : Bool) (m t : Run) : Type 0 where
   pub keeps : Keeps (FIRST + 3) m t
   pub test : so TEST t ≡ on
 
-pub tests_send : (core : ℕ) (b : Bool) (source target count : ℕ) (m : Run) → IsWhole m → so TEST m ≡ b → held FIRST m ≡ source → held (FIRST + 1) m ≡ target → held (FIRST + 2) m ≡ count
-    → Allowed core (b && code_starts source target count) m (run by_words (all_done send_test) m)
-tests_send core b source target count m whole test is_source is_target is_count =
+pub tests_send : (from : Sources) (core : ℕ) (b : Bool) (source target count : ℕ) (m : Run) → IsWhole m → so TEST m ≡ b → held FIRST m ≡ source → held (FIRST + 1) m ≡ target → held (FIRST + 2) m ≡ count
+    → Allowed core (b && code_starts source target count) m (run from (all_done send_test) m)
+tests_send from core b source target count m whole test is_source is_target is_count =
     let w1 = write.Register SPARE 512 in
     let m1 = with_written w1 m in
     let h1 = whole_written w1 m whole in
@@ -115,17 +115,17 @@ tests_send core b source target count m whole test is_source is_target is_count 
     let h8 = whole_written w8 m7 h7 in
     let w9 = write.Predicate TEST (so TEST m8 && so SECOND m8) in
     let pand = combine comb.Pand TEST TEST SECOND in
-    let steps : run by_words (all_done send_test) m ≡ with_written w9 m8 =
-    ap (λ t. run by_words (all_done (with_short always imm.Sub (FIRST + 3) (FIRST + 2) 1 ∷ compare cmp.Ult SECOND (FIRST + 3) SPARE ∷ pand ∷ compute always alu.Sub SPARE SPARE (FIRST + 2)
-    ∷ compare cmp.Ule SECOND FIRST SPARE ∷ pand ∷ compare cmp.Ule SECOND (FIRST + 1) SPARE ∷ pand ∷ [])) t) (did_set_long by_words SPARE 512 m whole)
-    ∙ ap (λ t. run by_words (all_done (compare cmp.Ult SECOND (FIRST + 3) SPARE ∷ pand ∷ compute always alu.Sub SPARE SPARE (FIRST + 2) ∷ compare cmp.Ule SECOND FIRST SPARE ∷ pand ∷ compare cmp.Ule SECOND (FIRST + 1) SPARE ∷ pand ∷ [])) t)
-    (did_with_short by_words imm.Sub (FIRST + 3) (FIRST + 2) 1 m1 h1)
-    ∙ ap (λ t. run by_words (all_done (pand ∷ compute always alu.Sub SPARE SPARE (FIRST + 2) ∷ compare cmp.Ule SECOND FIRST SPARE ∷ pand ∷ compare cmp.Ule SECOND (FIRST + 1) SPARE ∷ pand ∷ [])) t) (did_compare by_words cmp.Ult SECOND (FIRST + 3) SPARE m2 h2)
-    ∙ ap (λ t. run by_words (all_done (compute always alu.Sub SPARE SPARE (FIRST + 2) ∷ compare cmp.Ule SECOND FIRST SPARE ∷ pand ∷ compare cmp.Ule SECOND (FIRST + 1) SPARE ∷ pand ∷ [])) t) (did_combine by_words comb.Pand TEST TEST SECOND m3 h3)
-    ∙ ap (λ t. run by_words (all_done (compare cmp.Ule SECOND FIRST SPARE ∷ pand ∷ compare cmp.Ule SECOND (FIRST + 1) SPARE ∷ pand ∷ [])) t) (did_compute by_words alu.Sub SPARE SPARE (FIRST + 2) m4 h4)
-    ∙ ap (λ t. run by_words (all_done (pand ∷ compare cmp.Ule SECOND (FIRST + 1) SPARE ∷ pand ∷ [])) t) (did_compare by_words cmp.Ule SECOND FIRST SPARE m5 h5)
-    ∙ ap (λ t. run by_words (all_done (compare cmp.Ule SECOND (FIRST + 1) SPARE ∷ pand ∷ [])) t) (did_combine by_words comb.Pand TEST TEST SECOND m6 h6)
-    ∙ ap (λ t. run by_words (all_done (pand ∷ [])) t) (did_compare by_words cmp.Ule SECOND (FIRST + 1) SPARE m7 h7) ∙ did_combine by_words comb.Pand TEST TEST SECOND m8 h8 in
+    let steps : run from (all_done send_test) m ≡ with_written w9 m8 =
+    ap (λ t. run from (all_done (with_short always imm.Sub (FIRST + 3) (FIRST + 2) 1 ∷ compare cmp.Ult SECOND (FIRST + 3) SPARE ∷ pand ∷ compute always alu.Sub SPARE SPARE (FIRST + 2)
+    ∷ compare cmp.Ule SECOND FIRST SPARE ∷ pand ∷ compare cmp.Ule SECOND (FIRST + 1) SPARE ∷ pand ∷ [])) t) (did_set_long from SPARE 512 m whole)
+    ∙ ap (λ t. run from (all_done (compare cmp.Ult SECOND (FIRST + 3) SPARE ∷ pand ∷ compute always alu.Sub SPARE SPARE (FIRST + 2) ∷ compare cmp.Ule SECOND FIRST SPARE ∷ pand ∷ compare cmp.Ule SECOND (FIRST + 1) SPARE ∷ pand ∷ [])) t)
+    (did_with_short from imm.Sub (FIRST + 3) (FIRST + 2) 1 m1 h1)
+    ∙ ap (λ t. run from (all_done (pand ∷ compute always alu.Sub SPARE SPARE (FIRST + 2) ∷ compare cmp.Ule SECOND FIRST SPARE ∷ pand ∷ compare cmp.Ule SECOND (FIRST + 1) SPARE ∷ pand ∷ [])) t) (did_compare from cmp.Ult SECOND (FIRST + 3) SPARE m2 h2)
+    ∙ ap (λ t. run from (all_done (compute always alu.Sub SPARE SPARE (FIRST + 2) ∷ compare cmp.Ule SECOND FIRST SPARE ∷ pand ∷ compare cmp.Ule SECOND (FIRST + 1) SPARE ∷ pand ∷ [])) t) (did_combine from comb.Pand TEST TEST SECOND m3 h3)
+    ∙ ap (λ t. run from (all_done (compare cmp.Ule SECOND FIRST SPARE ∷ pand ∷ compare cmp.Ule SECOND (FIRST + 1) SPARE ∷ pand ∷ [])) t) (did_compute from alu.Sub SPARE SPARE (FIRST + 2) m4 h4)
+    ∙ ap (λ t. run from (all_done (pand ∷ compare cmp.Ule SECOND (FIRST + 1) SPARE ∷ pand ∷ [])) t) (did_compare from cmp.Ule SECOND FIRST SPARE m5 h5)
+    ∙ ap (λ t. run from (all_done (compare cmp.Ule SECOND (FIRST + 1) SPARE ∷ pand ∷ [])) t) (did_combine from comb.Pand TEST TEST SECOND m6 h6)
+    ∙ ap (λ t. run from (all_done (pand ∷ [])) t) (did_compare from cmp.Ule SECOND (FIRST + 1) SPARE m7 h7) ∙ did_combine from comb.Pand TEST TEST SECOND m8 h8 in
     let c1 = held_written w1 (FIRST + 2) m whole (omega arith) ∙ is_count in
     let less2 = held_written w2 (FIRST + 3) m1 h1 (omega arith) ∙ ap (λ n. (n + (2 ^ 32 - 1)) % 2 ^ 32) c1 in
     let room2 = held_written w2 SPARE m1 h1 (omega arith) ∙ held_written w1 SPARE m whole (omega arith) in
@@ -147,7 +147,7 @@ tests_send core b source target count m whole test is_source is_target is_count 
     let t8 = so_written w8 TEST m7 h7 (omega arith) ∙ t7 in
     let s8 = so_written w8 SECOND m7 h7 (omega arith) ∙ ap (λ n. nat_le n (held SPARE m7)) target7 ∙ ap (nat_le target) left7 in
     record {
-      keeps = calm_run by_words (FIRST + 3) (all_done send_test) m (omega arith) whole refl;
+      keeps = calm_run from (FIRST + 3) (all_done send_test) m (omega arith) whole refl;
       test = ap (so TEST) steps ∙ so_written w9 TEST m8 h8 (omega arith) ∙ ap (λ x. x && so SECOND m8) t8 ∙ ap (λ x. ((b && nat_lt ((count + (2 ^ 32 - 1)) % 2 ^ 32) 512) && nat_le source ((512 + (2 ^ 32 - count)) % 2 ^ 32)) && x) s8 ∙ joined_tests b;
     }
   where
@@ -255,7 +255,7 @@ send_done f frame counter slots mask core source target count s m most masked fe
     let a_is = t.keeps.low FIRST (omega arith) ∙ kc.low FIRST (omega arith) ∙ kb.low FIRST (omega arith) ∙ value_left f source ra in
     let b_is = t.keeps.low (FIRST + 1) (omega arith) ∙ kc.low (FIRST + 1) (omega arith) ∙ value_left f target rb in
     let c_is = t.keeps.low (FIRST + 2) (omega arith) ∙ value_left f count rc in
-    let allowed = tests_send core b (worth source s) (worth target s) (worth count s) u t.keeps.whole t.test a_is b_is c_is in
+    let allowed = tests_send by_words core b (worth source s) (worth target s) (worth count s) u t.keeps.whole t.test a_is b_is c_is in
     let v = run by_words (all_done send_test) u in
     let address = 0x20000 + 16 * core in
     let w = once by_words (set_long SPARE address) v in

@@ -94,6 +94,7 @@ function_serves code g fs number low f formed constants others mask args w m cou
     subst (Answers (function_given g f mask args w) m) (sym (function_run by_words code f m)) (record {
       carries = r.carries;
       value = r.value;
+      flagged = r.flagged;
       value_word = d.follows.words.frame f.result p.result;
       st = omega (arith, r.st, d.keeps.st, e.st, enough, p.frame);
       stack = λ a above. ap (λ words. words a) r.stack ∙ d.keeps.stack a (omega (arith, e.st, above, p.frame, p.room, enough)) ∙ e.behind a above;
@@ -108,7 +109,7 @@ unfoldable pub AllServe : List PlainFunction → ℕ → Type 0
 AllServe fs n = (k : ℕ) → k < n → ServedBy (code_of fs n) (serves fs n) k (slice_index_or fs k no_function).parameters ((k + 1) * 128)
 
 -- over the earlier ones, calls do what they mean
-calls_run : (fs : List PlainFunction) (n frame slots : ℕ) → functions_formed fs n ≡ true → slots ≤ 128 → AllServe fs n → CallsRun (code_of fs n) (serves fs n) fs n frame slots (n * 128)
+pub calls_run : (fs : List PlainFunction) (n frame slots : ℕ) → functions_formed fs n ≡ true → slots ≤ 128 → AllServe fs n → CallsRun (code_of fs n) (serves fs n) fs n frame slots (n * 128)
 unfolding AllServe ServedBy
 calls_run fs n frame slots formed most earlier = record { calls = each }
   where

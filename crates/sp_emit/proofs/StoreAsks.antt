@@ -1,6 +1,6 @@
 -- What the code of writes and sends asks for: the variables and elements that it stores, word 0 of main memory, and the
 -- registers of the interface.
-use Rattle.std.proofs.Common.{◌≡◌, ℕ, ◌+◌, ◌*◌, ◌%◌, ◌^◌, ◌<◌, ◌≤◌, ◌⊎◌, inl, inr, Bool, true, false, not, ◌&&◌, [], ◌∷◌, ◌++◌, nat_lt, refl, sym, ap, ◌∙◌, subst, arith}
+use Rattle.std.proofs.Common.{◌≡◌, ℕ, ◌+◌, ◌*◌, ◌%◌, ◌^◌, ◌<◌, ◌≤◌, ◌⊎◌, inl, inr, Bool, true, false, not, ◌&&◌, if◌then◌else◌, Option, None, Some, [], ◌∷◌, ◌++◌, nat_lt, refl, sym, ap, ◌∙◌, subst, arith}
 use Rattle.std.specs.Prelude.{nat_le}
 use Rattle.std.proofs.lemmas.Bool.{and_parts, leb-true, ltb-true}
 use Rattle.std.proofs.lemmas.List.Elements.{All-nil, All-cons}
@@ -13,6 +13,13 @@ use Rattle.patmos_sem.specs.Effects.{address_of as address_by}
 use Rattle.patmos_sem.specs.declared.effects.Effect.TheVariants as effect
 use Rattle.patmos_sem.specs.declared.writes.Write.TheVariants as write
 use Rattle.c_world.specs.Shown.{room_in}
+use Rattle.c_world.specs.declared.region.Region.{Region}
+use Rattle.c_world.specs.declared.region.Region.TheVariants as region
+use Rattle.local_store.specs.declared.map.Cell.{Cell}
+use Rattle.local_store.specs.declared.map.Cell.TheVariants as cell
+use Rattle.patmos_sem.specs.Bundles.{effect_of}
+use Rattle.sp_shape.specs.Memory.{Memory, cell_of}
+use Rattle.sp_emit.specs.Starting.{StartsAt, StartsWell, AllStart}
 use Rattle.sp_tree.specs.Formed.{all_rooms, first_of, cell_formed, array_formed}
 use Rattle.sp_tree.specs.Uses.{Use, writes_cell, writes_array, sends_to}
 use Rattle.sp_tree.specs.declared.expressions.SpArray.{SpArray}
@@ -27,10 +34,13 @@ use Rattle.sp_emit.specs.Instructions.{always, where_so, where_not, set_long, se
 use Rattle.sp_emit.specs.Statements.{mask_test, masked_store, cell_write, element_write, send_test, send_code}
 use Rattle.sp_emit.specs.declared.registers.TheConstants.{FIRST, SPARE, TEST}
 use Rattle.sp_emit.proofs.Accessing.{asks_none, asks_then, near_run}
-use Rattle.sp_emit.proofs.Cells.{element_address, few_words, first_small}
+use Rattle.sp_emit.proofs.Aligned.{stored_aligned}
+use Rattle.sp_emit.proofs.Cells.{cell_in, cell_found, element_found, element_address, few_words, first_small}
 use Rattle.sp_emit.proofs.Leaving.{did_set_short, constant_leaves}
 use Rattle.sp_emit.proofs.Once.{so, with_written, did_nothing, whole_written, got}
 use Rattle.sp_emit.proofs.PlaceWrites.{element_address_made, reaches}
+use Rattle.sp_emit.proofs.Portless.{portless_start, start_append}
+use Rattle.sp_emit.proofs.Starts.{send_starts}
 use Rattle.sp_emit.proofs.Storing.{with_store, did_store}
 
 -- ---- stores
@@ -40,7 +50,7 @@ asks_store : (Named : Use → Type 0) (space : Mem) (address value : ℕ) (m t :
 asks_store Named space address value m t is may = record { news = effect.Store space store.Word address value ∷ []; is = is; may = All-cons (MayAsk Named) (effect.Store space store.Word address value) [] may (All-nil (MayAsk Named)); loads = refl }
 
 may_store : (Named : Use → Type 0) (space : Mem) (address value : ℕ) → IsStoredPlace Named space address → MayAsk Named (effect.Store space store.Word address value)
-may_store Named mem.S address value place = tt
+may_store Named mem.S address value place = (refl, stored_aligned Named mem.S address place)
 may_store Named mem.L address value place = (refl, place)
 may_store Named mem.C address value place = (refl, place)
 may_store Named mem.M address value place = (refl, place)
@@ -91,10 +101,44 @@ masked_asks Named from mem.L at address b m some few whole test is place = store
 masked_asks Named from mem.C at address b m some few whole test is place = store_or_0 Named from mem.C at address b m (inl refl) some few whole test is place
 masked_asks Named from mem.M at address b m some few whole test is place = store_or_0 Named from mem.M at address b m (inr refl) some few whole test is place
 
+-- ---- no store of them is in a register of the interface
+
+abbrev NoPort : Option Cell → Type 0
+NoPort (Some (cell.Port core register)) = ⊥
+NoPort _ = Unit {0}
+
+no_port : (r : Region) (word : ℕ) → NoPort (Some (cell_in r word))
+no_port region.Scratch word = tt
+no_port region.Comm word = tt
+no_port region.Private word = tt
+no_port region.Shared word = tt
+
+no_start : (k : Memory) (value : ℕ) (c : Option Cell) → NoPort c → StartsAt k value c
+no_start k value (Some (cell.Port core register)) none = absurd none
+no_start k value (Some (cell.Scratch word)) none = tt
+no_start k value (Some (cell.Comm word)) none = tt
+no_start k value (Some (cell.Private word)) none = tt
+no_start k value (Some (cell.Shared word)) none = tt
+no_start k value None none = tt
+
+store_starts : (at address : ℕ) (b : Bool) (m : Run) → so TEST m ≡ b → (b ≡ true → address_by (held at m) 0 4 ≡ address) → (b ≡ true → NoPort (cell_of mem.L address))
+    → StartsWell (effect_of (store_to (where_so TEST) mem.L at FIRST 0) m.regs) m.memory
+store_starts at address false m off is none = subst (λ (b : Bool). StartsWell (if b then effect.Store mem.L store.Word (address_by (held at m) 0 4) (held FIRST m) else effect.Nothing) m.memory) (sym off) tt
+store_starts at address true m on is none =
+    subst (λ (b : Bool). StartsWell (if b then effect.Store mem.L store.Word (address_by (held at m) 0 4) (held FIRST m) else effect.Nothing) m.memory) (sym on)
+    (subst (λ a. StartsAt m.memory (held FIRST m) (cell_of mem.L a)) (sym (is refl)) (no_start m.memory (held FIRST m) (cell_of mem.L address) (none refl)))
+
+masked_starts : (from : Sources) (space : Mem) (at address : ℕ) (b : Bool) (m : Run) → so TEST m ≡ b → (b ≡ true → address_by (held at m) 0 4 ≡ address) → (b ≡ true → NoPort (cell_of space address))
+    → AllStart from (all_done (masked_store space at)) m
+masked_starts from mem.S at address b m test is none = tt
+masked_starts from mem.L at address b m test is none = (store_starts at address b m test is none, tt)
+masked_starts from mem.C at address b m test is none = portless_start from (masked_store mem.C at) m refl
+masked_starts from mem.M at address b m test is none = portless_start from (masked_store mem.M at) m refl
+
 -- ---- variables
 
 pub cell_write_asks : (Named : Use → Type 0) (mask : ℕ) (c : SpCell) → cell_formed c ≡ true → Named (writes_cell c) → AsksOnly Named (all_done (cell_write mask c))
-cell_write_asks Named mask c formed named = record { cached = []; asks = asks }
+cell_write_asks Named mask c formed named = record { cached = []; asks = asks; starts = λ from m whole words. starts from m whole }
   where
     at : ℕ
     at = address_of c.region c.word
@@ -108,16 +152,28 @@ cell_write_asks Named mask c formed named = record { cached = []; asks = asks }
         let h = run_whole from (all_done (mask_test mask)) m whole in
         let u = once from (set_long SPARE at) n in
         let hu = run_whole from (all_done (set_long SPARE at ∷ [])) n h in
-        asks_then (near_run Named from (mask_test mask) m refl) (asks_then (near_run Named from (set_long SPARE at ∷ []) n refl)
+        asks_then (near_run Named from (mask_test mask) m whole refl) (asks_then (near_run Named from (set_long SPARE at ∷ []) n h refl)
         (masked_asks Named from (cell_space c.region) SPARE at (so TEST u) u (omega arith) (omega arith) hu refl
         (λ on. ap (λ a. address_by a 0 4) (constant_leaves from SPARE at n h (omega arith) (omega arith) small) ∙ omega (arith, small))
         (λ on. inl (c, named, record { formed = formed; space_is = refl; address_is = refl }))))
+
+    starts : (from : Sources) (m : Run) → IsWhole m → AllStart from (all_done (cell_write mask c)) m
+    starts from m whole =
+        let n = run from (all_done (mask_test mask)) m in
+        let h = run_whole from (all_done (mask_test mask)) m whole in
+        let u = once from (set_long SPARE at) n in
+        start_append from (all_done (mask_test mask)) (all_done (set_long SPARE at ∷ masked_store (cell_space c.region) SPARE)) m (portless_start from (mask_test mask) m refl) (
+          (portless_start from (set_long SPARE at ∷ []) n refl).0,
+          masked_starts from (cell_space c.region) SPARE at (so TEST u) u refl
+              (λ on. ap (λ a. address_by a 0 4) (constant_leaves from SPARE at n h (omega arith) (omega arith) small) ∙ omega (arith, small))
+              (λ on. subst NoPort (sym (cell_found c.region c.word (ltb-true c.word (room_in c.region all_rooms) (and_parts (nat_le (first_of c.region) c.word) (nat_lt c.word (room_in c.region all_rooms)) formed).1))) (no_port c.region c.word)),
+        )
 
 -- ---- elements
 
 pub element_write_asks : (Named : Use → Type 0) (mask : ℕ) (a : SpArray) → array_formed a ≡ true → Named (writes_array a) → AsksOnly Named (all_done (element_write mask a))
 unfolding element_address_made
-element_write_asks Named mask a formed named = record { cached = []; asks = asks }
+element_write_asks Named mask a formed named = record { cached = []; asks = asks; starts = λ from m whole words. starts from m whole }
   where
     within : a.first + a.length ≤ room_in a.region all_rooms
     within = leb-true (a.first + a.length) (room_in a.region all_rooms) (and_parts (nat_le (first_of a.region) a.first) (nat_le (a.first + a.length) (room_in a.region all_rooms)) formed).1
@@ -132,15 +188,31 @@ element_write_asks Named mask a formed named = record { cached = []; asks = asks
         let b = so TEST n in
         let r = reaches from b 0 i a.length (address_of a.region a.first) n h refl refl (omega (arith, within, few_words a.region)) (first_small a.region a.first (omega (arith, within))) in
         let less : (b && nat_lt i a.length) ≡ true → i < a.length = λ on. ltb-true i a.length (and_parts b (nat_lt i a.length) on).1 in
-        asks_then (near_run Named from (mask_test mask) m refl) (asks_then (near_run Named from made n refl)
+        asks_then (near_run Named from (mask_test mask) m whole refl) (asks_then (near_run Named from made n h refl)
         (masked_asks Named from (array_space a.region) (FIRST + 1) (address_of a.region (a.first + i)) (b && nat_lt i a.length) u (omega arith) (omega arith) r.keeps.whole r.test
         (λ on. ap (λ x. address_by x 0 4) r.at ∙ element_address a.region a.first i (omega (arith, within, less on)))
         (λ on. inr (inl (a, named, record { formed = formed; index = i; within = less on; space_is = refl; address_is = refl })))))
 
+    starts : (from : Sources) (m : Run) → IsWhole m → AllStart from (all_done (element_write mask a)) m
+    starts from m whole =
+        let n = run from (all_done (mask_test mask)) m in
+        let h = run_whole from (all_done (mask_test mask)) m whole in
+        let made = element_address_made [] a.length (address_of a.region a.first) in
+        let u = run from (all_done made) n in
+        let i = held (FIRST + 1) n in
+        let b = so TEST n in
+        let r = reaches from b 0 i a.length (address_of a.region a.first) n h refl refl (omega (arith, within, few_words a.region)) (first_small a.region a.first (omega (arith, within))) in
+        let less : (b && nat_lt i a.length) ≡ true → i < a.length = λ on. ltb-true i a.length (and_parts b (nat_lt i a.length) on).1 in
+        start_append from (all_done (mask_test mask)) (all_done (made ++ masked_store (array_space a.region) (FIRST + 1))) m (portless_start from (mask_test mask) m refl)
+        (start_append from (all_done made) (all_done (masked_store (array_space a.region) (FIRST + 1))) n (portless_start from made n refl)
+        (masked_starts from (array_space a.region) (FIRST + 1) (address_of a.region (a.first + i)) (b && nat_lt i a.length) u r.test
+        (λ on. ap (λ x. address_by x 0 4) r.at ∙ element_address a.region a.first i (omega (arith, within, less on)))
+        (λ on. subst NoPort (sym (element_found a.region (a.first + i) (omega (arith, within, less on)))) (no_port a.region (a.first + i)))))
+
 -- ---- sends
 
 pub send_asks : (Named : Use → Type 0) (mask core : ℕ) → core < 16 → Named (sends_to core) → AsksOnly Named (all_done (send_code mask core))
-send_asks Named mask core few named = record { cached = []; asks = asks }
+send_asks Named mask core few named = record { cached = []; asks = asks; starts = λ from m whole words. send_starts from mask core m few whole (words.0 FIRST) (words.0 (FIRST + 1)) (words.0 (FIRST + 2)) }
   where
     address : ℕ
     address = 0x20000 + 16 * core
@@ -173,5 +245,5 @@ send_asks Named mask core few named = record { cached = []; asks = asks }
         let u2 = once from (store_to (where_so TEST) mem.L SPARE (FIRST + 1) 1) u1 in
         let h2 = run_whole from (all_done (store_to (where_so TEST) mem.L SPARE (FIRST + 1) 1 ∷ [])) u1 h1 in
         let at2 = same from (FIRST + 1) 1 u1 h1 ∙ at1 in
-        asks_then (near_run Named from before m refl)
+        asks_then (near_run Named from before m whole refl)
         (asks_then (port from FIRST 0 u (omega arith) hu at) (asks_then (port from (FIRST + 1) 1 u1 (omega arith) h1 at1) (port from (FIRST + 2) 2 u2 (omega arith) h2 at2)))

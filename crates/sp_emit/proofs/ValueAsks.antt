@@ -41,6 +41,7 @@ use Rattle.sp_emit.proofs.Elements.{Reached, looked_up, reaches, looks_up}
 use Rattle.sp_emit.proofs.Formed.{binary_formed}
 use Rattle.sp_emit.proofs.Leaving.{did_set_long, did_set_short}
 use Rattle.sp_emit.proofs.Needs.{some_need, array_named, index_named, operand_fits, first_fits, second_fits, first_fits_behind, second_fits_behind}
+use Rattle.sp_emit.proofs.Portless.{portless_start}
 use Rattle.sp_emit.proofs.Once.{so, with_written, loaded, did_load, whole_written, whole_loaded, got, so_by_register}
 
 -- a load of a whole word
@@ -72,6 +73,7 @@ cell_asks Named c rd some few formed named = record {
       ∙ ap (λ a. m.asked ++ word_load (cell_space c.region) rd (address_by a 0 4) ∷ []) is
       ∙ ap (λ a. m.asked ++ word_load (cell_space c.region) rd a ∷ []) (let e : (at + 0 * 4) % 2 ^ 32 ≡ at = omega (arith, small) in e))
       (variable_read Named c.region c.word rd formed named);
+  starts = λ from m whole words. portless_start from (cell_code c rd) m refl;
 }
   where
     at : ℕ
@@ -131,7 +133,7 @@ looks_at_0 from a rd t whole some few test =
     ∙ ap (λ v. t.asked ++ word_load (array_space a.region) rd (address_by v 0 4) ∷ []) (got rd ((0 + 0) % 2 ^ 32) t whole some few)
 
 pub element_asks : (Named : Use → Type 0) (a : SpArray) (rd : ℕ) → 1 ≤ rd → rd < 21 → array_formed a ≡ true → Named (reads_array a) → AsksOnly Named (all_done (element_code a rd))
-element_asks Named a rd some few formed named = record { cached = []; asks = asks }
+element_asks Named a rd some few formed named = record { cached = []; asks = asks; starts = λ from m whole words. portless_start from (element_code a rd) m refl }
   where
     within : a.first + a.length ≤ room_in a.region all_rooms
     within = leb-true (a.first + a.length) (room_in a.region all_rooms) (and_parts (nat_le (first_of a.region) a.first) (nat_le (a.first + a.length) (room_in a.region all_rooms)) formed).1

@@ -1,7 +1,7 @@
 -- What the code of a task may ask for: outside the stack it reads and stores whole words of the variables and arrays that
 -- the tree names, word 0 of a memory in the place of an element past the end, word 0 of main memory in the place of what
 -- is masked, and it sets the registers of the interface for cores that the tree sends to.
-use Rattle.std.specs.Prelude.{◌≡◌, ℕ, true, ◌+◌, ◌*◌, ◌<◌, ◌⊎◌, List, [], ◌∷◌, ◌++◌}
+use Rattle.std.specs.Prelude.{◌≡◌, ℕ, true, ◌+◌, ◌*◌, ◌%◌, ◌<◌, ◌⊎◌, List, [], ◌∷◌, ◌++◌}
 use Rattle.std.specs.List.{All}
 use Rattle.patmos_instr.specs.declared.memories.Mem.{Mem}
 use Rattle.patmos_instr.specs.declared.memories.Mem.TheVariants as mem
@@ -18,6 +18,7 @@ use Rattle.sp_tree.specs.declared.expressions.SpCell.{SpCell}
 use Rattle.sp_shape.specs.Run.{Run, IsWhole, Sources, run}
 use Rattle.sp_shape.specs.Trail.{Step}
 use Rattle.sp_emit.specs.Expressions.{address_of, cell_space, array_space}
+use Rattle.sp_emit.specs.Starting.{AllStart, AllWords}
 
 -- ---- places
 
@@ -65,13 +66,13 @@ IsStoredPlace Named space address =
     ⊎ (((a : SpArray) × Named (writes_array a) × IsElement a space address) ⊎ (IsSpare space address ⊎ ((core : ℕ) × Named (sends_to core) × IsPort core space address)))
 
 abbrev pub MayLoad : (Use → Type 0) → Mem → Width → ℕ → Type 0
-MayLoad Named mem.S width address = Unit {0}
+MayLoad Named mem.S width address = (width ≡ load.Word) × (address % 4 ≡ 0)
 MayLoad Named mem.L width address = (width ≡ load.Word) × IsReadPlace Named mem.L address
 MayLoad Named mem.C width address = (width ≡ load.Word) × IsReadPlace Named mem.C address
 MayLoad Named mem.M width address = (width ≡ load.Word) × IsReadPlace Named mem.M address
 
 abbrev pub MayStore : (Use → Type 0) → Mem → StoreWidth → ℕ → Type 0
-MayStore Named mem.S width address = Unit {0}
+MayStore Named mem.S width address = (width ≡ store.Word) × (address % 4 ≡ 0)
 MayStore Named mem.L width address = (width ≡ store.Word) × IsStoredPlace Named mem.L address
 MayStore Named mem.C width address = (width ≡ store.Word) × IsStoredPlace Named mem.C address
 MayStore Named mem.M width address = (width ≡ store.Word) × IsStoredPlace Named mem.M address
@@ -101,7 +102,8 @@ pub record Asks (Named : Use → Type 0) (cached : List ℕ) (m t : Run) : Type 
   pub loads : cached_addresses news ≡ cached
 
 -- steps that ask for no more than they may, and load by the data cache at the same addresses, from each state and whatever
--- loads give
+-- loads give; and, where registers hold words, start a transfer only where its registers allow it
 pub record AsksOnly (Named : Use → Type 0) (steps : List Step) : Type 0 where
   pub cached : List ℕ
   pub asks : (from : Sources) (m : Run) → IsWhole m → Asks Named cached m (run from steps m)
+  pub starts : (from : Sources) (m : Run) → IsWhole m → AllWords from steps m → AllStart from steps m

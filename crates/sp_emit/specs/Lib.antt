@@ -11,3 +11,4 @@ pub mod Means
 pub mod Ran
 pub mod Serving
 pub mod Statements
+pub mod Starting

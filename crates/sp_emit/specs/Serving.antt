@@ -1,11 +1,14 @@
--- What a function's code has where it begins, and what it leaves where it has returned.
-use Rattle.std.specs.Prelude.{ℕ, ◌≡◌, ◌+◌, ◌<◌, ◌≤◌, ◌^◌, List, length, slice_index, bit_xor}
+-- What the code of a function, and of its statements, has where it begins, and what it leaves.
+use Rattle.std.specs.Prelude.{ℕ, ◌≡◌, ◌+◌, ◌*◌, ◌<◌, ◌≤◌, ◌^◌, true, List, length, slice_index, bit_xor}
 use Rattle.c_world.specs.Numbers.{flag}
 use Rattle.c_world.specs.World.{World}
-use Rattle.sp_tree.specs.Straight.{Given}
+use Rattle.sp_tree.specs.Formed.{functions_formed, stmts_formed, stmts_levels}
+use Rattle.sp_tree.specs.Statements.{PlainFunction, PlainStmts}
+use Rattle.sp_tree.specs.Straight.{Given, State}
+use Rattle.sp_tree.specs.declared.limits.TheConstants.{MOST_FRAME}
 use Rattle.sp_shape.specs.Run.{Run, IsWhole}
 use Rattle.sp_emit.specs.Holding.{held}
-use Rattle.sp_emit.specs.Means.{HasWords, HoldsWords}
+use Rattle.sp_emit.specs.Means.{Follows, HasConstants, HasStmtsConstants, HasWords, HoldsWords}
 use Rattle.sp_emit.specs.declared.registers.TheConstants.{RESULT, MASK, FIRST, OVERRUN}
 
 -- the words of a world, and its flag
@@ -27,6 +30,26 @@ pub record CalledWith (mask : ℕ) (args : List ℕ) (w : World) (m : Run) : Typ
 pub record Answers (g : Given) (m t : Run) : Type 0 where
   pub carries : Carries g.world t
   pub value : held RESULT t ≡ g.value
+  pub flagged : held MASK t ≡ flag g.world.overrun
   pub value_word : g.value < 2 ^ 32
   pub st : t.st ≡ m.st
   pub stack : (a : ℕ) → m.st ≤ a → t.stack a ≡ m.stack a
+
+-- well-formed functions, of words
+pub record AreFunctions (fs : List PlainFunction) (n : ℕ) : Type 0 where
+  pub constants : HasConstants fs
+  pub within : n ≤ length fs
+  pub formed : functions_formed fs n ≡ true
+
+-- statements of a function of number n, in a frame of so many words, of which the first are named and the counters of turns
+-- stand from one on downward; the run is where the tree's state is, and there is room for the frames of what they call
+pub record AreStatements (fs : List PlainFunction) (n frame slots counter : ℕ) (ts : PlainStmts) (s : State) (m : Run) : Type 0 where
+  pub functions : AreFunctions fs n
+  pub named : slots ≤ MOST_FRAME
+  pub counted : counter < MOST_FRAME
+  pub framed : counter + 3 ≤ frame
+  pub levels : slots + stmts_levels ts ≤ counter + 1
+  pub formed : stmts_formed fs n slots ts ≡ true
+  pub constants : HasStmtsConstants ts
+  pub room : n * MOST_FRAME ≤ m.st
+  pub follows : Follows slots s m

@@ -1,5 +1,6 @@
 //! Laws of code.
-ghost use Rattle.std.specs.Prelude.{◌≡◌, ◌+◌, ◌≤◌, ℕ, List, [], true, length, slice_index_or};
+ghost use Rattle.std.specs.Prelude.{◌≡◌, ◌+◌, ◌*◌, ◌<◌, ◌≤◌, ℕ, List, [], true, length, map, slice_index_or};
+ghost use Rattle.c_world.specs.World.{World};
 ghost use Rattle.std.specs.List.{Contains};
 ghost use Rattle.patmos_instr.specs.declared.memories.Mem.TheVariants as mem;
 ghost use Rattle.patmos_instr.specs.declared.memories.StoreWidth.{StoreWidth};
@@ -8,8 +9,8 @@ ghost use Rattle.patmos_sem.specs.declared.effects.Effect.TheVariants as effect;
 ghost use Rattle.sp_tree.specs.Begun.{begun, straight};
 ghost use Rattle.sp_tree.specs.Formed.{is_formed};
 ghost use Rattle.sp_tree.specs.Plain.{PlainSp};
-ghost use Rattle.sp_tree.specs.Statements.{PlainUnit};
-ghost use Rattle.sp_tree.specs.Straight.{State, worth};
+ghost use Rattle.sp_tree.specs.Statements.{PlainFunction, PlainStmts, PlainUnit, no_function};
+ghost use Rattle.sp_tree.specs.Straight.{State, serves, stmts_done, worth};
 ghost use Rattle.sp_tree.specs.Uses.{Use, uses_of, are_apart};
 ghost use Rattle.sp_shape.specs.Bundles.{has_word, parts_all};
 ghost use Rattle.sp_shape.specs.Memory.{Memory};
@@ -17,18 +18,21 @@ ghost use Rattle.sp_shape.specs.Parts.{no_part};
 ghost use Rattle.stack_cache.specs.declared.stack.TheConstants.{STACK_END, STACK_LOWEST};
 ghost use Rattle.sp_shape.specs.Pointers.{pointers_of, AreWithinStack};
 ghost use Rattle.sp_shape.specs.Run.{Run, IsWhole, Back, Sources, at_begin, by_words, run};
-ghost use Rattle.sp_shape.specs.Trail.{Step, parts_trail, trail};
+ghost use Rattle.sp_shape.specs.Trail.{Step, parts_trail, trail, trails};
 ghost use Rattle.sp_shape.specs.Turning.{ShapeTurns};
 ghost use Rattle.sp_emit.specs.Accesses.{MayAsk, AsksOnly};
 ghost use Rattle.sp_emit.specs.Chains.{chains};
 ghost use Rattle.sp_emit.specs.Counts.{HasCounts};
 ghost use Rattle.sp_emit.specs.Expressions.{expr_code};
 ghost use Rattle.sp_emit.specs.Fits.{ExprFits};
-ghost use Rattle.sp_emit.specs.Functions.{emitted};
+ghost use Rattle.sp_emit.specs.Functions.{emitted, function_code};
 ghost use Rattle.sp_emit.specs.Holding.{held, Keeps};
-ghost use Rattle.sp_emit.specs.Means.{IsReady, HoldsWords, HasConstants};
+ghost use Rattle.sp_emit.specs.Means.{Follows, IsReady, KeepsBehind, HoldsWords, HasConstants};
 ghost use Rattle.sp_emit.specs.Ran.{begun_memory, ran};
-ghost use Rattle.sp_emit.specs.Serving.{Answers};
+ghost use Rattle.sp_emit.specs.Serving.{Answers, AreFunctions, AreStatements, CalledWith};
+ghost use Rattle.sp_emit.specs.Statements.{stmts_code};
+ghost use Rattle.sp_tree.specs.declared.limits.TheConstants.{MOST_FRAME};
+ghost use Rattle.sp_emit.specs.declared.registers.TheConstants.{RESULT, MASK, FIRST, SPARE, DIVIDEND, DIVISOR, REMAINDER, DIGITS, OVERRUN, TEST, SECOND, REST_NEGATIVE, QUOTIENT_NEGATIVE};
 
 /// What the code of an expression leaves, from a register on. Whatever loads give, the registers below that one, the
 /// flag of loops, the stack and all memories are as they were. Where each load gives what was stored last in its word,
@@ -46,6 +50,21 @@ pub fn expressions_are_worked_out()
 pub fn tasks_do_what_they_mean()
     ensures { (u : PlainUnit) (input : List ℕ) (shared comm : ℕ → ℕ) (backs : List Back) → is_formed u ≡ true → HasConstants u.functions → HoldsWords (begun u input shared comm)
         → Answers (straight u input shared comm) (at_begin (begun_memory u input shared comm) [] backs) (ran u input shared comm backs) }
+{}
+
+/// What comes of the code of a function and of its statements, under whatever mask they are run, where each load gives what
+/// was stored last in its word. A function gives what its tree gives, and the words of the stack from its caller's frame on
+/// are as they were, so that the frames of its callers stand. Statements leave the run where they leave the tree's state:
+/// the words of the frame that the tree names, all memories but word 0, the transfers and the flag; besides these they
+/// change registers, and of the frame the words up to a counter of turns alone.
+pub fn functions_do_what_they_give()
+    ensures function { (fs : List PlainFunction) (n k mask : ℕ) (args : List ℕ) (w : World) (m : Run) → AreFunctions fs n → k < n
+        → length args ≡ (slice_index_or fs k no_function).parameters → (k + 1) * MOST_FRAME ≤ m.st → CalledWith mask args w m
+        → Answers (serves fs n k mask args w) m (run by_words (trails (map function_code fs) n k) m) }
+    ensures statements { (fs : List PlainFunction) (n frame slots counter : ℕ) (ts : PlainStmts) (s : State) (m : Run) → AreStatements fs n frame slots counter ts s m
+        → Follows slots (stmts_done (serves fs n) ts s) (run by_words (parts_trail (trails (map function_code fs) n) (stmts_code frame counter ts)) m) }
+    ensures frame { (fs : List PlainFunction) (n frame slots counter : ℕ) (ts : PlainStmts) (s : State) (m : Run) → AreStatements fs n frame slots counter ts s m
+        → KeepsBehind (counter + 1) m (run by_words (parts_trail (trails (map function_code fs) n) (stmts_code frame counter ts)) m) }
 {}
 
 /// Where a load from the stack gives what was stored last in its word, whatever other loads give, all loops of a
@@ -80,4 +99,21 @@ pub fn tasks_stay_within_the_stack()
 pub fn code_holds_the_constants()
     ensures constants { (u : PlainUnit) → ((k : ℕ) → parts_all has_word (slice_index_or (emitted u).functions k no_part) ≡ true) → HasConstants u.functions }
     ensures counts { (u : PlainUnit) → ((k : ℕ) → parts_all has_word (slice_index_or (emitted u).functions k no_part) ≡ true) → HasCounts u.functions }
+{}
+
+/// The registers and predicates of compiled code, in numbers: what a task gives stands in `r1`, and its flag in `r2`. A law: it does nothing.
+pub fn registers_numbered()
+    ensures result { RESULT ≡ 1 }
+    ensures mask { MASK ≡ 2 }
+    ensures first { FIRST ≡ 3 }
+    ensures spare { SPARE ≡ 21 }
+    ensures dividend { DIVIDEND ≡ 22 }
+    ensures divisor { DIVISOR ≡ 23 }
+    ensures remainder { REMAINDER ≡ 24 }
+    ensures digits { DIGITS ≡ 25 }
+    ensures overrun { OVERRUN ≡ 26 }
+    ensures test { TEST ≡ 1 }
+    ensures second { SECOND ≡ 2 }
+    ensures rest { REST_NEGATIVE ≡ 3 }
+    ensures quotient { QUOTIENT_NEGATIVE ≡ 4 }
 {}

@@ -44,11 +44,13 @@ mod writes;
 
 pub use functions::emit;
 pub use laws::{
-    code_holds_the_constants, expressions_are_worked_out, loops_make_all_turns,
-    tasks_ask_for_what_they_name, tasks_do_what_they_mean, tasks_stay_within_the_stack,
+    code_holds_the_constants, expressions_are_worked_out, functions_do_what_they_give,
+    loops_make_all_turns, registers_numbered, tasks_ask_for_what_they_name,
+    tasks_do_what_they_mean, tasks_stay_within_the_stack,
 };
 pub use registers::{
     DIGITS, DIVIDEND, DIVISOR, FIRST, MASK, OVERRUN, QUOTIENT_NEGATIVE, REMAINDER, REST_NEGATIVE,
     RESULT, SECOND, SPARE, TEST,
 };
+pub use sp_shape::{Part, Shape};
 pub use worked::{worked_calls, worked_divisions, worked_effects};

@@ -1,7 +1,7 @@
 -- What a task begins with, and what it comes to.
 use Rattle.std.specs.Prelude.{ℕ, ◌-◌, nat_lt, nat_le, false, ◌&&◌, if◌then◌else◌, List, [], length, slice_index}
 use Rattle.c_world.specs.World.{World}
-use Rattle.sp_tree.specs.declared.limits.TheConstants.{FIRST_WORD}
+use Rattle.local_store.specs.declared.store.TheConstants.{FIRST_DATA_WORD}
 use Rattle.sp_tree.specs.Statements.{PlainUnit}
 use Rattle.sp_tree.specs.Straight.{Given, serves}
 
@@ -13,7 +13,7 @@ laid at room words under word =
     else under word
 
 abbrev pub first_private : List ℕ → ℕ → ℕ
-first_private initial word = if nat_le FIRST_WORD word then slice_index initial (word - FIRST_WORD) else 0
+first_private initial word = if nat_le FIRST_DATA_WORD word then slice_index initial (word - FIRST_DATA_WORD) else 0
 
 -- private memory: the first words, and the input over them as far as its room reaches
 abbrev pub begun_private : PlainUnit → List ℕ → ℕ → ℕ

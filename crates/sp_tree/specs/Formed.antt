@@ -6,7 +6,9 @@ use Rattle.c_world.specs.declared.region.Region.{Region}
 use Rattle.c_world.specs.declared.region.Region.TheVariants as region
 use Rattle.sp_tree.specs.declared.expressions.SpArray.{SpArray}
 use Rattle.sp_tree.specs.declared.expressions.SpCell.{SpCell}
-use Rattle.sp_tree.specs.declared.limits.TheConstants.{FIRST_WORD, DATA_WORDS, MOST_FRAME, MOST_FUNCTIONS, MOST_PARAMETERS, MOST_NEED, TARGETS}
+use Rattle.slot_arbiter.specs.declared.table.TheConstants.{MOST_CORES}
+use Rattle.local_store.specs.declared.store.TheConstants.{DATA_WORDS, FIRST_DATA_WORD}
+use Rattle.sp_tree.specs.declared.limits.TheConstants.{MOST_FRAME, MOST_FUNCTIONS, MOST_PARAMETERS, MOST_NEED}
 use Rattle.sp_tree.specs.Need.{need}
 use Rattle.sp_tree.specs.Plain.{PlainSp, constant, frame_word, cell_word, array_word, before_one, between_two}
 use Rattle.sp_tree.specs.Uses.{uses_of, are_apart}
@@ -20,7 +22,7 @@ all_rooms = fresh_rooms DATA_WORDS
 
 -- the word of each memory from which they stand
 abbrev pub first_of : Region → ℕ
-first_of region.Private = FIRST_WORD
+first_of region.Private = FIRST_DATA_WORD
 first_of _ = 0
 
 abbrev pub cell_formed : SpCell → Bool
@@ -64,7 +66,7 @@ callee_formed fs number k args = nat_lt k number && (args == (slice_index_or fs 
 
 abbrev pub send_formed : ℕ → ℕ → PlainSp → PlainSp → PlainSp → Bool
 send_formed slots core source target count =
-    nat_lt core TARGETS && (expr_formed slots source && (expr_formed slots target && expr_formed slots count))
+    nat_lt core MOST_CORES && (expr_formed slots source && (expr_formed slots target && expr_formed slots count))
 
 abbrev mutual
   pub stmt_formed : List PlainFunction → ℕ → ℕ → PlainStmt → Bool
@@ -117,7 +119,7 @@ entry_formed u = nat_lt u.entry (length u.functions) && ((slice_index_or u.funct
 -- the first words and the input lie where variables and arrays stand
 abbrev pub data_formed : PlainUnit → Bool
 data_formed u =
-    nat_le (FIRST_WORD + length u.initial) DATA_WORDS && (nat_le FIRST_WORD u.input_at && nat_le (u.input_at + u.input_room) DATA_WORDS)
+    nat_le (FIRST_DATA_WORD + length u.initial) DATA_WORDS && (nat_le FIRST_DATA_WORD u.input_at && nat_le (u.input_at + u.input_room) DATA_WORDS)
 
 abbrev pub is_formed : PlainUnit → Bool
 is_formed u =

@@ -9,6 +9,7 @@ ghost use Rattle.sp_tree.specs.Statements.{PlainPlace, PlainStmts, PlainFunction
 ghost use Rattle.sp_tree.specs.Straight.{State, Serves, args_worth, in_world, stmt_done, stmts_done, function_given, serves};
 ghost use Rattle.sp_tree.specs.Uses.{stmts_uses};
 ghost use Rattle.sp_tree.specs.declared.statements.SpStmt.{SpStmt};
+ghost use Rattle.sp_tree.specs.declared.limits.TheConstants.{MOST_FRAME, MOST_FUNCTIONS, MOST_NEED, MOST_PARAMETERS};
 
 /// Statements behind others: they go on from what these leave, and well-formedness, words, levels of turns and uses
 /// are told of both.
@@ -48,4 +49,12 @@ pub fn earlier_functions_serve()
     ensures formed { (fs : List PlainFunction) (k n : ℕ) → k < n → functions_formed fs n ≡ true
         → function_formed fs k (slice_index_or fs k no_function) ≡ true }
     ensures earlier { (fs : List PlainFunction) (k n : ℕ) → k ≤ n → functions_formed fs n ≡ true → functions_formed fs k ≡ true }
+{}
+
+/// How large single-path trees may be, in numbers: words of a frame, functions, parameters, and registers of an expression. A law: it does nothing.
+pub fn tree_limits()
+    ensures frame { MOST_FRAME ≡ 128 }
+    ensures functions { MOST_FUNCTIONS ≡ 512 }
+    ensures parameters { MOST_PARAMETERS ≡ 6 }
+    ensures need { MOST_NEED ≡ 12 }
 {}

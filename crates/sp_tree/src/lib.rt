@@ -36,10 +36,8 @@ mod worked_runs;
 pub use c_world::Region;
 pub use evaluation::value;
 pub use expressions::{SpArray, SpCell, SpExpr, SpPlace};
-pub use laws::{earlier_functions_serve, frames_grow, masks_hold, statements_join};
-pub use limits::{
-    DATA_WORDS, FIRST_WORD, MOST_FRAME, MOST_FUNCTIONS, MOST_NEED, MOST_PARAMETERS, TARGETS,
-};
+pub use laws::{earlier_functions_serve, frames_grow, masks_hold, statements_join, tree_limits};
+pub use limits::{MOST_FRAME, MOST_FUNCTIONS, MOST_NEED, MOST_PARAMETERS};
 pub use making::{before_operand, between_operands, copied, indexed};
 pub use operators::{SpBinary, SpUnary};
 pub use outcome::{SpOutcome, plain_straight};

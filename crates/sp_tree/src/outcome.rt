@@ -5,10 +5,11 @@ ghost use Rattle.sp_tree.specs.Begun.{laid, begun, straight_alone};
 ghost use Rattle.sp_tree.specs.Formed.{all_rooms, is_formed};
 ghost use Rattle.sp_tree.specs.Shown.{plain_unit};
 
-use crate::limits::{DATA_WORDS, FIRST_WORD, MOST_FRAME};
+use crate::limits::MOST_FRAME;
 use crate::run::called;
 use crate::statements::SpUnit;
 use c_world::Memory;
+use local_store::{DATA_WORDS, FIRST_DATA_WORD};
 use std::alloc::Global;
 use tc_word::{List, OutOfMemory};
 
@@ -63,7 +64,7 @@ fn begin(alloc: Global, unit: &SpUnit, input: &[u32]) -> Result<Memory, OutOfMem
     let initial = unit.initial.as_slice();
     lay(
         initial,
-        FIRST_WORD as usize,
+        FIRST_DATA_WORD as usize,
         initial.len(),
         &mut memory.private,
     );

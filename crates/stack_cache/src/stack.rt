@@ -3,13 +3,14 @@ ghost use Rattle.stack_cache.specs.Stack.{IsStack, Stack, empty, filled, freed, 
 
 use crate::fault::StackFault;
 use crate::slots::{self, STACK_CACHE_WORDS};
+use local_store::{DATA_WORDS, PRIVATE_WORDS};
 use std::marker::Model;
 
 /// The lowest word of private memory that a task's stack may use.
-pub const STACK_LOWEST: u32 = 49_152;
+pub const STACK_LOWEST: u32 = DATA_WORDS as u32;
 
 /// The word of private memory behind a task's stack, where the stack begins.
-pub const STACK_END: u32 = 65_536;
+pub const STACK_END: u32 = PRIVATE_WORDS as u32;
 
 /// The words of the stack that stand in the cache, and its two pointers.
 #[derive(Debug, Drop)]

@@ -60,6 +60,16 @@ name_of faults.Range = codes "Range"
 name_of faults.CoreTwice = codes "CoreTwice"
 name_of faults.Input = codes "Input"
 
+-- the fault's number, behind that of a text that is too long to be read
+abbrev pub number_of : JobFault → ℕ
+number_of faults.Toml = 2
+number_of faults.Key = 3
+number_of faults.Missing = 4
+number_of faults.Kind = 5
+number_of faults.Range = 6
+number_of faults.CoreTwice = 7
+number_of faults.Input = 8
+
 -- where a key stands: nothing is said of the top level
 abbrev pub place_of : Option ℕ → List ℕ
 place_of None = []

@@ -1,7 +1,7 @@
 -- The input of a task: words, which the text may write as signed or as unsigned numbers.
 use Rattle.std.specs.Prelude.{ℕ, ℤ, pos, negsuc, ◌-◌, ◌^◌, nat_lt, nat_le, if◌then◌else◌, List, [], length, Option, Some, None, Result, Ok, Err}
 use Rattle.toml.specs.Data.{Data}
-use Rattle.tc_job.specs.declared.input.TheConstants.{MOST_INPUT_WORDS}
+use Rattle.local_store.specs.declared.store.TheConstants.{INPUT_WORDS}
 use Rattle.tc_job.specs.declared.fault.JobFault.{JobFault}
 use Rattle.tc_job.specs.declared.fault.JobFault.TheVariants as faults
 use Rattle.tc_job.specs.Fault.{◌>>=◌}
@@ -15,7 +15,7 @@ word_of (negsuc n) = if nat_lt n (2 ^ 31) then Some (2 ^ 32 - 1 - n) else None
 
 -- the words, where they are not too many
 abbrev pub words_of : List ℤ → Result (List ℕ) JobFault
-words_of integers = if nat_le (length integers) MOST_INPUT_WORDS then given faults.Input (each_of word_of integers)
+words_of integers = if nat_le (length integers) INPUT_WORDS then given faults.Input (each_of word_of integers)
     else Err faults.Input
 
 -- the input at a key that may be left out

@@ -3,14 +3,14 @@ use Rattle.std.specs.Prelude.{◌≢◌, ℕ, ◌<◌, ◌≤◌, List, length, 
 use Rattle.slot_arbiter.specs.declared.event.TheConstants.{MOST_TRACE}
 use Rattle.slot_arbiter.specs.declared.place.TheConstants.{LATEST_START, MOST_CYCLES}
 use Rattle.slot_arbiter.specs.Table.{is_table}
-use Rattle.tc_job.specs.declared.input.TheConstants.{MOST_INPUT_WORDS}
+use Rattle.local_store.specs.declared.store.TheConstants.{INPUT_WORDS}
 use Rattle.tc_job.specs.declared.job.Job.{Job}
 use Rattle.tc_job.specs.declared.task.Task.{Task}
 
 -- a task on one of so many cores
 pub record IsTaskAmong (cores : ℕ) (task : Task) : Type 0 where
   pub core : task.core < cores
-  pub words : length task.input ≤ MOST_INPUT_WORDS
+  pub words : length task.input ≤ INPUT_WORDS
   pub start : task.start ≤ LATEST_START
 
 -- a platform that the arbiter takes

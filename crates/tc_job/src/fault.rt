@@ -1,7 +1,7 @@
 ghost use Rattle.std.specs.Prelude.{◌≡◌, ◌++◌, OnErr, OnOk, IfOk};
 ghost use Rattle.tc_job.specs.declared.fault.JobError.TheVariants as errors;
 ghost use Rattle.tc_job.specs.declared.fault.Refusal.TheVariants as refusals;
-ghost use Rattle.tc_job.specs.Fault.{fault_text, name_of, place_of};
+ghost use Rattle.tc_job.specs.Fault.{fault_text, name_of, number_of, place_of};
 
 use std::alloc::{AllocFailed, Global};
 use tc_io::put_decimal;
@@ -22,7 +22,7 @@ pub enum JobFault {
     Range,
     /// An earlier task runs on this core.
     CoreTwice,
-    /// The input has more than [`crate::MOST_INPUT_WORDS`] values, or one that is no word.
+    /// The input has more than [`local_store::INPUT_WORDS`] values, or one that is no word.
     Input,
 }
 
@@ -126,6 +126,21 @@ impl<T: Drop> From<AllocFailed<T>> for Refusal {
 }
 
 impl JobFault {
+    /// The number of the fault, from 2: 1 is that of a text that is too long to be read.
+    pub fn number(self) -> u32
+        ensures { result ≡ number_of self }
+    {
+        match self {
+            JobFault::Toml => 2,
+            JobFault::Key => 3,
+            JobFault::Missing => 4,
+            JobFault::Kind => 5,
+            JobFault::Range => 6,
+            JobFault::CoreTwice => 7,
+            JobFault::Input => 8,
+        }
+    }
+
     fn name(self) -> &'static str
         ensures { result.now ≡ name_of self }
     {

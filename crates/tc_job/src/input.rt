@@ -5,25 +5,23 @@ ghost use Rattle.tc_job.specs.Values.{Reads, each_of, given};
 
 use crate::fault::{JobFault, Refusal};
 use crate::values::integers_in;
+use local_store::INPUT_WORDS;
 use std::alloc::Global;
 use tc_word::List;
 use toml::Value;
-
-/// The most words that a task's input has.
-pub const MOST_INPUT_WORDS: usize = 4_096;
 
 const INPUT: Refusal = Refusal::Fault(JobFault::Input);
 
 /// The input of a value that may be left out.
 pub fn input_of(alloc: Global, value: Option<&Value>) -> Result<List<u32>, Refusal>
     ensures words { Reads (λ words. words) result (specs.input_of (option_map (λ v. view v.now) value.entry)) }
-    ensures most { IfOk result (λ words. length words ≤ MOST_INPUT_WORDS) }
+    ensures most { IfOk result (λ words. length words ≤ INPUT_WORDS) }
 {
     let Some(value) = value else {
         return Ok(List::of(Vec::new(alloc)));
     };
     let integers = integers_in(alloc, value)?;
-    if integers.len() > MOST_INPUT_WORDS {
+    if integers.len() > INPUT_WORDS as usize {
         return Err(INPUT);
     }
     Ok(List::of(words_in(alloc, integers.as_slice())?))

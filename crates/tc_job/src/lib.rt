@@ -28,7 +28,6 @@ mod values;
 mod worked;
 
 pub use fault::{JobError, JobFault, Refusal, put_fault};
-pub use input::MOST_INPUT_WORDS;
 pub use job::{Job, read_job, tree_of};
 pub use section::Section;
 pub use task::{Lang, Task};

@@ -33,7 +33,7 @@ pub struct Task {
     pub core: u32,
     pub lang: Lang,
     pub source: Text,
-    /// At most [`crate::MOST_INPUT_WORDS`], none where the job states none.
+    /// At most [`local_store::INPUT_WORDS`], none where the job states none.
     pub input: List<u32>,
     /// The cycle at which it starts, at most [`LATEST_START`] and 0 where the job states none.
     pub start: u64,

@@ -6,7 +6,8 @@ use Rattle.patmos_instr.specs.Bundles.{FitsBundle}
 use Rattle.patmos_code.specs.declared.images.TheConstants.{MOST_IN_FUNCTION}
 use Rattle.sp_shape.specs.Run.{by_words, run_late}
 use Rattle.sp_shape.specs.Trail.{trail}
-use Rattle.sp_shape.specs.Turning.{ShapeTurns}
+use Rattle.sp_shape.specs.Turning.{ShapeTurns, back_of}
+use Rattle.tc_link.specs.Dues.{dues_of}
 use Rattle.tc_link.specs.Examples.{second_run, one_call, task_of}
 use Rattle.tc_link.specs.Fits.{FitsImage}
 use Rattle.tc_link.specs.Placed.{size_of, flat, linked}
@@ -36,7 +37,7 @@ one_fit (suc (suc k)) within = absurd (omega (arith, within))
 one_turn : ShapeTurns (run_late by_words) one_call (task_of one_call)
 one_turn = search rules
 
-pub one_followed : Follows (linked one_call) by_words (trail one_call) (walk_from 1 (task_of one_call))
+pub one_followed : Follows (linked one_call) by_words (trail one_call) (dues_of one_call (back_of (task_of one_call))) (walk_from 1 (task_of one_call))
 one_followed =
     shape_followed one_call by_words (task_of one_call) refl
     (record { small = one_small; within = omega arith; initial = omega arith; input_from = omega arith; input_room = omega arith }) one_fit

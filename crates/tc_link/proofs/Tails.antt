@@ -1,5 +1,5 @@
 -- How a core goes on over the tails of loops, calls and functions.
-use Rattle.std.proofs.Common.{◌≡◌, ℕ, ℤ, pos, negsuc, ◌-ℤ◌, zero, suc, ◌+◌, ◌-◌, ◌%◌, ◌^◌, ◌<◌, ◌==◌, Bool, true, false, not, ◌&&◌, if◌then◌else◌, Some, List, [], ◌∷◌, ◌++◌, length, get_or, slice_index_or, refl, sym, ap, ◌∙◌, subst, arith, true≢false, length-append, cond}
+use Rattle.std.proofs.Common.{◌≡◌, ℕ, ℤ, pos, negsuc, ◌-ℤ◌, zero, suc, ◌+◌, ◌-◌, ◌%◌, ◌^◌, ◌<◌, ◌==◌, Bool, true, false, not, ◌&&◌, if◌then◌else◌, Option, None, Some, List, [], ◌∷◌, ◌++◌, length, get_or, slice_index_or, refl, sym, ap, ◌∙◌, subst, arith, true≢false, length-append, append-nil, cond}
 use Rattle.std.proofs.lemmas.Bool.{and_parts, lt-ltb, le-leb, eqb-true}
 use Rattle.std.proofs.lemmas.List.{get_or_push}
 use Rattle.patmos_code.specs.Images.{Parts}
@@ -11,6 +11,7 @@ use Rattle.patmos_model.specs.Bundle.{fetched_at, asked_flow}
 use Rattle.patmos_model.specs.Flows.{branch_target, flow_of}
 use Rattle.patmos_model.specs.Site.{size_at, has_place}
 use Rattle.patmos_model.specs.declared.fetched.Fetched.TheVariants.{Found}
+use Rattle.patmos_model.specs.declared.flow.Goal.{Goal}
 use Rattle.patmos_model.specs.declared.flow.Goal.TheVariants as goal
 use Rattle.patmos_sem.specs.Bundles.{effect_of}
 use Rattle.patmos_sem.specs.Registers.{Registers, FitsRegisters, holds}
@@ -26,7 +27,8 @@ use Rattle.sp_shape.specs.Words.{bundle_words, bundles_words}
 use Rattle.sp_shape.specs.Turning.{back_of}
 use Rattle.tc_link.specs.Backs.{back}
 use Rattle.tc_link.specs.Flat.{with_op, branch_back, called, turned}
-use Rattle.tc_link.specs.Walk.{Walk, erased, bundle_done, with_back, Does}
+use Rattle.tc_link.specs.Dues.{undue, way_dues, turn_dues}
+use Rattle.tc_link.specs.Walk.{Walk, due, due_in, erased, bundle_done, with_back, Does}
 use Rattle.tc_link.proofs.Erased.{late_same}
 use Rattle.tc_link.proofs.Late.{not_flow, calm_first, calm_rest, late_backs, late_ways, done_backs, done_fits, calm_ways}
 use Rattle.tc_link.proofs.Walking.{FetchAt, free, waiting, Comes, Goes, does_then, elsewhere, step, calm_then, calm_goes, slots_do}
@@ -38,7 +40,7 @@ always_on : (on : Bool) (regs : Registers) (pred : ℕ) → FitsRegisters regs �
 always_on true regs pred fits e = absurd (true≢false (sym (and_parts (pred == 0) false e).1))
 always_on false regs pred fits e = ap (λ p. slice_index_or regs.preds p false) (eqb-true pred 0 (and_parts (pred == 0) true e).0) ∙ fits.always
 
-always_holds : (g : Guard) (regs : Registers) → FitsRegisters regs → is_always g ≡ true → holds regs g ≡ true
+pub always_holds : (g : Guard) (regs : Registers) → FitsRegisters regs → is_always g ≡ true → holds regs g ≡ true
 always_holds g regs fits e = always_on g.negated regs g.pred fits e
 
 -- which operation it is, by the tests of well-formed shapes
@@ -92,13 +94,13 @@ place_of (returns base offset) = back base offset
 
 -- of a loop's: another turn, or what stands behind the loop
 pub record Turns (image : Parts) (from : Sources) (tail : List Slots) (base top next : ℕ) (rest : List Back) (w : Walk) (m : Run) : Type 0 where
-  pub again : (run_late from (all_done tail) m).ways ≡ m.ways ++ branches ∷ [] → Goes image from (all_done tail) base top rest w (run_late from (all_done tail) m)
-  pub no_more : (run_late from (all_done tail) m).ways ≡ m.ways → Goes image from (all_done tail) base next rest w (run_late from (all_done tail) m)
+  pub again : (run_late from (all_done tail) m).ways ≡ m.ways ++ branches ∷ [] → Goes image from (all_done tail) (turn_dues (goal.Within top) tail) base top rest w (run_late from (all_done tail) m)
+  pub no_more : (run_late from (all_done tail) m).ways ≡ m.ways → Goes image from (all_done tail) (undue tail) base next rest w (run_late from (all_done tail) m)
 
 -- of a function's: its return to a place is due
-pub record Left (image : Parts) (from : Sources) (steps : List Step) (home : Back) (rest : List Back) (w : Walk) (m : Run) : Type 0 where
+pub record Left (image : Parts) (from : Sources) (steps : List Step) (ds : List (Option Goal)) (home : Back) (rest : List Back) (w : Walk) (m : Run) : Type 0 where
   pub last : Walk
-  pub does_so : Does image from steps w last
+  pub does_so : Does image from steps ds w last
   pub run : last.run ≡ m
   pub flow : last.flow ≡ Some (record { goal = goal.Return home.base home.offset; slots = 0 })
   pub fits : FitsRegisters m.regs
@@ -106,14 +108,14 @@ pub record Left (image : Parts) (from : Sources) (steps : List Step) (home : Bac
 
 -- of a call's: the function that starts at a place begins, and is to return to another
 pub record Begins (image : Parts) (from : Sources) (tail : List Slots) (start : ℕ) (home : Back) (rest : List Back) (w : Walk) (m : Run) : Type 0 where
-  pub goes : Goes image from (all_done tail ++ begins ∷ []) start 0 rest w (run_late from (all_done tail ++ begins ∷ []) m)
+  pub goes : Goes image from (all_done tail ++ begins ∷ []) (way_dues (goal.Call start) tail) start 0 rest w (run_late from (all_done tail ++ begins ∷ []) m)
   pub returns_to : back_of (run_late from (all_done tail ++ begins ∷ []) m) ≡ home
 
 module _ (image : Parts) (from : Sources) where
   -- a flow that is taken, and its delay slots
   flow_waits : (b c : Slots) (bs : List Slots) (flow : FlowKind) (base at : ℕ) (rest : List Back) (m : Run) (w : Walk) → effect_of c m.regs ≡ effect.Flow flow → erased c ≡ erased b → bundle_words c ≡ bundle_words b
       → length bs ≡ (flow_of at flow).slots → are_calm bs ≡ true → FetchAt image base at (c ∷ bs) → Comes image base at rest m w
-      → Does image from (all_done (b ∷ bs)) w (waiting (flow_of at flow).goal 0 base (at + bundles_words (b ∷ bs)) (run_late from (all_done (b ∷ bs)) m))
+      → Does image from (all_done (b ∷ bs)) (way_dues (flow_of at flow).goal (b ∷ bs)) w (waiting (flow_of at flow).goal 0 base (at + bundles_words (b ∷ bs)) (run_late from (all_done (b ∷ bs)) m))
   flow_waits b c bs flow base at rest m w asks same size count calm h c_at =
       let last = λ (n : ℕ). waiting (flow_of at flow).goal 0 base n (run_late from (all_done (b ∷ bs)) m) in
       let behind_it = at + bundle_words b in
@@ -124,9 +126,9 @@ module _ (image : Parts) (from : Sources) where
       ∙ ap (λ n. waiting (flow_of at flow).goal n base behind_it (late from b m)) (sym count) in
       let slots = slots_do image from bs (flow_of at flow).goal base behind_it (late from b m) calm (subst (λ n. FetchAt image base (at + n) bs) size h.1) in
       let there : behind_it + bundles_words bs ≡ at + bundles_words (b ∷ bs) = omega arith in
-      step image from b c (all_done bs) w (free base at m) (last (at + bundles_words (b ∷ bs))) c_at.placed c_at.lands same h.0 tt
-      (subst (λ x. Does image from (all_done bs) x (last (at + bundles_words (b ∷ bs)))) (sym done)
-      (subst (λ n. Does image from (all_done bs) (waiting (flow_of at flow).goal (length bs) base behind_it (late from b m)) (last n)) there slots))
+      step image from b c (all_done bs) (due_in (length bs) (flow_of at flow).goal) (way_dues (flow_of at flow).goal bs) w (free base at m) (last (at + bundles_words (b ∷ bs))) c_at.placed c_at.lands (sym c_at.run_is) same h.0 tt (ap (λ (x : Walk). due x.flow) done)
+      (subst (λ x. Does image from (all_done bs) (way_dues (flow_of at flow).goal bs) x (last (at + bundles_words (b ∷ bs)))) (sym done)
+      (subst (λ n. Does image from (all_done bs) (way_dues (flow_of at flow).goal bs) (waiting (flow_of at flow).goal (length bs) base behind_it (late from b m)) (last n)) there slots))
 
   flow_ways : (b : Slots) (bs : List Slots) (e : Effect) (m : Run) → effect_of b m.regs ≡ e → are_calm bs ≡ true → (run_late from (all_done (b ∷ bs)) m).ways ≡ (effected from e (behind b m)).ways
   flow_ways b bs e m asks calm = calm_ways from bs (late from b m) calm ∙ ap (λ x. (effected from x (behind b m)).ways) asks
@@ -146,11 +148,13 @@ module _ (image : Parts) (from : Sources) where
           record {
             again = λ e. record {
               last = waiting (goal.Within (branch_target (top + words) (pos 0 -ℤ pos words))) 0 base (top + words + bundles_words (it ∷ bs)) (run_late from (all_done (it ∷ bs)) m);
-              does_so = flow_waits it there bs (kind.Branch (pos 0 -ℤ pos words)) base (top + words) rest m w (ap (λ g. if g then effect.Flow (kind.Branch (pos 0 -ℤ pos words)) else effect.Nothing) on) refl refl
-                  (eqb-true (length bs) 2 parts.0) parts.1 h c;
+              does_so = subst (λ n. Does image from (all_done (it ∷ bs)) (way_dues (goal.Within n) (it ∷ bs)) w (waiting (goal.Within (branch_target (top + words) (pos 0 -ℤ pos words))) 0 base (top + words + bundles_words (it ∷ bs)) (run_late from (all_done (it ∷ bs)) m))) (back_target top words few)
+                  (flow_waits it there bs (kind.Branch (pos 0 -ℤ pos words)) base (top + words) rest m w (ap (λ g. if g then effect.Flow (kind.Branch (pos 0 -ℤ pos words)) else effect.Nothing) on) refl refl
+                  (eqb-true (length bs) 2 parts.0) parts.1 h c);
               comes = record {
                 placed = lt-ltb (branch_target (top + words) (pos 0 -ℤ pos words)) (size_at image base) (subst (λ n. n < size_at image base) (sym (back_target top words few)) inside);
                 lands = ap (λ n. free base n (run_late from (all_done (it ∷ bs)) m)) (back_target top words few);
+                run_is = refl;
                 fits = done_fits from (it ∷ bs) m c.fits;
                 backs = done_backs from (it ∷ bs) m ∙ c.backs;
               };
@@ -168,11 +172,11 @@ module _ (image : Parts) (from : Sources) where
                 ap (λ x. record { run = late from there m; base = base; offset = top + words + bundle_words it; flow = asked_flow (top + words) (if x then effect.Flow (kind.Branch (pos 0 -ℤ pos words)) else effect.Nothing) }) off
                 ∙ ap (free base (top + words + bundle_words it)) (late_same from there it m refl) in
                 let g = calm_goes image from bs base (top + words + bundle_words it) rest (late from it m) (free base (top + words + bundle_words it) (late from it m)) parts.1 h.1
-                (record { placed = tt; lands = refl; fits = late_fits from it m c.fits; backs = late_backs from it m ∙ c.backs }) in
-                elsewhere image from (all_done (it ∷ bs)) base (top + words + bundle_words it + bundles_words bs) (top + words + bundles_words (it ∷ bs)) rest w (run_late from (all_done (it ∷ bs)) m) (omega arith)
+                (record { placed = tt; lands = refl; run_is = refl; fits = late_fits from it m c.fits; backs = late_backs from it m ∙ c.backs }) in
+                elsewhere image from (all_done (it ∷ bs)) (undue (it ∷ bs)) base (top + words + bundle_words it + bundles_words bs) (top + words + bundles_words (it ∷ bs)) rest w (run_late from (all_done (it ∷ bs)) m) (omega arith)
                 (record {
                   last = g.last;
-                  does_so = step image from it there (all_done bs) w (free base (top + words) m) g.last c.placed c.lands refl h.0 tt (subst (λ x. Does image from (all_done bs) x g.last) (sym done) g.does_so);
+                  does_so = step image from it there (all_done bs) None (undue bs) w (free base (top + words) m) g.last c.placed c.lands (sym c.run_is) refl h.0 tt (ap (λ (x : Walk). due x.flow) done) (subst (λ x. Does image from (all_done bs) (undue bs) x g.last) (sym done) g.does_so);
                   comes = g.comes;
                 });
           }
@@ -202,10 +206,11 @@ module _ (image : Parts) (from : Sources) where
       others (words + bundle_words b) (late from b m) (free base (top + words + bundle_words b) (late from b m)) parts.1 (omega (arith, few)) (subst (λ n. FetchAt image base n (turned (words + bundle_words b) bs)) there h.1)
       (subst (λ n. Comes image base n rest (late from b m) (free base (top + words + bundle_words b) (late from b m))) same d) in
       record {
-        again = λ e. calm_then image from b (all_done bs) base (top + words) base top rest rest m (run_late from (all_done (b ∷ bs)) m) w calm found c
-            (λ d. (next d).again (e ∙ ap (λ ways. ways ++ branches ∷ []) (sym (late_ways from b m calm))));
-        no_more = λ e. calm_then image from b (all_done bs) base (top + words) base (top + words + bundles_words (b ∷ bs)) rest rest m (run_late from (all_done (b ∷ bs)) m) w calm found c
-            (λ d. elsewhere image from (all_done bs) base (top + (words + bundle_words b) + bundles_words bs) (top + words + bundles_words (b ∷ bs)) rest (free base (top + words + bundle_words b) (late from b m)) (run_late from (all_done (b ∷ bs)) m) (omega arith)
+        again = λ e. subst (λ t. Goes image from (all_done (b ∷ bs)) (if t then way_dues (goal.Within top) (b ∷ bs) else None ∷ turn_dues (goal.Within top) bs) base top rest w (run_late from (all_done (b ∷ bs)) m)) (sym is)
+            (calm_then image from b (all_done bs) (turn_dues (goal.Within top) bs) base (top + words) base top rest rest m (run_late from (all_done (b ∷ bs)) m) w calm found c
+            (λ d. (next d).again (e ∙ ap (λ ways. ways ++ branches ∷ []) (sym (late_ways from b m calm)))));
+        no_more = λ e. calm_then image from b (all_done bs) (undue bs) base (top + words) base (top + words + bundles_words (b ∷ bs)) rest rest m (run_late from (all_done (b ∷ bs)) m) w calm found c
+            (λ d. elsewhere image from (all_done bs) (undue bs) base (top + (words + bundle_words b) + bundles_words bs) (top + words + bundles_words (b ∷ bs)) rest (free base (top + words + bundle_words b) (late from b m)) (run_late from (all_done (b ∷ bs)) m) (omega arith)
             ((next d).no_more (e ∙ sym (late_ways from b m calm))));
       }
 
@@ -235,12 +240,15 @@ module _ (image : Parts) (from : Sources) where
       ∙ sym (late_append from (all_done (it ∷ bs)) (begins ∷ []) m) in
       let fits = done_fits from (it ∷ bs) m c.fits in
       record {
-        goes = subst (Goes image from (all_done (it ∷ bs) ++ begins ∷ []) start 0 rest w) same (record {
+        goes = subst (Goes image from (all_done (it ∷ bs) ++ begins ∷ []) (way_dues (goal.Call start) (it ∷ bs)) start 0 rest w) same (record {
           last = free start 0 entered;
-          does_so = does_then image from (all_done (it ∷ bs)) (begins ∷ []) w there (free start 0 entered) does_tail (placed, tt, refl);
+          does_so = subst (λ ds. Does image from (all_done (it ∷ bs) ++ begins ∷ []) ds w (free start 0 entered)) (append-nil (way_dues (goal.Call start) (it ∷ bs)))
+              (does_then image from (all_done (it ∷ bs)) (begins ∷ []) (way_dues (goal.Call start) (it ∷ bs)) [] w there (free start 0 entered) does_tail
+              (record { placed = placed; calls = tt; run_is = ap (λ x. record behind_it { regs = record behind_it.regs { srb = x.base; sro = x.offset }; backs = other_backs behind_it.backs }) (sym (ap first_back backs)); rest = (refl, refl) }));
           comes = record {
             placed = tt;
             lands = refl;
+            run_is = refl;
             fits = record { count = fits.count; pred_count = fits.pred_count; zero = fits.zero; always = fits.always };
             backs = ap other_backs backs;
           };
@@ -264,7 +272,7 @@ module _ (image : Parts) (from : Sources) where
 
   return_waits : (b : Slots) (bs : List Slots) (home : Back) (base at : ℕ) (rest : List Back) (m : Run) (w : Walk) → is_always b.first.guard ≡ true → are_delay_slots 3 bs ≡ true
       → FetchAt image base at (with_op Return b ∷ bs) → Comes image base at rest m w → (run_late from (all_done (with_op Return b ∷ bs)) m).ways ≡ m.ways ++ returns home.base home.offset ∷ []
-      → Left image from (all_done (with_op Return b ∷ bs)) home rest w (run_late from (all_done (with_op Return b ∷ bs)) m)
+      → Left image from (all_done (with_op Return b ∷ bs)) (way_dues (goal.Return home.base home.offset) (with_op Return b ∷ bs)) home rest w (run_late from (all_done (with_op Return b ∷ bs)) m)
   return_waits b bs home base at rest m w always slots h c asks =
       let parts = and_parts (length bs == 3) (are_calm bs) slots in
       let it = with_op Return b in
@@ -273,7 +281,8 @@ module _ (image : Parts) (from : Sources) where
       let way : returns m.regs.srb m.regs.sro ≡ returns home.base home.offset = same_last m.ways (returns m.regs.srb m.regs.sro) (returns home.base home.offset) (sym (flow_ways it bs (effect.Flow flow) m asked parts.1) ∙ asks) in
       record {
         last = waiting (goal.Return m.regs.srb m.regs.sro) 0 base (at + bundles_words (it ∷ bs)) (run_late from (all_done (it ∷ bs)) m);
-        does_so = flow_waits it it bs flow base at rest m w asked refl refl (eqb-true (length bs) 3 parts.0) parts.1 h c;
+        does_so = subst (λ x. Does image from (all_done (it ∷ bs)) (way_dues (goal.Return (place_of x).base (place_of x).offset) (it ∷ bs)) w (waiting (goal.Return m.regs.srb m.regs.sro) 0 base (at + bundles_words (it ∷ bs)) (run_late from (all_done (it ∷ bs)) m))) way
+            (flow_waits it it bs flow base at rest m w asked refl refl (eqb-true (length bs) 3 parts.0) parts.1 h c);
         run = refl;
         flow = ap (λ x. Some (record { goal = goal.Return (place_of x).base (place_of x).offset; slots = 0 })) way;
         fits = done_fits from (it ∷ bs) m c.fits;
@@ -281,12 +290,12 @@ module _ (image : Parts) (from : Sources) where
       }
 
   pub return_goes : (tail : List Slots) (home : Back) (base at : ℕ) (rest : List Back) (m : Run) (w : Walk) → is_way is_return tail ≡ true → FetchAt image base at tail → Comes image base at rest m w
-      → (run_late from (all_done tail) m).ways ≡ m.ways ++ returns home.base home.offset ∷ [] → Left image from (all_done tail) home rest w (run_late from (all_done tail) m)
+      → (run_late from (all_done tail) m).ways ≡ m.ways ++ returns home.base home.offset ∷ [] → Left image from (all_done tail) (way_dues (goal.Return home.base home.offset) tail) home rest w (run_late from (all_done tail) m)
   return_goes [] home base at rest m w formed h c asks = absurd (true≢false (sym formed))
   return_goes (b ∷ bs) home base at rest m w formed h c asks =
       let parts = and_parts (is_return b.first.op) (is_always b.first.guard && are_delay_slots 3 bs) formed in
       let more = and_parts (is_always b.first.guard) (are_delay_slots 3 bs) parts.1 in
       let is = return_is b.first.op parts.0 in
-      subst (λ op. Left image from (all_done (with_op op b ∷ bs)) home rest w (run_late from (all_done (with_op op b ∷ bs)) m)) (sym is)
+      subst (λ op. Left image from (all_done (with_op op b ∷ bs)) (way_dues (goal.Return home.base home.offset) (with_op op b ∷ bs)) home rest w (run_late from (all_done (with_op op b ∷ bs)) m)) (sym is)
       (return_waits b bs home base at rest m w more.0 more.1 (subst (λ op. FetchAt image base at (with_op op b ∷ bs)) is h) c
       (subst (λ op. (run_late from (all_done (with_op op b ∷ bs)) m).ways ≡ m.ways ++ returns home.base home.offset ∷ []) is asks))

@@ -5,3 +5,4 @@ pub mod Flat
 pub mod Placed
 pub mod Stands
 pub mod Walk
+pub mod Dues

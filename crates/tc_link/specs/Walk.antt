@@ -15,7 +15,7 @@ use Rattle.patmos_model.specs.Flows.{counted}
 use Rattle.patmos_model.specs.Site.{size_at, has_place}
 use Rattle.patmos_model.specs.State.{Plain}
 use Rattle.patmos_sem.specs.Bundles.{effect_of}
-use Rattle.sp_shape.specs.Run.{Run, Sources, late, run_late, other_backs}
+use Rattle.sp_shape.specs.Run.{Run, Sources, late, run_late, other_backs, begun}
 use Rattle.sp_shape.specs.Trail.{Step, does, begins}
 use Rattle.tc_link.specs.Flat.{with_op}
 
@@ -113,13 +113,29 @@ abbrev pub IsCall : Option Goal → Type 0
 IsCall (Some (goal.Call target)) = Unit {0}
 IsCall _ = ⊥
 
+-- a bundle is fetched and done, the flow that was due before it being none of a call; behind it this is due
+pub record DoesOne (image : Parts) (from : Sources) (b : Slots) (d : Option Goal) (Rest : Walk → Type 0) (w : Walk) : Type 0 where
+  pub placed : IsPlaced image w
+  pub run_is : (flowed w).run ≡ w.run
+  pub fetches : Fetches image b (flowed w)
+  pub due_is : due (bundle_done from fetches.bundle fetches.words (flowed w)).flow ≡ d
+  pub rest : Rest (bundle_done from fetches.bundle fetches.words (flowed w))
+
+-- a call takes effect, and sets the place that is told
+pub record Enters (image : Parts) (Rest : Walk → Type 0) (w : Walk) : Type 0 where
+  pub placed : IsPlaced image w
+  pub calls : IsCall (due w.flow)
+  pub run_is : (flowed w).run ≡ begun w.run
+  pub rest : Rest (flowed w)
+
 -- from the first walk on, the bundles of the image are those of the steps, one after another, each flow that takes effect
--- goes to a place, and a call does where a function begins; the last walk is where it then is
-abbrev pub Does : Parts → Sources → List Step → Walk → Walk → Type 0
-Does image from [] w e = w ≡ e
-Does image from (does b ∷ steps) w e =
-    IsPlaced image w × ((f : Fetches image b (flowed w)) × Does image from steps (bundle_done from f.bundle f.words (flowed w)) e)
-Does image from (begins ∷ steps) w e = IsPlaced image w × IsCall (due w.flow) × Does image from steps (flowed w) e
+-- goes to a place, and a call does where a function begins; these goals are due behind the bundles; the last walk is where
+-- it then is
+abbrev pub Does : Parts → Sources → List Step → List (Option Goal) → Walk → Walk → Type 0
+Does image from [] ds w e = (ds ≡ []) × (w ≡ e)
+Does image from (does b ∷ steps) [] w e = ⊥
+Does image from (does b ∷ steps) (d ∷ ds) w e = DoesOne image from b d (λ x. Does image from steps ds x e) w
+Does image from (begins ∷ steps) ds w e = Enters image (λ x. Does image from steps ds x e) w
 
 -- a walk begins at the first word of the function that starts at a place
 abbrev pub walk_from : ℕ → Run → Walk
@@ -127,9 +143,9 @@ walk_from base m = record { run = m; base = base; offset = 0; flow = None }
 
 -- steps are done one after another from there on, and leave what they leave when they are read late; and a return is due
 -- to the place that was set when they began
-pub record Follows (image : Parts) (from : Sources) (steps : List Step) (w : Walk) : Type 0 where
+pub record Follows (image : Parts) (from : Sources) (steps : List Step) (ds : List (Option Goal)) (w : Walk) : Type 0 where
   pub last : Walk
-  pub does_so : Does image from steps w last
+  pub does_so : Does image from steps ds w last
   pub run : last.run ≡ run_late from steps w.run
   pub returns : due last.flow ≡ Some (goal.Return w.run.regs.srb w.run.regs.sro)
 

@@ -21,7 +21,8 @@ ghost use Rattle.sp_shape.specs.Formed.{is_formed};
 ghost use Rattle.sp_shape.specs.Parts.{PlainParts, PlainShape};
 ghost use Rattle.sp_shape.specs.Run.{Run, Sources, late, run_late};
 ghost use Rattle.sp_shape.specs.Trail.{trail};
-ghost use Rattle.sp_shape.specs.Turning.{ShapeTurns};
+ghost use Rattle.sp_shape.specs.Turning.{ShapeTurns, back_of};
+ghost use Rattle.tc_link.specs.Dues.{dues_of};
 ghost use Rattle.sp_shape.specs.Words.{bundles_words};
 ghost use Rattle.tc_link.specs.Backs.{backs_of};
 ghost use Rattle.tc_link.specs.Fits.{FitsImage};
@@ -82,7 +83,7 @@ pub fn code_follows_the_trail()
     ensures { (s : PlainShape) (from : Sources) (m : Run) → is_formed s ≡ true → FitsImage s
         → ((k : ℕ) → k < length s.functions → All FitsBundle (flat s k))
         → FitsRegisters m.regs → m.backs ≡ backs_of s → ShapeTurns (run_late from) s m
-        → Follows (linked s) from (trail s) (walk_from (entry (linked s)) m) }
+        → Follows (linked s) from (trail s) (dues_of s (back_of m)) (walk_from (entry (linked s)) m) }
 {}
 
 /// Flows take effect in a walk as they do in a core: the same goals are places, the core goes on where the walk does, and

@@ -11,7 +11,7 @@ use tc_word::OutOfMemory;
 
 /// Appends the line that tells what became of a core's task.
 #[tactic(auto, unfolding(crate::specs::Report::state_line))]
-pub fn put_state_line(text: &mut Vec<u8>, core: u64, row: &Row) -> Result<(), OutOfMemory>
+pub fn add_state_line(text: &mut Vec<u8>, core: u64, row: &Row) -> Result<(), OutOfMemory>
     ensures { OnOk result (text.new.items ≡ text.old.items ++ state_line core row.now) }
 {
     put_about(text, core)?;
@@ -64,7 +64,7 @@ fn put_where(text: &mut Vec<u8>, holds: bool, words: &str) -> Result<(), OutOfMe
 
 /// Appends the line of a step of the five stages: the cycle of its bundle, and the places that fetch, decode, execute,
 /// memory and write-back hold.
-pub fn put_step_line(
+pub fn add_step_line(
     text: &mut Vec<u8>,
     cycle: u64,
     stages: &[Option<u32>; 5],
@@ -95,7 +95,7 @@ fn put_stage(text: &mut Vec<u8>, name: &str, place: Option<u32>) -> Result<(), O
 
 /// Appends the line that tells what a C task means: the value of its `main`, which is told as signed, and whether a loop
 /// of it ran past its count.
-pub fn put_mean_line(
+pub fn add_mean_line(
     text: &mut Vec<u8>,
     core: u64,
     value: u32,
@@ -116,7 +116,7 @@ pub fn put_out_lines(text: &mut Vec<u8>, core: u64, row: &Row) -> Result<(), Out
     ensures { OnOk result (text.new.items ≡ text.old.items ++ out_lines core row.now) }
 {
     if is_done(row.state) {
-        put_outs(text, core, row.outs_unsigned, row.outs.as_slice())
+        add_outs(text, core, row.outs_unsigned, row.outs.as_slice())
     } else {
         Ok(())
     }
@@ -124,7 +124,7 @@ pub fn put_out_lines(text: &mut Vec<u8>, core: u64, row: &Row) -> Result<(), Out
 
 /// Appends a line for each word of `out`, with its index from 0.
 #[tactic(auto, using(crate::proofs::Appends::more_outs, crate::proofs::Appends::all_outs))]
-pub fn put_outs(
+pub fn add_outs(
     text: &mut Vec<u8>,
     core: u64,
     unsigned: bool,

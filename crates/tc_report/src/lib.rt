@@ -8,7 +8,7 @@
 //! - [`put_core_name`] writes how every text names a core.
 //! - [`put_mean_line`] and [`put_outs`] write what a C task means: its value, and the words of its array `out`.
 //! - [`put_platform_line`], [`put_step_line`] and [`put_state_line`] write the platform, what the five stages of a core
-//!   hold at a step, and what became of a core's task.
+//!   hold at a step, and what became of a core's task. Each appends whole, or leaves the text as it was.
 //! - [`report`] gives exactly the text that the definition in `specs/Report.antt` gives for the rows. Only
 //!   want of memory may come besides. Its work is linear in the text.
 //!
@@ -16,15 +16,17 @@
 #![tactic(auto)]
 
 mod core_lines;
+mod lines;
 mod rows;
 mod text;
 mod whole;
 mod worked;
 
-pub use core_lines::{put_mean_line, put_outs, put_state_line, put_step_line};
+pub use lines::{
+    put_core_name, put_mean_line, put_outs, put_platform_line, put_state_line, put_step_line,
+};
 pub use rows::{Row, RowState, Rows};
-pub use text::put_core_name;
-pub use whole::{put_platform_line, report};
+pub use whole::report;
 pub use worked::report_worked;
 
 #[cfg(test)]

@@ -28,7 +28,7 @@ pub fn put_signed(text: &mut Vec<u8>, word: u32) -> Result<(), OutOfMemory>
 }
 
 /// Appends the name of a core, `core` and its number.
-pub fn put_core_name(text: &mut Vec<u8>, core: u64) -> Result<(), OutOfMemory>
+pub fn add_core_name(text: &mut Vec<u8>, core: u64) -> Result<(), OutOfMemory>
     ensures { OnOk result (text.new.items ≡ text.old.items ++ specs.core_name core) }
 {
     put_with(text, "core ", core)
@@ -38,6 +38,6 @@ pub fn put_core_name(text: &mut Vec<u8>, core: u64) -> Result<(), OutOfMemory>
 pub fn put_about(text: &mut Vec<u8>, core: u64) -> Result<(), OutOfMemory>
     ensures { OnOk result (text.new.items ≡ text.old.items ++ specs.about core) }
 {
-    put_core_name(text, core)?;
+    add_core_name(text, core)?;
     put(text, " ")
 }

@@ -1,7 +1,7 @@
 ghost use Rattle.std.specs.Prelude.{◌≡◌, ◌++◌, IfOk, OnOk};
 ghost use Rattle.tc_report.specs.Report as specs;
 
-use crate::core_lines::{put_accesses, put_dropped, put_out_lines, put_state_line};
+use crate::core_lines::{add_state_line, put_accesses, put_dropped, put_out_lines};
 use crate::rows::{Row, Rows};
 use crate::text::{put, put_with};
 use std::alloc::Global;
@@ -13,14 +13,14 @@ pub fn report(alloc: Global, rows: &Rows) -> Result<Vec<u8>, OutOfMemory>
     ensures { IfOk result (λ text. text.items ≡ specs.report_text rows.now) }
 {
     let mut text = Vec::new(alloc);
-    put_platform_line(&mut text, rows.cores, rows.slot, rows.period)?;
+    add_platform_line(&mut text, rows.cores, rows.slot, rows.period)?;
     put_cores(&mut text, rows.rows.as_slice())?;
     Ok(text)
 }
 
 /// Appends the line of the platform: how many cores it has, and the lengths of a slot and of the period in cycles.
 #[tactic(auto, unfolding(crate::specs::Report::platform_line))]
-pub fn put_platform_line(
+pub fn add_platform_line(
     text: &mut Vec<u8>,
     cores: u32,
     slot: u32,
@@ -50,7 +50,7 @@ fn put_cores(text: &mut Vec<u8>, rows: &[Row]) -> Result<(), OutOfMemory>
 fn put_core(text: &mut Vec<u8>, core: u64, row: &Row) -> Result<(), OutOfMemory>
     ensures { OnOk result (text.new.items ≡ text.old.items ++ specs.core_lines core row.now) }
 {
-    put_state_line(text, core, row)?;
+    add_state_line(text, core, row)?;
     put_out_lines(text, core, row)?;
     put_dropped(text, core, row.dropped)?;
     put_accesses(text, core, row.accesses.as_slice())

@@ -6,7 +6,7 @@ ghost use Rattle.tc_run.specs.Carried.{Carries, IsCrewOn, IsReady, workers_in, w
 
 use crate::threads::{SameWorkers, gather, run_through, start_group};
 use clock_board::Board;
-use core_worker::Worker;
+use core_worker::{Waiting, Worker};
 use global_step::Loaded;
 use std::alloc::Global;
 use std::sync::Wait;
@@ -50,13 +50,19 @@ impl Crew {
     }
 
     /// Runs the workers that the caller has until none of them has an event left.
-    fn run_here<R: Wait, G: Gate>(&mut self, rt: &R, board: &Board<Loaded>, gate: &G)
+    fn run_here<R: Wait, G: Gate>(
+        &mut self,
+        rt: &R,
+        board: &Board<Loaded>,
+        waiting: &Waiting,
+        gate: &G,
+    )
         requires on { All (IsOn board.now) (workers_of self.old) }
         ensures carries { Carries board.now (workers_of self.old) (workers_of self.new) }
         ensures ready { (workers : List WorkerFace) (groups : ℕ) → IsReady board.now self.old workers groups
             → IsReady board.now self.new workers groups }
     {
-        run_through(rt, &mut self.here, board, gate);
+        run_through(rt, &mut self.here, board, waiting, gate);
     }
 
     /// Takes a group of workers on, in a thread of its own. Where no thread can be started, the caller has them.
@@ -67,6 +73,7 @@ impl Crew {
         group: Vec<Worker<Loaded>>,
         refused: &'s AtomicBool,
         board: &'s Board<Loaded>,
+        waiting: &'s Waiting,
         gate: &'s G,
     )
         requires on { All (IsOn board.now) group.items }
@@ -79,7 +86,7 @@ impl Crew {
         ensures one { vec_len self.new.away ≤ vec_len self.old.away + 1 }
         ensures threads { vec_capacity self.new.away ≡ vec_capacity self.old.away }
     {
-        match start_group(scope, rt, group, refused, board, gate) {
+        match start_group(scope, rt, group, refused, board, waiting, gate) {
             Ok(handle) => self.away.push_reserved(handle),
             Err(back) => gather(&mut self.here, back),
         }
@@ -93,6 +100,7 @@ impl Crew {
         mut groups: Vec<Vec<Worker<Loaded>>>,
         refused: &'s [AtomicBool],
         board: &'s Board<Loaded>,
+        waiting: &'s Waiting,
         gate: &'s G,
     )
         requires ready { IsReady board.now self.old (workers_in groups.items) (vec_len groups) }
@@ -103,7 +111,7 @@ impl Crew {
         while let Some(group) = groups.pop() {
             let flag = &refused[groups.len()];
             if !group.is_empty() {
-                self.take_on(scope, rt, group, flag, board, gate);
+                self.take_on(scope, rt, group, flag, board, waiting, gate);
             }
         }
     }
@@ -129,6 +137,7 @@ pub(crate) fn run_groups<R: Threads + Wait + Sync, G: Gate + Sync>(
     crew: Crew,
     refused: &[AtomicBool],
     board: &Board<Loaded>,
+    waiting: &Waiting,
     gate: &G,
 ) -> Vec<Worker<Loaded>>
     requires ready { IsReady board.now crew (workers_in groups.items) (vec_len groups) }
@@ -144,7 +153,7 @@ pub(crate) fn run_groups<R: Threads + Wait + Sync, G: Gate + Sync>(
             requires flags { vec_len groups ≤ length refused.now }
             ensures carries { Carries board.entry.now (workers_of crew ++ workers_in groups.items) result.items }
             ensures done { All IsDone result.items }
-        { run_in(scope, rt, groups, crew, refused, board, gate) },
+        { run_in(scope, rt, groups, crew, refused, board, waiting, gate) },
     )
 }
 
@@ -156,6 +165,7 @@ fn run_in<'s, E, R: Threads + Wait + Sync, G: Gate + Sync>(
     mut crew: Crew,
     refused: &'s [AtomicBool],
     board: &'s Board<Loaded>,
+    waiting: &'s Waiting,
     gate: &'s G,
 ) -> Vec<Worker<Loaded>>
     requires ready { IsReady board.now crew (workers_in groups.items) (vec_len groups) }
@@ -163,10 +173,10 @@ fn run_in<'s, E, R: Threads + Wait + Sync, G: Gate + Sync>(
     ensures carries { Carries board.now (workers_of crew ++ workers_in groups.items) result.items }
     ensures done { All IsDone result.items }
 {
-    crew.run_here(rt, board, gate);
-    crew.take_all_on(scope, rt, groups, refused, board, gate);
-    crew.run_here(rt, board, gate);
+    crew.run_here(rt, board, waiting, gate);
+    crew.take_all_on(scope, rt, groups, refused, board, waiting, gate);
+    crew.run_here(rt, board, waiting, gate);
     let mut workers = crew.joined(rt);
-    run_through(rt, &mut workers, board, gate);
+    run_through(rt, &mut workers, board, waiting, gate);
     workers
 }

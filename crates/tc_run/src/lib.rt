@@ -9,6 +9,7 @@
 //! - [`outcome_of`], [`accesses_of`], [`dropped_of`] and [`own_word_of`] tell what such a core is in the
 //!   machine at its limit.
 //!
+//! `machine` makes what the workers share to wait for one another, before the first of them starts.
 //! `making` makes the board and the workers in groups, `crew` runs the groups in threads and joins them, with the
 //! steps of `threads`, and `ending` gives the passes back and closes the board. That a step hands all workers on is
 //! said by `specs/Carried.antt`, and for which of the machine's cores a worker stands by `specs/Worked.antt`. That the

@@ -7,7 +7,7 @@ use crate::begin::count_of;
 use crate::crew::{Crew, run_groups};
 use crate::ending::{Final, end_of};
 use crate::making::{board_of, groups_of};
-use clock_board::Board;
+use core_worker::Waiting;
 use global_step::Loaded;
 use std::alloc::Global;
 use std::sync::Wait;
@@ -28,23 +28,36 @@ pub fn run_machine<R: Threads + Wait + Sync, G: Gate + Sync>(
     ensures words { IfOk result (λ end. (w : ℕ) → slice_index end.words w ≡ (at_limit machine.now).words w) }
     ensures board { IfOk result (λ end. length end.words ≡ comm_word (length machine.now.cores) 0) }
 {
+    let waiting = Waiting::new(has_processors(rt, machine));
+    run_waiting(alloc, rt, machine, &waiting, gate)
+}
+
+/// The same, with what its workers share to wait for one another.
+pub(crate) fn run_waiting<R: Threads + Wait + Sync, G: Gate + Sync>(
+    alloc: Global,
+    rt: &R,
+    machine: &Loaded,
+    waiting: &Waiting,
+    gate: &G,
+) -> Result<Final, OutOfMemory>
+    ensures cores { IfOk result (λ end. AreFinal machine.now end.cores) }
+    ensures words { IfOk result (λ end. (w : ℕ) → slice_index end.words w ≡ (at_limit machine.now).words w) }
+    ensures board { IfOk result (λ end. length end.words ≡ comm_word (length machine.now.cores) 0) }
+{
     let (board, mut maker) = board_of(alloc, machine)?;
-    choose_waiting(rt, machine, &board);
     let mut groups = groups_of(rt, alloc, machine, &board, &mut maker)?;
     let crew = Crew::with_last(alloc, &mut groups, count_of(machine))?;
     let refused = flags_of(alloc, groups.len())?;
     let cores = Vec::with_capacity(alloc, count_of(machine))?;
-    let workers = run_groups(rt, groups, crew, refused.as_slice(), &board, gate);
+    let workers = run_groups(rt, groups, crew, refused.as_slice(), &board, waiting, gate);
     Ok(end_of(machine, board, maker, workers, cores))
 }
 
-// has threads that wait peek for a while where each worker can have a processor of its own
-fn choose_waiting<R: Threads>(rt: &R, machine: &Loaded, board: &Board<Loaded>) {
-    let Ok(count) = available_parallelism(rt) else {
-        return;
-    };
-    if machine.workers() as usize <= count.get() {
-        board.peek_first();
+// whether each worker of a machine can have a processor of its own
+fn has_processors<R: Threads>(rt: &R, machine: &Loaded) -> bool {
+    match available_parallelism(rt) {
+        Ok(count) => machine.workers() as usize <= count.get(),
+        Err(_) => false,
     }
 }
 

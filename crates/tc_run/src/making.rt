@@ -12,10 +12,10 @@ ghost use Rattle.tc_run.specs.Worked.{number, number_of, IsFirst, IsWorkerOf, Is
 
 use crate::begin::{core_of, count_of};
 use crate::in_words::loaded_with_words;
-use argo_ni::{COMM_WORDS, SHARED_WORDS};
 use clock_board::{Board, Pass};
 use core_worker::Worker;
 use global_step::{Loaded, LoadedCore};
+use local_store::{COMM_WORDS, SHARED_WORDS};
 use patmos_core::Core;
 use std::alloc::Global;
 use std::sync::Wait;

@@ -10,9 +10,9 @@ use crate::begin::{core_of, count_of};
 use crate::ending::{Final, end_of};
 use crate::making::{board_of, groups_of};
 use crate::threads::{gather, run_through};
-use argo_ni::{COMM_WORDS, SHARED_WORDS};
-use core_worker::Worker;
+use core_worker::{Waiting, Worker};
 use global_step::{Loaded, plain_run};
+use local_store::{COMM_WORDS, SHARED_WORDS};
 use patmos_core::Core;
 use std::alloc::Global;
 use std::sync::Wait;
@@ -51,7 +51,7 @@ pub fn run_by_turns<R: Wait, G: Gate>(
     let groups = groups_of(rt, alloc, machine, &board, &mut maker)?;
     let mut workers = all_of(alloc, groups, count_of(machine))?;
     let cores = Vec::with_capacity(alloc, count_of(machine))?;
-    run_through(rt, &mut workers, &board, gate);
+    run_through(rt, &mut workers, &board, &Waiting::new(false), gate);
     Ok(end_of(machine, board, maker, workers, cores))
 }
 

@@ -1,12 +1,17 @@
 use super::*;
+use crate::machine::run_waiting;
+use core_worker::Waiting;
 use global_step::{Loaded, LoadedCore};
 use local_store::Cell;
 use patmos_code::Image;
 use patmos_core::{Core, CoreState};
 use slot_arbiter::{Access, Place};
 use std::alloc::{AllocError, Global};
+use std::sync::Wait;
+use std::sync::atomic::{AtomicBool, Ordering};
 use std::test::Fail;
-use tc_io::FreeGate;
+use std::thread::yield_now;
+use tc_io::{FreeGate, Gate};
 use tc_word::List;
 
 /// The task of a core.
@@ -159,6 +164,54 @@ fn threads_turns_and_the_plain_run_end_alike(rt: HostRuntime) -> Result<(), Fail
             assert_eq!(rt; ended.as_slice(), outcomes);
             assert_eq!(rt; end.words.as_slice().first(), Some(&shared));
         }
+    }
+    Ok(())
+}
+
+/// The gate that holds core 1 at its first event until a thread sleeps for its clock.
+#[derive(Drop)]
+struct FirstHeld<'a, R: Wait> {
+    rt: &'a R,
+    waiting: &'a Waiting,
+    was_held: AtomicBool,
+}
+
+impl<R: Wait> Gate for FirstHeld<'_, R> {
+    fn at(&self, core: u32, _stamp: u64) {
+        if core != 1 || self.was_held.swap(true, Ordering::SeqCst) {
+            return;
+        }
+        for _ in self.rt.forever() {
+            if self.waiting.is_awaited(1) {
+                break;
+            }
+            yield_now();
+        }
+    }
+}
+
+#[test]
+fn a_worker_that_sleeps_is_woken(rt: HostRuntime) -> Result<(), Fail> {
+    let alloc = rt.alloc();
+    let tasks = [Task::Store { start: 12 }, Task::TwoLoads];
+    let machine = machine_of(alloc, 2, tasks.as_slice(), 2)?.expect(&rt, "a machine");
+    for peeks_first in [false, true] {
+        let waiting = Waiting::new(peeks_first);
+        let gate = FirstHeld {
+            rt: &rt,
+            waiting: &waiting,
+            was_held: AtomicBool::new(false),
+        };
+        let end = run_waiting(alloc, &rt, &machine, &waiting, &gate)?;
+        let ended = outcomes_of(alloc, end.cores.as_slice())?;
+        assert_eq!(rt;
+            ended.as_slice(),
+            [done(0, SHARED, 46), done(5, SHARED, 64)].as_slice()
+        );
+        assert!(rt;
+            gate.was_held.load(Ordering::SeqCst),
+            "core 1 came to its event"
+        );
     }
     Ok(())
 }

@@ -4,7 +4,7 @@ ghost use Rattle.core_worker.specs.Worker.{AreLater, IsDone, IsOn};
 ghost use Rattle.tc_run.specs.Carried.{Carries};
 
 use clock_board::Board;
-use core_worker::{Worker, run_all};
+use core_worker::{Waiting, Worker, run_all};
 use global_step::Loaded;
 use std::snapshot::Snapshot;
 use std::sync::Wait;
@@ -32,6 +32,7 @@ pub(crate) fn run_group<R: Wait, G: Gate>(
     mut workers: Vec<Worker<Loaded>>,
     refused: &AtomicBool,
     board: &Board<Loaded>,
+    waiting: &Waiting,
     gate: &G,
 ) -> Vec<Worker<Loaded>>
     requires on { All (IsOn board.now) workers.items }
@@ -39,7 +40,7 @@ pub(crate) fn run_group<R: Wait, G: Gate>(
     ensures later { AreLater workers.items result.items }
 {
     if !refused.load(Ordering::SeqCst) {
-        run_all(rt, workers.as_mut_slice(), board, gate);
+        run_all(rt, workers.as_mut_slice(), board, waiting, gate);
     }
     workers
 }
@@ -51,6 +52,7 @@ pub(crate) fn start_group<'s, E, R: Threads + Wait + Sync, G: Gate + Sync>(
     workers: Vec<Worker<Loaded>>,
     refused: &'s AtomicBool,
     board: &'s Board<Loaded>,
+    waiting: &'s Waiting,
     gate: &'s G,
 ) -> Result<PromisedHandle<Vec<Worker<Loaded>>, SameWorkers>, Vec<Worker<Loaded>>>
     requires on { All (IsOn board.now) workers.items }
@@ -65,7 +67,7 @@ pub(crate) fn start_group<'s, E, R: Threads + Wait + Sync, G: Gate + Sync>(
     };
     match scope.spawn_with(
         promise,
-        move || run_group(rt, workers, refused, board, gate),
+        move || run_group(rt, workers, refused, board, waiting, gate),
     ) {
         Ok(handle) => Ok(handle),
         Err(back) => {
@@ -91,6 +93,7 @@ pub(crate) fn run_through<R: Wait, G: Gate>(
     rt: &R,
     workers: &mut Vec<Worker<Loaded>>,
     board: &Board<Loaded>,
+    waiting: &Waiting,
     gate: &G,
 )
     requires on { All (IsOn board.now) workers.old.items }
@@ -98,5 +101,5 @@ pub(crate) fn run_through<R: Wait, G: Gate>(
     ensures done { All IsDone workers.new.items }
     ensures room { vec_capacity workers.new ≡ vec_capacity workers.old }
 {
-    run_all(rt, workers.as_mut_slice(), board, gate);
+    run_all(rt, workers.as_mut_slice(), board, waiting, gate);
 }

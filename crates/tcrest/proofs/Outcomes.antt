@@ -17,7 +17,6 @@ use Rattle.tcrest.specs.declared.command.Command.{Command}
 use Rattle.tcrest.specs.declared.command.Command.TheVariants.{OfInput, Usage}
 use Rattle.tcrest.specs.declared.command.InputCommand.{InputCommand}
 use Rattle.tcrest.specs.declared.command.InputCommand.TheVariants.{Job as OfJob, Grid}
-use Rattle.c_tree.specs.Reading.{Trees}
 use Rattle.argo_grid.specs.declared.fault.GridFault.{GridFault}
 use Rattle.argo_grid.specs.declared.fault.GridFault.TheVariants as grid_faults
 use Rattle.argo_grid.specs.Check.{checked}
@@ -101,35 +100,35 @@ pipe_with_below job coded = (pipe_with-is job coded).below
 refused-is : (refusal : CoreRefusal) → IsOfInput (no_task refusal)
 refused-is refusal = of_tasks (no_task refusal) (omega arith, omega arith, omega arith)
 
-answer_by-is : (trees : Trees) (command : JobCommand) (job : Job) → IsOfInput (answer_by trees command job)
-answer_by-is trees (OfCode command) job =
+answer_by-is : (command : JobCommand) (job : Job) → IsOfInput (answer_by command job)
+answer_by-is (OfCode command) job =
     of_tasks (answer_or command job coded) (answer_or-status command job coded)
   where
     coded : Result (List (Option Coded)) CoreRefusal
-    coded = coded_from trees job.cores job.tasks 0 job.cores
-answer_by-is trees Mean job = by (meanings_from trees job.cores job.tasks 0 job.cores)
+    coded = coded_from job.cores job.tasks 0 job.cores
+answer_by-is Mean job = by (meanings_from job.cores job.tasks 0 job.cores)
   where
     by : (read : Result (List ℕ) CoreRefusal) → IsOfInput (meanings_or read)
     by (Ok text) = of_tasks (whole text) (omega arith, omega arith, omega arith)
     by (Err refusal) = refused-is refusal
-answer_by-is trees Pipe job = either (is_lone job) (by (coded_from trees job.cores job.tasks 0 job.cores))
+answer_by-is Pipe job = either (is_lone job) (by (coded_from job.cores job.tasks 0 job.cores))
   where
     by : (coded : Result (List (Option Coded)) CoreRefusal) → IsOfInput (pipe_or job coded)
     by (Ok coded) = pipe_with-is job coded
     by (Err refusal) = refused-is refusal
 
-    either : (lone : Bool) → IsOfInput (pipe_or job (coded_from trees job.cores job.tasks 0 job.cores))
-        → IsOfInput (if lone then pipe_or job (coded_from trees job.cores job.tasks 0 job.cores) else one_core)
+    either : (lone : Bool) → IsOfInput (pipe_or job (coded_from job.cores job.tasks 0 job.cores))
+        → IsOfInput (if lone then pipe_or job (coded_from job.cores job.tasks 0 job.cores) else one_core)
     either true told = told
     either false told = one_core-is
 
-job_answer-is : (trees : Trees) (command : JobCommand) (read : Result Job Fault) → IsOfInput (job_answer trees command read)
-job_answer-is trees command (Err fault) = record {
+job_answer-is : (command : JobCommand) (read : Result Job Fault) → IsOfInput (job_answer command read)
+job_answer-is command (Err fault) = record {
   below = omega arith;
   not_usage = omega arith;
   not_long = λ same. differs_from_long fault.kind fault.task fault.key (ap (λ (a : Answer). slice_index a.text 7) same);
 }
-job_answer-is trees command (Ok job) = answer_by-is trees command job
+job_answer-is command (Ok job) = answer_by-is command job
 
 -- a schedule of the network that is right, or that has a fault
 schedule_answer-is : (s : Schedule) (answer : Result (Unit {0}) GridFault) → IsOfInput (of_grid (by_check s answer))
@@ -149,9 +148,9 @@ grid_answer-is (Err fault) = record {
   not_long = λ same. differs_from_long fault.kind fault.task fault.key (ap (λ (a : Answer). slice_index a.text 7) same);
 }
 
-input_answer-is : (trees : Trees) (command : InputCommand) (bytes : List ℕ) → IsOfInput (input_answer trees command bytes)
-input_answer-is trees (OfJob command) bytes = job_answer-is trees command (job_of bytes)
-input_answer-is trees Grid bytes = grid_answer-is (schedule_of bytes)
+input_answer-is : (command : InputCommand) (bytes : List ℕ) → IsOfInput (input_answer command bytes)
+input_answer-is (OfJob command) bytes = job_answer-is command (job_of bytes)
+input_answer-is Grid bytes = grid_answer-is (schedule_of bytes)
 
 -- each of these answers has a status below those of faults of the outside
 pub below_if : {E : Type 0} (result : Result Answer E) (a : Answer) → IfOk result (λ x. x ≡ a) → a.status < 5 → IfOk result (λ x. x.status < 5)
@@ -166,57 +165,56 @@ pub grid_below : (bytes : List ℕ) → (of_grid (grid.report_of bytes)).status 
 grid_below bytes = (grid_answer-is (schedule_of bytes)).below
 
 -- what a command about the input owes where too many bytes came, and where all came
-bytes_answer-too_long : (trees : Trees) (command : InputCommand) (bytes : List ℕ) → MOST_BYTES < length bytes → bytes_answer trees command bytes ≡ too_long
+bytes_answer-too_long : (command : InputCommand) (bytes : List ℕ) → MOST_BYTES < length bytes → bytes_answer command bytes ≡ too_long
 unfolding bytes_answer
-bytes_answer-too_long trees command bytes long = grind (arith, nat_tests)
+bytes_answer-too_long command bytes long = grind (arith, nat_tests)
 
-bytes_answer-within : (trees : Trees) (command : InputCommand) (bytes : List ℕ) → length bytes ≤ MOST_BYTES → bytes_answer trees command bytes ≡ input_answer trees command bytes
+bytes_answer-within : (command : InputCommand) (bytes : List ℕ) → length bytes ≤ MOST_BYTES → bytes_answer command bytes ≡ input_answer command bytes
 unfolding bytes_answer
-bytes_answer-within trees command bytes within = grind (arith, nat_tests)
+bytes_answer-within command bytes within = grind (arith, nat_tests)
 
-pub bytes_answer-is_too_long : (trees : Trees) (command : InputCommand) (bytes : List ℕ) → (bytes_answer trees command bytes ≡ too_long) ↔ (MOST_BYTES < length bytes)
-bytes_answer-is_too_long trees command bytes = (
+pub bytes_answer-is_too_long : (command : InputCommand) (bytes : List ℕ) → (bytes_answer command bytes ≡ too_long) ↔ (MOST_BYTES < length bytes)
+bytes_answer-is_too_long command bytes = (
   λ same. elim (cases_lt MOST_BYTES (length bytes)) [
     | inl long ↦ long
-    | inr within ↦ absurd ((input_answer-is trees command bytes).not_long (sym (bytes_answer-within trees command bytes within) ∙ same))
+    | inr within ↦ absurd ((input_answer-is command bytes).not_long (sym (bytes_answer-within command bytes within) ∙ same))
   ],
-  bytes_answer-too_long trees command bytes,
+  bytes_answer-too_long command bytes,
 )
 
-bytes_answer-status : (trees : Trees) (command : InputCommand) (bytes : List ℕ) → ((bytes_answer trees command bytes).status < 5) × ((bytes_answer trees command bytes).status ≢ 1)
-bytes_answer-status trees command bytes = elim (cases_lt MOST_BYTES (length bytes)) [
-  | inl long ↦ rw (bytes_answer-too_long trees command bytes long) (omega arith, omega arith)
-  | inr within ↦ rw (bytes_answer-within trees command bytes within) ((input_answer-is trees command bytes).below, (input_answer-is trees command bytes).not_usage)
+bytes_answer-status : (command : InputCommand) (bytes : List ℕ) → ((bytes_answer command bytes).status < 5) × ((bytes_answer command bytes).status ≢ 1)
+bytes_answer-status command bytes = elim (cases_lt MOST_BYTES (length bytes)) [
+  | inl long ↦ rw (bytes_answer-too_long command bytes long) (omega arith, omega arith)
+  | inr within ↦ rw (bytes_answer-within command bytes within) ((input_answer-is command bytes).below, (input_answer-is command bytes).not_usage)
 ]
 
-command_answer-status : (trees : Trees) (command : Command) (bytes : List ℕ) → (command_answer trees command bytes).status < 5
-command_answer-status trees (OfInput command) bytes = (bytes_answer-status trees command bytes).0
-command_answer-status trees Usage bytes = omega arith
+command_answer-status : (command : Command) (bytes : List ℕ) → (command_answer command bytes).status < 5
+command_answer-status (OfInput command) bytes = (bytes_answer-status command bytes).0
+command_answer-status Usage bytes = omega arith
 
-pub answer-status : (trees : Trees) (words : List (List ℕ)) (bytes : List ℕ) → (answer trees words bytes).status < 5
-answer-status trees words bytes = command_answer-status trees (command_of words) bytes
+pub answer-status : (words : List (List ℕ)) (bytes : List ℕ) → (answer words bytes).status < 5
+answer-status words bytes = command_answer-status (command_of words) bytes
 
-pub command_answer-is_usage : (trees : Trees) (command : Command) (bytes : List ℕ) → ((command_answer trees command bytes).status ≡ 1) ↔ (command ≡ Usage)
-command_answer-is_usage trees (OfInput command) bytes = (λ one. absurd ((bytes_answer-status trees command bytes).1 one), λ is. absurd (cc))
-command_answer-is_usage trees Usage bytes = (λ _. refl, λ _. refl)
+pub command_answer-is_usage : (command : Command) (bytes : List ℕ) → ((command_answer command bytes).status ≡ 1) ↔ (command ≡ Usage)
+command_answer-is_usage (OfInput command) bytes = (λ one. absurd ((bytes_answer-status command bytes).1 one), λ is. absurd (cc))
+command_answer-is_usage Usage bytes = (λ _. refl, λ _. refl)
 
-module _ (trees : Trees) (failed : Type 0) (status faults faults' : ℕ) (taken taken' : Option (List ℕ)) where
+module _ (failed : Type 0) (status faults faults' : ℕ) (taken taken' : Option (List ℕ)) where
   pub sent_too_long : (command : InputCommand) (left : Option (List ℕ)) → IfSome left (λ bytes. MOST_BYTES < length bytes) → IsSent too_long status faults faults' taken taken'
-      → IfSome left (λ bytes. Ends (bytes_answer trees command bytes) failed status faults faults' taken taken')
+      → IfSome left (λ bytes. Ends (bytes_answer command bytes) failed status faults faults' taken taken')
   sent_too_long command None long sent = tt
-  sent_too_long command (Some bytes) long sent = rw (bytes_answer-too_long trees command bytes long) (inr (inl sent))
+  sent_too_long command (Some bytes) long sent = rw (bytes_answer-too_long command bytes long) (inr (inl sent))
 
-  pub sent_within : (command : InputCommand) (left : Option (List ℕ)) (came : List ℕ) → IfSome left (λ bytes. came ≡ bytes) → length came ≤ MOST_BYTES → IsSent (input_answer trees command came) status faults faults' taken taken'
-      → IfSome left (λ bytes. Ends (bytes_answer trees command bytes) failed status faults faults' taken taken')
+  pub sent_within : (command : InputCommand) (left : Option (List ℕ)) (came : List ℕ) → IfSome left (λ bytes. came ≡ bytes) → length came ≤ MOST_BYTES → IsSent (input_answer command came) status faults faults' taken taken'
+      → IfSome left (λ bytes. Ends (bytes_answer command bytes) failed status faults faults' taken taken')
   sent_within command None came all within sent = tt
-  sent_within command (Some bytes) came all within sent = rw (← all, bytes_answer-within trees command came within) (inr (inl sent))
+  sent_within command (Some bytes) came all within sent = rw (← all, bytes_answer-within command came within) (inr (inl sent))
 
   pub usage_sent : (command : Command) (left : Option (List ℕ)) → command ≡ Usage → IsSent usage status faults faults' taken taken'
-      → IfSome left (λ bytes. Ends (command_answer trees command bytes) failed status faults faults' taken taken')
+      → IfSome left (λ bytes. Ends (command_answer command bytes) failed status faults faults' taken taken')
   usage_sent (OfInput command) left is sent = absurd (cc)
   usage_sent Usage None is sent = tt
   usage_sent Usage (Some bytes) is sent = inr (inl sent)
-  -- where neither the source nor the sink failed
 
 -- a sink that tells its bytes was handed a text
 HasWritten-Ends : (a : Answer) (failed : Type 0) (status faults faults' : ℕ) (taken taken' : Option (List ℕ)) → a.status < 5

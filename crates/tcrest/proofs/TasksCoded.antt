@@ -2,7 +2,6 @@
 use Rattle.std.proofs.Common.{◌≡◌, ℕ, suc, ◌+◌, arith, List, [], ◌∷◌, ◌++◌, refl, sym, ap, ◌∙◌, append_assoc, subst, Option, Some, None, IfSome, option_map}
 use Rattle.std.specs.Prelude.{Result, Ok, Err}
 use Rattle.std.proofs.lemmas.List.{map-append}
-use Rattle.c_tree.specs.Reading.{Trees}
 use Rattle.tc_job.specs.declared.task.Task.{Task}
 use Rattle.tc_job.specs.Ranges.{IsTaskAmong}
 use Rattle.tcrest.specs.declared.refusal.CoreRefusal.{CoreRefusal}
@@ -21,26 +20,26 @@ behind-more : (prefix : List (Option Coded)) (c : Option Coded) (later : Result 
 behind-more prefix c (Ok cs) = ap Ok (append_assoc prefix (c ∷ []) cs)
 behind-more prefix c (Err refusal) = refl
 
-at_core : (trees : Trees) (cores : ℕ) (tasks : List Task) (core count more : ℕ) → count ≡ more + 1
-    → coded_from trees cores tasks core count ≡ (coded_on trees cores core (task_on tasks core) >>= λ c. coded_from trees cores tasks (core + 1) more >>= λ cs. Ok (c ∷ cs))
-at_core trees cores tasks core count more is = ap (coded_from trees cores tasks core) (let e : count ≡ suc more = omega (arith, is) in e)
+at_core : (cores : ℕ) (tasks : List Task) (core count more : ℕ) → count ≡ more + 1
+    → coded_from cores tasks core count ≡ (coded_on cores core (task_on tasks core) >>= λ c. coded_from cores tasks (core + 1) more >>= λ cs. Ok (c ∷ cs))
+at_core cores tasks core count more is = ap (coded_from cores tasks core) (let e : count ≡ suc more = omega (arith, is) in e)
 
 -- one more core's task has its code
-pub next_coded : (trees : Trees) (cores : ℕ) (tasks : List Task) (core count more : ℕ) (prefix pushed : List (Option CodedTask)) (one : Option CodedTask) (whole : Result (List (Option Coded)) CoreRefusal) → count ≡ more + 1 → pushed ≡ prefix ++ one ∷ []
-    → coded_on trees cores core (task_on tasks core) ≡ Ok (shown one) → behind (all_shown prefix) (coded_from trees cores tasks core count) ≡ whole
-    → behind (all_shown pushed) (coded_from trees cores tasks (core + 1) more) ≡ whole
-next_coded trees cores tasks core count more prefix pushed one whole left push is so_far =
-    ap (λ cs. behind cs (coded_from trees cores tasks (core + 1) more)) (ap all_shown push ∙ map-append shown prefix (one ∷ []))
-    ∙ behind-more (all_shown prefix) (shown one) (coded_from trees cores tasks (core + 1) more)
-    ∙ ap (behind (all_shown prefix)) (sym (at_core trees cores tasks core count more left ∙ ap (λ r. r >>= λ c. coded_from trees cores tasks (core + 1) more >>= λ cs. Ok (c ∷ cs)) is))
+pub next_coded : (cores : ℕ) (tasks : List Task) (core count more : ℕ) (prefix pushed : List (Option CodedTask)) (one : Option CodedTask) (whole : Result (List (Option Coded)) CoreRefusal) → count ≡ more + 1 → pushed ≡ prefix ++ one ∷ []
+    → coded_on cores core (task_on tasks core) ≡ Ok (shown one) → behind (all_shown prefix) (coded_from cores tasks core count) ≡ whole
+    → behind (all_shown pushed) (coded_from cores tasks (core + 1) more) ≡ whole
+next_coded cores tasks core count more prefix pushed one whole left push is so_far =
+    ap (λ cs. behind cs (coded_from cores tasks (core + 1) more)) (ap all_shown push ∙ map-append shown prefix (one ∷ []))
+    ∙ behind-more (all_shown prefix) (shown one) (coded_from cores tasks (core + 1) more)
+    ∙ ap (behind (all_shown prefix)) (sym (at_core cores tasks core count more left ∙ ap (λ r. r >>= λ c. coded_from cores tasks (core + 1) more >>= λ cs. Ok (c ∷ cs)) is))
     ∙ so_far
 
 -- where a call stops at a core, it stops as all of it is to
-pub stopped_coding : (trees : Trees) (cores : ℕ) (tasks : List Task) (core count more : ℕ) (prefix : List (Option Coded)) (halt : Halt CoreRefusal) (whole : Result (List (Option Coded)) CoreRefusal) → count ≡ more + 1
-    → Refuses halt (coded_on trees cores core (task_on tasks core)) → behind prefix (coded_from trees cores tasks core count) ≡ whole → Refuses halt whole
-stopped_coding trees cores tasks core count more prefix (Refused refusal) whole left is so_far =
-    sym so_far ∙ ap (behind prefix) (at_core trees cores tasks core count more left ∙ ap (λ r. r >>= λ c. coded_from trees cores tasks (core + 1) more >>= λ cs. Ok (c ∷ cs)) is)
-stopped_coding trees cores tasks core count more prefix Memory whole left is so_far = tt
+pub stopped_coding : (cores : ℕ) (tasks : List Task) (core count more : ℕ) (prefix : List (Option Coded)) (halt : Halt CoreRefusal) (whole : Result (List (Option Coded)) CoreRefusal) → count ≡ more + 1
+    → Refuses halt (coded_on cores core (task_on tasks core)) → behind prefix (coded_from cores tasks core count) ≡ whole → Refuses halt whole
+stopped_coding cores tasks core count more prefix (Refused refusal) whole left is so_far =
+    sym so_far ∙ ap (behind prefix) (at_core cores tasks core count more left ∙ ap (λ r. r >>= λ c. coded_from cores tasks (core + 1) more >>= λ cs. Ok (c ∷ cs)) is)
+stopped_coding cores tasks core count more prefix Memory whole left is so_far = tt
 
 -- a core's coded task is the job's
 pub coded_among : (cores : ℕ) (one : Option CodedTask) (found : Option Task) → option_map (λ t. t.task.now) one ≡ found → IfSome found (IsTaskAmong cores) → IsAmong cores one

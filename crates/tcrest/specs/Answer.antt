@@ -1,6 +1,5 @@
 -- What is written for the words of a command line and the bytes of the input: a status and a text.
 use Rattle.std.specs.Prelude.{ℕ, nat_lt, if◌then◌else◌, List, [], ◌∷◌, Option, None, Some, ◌++◌, length, codes, Result, Ok, Err}
-use Rattle.c_tree.specs.Reading.{Trees}
 use Rattle.argo_grid.specs.declared.report.GridReport.{GridReport}
 use Rattle.argo_grid.specs.Report as grid
 use Rattle.patmos_model.specs.State.{Core}
@@ -20,12 +19,16 @@ use Rattle.tcrest.specs.declared.command.JobCommand.{JobCommand}
 use Rattle.tcrest.specs.declared.command.JobCommand.TheVariants.{OfCode, Mean, Pipe}
 use Rattle.tcrest.specs.declared.command.CodeCommand.{CodeCommand}
 use Rattle.tcrest.specs.declared.command.CodeCommand.TheVariants.{Run, Asm}
+use Rattle.tcrest.specs.declared.pipe.PipeFault.{PipeFault}
+use Rattle.tcrest.specs.declared.pipe.PipeFault.TheVariants.{OneCore}
+use Rattle.tcrest.specs.declared.top.TextFault.{TextFault}
+use Rattle.tcrest.specs.declared.top.TextFault.TheVariants.{TooLong}
 use Rattle.tcrest.specs.declared.refusal.CoreRefusal.{CoreRefusal}
 use Rattle.tcrest.specs.Command.{command_of}
 use Rattle.tcrest.specs.Listing.{listings}
 use Rattle.tcrest.specs.Machine.{begun_on, cores_from, machine_of}
 use Rattle.tcrest.specs.Meanings.{meanings_from}
-use Rattle.tcrest.specs.Pipe.{is_lone, pipe_of}
+use Rattle.tcrest.specs.Pipe.{fault_name, is_lone, pipe_of}
 use Rattle.tcrest.specs.Rows.{rows_of, status_of, report_rows}
 use Rattle.tcrest.specs.Tasks.{Coded, coded_from, refusal_text}
 
@@ -39,6 +42,10 @@ usage = lone_line 1 (codes "usage: tcrest run|bound|asm|mean|gen N|bench N|pipe|
 -- the source failed
 abbrev pub read_fault : Answer
 read_fault = lone_line 5 (codes "read fault")
+
+-- the number of a fault that is found before a text is read as a job, before those of any job
+abbrev pub text_fault_number : TextFault → ℕ
+text_fault_number TooLong = 1
 
 abbrev pub too_long : Answer
 too_long = lone_line 2 (codes "job: TooLong")
@@ -78,9 +85,13 @@ abbrev pub meanings_or : Result (List ℕ) CoreRefusal → Answer
 meanings_or (Ok text) = whole text
 meanings_or (Err refusal) = no_task refusal
 
+-- a job that `pipe` alone refuses
+abbrev pub no_pipe : PipeFault → Answer
+no_pipe fault = lone_line 2 (codes "job: " ++ fault_name fault)
+
 -- the job has another number of cores than one, or no task
 abbrev pub one_core : Answer
-one_core = lone_line 2 (codes "job: OneCore")
+one_core = no_pipe OneCore
 
 -- the stages of the only core
 abbrev pub pipe_with : Job → List (Option Coded) → Answer
@@ -94,32 +105,31 @@ pipe_or job (Ok coded) = pipe_with job coded
 pipe_or job (Err refusal) = no_task refusal
 
 -- what is written for a job
-abbrev pub answer_by : Trees → JobCommand → Job → Answer
-answer_by trees (OfCode command) job = answer_or command job (coded_from trees job.cores job.tasks 0 job.cores)
-answer_by trees Mean job = meanings_or (meanings_from trees job.cores job.tasks 0 job.cores)
-answer_by trees Pipe job = if is_lone job then pipe_or job (coded_from trees job.cores job.tasks 0 job.cores) else one_core
+abbrev pub answer_by : JobCommand → Job → Answer
+answer_by (OfCode command) job = answer_or command job (coded_from job.cores job.tasks 0 job.cores)
+answer_by Mean job = meanings_or (meanings_from job.cores job.tasks 0 job.cores)
+answer_by Pipe job = if is_lone job then pipe_or job (coded_from job.cores job.tasks 0 job.cores) else one_core
 
-abbrev pub job_answer : Trees → JobCommand → Result Job Fault → Answer
-job_answer trees command (Err fault) = no_job fault
-job_answer trees command (Ok job) = answer_by trees command job
+abbrev pub job_answer : JobCommand → Result Job Fault → Answer
+job_answer command (Err fault) = no_job fault
+job_answer command (Ok job) = answer_by command job
 
 -- the report on a schedule of the network
 abbrev pub of_grid : GridReport → Answer
 of_grid report = record { status = report.status; text = report.text }
 
 -- what is written for a text that is not too long
-abbrev pub input_answer : Trees → InputCommand → List ℕ → Answer
-input_answer trees (OfJob command) bytes = job_answer trees command (job_of bytes)
-input_answer trees Grid bytes = of_grid (grid.report_of bytes)
+abbrev pub input_answer : InputCommand → List ℕ → Answer
+input_answer (OfJob command) bytes = job_answer command (job_of bytes)
+input_answer Grid bytes = of_grid (grid.report_of bytes)
 
-unfoldable pub bytes_answer : Trees → InputCommand → List ℕ → Answer
-bytes_answer trees command bytes = if nat_lt MOST_BYTES (length bytes) then too_long else input_answer trees command bytes
+unfoldable pub bytes_answer : InputCommand → List ℕ → Answer
+bytes_answer command bytes = if nat_lt MOST_BYTES (length bytes) then too_long else input_answer command bytes
 
-abbrev pub command_answer : Trees → Command → List ℕ → Answer
-command_answer trees (OfInput command) bytes = bytes_answer trees command bytes
-command_answer trees Usage bytes = usage
+abbrev pub command_answer : Command → List ℕ → Answer
+command_answer (OfInput command) bytes = bytes_answer command bytes
+command_answer Usage bytes = usage
 
--- the one order of refusals: words, reading, length, job or schedule, tasks by core number. The trees of C programs are
--- those of a reading: there is one tree for each program, and a reading is any function that gives it
-abbrev pub answer : Trees → List (List ℕ) → List ℕ → Answer
-answer trees words bytes = command_answer trees (command_of words) bytes
+-- the one order of refusals: words, reading, length, job or schedule, tasks by core number
+abbrev pub answer : List (List ℕ) → List ℕ → Answer
+answer words bytes = command_answer (command_of words) bytes

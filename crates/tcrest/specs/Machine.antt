@@ -1,7 +1,7 @@
 -- The machine that a job asks for: the job's platform, and on each core its task, if it has one.
 use Rattle.std.specs.Prelude.{ℕ, ◌+◌, List, [], ◌∷◌, Option, None, Some, slice_get}
 use Rattle.shared_order.specs.Machine.{State, cycled}
-use Rattle.patmos_code.specs.declared.images.TheConstants.{INPUT_WORDS}
+use Rattle.local_store.specs.declared.store.TheConstants.{FIRST_DATA_WORD, INPUT_WORDS}
 use Rattle.patmos_code.specs.Images.{Parts, parts}
 use Rattle.patmos_asm.specs.Assembly.{CodeParts}
 use Rattle.patmos_model.specs.Site.{Site}
@@ -14,7 +14,7 @@ use Rattle.tcrest.specs.Tasks.{Coded}
 
 -- the image of a task's code: nothing stands in private memory at first but the input, from word 4 on
 abbrev pub image_of : CodeParts → Parts
-image_of code = parts code.words code.starts [] 4 INPUT_WORDS
+image_of code = parts code.words code.starts [] FIRST_DATA_WORD INPUT_WORDS
 
 -- where a core stands on the platform, the cycle at which its task starts, and the task's image
 abbrev pub site_on : Job → ℕ → ℕ → Parts → Site

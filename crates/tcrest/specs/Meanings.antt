@@ -3,7 +3,6 @@ use Rattle.std.specs.Prelude.{ℕ, zero, suc, ◌+◌, List, [], ◌++◌, Optio
 use Rattle.c_tree.specs.declared.layout.Slot.{Slot}
 use Rattle.c_tree.specs.Layout.{layout_of}
 use Rattle.c_tree.specs.Plain.{PlainItem}
-use Rattle.c_tree.specs.Reading.{Trees}
 use Rattle.c_lex.specs.Texts.{lexed}
 use Rattle.c_meaning.specs.Begun.{meaning}
 use Rattle.c_meaning.specs.Meaning.{Given}
@@ -35,20 +34,20 @@ abbrev pub program_lines : ℕ → List ℕ → List PlainItem → List ℕ
 program_lines core input items = given_lines core items (meaning items input (λ _. 0) (λ _. 0))
 
 -- Of an assembly task nothing is told. A task of either kind is refused as under the other commands.
-abbrev pub lines_in : Trees → ℕ → ℕ → Lang → List ℕ → List ℕ → Result (List ℕ) Refusal
-lines_in trees cores core Asm source input = coded (code_of source) >>= λ code. Ok []
-lines_in trees cores core C source input = program_of trees cores core (lexed source) >>= λ items. Ok (program_lines core input items)
+abbrev pub lines_in : ℕ → ℕ → Lang → List ℕ → List ℕ → Result (List ℕ) Refusal
+lines_in cores core Asm source input = coded (code_of source) >>= λ code. Ok []
+lines_in cores core C source input = program_of cores core (lexed source) >>= λ items. Ok (program_lines core input items)
 
-abbrev pub lines_by : Trees → ℕ → Task → Result (List ℕ) Refusal
-lines_by trees cores t = lines_in trees cores t.core t.lang t.source t.input
+abbrev pub lines_by : ℕ → Task → Result (List ℕ) Refusal
+lines_by cores t = lines_in cores t.core t.lang t.source t.input
 
 -- what is told of a core's task, if it has one
-abbrev pub lines_on : Trees → ℕ → ℕ → Option Task → Result (List ℕ) CoreRefusal
-lines_on trees cores core None = Ok []
-lines_on trees cores core (Some t) = on_core core (lines_by trees cores t)
+abbrev pub lines_on : ℕ → ℕ → Option Task → Result (List ℕ) CoreRefusal
+lines_on cores core None = Ok []
+lines_on cores core (Some t) = on_core core (lines_by cores t)
 
 -- what is told of so many cores, the first of which is this one; or the first refusal
-abbrev pub meanings_from : Trees → ℕ → List Task → ℕ → ℕ → Result (List ℕ) CoreRefusal
-meanings_from trees cores tasks core zero = Ok []
-meanings_from trees cores tasks core (suc count) =
-    lines_on trees cores core (task_on tasks core) >>= λ lines. meanings_from trees cores tasks (core + 1) count >>= λ rest. Ok (lines ++ rest)
+abbrev pub meanings_from : ℕ → List Task → ℕ → ℕ → Result (List ℕ) CoreRefusal
+meanings_from cores tasks core zero = Ok []
+meanings_from cores tasks core (suc count) =
+    lines_on cores core (task_on tasks core) >>= λ lines. meanings_from cores tasks (core + 1) count >>= λ rest. Ok (lines ++ rest)

@@ -1,5 +1,5 @@
 -- What `pipe` writes: what the five stages of a job's only core hold at each step, and what became of its task.
-use Rattle.std.specs.Prelude.{ℕ, zero, suc, ◌+◌, ◌==◌, min, Bool, true, false, ◌&&◌, List, [], ◌∷◌, ◌++◌, length, None, Some, option_map}
+use Rattle.std.specs.Prelude.{ℕ, zero, suc, ◌+◌, ◌==◌, min, Bool, true, false, ◌&&◌, List, [], ◌∷◌, ◌++◌, length, codes, None, Some, option_map}
 use Rattle.slot_arbiter.specs.Slot.{period}
 use Rattle.patmos_model.specs.Outcome.{state_at}
 use Rattle.patmos_model.specs.State.{Core}
@@ -12,7 +12,16 @@ use Rattle.tc_report.specs.declared.rows.RowState.{RowState}
 use Rattle.tc_report.specs.Line.{step_line}
 use Rattle.tc_report.specs.Report.{platform_line, state_line}
 use Rattle.tcrest.specs.declared.answers.Answer.{Answer}
+use Rattle.tcrest.specs.declared.pipe.PipeFault.{PipeFault}
+use Rattle.tcrest.specs.declared.pipe.PipeFault.TheVariants.{OneCore}
 use Rattle.tcrest.specs.Rows.{row_state, status_of}
+
+-- the number of a fault that `pipe` alone finds, behind those of any job, and its name
+abbrev pub fault_number : PipeFault → ℕ
+fault_number OneCore = 9
+
+abbrev pub fault_name : PipeFault → List ℕ
+fault_name OneCore = codes "OneCore"
 
 -- the job has one core, and a task
 abbrev pub has_task : List Task → Bool

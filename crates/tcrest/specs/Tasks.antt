@@ -1,5 +1,5 @@
 -- The tasks of a job by the numbers of their cores, and the code of each: found in one pass over the cores, which the
--- first refused task ends. The trees of C texts are those of a reading, which gives each program its tree.
+-- first refused task ends. The tree of a C text is the one that its tokens are written by.
 use Rattle.std.specs.Prelude.{ℕ, zero, suc, ◌+◌, ◌==◌, List, [], ◌∷◌, ◌++◌, codes, Option, Some, None, Result, Ok, Err}
 use Rattle.std.specs.List.{find}
 use Rattle.std.specs.Fmt.{decimal}
@@ -8,10 +8,10 @@ use Rattle.c_tree.specs.declared.checks.CheckFault.TheVariants as check
 use Rattle.c_tree.specs.declared.checks.Fault.{Fault as CheckedFault}
 use Rattle.c_tree.specs.declared.tokens.Token.{Token}
 use Rattle.c_tree.specs.Plain.{PlainItem}
-use Rattle.c_tree.specs.Reading.{Trees}
 use Rattle.c_tree.specs.Valid.{fault_of}
 use Rattle.c_lex.specs.Texts.{Lexed, tokens, no_token, too_wide, lexed}
 use Rattle.c_parse.specs.Answers.{place_of}
+use Rattle.c_parse.proofs.Reading.{tree_of}
 use Rattle.patmos_syntax.specs.declared.faults.AsmKind.{AsmKind}
 use Rattle.patmos_syntax.specs.declared.faults.AsmKind.TheVariants.{Mnemonic, Operand, Range, Slot, NoLabel, LabelTwice, TooLarge, NoFunction}
 use Rattle.patmos_asm.specs.declared.faults.AsmFault.{AsmFault}
@@ -44,25 +44,25 @@ checked items None = Ok items
 checked items (Some fault) = Err (Invalid fault)
 
 -- tokens are refused where they are no program, and a program where it has a fault on its core
-abbrev pub parsed : Trees → ℕ → ℕ → List Token → Result (List PlainItem) Refusal
-parsed trees cores own ts = elim (place_of ts) as (λ _. Result (List PlainItem) Refusal) [
-  | None ↦ checked (trees ts) (fault_of (trees ts) cores own)
+abbrev pub parsed : ℕ → ℕ → List Token → Result (List PlainItem) Refusal
+parsed cores own ts = elim (place_of ts) as (λ _. Result (List PlainItem) Refusal) [
+  | None ↦ checked (tree_of ts) (fault_of (tree_of ts) cores own)
   | Some at ↦ Err (Syntax at)
 ]
 
 -- the program of a C text, which is refused where it has no tokens, or these are no valid program
-abbrev pub program_of : Trees → ℕ → ℕ → Lexed → Result (List PlainItem) Refusal
-program_of trees cores own (tokens ts) = parsed trees cores own ts
-program_of trees cores own (no_token at) = Err (Char at)
-program_of trees cores own (too_wide at) = Err (Wide at)
+abbrev pub program_of : ℕ → ℕ → Lexed → Result (List PlainItem) Refusal
+program_of cores own (tokens ts) = parsed cores own ts
+program_of cores own (no_token at) = Err (Char at)
+program_of cores own (too_wide at) = Err (Wide at)
 
 -- the code of a task on a core of so many; that of a C program comes later
-abbrev pub code_in : Trees → ℕ → ℕ → Lang → List ℕ → Result CodeParts Refusal
-code_in trees cores own Asm source = coded (code_of source)
-code_in trees cores own C source = program_of trees cores own (lexed source) >>= λ items. Err Later
+abbrev pub code_in : ℕ → ℕ → Lang → List ℕ → Result CodeParts Refusal
+code_in cores own Asm source = coded (code_of source)
+code_in cores own C source = program_of cores own (lexed source) >>= λ items. Err Later
 
-abbrev pub code_by : Trees → ℕ → Task → Result CodeParts Refusal
-code_by trees cores t = code_in trees cores t.core t.lang t.source
+abbrev pub code_by : ℕ → Task → Result CodeParts Refusal
+code_by cores t = code_in cores t.core t.lang t.source
 
 -- a refusal of a core's task
 abbrev pub on_core : {A : Type 0} → ℕ → Result A Refusal → Result A CoreRefusal
@@ -75,15 +75,15 @@ pub record Coded : Type 0 where
   pub code : CodeParts
 
 -- a core's task with its code, if it has one
-abbrev pub coded_on : Trees → ℕ → ℕ → Option Task → Result (Option Coded) CoreRefusal
-coded_on trees cores core None = Ok None
-coded_on trees cores core (Some t) = on_core core (code_by trees cores t) >>= λ code. Ok (Some (record { task = t; code = code }))
+abbrev pub coded_on : ℕ → ℕ → Option Task → Result (Option Coded) CoreRefusal
+coded_on cores core None = Ok None
+coded_on cores core (Some t) = on_core core (code_by cores t) >>= λ code. Ok (Some (record { task = t; code = code }))
 
 -- those of so many cores, the first of which is this one; or the first refusal
-abbrev pub coded_from : Trees → ℕ → List Task → ℕ → ℕ → Result (List (Option Coded)) CoreRefusal
-coded_from trees cores tasks core zero = Ok []
-coded_from trees cores tasks core (suc count) =
-    coded_on trees cores core (task_on tasks core) >>= λ c. coded_from trees cores tasks (core + 1) count >>= λ cs. Ok (c ∷ cs)
+abbrev pub coded_from : ℕ → List Task → ℕ → ℕ → Result (List (Option Coded)) CoreRefusal
+coded_from cores tasks core zero = Ok []
+coded_from cores tasks core (suc count) =
+    coded_on cores core (task_on tasks core) >>= λ c. coded_from cores tasks (core + 1) count >>= λ cs. Ok (c ∷ cs)
 
 -- the names of faults of assembly text
 abbrev pub fault_name : AsmKind → List ℕ

@@ -1,7 +1,6 @@
 ghost use Rattle.std.specs.Prelude as prelude;
 ghost use Rattle.std.specs.Prelude.{◌≡◌, ◌<◌, All, IfOk, length};
 ghost use Rattle.argo_grid.specs.Report as grid;
-ghost use Rattle.c_tree.specs.Reading.{OnReading};
 ghost use Rattle.patmos_model.specs.State as state;
 ghost use Rattle.tc_job.specs.Job.{job_of};
 ghost use Rattle.tc_job.specs.Ranges.{KeepsRanges};
@@ -45,7 +44,7 @@ pub fn input_answer<R: Threads + Wait + Sync, G: Gate + Sync>(
     bytes: &[u8],
     gate: &G,
 ) -> Result<Answer, OutOfMemory>
-    ensures answer { IfOk result (λ answer. OnReading (λ trees. answer ≡ specs.input_answer trees command bytes.now)) }
+    ensures answer { IfOk result (λ answer. answer ≡ specs.input_answer command bytes.now) }
     ensures below { IfOk result (λ answer. answer.status < 5) }
 {
     match command {
@@ -71,7 +70,7 @@ fn job_answer<R: Threads + Wait + Sync, G: Gate + Sync>(
     bytes: &[u8],
     gate: &G,
 ) -> Result<Answer, OutOfMemory>
-    ensures answer { IfOk result (λ answer. OnReading (λ trees. answer ≡ specs.job_answer trees command (job_of bytes.now))) }
+    ensures answer { IfOk result (λ answer. answer ≡ specs.job_answer command (job_of bytes.now)) }
     ensures below { IfOk result (λ answer. answer.status < 5) }
 {
     match read_job(alloc, bytes) {
@@ -106,7 +105,7 @@ fn answer_by<R: Threads + Wait + Sync, G: Gate + Sync>(
     gate: &G,
 ) -> Result<Answer, OutOfMemory>
     requires { KeepsRanges job.now }
-    ensures answer { IfOk result (λ answer. OnReading (λ trees. answer ≡ specs.answer_by trees command job.now)) }
+    ensures answer { IfOk result (λ answer. answer ≡ specs.answer_by command job.now) }
     ensures below { IfOk result (λ answer. answer.status < 5) }
 {
     match command {
@@ -126,7 +125,7 @@ fn code_answer<R: Threads + Wait + Sync, G: Gate + Sync>(
     gate: &G,
 ) -> Result<Answer, OutOfMemory>
     requires { KeepsRanges job.now }
-    ensures answer { IfOk result (λ answer. OnReading (λ trees. answer ≡ specs.answer_by trees (variants.OfCode command) job.now)) }
+    ensures answer { IfOk result (λ answer. answer ≡ specs.answer_by (variants.OfCode command) job.now) }
     ensures below { IfOk result (λ answer. answer.status < 5) }
 {
     match coded_tasks(alloc, job) {
@@ -140,7 +139,7 @@ fn code_answer<R: Threads + Wait + Sync, G: Gate + Sync>(
 #[tactic(auto, using(crate::proofs::Outcomes::below_if))]
 fn meanings_answer(alloc: Global, job: &Job) -> Result<Answer, OutOfMemory>
     requires { KeepsRanges job.now }
-    ensures answer { IfOk result (λ answer. OnReading (λ trees. answer ≡ specs.answer_by trees variants.Mean job.now)) }
+    ensures answer { IfOk result (λ answer. answer ≡ specs.answer_by variants.Mean job.now) }
     ensures below { IfOk result (λ answer. answer.status < 5) }
 {
     match meanings(alloc, job) {

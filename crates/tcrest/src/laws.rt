@@ -1,10 +1,13 @@
 ghost use Rattle.std.specs.Prelude.{◌≡◌, ℕ, ◌<◌, ◌↔◌, false, List, [], ◌∷◌, length, map, codes};
-ghost use Rattle.c_tree.specs.Reading.{Trees};
 ghost use Rattle.patmos_model.specs.State.{Core};
 ghost use Rattle.global_step.specs.Loaded.{Machine};
 ghost use Rattle.global_step.specs.Machine.{at_limit};
 ghost use Rattle.tc_job.specs.declared.job.Job.{Job as JobParts};
 ghost use Rattle.c_meaning.specs.Small as small;
+ghost use Rattle.c_tree.specs.declared.tokens.Token.{Token};
+ghost use Rattle.c_tree.specs.Places.{IsProgram};
+ghost use Rattle.c_tree.specs.Reading.{IsReading};
+ghost use Rattle.c_parse.proofs.Reading.{tree_of};
 ghost use Rattle.tc_report.specs.Line.{line};
 ghost use Rattle.tc_report.specs.declared.rows.RowState.TheVariants.{Limit, Done};
 ghost use Rattle.tcrest.specs.declared.command.Command.TheVariants.{OfInput, Usage};
@@ -12,20 +15,23 @@ ghost use Rattle.tcrest.specs.declared.command.InputCommand.{InputCommand};
 ghost use Rattle.tcrest.specs.declared.command.InputCommand.TheVariants.{Job, Grid};
 ghost use Rattle.tcrest.specs.declared.command.JobCommand.TheVariants.{OfCode, Mean, Pipe};
 ghost use Rattle.tcrest.specs.declared.command.CodeCommand.TheVariants.{Run, Asm};
-ghost use Rattle.tcrest.specs.Answer.{answer, bytes_answer, too_long, usage};
+ghost use Rattle.tcrest.specs.Answer.{answer, bytes_answer, text_fault_number, too_long, usage};
 ghost use Rattle.tcrest.specs.Command.{command_of};
 ghost use Rattle.tcrest.specs.Loading.{IsLoadedFor};
 ghost use Rattle.tcrest.specs.Machine.{machine_of};
 ghost use Rattle.tcrest.specs.Meanings.{program_lines};
+ghost use Rattle.tcrest.specs.Pipe.{fault_number};
 ghost use Rattle.tcrest.specs.Rows.{status_of};
 ghost use Rattle.tcrest.specs.Worked.{lone_rows};
+ghost use Rattle.tcrest.specs.declared.pipe.PipeFault.TheVariants.{OneCore};
+ghost use Rattle.tcrest.specs.declared.top.TextFault.TheVariants.{TooLong};
 
 use crate::top::MOST_BYTES;
 
 /// When the answers of usage and of a text that is too long come.
 pub fn refusals_in_order()
     // Status 1 comes exactly where the words are no command.
-    ensures usage { (trees : Trees) (words : List (List ℕ)) (bytes : List ℕ) → ((answer trees words bytes).status ≡ 1) ↔ (command_of words ≡ Usage) }
+    ensures usage { (words : List (List ℕ)) (bytes : List ℕ) → ((answer words bytes).status ≡ 1) ↔ (command_of words ≡ Usage) }
     ensures run { (words : List (List ℕ)) → (command_of words ≡ OfInput (Job (OfCode Run))) ↔ (words ≡ codes "run" ∷ []) }
     ensures asm { (words : List (List ℕ)) → (command_of words ≡ OfInput (Job (OfCode Asm))) ↔ (words ≡ codes "asm" ∷ []) }
     ensures mean { (words : List (List ℕ)) → (command_of words ≡ OfInput (Job Mean)) ↔ (words ≡ codes "mean" ∷ []) }
@@ -33,7 +39,22 @@ pub fn refusals_in_order()
     ensures grid { (words : List (List ℕ)) → (command_of words ≡ OfInput Grid) ↔ (words ≡ codes "grid" ∷ []) }
 
     // A text is too long exactly where it has more than `MOST_BYTES` bytes.
-    ensures too_long { (trees : Trees) (command : InputCommand) (bytes : List ℕ) → (bytes_answer trees command bytes ≡ too_long) ↔ (MOST_BYTES < length bytes) }
+    ensures too_long { (command : InputCommand) (bytes : List ℕ) → (bytes_answer command bytes ≡ too_long) ↔ (MOST_BYTES < length bytes) }
+{}
+
+/// The trees that the answer speaks of are a reading: those of programs are the ones that they are written by, and
+/// other tokens have none. A law: it does nothing.
+#[tactic(auto, using(c_parse::proofs::Reading::trees_read, c_parse::proofs::Reading::no_tree))]
+pub fn trees_are_a_reading()
+    ensures programs { IsReading tree_of }
+    ensures others { (ts : List Token) → (IsProgram ts → ⊥) → tree_of ts ≡ [] }
+{}
+
+/// The numbers that the answer cites. A law: it does nothing.
+pub fn limits()
+    ensures bytes { MOST_BYTES ≡ 1048576 }
+    ensures too_long { text_fault_number TooLong ≡ 1 }
+    ensures one_core { fault_number OneCore ≡ 9 }
 {}
 
 /// The rows of a small job, computed by the checker: its task ends at cycle 17, behind two transactions.

@@ -16,9 +16,6 @@ use std::alloc::Global;
 use tc_job::Job;
 use tc_word::{List, OutOfMemory};
 
-// A task's image has room for all the input that a job can state.
-const _: () = prove!(tc_job::MOST_INPUT_WORDS <= patmos_code::INPUT_WORDS as usize);
-
 /// The machine of a job whose tasks have these codes, one of which may stand for each core.
 pub fn loaded_of(
     alloc: Global,

@@ -2,7 +2,6 @@ ghost use Rattle.std.specs.Prelude as prelude;
 ghost use Rattle.std.specs.Prelude.{◌≡◌, ◌++◌, IfOk, IfSome, OnOk, map, option_map};
 ghost use Rattle.c_run.specs.Told.{slot_words};
 ghost use Rattle.c_tree.specs.Plain.{plain};
-ghost use Rattle.c_tree.specs.Reading.{OnReading};
 ghost use Rattle.c_world.specs.World.{World};
 ghost use Rattle.tc_job.specs.Ranges.{KeepsRanges, IsTaskAmong};
 ghost use Rattle.tcrest.specs.Gives.{Gives};
@@ -22,7 +21,7 @@ use tc_word::OutOfMemory;
 /// refused task ends.
 pub fn meanings(alloc: Global, job: &Job) -> Result<Vec<u8>, Halt<CoreRefusal>>
     requires { KeepsRanges job.now }
-    ensures { OnReading (λ trees. Gives (λ text. text.items) result (specs.meanings_from trees job.now.cores job.now.tasks 0 job.now.cores)) }
+    ensures { Gives (λ text. text.items) result (specs.meanings_from job.now.cores job.now.tasks 0 job.now.cores) }
 {
     let mut text = Vec::new(alloc);
     for core in 0..job.cores {
@@ -46,7 +45,7 @@ fn lines_on(
 ) -> Result<Vec<u8>, Halt<CoreRefusal>>
     requires ranges { KeepsRanges job.now }
     requires among { IfSome (option_map (λ t. t.now) task) (IsTaskAmong job.now.cores) }
-    ensures { OnReading (λ trees. Gives (λ text. text.items) result (specs.lines_on trees job.now.cores core (option_map (λ t. t.now) task.entry))) }
+    ensures { Gives (λ text. text.items) result (specs.lines_on job.now.cores core (option_map (λ t. t.now) task.entry)) }
 {
     let Some(task) = task else {
         return Ok(Vec::new(alloc));
@@ -62,7 +61,7 @@ fn lines_on(
 fn lines_by(alloc: Global, job: &Job, task: &Task) -> Result<Vec<u8>, Halt<Refusal>>
     requires ranges { KeepsRanges job.now }
     requires among { IsTaskAmong job.now.cores task.now }
-    ensures { OnReading (λ trees. Gives (λ text. text.items) result (specs.lines_by trees job.now.cores task.now)) }
+    ensures { Gives (λ text. text.items) result (specs.lines_by job.now.cores task.now) }
 {
     match task.lang {
         Lang::Asm => match assembled(alloc, task.source.as_str()) {

@@ -1,5 +1,4 @@
 ghost use Rattle.std.specs.Prelude.{◌≡◌, ◌≤◌, ◌++◌, ◌<◌, [], ◌∷◌, All, IfOk, OnOk, length, min};
-ghost use Rattle.c_tree.specs.Reading.{OnReading};
 ghost use Rattle.patmos_model.specs.Apart.{site_of};
 ghost use Rattle.patmos_model.specs.Begin.{begun};
 ghost use Rattle.patmos_model.specs.State.{Core};
@@ -28,15 +27,42 @@ use tc_job::Job;
 use tc_report::{Row, RowState, put_platform_line, put_state_line, put_step_line};
 use tc_word::{List, OutOfMemory};
 
+/// Why `pipe` refuses a job that other commands take.
+#[derive(Clone, Copy, Debug, PartialEq, Eq)]
+pub enum PipeFault {
+    /// The job has another number of cores than one, or no task.
+    OneCore,
+}
+
+impl PipeFault {
+    /// The fault's number, behind those of any job.
+    pub fn number(self) -> u32
+        ensures { result ≡ specs.fault_number self }
+    {
+        match self {
+            PipeFault::OneCore => 9,
+        }
+    }
+
+    /// The fault's name.
+    pub fn name(self) -> &'static [u8]
+        ensures { result.now ≡ specs.fault_name self }
+    {
+        match self {
+            PipeFault::OneCore => b"OneCore",
+        }
+    }
+}
+
 /// The answer about the five stages of a job's only core.
 #[tactic(auto, using(crate::proofs::Outcomes::below_if, crate::proofs::Outcomes::pipe_with_below))]
 pub fn pipe_answer(alloc: Global, job: &Job) -> Result<Answer, OutOfMemory>
     requires { KeepsRanges job.now }
-    ensures answer { IfOk result (λ answer. OnReading (λ trees. answer ≡ answers.answer_by trees variants.Pipe job.now)) }
+    ensures answer { IfOk result (λ answer. answer ≡ answers.answer_by variants.Pipe job.now) }
     ensures below { IfOk result (λ answer. answer.status < 5) }
 {
     if !is_lone(job) {
-        return one_core(alloc);
+        return fault_answer(alloc, PipeFault::OneCore);
     }
     match coded_tasks(alloc, job) {
         Ok(coded) => pipe_with(alloc, job, coded),
@@ -52,11 +78,15 @@ fn is_lone(job: &Job) -> bool
     job.cores == 1 && !job.tasks.as_slice().is_empty()
 }
 
-// the answer to another job
-fn one_core(alloc: Global) -> Result<Answer, OutOfMemory>
-    ensures { IfOk result (λ answer. answer ≡ answers.one_core) }
+// the answer to a job that `pipe` refuses
+fn fault_answer(alloc: Global, fault: PipeFault) -> Result<Answer, OutOfMemory>
+    ensures { IfOk result (λ answer. answer ≡ answers.no_pipe fault) }
 {
-    let text = List::of(Vec::from_slice(alloc, b"job: OneCore\n")?);
+    let mut text = Vec::new(alloc);
+    text.extend_from_slice(b"job: ")?;
+    text.extend_from_slice(fault.name())?;
+    text.extend_from_slice(b"\n")?;
+    let text = List::of(text);
     Ok(Answer { status: 2, text })
 }
 
@@ -89,7 +119,7 @@ fn core_answer(
 {
     match coded {
         Some(coded) => task_answer(alloc, job, coded),
-        None => one_core(alloc),
+        None => fault_answer(alloc, PipeFault::OneCore),
     }
 }
 

@@ -1,7 +1,6 @@
 ghost use Rattle.std.specs.Prelude.{◌≡◌, ◌<◌, ◌^◌, length};
 ghost use Rattle.c_lex.specs.Texts.{lexed};
 ghost use Rattle.c_tree.specs.Plain.{plain};
-ghost use Rattle.c_tree.specs.Reading.{OnReading};
 ghost use Rattle.c_tree.specs.Valid.{fault_of};
 ghost use Rattle.tc_job.specs.Ranges.{KeepsRanges, IsTaskAmong};
 ghost use Rattle.tcrest.specs.Tasks as specs;
@@ -23,7 +22,7 @@ use tc_word::List;
 pub fn program_of(alloc: Global, job: &Job, task: &Task) -> Result<Checked, Halt<Refusal>>
     requires ranges { KeepsRanges job.now }
     requires among { IsTaskAmong job.now.cores task.now }
-    ensures { OnReading (λ trees. Gives (λ c. plain c.unit) result (specs.program_of trees job.now.cores task.now.core (lexed task.now.source))) }
+    ensures { Gives (λ c. plain c.unit) result (specs.program_of job.now.cores task.now.core (lexed task.now.source)) }
 {
     let source = task.source.as_str();
     if source.len() > u32::MAX as usize {
@@ -41,7 +40,7 @@ pub fn program_of(alloc: Global, job: &Job, task: &Task) -> Result<Checked, Halt
 // tokens are refused where they are no program
 fn parsed(alloc: Global, tokens: &List<Token>, place: &Place) -> Result<Checked, Halt<Refusal>>
     requires few { length tokens.now < 2 ^ 32 }
-    ensures { OnReading (λ trees. Gives (λ c. plain c.unit) result (specs.parsed trees place.now.cores place.now.core tokens.now)) }
+    ensures { Gives (λ c. plain c.unit) result (specs.parsed place.now.cores place.now.core tokens.now) }
 {
     match parse(alloc, tokens) {
         Ok(program) => checked(alloc, program, place),

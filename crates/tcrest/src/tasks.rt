@@ -1,5 +1,4 @@
 ghost use Rattle.std.specs.Prelude.{◌≡◌, All, IfOk, IfSome, length, option_map};
-ghost use Rattle.c_tree.specs.Reading.{OnReading};
 ghost use Rattle.patmos_asm.specs.Assembly.{code_of};
 ghost use Rattle.tc_job.specs.Ranges.{KeepsRanges, IsTaskAmong};
 ghost use Rattle.tcrest.specs.Tasks as specs;
@@ -26,8 +25,8 @@ pub fn coded_tasks(
     job: &Job,
 ) -> Result<Vec<Option<CodedTask<'_>>>, Halt<CoreRefusal>>
     requires { KeepsRanges job.now }
-    ensures coded { OnReading (λ trees. Gives (λ coded. all_shown coded.items) result
-        (specs.coded_from trees job.now.cores job.now.tasks 0 job.now.cores)) }
+    ensures coded { Gives (λ coded. all_shown coded.items) result
+        (specs.coded_from job.now.cores job.now.tasks 0 job.now.cores) }
     ensures count { IfOk result (λ coded. length coded.items ≡ job.now.cores) }
     ensures among { IfOk result (λ coded. All (IsAmong job.now.cores) coded.items) }
 {
@@ -60,7 +59,7 @@ fn coded_on<'a>(
 ) -> Result<Option<CodedTask<'a>>, Halt<CoreRefusal>>
     requires ranges { KeepsRanges job.now }
     requires among { IfSome (option_map (λ t. t.now) task) (IsTaskAmong job.now.cores) }
-    ensures coded { OnReading (λ trees. Gives shown result (specs.coded_on trees job.now.cores core (option_map (λ t. t.now) task.entry))) }
+    ensures coded { Gives shown result (specs.coded_on job.now.cores core (option_map (λ t. t.now) task.entry)) }
     ensures same { IfOk result (λ c. option_map (λ t. t.task.now) c ≡ option_map (λ t. t.now) task.entry) }
 {
     let Some(task) = task else {
@@ -77,7 +76,7 @@ fn coded_on<'a>(
 fn code_by(alloc: Global, job: &Job, task: &Task) -> Result<Code, Halt<Refusal>>
     requires ranges { KeepsRanges job.now }
     requires among { IsTaskAmong job.now.cores task.now }
-    ensures { OnReading (λ trees. Gives (λ code. code) result (specs.code_by trees job.now.cores task.now)) }
+    ensures { Gives (λ code. code) result (specs.code_by job.now.cores task.now) }
 {
     match task.lang {
         Lang::Asm => assembled(alloc, task.source.as_str()),

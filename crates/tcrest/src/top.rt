@@ -1,7 +1,6 @@
 ghost use Rattle.std.specs.Prelude.{◌≡◌, ◌⊎◌, [], IfSome};
-ghost use Rattle.c_tree.specs.Reading.{OnReading};
 ghost use Rattle.tc_io.specs.Faults.{Rose};
-ghost use Rattle.tcrest.specs.Answer.{answer, command_answer, bytes_answer};
+ghost use Rattle.tcrest.specs.Answer.{answer, command_answer, bytes_answer, text_fault_number};
 ghost use Rattle.tcrest.specs.Command as commands;
 ghost use Rattle.tcrest.specs.Outcome.{Ends, IsAnswered, IsSent, HasWritten};
 
@@ -46,19 +45,18 @@ pub fn tcrest<R: Threads + Wait + Sync, S: Source, K: Sink, G: Gate + Sync>(
     sink: &mut K,
     gate: &G,
 ) -> u8
-    // Where nothing failed, the answer is written, or memory was refused and nothing is. The trees of C programs are
-    // those of any reading, which gives each program its one tree.
+    // Where nothing failed, the answer is written, or memory was refused and nothing is.
     ensures answered { (Rose (S.faults source.old) (S.faults source.new) → ⊥) → (Rose (K.faults sink.old) (K.faults sink.new) → ⊥)
-        → OnReading (λ trees. IfSome (S.left source.old) (λ bytes. IsAnswered (answer trees words.now bytes) result (K.taken sink.old) (K.taken sink.new))) }
+        → IfSome (S.left source.old) (λ bytes. IsAnswered (answer words.now bytes) result (K.taken sink.old) (K.taken sink.new)) }
 
     // Words that ask for no text leave the source alone, and are answered whatever it is.
     ensures unread { commands.ReadsNothing (commands.command_of words.now) → source.new ≡ source.old }
     ensures answered_unread { commands.ReadsNothing (commands.command_of words.now) → (Rose (K.faults sink.old) (K.faults sink.new) → ⊥)
-        → OnReading (λ trees. IsAnswered (answer trees words.now []) result (K.taken sink.old) (K.taken sink.new)) }
+        → IsAnswered (answer words.now []) result (K.taken sink.old) (K.taken sink.new) }
 
     // What was written, whatever failed.
-    ensures written { OnReading (λ trees. IfSome (S.left source.old) (λ bytes. HasWritten (answer trees words.now bytes)
-        (Rose (S.faults source.old) (S.faults source.new)) result (K.taken sink.old) (K.taken sink.new))) }
+    ensures written { IfSome (S.left source.old) (λ bytes. HasWritten (answer words.now bytes)
+        (Rose (S.faults source.old) (S.faults source.new)) result (K.taken sink.old) (K.taken sink.new)) }
 
     // What each fault of the outside rests on.
     ensures read_fault { result ≡ 5 → Rose (S.faults source.old) (S.faults source.new) }
@@ -75,12 +73,12 @@ fn perform<R: Threads + Wait + Sync, S: Source, K: Sink, G: Gate + Sync>(
     sink: &mut K,
     gate: &G,
 ) -> u8
-    ensures ends { OnReading (λ trees. IfSome (S.left source.old) (λ bytes. Ends (command_answer trees command bytes)
+    ensures ends { IfSome (S.left source.old) (λ bytes. Ends (command_answer command bytes)
         (Rose (S.faults source.old) (S.faults source.new)) result
-        (K.faults sink.old) (K.faults sink.new) (K.taken sink.old) (K.taken sink.new))) }
-    ensures unread { commands.ReadsNothing command → source.new ≡ source.old }
-    ensures ends_unread { commands.ReadsNothing command → OnReading (λ trees. Ends (command_answer trees command []) ⊥ result
         (K.faults sink.old) (K.faults sink.new) (K.taken sink.old) (K.taken sink.new)) }
+    ensures unread { commands.ReadsNothing command → source.new ≡ source.old }
+    ensures ends_unread { commands.ReadsNothing command → Ends (command_answer command []) ⊥ result
+        (K.faults sink.old) (K.faults sink.new) (K.taken sink.old) (K.taken sink.new) }
     ensures read_fault { result ≡ 5 → Rose (S.faults source.old) (S.faults source.new) }
     ensures write_fault { result ≡ 6 → Rose (K.faults sink.old) (K.faults sink.new) }
 {
@@ -94,6 +92,24 @@ fn perform<R: Threads + Wait + Sync, S: Source, K: Sink, G: Gate + Sync>(
     }
 }
 
+/// What is wrong with a text before it is read as a job or a schedule.
+#[derive(Clone, Copy, Debug, PartialEq, Eq)]
+pub enum TextFault {
+    /// It has more than [`MOST_BYTES`] bytes.
+    TooLong,
+}
+
+impl TextFault {
+    /// The fault's number, before those of any job.
+    pub fn number(self) -> u32
+        ensures { result ≡ text_fault_number self }
+    {
+        match self {
+            TextFault::TooLong => 1,
+        }
+    }
+}
+
 /// Answers a command about the input: all bytes are read, and a text that is not too long is answered.
 fn answer_input<R: Threads + Wait + Sync, S: Source, K: Sink, G: Gate + Sync>(
     alloc: Global,
@@ -103,9 +119,9 @@ fn answer_input<R: Threads + Wait + Sync, S: Source, K: Sink, G: Gate + Sync>(
     sink: &mut K,
     gate: &G,
 ) -> u8
-    ensures ends { OnReading (λ trees. IfSome (S.left source.old) (λ bytes. Ends (bytes_answer trees command bytes)
+    ensures ends { IfSome (S.left source.old) (λ bytes. Ends (bytes_answer command bytes)
         (Rose (S.faults source.old) (S.faults source.new)) result
-        (K.faults sink.old) (K.faults sink.new) (K.taken sink.old) (K.taken sink.new))) }
+        (K.faults sink.old) (K.faults sink.new) (K.taken sink.old) (K.taken sink.new)) }
     ensures read_fault { result ≡ 5 → Rose (S.faults source.old) (S.faults source.new) }
     ensures write_fault { result ≡ 6 → Rose (K.faults sink.old) (K.faults sink.new) }
 {

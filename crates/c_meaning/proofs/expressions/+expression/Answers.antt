@@ -2,15 +2,15 @@ use Rattle.c_meaning.specs.Open.{names_of}
 use Rattle.c_meaning.proofs.Parts.{name_resolved, name_typed, element_resolved, element_typed}
 use Rattle.c_meaning.proofs.expressions.+expression.Goals as goal
 
-pub expression-returns-in_ok-named-in-Name-clause-value : goal.expression-returns-in_ok-named-in-Name-clause-value
-expression-returns-in_ok-named-in-Name-clause-value t c =
+pub expression-returns-in-Name-clause-value : goal.expression-returns-in-Name-clause-value
+expression-returns-in-Name-clause-value t c =
     let part = name_resolved (names_of c.args.scope.now) c.args.fresh c.args.e.now c.in-Name.name c.in-Name.is in
-    cc (part, c.in_ok-named-in-Name.ensures.value, c.find.ensures, c.as_str.ensures)
+    cc (part, c.variable.ensures.value, c.find.ensures.shown, c.as_str.ensures)
 
-pub expression-returns-in_ok-named-in-Name-clause-unsigned : goal.expression-returns-in_ok-named-in-Name-clause-unsigned
-expression-returns-in_ok-named-in-Name-clause-unsigned t c =
+pub expression-returns-in-Name-clause-unsigned : goal.expression-returns-in-Name-clause-unsigned
+expression-returns-in-Name-clause-unsigned t c =
     let part = name_typed (names_of c.args.scope.now) c.args.e.now c.in-Name.name c.in-Name.is in
-    cc (part, c.in_ok-named-in-Name.ensures.unsigned, c.find.ensures, c.as_str.ensures)
+    cc (part, c.variable.ensures.unsigned, c.find.ensures.shown, c.as_str.ensures)
 
 pub expression-returns-in_ok-named-in-Element-clause-value : goal.expression-returns-in_ok-named-in-Element-clause-value
 expression-returns-in_ok-named-in-Element-clause-value t c =
@@ -18,7 +18,7 @@ expression-returns-in_ok-named-in-Element-clause-value t c =
     cc (
       part,
       c.in_ok-named-in-Element.ensures.value,
-      c.find-in-Element.ensures,
+      c.find-in-Element.ensures.shown,
       c.as_str-in-Element.ensures,
       c.in_ok-value-in-Element.ensures.value,
       c.in_ok-value-in-Element.value-is,
@@ -28,4 +28,4 @@ expression-returns-in_ok-named-in-Element-clause-value t c =
 pub expression-returns-in_ok-named-in-Element-clause-unsigned : goal.expression-returns-in_ok-named-in-Element-clause-unsigned
 expression-returns-in_ok-named-in-Element-clause-unsigned t c =
     let part = element_typed (names_of c.args.scope.now) c.args.e.now c.in-Element.name c.in-Element.index c.in-Element.is in
-    cc (part, c.in_ok-named-in-Element.ensures.unsigned, c.find-in-Element.ensures, c.as_str-in-Element.ensures)
+    cc (part, c.in_ok-named-in-Element.ensures.unsigned, c.find-in-Element.ensures.shown, c.as_str-in-Element.ensures)

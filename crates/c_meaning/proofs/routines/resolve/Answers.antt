@@ -1,10 +1,43 @@
-use Rattle.std.proofs.Common.{◌+◌, [], ◌∷◌, ◌++◌, drop, map, ap, ap₂, sym, ◌∙◌, append_assoc, arith}
-use Rattle.c_tree.specs.Plain.{plain_item}
+use Rattle.std.proofs.Common.{◌+◌, [], ◌∷◌, ◌++◌, length, drop, map, ap, ap₂, sym, subst, ◌∙◌, append_assoc, arith}
+use Rattle.std.specs.List.{AllByRecursion as Each}
+use Rattle.std.proofs.Math.ListN.{length-append}
+use Rattle.c_tree.specs.Plain.{plain_item, plain}
+use Rattle.c_meaning.specs.Fits.{SlotsFit, ItemFits}
 use Rattle.c_meaning.specs.Open.{functions_of}
 use Rattle.c_meaning.specs.Resolve.{resolved_items, names_in}
 use Rattle.c_meaning.specs.Shown.{bodies_of}
+use Rattle.c_meaning.proofs.Few.{program_fits, item_at, few_functions}
+use Rattle.c_meaning.proofs.Slots.{layout_fits}
 use Rattle.c_meaning.proofs.ItemParts.{items_next, names_next}
 use Rattle.c_meaning.proofs.routines.resolve.Goals as goal
+
+pub new-requires : goal.new-requires
+new-requires c =
+    let program = c.args.program.now in
+    subst SlotsFit (sym (c.as_slice.ensures ∙ program.laid)) (layout_fits program.place.cores program.place.core (plain program.unit) program.valid)
+
+pub add_item-requires-clause-fits : goal.add_item-requires-clause-fits
+add_item-requires-clause-fits c =
+    let program = c.args.program.now in
+    let slots = program.layout in
+    let items = c.as_slice-item-items.result.now in
+    let t = c.item-item.result in
+    let all = program_fits program.place.cores program.place.core slots (plain program.unit) program.valid in
+    subst (λ n. ItemFits n.slots (plain_item t)) (sym c.loop-item.invariant.names)
+    (item_at slots items c.loop-item.item-index t (omega arith) c.item-item.is
+    (subst (λ xs. Each (ItemFits slots) (map plain_item xs)) (sym c.loop-item.invariant.items) all))
+
+pub add_item-requires-clause-number : goal.add_item-requires-clause-number
+add_item-requires-clause-number c =
+    let program = c.args.program.now in
+    let fs = functions_of c.loop-item.scope in
+    let rest = names_in (map plain_item (drop c.loop-item.item-index c.as_slice-item-items.result.now)) in
+    omega (
+      arith,
+      length-append fs rest,
+      ap length c.loop-item.invariant.functions,
+      few_functions program.place.cores program.place.core (plain program.unit) program.valid,
+    )
 
 pub loop-item-preserved : goal.loop-item-preserved
 loop-item-preserved c =

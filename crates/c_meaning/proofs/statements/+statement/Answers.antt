@@ -1,8 +1,9 @@
-use Rattle.std.proofs.Common.{◌≡◌, ◌+◌, List, None, length, drop, ap, ap₂, sym, ◌∙◌, arith}
+use Rattle.std.proofs.Common.{◌≡◌, ◌+◌, List, None, length, drop, subst, ap, ap₂, sym, ◌∙◌, arith}
 use Rattle.std.specs.Prelude.{option_map}
+use Rattle.std.proofs.Math.ListN.{length-map}
 use Rattle.std.proofs.lemmas.List.{drop_all}
 use Rattle.c_tree.specs.declared.statements.Stmt.{Stmt}
-use Rattle.c_tree.specs.Plain.{plain_right, plain_head, plain_stmt}
+use Rattle.c_tree.specs.Plain.{plain_expr, plain_right, plain_head, plain_stmt}
 use Rattle.c_tree.proofs.Plains.{block_of, arms_of}
 use Rattle.c_meaning.specs.declared.actions.Branch.{Branch}
 use Rattle.c_meaning.specs.declared.actions.Action.TheViews.{Loop}
@@ -13,8 +14,85 @@ use Rattle.c_meaning.specs.Resolve.{variable_target, maybe_sets, resolved_right,
 use Rattle.c_meaning.specs.Shown.{actions_of, plain_action, plain_assignment}
 use Rattle.c_meaning.specs.Values.{named}
 use Rattle.c_meaning.proofs.Acted.{plain_loop, joined_none, joined_joined, more_branches, branches_push, branches_all}
+use Rattle.c_meaning.proofs.Fitting.{block_fits, arms_fit, declare_fits, call_fits, arms_fits, else_fits, loop_fits, inner_fits}
+use Rattle.c_meaning.specs.Fits.{BlockFits, ArmsFit}
+use Rattle.c_tree.specs.Sizes.{block_size, arms_size}
+use Rattle.c_meaning.proofs.StmtFalls.{if_size, else_size, loop_size, inner_size, stmt_in_block, block_in_arms}
 use Rattle.c_meaning.proofs.StmtParts.{declare_resolved, set_resolved, set_element_resolved, call_resolved, send_resolved, if_resolved, if_else_resolved, loop_resolved, break_resolved, continue_resolved, return_resolved, inner_resolved, declare_named, set_named, set_element_named, call_named, send_named, if_named, loop_named, break_named, continue_named, return_named, inner_named, block_next, arms_next, kept_after}
 use Rattle.c_meaning.proofs.statements.+statement.Goals as goal
+
+-- ---- what fits a statement fits its parts
+
+pub stmt-declare-requires-clause-room : goal.stmt-declare-requires-clause-room
+stmt-declare-requires-clause-room t c =
+    (declare_fits (names_of c.args.scope.now) c.args.s.now c.in-Declare.kind c.in-Declare.name c.in-Declare.right c.in-Declare.is c.requires).0
+
+pub stmt-declare-requires-clause-first : goal.stmt-declare-requires-clause-first
+stmt-declare-requires-clause-first t c =
+    (declare_fits (names_of c.args.scope.now) c.args.s.now c.in-Declare.kind c.in-Declare.name c.in-Declare.right c.in-Declare.is c.requires).1
+
+pub stmt-add_call-requires-clause-few : goal.stmt-add_call-requires-clause-few
+stmt-add_call-requires-clause-few t c =
+    omega (
+      arith,
+      c.in_ok-args-in-Call.ensures.count,
+      ap length c.as_slice.ensures,
+      length-map c.in-Call.args plain_expr,
+      call_fits (names_of c.args.scope.now) c.args.s.now c.in-Call.name c.in-Call.args c.in-Call.is c.requires,
+    )
+
+pub stmt-branches-requires : goal.stmt-branches-requires
+stmt-branches-requires t c =
+    let size = if_size c.args.s.now c.in-If.arms c.in-If.otherwise c.in-If.is in
+    let same = ap (λ arms. arms_size (arms_of arms)) c.as_slice-in-If.ensures in
+    let fits = arms_fits (names_of c.args.scope.now) c.args.s.now c.in-If.arms c.as_slice-in-If.result.now c.in-If.otherwise c.in-If.is c.as_slice-in-If.ensures c.requires in
+    (omega (arith, c.decreases, size, same), fits)
+
+pub stmt-block-requires : goal.stmt-block-requires
+stmt-block-requires t c =
+    let size = if_size c.args.s.now c.in-If.arms c.in-If.otherwise c.in-If.is in
+    let behind = else_size c.in-If.otherwise c.in-Some.body c.in-Some.is in
+    let same = ap (λ ss. block_size (block_of ss)) c.as_slice-in-Some.ensures in
+    let fits = else_fits (names_of c.args.scope.now) (names_of c.branches.new.scope) c.args.s.now c.in-If.arms c.in-If.otherwise c.in-Some.body
+    c.as_slice-in-Some.result.now c.in-If.is c.in-Some.is c.as_slice-in-Some.ensures c.in_ok-branches-in-If.ensures.names c.requires in
+    (omega (arith, c.decreases, size, behind, same), fits)
+
+pub stmt-repeat-requires : goal.stmt-repeat-requires
+stmt-repeat-requires t c =
+    let size = loop_size c.args.s.now c.in-Loop.bound c.in-Loop.head c.in-Loop.body c.in-Loop.is in
+    let same = ap (λ ss. block_size (block_of ss)) c.as_slice-in-Loop.ensures in
+    let fits = loop_fits (names_of c.args.scope.now) c.args.s.now c.in-Loop.bound c.in-Loop.head c.in-Loop.body c.as_slice-in-Loop.result.now c.in-Loop.is
+    c.as_slice-in-Loop.ensures c.requires in
+    (omega (arith, c.decreases, size, same), fits)
+
+pub stmt-statements-requires : goal.stmt-statements-requires
+stmt-statements-requires t c =
+    let size = inner_size c.args.s.now c.in-Inner.body c.in-Inner.is in
+    let same = ap (λ ss. block_size (block_of ss)) c.as_slice-in-Inner.ensures in
+    let fits = inner_fits (names_of c.args.scope.now) c.args.s.now c.in-Inner.body c.as_slice-in-Inner.result.now c.in-Inner.is c.as_slice-in-Inner.ensures c.requires in
+    (omega (arith, c.decreases, size, same), fits)
+
+pub repeat-block-requires : goal.repeat-block-requires
+repeat-block-requires t c = (omega (arith, c.decreases), c.requires)
+
+pub block-statements-requires : goal.block-statements-requires
+block-statements-requires t c = (omega (arith, c.decreases), c.requires)
+
+pub statements-stmt-requires : goal.statements-stmt-requires
+statements-stmt-requires t c =
+    let size = stmt_in_block c.args.body.now c.loop-s.s-index c.s-item.result (omega arith) c.s-item.is in
+    let fits = block_fits (names_of c.loop-s.scope) c.args.body.now c.loop-s.s-index c.s-item.result (omega arith) c.s-item.is c.loop-s.invariant.fits in
+    (omega (arith, c.decreases, size), fits.0)
+
+pub branches-block-requires : goal.branches-block-requires
+branches-block-requires t c =
+    let names = names_of c.loop-arm.scope in
+    let size = block_in_arms c.args.arms.now c.loop-arm.arm-index c.arm-item.result (omega arith) c.arm-item.is in
+    let same = ap (λ ss. block_size (block_of ss)) c.as_slice.ensures in
+    let fits = arms_fit names c.args.arms.now c.loop-arm.arm-index c.arm-item.result (omega arith) c.arm-item.is c.loop-arm.invariant.fits in
+    (omega (arith, c.decreases, size, same), subst (λ ss. BlockFits names (block_of ss)) (sym c.as_slice.ensures) fits.0)
+
+-- ---- what they are resolved to
 
 pub stmt-returns-in_ok-declare-in-Declare-clause-actions : goal.stmt-returns-in_ok-declare-in-Declare-clause-actions
 stmt-returns-in_ok-declare-in-Declare-clause-actions t c =
@@ -29,7 +107,7 @@ stmt-returns-in_ok-declare-in-Declare-clause-names t c =
 pub stmt-returns-in_ok-add_right-in-Set-clause-actions : goal.stmt-returns-in_ok-add_right-in-Set-clause-actions
 stmt-returns-in_ok-add_right-in-Set-clause-actions t c =
     let part = set_resolved (functions_of c.args.scope.now) (names_of c.args.scope.now) c.args.s.now c.in-Set.name c.in-Set.right c.in-Set.is in
-    let target = c.in_ok-target-in-Set.ensures ∙ ap variable_target (c.find.ensures ∙ ap (named (names_of c.args.scope.now)) c.as_str.ensures) in
+    let target = c.variable_target-target.ensures ∙ ap variable_target (c.find.ensures.shown ∙ ap (named (names_of c.args.scope.now)) c.as_str.ensures) in
     c.in_ok-add_right-in-Set.ensures
     ∙ ap (λ t. joined (actions_of c.args.out.now.items) (resolved_right (functions_of c.args.scope.now) (names_of c.args.scope.now) None t (plain_right c.in-Set.right))) target
     ∙ ap (joined (actions_of c.args.out.now.items)) (sym part)
@@ -52,7 +130,7 @@ stmt-returns-in_ok-set_element-in-SetElement-clause-names t c =
 pub stmt-returns-in_ok-add_call-in-Call-clause-actions : goal.stmt-returns-in_ok-add_call-in-Call-clause-actions
 stmt-returns-in_ok-add_call-in-Call-clause-actions t c =
     let part = call_resolved (functions_of c.args.scope.now) (names_of c.args.scope.now) c.args.s.now c.in-Call.name c.in-Call.args c.in-Call.is in
-    cc (part, c.in_ok-add_call-in-Call.ensures, c.in_ok-args-in-Call.ensures, c.function.ensures, c.as_str-in-Call.ensures, c.as_slice.ensures)
+    cc (part, c.in_ok-add_call-in-Call.ensures, c.in_ok-args-in-Call.ensures.values, c.function.ensures.number, c.as_str-in-Call.ensures, c.as_slice.ensures)
 
 pub stmt-returns-in_ok-add_call-in-Call-clause-names : goal.stmt-returns-in_ok-add_call-in-Call-clause-names
 stmt-returns-in_ok-add_call-in-Call-clause-names t c =
@@ -189,6 +267,8 @@ statements-loop-s-preserved t c =
           ∙ ap (joined (actions_of c.loop-s.out.items)) (sym next) ∙ c.loop-s.invariant.actions;
       kept = ap (closed (length (names_of c.args.scope.now).variables)) c.in_ok-stmt.ensures.names
           ∙ kept_after (names_of c.args.scope.now) names s c.loop-s.invariant.kept;
+      fits = subst (λ n. BlockFits n rest) (sym c.in_ok-stmt.ensures.names)
+          (block_fits names c.args.body.now c.loop-s.s-index c.s-item.result (omega arith) c.s-item.is c.loop-s.invariant.fits).1;
       functions = c.in_ok-stmt.ensures.functions ∙ c.loop-s.invariant.functions;
     }
 
@@ -219,6 +299,8 @@ branches-loop-arm-preserved t c =
           ∙ ap₂ (λ x y. more_branches bs (branch x y (resolved_arms fs names arms))) c.in_ok-condition.ensures body
           ∙ ap (more_branches bs) (sym next) ∙ c.loop-arm.invariant.branches;
       names = c.in_ok-body.ensures.names ∙ c.loop-arm.invariant.names;
+      fits = subst (λ n. ArmsFit n arms) (sym c.in_ok-body.ensures.names)
+          (arms_fit names c.args.arms.now c.loop-arm.arm-index c.arm-item.result (omega arith) c.arm-item.is c.loop-arm.invariant.fits).1;
       functions = c.in_ok-body.ensures.functions ∙ c.loop-arm.invariant.functions;
     }
 

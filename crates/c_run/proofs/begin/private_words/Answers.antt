@@ -5,13 +5,15 @@ use Rattle.c_tree.specs.Layout.{initial_of, input_of}
 use Rattle.c_tree.specs.Plain.{plain, plain_item}
 use Rattle.c_tree.specs.Valid.{words_in}
 use Rattle.c_run.proofs.Beginnings.{begun_words}
-use Rattle.c_meaning.proofs.Fits.{data_fits, initial_fits, input_within}
+use Rattle.c_tree.specs.declared.limits.TheConstants.{MOST_PRIVATE_WORDS}
+use Rattle.c_tree.proofs.Faultless.{private_fits}
+use Rattle.c_meaning.proofs.Fits.{initial_fits, input_within}
 use Rattle.c_run.proofs.begin.private_words.Goals as goal
 
 pub input_place-place-requires : goal.input_place-place-requires
 input_place-place-requires c =
-    subst (λ items. words_in false (map plain_item items) ≤ 49148) (sym c.as_slice-items.ensures)
-    (data_fits c.args.program.now.place.cores c.args.program.now.place.core (plain c.args.program.now.unit) c.args.program.now.valid)
+    subst (λ items. words_in false (map plain_item items) ≤ MOST_PRIVATE_WORDS) (sym c.as_slice-items.ensures)
+    (private_fits c.args.program.now.place.cores c.args.program.now.place.core (plain c.args.program.now.unit) c.args.program.now.valid)
 
 pub slice_bounds-lay-end : goal.slice_bounds-lay-end
 slice_bounds-lay-end c = sym (length-take-le c.min-reach.result c.args.input.now (omega (arith, c.min-reach.ensures)))
@@ -23,7 +25,7 @@ lay-requires c =
     let at : c.input_place-place.result.at ≡ (input_of items).at = c.input_place-place.ensures.at ∙ ap (λ xs. (input_of xs).at) same in
     let room : c.input_place-place.result.room ≡ (input_of items).room = c.input_place-place.ensures.room ∙ ap (λ xs. (input_of xs).room) same in
     let over = length-take-le c.min-reach.result c.args.input.now (omega (arith, c.min-reach.ensures)) in
-    let data_ = data_fits c.args.program.now.place.cores c.args.program.now.place.core items c.args.program.now.valid in
+    let data_ = private_fits c.args.program.now.place.cores c.args.program.now.place.core items c.args.program.now.valid in
     omega (arith, at, room, over, data_, (input_within 4 items (omega arith)).1, c.min-reach.ensures, c.in_ok-resize.ensures.len)
 
 pub returns-clause-words : goal.returns-clause-words
@@ -36,7 +38,7 @@ returns-clause-words c =
     let first = c.in_ok-words.ensures ∙ ap (λ xs. replicate 4 0 ++ initial_of xs) same in
     let words = c.resize.new.self.items in
     let fits = initial_fits c.args.program.now.place.cores c.args.program.now.place.core items c.args.program.now.valid in
-    let data_ = data_fits c.args.program.now.place.cores c.args.program.now.place.core items c.args.program.now.valid in
+    let data_ = private_fits c.args.program.now.place.cores c.args.program.now.place.core items c.args.program.now.valid in
     let reach : c.min-reach.result ≡ min (input_of items).room (length c.args.input.now) = c.min-reach.ensures ∙ ap (λ r. min r (length c.args.input.now)) room in
     ap slice_index (c.lay.ensures.words ∙ ap (λ k. take k words ++ (over ++ drop (k + length over) words)) at)
     ∙ begun_words items c.args.input.now c.in_ok-words.words.items words (65536 - vec_len c.in_ok-words.words) c.min-reach.result first

@@ -5,22 +5,28 @@ use Rattle.sp_tree.specs.Shown.{stmts_of}
 use Rattle.sp_tree.specs.Statements.{joined}
 use Rattle.c_meaning.specs.Shown.{plain_action, plain_target, actions_of, branches_of}
 use Rattle.single_path.specs.Made.{made, made_action, made_branches, made_call, is_no_action, is_no_branch}
+use Rattle.single_path.specs.declared.places.Place.{Place}
+use Rattle.single_path.specs.Widths as width
 use Rattle.c_meaning.specs.Sizes.{action_size}
 use Rattle.c_meaning.proofs.Falls.{part_size}
-use Rattle.single_path.proofs.Converted.{choose_is, loop_is, next_action, no_action_left, arm_added, nothing_added, otherwise_added, split_size}
+use Rattle.single_path.proofs.Converted.{choose_is, loop_is, next_action, no_action_left, arm_added, nothing_added, otherwise_added, split_size, part_masks, split_masks}
 use Rattle.single_path.proofs.statements.+conversion.Goals as goal
 
 pub add_action-add_choice-requires : goal.add_action-add_choice-requires
 add_action-add_choice-requires t c =
-    let size = ap action_size (choose_is c.args.action.now c.in-Choose.branches c.as_slice-in-Choose.result.now c.in-Choose.otherwise c.as_slice-in-Choose-2.result.now
-    c.in-Choose.is c.as_slice-in-Choose.ensures c.as_slice-in-Choose-2.ensures) in
-    (omega (arith, c.decreases, size), tt)
+    let same = choose_is c.args.action.now c.in-Choose.branches c.as_slice-in-Choose.result.now c.in-Choose.otherwise c.as_slice-in-Choose-2.result.now
+    c.in-Choose.is c.as_slice-in-Choose.ensures c.as_slice-in-Choose-2.ensures in
+    let size = ap action_size same in
+    let taken = ap width.action_masks same in
+    (omega (arith, c.decreases, size), omega (arith, c.requires, taken))
 
 pub add_action-add_repeated-requires : goal.add_action-add_repeated-requires
 add_action-add_repeated-requires t c =
-    let size = ap action_size (loop_is c.args.action.now c.in-Loop.max c.in-Loop.condition c.in-Loop.body c.as_slice-in-Loop.result.now c.in-Loop.step c.in-Loop.is
-    c.as_slice-in-Loop.ensures) in
-    (omega (arith, c.decreases, size), tt)
+    let same = loop_is c.args.action.now c.in-Loop.max c.in-Loop.condition c.in-Loop.body c.as_slice-in-Loop.result.now c.in-Loop.step c.in-Loop.is
+    c.as_slice-in-Loop.ensures in
+    let size = ap action_size same in
+    let taken = ap width.action_masks same in
+    (omega (arith, c.decreases, size), omega (arith, c.requires, taken))
 
 pub add_action-returns-in-Set : goal.add_action-returns-in-Set
 unfolding plain_action
@@ -76,7 +82,8 @@ add_action-returns-in-Return t c =
 pub add_all-add_action-requires : goal.add_all-add_action-requires
 add_all-add_action-requires t c =
     let part = part_size c.args.actions.now c.loop-action.action-index c.action-item.result (omega arith) c.action-item.is in
-    (omega (arith, c.decreases, part), tt)
+    let taken = part_masks c.args.actions.now c.loop-action.action-index c.action-item.result (omega arith) c.action-item.is in
+    (omega (arith, c.decreases, part), omega (arith, c.requires, taken))
 
 pub add_all-loop-action-preserved : goal.add_all-loop-action-preserved
 add_all-loop-action-preserved t c =
@@ -92,7 +99,9 @@ add_all-returns t c =
 pub add_arms-add_otherwise-requires : goal.add_arms-add_otherwise-requires
 add_arms-add_otherwise-requires t c =
     let size = split_size c.args.branches.now c.branch-item.result (omega arith) c.branch-item.is in
-    (omega (arith, c.decreases, size), tt)
+    let taken = split_masks c.args.branches.now c.branch-item.result (width.masks (actions_of c.args.otherwise.now)) (omega arith) c.branch-item.is in
+    let free = ap (λ (q : Place). q.free) c.in_ok-arm-in-len1-up.ensures.arm in
+    (omega (arith, c.decreases, size), omega (arith, c.requires, taken, free))
 
 pub add_arms-returns-in_ok-add_all-in-len1-up : goal.add_arms-returns-in_ok-add_all-in-len1-up
 add_arms-returns-in_ok-add_all-in-len1-up t c =

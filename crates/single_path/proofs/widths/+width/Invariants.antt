@@ -1,13 +1,13 @@
 use Rattle.std.proofs.Common.{◌≡◌, ◌+◌, drop, max}
 use Rattle.c_meaning.specs.Shown.{plain_action, actions_of, branches_of}
 use Rattle.c_meaning.specs.Sizes.{action_size, actions_size, branches_size}
-use Rattle.single_path.specs.Widths.{words, masks}
+use Rattle.single_path.specs.Widths.{words, masks, capped}
 use Rattle.single_path.proofs.widths.+width.Given as goal
 
 abbrev pub invariant-width_of-loop-action : goal.invariant-width_of-loop-action
 invariant-width_of-loop-action l = record {
-  variables : max l.most.variables (words (actions_of (drop l.action-index l.actions))) ≡ words (actions_of l.actions);
-  masks : max l.most.masks (masks (actions_of (drop l.action-index l.actions))) ≡ masks (actions_of l.actions);
+  variables : max l.most.variables (capped (words (actions_of (drop l.action-index l.actions)))) ≡ capped (words (actions_of l.actions));
+  masks : max l.most.masks (capped (masks (actions_of (drop l.action-index l.actions)))) ≡ capped (masks (actions_of l.actions));
 }
 
 abbrev pub decreases-one : goal.decreases-one

@@ -3,7 +3,7 @@ use Rattle.tcrest.proofs.Outcomes.{command_answer-is_usage, bytes_answer-is_too_
 use Rattle.tcrest.proofs.laws.refusals_in_order.Goals as goal
 
 pub returns-clause-usage : goal.returns-clause-usage
-returns-clause-usage c = λ trees words bytes. command_answer-is_usage trees (command_of words) bytes
+returns-clause-usage c = λ words bytes. command_answer-is_usage (command_of words) bytes
 
 pub returns-clause-too_long : goal.returns-clause-too_long
-returns-clause-too_long c = λ trees command bytes. bytes_answer-is_too_long trees command bytes
+returns-clause-too_long c = λ command bytes. bytes_answer-is_too_long command bytes

@@ -11,16 +11,16 @@ lines_on-requires-clause-among c =
     found_task c.args.job.now.cores c.args.job.now.tasks c.loop-core.core _ (c.task_on.ensures ∙ ap (λ tasks. task_on tasks c.loop-core.core) c.as_slice.ensures) c.requires.tasks
 
 pub returns-in-Err : goal.returns-in-Err
-returns-in-Err c = λ trees reading.
-    stopped_telling trees c.args.job.now.cores c.args.job.now.tasks c.loop-core.core (c.args.job.now.cores - c.loop-core.core) (c.args.job.now.cores - (c.loop-core.core + 1)) c.loop-core.text.items c.in-Err.halt
-    (meanings_from trees c.args.job.now.cores c.args.job.now.tasks 0 c.args.job.now.cores) (omega arith)
-    (rw (c.task_on.ensures ∙ ap (λ tasks. task_on tasks c.loop-core.core) c.as_slice.ensures) at (c.in-Err.ensures trees reading)) (c.loop-core.invariant trees reading)
+returns-in-Err c =
+    stopped_telling c.args.job.now.cores c.args.job.now.tasks c.loop-core.core (c.args.job.now.cores - c.loop-core.core) (c.args.job.now.cores - (c.loop-core.core + 1)) c.loop-core.text.items c.in-Err.halt
+    (meanings_from c.args.job.now.cores c.args.job.now.tasks 0 c.args.job.now.cores) (omega arith)
+    (rw (c.task_on.ensures ∙ ap (λ tasks. task_on tasks c.loop-core.core) c.as_slice.ensures) at c.in-Err.ensures) c.loop-core.invariant
 
 pub loop-core-preserved : goal.loop-core-preserved
-loop-core-preserved c = λ trees reading.
+loop-core-preserved c =
     let found = c.task_on.ensures ∙ ap (λ tasks. task_on tasks c.loop-core.core) c.as_slice.ensures in
     let grown : c.extend_from_slice.new.self.items ≡ c.loop-core.text.items ++ c.in-Ok.lines.items = search rules in
-    let whole = meanings_from trees c.args.job.now.cores c.args.job.now.tasks 0 c.args.job.now.cores in
-    ap (λ text. told text (meanings_from trees c.args.job.now.cores c.args.job.now.tasks (c.loop-core.core + 1) (c.args.job.now.cores - (c.loop-core.core + 1)))) grown
-    ∙ next_told trees c.args.job.now.cores c.args.job.now.tasks c.loop-core.core (c.args.job.now.cores - c.loop-core.core) (c.args.job.now.cores - (c.loop-core.core + 1)) c.loop-core.text.items c.in-Ok.lines.items
-    whole (omega arith) (subst (λ t. lines_on trees c.args.job.now.cores c.loop-core.core t ≡ Ok c.in-Ok.lines.items) found (c.in-Ok.ensures trees reading)) (c.loop-core.invariant trees reading)
+    let whole = meanings_from c.args.job.now.cores c.args.job.now.tasks 0 c.args.job.now.cores in
+    ap (λ text. told text (meanings_from c.args.job.now.cores c.args.job.now.tasks (c.loop-core.core + 1) (c.args.job.now.cores - (c.loop-core.core + 1)))) grown
+    ∙ next_told c.args.job.now.cores c.args.job.now.tasks c.loop-core.core (c.args.job.now.cores - c.loop-core.core) (c.args.job.now.cores - (c.loop-core.core + 1)) c.loop-core.text.items c.in-Ok.lines.items
+    whole (omega arith) (subst (λ t. lines_on c.args.job.now.cores c.loop-core.core t ≡ Ok c.in-Ok.lines.items) found c.in-Ok.ensures) c.loop-core.invariant

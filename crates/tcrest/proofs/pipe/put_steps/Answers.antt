@@ -20,7 +20,7 @@ loop-count-preserved c =
       few = λ x first. omega (arith, (step x first).among);
       text = λ x first. elim c.if-count-from.branch [
         | then-count-from+in_ok-put_step_line-in-Step w ↦ next_step x c.args.limit c.loop-count.count c.args.trace c.in-Step.cycle c.in-Step.stages c.args.text.now.items c.loop-count.text.items c.if-count-from.text.items
-            (step x first) (omega (arith, w.if-count-from.true, c.from.ensures)) (ap (λ (t : Vec ℕ Global). t.items) w.text-is ∙ w.in_ok-put_step_line-in-Step.ensures) (c.loop-count.invariant.text x first)
+            (step x first) (omega (arith, w.if-count-from.true, c.from.ensures)) (ap (λ (t : Vec ℕ Global). t.items) w.text-is ∙ w.in_ok-put_step_line-in-Step.ensures.appended) (c.loop-count.invariant.text x first)
         | else-count-from w ↦ ap (λ (t : Vec ℕ Global). t.items) w.text-is
             ∙ untold_step x c.args.limit c.loop-count.count c.args.trace c.args.text.now.items c.loop-count.text.items (omega (arith, w.if-count-from.false, c.from.ensures)) (c.loop-count.invariant.text x first)
       ];

@@ -16,7 +16,7 @@ returns c =
     let job = c.args.job.now in
     let x : Core = begun (site_of c.args.place c.args.image.now) c.args.input.now in
     let count = length (done_below x job.cycles) in
-    let platform : c.put_platform_line.new.text.items ≡ platform_line job.cores job.slot (period job.table job.slot) = c.in_ok-put_platform_line.ensures
+    let platform : c.put_platform_line.new.text.items ≡ platform_line job.cores job.slot (period job.table job.slot) = c.in_ok-put_platform_line.ensures.appended
     ∙ ap (λ t. t ++ platform_line job.cores job.slot c.period_of.result) c.new-text.ensures.items ∙ ap (platform_line job.cores job.slot) c.period_of.ensures in
     told_whole job x c.row_state.result c.put_steps.new.text.items c.ended.result
     (c.row_state.ensures ∙ ap row_state (c.state.ensures x count (c.in_ok-put_steps.ensures.stands x c.in_ok-core.ensures.stands) ∙ ap (λ t. state_at t (core_before x t).plain) c.in_ok-put_steps.ensures.limit))

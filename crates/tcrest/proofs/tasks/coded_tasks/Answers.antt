@@ -12,19 +12,19 @@ coded_on-requires-clause-among c =
     found_task c.args.job.now.cores c.args.job.now.tasks c.loop-core.core _ (c.task_on.ensures ∙ ap (λ tasks. task_on tasks c.loop-core.core) c.as_slice.ensures) c.requires.tasks
 
 pub returns-in-Err-clause-coded : goal.returns-in-Err-clause-coded
-returns-in-Err-clause-coded c = λ trees reading.
-    stopped_coding trees c.args.job.now.cores c.args.job.now.tasks c.loop-core.core (c.args.job.now.cores - c.loop-core.core) (c.args.job.now.cores - (c.loop-core.core + 1)) (all_shown c.loop-core.coded.items) c.in-Err.halt
-    (coded_from trees c.args.job.now.cores c.args.job.now.tasks 0 c.args.job.now.cores) (omega arith)
-    (rw (c.task_on.ensures ∙ ap (λ tasks. task_on tasks c.loop-core.core) c.as_slice.ensures) at (c.in-Err.ensures.coded trees reading)) (c.loop-core.invariant.so_far trees reading)
+returns-in-Err-clause-coded c =
+    stopped_coding c.args.job.now.cores c.args.job.now.tasks c.loop-core.core (c.args.job.now.cores - c.loop-core.core) (c.args.job.now.cores - (c.loop-core.core + 1)) (all_shown c.loop-core.coded.items) c.in-Err.halt
+    (coded_from c.args.job.now.cores c.args.job.now.tasks 0 c.args.job.now.cores) (omega arith)
+    (rw (c.task_on.ensures ∙ ap (λ tasks. task_on tasks c.loop-core.core) c.as_slice.ensures) at c.in-Err.ensures.coded) c.loop-core.invariant.so_far
 
 pub loop-core-preserved : goal.loop-core-preserved
 loop-core-preserved c =
     let found = c.task_on.ensures ∙ ap (λ tasks. task_on tasks c.loop-core.core) c.as_slice.ensures in
     let push : c.push.new.self.items ≡ c.loop-core.coded.items ++ c.in-Ok.one ∷ [] = search rules in
     record {
-      so_far = λ trees reading. next_coded trees c.args.job.now.cores c.args.job.now.tasks c.loop-core.core (c.args.job.now.cores - c.loop-core.core) (c.args.job.now.cores - (c.loop-core.core + 1)) c.loop-core.coded.items c.push.new.self.items c.in-Ok.one
-          (coded_from trees c.args.job.now.cores c.args.job.now.tasks 0 c.args.job.now.cores) (omega arith) push
-          (subst (λ t. coded_on trees c.args.job.now.cores c.loop-core.core t ≡ Ok (shown c.in-Ok.one)) found (c.in-Ok.ensures.coded trees reading)) (c.loop-core.invariant.so_far trees reading);
+      so_far = next_coded c.args.job.now.cores c.args.job.now.tasks c.loop-core.core (c.args.job.now.cores - c.loop-core.core) (c.args.job.now.cores - (c.loop-core.core + 1)) c.loop-core.coded.items c.push.new.self.items c.in-Ok.one
+          (coded_from c.args.job.now.cores c.args.job.now.tasks 0 c.args.job.now.cores) (omega arith) push
+          (subst (λ t. coded_on c.args.job.now.cores c.loop-core.core t ≡ Ok (shown c.in-Ok.one)) found c.in-Ok.ensures.coded) c.loop-core.invariant.so_far;
       count = search rules;
       among = subst (All (IsAmong c.args.job.now.cores)) (sym push)
           (All-push (IsAmong c.args.job.now.cores) c.loop-core.coded.items c.in-Ok.one c.loop-core.invariant.among

@@ -3,13 +3,13 @@ use Rattle.tcrest.proofs.Outcomes.{sent_too_long, sent_within}
 use Rattle.tcrest.proofs.top.answer_input.Goals as goal
 
 pub returns-in-Err-TooLong-clause-ends : goal.returns-in-Err-TooLong-clause-ends
-returns-in-Err-TooLong-clause-ends g c = λ trees reading.
-    sent_too_long trees _ _ _ _ _ _ c.args.command (g.S.Source.left c.args.source.now) (c.in-Err-TooLong.ensures.too_long (cc)) c.finish-in-Err-TooLong.ensures.sent
+returns-in-Err-TooLong-clause-ends g c =
+    sent_too_long _ _ _ _ _ _ c.args.command (g.S.Source.left c.args.source.now) (c.in-Err-TooLong.ensures.too_long (cc)) c.finish-in-Err-TooLong.ensures.sent
 
 pub returns-in-Ok-input_answer-clause-ends : goal.returns-in-Ok-input_answer-clause-ends
-returns-in-Ok-input_answer-clause-ends g c = λ trees reading.
-    sent_within trees _ _ _ _ _ _ c.args.command (g.S.Source.left c.args.source.now) c.in-Ok.bytes.items c.in-Ok.ensures.all (search rules)
-    (rw (← c.as_slice.ensures.value, ← c.in-Ok-input_answer.ensures.answer trees reading, ← c.as_slice-in-Ok-input_answer.ensures) c.finish-in-Ok-input_answer.ensures.sent)
+returns-in-Ok-input_answer-clause-ends g c =
+    sent_within _ _ _ _ _ _ c.args.command (g.S.Source.left c.args.source.now) c.in-Ok.bytes.items c.in-Ok.ensures.all (search rules)
+    (rw (← c.as_slice.ensures.value, ← c.in-Ok-input_answer.ensures.answer, ← c.as_slice-in-Ok-input_answer.ensures) c.finish-in-Ok-input_answer.ensures.sent)
 
 pub returns-in-Ok-input_answer-clause-read_fault : goal.returns-in-Ok-input_answer-clause-read_fault
 returns-in-Ok-input_answer-clause-read_fault g c = λ five.

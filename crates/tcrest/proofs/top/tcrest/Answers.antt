@@ -3,6 +3,6 @@ use Rattle.tcrest.proofs.Outcomes.{answer-status, written_if}
 use Rattle.tcrest.proofs.top.tcrest.Goals as goal
 
 pub returns-clause-written : goal.returns-clause-written
-returns-clause-written g c = λ trees reading.
-    written_if (answer trees c.args.words.now) _ _ _ _ _ _ (g.S.Source.left c.args.source.now) (answer-status trees c.args.words.now)
-    (rw c.command_of.ensures at (c.perform.ensures.ends trees reading))
+returns-clause-written g c =
+    written_if (answer c.args.words.now) _ _ _ _ _ _ (g.S.Source.left c.args.source.now) (answer-status c.args.words.now)
+    (rw c.command_of.ensures at c.perform.ensures.ends)

@@ -20,6 +20,7 @@ pub invariant_of-result : goal.invariant_of-result
 invariant_of-result c =
     let slots = c.args.slots.now in
     record {
+      fit = c.requires;
       kept = λ name.
           first_all (first_in c.loop-slot.first name) (among_slots name slots)
           (ap (λ ss. slot_before (first_in c.loop-slot.first name) (among_slots name ss)) (sym (drop_all c.loop-slot.slot-index slots c.loop-slot-test.false))

@@ -1,0 +1,160 @@
+-- The frames on each chain of calls of a valid program's tree fit the stack: each function weighs more than twice its frame.
+use Rattle.std.proofs.Common.{ℕ, zero, suc, ◌+◌, ◌*◌, ◌≤◌, ◌==◌, Bool, true, false, if◌then◌else◌, List, [], ◌∷◌, ◌++◌, length, None, Some, slice_index_or, arith}
+use Rattle.std.specs.Prelude.{IsTrue, nat_lt}
+use Rattle.std.proofs.lemmas.List.Sums.{sum_by-cons}
+use Rattle.c_tree.specs.declared.checks.CheckFault.TheVariants as fault
+use Rattle.c_tree.specs.declared.layout.Slot.{Slot}
+use Rattle.c_tree.specs.declared.limits.TheConstants.{MOST_FRAME_WORDS, MOST_FUNCTION_WEIGHT, MOST_PARAMETERS}
+use Rattle.c_tree.specs.declared.units.Parameter.{Parameter}
+use Rattle.c_tree.specs.Checks.{twice_faults}
+use Rattle.c_tree.specs.Frame.{stmt_frame, block_frame, arms_frame, otherwise_frame, body_frame, function_frame}
+use Rattle.c_tree.specs.Layout.{layout_of}
+use Rattle.c_tree.specs.Least.{where_so}
+use Rattle.c_tree.specs.Names.{Named, given}
+use Rattle.c_tree.specs.Plain.{PlainHead, PlainStmt, PlainBlock, PlainArms, PlainOtherwise, PlainItem, global, function}
+use Rattle.c_tree.specs.Plain as plain
+use Rattle.c_tree.specs.Sizes.{item_size}
+use Rattle.c_tree.specs.Tokens.{gives_tokens}
+use Rattle.c_tree.specs.Valid.{IsValid, has_none, named_faults, item_faults, items_faults, with_item}
+use Rattle.c_tree.specs.Weight.{head_weight, stmt_weight, block_weight, arms_weight, otherwise_weight, body_weight, function_weight, item_weight, items_weight}
+use Rattle.c_tree.proofs.Faultless.{none_left, none_right, not_past, in_items, task_fits}
+use Rattle.stack_cache.specs.declared.stack.TheConstants.{STACK_LOWEST, STACK_END}
+use Rattle.sp_tree.specs.Statements.{PlainStmts, no_stmt, stmt, PlainFunction, no_function}
+use Rattle.sp_tree.specs.Statements as tree
+use Rattle.sp_emit.specs.Chains.{stmt_chain, stmts_chain, chains}
+use Rattle.c_meaning.specs.Resolve.{resolved_items}
+use Rattle.single_path.specs.Single.{made_functions, parameters_in, frames_in, single}
+use Rattle.single_path.proofs.Budgets.{frames_within}
+
+-- ---- what a function weighs
+
+head_weighs : (head : PlainHead) → 4 ≤ head_weight head
+head_weighs (plain.turns_while condition) = omega arith
+head_weighs (plain.turns_for first from condition to_set to) = omega arith
+
+mutual
+  unfolding stmt_frame block_frame arms_frame otherwise_frame stmt_weight block_weight arms_weight otherwise_weight
+
+  stmt_weighs : (s : PlainStmt) → 2 * stmt_frame s ≤ stmt_weight s
+  stmt_weighs (plain.declared kind text None) = omega arith
+  stmt_weighs (plain.declared kind text (Some r)) = omega arith
+  stmt_weighs (plain.set text r) = omega arith
+  stmt_weighs (plain.set_element text index r) = omega arith
+  stmt_weighs (plain.called text args) = omega arith
+  stmt_weighs (plain.sent core core_unsigned source target count) = omega arith
+  stmt_weighs (plain.chosen arms otherwise) = omega (arith, arms_weigh arms, otherwise_weighs otherwise)
+  stmt_weighs (plain.looped bound head body) = omega (arith, head_weighs head, block_weighs body)
+  stmt_weighs plain.broken = omega arith
+  stmt_weighs plain.continued = omega arith
+  stmt_weighs (plain.returned None) = omega arith
+  stmt_weighs (plain.returned (Some e)) = omega arith
+  stmt_weighs (plain.inner body) = let b = block_weighs body in omega (arith, b)
+
+  block_weighs : (body : PlainBlock) → 2 * block_frame body ≤ block_weight body
+  block_weighs plain.no_stmt = omega arith
+  block_weighs (plain.stmt s rest) = omega (arith, stmt_weighs s, block_weighs rest)
+
+  arms_weigh : (arms : PlainArms) → 2 * arms_frame arms ≤ arms_weight arms
+  arms_weigh plain.no_arm = omega arith
+  arms_weigh (plain.arm condition body rest) = omega (arith, block_weighs body, arms_weigh rest)
+
+  otherwise_weighs : (otherwise : PlainOtherwise) → 2 * otherwise_frame otherwise ≤ otherwise_weight otherwise
+  otherwise_weighs plain.no_else = omega arith
+  otherwise_weighs (plain.or_else body) = let b = block_weighs body in omega (arith, b)
+
+body_weighs : (body : List PlainStmt) → 2 * body_frame body ≤ body_weight body
+body_weighs [] = omega arith
+body_weighs (s ∷ body) = omega (arith, stmt_weighs s, body_weighs body, sum_by-cons stmt_frame s body, sum_by-cons stmt_weight s body)
+
+function_weighs : (parameters : List Parameter) (body : List PlainStmt) → length parameters ≤ MOST_PARAMETERS → 2 * function_frame parameters body ≤ function_weight body
+function_weighs parameters body few = omega (arith, few, body_weighs body)
+
+-- ---- all functions
+
+abbrev sum : List ℕ → ℕ
+sum [] = 0
+sum (n ∷ ns) = n + sum ns
+
+few_parameters : (names : List Named) (at : ℕ) (text : List ℕ) (parameters : List Parameter) (body : List PlainStmt) → IsTrue (has_none (named_faults names at text parameters body)) → length parameters ≤ MOST_PARAMETERS
+few_parameters names at text parameters body none =
+    let params = where_so (nat_lt MOST_PARAMETERS (length parameters)) at fault.Params in
+    let rest = where_so (nat_lt MOST_FRAME_WORDS (function_frame parameters body)) at fault.Frame ++ where_so (nat_lt MOST_FUNCTION_WEIGHT (function_weight body)) at fault.Heavy in
+    not_past MOST_PARAMETERS (length parameters) at fault.Params
+    (none_left params rest (none_right (twice_faults 0 names at text) (params ++ rest) none))
+
+frames_weigh : (cores own : ℕ) (names : List Named) (at : ℕ) (items : List PlainItem) → IsTrue (has_none (items_faults cores own names at items)) → 2 * sum (frames_in items) ≤ items_weight items
+frames_weigh cores own names at [] none = omega arith
+frames_weigh cores own names at (global of ∷ items) none =
+    let more = frames_weigh cores own (with_item names (global of)) (at + item_size (global of)) items (none_right (item_faults cores own names at (global of)) _ none) in
+    omega (arith, more, sum_by-cons item_weight (global of) items)
+frames_weigh cores own names at (function kind text void_word parameters body ∷ items) none =
+    let i = function kind text void_word parameters body in
+    let name_at = at + length (gives_tokens kind) in
+    let here = none_left (item_faults cores own names at i) _ none in
+    let few = few_parameters names name_at text parameters body (none_left (named_faults names name_at text parameters body) _ here) in
+    let more = frames_weigh cores own (with_item names i) (at + item_size i) items (none_right (item_faults cores own names at i) _ none) in
+    omega (arith, more, function_weighs parameters body few, sum_by-cons item_weight i items)
+
+-- ---- chains
+
+mutual
+  stmt_below : (g : ℕ → ℕ) (most : ℕ) → ((k : ℕ) → g k ≤ most) → (s : tree.PlainStmt) → stmt_chain g s ≤ most
+  stmt_below g most below (tree.calls mask k args result) = below k
+  stmt_below g most below (tree.turns count body) = stmts_below g most below body
+  stmt_below g most below (tree.writes mask place e) = omega arith
+  stmt_below g most below (tree.masks slot m) = omega arith
+  stmt_below g most below (tree.overruns mask m) = omega arith
+  stmt_below g most below (tree.transfers mask core source target count) = omega arith
+
+  stmts_below : (g : ℕ → ℕ) (most : ℕ) → ((k : ℕ) → g k ≤ most) → (ss : PlainStmts) → stmts_chain g ss ≤ most
+  stmts_below g most below no_stmt = omega arith
+  stmts_below g most below (stmt s rest) = omega (arith, stmt_below g most below s, stmts_below g most below rest)
+
+-- the frames of all functions, and of the first ones
+abbrev all_frames : List PlainFunction → ℕ
+all_frames [] = 0
+all_frames (f ∷ fs) = f.frame + all_frames fs
+
+abbrev first_frames : List PlainFunction → ℕ → ℕ
+first_frames [] n = 0
+first_frames (f ∷ fs) zero = 0
+first_frames (f ∷ fs) (suc n) = f.frame + first_frames fs n
+
+one_more : (fs : List PlainFunction) (n : ℕ) → first_frames fs n + (slice_index_or fs n no_function).frame ≤ first_frames fs (suc n)
+one_more [] n = omega arith
+one_more (f ∷ fs) zero = omega arith
+one_more (f ∷ fs) (suc n) = omega (arith, one_more fs n)
+
+first_of_all : (fs : List PlainFunction) (n : ℕ) → first_frames fs n ≤ all_frames fs
+first_of_all [] n = omega arith
+first_of_all (f ∷ fs) zero = omega arith
+first_of_all (f ∷ fs) (suc n) = omega (arith, first_of_all fs n)
+
+chains_below : (fs : List PlainFunction) (n k : ℕ) → chains fs n k ≤ first_frames fs n
+chains_below fs zero k = omega arith
+chains_below fs (suc n) k = by (k == n) (stmts_below (chains fs n) (first_frames fs n) (chains_below fs n) (slice_index_or fs n no_function).body) (chains_below fs n k)
+  where
+    by : (b : Bool) → stmts_chain (chains fs n) (slice_index_or fs n no_function).body ≤ first_frames fs n → chains fs n k ≤ first_frames fs n
+        → (if b then (slice_index_or fs n no_function).frame + stmts_chain (chains fs n) (slice_index_or fs n no_function).body else chains fs n k) ≤ first_frames fs (suc n)
+    by true inner other = omega (arith, inner, one_more fs n)
+    by false inner other = omega (arith, other, one_more fs n)
+
+-- ---- a valid program
+
+made_frames : (slots : List Slot) (fs : List (List ℕ)) (items : List PlainItem) → all_frames (made_functions (parameters_in items) (resolved_items slots fs items)) ≤ sum (frames_in items)
+made_frames slots fs [] = omega arith
+made_frames slots fs (global g ∷ items) = made_frames slots fs items
+made_frames slots fs (function kind text void_word parameters body ∷ items) =
+    let here = frames_within slots fs (function kind text void_word parameters body ∷ items) zero (omega arith) in
+    omega (arith, here, made_frames slots (fs ++ text ∷ []) items)
+
+pub chains_fit : (cores own : ℕ) (items : List PlainItem) → IsValid items cores own
+    → STACK_LOWEST + chains (single items).functions (length (single items).functions) (single items).entry ≤ STACK_END
+chains_fit cores own items valid =
+    let fs : List PlainFunction = (single items).functions in
+    let chain = chains_below fs (length fs) (single items).entry in
+    let all = first_of_all fs (length fs) in
+    let made = made_frames (layout_of items) [] items in
+    let weigh = frames_weigh cores own given 0 items (in_items cores own items valid) in
+    let few = task_fits cores own items valid in
+    omega (arith, chain, all, made, weigh, few)

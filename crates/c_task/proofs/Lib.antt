@@ -1,0 +1,4 @@
+pub mod Frames
+pub mod Targets
+pub mod Runs
+pub mod Alone

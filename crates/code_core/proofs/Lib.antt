@@ -1,0 +1,16 @@
+pub mod StackHeld
+pub mod Ports
+pub mod Settled
+pub mod Effects
+pub mod Faults
+pub mod Landing
+pub mod BundleDone
+pub mod Trailed
+pub mod Beginning
+pub mod Fixed
+pub mod InRange
+pub mod Shapes
+pub mod Asked
+pub mod Constants
+pub mod BackWords
+pub mod CodeWords

@@ -1,0 +1,4 @@
+pub mod Bounded
+pub mod Ending
+pub mod Exact
+pub mod Safe

@@ -1,0 +1,13 @@
+pub mod Saying
+pub mod Lines
+pub mod OwnWords
+pub mod Acting
+pub mod BoardWords
+pub mod MayMake
+pub mod Along
+pub mod Beginning
+pub mod OwnAlong
+pub mod BoardAlong
+pub mod MayAlong
+pub mod Told
+pub mod Means

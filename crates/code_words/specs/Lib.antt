@@ -1,0 +1,4 @@
+pub mod Own
+pub mod Board
+pub mod May
+pub mod Left

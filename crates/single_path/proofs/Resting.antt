@@ -1,0 +1,191 @@
+-- Parts that are not to act: each of their statements but masks stands under a mask that is not 1, so that of all words of
+-- a frame only masks are set.
+use Rattle.std.proofs.Common.{◌≡◌, ◌≢◌, ℕ, zero, suc, ◌+◌, ◌==◌, Bool, true, false, if◌then◌else◌, ◌||◌, List, Option, Some, None, refl, ap, sym, ◌∙◌, arith, eq-eqb, true≢false}
+use Rattle.std.specs.Prelude.{◌&&◌}
+use Rattle.sp_tree.specs.Plain.{PlainSp, frame_word}
+use Rattle.sp_tree.specs.Statements.{PlainPlace, to_slot, PlainStmt, masks, writes, calls, transfers, overruns, turns, PlainStmts, no_stmt, stmt, one, joined}
+use Rattle.sp_tree.specs.Statements as tree
+use Rattle.sp_tree.specs.Straight.{State, Serves, with_slot, worth, times, stmt_done, stmts_done}
+use Rattle.sp_tree.proofs.Masks.{write_off, send_off, overrun_off, call_off}
+use Rattle.c_meaning.specs.Actions.{to_level, PlainAssignment, PlainAction, PlainActions, no_action, action, PlainBranches, no_branch, branch}
+use Rattle.c_meaning.specs.Actions as actions
+use Rattle.single_path.specs.declared.places.Place.{Place}
+use Rattle.single_path.specs.Places.{in_arm, in_loop, where_so, where_not_taken, bit_of, not_zero, where_not_returned, returned_function, returned_loop}
+use Rattle.single_path.specs.Places as mask
+use Rattle.single_path.specs.Made.{made, made_action, made_branches, made_step, made_result, made_return, made_arm, made_otherwise, made_turn, made_loop, is_zero, is_no_branch, is_no_action, ends}
+use Rattle.single_path.specs.Masked.{stmt_masks, stmts_mask}
+use Rattle.single_path.proofs.Frames.{put_there, Order, Still, fewer, set_behind}
+use Rattle.single_path.proofs.Idle.{Quiet, Dead, Left, still_dead, dead_arm, order_arm, order_loop, off, call_still, left_on, left_off, again_still, tested_still, turns_left, loop_left, arm_off, not_taken_still, dead_action, dead}
+
+-- ---- statements under masks that are not 1
+
+abbrev mutual
+  pub Rests : Serves → PlainStmt → State → Type 0
+  Rests g (masks slot e) s = Unit {0}
+  Rests g (writes mask place e) s = s.frame mask ≢ 1
+  Rests g (calls mask k args result) s = s.frame mask ≢ 1
+  Rests g (transfers mask core source target count) s = s.frame mask ≢ 1
+  Rests g (overruns mask e) s = s.frame mask ≢ 1
+  Rests g (turns count body) s = (k : ℕ) → AllRest g body (times k (stmts_done g body) s)
+
+  pub AllRest : Serves → PlainStmts → State → Type 0
+  AllRest g no_stmt s = Unit {0}
+  AllRest g (stmt t rest) s = Rests g t s × AllRest g rest (stmt_done g t s)
+
+neither : (a b : Bool) → (a || b) ≡ false → (a ≡ false) × (b ≡ false)
+neither true b is = absurd (true≢false is)
+neither false b is = (refl, is)
+
+times_stand : (x : ℕ) (change : State → State) (Kept : State → Type 0) → ((s : State) → Kept s → (change s).frame x ≡ s.frame x)
+    → (n : ℕ) (s : State) → ((k : ℕ) → Kept (times k change s)) → (times n change s).frame x ≡ s.frame x
+times_stand x change Kept each zero s kept = refl
+times_stand x change Kept each (suc n) s kept = times_stand x change Kept each n (change s) (λ k. kept (suc k)) ∙ each s (kept zero)
+
+-- a word that no mask is set in stands
+mutual
+  rests : (g : Serves) (x : ℕ) (t : PlainStmt) (s : State) → Rests g t s → stmt_masks x t ≡ false → (stmt_done g t s).frame x ≡ s.frame x
+  rests g x (masks slot e) s rest is = put_there slot (worth e s) x s.frame (λ same. true≢false (sym (eq-eqb slot x same) ∙ is))
+  rests g x (writes mask place e) s rest is = ap (λ (u : State). u.frame x) (write_off g mask place e s rest)
+  rests g x (calls mask k args result) s rest is = ap (λ (u : State). u.frame x) (call_off g mask k args result s rest)
+  rests g x (transfers mask core source target count) s rest is = ap (λ (u : State). u.frame x) (send_off g mask core source target count s rest)
+  rests g x (overruns mask e) s rest is = ap (λ (u : State). u.frame x) (overrun_off g mask e s rest)
+  rests g x (turns count body) s rest is = times_stand x (stmts_done g body) (AllRest g body) (λ u h. all_rest g x body u h is) count s rest
+
+  pub all_rest : (g : Serves) (x : ℕ) (ts : PlainStmts) (s : State) → AllRest g ts s → stmts_mask x ts ≡ false → (stmts_done g ts s).frame x ≡ s.frame x
+  all_rest g x no_stmt s rest is = refl
+  all_rest g x (stmt t ts) s rest is =
+      let both = neither (stmt_masks x t) (stmts_mask x ts) is in
+      all_rest g x ts (stmt_done g t s) rest.1 both.1 ∙ rests g x t s rest.0 both.0
+
+joined_rest : (g : Serves) (xs ys : PlainStmts) (s : State) → AllRest g xs s → AllRest g ys (stmts_done g xs s) → AllRest g (joined xs ys) s
+joined_rest g no_stmt ys s first second = second
+joined_rest g (stmt t xs) ys s first second = (first.0, joined_rest g xs ys (stmt_done g t s) first.1 second)
+
+-- ---- parts of actions
+
+given_rests : (g : Serves) → Quiet g → (p : Place) (k : ℕ) (args : List PlainSp) (place : PlainPlace) (s : State) (n : ℕ) → Order n p → Dead p s
+    → AllRest g (stmt (tree.calls p.own k args (Some p.free)) (one (writes p.own place (frame_word p.free)))) s
+given_rests g quiet p k args place s n o d =
+    let called = call_still g quiet p.free p.own k args (Some p.free) s (off p s d) in
+    (off p s d, ((λ e. off p s d (sym (called.frame p.own o.free) ∙ e)), tt))
+
+step_rests : (g : Serves) (mask : ℕ) (step : Option PlainAssignment) (s : State) → s.frame mask ≢ 1 → AllRest g (made_step mask step) s
+step_rests g mask None s is = tt
+step_rests g mask (Some a) s is = (is, tt)
+
+return_rests : (g : Serves) (p : Place) (e : PlainSp) (s : State) → Dead p s → AllRest g (made_return p e) s
+return_rests g p e s d =
+    joined_rest g (made_result p e) (stmt (masks p.function (returned_function p)) (outer (p.function == p.turn))) s (result (is_zero e))
+    (tt, behind (p.function == p.turn) (with_slot p.function (worth (returned_function p) (stmts_done g (made_result p e) s)) (stmts_done g (made_result p e) s)))
+  where
+    outer : Bool → PlainStmts
+    outer outside = if outside then no_stmt else one (masks p.turn (returned_loop p))
+
+    result : (zero_value : Bool) → AllRest g (if zero_value then no_stmt else one (writes p.own (to_slot p.result) e)) s
+    result true = tt
+    result false = (off p s d, tt)
+
+    behind : (outside : Bool) (t : State) → AllRest g (outer outside) t
+    behind true t = tt
+    behind false t = (tt, tt)
+
+-- ---- turns
+
+turn_rests : (g : Serves) (n : ℕ) (p : Place) (condition : PlainSp) (body : PlainStmts) (step : Option PlainAssignment) → Order n p
+    → ((t : State) → Dead (in_loop p) t → Still (p.free + 1) t (stmts_done g body t)) → ((t : State) → Dead (in_loop p) t → AllRest g body t)
+    → (s : State) → Left p s → AllRest g (made_turn p condition body step) s
+turn_rests g n p condition body step o still each s l =
+    let t = with_slot p.free (worth (where_so p.free condition) s) s in
+    let tested = left_on n p s t o (tested_still p condition s l) l in
+    let u = stmts_done g body t in
+    let turned = left_on n p t u o (still t tested.dead) tested in
+    let v = with_slot p.free (worth (not_zero (frame_word p.free)) u) u in
+    let again = left_on n p u v o (again_still p u turned) turned in (
+      tt,
+      joined_rest g body (stmt (masks p.free (not_zero (frame_word p.free))) (made_step p.free step)) t (each t tested.dead)
+          (tt, step_rests g p.free step v (left_off p v again)),
+    )
+
+loop_rests : (g : Serves) (n : ℕ) (p : Place) (most : ℕ) (condition : PlainSp) (body : PlainStmts) (step : Option PlainAssignment) → Order n p
+    → ((t : State) → Dead (in_loop p) t → Still (p.free + 1) t (stmts_done g body t)) → ((t : State) → Dead (in_loop p) t → AllRest g body t)
+    → (s : State) → Dead p s → AllRest g (made_loop p most condition (made_turn p condition body step)) s
+loop_rests g n p zero condition body step o still each s d = (off p s d, tt)
+loop_rests g n p (suc k) condition body step o still each s d =
+    let t = with_slot p.free (worth (bit_of p.own) s) s in
+    let begun = loop_left n p s o d in
+    let left_there : (j : ℕ) → Left p (times j (stmts_done g (made_turn p condition body step)) t) =
+    λ j. left_on n p t (times j (stmts_done g (made_turn p condition body step)) t) o (turns_left g n p condition body step o still j t begun) begun in (
+      tt,
+      (
+        (λ j. turn_rests g n p condition body step o still each (times j (stmts_done g (made_turn p condition body step)) t) (left_there j)),
+        (left_off p (times (suc k) (stmts_done g (made_turn p condition body step)) t) (left_there (suc k)), (tt, (tt, tt))),
+      ),
+    )
+
+-- ---- arms
+
+otherwise_rests : (g : Serves) (n : ℕ) (p : Place) (nothing : Bool) (rest : PlainStmts) → Order n p → ((t : State) → Dead (in_arm p) t → AllRest g rest t)
+    → (s : State) → Dead p s → Dead (in_arm p) s → s.frame p.free ≡ 0 → AllRest g (made_otherwise p nothing rest) s
+otherwise_rests g n p true rest o each s d inner is = tt
+otherwise_rests g n p false rest o each s d inner is =
+    let t = with_slot p.free (worth (where_not_taken p) s) s in
+    (tt, each t (still_dead n (in_arm p) s t (order_arm n p o) (not_taken_still p s d is) inner))
+
+arm_rests : (g : Serves) (n : ℕ) (p : Place) (condition : PlainSp) (arm : PlainStmts) (nothing : Bool) (rest : PlainStmts) → Order n p
+    → ((t : State) → Dead (in_arm p) t → Still (p.free + 1) t (stmts_done g arm t)) → ((t : State) → Dead (in_arm p) t → AllRest g arm t)
+    → ((t : State) → Dead (in_arm p) t → AllRest g rest t)
+    → (s : State) → Dead p s → AllRest g (made_arm p condition arm (made_otherwise p nothing rest)) s
+arm_rests g n p condition arm nothing rest o still inside behind s d =
+    let t = with_slot p.free (worth (where_so p.own condition) s) s in
+    let begun = set_behind p.free p.free (worth (where_so p.own condition) s) s (omega arith) in
+    let off_there = arm_off p condition s d in
+    let inner = dead_arm n p s t o begun off_there d in
+    let u = stmts_done g arm t in
+    let taken = still t inner in
+    let part = still_dead n p t u o (fewer (p.free + 1) p.free t u (omega arith) taken) (still_dead n p s t o begun d) in (
+      tt,
+      joined_rest g arm (made_otherwise p nothing rest) t (inside t inner)
+          (otherwise_rests g n p nothing rest o behind u part (still_dead n (in_arm p) t u (order_arm n p o) taken inner)
+          (taken.frame p.free (omega arith) ∙ off_there)),
+    )
+
+-- ---- all actions
+
+mutual
+  action_rests : (g : Serves) → Quiet g → (n : ℕ) (a : PlainAction) (p : Place) (s : State) → Order n p → Dead p s → AllRest g (made_action p a) s
+  action_rests g quiet n (actions.sets a) p s o d = (off p s d, tt)
+  action_rests g quiet n (actions.calls k args None) p s o d = (off p s d, tt)
+  action_rests g quiet n (actions.calls k args (Some (to_level at))) p s o d = (off p s d, tt)
+  action_rests g quiet n (actions.calls k args (Some (actions.to_cell cell))) p s o d = given_rests g quiet p k args (tree.to_cell cell) s n o d
+  action_rests g quiet n (actions.calls k args (Some (actions.to_array array index))) p s o d =
+      given_rests g quiet p k args (tree.to_array array index) s n o d
+  action_rests g quiet n (actions.transfers core source target count) p s o d = (off p s d, tt)
+  action_rests g quiet n (actions.chooses branches otherwise) p s o d =
+      joined_rest g (made_branches p branches (is_no_action otherwise) (λ q. made q otherwise)) (one (masks p.own (mask.where_on p))) s
+      (branches_rest g quiet n branches (is_no_action otherwise) (λ q. made q otherwise) (λ q t. actions_rest g quiet n otherwise q t) p s o d) (tt, tt)
+  action_rests g quiet n (actions.turns most condition body step) p s o d =
+      loop_rests g n p most condition (made (in_loop p) body) step o (λ t. dead g quiet n body (in_loop p) t (order_loop n p o))
+      (λ t. actions_rest g quiet n body (in_loop p) t (order_loop n p o)) s d
+  action_rests g quiet n actions.breaks p s o d = (tt, tt)
+  action_rests g quiet n actions.continues p s o d = (tt, tt)
+  action_rests g quiet n (actions.returns e) p s o d = return_rests g p e s d
+
+  pub actions_rest : (g : Serves) → Quiet g → (n : ℕ) (all : PlainActions) (p : Place) (s : State) → Order n p → Dead p s → AllRest g (made p all) s
+  actions_rest g quiet n no_action p s o d = tt
+  actions_rest g quiet n (action a rest) p s o d =
+      let t = stmts_done g (made_action p a) s in
+      joined_rest g (made_action p a) (if ends a then no_stmt else made p rest) s (action_rests g quiet n a p s o d)
+      (by (ends a) t (actions_rest g quiet n rest p t o (still_dead n p s t o (dead_action g quiet n a p s o d) d)))
+    where
+      by : (ended : Bool) (t : State) → AllRest g (made p rest) t → AllRest g (if ended then no_stmt else made p rest) t
+      by true t h = tt
+      by false t h = h
+
+  branches_rest : (g : Serves) → Quiet g → (n : ℕ) (bs : PlainBranches) (nothing : Bool) (otherwise : Place → PlainStmts)
+      → ((q : Place) (t : State) → Order n q → Dead q t → AllRest g (otherwise q) t)
+      → (p : Place) (s : State) → Order n p → Dead p s → AllRest g (made_branches p bs nothing otherwise) s
+  branches_rest g quiet n no_branch nothing otherwise each p s o d = each p s o d
+  branches_rest g quiet n (branch condition body rest) nothing otherwise each p s o d =
+      arm_rests g n p condition (made (in_arm p) body) (is_no_branch rest && nothing) (made_branches (in_arm p) rest nothing otherwise) o
+      (λ t. dead g quiet n body (in_arm p) t (order_arm n p o)) (λ t. actions_rest g quiet n body (in_arm p) t (order_arm n p o))
+      (λ t. branches_rest g quiet n rest nothing otherwise each (in_arm p) t (order_arm n p o)) s d
