@@ -26,7 +26,8 @@ use Rattle.tc_link.proofs.Followed.{shape_followed}
 use Rattle.tc_link.specs.Backs.{backs_of}
 use Rattle.tc_link.specs.Fits.{FitsImage}
 use Rattle.tc_link.specs.Placed.{flat}
-use Rattle.c_compile.specs.Code.{code_of, begun_run, CarriesOut}
+use Rattle.c_compile.specs.Code.{begun_run, CarriesOut}
+use Rattle.task_core.specs.Tasks.{code_of}
 
 -- all bundles have their fields in their ranges
 abbrev pub Fit : PlainShape → Type 0

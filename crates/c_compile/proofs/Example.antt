@@ -3,7 +3,7 @@ use Rattle.std.proofs.Common.{ℕ, zero, suc, ◌<◌, ◌≤◌, arith}
 use Rattle.patmos_code.specs.declared.images.TheConstants.{MOST_IN_FUNCTION}
 use Rattle.tc_link.specs.Fits.{FitsImage}
 use Rattle.tc_link.specs.Placed.{size_of}
-use Rattle.c_compile.specs.Code.{code_of}
+use Rattle.task_core.specs.Tasks.{code_of}
 use Rattle.c_compile.specs.Examples.{nine}
 
 each_small : (k : ℕ) → k < 1 → size_of (code_of nine) k ≤ MOST_IN_FUNCTION

@@ -1,2 +1,4 @@
 pub mod Carrying
+pub mod Checked
 pub mod Example
+pub mod Read

@@ -4,22 +4,17 @@ use Rattle.patmos_code.specs.Images.{Parts}
 use Rattle.patmos_model.specs.Begin.{entry}
 use Rattle.sp_tree.specs.Begun.{straight}
 use Rattle.sp_tree.specs.Statements.{PlainUnit}
-use Rattle.sp_shape.specs.Parts.{PlainShape}
 use Rattle.sp_shape.specs.Run.{Run, at_begin, by_words}
 use Rattle.sp_shape.specs.Trail.{trail}
-use Rattle.sp_emit.specs.Functions.{emitted}
 use Rattle.sp_emit.specs.Ran.{begun_memory}
 use Rattle.sp_emit.specs.Serving.{Answers}
-use Rattle.bundle_sched.specs.Placed.{placed}
+use Rattle.task_core.specs.Tasks.{code_of}
 use Rattle.tc_link.specs.Backs.{back, backs_of}
 use Rattle.tc_link.specs.Dues.{dues_of}
 use Rattle.tc_link.specs.Placed.{linked}
 use Rattle.tc_link.specs.Walk.{Walk, walk_from, Follows}
 
--- its code, each value of which is there before it is used; and the words of that
-abbrev pub code_of : PlainUnit → PlainShape
-code_of u = placed (emitted u)
-
+-- the words of its code
 abbrev pub image_of : PlainUnit → Parts
 image_of u = linked (code_of u)
 

@@ -1,2 +1,4 @@
+pub mod Answered
 pub mod Code
 pub mod Examples
+pub mod Texts

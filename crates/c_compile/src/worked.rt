@@ -1,8 +1,9 @@
 //! Worked example: the image of a small task.
 ghost use Rattle.std.specs.Prelude.{◌≡◌, [], ◌∷◌, true};
-ghost use Rattle.c_compile.specs.Code.{code_of, image_of};
+ghost use Rattle.c_compile.specs.Code.{image_of};
 ghost use Rattle.c_compile.specs.Examples.{nine};
 ghost use Rattle.sp_tree.specs.Formed.{is_formed};
+ghost use Rattle.task_core.specs.Tasks.{code_of};
 ghost use Rattle.tc_link.specs.Fits.{FitsImage};
 
 /// A task that gives 9: its frame is reserved, the mask and the place to which it returns are kept; 9 is set and stored;

@@ -1,5 +1,5 @@
 -- The plain actions of parts that hold lists, by these lists.
-use Rattle.std.proofs.Common.{◌≡◌, ℕ, List, [], ◌∷◌, ◌++◌, Option, refl, ap, ap₂}
+use Rattle.std.proofs.Common.{◌≡◌, ℕ, ◌<◌, List, [], ◌∷◌, ◌++◌, length, Option, refl, ap, ap₂, arith}
 use Rattle.std.specs.Prelude.{option_map}
 use denote.Hole.Carrier.{hidden}
 use Rattle.sp_tree.specs.declared.expressions.SpExpr.{SpExpr}
@@ -10,6 +10,7 @@ use Rattle.c_meaning.specs.declared.actions.Action.TheBlock.{hidden-the_row-Acti
 use Rattle.c_meaning.specs.declared.actions.Assignment.{Assignment}
 use Rattle.c_meaning.specs.declared.actions.Branch.{Branch}
 use Rattle.c_meaning.specs.Actions.{PlainActions, no_action, action, PlainBranches, no_branch, branch, chooses, turns, one, joined}
+use Rattle.c_meaning.specs.Resolve.{choice}
 use Rattle.c_meaning.specs.Shown.{plain_action, plain_row, plain_branches, plain_assignment, actions_of, branches_of}
 
 row_actions : (body : List Action) → plain_row (hidden-the_row-Action-0 body) ≡ actions_of body
@@ -32,11 +33,26 @@ pub plain_loop : (most : ℕ) (condition : SpExpr) (body : List Action) (step : 
 unfolding plain_action
 plain_loop most condition body step = ap (λ b. turns most (plain_sp condition) b (option_map plain_assignment step)) (row_actions body)
 
+-- no branches, and what is chosen
+pub chosen_none : (branches : List Branch) (otherwise : PlainActions) → length branches ≡ 0 → choice (branches_of branches) otherwise ≡ otherwise
+chosen_none [] otherwise none = refl
+chosen_none (b ∷ branches) otherwise none = absurd (omega (arith, none))
+
+-- some branches, and what is chosen
+pub chosen_some : (branches : List Branch) (otherwise : List Action) → 0 < length branches
+    → one (plain_action (Choose branches otherwise)) ≡ choice (branches_of branches) (actions_of otherwise)
+chosen_some [] otherwise some = absurd (omega (arith, some))
+chosen_some (b ∷ branches) otherwise some = ap one (plain_choose (b ∷ branches) otherwise)
+
 -- ---- one more
 
 pub actions_push : (xs : List Action) (a : Action) → actions_of (xs ++ a ∷ []) ≡ joined (actions_of xs) (one (plain_action a))
 actions_push [] a = refl
 actions_push (x ∷ xs) a = ap (action (plain_action x)) (actions_push xs a)
+
+pub actions_append : (xs ys : List Action) → actions_of (xs ++ ys) ≡ joined (actions_of xs) (actions_of ys)
+actions_append [] ys = refl
+actions_append (x ∷ xs) ys = ap (action (plain_action x)) (actions_append xs ys)
 
 pub joined_none : (xs : PlainActions) → joined xs no_action ≡ xs
 joined_none no_action = refl

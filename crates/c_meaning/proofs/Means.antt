@@ -8,9 +8,9 @@ use Rattle.c_tree.specs.Plain as plain
 use Rattle.sp_tree.specs.Plain.{PlainSp, constant}
 use Rattle.c_meaning.specs.declared.ways.Way.{Way}
 use Rattle.c_meaning.specs.declared.ways.Way.TheVariants as way
-use Rattle.c_meaning.specs.Actions.{PlainTarget, to_level, PlainAssignment, turns, chooses, PlainActions, no_action, action, one, joined}
+use Rattle.c_meaning.specs.Actions.{PlainTarget, to_level, PlainAssignment, turns, chooses, PlainActions, no_action, action, PlainBranches, no_branch, branch, one, joined}
 use Rattle.c_meaning.specs.Meaning.{Done, goes_on, in_world, with_level, with_variable, with_variable_set, with_element_set, right_given, declare_done, head_condition, head_begun, head_stepped, turns_done, then_done, most_turns, names_after, stmt_done, block_done, arms_done, otherwise_done, body_done, assigned, return_value}
-use Rattle.c_meaning.specs.Resolve.{resolved, resolved_args, variable_target, element_target, assignment_to, maybe_sets, numbered_call, resolved_right, resolved_declaration, resolved_assignment, resolved_condition, resolved_begin, resolved_next, resolved_return, resolved_stmt, resolved_block, resolved_arms, resolved_otherwise, resolved_body, number_of, numbered, calls_by, fresh_at}
+use Rattle.c_meaning.specs.Resolve.{resolved, resolved_args, variable_target, element_target, assignment_to, maybe_sets, numbered_call, resolved_right, resolved_declaration, resolved_assignment, resolved_condition, resolved_begin, resolved_next, resolved_return, choice, resolved_stmt, resolved_block, resolved_arms, resolved_otherwise, resolved_body, number_of, numbered, calls_by, fresh_at}
 use Rattle.c_meaning.specs.Resolved.{Serves, worth, holds, args_worth, with_result, step_done, given_done, action_done, actions_done, branches_done}
 use Rattle.c_meaning.specs.Scope.{Stands, level, outside, nothing, slot_region, slot_word}
 use Rattle.c_meaning.specs.Values.{State, Names, named, expr_value}
@@ -43,6 +43,11 @@ done_joined g no_action ys s = refl
 done_joined g (action a xs) ys s =
     ap (λ f. then_done f (action_done g a s)) (λ i t. done_joined g xs ys t i)
     ∙ sym (then_then (actions_done g xs) (actions_done g ys) (action_done g a s))
+
+choice_done : (g : Serves) (branches : PlainBranches) (otherwise : PlainActions) (s : State)
+    → actions_done g (choice branches otherwise) s ≡ branches_done g branches (actions_done g otherwise) s
+choice_done g no_branch otherwise s = refl
+choice_done g (branch condition body rest) otherwise s = then_none g (action_done g (chooses (branch condition body rest) otherwise) s)
 
 -- ---- what is set
 
@@ -153,7 +158,7 @@ mutual
       ap₂ (λ a b. goes_on (in_world t (with_send core a b (worth (resolved names None count) t) t.world))) (worth_of names None source t) (worth_of names None target t)
       ∙ ap (λ c. goes_on (in_world t (with_send core (expr_value names t source) (expr_value names t target) c t.world))) (worth_of names None count t)
   stmt_means fs names g (plain.chosen arms otherwise) t =
-      then_none g (action_done g (chooses (resolved_arms fs names arms) (resolved_otherwise fs names otherwise)) t)
+      choice_done g (resolved_arms fs names arms) (resolved_otherwise fs names otherwise) t
       ∙ arms_mean fs names g arms (actions_done g (resolved_otherwise fs names otherwise)) (otherwise_done (calls_by fs g) names otherwise)
       (λ i u. otherwise_means fs names g otherwise u i) t
   stmt_means fs names g (plain.looped bound head body) t =

@@ -13,10 +13,10 @@ use Rattle.c_tree.specs.declared.statements.Stmt.TheViews.{If, Loop, Inner}
 use Rattle.c_tree.specs.Plain.{PlainStmt, plain_expr, plain_right, plain_head, plain_stmt}
 use Rattle.c_tree.specs.Plain as tree
 use Rattle.c_tree.proofs.Plains.{block_of, arms_of, otherwise_of, plain_inner, plain_loop, plain_if}
-use Rattle.c_meaning.specs.Actions.{no_action, transfers, chooses, turns, breaks, continues, returns, branch, one, joined}
+use Rattle.c_meaning.specs.Actions.{no_action, transfers, turns, breaks, continues, returns, branch, one, joined}
 use Rattle.c_meaning.specs.Meaning.{with_variable, names_after, most_turns}
 use Rattle.c_meaning.specs.Open.{closed}
-use Rattle.c_meaning.specs.Resolve.{resolved, resolved_args, variable_target, element_target, maybe_sets, numbered_call, number_of, resolved_right, resolved_declaration, resolved_condition, resolved_begin, resolved_next, resolved_return, resolved_stmt, resolved_block, resolved_arms, resolved_otherwise, resolved_body}
+use Rattle.c_meaning.specs.Resolve.{resolved, resolved_args, variable_target, element_target, maybe_sets, numbered_call, number_of, resolved_right, resolved_declaration, resolved_condition, resolved_begin, resolved_next, resolved_return, choice, resolved_stmt, resolved_block, resolved_arms, resolved_otherwise, resolved_body}
 use Rattle.c_meaning.specs.Scope.{Variable}
 use Rattle.c_meaning.specs.Values.{Names, named}
 use Rattle.c_meaning.proofs.Parts.{drop_item}
@@ -51,17 +51,17 @@ unfolding plain_stmt
 send_resolved fs names s core u a b c is = ap (λ x. resolved_stmt fs names (plain_stmt x)) is
 
 pub if_resolved : (fs : List (List ℕ)) (names : Names) (s : Stmt) (arms : List Arm) (otherwise : Option (List Stmt)) → s ≡ If arms otherwise
-    → otherwise ≡ None → resolved_stmt fs names (plain_stmt s) ≡ one (chooses (resolved_arms fs names (arms_of arms)) no_action)
+    → otherwise ≡ None → resolved_stmt fs names (plain_stmt s) ≡ choice (resolved_arms fs names (arms_of arms)) no_action
 if_resolved fs names s arms otherwise is none =
     ap (λ x. resolved_stmt fs names (plain_stmt x)) is ∙ ap (resolved_stmt fs names) (plain_if arms otherwise)
-    ∙ ap (λ o. one (chooses (resolved_arms fs names (arms_of arms)) (resolved_otherwise fs names (otherwise_of o)))) none
+    ∙ ap (λ o. choice (resolved_arms fs names (arms_of arms)) (resolved_otherwise fs names (otherwise_of o))) none
 
 pub if_else_resolved : (fs : List (List ℕ)) (names : Names) (s : Stmt) (arms : List Arm) (otherwise : Option (List Stmt)) (body : List Stmt)
     → s ≡ If arms otherwise → otherwise ≡ Some body
-    → resolved_stmt fs names (plain_stmt s) ≡ one (chooses (resolved_arms fs names (arms_of arms)) (resolved_block fs names (block_of body)))
+    → resolved_stmt fs names (plain_stmt s) ≡ choice (resolved_arms fs names (arms_of arms)) (resolved_block fs names (block_of body))
 if_else_resolved fs names s arms otherwise body is some =
     ap (λ x. resolved_stmt fs names (plain_stmt x)) is ∙ ap (resolved_stmt fs names) (plain_if arms otherwise)
-    ∙ ap (λ o. one (chooses (resolved_arms fs names (arms_of arms)) (resolved_otherwise fs names (otherwise_of o)))) some
+    ∙ ap (λ o. choice (resolved_arms fs names (arms_of arms)) (resolved_otherwise fs names (otherwise_of o))) some
 
 pub loop_resolved : (fs : List (List ℕ)) (names : Names) (s : Stmt) (bound : Option Bound) (head : Head) (body : List Stmt) → s ≡ Loop bound head body
     → resolved_stmt fs names (plain_stmt s)

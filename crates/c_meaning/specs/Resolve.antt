@@ -146,6 +146,13 @@ abbrev pub resolved_right : List (List ℕ) → Names → Option ℕ → Option 
 resolved_right fs names fresh result (plain.value e) = maybe_sets (assignment_to result (resolved names fresh e))
 resolved_right fs names fresh result (plain.call text args) = numbered_call (number_of text fs) (resolved_args names fresh args) result
 
+-- ---- choices
+
+-- what is chosen under no condition is what stands behind `else`
+abbrev pub choice : PlainBranches → PlainActions → PlainActions
+choice no_branch otherwise = otherwise
+choice (branch condition body rest) otherwise = one (chooses (branch condition body rest) otherwise)
+
 -- ---- statements
 
 abbrev pub resolved_declaration : List (List ℕ) → Names → ℕ → Option PlainRight → PlainActions
@@ -179,7 +186,7 @@ abbrev mutual
   resolved_stmt fs names (plain.called text args) = numbered_call (number_of text fs) (resolved_args names None args) None
   resolved_stmt fs names (plain.sent core core_unsigned source target count) =
       one (transfers core (resolved names None source) (resolved names None target) (resolved names None count))
-  resolved_stmt fs names (plain.chosen arms otherwise) = one (chooses (resolved_arms fs names arms) (resolved_otherwise fs names otherwise))
+  resolved_stmt fs names (plain.chosen arms otherwise) = choice (resolved_arms fs names arms) (resolved_otherwise fs names otherwise)
   resolved_stmt fs names (plain.looped bound head body) =
       joined (maybe_sets (resolved_begin names head))
       (one (turns (most_turns bound) (resolved_condition names head) (resolved_block fs names body) (resolved_next names head)))

@@ -242,16 +242,29 @@ fn send(
     )
 }
 
-// a choice between branches, or else these
-#[tactic(auto, using(crate::proofs::Acted::plain_choose))]
+// actions behind others
+#[tactic(auto, using(crate::proofs::Acted::actions_append))]
+fn add_all(out: &mut Vec<Action>, actions: List<Action>) -> Result<(), OutOfMemory>
+    ensures { OnOk result (actions_of out.new.items ≡ joined (actions_of out.old.items) (actions_of actions)) }
+{
+    let mut actions = actions.into_vec();
+    out.append(&mut actions)?;
+    Ok(())
+}
+
+// a choice between branches, or else these; under no condition these alone
+#[tactic(auto, using(crate::proofs::Acted::chosen_none, crate::proofs::Acted::chosen_some))]
 fn add_choice(
     out: &mut Vec<Action>,
     branches: List<Branch>,
     otherwise: List<Action>,
 ) -> Result<(), OutOfMemory>
     ensures { OnOk result (actions_of out.new.items
-        ≡ joined (actions_of out.old.items) (one (plain.chooses (branches_of branches) (actions_of otherwise)))) }
+        ≡ joined (actions_of out.old.items) (resolve.choice (branches_of branches) (actions_of otherwise))) }
 {
+    if branches.as_slice().is_empty() {
+        return add_all(out, otherwise);
+    }
     add(
         out,
         Action::Choose {

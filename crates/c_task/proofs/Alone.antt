@@ -9,7 +9,7 @@ use Rattle.c_world.specs.declared.region.Region.TheVariants as region
 use Rattle.c_mentions.specs.Alone.{Running, idle, assembly, program, reaches, writes_shared, any_other, is_alone_with, is_alone}
 use Rattle.c_mentions.specs.Mentions.{Array, comm_array, shared_array, mentions, assigns}
 use Rattle.c_mentions.specs.Mentions as source
-use Rattle.sp_tree.specs.Uses.{reads_cell, reads_array, writes_cell, writes_array, sends_to, uses_of}
+use Rattle.sp_tree.specs.Uses.{reads_cell, reads_array, writes_cell, writes_array, uses_of}
 use Rattle.single_path.specs.Single.{single}
 use Rattle.single_path.specs.Used.{same_region, reads_region, writes_region, memory_of}
 use Rattle.single_path.proofs.Used.{reads_only_mentioned, writes_only_assigned}
@@ -57,11 +57,11 @@ same_itself r s same = subst (λ k. same_region s k ≡ true) (sym same) (by s)
     by region.Private = refl
     by region.Shared = refl
 
-mentioned : (items : List PlainItem) (a : Array) → ReadsIn (Contains (uses_of (single items))) (memory_of a) → mentions a items ≡ true
+pub mentioned : (items : List PlainItem) (a : Array) → ReadsIn (Contains (uses_of (single items))) (memory_of a) → mentions a items ≡ true
 mentioned items a (inl (c, (at, is))) = reads_only_mentioned a items (any_of (reads_region (memory_of a)) (uses_of (single items)) (reads_cell c) at (same_itself c.region (memory_of a) is))
 mentioned items a (inr (c, (at, is))) = reads_only_mentioned a items (any_of (reads_region (memory_of a)) (uses_of (single items)) (reads_array c) at (same_itself c.region (memory_of a) is))
 
-assigned : (items : List PlainItem) (a : Array) → WritesIn (Contains (uses_of (single items))) (memory_of a) → assigns a items ≡ true
+pub assigned : (items : List PlainItem) (a : Array) → WritesIn (Contains (uses_of (single items))) (memory_of a) → assigns a items ≡ true
 assigned items a (inl (c, (at, is))) = writes_only_assigned a items (any_of (writes_region (memory_of a)) (uses_of (single items)) (writes_cell c) at (same_itself c.region (memory_of a) is))
 assigned items a (inr (c, (at, is))) = writes_only_assigned a items (any_of (writes_region (memory_of a)) (uses_of (single items)) (writes_array c) at (same_itself c.region (memory_of a) is))
 

@@ -1,4 +1,9 @@
 pub mod Frames
 pub mod Targets
 pub mod Runs
+pub mod Sizes
 pub mod Alone
+pub mod Meaning
+pub mod Telling
+pub mod Touching
+pub mod Worlds

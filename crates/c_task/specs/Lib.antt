@@ -1,1 +1,4 @@
+pub mod Doing
 pub mod Programs
+pub mod Telling
+pub mod Translation

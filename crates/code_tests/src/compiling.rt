@@ -9,7 +9,7 @@ use std::test::Fail;
 #[tactic(auto, using(c_compile::proofs::Example::nine_fits))]
 fn words_are_the_assemblers(rt: HostRuntime) -> Result<(), Fail> {
     let unit = nine(rt.alloc())?;
-    let image = code_of(rt.alloc(), &unit)?;
+    let code = code_of(rt.alloc(), &unit)?;
     let want = [
         24,
         0x03c0_0004,
@@ -37,7 +37,7 @@ fn words_are_the_assemblers(rt: HostRuntime) -> Result<(), Fail> {
         0,
         0,
     ];
-    assert_eq!(rt; image.words(), want.as_slice());
-    assert_eq!(rt; image.starts(), [1].as_slice());
+    assert_eq!(rt; code.image.words(), want.as_slice());
+    assert_eq!(rt; code.image.starts(), [1].as_slice());
     Ok(())
 }

@@ -1,5 +1,5 @@
 //! Tests of the crates that make code of single-path trees: code, its scheduling and linking, its image, and its
-//! bound.
+//! bound; and of compiled C kernels, run on a core.
 //!
 //! A crate with tests is proved twice, with them and without. So the tests of several crates stand here, over their
 //! public calls alone, and have no part in the program. What a command shows is a case of `cases/` at the top instead.
@@ -11,6 +11,10 @@ mod bounds;
 mod compiling;
 #[cfg(test)]
 mod emission;
+#[cfg(test)]
+mod kernel_texts;
+#[cfg(test)]
+mod kernels;
 #[cfg(test)]
 mod linking;
 #[cfg(test)]

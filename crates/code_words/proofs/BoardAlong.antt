@@ -2,6 +2,8 @@
 use Rattle.std.proofs.Common.{◌≡◌, ℕ, zero, suc, Bool, true, false, List, [], inl, refl, sym, ap, ◌∙◌, subst, append-nil}
 use Rattle.slot_arbiter.specs.Stamp.{stamp}
 use Rattle.shared_order.specs.declared.operation.Operation.{Operation}
+use Rattle.shared_order.specs.Words.{after, Sees}
+use Rattle.shared_order.proofs.Words.{sees_first}
 use Rattle.patmos_instr.specs.Bundles.{Slots}
 use Rattle.patmos_sem.specs.Bundles.{effect_of}
 use Rattle.patmos_sem.specs.declared.effects.Effect.{Effect}
@@ -19,12 +21,12 @@ use Rattle.code_core.specs.Sound.{IsSound}
 use Rattle.code_core.proofs.Beginning.{first}
 use Rattle.code_core.proofs.BundleDone.{next_pending}
 use Rattle.code_core.proofs.Landing.{landed_pending}
-use Rattle.code_words.specs.Board.{words_after, AreTrue, HoldsBoard}
+use Rattle.code_words.specs.Board.{HoldsBoard}
 use Rattle.code_words.specs.Own.{AreOwn, KeepsApart}
 use Rattle.code_words.proofs.Acting.{LeavesBy, Done, OfBoth, SettlesBy, settled_by, all_settles_by, acting_by, IsPrefix, prefix_then, all_moved_grows, bundled_grows}
 use Rattle.code_words.proofs.Along.{entered, Doing, doing, Behind, Carries}
 use Rattle.code_words.proofs.Beginning.{holds_first}
-use Rattle.code_words.proofs.BoardWords.{true_before, ComesBoard, Told, told_of_both, answers_board}
+use Rattle.code_words.proofs.BoardWords.{ComesBoard, Told, told_of_both, answers_board}
 use Rattle.code_words.proofs.Saying.{IsBoardWord, OfLoad, of_pending}
 
 -- the operations hang on no transfer
@@ -59,20 +61,20 @@ module _ (n core : ℕ) where
 module _ (n core : ℕ) (x : Core) (values : List ℕ) (Cached : ℕ → Type 0) (are_own : AreOwn Cached) (world : ℕ → ℕ) (board : ℕ) (place_is : x.plain.site.core ≡ board) where
   -- a run's words are those that the task's own stores left of the world
   abbrev pub BoardBeside : Run → Moment → Type 0
-  BoardBeside r m = HoldsBoard board r.memory (words_after m.told.own world)
+  BoardBeside r m = HoldsBoard board r.memory (after m.told.own world)
 
   abbrev pub TrueSoFar : Moment → Type 0
-  TrueSoFar m = AreTrue m.told.own world
+  TrueSoFar m = Sees world m.told.own
 
   true_still : (count : ℕ) (m : Moment) → TrueSoFar (onwards n core count m) → TrueSoFar m
-  true_still count m so = let p = onwards_grows n core count m in true_before m.told.own p.0 world (subst (λ l. AreTrue l world) p.1 so)
+  true_still count m so = let p = onwards_grows n core count m in sees_first world m.told.own p.0 (subst (λ l. Sees world l) p.1 so)
 
   board_behind : (w : Walk) (b : Slots) (m : Moment) → Stands n core x values w m → (f : Fetches x.plain.site.image b (flowed w))
       → IsSound x.plain.site (effect_of f.bundle (flowed w).run.regs) (pointers_of (flowed w).run) (flowed w).run.memory → KeepsApart Cached (effect_of f.bundle (flowed w).run.regs)
       → BoardBeside (flowed w).run m → TrueSoFar (next n core m)
       → Behind n core x values (KeepsApart Cached) IsBoardWord BoardBeside TrueSoFar (effect_of f.bundle (flowed w).run.regs) (flowed w).run (late by_stack f.bundle (flowed w).run) m
   board_behind w b m st f sound apart h so = record {
-    beside = subst (λ (z : Run). BoardBeside z (next n core m)) (sym k.late_is) (subst (λ ops. HoldsBoard board r.memory (words_after ops world)) (sym own_is) comes.holds_board);
+    beside = subst (λ (z : Run). BoardBeside z (next n core m)) (sym k.late_is) (subst (λ ops. HoldsBoard board r.memory (after ops world)) (sym own_is) comes.holds_board);
     says = subst (λ e. OfLoad IsBoardWord e (flowed w).run.memory (pending_value (core_in (next n core m)).plain.regs.pending)) (sym k.asks)
         (of_pending IsBoardWord c.plain.site e (entered (flowed w).run f.bundle c) comes.value (core_in a).plain.regs (core_in (next n core m)).plain.regs d.plain.regs k.sound (next_pending n core m k.moved) comes.regs comes.own);
   }
@@ -107,8 +109,8 @@ module _ (n core : ℕ) (x : Core) (values : List ℕ) (Cached : ℕ → Type 0)
       own_is : (next n core m).told.own ≡ a.told.own
       own_is = all_settles_by n core (λ z ops. ops ≡ a.told.own) (made_of_both a.told.own) (landing a) (settled_by refl (landed_pending a.cycle (core_in a) (inl k.moved)).rests)
 
-      comes : ComesBoard board (OfLoad IsBoardWord e (flowed w).run.memory) e r.memory d.plain.regs (words_after a.told.own world) (core_in a)
-      comes = told (subst (λ ops. AreTrue ops world) own_is so)
+      comes : ComesBoard board (OfLoad IsBoardWord e (flowed w).run.memory) e r.memory d.plain.regs (after a.told.own world) (core_in a)
+      comes = told (subst (λ ops. Sees world ops) own_is so)
 
   pub carries_board : Carries n core x values (KeepsApart Cached) IsBoardWord BoardBeside TrueSoFar
   carries_board = record { flows = λ f g. refl; begins = λ r m h. h; before = true_still; behind = board_behind }

@@ -3,7 +3,8 @@ use Rattle.std.proofs.Common.{◌≡◌, if◌then◌else◌, ℕ, ◌+◌, ◌*
 use Rattle.std.specs.Prelude.{slice_index, IfSome}
 use Rattle.std.proofs.lemmas.Bool.{cases_eq}
 use Rattle.shared_order.specs.Operation.{load, store}
-use Rattle.shared_order.specs.Words.{put}
+use Rattle.shared_order.specs.Words.{put, after, Sees}
+use Rattle.shared_order.proofs.Words.{after-append, sees_first, sees_rest}
 use Rattle.shared_order.specs.declared.operation.Operation.{Operation}
 use Rattle.data_cache.specs.Accesses as cache
 use Rattle.local_store.specs.Map.{IsInRange}
@@ -36,7 +37,7 @@ use Rattle.sp_shape.specs.Memory as run
 use Rattle.sp_shape.specs.Memory.{Memory}
 use Rattle.sp_shape.specs.Pointers.{pointers_of}
 use Rattle.sp_shape.specs.Run.{Run, effected}
-use Rattle.code_words.specs.Board.{word_after, words_after, AreTrue, HoldsBoard}
+use Rattle.code_words.specs.Board.{HoldsBoard}
 use Rattle.code_core.specs.Goes.{by_stack}
 use Rattle.code_words.specs.Own.{AreOwn, KeepsApart}
 use Rattle.code_words.proofs.Saying.{IsBoardWord, OfLoad}
@@ -46,20 +47,6 @@ use Rattle.code_core.proofs.Effects.{regs_with}
 use Rattle.code_words.proofs.OwnWords.{private_cell, line_cell}
 use Rattle.code_core.proofs.Ports.{IsStill}
 use Rattle.code_core.proofs.StackHeld.{put_here, put_there}
-
--- ---- operations more
-
-pub true_before : (xs ys : List Operation) (words : ℕ → ℕ) → AreTrue (xs ++ ys) words → AreTrue xs words
-true_before [] ys words h = tt
-true_before (o ∷ xs) ys words h = (h.0, true_before xs ys (word_after o words) h.1)
-
-true_behind : (xs ys : List Operation) (words : ℕ → ℕ) → AreTrue (xs ++ ys) words → AreTrue ys (words_after xs words)
-true_behind [] ys words h = h
-true_behind (o ∷ xs) ys words h = true_behind xs ys (word_after o words) h.1
-
-after_append : (xs ys : List Operation) (words : ℕ → ℕ) → words_after (xs ++ ys) words ≡ words_after ys (words_after xs words)
-after_append [] ys words = refl
-after_append (o ∷ xs) ys words = after_append xs ys (word_after o words)
 
 -- over what is said of the value, and the memory that the run then has
 pub record ComesBoard (board : ℕ) (Own : ℕ → Type 0) (e : Effect) (k : Memory) (regs_before : Registers) (words : ℕ → ℕ) (c : Core) : Type 0 where
@@ -71,20 +58,20 @@ pub record ComesBoard (board : ℕ) (Own : ℕ → Type 0) (e : Effect) (k : Mem
 module _ (world : ℕ → ℕ) (board : ℕ) where
   -- where all loads so far were true
   abbrev pub Told : (ℕ → Type 0) → Effect → Memory → Registers → Core → List Operation → Type 0
-  Told Own e k regs_before c ops = AreTrue ops world → ComesBoard board Own e k regs_before (words_after ops world) c
+  Told Own e k regs_before c ops = Sees world ops → ComesBoard board Own e k regs_before (after ops world) c
 
   pub told_of_both : (Own : ℕ → Type 0) (e : Effect) (k : Memory) (regs_before : Registers) → OfBoth (Told Own e k regs_before)
   told_of_both Own e k regs_before = record {
-    same = λ c d ops is h so. let g = h so in subst (ComesBoard board Own e k regs_before (words_after ops world)) (sym is.task) (record { value = g.value; regs = g.regs; own = g.own; holds_board = g.holds_board });
+    same = λ c d ops is h so. let g = h so in subst (ComesBoard board Own e k regs_before (after ops world)) (sym is.task) (record { value = g.value; regs = g.regs; own = g.own; holds_board = g.holds_board });
     counts = λ u c ops h so. let g = h so in record { value = g.value; regs = g.regs; own = g.own; holds_board = g.holds_board };
   }
 
   -- a load more: the value is the word's, and the words stay
-  loaded_true : (s word value : ℕ) (ops : List Operation) → AreTrue (ops ++ load s word value ∷ []) world → (value ≡ words_after ops world word) × (words_after (ops ++ load s word value ∷ []) world ≡ words_after ops world)
-  loaded_true s word value ops so = ((true_behind ops (load s word value ∷ []) world so).0 refl, after_append ops (load s word value ∷ []) world)
+  loaded_true : (s word value : ℕ) (ops : List Operation) → Sees world (ops ++ load s word value ∷ []) → (value ≡ after ops world word) × (after (ops ++ load s word value ∷ []) world ≡ after ops world)
+  loaded_true s word value ops so = ((sees_rest world ops (load s word value ∷ []) so).0 refl, after-append ops (load s word value ∷ []) world)
 
-  stored_words : (s word value : ℕ) (ops : List Operation) → words_after (ops ++ store s word value ∷ []) world ≡ put word value (words_after ops world)
-  stored_words s word value ops = after_append ops (store s word value ∷ []) world
+  stored_words : (s word value : ℕ) (ops : List Operation) → after (ops ++ store s word value ∷ []) world ≡ put word value (after ops world)
+  stored_words s word value ops = after-append ops (store s word value ∷ []) world
 
   comm_stored : (word value : ℕ) (m : Memory) (words : ℕ → ℕ) → word < 512 → HoldsBoard board m words → HoldsBoard board (record m { comm = put word value m.comm }) (put (comm_word board word) value words)
   comm_stored word value m words few h = record {
@@ -104,7 +91,7 @@ module _ (world : ℕ → ℕ) (board : ℕ) where
     comm = λ at low. put_there words word value (comm_word board at) (λ e. omega (arith, e, few)) ∙ h.comm at low;
   }
 
-  module _ (Cached : ℕ → Type 0) (are_own : AreOwn Cached) (site : Site) (u s : ℕ) (m : Run) (d : Core) (site_is : d.plain.site.core ≡ board) (ops : List Operation) (h : AreTrue ops world → HoldsBoard board m.memory (words_after ops world)) (idle : d.plain.transfer.words ≡ 0) where
+  module _ (Cached : ℕ → Type 0) (are_own : AreOwn Cached) (site : Site) (u s : ℕ) (m : Run) (d : Core) (site_is : d.plain.site.core ≡ board) (ops : List Operation) (h : Sees world ops → HoldsBoard board m.memory (after ops world)) (idle : d.plain.transfer.words ≡ 0) where
     abbrev Left : (ℕ → Type 0) → Effect → Memory → Core → List Operation → Type 0
     Left Own e k c o = Told Own e k d.plain.regs c o
 
@@ -112,14 +99,14 @@ module _ (world : ℕ → ℕ) (board : ℕ) where
     Any value = Unit {0}
 
     -- with no operation more
-    still : (e : Effect) (k : Memory) (value : ℕ) (c : Core) → c.plain.regs ≡ regs_with e value d.plain.regs → (HoldsBoard board m.memory (words_after ops world) → HoldsBoard board k (words_after ops world)) → Left Any e k c ops
+    still : (e : Effect) (k : Memory) (value : ℕ) (c : Core) → c.plain.regs ≡ regs_with e value d.plain.regs → (HoldsBoard board m.memory (after ops world) → HoldsBoard board k (after ops world)) → Left Any e k c ops
     still e k value c regs keeps so = record { value = value; regs = regs; own = tt; holds_board = keeps (h so) }
 
-    at_once : (e : Effect) (k : Memory) (value : ℕ) (c : Core) → c.plain.regs ≡ regs_with e value d.plain.regs → (HoldsBoard board m.memory (words_after ops world) → HoldsBoard board k (words_after ops world)) → c.plain.transfer.words ≡ 0
+    at_once : (e : Effect) (k : Memory) (value : ℕ) (c : Core) → c.plain.regs ≡ regs_with e value d.plain.regs → (HoldsBoard board m.memory (after ops world) → HoldsBoard board k (after ops world)) → c.plain.transfer.words ≡ 0
         → SettlesBy (Left Any e k) c ops
     at_once e k value c regs keeps none = settled_by (still e k value c regs keeps) (inl none)
 
-    by_memory : (k : Memory) → k.shared ≡ m.memory.shared → k.comm ≡ m.memory.comm → HoldsBoard board m.memory (words_after ops world) → HoldsBoard board k (words_after ops world)
+    by_memory : (k : Memory) → k.shared ≡ m.memory.shared → k.comm ≡ m.memory.comm → HoldsBoard board m.memory (after ops world) → HoldsBoard board k (after ops world)
     by_memory k shared comm b = record { shared = λ word low. b.shared word low ∙ ap (λ f. f word) (sym shared); comm = λ word low. b.comm word low ∙ ap (λ f. f word) (sym comm) }
 
     -- ---- loads
@@ -132,11 +119,11 @@ module _ (world : ℕ → ℕ) (board : ℕ) where
       refl,
       settled_by (λ so.
           let t = loaded_true s (comm_word d.plain.site.core word) value ops so in
-          let before = h (true_before ops (load s (comm_word d.plain.site.core word) value ∷ []) world so) in
+          let before = h (sees_first world ops (load s (comm_word d.plain.site.core word) value ∷ []) so) in
           record {
             value = value;
             regs = refl;
-            own = t.0 ∙ ap (λ k. words_after ops world (comm_word k word)) site_is ∙ before.comm word r;
+            own = t.0 ∙ ap (λ k. after ops world (comm_word k word)) site_is ∙ before.comm word r;
             holds_board = subst (HoldsBoard board m.memory) (sym t.1) before;
           }) (inl idle),
     )
@@ -157,7 +144,7 @@ module _ (world : ℕ → ℕ) (board : ℕ) where
       refl,
       λ so.
           let k = loaded_true t word value ops so in
-          let before = h (true_before ops (load t word value ∷ []) world so) in
+          let before = h (sees_first world ops (load t word value ∷ []) so) in
           record {
             value = value;
             regs = ap (regs_with (effect.Load mem.M width rd address) value) regs;
@@ -230,8 +217,8 @@ module _ (world : ℕ → ℕ) (board : ℕ) where
             value = 0;
             regs = refl;
             own = tt;
-            holds_board = subst (HoldsBoard board (record m.memory { comm = put word value m.memory.comm })) (sym (stored_words s (comm_word d.plain.site.core word) value ops ∙ ap (λ k. put (comm_word k word) value (words_after ops world)) site_is))
-                (comm_stored word value m.memory (words_after ops world) r (h (true_before ops (store s (comm_word d.plain.site.core word) value ∷ []) world so)));
+            holds_board = subst (HoldsBoard board (record m.memory { comm = put word value m.memory.comm })) (sym (stored_words s (comm_word d.plain.site.core word) value ops ∙ ap (λ k. put (comm_word k word) value (after ops world)) site_is))
+                (comm_stored word value m.memory (after ops world) r (h (sees_first world ops (store s (comm_word d.plain.site.core word) value ∷ []) so)));
           }) (inl idle),
         )
     local_stored width address value is (Some (cell.Port core register)) l r = (refl, by (register == 0) (register == 4))
@@ -277,7 +264,7 @@ module _ (world : ℕ → ℕ) (board : ℕ) where
             regs = regs;
             own = tt;
             holds_board = subst (HoldsBoard board (record m.memory { shared = put word value m.memory.shared })) (sym (stored_words t word value ops))
-                (shared_stored word value m.memory (words_after ops world) r (h (true_before ops (store t word value ∷ []) world so)));
+                (shared_stored word value m.memory (after ops world) r (h (sees_first world ops (store t word value ∷ []) so)));
           },
         )
 

@@ -1,5 +1,5 @@
 -- What a bundle's effect makes, where it asks for what it may.
-use Rattle.std.proofs.Common.{◌≡◌, ℕ, ◌+◌, ◌/◌, ◌<◌, ◌==◌, Bool, true, false, List, [], ◌∷◌, ◌++◌, length, Option, None, Some, inl, inr, refl, sym, ap, subst, true≢false}
+use Rattle.std.proofs.Common.{◌≡◌, ℕ, ◌/◌, ◌<◌, ◌==◌, Bool, true, false, List, [], ◌∷◌, ◌++◌, length, Option, None, Some, inl, inr, refl, sym, ap, subst, true≢false}
 use Rattle.std.specs.List.{AllByRecursion as Each}
 use Rattle.shared_order.specs.Operation.{load, store}
 use Rattle.shared_order.specs.declared.operation.Operation.{Operation}

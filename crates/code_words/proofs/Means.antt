@@ -1,5 +1,5 @@
 -- A task whose own loads of the words that others reach are true does what its code does by words.
-use Rattle.std.proofs.Common.{◌≡◌, ℕ, zero, ◌-◌, ◌<◌, List, refl, sym, ◌∙◌, subst}
+use Rattle.std.proofs.Common.{◌≡◌, ℕ, ◌<◌, List, refl, sym, ◌∙◌, subst}
 use Rattle.slot_arbiter.specs.declared.place.Place.{Place}
 use Rattle.patmos_sem.specs.Registers.{FitsRegisters}
 use Rattle.patmos_model.specs.Apart.{site_of}
@@ -17,7 +17,7 @@ use Rattle.tc_link.specs.Backs.{back, backs_of}
 use Rattle.tc_link.specs.Dues.{dues_of}
 use Rattle.tc_link.specs.Placed.{linked}
 use Rattle.tc_link.specs.Walk.{Walk, Follows, walk_from}
-use Rattle.code_words.specs.Board.{words_after, AreTrue, HoldsBoard}
+use Rattle.code_words.specs.Board.{HoldsBoard}
 use Rattle.code_core.specs.Fixed.{IsLinkable, Behaves}
 use Rattle.code_core.specs.Goes.{by_stack, loads_from, Ended}
 use Rattle.code_core.specs.Held.{HoldsPorts}
@@ -32,6 +32,7 @@ use Rattle.code_core.specs.Words.{AreGiven}
 use Rattle.code_core.proofs.InRange.{loads_are_words}
 use Rattle.patmos_model.specs.Range.{IsWord}
 use Rattle.std.specs.List.{AllByRecursion as Each}
+use Rattle.shared_order.specs.Words.{after, Sees}
 use Rattle.code_core.proofs.Beginning.{first, RunsAs, runs_as}
 use Rattle.code_core.proofs.Shapes.{starts_behind}
 use Rattle.code_words.proofs.Told.{told}
@@ -46,10 +47,10 @@ module _ (place : Place) (s : PlainShape) (addresses : List ℕ) (link : IsLinka
     pub run : last.run ≡ run_late by_words (trail s) (at_begin memory loads (backs_of s))
     pub ended : Ended place.cores place.core last (after_bundles place.cores place.core (begun (site_of place (linked s)) input) values (bundles_in (trail s)))
     pub own : HoldsOwn Cached last.run.memory (core_in (after_bundles place.cores place.core (begun (site_of place (linked s)) input) values (bundles_in (trail s))))
-    pub board : HoldsBoard place.core last.run.memory (words_after (after_bundles place.cores place.core (begun (site_of place (linked s)) input) values (bundles_in (trail s))).told.own world)
+    pub board : HoldsBoard place.core last.run.memory (after (after_bundles place.cores place.core (begun (site_of place (linked s)) input) values (bundles_in (trail s))).told.own world)
 
   pub means : (world : ℕ → ℕ) (input values : List ℕ) → AreGiven input values → ((loads : List ℕ) → Each IsWord loads → AllApart Cached by_stack (trail s) (at_begin memory loads (backs_of s))) → HoldsPorts memory (begun (site_of place (linked s)) input).plain.interface → HoldsOwn Cached memory (begun (site_of place (linked s)) input) → HoldsBoard place.core memory world
-      → AreTrue (after_bundles place.cores place.core (begun (site_of place (linked s)) input) values (bundles_in (trail s))).told.own world → Means world input values
+      → Sees world (after_bundles place.cores place.core (begun (site_of place (linked s)) input) values (bundles_in (trail s))).told.own → Means world input values
   means world input values given keeps_apart ports own board so =
       let site : Site = site_of place (linked s) in
       let f0 : Moment = first place.cores place.core site input values in
@@ -67,7 +68,7 @@ module _ (place : Place) (s : PlainShape) (addresses : List ℕ) (link : IsLinka
       carried_to place.cores place.core site input values (KeepsApart Cached) IsBoardWord (BoardBeside place.cores place.core (begun site input) values Cached are_own world site.core refl) (TrueSoFar place.cores place.core (begun site input) values Cached are_own world site.core refl)
       (carries_board place.cores place.core (begun site input) values Cached are_own world site.core refl)
       (trail s) (dues_of s (back 0 0)) memory (backs_of s) f.last 0 ports slots (starts_behind s) f.does_so (behaves.sound memory loads words) (keeps_apart loads words) f.returns
-      (subst (λ ops. HoldsBoard site.core memory (words_after ops world)) (sym (none_made place.cores place.core site input values)) board) so in
+      (subst (λ ops. HoldsBoard site.core memory (after ops world)) (sym (none_made place.cores place.core site input values)) board) so in
       record {
         loads = loads;
         last = f.last;

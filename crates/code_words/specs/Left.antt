@@ -2,6 +2,7 @@
 use Rattle.std.specs.Prelude.{◌≡◌, ℕ, List, Bool, true}
 use Rattle.std.specs.List.{AllByRecursion as Each}
 use Rattle.slot_arbiter.specs.declared.place.Place.{Place}
+use Rattle.shared_order.specs.Words.{after}
 use Rattle.patmos_model.specs.Apart.{site_of}
 use Rattle.patmos_model.specs.Begin.{begun}
 use Rattle.patmos_model.specs.Range.{IsWord}
@@ -16,7 +17,7 @@ use Rattle.code_core.specs.Followed.{last_of}
 use Rattle.code_core.specs.Goes.{by_stack}
 use Rattle.code_core.specs.Held.{HoldsPorts}
 use Rattle.code_words.specs.Own.{AreOwn, AllApart, HoldsOwn}
-use Rattle.code_words.specs.Board.{HoldsBoard, words_after}
+use Rattle.code_words.specs.Board.{HoldsBoard}
 
 -- the addresses that pass a test
 abbrev pub Among : (ℕ → Bool) → ℕ → Type 0
@@ -44,4 +45,4 @@ pub record IsLeft (place : Place) (s : PlainShape) (cached : ℕ → Bool) (memo
   pub loads : List ℕ
   pub regs : (core_in (last_of place s input values)).plain.regs ≡ (left_by s memory loads).regs
   pub own : HoldsOwn (Among cached) (left_by s memory loads).memory (core_in (last_of place s input values))
-  pub board : HoldsBoard place.core (left_by s memory loads).memory (words_after (last_of place s input values).told.own world)
+  pub board : HoldsBoard place.core (left_by s memory loads).memory (after (last_of place s input values).told.own world)

@@ -1,11 +1,11 @@
 //! The law of the words that code leaves.
 ghost use Rattle.std.specs.Prelude.{ℕ, Bool, List};
+ghost use Rattle.shared_order.specs.Words.{Sees};
 ghost use Rattle.sp_shape.specs.Memory.{Memory};
 ghost use Rattle.sp_shape.specs.Parts.{PlainShape};
 ghost use Rattle.code_core.specs.Fixed.{Behaves, IsLinkable};
 ghost use Rattle.code_core.specs.Followed.{last_of};
 ghost use Rattle.code_core.specs.Words.{AreGiven};
-ghost use Rattle.code_words.specs.Board.{AreTrue};
 ghost use Rattle.code_words.specs.Left.{BeginsWith, IsLeft, KeepsCacheFresh};
 
 use core_pace::place_has_slots;
@@ -18,7 +18,7 @@ use slot_arbiter::Place;
 pub fn code_leaves_its_words(place: &Place)
     ensures { (s : PlainShape) (addresses input values : List ℕ) (cached : ℕ → Bool) (memory : Memory) (world : ℕ → ℕ)
         → IsLinkable s → Behaves s place.now addresses → AreGiven input values → KeepsCacheFresh s cached memory → BeginsWith place.now s cached memory world input
-        → AreTrue (last_of place.now s input values).told.own world
+        → Sees world (last_of place.now s input values).told.own
         → IsLeft place.now s cached memory world input values }
 {
     place_has_slots(place);

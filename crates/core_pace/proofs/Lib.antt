@@ -22,4 +22,5 @@ pub mod SentKept
 pub mod SentOnly
 pub mod SentGrows
 pub mod Owned
+pub mod Packets
 pub mod Outcomes

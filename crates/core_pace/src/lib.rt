@@ -28,7 +28,7 @@
 //!   that were read do not matter.
 //! - [`task_stands_apart`]: its own loads determine a task, whatever its interface reads; [`task_stores_its_own`] and
 //!   [`packets_go_where_asked`]: it stores into its own communication memory and shared memory alone, and packets go
-//!   only to cores to which it asked for a transfer.
+//!   only to cores to which it asked for a transfer; [`packets_are_all_besides`]: a core does nothing else to shared words.
 //! - [`presence_by_addresses`], [`stack_moves_by_pointers`], [`stack_words_come_back`] and [`run_keeps_a_stack`]: the
 //!   caches by addresses and pointers.
 //! - [`worked_starts`], [`worked_bundles`], [`worked_events`], [`worked_growth`], [`worked_stack`] and
@@ -59,7 +59,7 @@ pub use run::{ended_task_is_done, place_has_slots, run_by_bundles, run_cut_at_a_
 pub use spans::transfer_in_time;
 pub use stack::{run_keeps_a_stack, stack_moves_by_pointers, stack_words_come_back};
 pub use starts::slot_starts_compute;
-pub use stores::{packets_go_where_asked, task_stores_its_own};
+pub use stores::{packets_are_all_besides, packets_go_where_asked, task_stores_its_own};
 pub use task::task_stands_apart;
 pub use worked::{
     worked_bundles, worked_events, worked_growth, worked_stack, worked_starts, worked_words,

@@ -8,6 +8,8 @@ pub mod Lists
 pub mod Merged
 pub mod Merging
 pub mod Parts
+pub mod RangesApart
 pub mod Runs
+pub mod SomeWords
 pub mod Standing
 pub mod Words

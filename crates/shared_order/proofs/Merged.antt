@@ -6,13 +6,13 @@ use Rattle.std.proofs.lemmas.List.Elements.{filter-append}
 use Rattle.shared_order.specs.declared.operation.Operation.{Operation}
 use Rattle.shared_order.specs.Operation.{load, store, loads, operations_of}
 use Rattle.shared_order.specs.Order.{Rising}
-use Rattle.shared_order.specs.Words.{put, after, zeros}
+use Rattle.shared_order.specs.Words.{put, after, zeros, Sees}
 use Rattle.shared_order.specs.Program.{Prog, done, get, set, played, fed, first, others}
 use Rattle.shared_order.specs.Machine.{State}
 use Rattle.shared_order.specs.Apart.{Alone}
 use Rattle.shared_order.specs.Stamps.{machine, stepped_apart, run_apart}
 use Rattle.shared_order.proofs.Lists.{loads-append, operations_of-append, filter-filter, each_map, no_operations, one_core_has_all, early, late, early_all, early_none, late_all, late_none, early-late, rising_first}
-use Rattle.shared_order.proofs.Words.{Sees, sees_first, sees_rest}
+use Rattle.shared_order.proofs.Words.{sees_first, sees_rest}
 use Rattle.shared_order.proofs.Runs.{stamps_fed, stepped_own, stepped_other, core_stands, alone_stands, low_apart, words_stored}
 
 -- where the loads of a fed program see the words, it does what it does when played on them

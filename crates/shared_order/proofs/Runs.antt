@@ -3,14 +3,14 @@ use Rattle.std.proofs.Common.{◌≡◌, ℕ, zero, suc, ◌%◌, ◌<◌, ◌�
 use Rattle.std.specs.List.{AllByRecursion as Each}
 use Rattle.shared_order.specs.declared.operation.Operation.{Operation}
 use Rattle.shared_order.specs.Operation.{load, store, loads, operations_of}
-use Rattle.shared_order.specs.Words.{put, after, zeros}
+use Rattle.shared_order.specs.Words.{put, after, zeros, Sees}
 use Rattle.shared_order.specs.Program.{Prog, done, get, set, Played, played, fed, first, others, first_asked}
 use Rattle.shared_order.specs.Machine.{State}
 use Rattle.shared_order.specs.Apart.{Alone, gone_on}
 use Rattle.shared_order.specs.Stamps.{machine, stepped_apart, run_apart}
 use Rattle.shared_order.specs.Stands.{Stands}
 use Rattle.shared_order.proofs.Lists.{loads-append, operations_of-append, own_operations, other_operations, each_map, each-append, rising-append, rising_of_one}
-use Rattle.shared_order.proofs.Words.{Sees, sees-append, played_sees, after-append}
+use Rattle.shared_order.proofs.Words.{sees-append, played_sees, after-append}
 use Rattle.shared_order.specs.Order.{Rising}
 
 -- ---- one program

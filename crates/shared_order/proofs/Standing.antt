@@ -1,5 +1,5 @@
 -- How a core goes from stamp to stamp, and what it asks for next.
-use Rattle.std.proofs.Common.{◌≡◌, ℕ, zero, suc, ◌+◌, ◌-◌, ◌*◌, ◌/◌, ◌%◌, ◌<◌, ◌≤◌, Bool, true, false, List, [], ◌∷◌, ◌++◌, ◌==◌, drop, refl, sym, ap, ◌∙◌, subst, append_assoc, append-nil, eq-eqb, eqb-true, true≢false, arith}
+use Rattle.std.proofs.Common.{◌≡◌, ℕ, zero, suc, ◌+◌, ◌-◌, ◌*◌, ◌/◌, ◌%◌, ◌<◌, ◌≤◌, Bool, true, false, List, [], ◌++◌, ◌==◌, refl, sym, ap, ◌∙◌, subst, append_assoc, append-nil, eq-eqb, eqb-true, true≢false, arith}
 use Rattle.std.proofs.lemmas.Nat.{mod_below, le-div, div_below}
 use Rattle.slot_arbiter.specs.Stamp.{stamp}
 use Rattle.shared_order.specs.declared.operation.Operation.{Operation}

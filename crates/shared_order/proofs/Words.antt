@@ -3,7 +3,7 @@ use Rattle.std.proofs.Common.{◌≡◌, ℕ, ◌<◌, Bool, true, false, cond, 
 use Rattle.std.specs.List.{AllByRecursion as Each}
 use Rattle.shared_order.specs.Operation.{store}
 use Rattle.shared_order.specs.declared.operation.Operation.{Operation}
-use Rattle.shared_order.specs.Words.{put, written, after, zeros, stored_last, LeavesWord, Reads}
+use Rattle.shared_order.specs.Words.{put, written, after, zeros, stored_last, LeavesWord, Sees, Reads}
 use Rattle.shared_order.specs.Program.{Prog, done, get, set, played}
 use Rattle.std.proofs.lemmas.Bool.{cases_eq}
 use Rattle.std.proofs.lemmas.List.{get_or-set_same, get_or-set_other}
@@ -43,11 +43,6 @@ stored_last-store word earlier later s value begun h =
     stored_last-append word earlier (store s word value ∷ later) begun
     ∙ stored_last-others word later (cond (word == word) value (stored_last word earlier begun)) h
     ∙ rw (eq-eqb word word refl)
-
--- each load has what its word has then, where the words are these at first
-abbrev pub Sees : (ℕ → ℕ) → List Operation → Type 0
-Sees words [] = Unit {0}
-Sees words (o ∷ os) = (o.act.write ≡ false → o.act.value ≡ words o.act.word) × Sees (written o words) os
 
 pub sees-append : (words : ℕ → ℕ) (xs ys : List Operation) → Sees words xs → Sees (after xs words) ys → Sees words (xs ++ ys)
 sees-append words [] ys a b = b

@@ -1,7 +1,12 @@
 -- Ranges: a program that names only words of the board and stores only words of 32 bits.
-use Rattle.std.specs.Prelude.{ℕ, ◌<◌, ◌≤◌, ◌^◌}
+use Rattle.std.specs.Prelude.{ℕ, ◌<◌, ◌≤◌, ◌^◌, List}
+use Rattle.std.specs.List.{AllByRecursion as Each}
 use Rattle.shared_order.specs.declared.operation.Operation.{Operation}
 use Rattle.shared_order.specs.Program.{Prog, done, get, set}
+
+-- values of 32 bits
+abbrev pub AreWords : List ℕ → Type 0
+AreWords values = Each (λ v. v < 2 ^ 32) values
 
 -- the program loads and stores words below `words` alone, stores 32 bits, and leaves what is good
 -- where its loads give 32 bits

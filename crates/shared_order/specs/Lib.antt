@@ -7,6 +7,7 @@ pub mod Merge
 pub mod Operation
 pub mod Order
 pub mod Program
+pub mod SomeWords
 pub mod Stamps
 pub mod Stands
 pub mod Two

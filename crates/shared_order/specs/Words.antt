@@ -30,6 +30,12 @@ stored_last word (o ∷ os) begun =
 abbrev pub LeavesWord : ℕ → Operation → Type 0
 LeavesWord word o = o.act.write ≡ true → o.act.word ≢ word
 
+-- each load has what its word has then, where the words are these at first: what was stored last there, else what stood
+-- there before
+abbrev pub Sees : (ℕ → ℕ) → List Operation → Type 0
+Sees words [] = Unit {0}
+Sees words (o ∷ os) = (o.act.write ≡ false → o.act.value ≡ words o.act.word) × Sees (written o words) os
+
 -- after the operations `before`, each load among the operations has what was stored last in its
 -- word before it, or 0 where nothing was
 abbrev pub Reads : List Operation → List Operation → Type 0

@@ -10,8 +10,8 @@
 //! nothing: its clauses are the theorems, and lemmas that are public to the crates above.
 //!
 //! - [`worked_machine`] shows the definitions at work on a machine of two small cores.
-//! - [`words_after_operations`] and [`program_is_heard_again`] speak of lists of operations and of
-//!   single programs, and [`turn_in_parts`] of one program after another.
+//! - [`words_after_operations`] and [`own_loads_see_their_words`] speak of lists of operations,
+//!   [`program_is_heard_again`] of single programs, and [`turn_in_parts`] of one program after another.
 //! - [`machine_by_stamps`]: by cycles and phases, and by stamps, is one machine.
 //! - [`core_is_its_run_apart`]: a core in the machine does what it does apart from the others on
 //!   the values that its own loads gave there.
@@ -47,5 +47,5 @@ pub use operation::Operation;
 pub use position::{core_goes_on, core_skips, core_stands, event_is_next, operation_is_next};
 pub use program::{program_is_heard_again, turn_in_parts};
 pub use range::{Ranged, ranges_are_kept};
-pub use stores::words_after_operations;
+pub use stores::{own_loads_see_their_words, words_after_operations};
 pub use worked::worked_machine;

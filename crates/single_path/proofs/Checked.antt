@@ -29,7 +29,7 @@ use Rattle.c_meaning.specs.Resolve.{resolved, resolved_steps, resolved_args, res
 use Rattle.c_meaning.specs.Values.{Names, named, expr_unsigned}
 use Rattle.single_path.proofs.Doing.{ExprDoes, ResultDoes, StepDoes, Do, BranchesDo}
 use Rattle.single_path.proofs.OpenNames.{Keeps, keeps_variable, keeps_after, keeps_function, keeps_parameters}
-use Rattle.single_path.proofs.Resolving.{variable_does, element_does, variable_target_does, element_target_does, between_does, signs_do, assigned_does, sets_do, numbered_does, actions_joined}
+use Rattle.single_path.proofs.Resolving.{variable_does, element_does, variable_target_does, element_target_does, between_does, signs_do, assigned_does, sets_do, numbered_does, actions_joined, choice_does}
 use Rattle.c_tree.proofs.Faultless.{none_left, none_right}
 
 -- ---- names
@@ -176,13 +176,9 @@ mutual
       ((k.sends core, given.0, given.1.0, given.1.1.0), tt)
   stmt_checked P fs names of k w at (plain.chosen arms otherwise) none =
       let first = arms_faults w names at arms in
-      let last = otherwise_faults w names (at + arms_size arms) otherwise in (
-        (
-          arms_checked P fs names of k w at arms (none_left first last none),
-          otherwise_checked P fs names of k w (at + arms_size arms) otherwise (none_right first last none),
-        ),
-        tt,
-      )
+      let last = otherwise_faults w names (at + arms_size arms) otherwise in
+      choice_does P (resolved_arms fs of arms) (resolved_otherwise fs of otherwise) (arms_checked P fs names of k w at arms (none_left first last none))
+      (otherwise_checked P fs names of k w (at + arms_size arms) otherwise (none_right first last none))
   stmt_checked P fs names of k w at (plain.looped bound head body) none =
       let bounds = bound_faults at bound in
       let heads = head_faults names (at + bound_size bound) head in

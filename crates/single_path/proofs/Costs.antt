@@ -1,7 +1,6 @@
 -- The code of what is made of a function takes at most as many words as the function weighs.
 use Rattle.std.proofs.Common.{◌≡◌, ℕ, zero, suc, ◌+◌, ◌*◌, ◌≤◌, ◌==◌, Bool, true, false, if◌then◌else◌, List, [], ◌∷◌, length, sum_by, Option, None, Some, arith}
 use Rattle.std.specs.Prelude.{◌&&◌}
-use Rattle.std.specs.List.{AllByRecursion as Each}
 use Rattle.std.proofs.lemmas.List.Sums.{sum_by-cons}
 use Rattle.c_tree.specs.declared.expressions.BinaryOp.{BinaryOp}
 use Rattle.c_tree.specs.declared.expressions.UnaryOp.{UnaryOp}
@@ -19,7 +18,7 @@ use Rattle.c_meaning.specs.Actions.{PlainTarget, to_level, to_cell, to_array, Pl
 use Rattle.c_meaning.specs.Actions as actions
 use Rattle.c_meaning.specs.Meaning.{with_variable, names_after, most_turns}
 use Rattle.c_meaning.specs.Operators.{works_unsigned, gives_unsigned}
-use Rattle.c_meaning.specs.Resolve.{operator_of, is_exchanged, resolved_between, resolved_sign, resolved_signs, is_fresh, resolved_variable, resolved_element, resolved, resolved_steps, resolved_args, variable_target, element_target, assignment_to, maybe_sets, number_of, numbered_call, resolved_right, resolved_assignment, resolved_condition, resolved_begin, resolved_next, resolved_stmt, resolved_block, resolved_arms, resolved_otherwise, resolved_body}
+use Rattle.c_meaning.specs.Resolve.{operator_of, is_exchanged, resolved_between, resolved_sign, resolved_signs, is_fresh, resolved_variable, resolved_element, resolved, resolved_steps, resolved_args, variable_target, element_target, assignment_to, maybe_sets, number_of, numbered_call, resolved_right, resolved_assignment, resolved_condition, resolved_begin, resolved_next, choice, resolved_stmt, resolved_block, resolved_arms, resolved_otherwise, resolved_body}
 use Rattle.c_meaning.specs.Scope.{Stands, level, outside}
 use Rattle.c_meaning.specs.Scope as scope
 use Rattle.c_meaning.specs.Values.{Names, named, expr_unsigned}
@@ -27,7 +26,6 @@ use Rattle.single_path.specs.declared.places.Place.{Place}
 use Rattle.single_path.specs.Places.{in_arm, in_loop, outermost, both, less_by, bit_of, where_not_taken, where_on, not_zero, returned_function, returned_loop}
 use Rattle.single_path.specs.Made.{is_zero, made_place, made_step, made_result, made_return, ends, is_no_action, is_no_branch, made_arm, made_otherwise, made_turn, made_loop, made_action, made, made_branches}
 use Rattle.single_path.specs.Single.{variables, made_function}
-use Rattle.single_path.proofs.Armed.{SomeArm, Armed, BlockArmed, ArmsArmed, OtherwiseArmed}
 
 -- ---- expressions and arguments
 
@@ -224,14 +222,31 @@ head_cost names (plain.turns_for first from condition to_set to) p =
 
 -- ---- statements
 
--- an arm takes 7 words less than it weighs, of which 6 are for the mask behind the whole `if`
+-- the mask behind a whole `if`
+abbrev repair : PlainBranches → ℕ
+repair no_branch = 0
+repair (branch condition body rest) = 6
+
+choice_cost : (p : Place) (branches : PlainBranches) (otherwise : PlainActions)
+    → stmts_cost (made p (choice branches otherwise))
+    ≤ stmts_cost (made_branches p branches (is_no_action otherwise) (λ q. made q otherwise)) + repair branches
+choice_cost p no_branch otherwise = omega arith
+choice_cost p (branch condition body rest) otherwise =
+    let all = branch condition body rest in
+    omega (
+      arith,
+      one_cost p (chooses all otherwise),
+      joined_cost (made_branches p all (is_no_action otherwise) (λ q. made q otherwise)) (tree.one (masks p.own (where_on p))),
+    )
+
+-- an arm takes 7 words less than it weighs, of which 6 are for that mask
 abbrev spare : PlainArms → ℕ
 spare plain.no_arm = 0
 spare (plain.arm condition body rest) = 7
 
-some_spare : (arms : PlainArms) → SomeArm arms → 6 ≤ spare arms
-some_spare plain.no_arm some = absurd some
-some_spare (plain.arm condition body rest) some = omega arith
+repair_spared : (fs : List (List ℕ)) (names : Names) (arms : PlainArms) → repair (resolved_arms fs names arms) ≤ spare arms
+repair_spared fs names plain.no_arm = omega arith
+repair_spared fs names (plain.arm condition body rest) = omega arith
 
 arm_cost : (p : Place) (condition : PlainSp) (arm : PlainStmts) (nothing : Bool) (rest : PlainStmts)
     → stmts_cost (made_arm p condition arm (made_otherwise p nothing rest)) ≤ 17 + expr_cost condition + stmts_cost arm + stmts_cost rest
@@ -241,41 +256,35 @@ arm_cost p condition arm nothing rest =
 mutual
   unfolding stmt_weight block_weight arms_weight otherwise_weight
 
-  stmt_within : (fs : List (List ℕ)) (names : Names) (s : PlainStmt) (p : Place) → Armed s
+  stmt_within : (fs : List (List ℕ)) (names : Names) (s : PlainStmt) (p : Place)
       → stmts_cost (made p (resolved_stmt fs names s)) ≤ stmt_weight s
-  stmt_within fs names (plain.declared kind text None) p armed = omega arith
-  stmt_within fs names (plain.declared kind text (Some r)) p armed =
+  stmt_within fs names (plain.declared kind text None) p = omega arith
+  stmt_within fs names (plain.declared kind text (Some r)) p =
       let at = length names.variables in
       omega (arith, right_cost fs (with_variable names kind text) (Some at) (Some (to_level at)) r p)
-  stmt_within fs names (plain.set text r) p armed =
+  stmt_within fs names (plain.set text r) p =
       let target = variable_target (named names text) in
       omega (arith, variable_target_cost (named names text), right_cost fs names None target r p)
-  stmt_within fs names (plain.set_element text index r) p armed =
+  stmt_within fs names (plain.set_element text index r) p =
       let i = resolved names None index in
       let target = element_target (named names text) i in
       omega (arith, resolved_cost names None index, element_target_cost (named names text) i, right_cost fs names None target r p)
-  stmt_within fs names (plain.called text args) p armed =
+  stmt_within fs names (plain.called text args) p =
       omega (arith, call_cost p (number_of text fs) (resolved_args names None args) None, resolved_args_cost names None args)
-  stmt_within fs names (plain.sent core core_unsigned source target count) p armed =
+  stmt_within fs names (plain.sent core core_unsigned source target count) p =
       omega (arith, resolved_cost names None source, resolved_cost names None target, resolved_cost names None count)
-  stmt_within fs names (plain.chosen arms otherwise) p armed =
+  stmt_within fs names (plain.chosen arms otherwise) p =
+      let bs = resolved_arms fs names arms in
       let rest = resolved_otherwise fs names otherwise in
-      let all = made_branches p (resolved_arms fs names arms) (is_no_action rest) (λ q. made q rest) in
       let chosen = arms_within fs names arms (is_no_action rest) (λ q. made q rest) (otherwise_weight otherwise)
-      (λ q. otherwise_within fs names otherwise q armed.2) p armed.1 in
-      omega (
-        arith,
-        chosen,
-        some_spare arms armed.0,
-        joined_cost all (tree.one (masks p.own (where_on p))),
-        one_cost p (chooses (resolved_arms fs names arms) rest),
-      )
-  stmt_within fs names (plain.looped bound head body) p armed =
+      (λ q. otherwise_within fs names otherwise q) p in
+      omega (arith, chosen, repair_spared fs names arms, choice_cost p bs rest)
+  stmt_within fs names (plain.looped bound head body) p =
       let condition = resolved_condition names head in
       let inside = resolved_block fs names body in
       let step = resolved_next names head in
       let turn = made_turn p condition (made (in_loop p) inside) step in
-      let within = block_within fs names body (in_loop p) armed in
+      let within = block_within fs names body (in_loop p) in
       omega (
         arith,
         within,
@@ -285,31 +294,31 @@ mutual
         one_cost p (turns (most_turns bound) condition inside step),
         made_joined_cost p (maybe_sets (resolved_begin names head)) (one (turns (most_turns bound) condition inside step)),
       )
-  stmt_within fs names plain.broken p armed = omega arith
-  stmt_within fs names plain.continued p armed = omega arith
-  stmt_within fs names (plain.returned None) p armed = omega (arith, one_cost p (returns (constant 0)), return_cost p (constant 0))
-  stmt_within fs names (plain.returned (Some e)) p armed =
+  stmt_within fs names plain.broken p = omega arith
+  stmt_within fs names plain.continued p = omega arith
+  stmt_within fs names (plain.returned None) p = omega (arith, one_cost p (returns (constant 0)), return_cost p (constant 0))
+  stmt_within fs names (plain.returned (Some e)) p =
       let given = resolved names None e in
       omega (arith, resolved_cost names None e, result_cost p given, return_cost p given, one_cost p (returns given))
-  stmt_within fs names (plain.inner body) p armed = block_within fs names body p armed
+  stmt_within fs names (plain.inner body) p = block_within fs names body p
 
-  block_within : (fs : List (List ℕ)) (names : Names) (body : PlainBlock) (p : Place) → BlockArmed body
+  block_within : (fs : List (List ℕ)) (names : Names) (body : PlainBlock) (p : Place)
       → stmts_cost (made p (resolved_block fs names body)) ≤ block_weight body
-  block_within fs names plain.no_stmt p armed = omega arith
-  block_within fs names (plain.stmt s rest) p armed =
-      let first = stmt_within fs names s p armed.0 in
-      let more = block_within fs (names_after names s) rest p armed.1 in
+  block_within fs names plain.no_stmt p = omega arith
+  block_within fs names (plain.stmt s rest) p =
+      let first = stmt_within fs names s p in
+      let more = block_within fs (names_after names s) rest p in
       omega (arith, first, more, made_joined_cost p (resolved_stmt fs names s) (resolved_block fs (names_after names s) rest))
 
   arms_within : (fs : List (List ℕ)) (names : Names) (arms : PlainArms) (nothing : Bool) (otherwise : Place → PlainStmts) (weight : ℕ)
-      → ((q : Place) → stmts_cost (otherwise q) ≤ weight) → (p : Place) → ArmsArmed arms
+      → ((q : Place) → stmts_cost (otherwise q) ≤ weight) → (p : Place)
       → stmts_cost (made_branches p (resolved_arms fs names arms) nothing otherwise) + spare arms ≤ arms_weight arms + weight
-  arms_within fs names plain.no_arm nothing otherwise weight each p armed = omega (arith, each p)
-  arms_within fs names (plain.arm condition body rest) nothing otherwise weight each p armed =
+  arms_within fs names plain.no_arm nothing otherwise weight each p = omega (arith, each p)
+  arms_within fs names (plain.arm condition body rest) nothing otherwise weight each p =
       let test = resolved names None condition in
       let others = resolved_arms fs names rest in
-      let inside = block_within fs names body (in_arm p) armed.0 in
-      let more = arms_within fs names rest nothing otherwise weight each (in_arm p) armed.1 in
+      let inside = block_within fs names body (in_arm p) in
+      let more = arms_within fs names rest nothing otherwise weight each (in_arm p) in
       let arm = made (in_arm p) (resolved_block fs names body) in
       omega (
         arith,
@@ -319,27 +328,27 @@ mutual
         arm_cost p test arm (is_no_branch others && nothing) (made_branches (in_arm p) others nothing otherwise),
       )
 
-  otherwise_within : (fs : List (List ℕ)) (names : Names) (otherwise : PlainOtherwise) (p : Place) → OtherwiseArmed otherwise
+  otherwise_within : (fs : List (List ℕ)) (names : Names) (otherwise : PlainOtherwise) (p : Place)
       → stmts_cost (made p (resolved_otherwise fs names otherwise)) ≤ otherwise_weight otherwise
-  otherwise_within fs names plain.no_else p armed = omega arith
-  otherwise_within fs names (plain.or_else body) p armed = block_within fs names body p armed
+  otherwise_within fs names plain.no_else p = omega arith
+  otherwise_within fs names (plain.or_else body) p = block_within fs names body p
 
 -- ---- functions
 
-body_within : (fs : List (List ℕ)) (names : Names) (body : List PlainStmt) (p : Place) → Each Armed body
+body_within : (fs : List (List ℕ)) (names : Names) (body : List PlainStmt) (p : Place)
     → stmts_cost (made p (resolved_body fs names body)) ≤ body_weight body
-body_within fs names [] p armed = omega arith
-body_within fs names (s ∷ rest) p armed =
-    let more = body_within fs (names_after names s) rest p armed.1 in
+body_within fs names [] p = omega arith
+body_within fs names (s ∷ rest) p =
+    let more = body_within fs (names_after names s) rest p in
     omega (
       arith,
       more,
-      stmt_within fs names s p armed.0,
+      stmt_within fs names s p,
       sum_by-cons stmt_weight s rest,
       made_joined_cost p (resolved_stmt fs names s) (resolved_body fs (names_after names s) rest),
     )
 
-pub cost_within : (fs : List (List ℕ)) (names : Names) (parameters : ℕ) (body : List PlainStmt) → Each Armed body
+pub cost_within : (fs : List (List ℕ)) (names : Names) (parameters : ℕ) (body : List PlainStmt)
     → cost (made_function parameters (resolved_body fs names body)) ≤ function_weight body
-cost_within fs names parameters body armed =
-    omega (arith, body_within fs names body (outermost (variables parameters (resolved_body fs names body))) armed)
+cost_within fs names parameters body =
+    omega (arith, body_within fs names body (outermost (variables parameters (resolved_body fs names body))))

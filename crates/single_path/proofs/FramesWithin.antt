@@ -14,10 +14,10 @@ use Rattle.sp_tree.specs.Plain.{PlainSp, constant, frame_word}
 use Rattle.sp_tree.specs.Statements.{PlainStmts, no_stmt, stmt, joined, masks}
 use Rattle.sp_tree.specs.Statements as tree
 use Rattle.sp_tree.proofs.Joins.{joined_levels}
-use Rattle.c_meaning.specs.Actions.{PlainTarget, to_level, to_cell, to_array, PlainAssignment, PlainAction, chooses, turns, returns, PlainActions, no_action, action, one}
+use Rattle.c_meaning.specs.Actions.{PlainTarget, to_level, to_cell, to_array, PlainAssignment, PlainAction, chooses, turns, returns, PlainActions, no_action, action, PlainBranches, no_branch, branch, one}
 use Rattle.c_meaning.specs.Actions as actions
 use Rattle.c_meaning.specs.Meaning.{with_variable, names_after, most_turns, parameter_variables}
-use Rattle.c_meaning.specs.Resolve.{resolved, resolved_args, variable_target, element_target, assignment_to, maybe_sets, number_of, numbered_call, resolved_right, resolved_condition, resolved_begin, resolved_next, resolved_stmt, resolved_block, resolved_arms, resolved_otherwise, resolved_body}
+use Rattle.c_meaning.specs.Resolve.{resolved, resolved_args, variable_target, element_target, assignment_to, maybe_sets, number_of, numbered_call, resolved_right, resolved_condition, resolved_begin, resolved_next, choice, resolved_stmt, resolved_block, resolved_arms, resolved_otherwise, resolved_body}
 use Rattle.c_meaning.specs.Values.{Names, named}
 use Rattle.single_path.specs.declared.places.Place.{Place}
 use Rattle.single_path.specs.Places.{in_arm, in_loop, outermost, where_not_taken, where_on, not_zero, returned_function, returned_loop}
@@ -67,6 +67,28 @@ levels_joined p (action a rest) ys = by (ends a) (joined_levels (made_action p a
 
 levels_one : (p : Place) (a : PlainAction) → stmts_levels (made p (one a)) ≤ stmts_levels (made_action p a)
 levels_one p a = omega (arith, joined_levels (made_action p a) (if ends a then no_stmt else no_stmt), ended_levels (ends a) no_stmt)
+
+choice_words : (branches : PlainBranches) (otherwise : PlainActions)
+    → words (choice branches otherwise) ≤ max (branches_words branches) (words otherwise)
+choice_words no_branch otherwise = omega arith
+choice_words (branch condition body rest) otherwise = omega arith
+
+choice_masks : (branches : PlainBranches) (otherwise : PlainActions)
+    → width.masks (choice branches otherwise) ≤ branches_masks branches (width.masks otherwise)
+choice_masks no_branch otherwise = omega arith
+choice_masks (branch condition body rest) otherwise = omega arith
+
+-- a choice has the levels of its arms and of what stands behind `else`
+choice_levels : (p : Place) (branches : PlainBranches) (otherwise : PlainActions)
+    → stmts_levels (made p (choice branches otherwise)) ≤ stmts_levels (made_branches p branches (is_no_action otherwise) (λ q. made q otherwise))
+choice_levels p no_branch otherwise = omega arith
+choice_levels p (branch condition body rest) otherwise =
+    let all = branch condition body rest in
+    omega (
+      arith,
+      levels_one p (chooses all otherwise),
+      joined_levels (made_branches p all (is_no_action otherwise) (λ q. made q otherwise)) (tree.one (masks p.own (where_on p))),
+    )
 
 -- the first may open variables, each of which takes a word
 joined_within : (before after first more : ℕ) (xs ys : PlainActions) (p : Place) → before ≤ after → Opens before after xs p first
@@ -205,13 +227,7 @@ mutual
       let room = otherwise_frame otherwise - (words rest - n) in
       let chosen = arms_within fs names arms (is_no_action rest) (λ q. made q rest) (width.masks rest) room
       (λ q. let one = last q in omega (arith, one)) p in
-      omega (
-        arith,
-        chosen,
-        last p,
-        joined_levels (made_branches p bs (is_no_action rest) (λ q. made q rest)) (tree.one (masks p.own (where_on p))),
-        levels_one p (chooses bs rest),
-      )
+      omega (arith, chosen, last p, choice_words bs rest, choice_masks bs rest, choice_levels p bs rest)
   stmt_within fs names (plain.looped bound head body) p =
       let n = length names.variables in
       let condition = resolved_condition names head in

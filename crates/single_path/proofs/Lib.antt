@@ -12,7 +12,6 @@ pub mod Acting
 pub mod Functions
 pub mod Valid
 pub mod Items
-pub mod Armed
 pub mod Costs
 pub mod Words
 pub mod FramesWithin

@@ -9,11 +9,11 @@ use Rattle.c_tree.specs.declared.expressions.UnaryOp.TheVariants as unary
 use Rattle.c_tree.specs.declared.layout.Slot.{Slot}
 use Rattle.sp_tree.specs.Plain.{PlainSp, constant, frame_word, between_two}
 use Rattle.sp_tree.specs.Uses.{Use, reads_cell, reads_array, writes_cell, writes_array}
-use Rattle.c_meaning.specs.Actions.{PlainTarget, PlainActions, no_action, action, joined}
-use Rattle.c_meaning.specs.Resolve.{operator_of, is_exchanged, resolved_between, resolved_sign, resolved_signs, slot_cell, slot_array, is_fresh, resolved_variable, resolved_element, variable_target, element_target, assignment_to, maybe_sets, numbered_call}
+use Rattle.c_meaning.specs.Actions.{PlainTarget, PlainActions, no_action, action, PlainBranches, no_branch, branch, joined}
+use Rattle.c_meaning.specs.Resolve.{operator_of, is_exchanged, resolved_between, resolved_sign, resolved_signs, slot_cell, slot_array, is_fresh, resolved_variable, resolved_element, variable_target, element_target, assignment_to, maybe_sets, numbered_call, choice}
 use Rattle.c_meaning.specs.Scope.{Stands, level, outside}
 use Rattle.c_meaning.specs.Scope as scope
-use Rattle.single_path.proofs.Doing.{ExprDoes, ResultDoes, StepDoes, Do}
+use Rattle.single_path.proofs.Doing.{ExprDoes, ResultDoes, StepDoes, Do, BranchesDo}
 
 -- ---- names
 
@@ -103,3 +103,8 @@ numbered_does P (Some k) args target given may = ((given, may), tt)
 pub actions_joined : (P : Use → Type 0) (xs ys : PlainActions) → Do P xs → Do P ys → Do P (joined xs ys)
 actions_joined P no_action ys hx hy = hy
 actions_joined P (action a xs) ys hx hy = (hx.0, actions_joined P xs ys hx.1 hy)
+
+pub choice_does : (P : Use → Type 0) (branches : PlainBranches) (otherwise : PlainActions) → BranchesDo P branches → Do P otherwise
+    → Do P (choice branches otherwise)
+choice_does P no_branch otherwise some last = last
+choice_does P (branch condition body rest) otherwise some last = ((some, last), tt)

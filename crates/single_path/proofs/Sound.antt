@@ -19,7 +19,7 @@ use Rattle.sp_tree.specs.Formed.{cell_formed, array_formed}
 use Rattle.sp_tree.specs.Plain.{PlainSp, constant}
 use Rattle.c_meaning.specs.Actions.{PlainTarget, to_level, to_cell, to_array, PlainAssignment, PlainAction, sets, calls, transfers, chooses, turns, breaks, continues, returns, PlainActions, no_action, action, PlainBranches, no_branch, branch, one, joined}
 use Rattle.c_meaning.specs.Meaning.{with_variable, names_after, most_turns}
-use Rattle.c_meaning.specs.Resolve.{resolved, resolved_args, resolved_right, resolved_declaration, resolved_stmt, resolved_block, resolved_arms, resolved_otherwise, resolved_body, resolved_begin, resolved_condition, resolved_next, resolved_return, maybe_sets, assignment_to, variable_target, element_target, numbered_call, number_of}
+use Rattle.c_meaning.specs.Resolve.{resolved, resolved_args, resolved_right, resolved_declaration, choice, resolved_stmt, resolved_block, resolved_arms, resolved_otherwise, resolved_body, resolved_begin, resolved_condition, resolved_next, resolved_return, maybe_sets, assignment_to, variable_target, element_target, numbered_call, number_of}
 use Rattle.c_meaning.specs.Scope.{Stands, level, outside}
 use Rattle.c_meaning.specs.Scope as scope
 use Rattle.c_meaning.specs.Values.{Names, named}
@@ -67,6 +67,10 @@ abbrev mutual
 joined_sound : (xs ys : PlainActions) → AllSound xs → AllSound ys → AllSound (joined xs ys)
 joined_sound no_action ys hx hy = hy
 joined_sound (action a xs) ys hx hy = (hx.0, joined_sound xs ys hx.1 hy)
+
+choice_sound : (branches : PlainBranches) (otherwise : PlainActions) → SoundBranches branches → AllSound otherwise → AllSound (choice branches otherwise)
+choice_sound no_branch otherwise some last = last
+choice_sound (branch condition body rest) otherwise some last = ((some, last), tt)
 
 -- ---- what is set, and calls
 
@@ -193,13 +197,9 @@ mutual
       ((target_named w.cores w.own (at + 2) core few (none_left to args none), (all.0, (all.1.0, all.1.1.0))), tt)
   stmt_sound of each fs w few names at (plain.chosen arms otherwise) none =
       let first = arms_faults w names at arms in
-      let last = otherwise_faults w names (at + arms_size arms) otherwise in (
-        (
-          arms_sound of each fs w few names at arms (none_left first last none),
-          otherwise_sound of each fs w few names (at + arms_size arms) otherwise (none_right first last none),
-        ),
-        tt,
-      )
+      let last = otherwise_faults w names (at + arms_size arms) otherwise in
+      choice_sound (resolved_arms fs of arms) (resolved_otherwise fs of otherwise) (arms_sound of each fs w few names at arms (none_left first last none))
+      (otherwise_sound of each fs w few names (at + arms_size arms) otherwise (none_right first last none))
   stmt_sound of each fs w few names at (plain.looped bound head body) none =
       let inner_at = at + bound_size bound + head_size head + 1 in
       let heads = head_faults names (at + bound_size bound) head in

@@ -28,7 +28,7 @@ use Rattle.c_mentions.specs.Uses as source
 use Rattle.single_path.specs.Single.{single, parameters_in}
 use Rattle.single_path.specs.Used.{IsMadeTo, ComesFrom, same_region, reads_region, writes_region, is_send_to, memory_of}
 use Rattle.single_path.proofs.Doing.{ExprDoes, ResultDoes, StepDoes, Do, BranchesDo, functions_do}
-use Rattle.single_path.proofs.Resolving.{Outside, CellRead, ArrayRead, CellWritten, ArrayWritten, variable_does, element_does, variable_target_does, element_target_does, between_does, signs_do, assigned_does, sets_do, numbered_does, actions_joined}
+use Rattle.single_path.proofs.Resolving.{Outside, CellRead, ArrayRead, CellWritten, ArrayWritten, variable_does, element_does, variable_target_does, element_target_does, between_does, signs_do, assigned_does, sets_do, numbered_does, actions_joined, choice_does}
 
 -- ---- a property of all that a use of the program is made to
 
@@ -121,13 +121,10 @@ mutual
         ),
         tt,
       )
-  stmt_used P fs names (plain.chosen arms otherwise) all = (
-    (
-      arms_used P fs names arms (each_first (Allows P) (arms_uses names arms) (otherwise_uses names otherwise) all),
-      otherwise_used P fs names otherwise (each_rest (Allows P) (arms_uses names arms) (otherwise_uses names otherwise) all),
-    ),
-    tt,
-  )
+  stmt_used P fs names (plain.chosen arms otherwise) all =
+      choice_does P (resolved_arms fs names arms) (resolved_otherwise fs names otherwise)
+      (arms_used P fs names arms (each_first (Allows P) (arms_uses names arms) (otherwise_uses names otherwise) all))
+      (otherwise_used P fs names otherwise (each_rest (Allows P) (arms_uses names arms) (otherwise_uses names otherwise) all))
   stmt_used P fs names (plain.looped bound head body) all =
       let parts = head_used P names head (each_first (Allows P) (head_uses names head) (block_uses names body) all) in
       actions_joined P (maybe_sets (resolved_begin names head))

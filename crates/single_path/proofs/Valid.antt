@@ -16,9 +16,9 @@ use Rattle.c_tree.specs.Plain.{PlainExpr, PlainRight, PlainHead, PlainStmt, Plai
 use Rattle.c_tree.specs.Plain as plain
 use Rattle.c_tree.specs.Sizes.{kind_size, expr_size, bound_size, head_size, stmt_size, arms_size, block_size}
 use Rattle.c_tree.specs.Valid.{has_none}
-use Rattle.c_meaning.specs.Actions.{PlainTarget, to_level, PlainAssignment, PlainActions, no_action, action, one, joined, turns}
+use Rattle.c_meaning.specs.Actions.{PlainTarget, to_level, PlainAssignment, PlainActions, no_action, action, PlainBranches, no_branch, branch, one, joined, turns}
 use Rattle.c_meaning.specs.Meaning.{with_variable, names_after, most_turns}
-use Rattle.c_meaning.specs.Resolve.{resolved, resolved_args, resolved_right, resolved_declaration, resolved_stmt, resolved_block, resolved_arms, resolved_otherwise, resolved_body, resolved_begin, resolved_condition, resolved_next, maybe_sets, assignment_to, variable_target, element_target, numbered_call, number_of}
+use Rattle.c_meaning.specs.Resolve.{resolved, resolved_args, resolved_right, resolved_declaration, choice, resolved_stmt, resolved_block, resolved_arms, resolved_otherwise, resolved_body, resolved_begin, resolved_condition, resolved_next, maybe_sets, assignment_to, variable_target, element_target, numbered_call, number_of}
 use Rattle.c_meaning.specs.Values.{Names, named}
 use Rattle.c_tree.proofs.Faultless.{none_left, none_right, not_so}
 use Rattle.single_path.proofs.Fits.{Fits, FitsBranches}
@@ -83,6 +83,11 @@ knows_after names fs counts (plain.inner body) k = k
 joined_fits : (Fit : ℕ → ℕ → Type 0) (inside : Bool) (xs ys : PlainActions) → Fits Fit inside xs → Fits Fit inside ys → Fits Fit inside (joined xs ys)
 joined_fits Fit inside no_action ys hx hy = hy
 joined_fits Fit inside (action a xs) ys hx hy = (hx.0, joined_fits Fit inside xs ys hx.1 hy)
+
+choice_fits : (Fit : ℕ → ℕ → Type 0) (inside : Bool) (branches : PlainBranches) (otherwise : PlainActions) → FitsBranches Fit inside branches
+    → Fits Fit inside otherwise → Fits Fit inside (choice branches otherwise)
+choice_fits Fit inside no_branch otherwise some last = last
+choice_fits Fit inside (branch condition body rest) otherwise some last = ((some, last), tt)
 
 sets_fit : (Fit : ℕ → ℕ → Type 0) (inside : Bool) (a : Option PlainAssignment) → Fits Fit inside (maybe_sets a)
 sets_fit Fit inside None = tt
@@ -168,14 +173,12 @@ mutual
       (none_right (array_faults names at text) (whole_faults names (at + 2) index ++ right_faults names (at + 2 + expr_size index + 2) r) none))
   stmt_fits names fs counts k w at (plain.called text args) of none = call_fits names fs counts k false w.in_loop at text args of None None none
   stmt_fits names fs counts k w at (plain.sent core core_unsigned source target count) of none = (tt, tt)
-  stmt_fits names fs counts k w at (plain.chosen arms otherwise) of none = (
-    (
-      arms_fit names fs counts k w at arms of (none_left (arms_faults w names at arms) (otherwise_faults w names (at + arms_size arms) otherwise) none),
-      otherwise_fits names fs counts k w (at + arms_size arms) otherwise of
-          (none_right (arms_faults w names at arms) (otherwise_faults w names (at + arms_size arms) otherwise) none),
-    ),
-    tt,
-  )
+  stmt_fits names fs counts k w at (plain.chosen arms otherwise) of none =
+      let first = arms_faults w names at arms in
+      let last = otherwise_faults w names (at + arms_size arms) otherwise in
+      choice_fits (Callable counts (length fs)) w.in_loop (resolved_arms fs of arms) (resolved_otherwise fs of otherwise)
+      (arms_fit names fs counts k w at arms of (none_left first last none))
+      (otherwise_fits names fs counts k w (at + arms_size arms) otherwise of (none_right first last none))
   stmt_fits names fs counts k w at (plain.looped bound head body) of none =
       let inner_at = at + bound_size bound + head_size head + 1 in
       let inner_faults = block_faults (looped w (length names)) names inner_at body in

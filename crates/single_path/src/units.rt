@@ -1,7 +1,6 @@
 //! Functions and units, made of programs whose names are resolved.
 ghost use Rattle.std.specs.Prelude.{◌≡◌, ◌+◌, ◌<◌, ◌≤◌, ◌^◌, ℕ, List, length, map, slice_index, slice_index_or, IfOk, true};
 ghost use Rattle.std.specs.List.{list_any};
-ghost use Rattle.c_tree.specs.Fits.{GrammarFits};
 ghost use Rattle.c_tree.specs.Layout as layout;
 ghost use Rattle.c_tree.specs.Plain.{plain, plain_item};
 ghost use Rattle.sp_tree.specs.Begun.{straight};
@@ -134,8 +133,8 @@ pub fn convert(alloc: Global, program: &Checked) -> Result<SpUnit, OutOfMemory>
     ensures meaning { IfOk result (λ u. (input : List ℕ) (shared comm : ℕ → ℕ)
         → IsMeant (straight (plain_unit u) input shared comm) (meaning (plain program.now.unit) input shared comm)) }
 
-    // Each function costs at most what it weighs, where the text fits the grammar, and has at most the frame that is counted.
-    ensures cost { GrammarFits program.now.unit → IfOk result (λ u. (k : ℕ) → k < length (plain_unit u).functions
+    // Each function costs at most what it weighs, and has at most the frame that is counted.
+    ensures cost { IfOk result (λ u. (k : ℕ) → k < length (plain_unit u).functions
         → cost (slice_index_or (plain_unit u).functions k no_function) ≤ slice_index (specs.weights_in (plain program.now.unit)) k) }
     ensures frame { IfOk result (λ u. (k : ℕ) → k < length (plain_unit u).functions
         → (slice_index_or (plain_unit u).functions k no_function).frame ≤ slice_index (specs.frames_in (plain program.now.unit)) k) }

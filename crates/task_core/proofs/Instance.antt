@@ -5,8 +5,6 @@ use Rattle.std.proofs.lemmas.List.Elements.{All-from_recursion}
 use Rattle.slot_arbiter.specs.declared.place.Place.{Place}
 use Rattle.patmos_instr.specs.Bundles.{FitsBundle}
 use Rattle.patmos_code.specs.declared.images.TheConstants.{MOST_IN_FUNCTION}
-use Rattle.sp_tree.specs.Plain.{constant}
-use Rattle.sp_tree.specs.Statements.{transfers, no_stmt, stmt, PlainUnit}
 use Rattle.sp_tree.specs.Uses.{Use, sends_to}
 use Rattle.tc_link.specs.Placed.{size_of, flat}
 use Rattle.task_core.specs.Tasks.{code_of, IsRunnable, IsCode}

@@ -5,7 +5,7 @@ use Rattle.slot_arbiter.specs.declared.place.Place.{Place}
 use Rattle.slot_arbiter.proofs.Entries.{owner_has_entry}
 use Rattle.shared_order.specs.declared.operation.Operation.{Operation}
 use Rattle.shared_order.specs.Operation.{operations_of}
-use Rattle.shared_order.specs.Words.{zeros}
+use Rattle.shared_order.specs.Words.{zeros, Sees}
 use Rattle.shared_order.specs.Machine.{State, cycled}
 use Rattle.shared_order.specs.Apart.{Alone, apart}
 use Rattle.shared_order.proofs.ByCycles.{all_reads, stands_by_cycles}
@@ -24,11 +24,11 @@ use Rattle.patmos_model.specs.State.{Core}
 use Rattle.patmos_model.proofs.Idle.{idle_stands}
 use Rattle.patmos_model.proofs.CoreRanges.{core_keeps}
 use Rattle.core_pace.specs.Spans.{IsSlotted}
+use Rattle.core_pace.specs.Stores.{Comes}
 use Rattle.sp_tree.specs.Statements.{PlainUnit}
 use Rattle.sp_tree.specs.Uses.{Use, sends_to, uses_of}
 use Rattle.tc_link.specs.Placed.{linked}
 use Rattle.code_core.specs.Words.{AreGiven}
-use Rattle.code_words.specs.Board.{AreTrue}
 use Rattle.code_words.specs.May.{MayMake}
 use Rattle.task_core.specs.Tasks.{code_of, IsRunnable, IsCode}
 use Rattle.task_words.specs.Meant.{Names}
@@ -37,10 +37,10 @@ use Rattle.task_words.proofs.Names.{names}
 use Rattle.task_machine.specs.Machines.{HasTask, Task, none, unknown, compiled, BeginsCompiled, BeginsAs, MayChange, IsAlone}
 use Rattle.task_machine.specs.Told.{read_by, task_operations}
 use Rattle.task_machine.proofs.Cores.{is_apart, with_image, values_fit}
-use Rattle.task_machine.proofs.Packets.{followed_run, Comes, comes_bound, Coming, made_so, OwnSees, own_sees}
-use Rattle.task_machine.proofs.Ranges.{Kept, apart_keeps}
-use Rattle.task_machine.proofs.Sees.{LoadsOnly, StoresOnly, SeesOn, Outside, on_all, all_on, part_sees, by_cores}
-use Rattle.task_machine.proofs.Worlds.{true_there}
+use Rattle.core_pace.proofs.Packets.{followed_run, comes_bound, Coming, made_so, OwnSees, own_sees}
+use Rattle.shared_order.proofs.RangesApart.{Kept, apart_keeps}
+use Rattle.shared_order.specs.SomeWords.{LoadsOnly, StoresOnly, Outside, SeesOn}
+use Rattle.shared_order.proofs.SomeWords.{on_all, all_on, part_sees, by_cores}
 
 pub slotted : (place : Place) (image : Parts) → IsSlotted (site_of place image)
 slotted place image = record {
@@ -146,7 +146,7 @@ module _ (u : PlainUnit) (place : Place) (input : List ℕ) (words : ℕ) (cores
   unread d named k few (inr (j, (fewer, (same, reads)))) = (t.runs.targets d named).1 (omega (arith, few, fewer, same))
 
   pub zeros_fit : (tasks : ℕ → Task) → ((other : ℕ) → other < place.cores → BeginsAs place.cores other (cores other) (tasks other)) → IsAlone u place.cores place.core tasks
-      → AreTrue (task_operations u place input (cycled turn place.cores cores limit) limit) zeros
+      → Sees zeros (task_operations u place input (cycled turn place.cores cores limit) limit)
   zeros_fit tasks begin alone =
       let m : State Core = cycled turn place.cores cores limit in
       let values : List ℕ = read_by place.cores place.core m in
@@ -164,4 +164,4 @@ module _ (u : PlainUnit) (place : Place) (input : List ℕ) (words : ℕ) (cores
       own_sees place.cores place.core c values Read zeros limit
       (λ v below. packets_come u place t.runs t.code input values given words there (Outside Read) unread v)
       (subst (SeesOn Read zeros) made part) in
-      true_there own zeros (all_on Read zeros own (loads_named u place t.runs t.code input values given words there limit) seen.sees)
+      all_on Read zeros own (loads_named u place t.runs t.code input values given words there limit) seen.sees

@@ -14,7 +14,7 @@ use Rattle.tc_link.specs.Placed.{linked}
 use Rattle.task_core.specs.Tasks.{code_of}
 use Rattle.task_machine.specs.Told.{read_by, task_operations, IsAmong}
 use Rattle.task_machine.proofs.Cores.{with_image}
-use Rattle.task_machine.proofs.Packets.{followed_run, came, sent, acted}
+use Rattle.core_pace.proofs.Packets.{followed_run, came, sent, acted}
 
 among_more : (os all : List Operation) (a : Operation) → IsAmong os all → IsAmong os (a ∷ all)
 among_more [] all a h = tt

@@ -2,7 +2,7 @@
 use Rattle.std.proofs.Common.{◌≡◌, ℕ, ◌*◌, ◌^◌, ◌<◌, ◌≤◌, ◌%◌, ◌==◌, List, [], sym, ap, ◌∙◌, append-nil}
 use Rattle.slot_arbiter.specs.declared.place.Place.{Place}
 use Rattle.shared_order.specs.Operation.{operations_of}
-use Rattle.shared_order.specs.Fit.{Fits}
+use Rattle.shared_order.specs.Fit.{AreWords, Fits}
 use Rattle.shared_order.specs.Machine.{State, cycled}
 use Rattle.shared_order.specs.Apart.{apart}
 use Rattle.shared_order.proofs.ByCycles.{core_is_apart}
@@ -16,7 +16,7 @@ use Rattle.patmos_model.specs.Range.{InRange}
 use Rattle.patmos_model.specs.State.{Core}
 use Rattle.patmos_model.proofs.CoreRanges.{core_keeps}
 use Rattle.task_machine.specs.Told.{read_by}
-use Rattle.task_machine.proofs.Ranges.{AreWords, loads_fit}
+use Rattle.shared_order.proofs.RangesApart.{loads_fit}
 
 -- the core is its run apart on what its own loads gave
 pub is_apart : (n : ℕ) (cores : ℕ → Core) (limit core : ℕ) → core < n

@@ -1,9 +1,5 @@
-pub mod Sees
-pub mod Ranges
-pub mod Worlds
 pub mod Running
 pub mod Cores
-pub mod Packets
 pub mod Among
 pub mod Alone
 pub mod Told

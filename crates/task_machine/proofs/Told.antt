@@ -4,11 +4,11 @@ use Rattle.slot_arbiter.specs.declared.place.Place.{Place}
 use Rattle.shared_order.specs.declared.operation.Operation.{Operation}
 use Rattle.shared_order.specs.Apart.{Alone}
 use Rattle.shared_order.specs.Machine.{State, cycled}
+use Rattle.shared_order.specs.Words.{Sees}
 use Rattle.patmos_model.specs.Cycle.{turn}
 use Rattle.patmos_model.specs.State.{Core}
 use Rattle.sp_tree.specs.Statements.{PlainUnit}
 use Rattle.tc_link.specs.Placed.{linked}
-use Rattle.code_words.specs.Board.{AreTrue}
 use Rattle.task_core.specs.Tasks.{code_of, times_of}
 use Rattle.task_words.specs.Meant.{HasMeaning, HasWorld}
 use Rattle.task_words.proofs.AtLimit.{comes_at}
@@ -27,7 +27,7 @@ module _ (u : PlainUnit) (place : Place) (input : List ℕ) (words : ℕ) (cores
       subst (λ (a : Alone Core). HasTimes u place cycles a.core) (with_image place cores cycles place.in_range.among (linked (code_of u)) input t.begins)
       (times_at u place t.runs t.code (slotted place (linked (code_of u))) place.in_range.among input (read_by place.cores place.core m) (given_there words cores cycles t.fits place input t.given t.room) cycles)
 
-  pub meaning_there : (world : ℕ → ℕ) → HasWorld u place input world → (times_of u place).end ≤ cycles → AreTrue (task_operations u place input m cycles) world
+  pub meaning_there : (world : ℕ → ℕ) → HasWorld u place input world → (times_of u place).end ≤ cycles → Sees world (task_operations u place input m cycles)
       → HasMeaning u place input world cycles (task_operations u place input m cycles) (m.cores place.core)
   meaning_there world holds enough so =
       let own : List Operation = task_operations u place input m cycles in

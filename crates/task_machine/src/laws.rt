@@ -1,9 +1,8 @@
 //! The laws of compiled tasks in a machine.
 ghost use Rattle.std.specs.Prelude.{◌≡◌, ℕ, ◌<◌, ◌≤◌, List};
-ghost use Rattle.shared_order.specs.Words.{zeros};
+ghost use Rattle.shared_order.specs.Words.{zeros, Sees};
 ghost use Rattle.patmos_model.specs.State.{Core};
 ghost use Rattle.sp_tree.specs.Statements.{PlainUnit};
-ghost use Rattle.code_words.specs.Board.{AreTrue};
 ghost use Rattle.task_core.specs.Tasks.{times_of};
 ghost use Rattle.task_words.specs.Meant.{HasMeaning, HasWorld};
 ghost use Rattle.task_machine.specs.Machines.{machine_after, HasTask, Task, BeginsAs, IsAlone};
@@ -27,7 +26,7 @@ pub fn machines_keep_tasks_times(place: &Place)
 pub fn machines_give_tasks_their_meaning(place: &Place)
     ensures { (u : PlainUnit) (input : List ℕ) (words : ℕ) (cores : ℕ → Core) (cycles : ℕ) (world : ℕ → ℕ) → HasTask u place.now input words cores cycles
         → HasWorld u place.now input world → (times_of u place.now).end ≤ cycles
-        → AreTrue (task_operations u place.now input (machine_after place.now.cores cores cycles) cycles) world
+        → Sees world (task_operations u place.now input (machine_after place.now.cores cores cycles) cycles)
         → HasMeaning u place.now input world cycles (task_operations u place.now input (machine_after place.now.cores cores cycles) cycles) ((machine_after place.now.cores cores cycles).cores place.now.core) }
 {}
 
@@ -36,5 +35,5 @@ pub fn machines_give_tasks_their_meaning(place: &Place)
 pub fn tasks_alone_read_zeros(place: &Place)
     ensures { (u : PlainUnit) (input : List ℕ) (words : ℕ) (cores : ℕ → Core) (cycles : ℕ) (tasks : ℕ → Task) → HasTask u place.now input words cores cycles
         → ((other : ℕ) → other < place.now.cores → BeginsAs place.now.cores other (cores other) (tasks other)) → IsAlone u place.now.cores place.now.core tasks
-        → AreTrue (task_operations u place.now input (machine_after place.now.cores cores cycles) cycles) zeros }
+        → Sees zeros (task_operations u place.now input (machine_after place.now.cores cores cycles) cycles) }
 {}

@@ -4,6 +4,7 @@ use Rattle.std.proofs.lemmas.Bool.{cases_lt}
 use Rattle.slot_arbiter.specs.declared.place.Place.{Place}
 use Rattle.argo_ni.specs.Packet.{comm_word}
 use Rattle.shared_order.specs.declared.operation.Operation.{Operation}
+use Rattle.shared_order.specs.Words.{after, Sees}
 use Rattle.patmos_model.specs.Apart.{site_of, apart_at, own_operations}
 use Rattle.patmos_model.specs.Begin.{begun}
 use Rattle.patmos_model.specs.Site.{Site}
@@ -20,7 +21,6 @@ use Rattle.sp_emit.specs.Means.{HoldsWords}
 use Rattle.sp_shape.specs.Parts.{PlainShape}
 use Rattle.sp_shape.specs.Trail.{trail}
 use Rattle.tc_link.specs.Placed.{linked}
-use Rattle.code_words.specs.Board.{words_after, AreTrue}
 use Rattle.code_core.specs.Followed.{IsFollowed}
 use Rattle.code_core.specs.Fixed.{IsLinkable}
 use Rattle.code_core.specs.Sound.{bundles_in}
@@ -36,7 +36,7 @@ use Rattle.code_core.specs.Words.{AreGiven}
 module _ (u : PlainUnit) (place : Place) (input : List ℕ) (world : ℕ → ℕ) where
   module _ (r : IsRunnable u place) (code : IsCode u) (holds : HoldsWords (tree.begun u input world (comm_of u place input world))) (slots : IsSlotted (site_of place (linked (code_of u)))) (among : place.core < place.cores) where
     pub comes_at : (values : List ℕ) → AreGiven input values → (limit : ℕ) → (times_of u place).end ≤ limit
-        → AreTrue (own_operations place (linked (code_of u)) input values limit) world → ComesAt u place input world values limit
+        → Sees world (own_operations place (linked (code_of u)) input values limit) → ComesAt u place input world values limit
     comes_at values given limit enough so =
         let s : PlainShape = code_of u in
         let site : Site = site_of place (linked s) in
@@ -52,12 +52,12 @@ module _ (u : PlainUnit) (place : Place) (input : List ℕ) (world : ℕ → ℕ
               let at : m.cycle ≡ limit = omega (arith, end, enough, there) in
               subst (λ t. own_operations place (linked s) input values t ≡ m.told.own) at (own_ended_there place.cores place.core site input values count slots e.status e.still)
         ] in
-        let c : Comes u place input world r code holds slots among values = comes u place input world r code holds slots among values given (subst (λ o. AreTrue o world) own_is so) in
+        let c : Comes u place input world r code holds slots among values = comes u place input world r code holds slots among values given (subst (λ o. Sees world o) own_is so) in
         record {
           state = ended_is_done place.cores place.core site input values count limit slots e.status e.still (omega (arith, end, enough)) ∙ (λ i. Done (c.value i) (c.flagged i) (end i - place.start));
           sendings = ap (λ (x : Core). x.seen.sendings) same ∙ c.sendings;
           scratch = λ word. ap (λ (x : Core). x.plain.scratch word) same ∙ c.scratch word;
           private = λ word some low. ap (λ (x : Core). x.plain.private word) same ∙ c.private word some low;
-          shared = λ word low. ap (λ (o : List Operation). words_after o world word) own_is ∙ c.shared word low;
-          comm = λ word low. ap (λ (o : List Operation). words_after o world (comm_word place.core word)) own_is ∙ c.comm word low;
+          shared = λ word low. ap (λ (o : List Operation). after o world word) own_is ∙ c.shared word low;
+          comm = λ word low. ap (λ (o : List Operation). after o world (comm_word place.core word)) own_is ∙ c.comm word low;
         }

@@ -11,7 +11,6 @@ use Rattle.patmos_instr.specs.declared.memories.Width.TheVariants as load
 use Rattle.patmos_instr.specs.declared.memories.StoreWidth.TheVariants as store
 use Rattle.patmos_sem.specs.declared.effects.Effect.{Effect}
 use Rattle.patmos_sem.specs.declared.effects.Effect.TheVariants as effect
-use Rattle.patmos_model.specs.Begin.{first_private}
 use Rattle.shared_order.specs.Words.{zeros}
 use Rattle.patmos_model.specs.Begin.{overlaid}
 use Rattle.sp_tree.specs.Begun as tree
@@ -20,7 +19,7 @@ use Rattle.sp_tree.specs.Statements.{PlainUnit}
 use Rattle.sp_tree.specs.Uses.{Use, uses_of, are_apart}
 use Rattle.sp_shape.specs.Memory.{cell_of}
 use Rattle.sp_shape.specs.Run.{Run, Sources}
-use Rattle.sp_shape.specs.Trail.{Step, begins, trail}
+use Rattle.sp_shape.specs.Trail.{Step}
 use Rattle.sp_emit.specs.Accesses.{IsReadPlace, IsStoredPlace, MayAsk}
 use Rattle.sp_emit.specs.Expressions.{address_of, cell_space, array_space}
 use Rattle.sp_emit.proofs.Aligned.{read_aligned, stored_aligned}

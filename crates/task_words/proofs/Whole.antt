@@ -9,7 +9,7 @@ use Rattle.argo_ni.specs.Packet.{comm_word}
 use Rattle.argo_ni.specs.Port.{unused}
 use Rattle.argo_ni.specs.declared.port.Port.{Port}
 use Rattle.patmos_model.specs.Apart.{site_of}
-use Rattle.shared_order.specs.Words.{zeros}
+use Rattle.shared_order.specs.Words.{zeros, after, Sees}
 use Rattle.patmos_model.specs.Begin.{begun, overlaid}
 use Rattle.core_pace.specs.Moment.{core_in}
 use Rattle.core_pace.specs.Run.{after_bundles}
@@ -20,7 +20,7 @@ use Rattle.sp_tree.specs.Statements.{PlainUnit}
 use Rattle.sp_tree.specs.Straight.{Given}
 use Rattle.sp_tree.specs.Uses.{Use, uses_of, are_apart}
 use Rattle.sp_shape.specs.Memory.{Memory}
-use Rattle.sp_shape.specs.Run.{Run, at_begin, by_words, run, run_late}
+use Rattle.sp_shape.specs.Run.{Run, at_begin, by_words, run_late}
 use Rattle.sp_shape.specs.Trail.{trail}
 use Rattle.sp_emit.specs.Functions.{emitted}
 use Rattle.c_world.specs.Numbers.{flag}
@@ -31,7 +31,7 @@ use Rattle.sp_emit.proofs.Tasks.{task_does}
 use Rattle.bundle_sched.proofs.Runs.{runs_as}
 use Rattle.tc_link.specs.Backs.{backs_of}
 use Rattle.tc_link.specs.Placed.{linked}
-use Rattle.code_words.specs.Board.{words_after, AreTrue, HoldsBoard}
+use Rattle.code_words.specs.Board.{HoldsBoard}
 use Rattle.code_core.specs.Goes.{by_stack}
 use Rattle.code_core.specs.Held.{HoldsPorts}
 use Rattle.code_words.specs.Own.{HoldsOwn, sending_of}
@@ -96,11 +96,11 @@ module _ (u : PlainUnit) (place : Place) (input : List ℕ) (world : ℕ → ℕ
         pub private : (word : ℕ) → 1 ≤ word → word < 49152
             → (core_in (after_bundles place.cores place.core (begun (site_of place (linked (code_of u))) input) values (bundles_in (trail (code_of u))))).plain.private word ≡ (tree.straight u input world comm_of).world.private word
         pub shared : (word : ℕ) → word < 4096
-            → words_after (after_bundles place.cores place.core (begun (site_of place (linked (code_of u))) input) values (bundles_in (trail (code_of u)))).told.own world word ≡ (tree.straight u input world comm_of).world.shared word
+            → after (after_bundles place.cores place.core (begun (site_of place (linked (code_of u))) input) values (bundles_in (trail (code_of u)))).told.own world word ≡ (tree.straight u input world comm_of).world.shared word
         pub comm : (word : ℕ) → word < 512
-            → words_after (after_bundles place.cores place.core (begun (site_of place (linked (code_of u))) input) values (bundles_in (trail (code_of u)))).told.own world (comm_word place.core word) ≡ (tree.straight u input world comm_of).world.comm word
+            → after (after_bundles place.cores place.core (begun (site_of place (linked (code_of u))) input) values (bundles_in (trail (code_of u)))).told.own world (comm_word place.core word) ≡ (tree.straight u input world comm_of).world.comm word
 
-      pub comes : (values : List ℕ) → AreGiven input values → AreTrue (after_bundles place.cores place.core (begun (site_of place (linked (code_of u))) input) values (bundles_in (trail (code_of u)))).told.own world → Comes values
+      pub comes : (values : List ℕ) → AreGiven input values → Sees world (after_bundles place.cores place.core (begun (site_of place (linked (code_of u))) input) values (bundles_in (trail (code_of u)))).told.own → Comes values
       comes values given so =
           let g : Given = tree.straight u input world comm_of in
           let m : Means place (code_of u) (asking u h.formed).cached (link u code) (behaves u place h code) slots among memory_of (Cached u (uses_apart h.formed)) (cached_own u (uses_apart h.formed)) world input values =

@@ -5,6 +5,7 @@ use Rattle.c_world.specs.Numbers.{flag}
 use Rattle.c_world.specs.World.{World}
 use Rattle.slot_arbiter.specs.declared.place.Place.{Place}
 use Rattle.shared_order.specs.declared.operation.Operation.{Operation}
+use Rattle.shared_order.specs.Words.{after}
 use Rattle.local_store.specs.declared.map.TheConstants.{COMM_WORDS, SHARED_WORDS}
 use Rattle.stack_cache.specs.declared.stack.TheConstants.{STACK_LOWEST}
 use Rattle.argo_ni.specs.Interface.{port_to}
@@ -20,7 +21,6 @@ use Rattle.sp_tree.specs.Straight.{Given}
 use Rattle.sp_tree.specs.Uses.{sends_to, uses_of}
 use Rattle.sp_emit.specs.Means.{HoldsWords, start_of}
 use Rattle.tc_link.specs.Placed.{linked}
-use Rattle.code_words.specs.Board.{words_after}
 use Rattle.code_words.specs.May.{MayMake}
 use Rattle.code_words.specs.Own.{sending_of}
 use Rattle.task_words.specs.Reach.{MayLoadWord, MayStoreWord, MaySendTo}
@@ -45,8 +45,8 @@ pub record Leaves (place : Place) (world : ℕ → ℕ) (cycles end value : ℕ)
   pub sendings : c.seen.sendings ≡ map sending_of (map start_of w.sends)
   pub scratch : (word : ℕ) → c.plain.scratch word ≡ w.scratch word
   pub private : (word : ℕ) → 1 ≤ word → word < STACK_LOWEST → c.plain.private word ≡ w.private word
-  pub shared : (word : ℕ) → word < SHARED_WORDS → words_after own world word ≡ w.shared word
-  pub comm : (word : ℕ) → word < COMM_WORDS → words_after own world (comm_word place.core word) ≡ w.comm word
+  pub shared : (word : ℕ) → word < SHARED_WORDS → after own world word ≡ w.shared word
+  pub comm : (word : ℕ) → word < COMM_WORDS → after own world (comm_word place.core word) ≡ w.comm word
 
 -- it has what the tree means
 abbrev pub HasMeaning : PlainUnit → Place → List ℕ → (ℕ → ℕ) → ℕ → List Operation → Core → Type 0

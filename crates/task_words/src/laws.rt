@@ -1,10 +1,10 @@
 //! The laws of what compiled tasks leave.
 ghost use Rattle.std.specs.Prelude.{ℕ, ◌≤◌, List};
+ghost use Rattle.shared_order.specs.Words.{Sees};
 ghost use Rattle.patmos_model.specs.Apart.{own_operations};
 ghost use Rattle.sp_tree.specs.Statements.{PlainUnit};
 ghost use Rattle.tc_link.specs.Placed.{linked};
 ghost use Rattle.code_core.specs.Words.{AreGiven};
-ghost use Rattle.code_words.specs.Board.{AreTrue};
 ghost use Rattle.task_core.specs.Tasks.{code_of, times_of, IsRunnable, IsCode};
 ghost use Rattle.task_words.specs.Meant.{HasWorld, ComesAt, Names};
 
@@ -17,7 +17,7 @@ use slot_arbiter::Place;
 pub fn tasks_come_to_their_meaning(place: &Place)
     ensures { (u : PlainUnit) (input values : List ℕ) (world : ℕ → ℕ) → IsRunnable u place.now → IsCode u → HasWorld u place.now input world → AreGiven input values
         → (limit : ℕ) → (times_of u place.now).end ≤ limit
-        → AreTrue (own_operations place.now (linked (code_of u)) input values limit) world → ComesAt u place.now input world values limit }
+        → Sees world (own_operations place.now (linked (code_of u)) input values limit) → ComesAt u place.now input world values limit }
 {
     place_has_slots(place);
 }

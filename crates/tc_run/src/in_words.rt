@@ -7,8 +7,8 @@ use crate::begin::count_of;
 use global_step::{Loaded, LoadedCore};
 use patmos_code::Image;
 
-/// A machine is loaded with words of 32 bits.
-pub(crate) fn loaded_with_words(machine: &Loaded)
+/// A machine is loaded with words of 32 bits, as its types say. It looks at each core and changes nothing.
+pub fn loaded_with_words(machine: &Loaded)
     ensures { IsOfWords machine.now }
 {
     let _few = count_of(machine);

@@ -7,7 +7,7 @@
 //! - [`run_by_turns`] and [`run_plain`] leave the same in the calling thread alone: its workers by turns, or without a
 //!   board, always the event of the least stamp.
 //! - [`outcome_of`], [`accesses_of`], [`dropped_of`] and [`own_word_of`] tell what such a core is in the
-//!   machine at its limit.
+//!   machine at its limit, and [`loaded_with_words`] that a machine is loaded with words of 32 bits.
 //!
 //! `machine` makes what the workers share to wait for one another, before the first of them starts.
 //! `making` makes the board and the workers in groups, `crew` runs the groups in threads and joins them, with the
@@ -31,6 +31,7 @@ mod tests;
 mod threads;
 
 pub use ending::Final;
+pub use in_words::loaded_with_words;
 pub use machine::run_machine;
 pub use one_thread::{run_by_turns, run_plain};
 pub use reporting::{accesses_of, dropped_of, outcome_of, own_word_of};

@@ -10,8 +10,9 @@ use Rattle.global_step.specs.Loaded.{IsBeside}
 use Rattle.global_step.specs.Machine.{first_core}
 use Rattle.tc_job.specs.declared.job.Job.{Job}
 use Rattle.tcrest.specs.declared.tasks.CodedTask.{CodedTask}
-use Rattle.tcrest.specs.Tasks.{Coded}
-use Rattle.tcrest.specs.Coding.{shown, all_shown}
+use Rattle.tcrest.specs.declared.tasks.CoreTask.{CoreTask}
+use Rattle.tcrest.specs.Tasks.{Coded, runs_on}
+use Rattle.tcrest.specs.Coding.{runs, shown, all_shown}
 use Rattle.tcrest.specs.Machine.{core_with, cores_from, site_on}
 use Rattle.tcrest.specs.Loading.{IsPlaced}
 
@@ -32,6 +33,14 @@ next_loaded job core prefix pushed l coded more one count push grown is so_far =
     ∙ ap (λ n. cores_from job 0 (all_shown coded) ++ core_with job n (shown one) ∷ []) (sym number)
     ∙ sym (cores_from-push job 0 (all_shown coded) (shown one))
     ∙ ap (cores_from job 0) (sym (map-append shown coded (one ∷ [])) ∙ sym (ap all_shown grown))
+
+-- what one more core runs stands behind what the others run
+pub next_run : (tasks pushed : List CoreTask) (t : CoreTask) (coded : List (Option CodedTask)) (one : Option CodedTask) → pushed ≡ tasks ++ t ∷ [] → runs t ≡ runs_on (shown one)
+    → map runs tasks ≡ map runs_on (all_shown coded) → map runs pushed ≡ map runs_on (all_shown (coded ++ one ∷ []))
+next_run tasks pushed t coded one push is so_far =
+    ap (map runs) push ∙ map-append runs tasks (t ∷ [])
+    ∙ (λ i. so_far i ++ is i ∷ [])
+    ∙ sym (ap (map runs_on) (map-append shown coded (one ∷ [])) ∙ map-append runs_on (all_shown coded) (shown one ∷ []))
 
 -- each of the cores is at its own place
 abbrev pub ArePlaced : Job → List LoadedCore → Type 0

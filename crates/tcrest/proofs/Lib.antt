@@ -1,10 +1,12 @@
-pub mod Listings
+pub mod Told
 pub mod Outcomes
 pub mod Periods
 pub mod CoresFound
+pub mod OutputFound
 pub mod RowsFound
 pub mod TasksFound
 pub mod TasksCoded
-pub mod TasksRead
-pub mod MeaningsTold
 pub mod Piped
+pub mod Outs
+pub mod Telling
+pub mod Complete

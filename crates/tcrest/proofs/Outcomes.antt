@@ -1,5 +1,5 @@
 -- How a call that ended meets the sentences on what was written.
-use Rattle.std.proofs.Common.{◌≡◌, inl, inr, ℕ, ◌<◌, ◌≤◌, List, [], length, take, refl, sym, subst, IfOk, ◌∙◌, ◌≢◌, ◌↔◌, ap, slice_index, arith, Option, Some, None, IfSome}
+use Rattle.std.proofs.Common.{◌≡◌, inl, inr, ℕ, ◌<◌, ◌≤◌, List, [], length, take, refl, sym, subst, IfOk, ◌∙◌, ◌≢◌, ◌↔◌, ap, slice_index, map, arith, Option, Some, None, IfSome}
 use Rattle.std.proofs.lemmas.Bool.{cases_lt}
 use Rattle.std.proofs.lemmas.Bool.Decides.{nat_tests}
 use Rattle.tc_job.specs.Fault.{Fault}
@@ -14,9 +14,7 @@ use Rattle.patmos_model.specs.State.{Core}
 use Rattle.tcrest.specs.declared.top.TheConstants.{MOST_BYTES}
 use Rattle.tcrest.specs.declared.answers.Answer.{Answer}
 use Rattle.tcrest.specs.declared.command.Command.{Command}
-use Rattle.tcrest.specs.declared.command.Command.TheVariants.{OfInput, Usage}
-use Rattle.tcrest.specs.declared.command.InputCommand.{InputCommand}
-use Rattle.tcrest.specs.declared.command.InputCommand.TheVariants.{Job as OfJob, Grid}
+use Rattle.tcrest.specs.declared.command.Command.TheVariants.{OfJob, Grid, Usage}
 use Rattle.argo_grid.specs.declared.fault.GridFault.{GridFault}
 use Rattle.argo_grid.specs.declared.fault.GridFault.TheVariants as grid_faults
 use Rattle.argo_grid.specs.Check.{checked}
@@ -25,17 +23,17 @@ use Rattle.argo_grid.specs.Report as grid
 use Rattle.argo_grid.specs.Report.{by_check, report_on}
 use Rattle.argo_grid.specs.Schedule.{Schedule}
 use Rattle.tcrest.specs.declared.command.JobCommand.{JobCommand}
-use Rattle.tcrest.specs.declared.command.JobCommand.TheVariants.{OfCode, Mean, Pipe}
-use Rattle.tcrest.specs.declared.command.CodeCommand.{CodeCommand}
-use Rattle.tcrest.specs.declared.command.CodeCommand.TheVariants.{Run, Asm}
+use Rattle.tcrest.specs.declared.command.JobCommand.TheVariants.{Run, Bound, Asm, Mean, Pipe}
 use Rattle.tcrest.specs.declared.refusal.CoreRefusal.{CoreRefusal}
-use Rattle.tcrest.specs.Command.{command_of}
-use Rattle.tcrest.specs.Tasks.{Coded, coded_from}
+use Rattle.tcrest.specs.Bounds.{bounds_text}
+use Rattle.tcrest.specs.Command.{command_of, ReadsNothing}
+use Rattle.tcrest.specs.Listing.{listings}
 use Rattle.tcrest.specs.Machine.{begun_on, cores_from, machine_of}
-use Rattle.tcrest.specs.Meanings.{meanings_from}
-use Rattle.tcrest.specs.Pipe.{is_lone, end_row, pipe_of}
+use Rattle.tcrest.specs.Meanings.{meanings}
+use Rattle.tcrest.specs.Pipe.{end_row, pipe_of}
 use Rattle.tcrest.specs.Rows.{rows_of, is_early, status_of}
-use Rattle.tcrest.specs.Answer.{read_fault, too_long, no_job, no_task, whole, answer_with, answer_or, meanings_or, one_core, pipe_with, pipe_or, answer_by, job_answer, of_grid, input_answer, bytes_answer, command_answer, answer, usage}
+use Rattle.tcrest.specs.Tasks.{Coded, Runs, coded_from, runs_made, runs_on}
+use Rattle.tcrest.specs.Answer.{read_fault, too_long, no_job, no_task, whole, report_of, answer_with, answer_or, is_taken, one_core, pipe_with, answer_by, job_answer, of_grid, text_answer, bytes_answer, command_answer, answer, usage}
 use Rattle.tcrest.specs.Outcome.{IsSent, Ends, HasWritten}
 
 -- the answer to a job has the status of a whole text or of a refused task
@@ -48,11 +46,6 @@ status_of-is rows = by (list_any (λ r. is_early r.state) rows)
     by : (early : Bool) → IsOfTasks (elim early [ true ↦ 3 | false ↦ 0 ])
     by true = (omega arith, omega arith, omega arith)
     by false = (omega arith, omega arith, omega arith)
-
-answer_or-status : (command : CodeCommand) (job : Job) (coded : Result (List (Option Coded)) CoreRefusal) → IsOfTasks (answer_or command job coded).status
-answer_or-status Run job (Ok coded) = status_of-is (rows_of job.cores job.cycles job.trace (machine_of job (cores_from job 0 coded)))
-answer_or-status Asm job (Ok coded) = (omega arith, omega arith, omega arith)
-answer_or-status command job (Err refusal) = (omega arith, omega arith, omega arith)
 
 -- no fault of a job is reported as the length of its text is: at the latest their eighth bytes differ
 differs_from_long : (kind : JobFault) (task : Option ℕ) (key : List ℕ) → slice_index (no_job (record { kind = kind; task = task; key = key })).text 7 ≢ slice_index too_long.text 7
@@ -85,42 +78,40 @@ one_core-is = record {
   not_long = λ same. absurd (let letter : 79 ≡ 84 = ap (λ (b : Answer). slice_index b.text 5) same in omega (arith, letter));
 }
 
-pipe_of-is : (job : Job) (x : Core) → IsOfInput (pipe_of job x)
-pipe_of-is job x = of_tasks (pipe_of job x) (status_of-is (end_row x job.cycles ∷ []))
+pipe_of-is : (job : Job) (r : Runs) (x : Core) → IsOfInput (pipe_of job r x)
+pipe_of-is job r x = of_tasks (pipe_of job r x) (status_of-is (end_row job.cycles r x ∷ []))
 
 pipe_with-is : (job : Job) (coded : List (Option Coded)) → IsOfInput (pipe_with job coded)
 pipe_with-is job [] = one_core-is
 pipe_with-is job (None ∷ cs) = one_core-is
-pipe_with-is job (Some c ∷ []) = pipe_of-is job (begun_on job 0 c)
+pipe_with-is job (Some c ∷ []) = pipe_of-is job (runs_made c.made) (begun_on job 0 c)
 pipe_with-is job (Some c ∷ d ∷ cs) = one_core-is
 
-pub pipe_with_below : (job : Job) (coded : List (Option Coded)) → (pipe_with job coded).status < 5
-pipe_with_below job coded = (pipe_with-is job coded).below
+-- a whole text
+whole-is : (text : List ℕ) → IsOfInput (whole text)
+whole-is text = of_tasks (whole text) (omega arith, omega arith, omega arith)
 
-refused-is : (refusal : CoreRefusal) → IsOfInput (no_task refusal)
-refused-is refusal = of_tasks (no_task refusal) (omega arith, omega arith, omega arith)
+answer_with-is : (command : JobCommand) (job : Job) (coded : List (Option Coded)) → IsOfInput (answer_with command job coded)
+answer_with-is Run job coded =
+    of_tasks (report_of job coded) (status_of-is (rows_of job.cycles job.trace (map runs_on coded) (machine_of job (cores_from job 0 coded))))
+answer_with-is Bound job coded = whole-is (bounds_text job coded)
+answer_with-is Asm job coded = whole-is (listings coded)
+answer_with-is Mean job coded = whole-is (meanings job.cycles coded)
+answer_with-is Pipe job coded = pipe_with-is job coded
+
+answer_or-is : (command : JobCommand) (job : Job) (coded : Result (List (Option Coded)) CoreRefusal) → IsOfInput (answer_or command job coded)
+answer_or-is command job (Ok coded) = answer_with-is command job coded
+answer_or-is command job (Err refusal) = of_tasks (no_task refusal) (omega arith, omega arith, omega arith)
 
 answer_by-is : (command : JobCommand) (job : Job) → IsOfInput (answer_by command job)
-answer_by-is (OfCode command) job =
-    of_tasks (answer_or command job coded) (answer_or-status command job coded)
+answer_by-is command job = by (is_taken command job)
   where
-    coded : Result (List (Option Coded)) CoreRefusal
-    coded = coded_from job.cores job.tasks 0 job.cores
-answer_by-is Mean job = by (meanings_from job.cores job.tasks 0 job.cores)
-  where
-    by : (read : Result (List ℕ) CoreRefusal) → IsOfInput (meanings_or read)
-    by (Ok text) = of_tasks (whole text) (omega arith, omega arith, omega arith)
-    by (Err refusal) = refused-is refusal
-answer_by-is Pipe job = either (is_lone job) (by (coded_from job.cores job.tasks 0 job.cores))
-  where
-    by : (coded : Result (List (Option Coded)) CoreRefusal) → IsOfInput (pipe_or job coded)
-    by (Ok coded) = pipe_with-is job coded
-    by (Err refusal) = refused-is refusal
+    by : (taken : Bool) → IsOfInput (if taken then answer_or command job (coded_from job 0 job.cores) else one_core)
+    by true = answer_or-is command job (coded_from job 0 job.cores)
+    by false = one_core-is
 
-    either : (lone : Bool) → IsOfInput (pipe_or job (coded_from job.cores job.tasks 0 job.cores))
-        → IsOfInput (if lone then pipe_or job (coded_from job.cores job.tasks 0 job.cores) else one_core)
-    either true told = told
-    either false told = one_core-is
+pub answer_by_below : (command : JobCommand) (job : Job) → (answer_by command job).status < 5
+answer_by_below command job = (answer_by-is command job).below
 
 job_answer-is : (command : JobCommand) (read : Result Job Fault) → IsOfInput (job_answer command read)
 job_answer-is command (Err fault) = record {
@@ -148,71 +139,82 @@ grid_answer-is (Err fault) = record {
   not_long = λ same. differs_from_long fault.kind fault.task fault.key (ap (λ (a : Answer). slice_index a.text 7) same);
 }
 
-input_answer-is : (command : InputCommand) (bytes : List ℕ) → IsOfInput (input_answer command bytes)
-input_answer-is (OfJob command) bytes = job_answer-is command (job_of bytes)
-input_answer-is Grid bytes = grid_answer-is (schedule_of bytes)
+text_answer-is : (command : Command) (bytes : List ℕ) → (ReadsNothing command → ⊥) → IsOfInput (text_answer command bytes)
+text_answer-is (OfJob command) bytes reads = job_answer-is command (job_of bytes)
+text_answer-is Grid bytes reads = grid_answer-is (schedule_of bytes)
+text_answer-is Usage bytes reads = absurd (reads tt)
+
+text_answer-not_long : (command : Command) (bytes : List ℕ) → text_answer command bytes ≢ too_long
+text_answer-not_long (OfJob command) bytes = (job_answer-is command (job_of bytes)).not_long
+text_answer-not_long Grid bytes = (grid_answer-is (schedule_of bytes)).not_long
+text_answer-not_long Usage bytes = λ same. absurd (let status : 1 ≡ 2 = ap (λ (a : Answer). a.status) same in omega (arith, status))
 
 -- each of these answers has a status below those of faults of the outside
 pub below_if : {E : Type 0} (result : Result Answer E) (a : Answer) → IfOk result (λ x. x ≡ a) → a.status < 5 → IfOk result (λ x. x.status < 5)
 below_if (Ok x) a is low = subst (λ y. y.status < 5) (sym is) low
 below_if (Err e) a is low = tt
 
-pub answer_with_below : (command : CodeCommand) (job : Job) (coded : List (Option Coded)) → (answer_with command job coded).status < 5
-answer_with_below Run job coded = (answer_or-status Run job (Ok coded)).0
-answer_with_below Asm job coded = omega arith
-
 pub grid_below : (bytes : List ℕ) → (of_grid (grid.report_of bytes)).status < 5
 grid_below bytes = (grid_answer-is (schedule_of bytes)).below
 
 -- what a command about the input owes where too many bytes came, and where all came
-bytes_answer-too_long : (command : InputCommand) (bytes : List ℕ) → MOST_BYTES < length bytes → bytes_answer command bytes ≡ too_long
+bytes_answer-too_long : (command : Command) (bytes : List ℕ) → MOST_BYTES < length bytes → bytes_answer command bytes ≡ too_long
 unfolding bytes_answer
 bytes_answer-too_long command bytes long = grind (arith, nat_tests)
 
-bytes_answer-within : (command : InputCommand) (bytes : List ℕ) → length bytes ≤ MOST_BYTES → bytes_answer command bytes ≡ input_answer command bytes
+pub bytes_answer-within : (command : Command) (bytes : List ℕ) → length bytes ≤ MOST_BYTES → bytes_answer command bytes ≡ text_answer command bytes
 unfolding bytes_answer
 bytes_answer-within command bytes within = grind (arith, nat_tests)
 
-pub bytes_answer-is_too_long : (command : InputCommand) (bytes : List ℕ) → (bytes_answer command bytes ≡ too_long) ↔ (MOST_BYTES < length bytes)
+pub bytes_answer-is_too_long : (command : Command) (bytes : List ℕ) → (bytes_answer command bytes ≡ too_long) ↔ (MOST_BYTES < length bytes)
 bytes_answer-is_too_long command bytes = (
   λ same. elim (cases_lt MOST_BYTES (length bytes)) [
     | inl long ↦ long
-    | inr within ↦ absurd ((input_answer-is command bytes).not_long (sym (bytes_answer-within command bytes within) ∙ same))
+    | inr within ↦ absurd (text_answer-not_long command bytes (sym (bytes_answer-within command bytes within) ∙ same))
   ],
   bytes_answer-too_long command bytes,
 )
 
-bytes_answer-status : (command : InputCommand) (bytes : List ℕ) → ((bytes_answer command bytes).status < 5) × ((bytes_answer command bytes).status ≢ 1)
-bytes_answer-status command bytes = elim (cases_lt MOST_BYTES (length bytes)) [
+bytes_answer-status : (command : Command) (bytes : List ℕ) → (ReadsNothing command → ⊥) → ((bytes_answer command bytes).status < 5) × ((bytes_answer command bytes).status ≢ 1)
+bytes_answer-status command bytes reads = elim (cases_lt MOST_BYTES (length bytes)) [
   | inl long ↦ rw (bytes_answer-too_long command bytes long) (omega arith, omega arith)
-  | inr within ↦ rw (bytes_answer-within command bytes within) ((input_answer-is command bytes).below, (input_answer-is command bytes).not_usage)
+  | inr within ↦ rw (bytes_answer-within command bytes within) ((text_answer-is command bytes reads).below, (text_answer-is command bytes reads).not_usage)
 ]
 
 command_answer-status : (command : Command) (bytes : List ℕ) → (command_answer command bytes).status < 5
-command_answer-status (OfInput command) bytes = (bytes_answer-status command bytes).0
+command_answer-status (OfJob command) bytes = (bytes_answer-status (OfJob command) bytes (λ none. none)).0
+command_answer-status Grid bytes = (bytes_answer-status Grid bytes (λ none. none)).0
 command_answer-status Usage bytes = omega arith
 
 pub answer-status : (words : List (List ℕ)) (bytes : List ℕ) → (answer words bytes).status < 5
 answer-status words bytes = command_answer-status (command_of words) bytes
 
 pub command_answer-is_usage : (command : Command) (bytes : List ℕ) → ((command_answer command bytes).status ≡ 1) ↔ (command ≡ Usage)
-command_answer-is_usage (OfInput command) bytes = (λ one. absurd ((bytes_answer-status command bytes).1 one), λ is. absurd (cc))
+command_answer-is_usage (OfJob command) bytes = (λ one. absurd ((bytes_answer-status (OfJob command) bytes (λ none. none)).1 one), λ is. absurd (cc))
+command_answer-is_usage Grid bytes = (λ one. absurd ((bytes_answer-status Grid bytes (λ none. none)).1 one), λ is. absurd (cc))
 command_answer-is_usage Usage bytes = (λ _. refl, λ _. refl)
 
+-- of a command that reads the answer is that to its bytes
+pub reads_bytes : (command : Command) (bytes : List ℕ) → (ReadsNothing command → ⊥) → command_answer command bytes ≡ bytes_answer command bytes
+reads_bytes (OfJob command) bytes reads = refl
+reads_bytes Grid bytes reads = refl
+reads_bytes Usage bytes reads = absurd (reads tt)
+
 module _ (failed : Type 0) (status faults faults' : ℕ) (taken taken' : Option (List ℕ)) where
-  pub sent_too_long : (command : InputCommand) (left : Option (List ℕ)) → IfSome left (λ bytes. MOST_BYTES < length bytes) → IsSent too_long status faults faults' taken taken'
+  pub sent_too_long : (command : Command) (left : Option (List ℕ)) → IfSome left (λ bytes. MOST_BYTES < length bytes) → IsSent too_long status faults faults' taken taken'
       → IfSome left (λ bytes. Ends (bytes_answer command bytes) failed status faults faults' taken taken')
   sent_too_long command None long sent = tt
   sent_too_long command (Some bytes) long sent = rw (bytes_answer-too_long command bytes long) (inr (inl sent))
 
-  pub sent_within : (command : InputCommand) (left : Option (List ℕ)) (came : List ℕ) → IfSome left (λ bytes. came ≡ bytes) → length came ≤ MOST_BYTES → IsSent (input_answer command came) status faults faults' taken taken'
+  pub sent_within : (command : Command) (left : Option (List ℕ)) (came : List ℕ) → IfSome left (λ bytes. came ≡ bytes) → length came ≤ MOST_BYTES → IsSent (text_answer command came) status faults faults' taken taken'
       → IfSome left (λ bytes. Ends (bytes_answer command bytes) failed status faults faults' taken taken')
   sent_within command None came all within sent = tt
   sent_within command (Some bytes) came all within sent = rw (← all, bytes_answer-within command came within) (inr (inl sent))
 
   pub usage_sent : (command : Command) (left : Option (List ℕ)) → command ≡ Usage → IsSent usage status faults faults' taken taken'
       → IfSome left (λ bytes. Ends (command_answer command bytes) failed status faults faults' taken taken')
-  usage_sent (OfInput command) left is sent = absurd (cc)
+  usage_sent (OfJob command) left is sent = absurd (cc)
+  usage_sent Grid left is sent = absurd (cc)
   usage_sent Usage None is sent = tt
   usage_sent Usage (Some bytes) is sent = inr (inl sent)
 

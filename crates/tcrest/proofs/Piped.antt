@@ -3,19 +3,19 @@ use Rattle.std.proofs.Common.{◌≡◌, ℕ, zero, suc, ◌+◌, ◌<◌, ◌�
 use Rattle.std.specs.Prelude.{◌&&◌, Result, Ok, Err, IfOk}
 use Rattle.std.proofs.Math.ListN.{length-append}
 use Rattle.slot_arbiter.specs.Slot.{period}
-use Rattle.patmos_model.specs.Outcome.{state_at}
 use Rattle.patmos_model.specs.State.{Core, is_running, is_free}
 use Rattle.core_pace.specs.Moment.{Done, done_by, landed, passes, fetched_in}
 use Rattle.pipe_five.specs.Pipe.{IsStep}
 use Rattle.pipe_five.specs.Stages.{stages_of}
 use Rattle.pipe_five.specs.Steps.{core_before, done_below, first_of}
 use Rattle.tc_job.specs.declared.job.Job.{Job}
-use Rattle.tc_report.specs.declared.rows.RowState.{RowState}
+use Rattle.tc_report.specs.declared.rows.Row.{Row}
 use Rattle.tc_report.specs.Line.{step_line}
 use Rattle.tc_report.specs.Report.{platform_line, state_line}
 use Rattle.tcrest.specs.declared.answers.Answer.{Answer}
-use Rattle.tcrest.specs.Pipe.{step_text, steps_text, row_in, end_row, pipe_of}
-use Rattle.tcrest.specs.Rows.{row_state, status_of}
+use Rattle.tcrest.specs.Pipe.{step_text, steps_text, end_row, pipe_of}
+use Rattle.tcrest.specs.Rows.{status_of}
+use Rattle.tcrest.specs.Tasks.{Runs}
 
 -- in each cycle there is at most one bundle
 one_at_most : (cycle : ℕ) (c : Core) → length (done_by cycle c) ≤ 1
@@ -57,13 +57,13 @@ untold_step x limit k trace first text enough so_far =
     let same : min trace k ≡ min trace (k + 1) = omega (arith, enough) in
     so_far ∙ ap (λ n. first ++ steps_text x limit n) same
 
--- the platform and the steps, with what became of the task behind them, are all that is told
-pub told_whole : {E : Type 0} (job : Job) (x : Core) (state : RowState) (text : List ℕ) (result : Result Answer E) → state ≡ row_state (state_at job.cycles (core_before x job.cycles).plain)
+-- the platform and the steps, with the line of the core's state behind them, are all that is told
+pub told_whole : {E : Type 0} (job : Job) (r : Runs) (x : Core) (row : Row) (text : List ℕ) (result : Result Answer E) → row ≡ end_row job.cycles r x
     → text ≡ platform_line job.cores job.slot (period job.table job.slot) ++ steps_text x job.cycles (min job.trace (length (done_below x job.cycles)))
-    → IfOk result (λ a. a ≡ record { status = status_of (row_in state ∷ []); text = text ++ state_line 0 (row_in state) }) → IfOk result (λ a. a ≡ pipe_of job x)
-told_whole job x state text (Err e) is so_far answer = tt
-told_whole job x state text (Ok a) is so_far answer =
-    let end = end_row x job.cycles in
-    answer ∙ ap (λ s. record { status = status_of (row_in s ∷ []); text = text ++ state_line 0 (row_in s) }) is
+    → IfOk result (λ a. a ≡ record { status = status_of (row ∷ []); text = text ++ state_line 0 row }) → IfOk result (λ a. a ≡ pipe_of job r x)
+told_whole job r x row text (Err e) is so_far answer = tt
+told_whole job r x row text (Ok a) is so_far answer =
+    let end = end_row job.cycles r x in
+    answer ∙ ap (λ w. record { status = status_of (w ∷ []); text = text ++ state_line 0 w }) is
     ∙ ap (λ t. record { status = status_of (end ∷ []); text = t }) (ap (λ t. t ++ state_line 0 end) so_far
     ∙ append_assoc (platform_line job.cores job.slot (period job.table job.slot)) (steps_text x job.cycles (min job.trace (length (done_below x job.cycles)))) (state_line 0 end))

@@ -1,11 +1,12 @@
 -- The rows of a machine at its limit, and the machine that a job asks for.
-use Rattle.std.proofs.Common.{◌≡◌, ℕ, zero, suc, ◌+◌, ◌<◌, List, [], ◌∷◌, ◌++◌, length, map, get_or, IfSome, refl, sym, ap, ◌∙◌, subst, arith}
+use Rattle.std.proofs.Common.{◌≡◌, ℕ, zero, suc, ◌+◌, ◌<◌, List, [], ◌∷◌, ◌++◌, length, map, take, get_or, Option, IfSome, refl, sym, ap, ◌∙◌, subst, arith, length-take}
 use Rattle.std.specs.Prelude.{Result, Ok, Err, IfOk}
-use Rattle.std.specs.List.{range_with_len}
+use Rattle.std.proofs.lemmas.List.{length-map, map-append, take_all}
 use Rattle.std.proofs.lemmas.Option.{slice_get_read}
-use Rattle.std.proofs.lemmas.List.FromFn.{map-range_with_len_more}
-use Rattle.shared_order.specs.Machine.{cycled}
+use Rattle.c_mentions.specs.Alone.{Running}
+use Rattle.shared_order.specs.Machine.{State, cycled}
 use Rattle.patmos_core.specs.declared.cpu.Core.{Core as Cpu}
+use Rattle.patmos_model.specs.Range.{InRange}
 use Rattle.patmos_model.specs.State.{Core}
 use Rattle.patmos_model.specs.Cycle.{turn}
 use Rattle.global_step.specs.declared.loaded.LoadedCore.{LoadedCore}
@@ -16,23 +17,53 @@ use Rattle.tc_job.specs.declared.job.Job.{Job}
 use Rattle.tc_report.specs.declared.rows.Row.{Row}
 use Rattle.tcrest.specs.declared.answers.Answer.{Answer}
 use Rattle.tcrest.specs.Answer.{reported, report_of}
-use Rattle.tcrest.specs.Machine.{core_in, machine_of}
-use Rattle.tcrest.specs.Rows.{row_of, rows_of}
+use Rattle.tcrest.specs.declared.tasks.CoreTask.{CoreTask}
+use Rattle.tcrest.specs.Coding.{runs}
+use Rattle.tcrest.specs.Machine.{core_in, cores_from, machine_of}
+use Rattle.tcrest.specs.Rows.{row_of, rows_from, rows_of, running}
 use Rattle.tcrest.specs.Loading.{IsLoadedFor}
+use Rattle.tcrest.specs.Tasks.{Coded, Runs, runs_on}
 
--- the rows of the first cores
-abbrev pub rows_below : ℕ → Machine → List Row
-rows_below n m = map (λ k. row_of m.limit m.trace ((at_limit m).cores k)) (range_with_len 0 n)
+-- one more row stands behind the others
+rows_from-push : (limit trace : ℕ) (all : List Running) (core : ℕ) (rs : List Runs) (r : Runs) (m : State Core)
+    → rows_from limit trace all core (rs ++ r ∷ []) m ≡ rows_from limit trace all core rs m ++ row_of limit trace all (core + length rs) r (m.cores (core + length rs)) ∷ []
+rows_from-push limit trace all core [] r m = let here : core ≡ core + 0 = omega arith in ap (λ n. row_of limit trace all n r (m.cores n) ∷ []) here
+rows_from-push limit trace all core (q ∷ rs) r m =
+    let next : core + 1 + length rs ≡ core + suc (length rs) = omega arith in
+    ap (λ rows. row_of limit trace all core q (m.cores core) ∷ rows) (rows_from-push limit trace all (core + 1) rs r m
+    ∙ ap (λ n. rows_from limit trace all (core + 1) rs m ++ row_of limit trace all n r (m.cores n) ∷ []) next)
+
+-- the rows of the first cores, which run the first of these tasks
+abbrev pub rows_below : List Running → List CoreTask → ℕ → Machine → List Row
+rows_below all tasks n m = rows_from m.limit m.trace all 0 (map runs (take n tasks)) (at_limit m)
+
+take_more : (tasks : List CoreTask) (n : ℕ) (t : CoreTask) → n < length tasks → t ≡ get_or tasks n t → take (suc n) tasks ≡ take n tasks ++ t ∷ []
+take_more [] n t below is = absurd (omega (arith, below))
+take_more (u ∷ tasks) zero t below is = ap (λ x. x ∷ []) (sym is)
+take_more (u ∷ tasks) (suc n) t below is = ap (λ l. u ∷ l) (take_more tasks n t (omega (arith, below)) is)
 
 -- one more row
-pub next_row : (cores : List Cpu) (i : ℕ) (c : Cpu) (rows pushed : List Row) (row : Row) → i < length cores → c ≡ get_or cores i c → pushed ≡ rows ++ row ∷ []
-    → ((m : Machine) → AreFinal m cores → rows ≡ rows_below i m)
-    → ((m : Machine) (k : ℕ) → IsFinalCore m k c → row ≡ row_of m.limit m.trace ((at_limit m).cores k))
-    → (m : Machine) → AreFinal m cores → pushed ≡ rows_below (i + 1) m
-next_row cores i c rows pushed row below item push so_far is m final =
+pub next_row : (cores : List Cpu) (all : List Running) (tasks : List CoreTask) (i : ℕ) (c : Cpu) (t : CoreTask) (rows pushed : List Row) (row : Row) → i < length cores → length tasks ≡ length cores
+    → c ≡ get_or cores i c → t ≡ get_or tasks i t → pushed ≡ rows ++ row ∷ []
+    → ((m : Machine) → AreFinal m cores → rows ≡ rows_below all tasks i m)
+    → ((m : Machine) (k : ℕ) → IsFinalCore m k c → row ≡ row_of m.limit m.trace all i (runs t) ((at_limit m).cores k))
+    → (m : Machine) → AreFinal m cores → pushed ≡ rows_below all tasks (i + 1) m
+next_row cores all tasks i c t rows pushed row below count item task push so_far is m final =
     let here : IsFinalCore m i c = subst (λ o. IfSome o (IsFinalCore m i)) (slice_get_read cores (length cores) i c refl below item) (final.each i) in
-    push ∙ ap (λ prefix. prefix ++ row ∷ []) (so_far m final) ∙ ap (λ last. rows_below i m ++ last ∷ []) (is m i here)
-    ∙ sym (map-range_with_len_more (λ k. row_of m.limit m.trace ((at_limit m).cores k)) 0 i i (omega arith))
+    let number : 0 + length (map runs (take i tasks)) ≡ i = omega (arith, length-map (take i tasks) runs, length-take i tasks, below, count) in
+    push ∙ ap (λ prefix. prefix ++ row ∷ []) (so_far m final) ∙ ap (λ last. rows_below all tasks i m ++ last ∷ []) (is m i here)
+    ∙ ap (λ n. rows_below all tasks i m ++ row_of m.limit m.trace all n (runs t) ((at_limit m).cores n) ∷ []) (sym number)
+    ∙ sym (rows_from-push m.limit m.trace all 0 (map runs (take i tasks)) (runs t) (at_limit m))
+    ∙ ap (λ l. rows_from m.limit m.trace all 0 l (at_limit m)) (sym (map-append runs (take i tasks) (t ∷ [])) ∙ ap (map runs) (sym (take_more tasks i t (omega (arith, below, count)) task)))
+    ∙ (let more : suc i ≡ i + 1 = omega arith in ap (λ n. rows_below all tasks n m) more)
+
+-- behind the last the rows are those of all cores
+pub all_rows : (cores : List Cpu) (all : List Running) (tasks : List CoreTask) (rows : List Row) → length tasks ≡ length cores → all ≡ map running (map runs tasks)
+    → ((m : Machine) → AreFinal m cores → rows ≡ rows_below all tasks (length cores) m)
+    → (m : Machine) → AreFinal m cores → rows ≡ rows_of m.limit m.trace (map runs tasks) (at_limit m)
+all_rows cores all tasks rows count is so_far m final =
+    so_far m final ∙ ap (λ l. rows_from m.limit m.trace all 0 (map runs l) (at_limit m)) (take_all (length cores) tasks (omega (arith, count)))
+    ∙ ap (λ a. rows_from m.limit m.trace a 0 (map runs tasks) (at_limit m)) is
 
 -- the cores that were loaded are those that the job asks for
 among_in : (ls : List LoadedCore) (k : ℕ) → core_among ls k ≡ core_in (map first_core ls) k
@@ -50,17 +81,23 @@ same_machine job cores m h =
     ∙ ap (λ xs. cycled turn job.cores xs m.limit) (same_cores m.cores ∙ ap core_in h.cores)
     ∙ ap (cycled turn job.cores (core_in cores)) h.limit
 
+-- where the machine's cores are in range at first, so are those that the job asks for
+pub begin_in_range : (job : Job) (cores : List Core) (m : Machine) (words : ℕ) → IsLoadedFor job cores m → ((core : ℕ) → InRange words ((machine m 0).cores core)) → (core : ℕ) → InRange words (core_in cores core)
+unfolding machine
+begin_in_range job cores m words h fits core = subst (λ (f : ℕ → Core). InRange words (f core)) (same_cores m.cores ∙ ap core_in h.cores) (fits core)
+
 -- so their rows are those of the job's machine
-pub same_rows : (job : Job) (cores : List Core) (m : Machine) → IsLoadedFor job cores m
-    → rows_of (length m.cores) m.limit m.trace (at_limit m) ≡ rows_of job.cores job.cycles job.trace (machine_of job cores)
-same_rows job cores m h =
-    ap (λ n. rows_of n m.limit m.trace (at_limit m)) h.count
-    ∙ ap (λ t. rows_of job.cores t m.trace (at_limit m)) h.limit
-    ∙ ap (λ n. rows_of job.cores job.cycles n (at_limit m)) h.trace
-    ∙ ap (rows_of job.cores job.cycles job.trace) (same_machine job cores m h)
+pub same_rows : (job : Job) (cores : List Core) (rs : List Runs) (m : Machine) → IsLoadedFor job cores m
+    → rows_of m.limit m.trace rs (at_limit m) ≡ rows_of job.cycles job.trace rs (machine_of job cores)
+same_rows job cores rs m h =
+    ap (λ t. rows_of t m.trace rs (at_limit m)) h.limit
+    ∙ ap (λ n. rows_of job.cycles n rs (at_limit m)) h.trace
+    ∙ ap (rows_of job.cycles job.trace rs) (same_machine job cores m h)
 
 -- where they are reported, the report is that of the job's machine
-pub report_is : {E : Type 0} (job : Job) (m : Machine) (rows : List Row) (answer : Result Answer E) → rows ≡ rows_of (length m.cores) m.limit m.trace (at_limit m)
-    → IfOk answer (λ a. a ≡ reported job rows) → IfOk answer (λ a. (cores : List Core) → IsLoadedFor job cores m → a ≡ report_of job cores)
-report_is job m rows (Ok a) are is = λ cores loaded. is ∙ ap (reported job) (are ∙ same_rows job cores m loaded)
-report_is job m rows (Err e) are is = tt
+pub report_is : {E : Type 0} (job : Job) (coded : List (Option Coded)) (tasks : List CoreTask) (m : Machine) (rows : List Row) (answer : Result Answer E)
+    → IsLoadedFor job (cores_from job 0 coded) m → map runs tasks ≡ map runs_on coded → rows ≡ rows_of m.limit m.trace (map runs tasks) (at_limit m)
+    → IfOk answer (λ a. a ≡ reported job rows) → IfOk answer (λ a. a ≡ report_of job coded)
+report_is job coded tasks m rows (Ok a) loaded run are is =
+    is ∙ ap (reported job) (are ∙ same_rows job (cores_from job 0 coded) (map runs tasks) m loaded ∙ ap (λ rs. rows_of job.cycles job.trace rs (machine_of job (cores_from job 0 coded))) run)
+report_is job coded tasks m rows (Err e) loaded run are is = tt

@@ -1,12 +1,29 @@
--- What contracts see of tasks that have their code.
+-- What contracts see of tasks that are made.
 use Rattle.std.specs.Prelude.{ℕ, List, map, Option, IfSome}
 use Rattle.std.specs.Option.{option_map}
+use Rattle.c_tree.specs.Plain.{plain}
 use Rattle.tc_job.specs.Ranges.{IsTaskAmong}
 use Rattle.tcrest.specs.declared.tasks.CodedTask.{CodedTask}
-use Rattle.tcrest.specs.Tasks.{Coded}
+use Rattle.tcrest.specs.declared.tasks.CoreTask.{CoreTask}
+use Rattle.tcrest.specs.declared.tasks.CoreTask.TheVariants as tasks
+use Rattle.tcrest.specs.declared.tasks.MadeTask.{MadeTask}
+use Rattle.tcrest.specs.declared.tasks.Program.{Program}
+use Rattle.tcrest.specs.Tasks.{Bounded, Made, Coded, Runs, nothing, assembly, program}
+
+abbrev pub bounded : Program → Bounded
+bounded p = record { items = plain p.checked.unit; bound = p.bound }
+
+abbrev pub made_of : MadeTask → Made
+made_of m = record { image = m.image; program = option_map bounded m.program }
+
+-- what a core runs
+abbrev pub runs : CoreTask → Runs
+runs tasks.Idle = nothing
+runs tasks.Assembly = assembly
+runs (tasks.C p) = program (bounded p)
 
 abbrev pub coded_of : CodedTask → Coded
-coded_of c = record { task = c.task.now; code = c.code }
+coded_of c = record { task = c.task.now; made = made_of c.made }
 
 -- the task of a core, if it has one, and those of all cores
 abbrev pub shown : Option CodedTask → Option Coded

@@ -9,5 +9,8 @@ pub mod Loading
 pub mod Rows
 pub mod Pipe
 pub mod Answer
+pub mod Bounds
 pub mod Outcome
+pub mod Telling
+pub mod Complete
 pub mod Worked

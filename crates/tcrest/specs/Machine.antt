@@ -1,9 +1,7 @@
 -- The machine that a job asks for: the job's platform, and on each core its task, if it has one.
 use Rattle.std.specs.Prelude.{ℕ, ◌+◌, List, [], ◌∷◌, Option, None, Some, slice_get}
 use Rattle.shared_order.specs.Machine.{State, cycled}
-use Rattle.local_store.specs.declared.store.TheConstants.{FIRST_DATA_WORD, INPUT_WORDS}
-use Rattle.patmos_code.specs.Images.{Parts, parts}
-use Rattle.patmos_asm.specs.Assembly.{CodeParts}
+use Rattle.patmos_code.specs.Images.{Parts}
 use Rattle.patmos_model.specs.Site.{Site}
 use Rattle.patmos_model.specs.State.{Core}
 use Rattle.patmos_model.specs.Begin.{begun, idle, no_code}
@@ -11,10 +9,6 @@ use Rattle.patmos_model.specs.Cycle.{turn}
 use Rattle.global_step.specs.Machine.{core_among}
 use Rattle.tc_job.specs.declared.job.Job.{Job}
 use Rattle.tcrest.specs.Tasks.{Coded}
-
--- the image of a task's code: nothing stands in private memory at first but the input, from word 4 on
-abbrev pub image_of : CodeParts → Parts
-image_of code = parts code.words code.starts [] FIRST_DATA_WORD INPUT_WORDS
 
 -- where a core stands on the platform, the cycle at which its task starts, and the task's image
 abbrev pub site_on : Job → ℕ → ℕ → Parts → Site
@@ -27,12 +21,12 @@ site_on job core start image = record {
   image = image;
 }
 
--- a core before the first cycle: without a task, and with the code of one
+-- a core before the first cycle: without a task, and with one
 abbrev pub idle_on : Job → ℕ → Core
 idle_on job core = idle (site_on job core 0 no_code)
 
 abbrev pub begun_on : Job → ℕ → Coded → Core
-begun_on job core c = begun (site_on job core c.task.start (image_of c.code)) c.task.input
+begun_on job core c = begun (site_on job core c.task.start c.made.image) c.task.input
 
 -- the core with its task, if it has one
 abbrev pub core_with : Job → ℕ → Option Coded → Core

@@ -1,20 +1,22 @@
 -- What `pipe` writes: what the five stages of a job's only core hold at each step, and what became of its task.
 use Rattle.std.specs.Prelude.{ℕ, zero, suc, ◌+◌, ◌==◌, min, Bool, true, false, ◌&&◌, List, [], ◌∷◌, ◌++◌, length, codes, None, Some, option_map}
 use Rattle.slot_arbiter.specs.Slot.{period}
+use Rattle.c_mentions.specs.Alone.{is_alone}
 use Rattle.patmos_model.specs.Outcome.{state_at}
 use Rattle.patmos_model.specs.State.{Core}
+use Rattle.patmos_model.specs.declared.state.CoreState.{CoreState}
 use Rattle.pipe_five.specs.Stages.{stages_of}
 use Rattle.pipe_five.specs.Steps.{core_before, done_below, first_of, number}
 use Rattle.tc_job.specs.declared.job.Job.{Job}
 use Rattle.tc_job.specs.declared.task.Task.{Task}
 use Rattle.tc_report.specs.declared.rows.Row.{Row}
-use Rattle.tc_report.specs.declared.rows.RowState.{RowState}
 use Rattle.tc_report.specs.Line.{step_line}
 use Rattle.tc_report.specs.Report.{platform_line, state_line}
 use Rattle.tcrest.specs.declared.answers.Answer.{Answer}
 use Rattle.tcrest.specs.declared.pipe.PipeFault.{PipeFault}
 use Rattle.tcrest.specs.declared.pipe.PipeFault.TheVariants.{OneCore}
-use Rattle.tcrest.specs.Rows.{row_state, status_of}
+use Rattle.tcrest.specs.Rows.{is_flagged, row_state, running, status_of}
+use Rattle.tcrest.specs.Tasks.{Runs, nothing, assembly, program}
 
 -- the number of a fault that `pipe` alone finds, behind those of any job, and its name
 abbrev pub fault_number : PipeFault → ℕ
@@ -43,10 +45,11 @@ abbrev pub steps_text : Core → ℕ → ℕ → List ℕ
 steps_text x limit zero = []
 steps_text x limit (suc n) = steps_text x limit n ++ step_text x limit n
 
--- a core of which only is told what became of its task
-abbrev pub row_in : RowState → Row
-row_in s = record {
-  state = s;
+-- what is told of the core by its state, what it runs and its program's bound: the line of its state, and no words, starts or
+-- transactions
+abbrev pub silent_row : CoreState → Row
+silent_row s = record {
+  state = row_state s;
   bound = None;
   alone = false;
   overrun = false;
@@ -56,14 +59,24 @@ row_in s = record {
   accesses = [];
 }
 
-abbrev pub end_row : Core → ℕ → Row
-end_row x limit = row_in (row_state (state_at limit (core_before x limit).plain))
+abbrev pub told_row : Runs → CoreState → Row
+told_row nothing s = silent_row s
+told_row assembly s = silent_row s
+told_row (program p) s = record (silent_row s) {
+  bound = Some p.bound;
+  alone = is_alone 0 (running (program p) ∷ []);
+  overrun = is_flagged s;
+}
+
+-- the core at the limit
+abbrev pub end_row : ℕ → Runs → Core → Row
+end_row limit r x = told_row r (state_at limit (core_before x limit).plain)
 
 -- the platform, the first steps as far as the job asks for them and there are, and the core at the limit
-abbrev pub pipe_text : Job → Core → List ℕ
-pipe_text job x =
+abbrev pub pipe_text : Job → Runs → Core → List ℕ
+pipe_text job r x =
     platform_line job.cores job.slot (period job.table job.slot)
-    ++ (steps_text x job.cycles (min job.trace (length (done_below x job.cycles))) ++ state_line 0 (end_row x job.cycles))
+    ++ (steps_text x job.cycles (min job.trace (length (done_below x job.cycles))) ++ state_line 0 (end_row job.cycles r x))
 
-abbrev pub pipe_of : Job → Core → Answer
-pipe_of job x = record { status = status_of (end_row x job.cycles ∷ []); text = pipe_text job x }
+abbrev pub pipe_of : Job → Runs → Core → Answer
+pipe_of job r x = record { status = status_of (end_row job.cycles r x ∷ []); text = pipe_text job r x }

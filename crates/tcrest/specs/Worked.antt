@@ -7,6 +7,7 @@ use Rattle.tc_job.specs.declared.task.Lang.TheVariants.{Asm}
 use Rattle.tc_report.specs.declared.rows.Row.{Row}
 use Rattle.tcrest.specs.Machine.{begun_on, machine_of}
 use Rattle.tcrest.specs.Rows.{rows_of}
+use Rattle.tcrest.specs.Tasks.{assembly, of_code}
 
 -- the code of `addi r1 = r0, 7; ret; nop; nop; nop`
 abbrev pub seven : CodeParts
@@ -34,4 +35,5 @@ lone_job cycles = record {
 
 -- the rows of its machine, where the task has that code
 abbrev pub lone_rows : ℕ → List Row
-lone_rows cycles = rows_of 1 cycles 4 (machine_of (lone_job cycles) (begun_on (lone_job cycles) 0 (record { task = lone_task; code = seven }) ∷ []))
+lone_rows cycles =
+    rows_of cycles 4 (assembly ∷ []) (machine_of (lone_job cycles) (begun_on (lone_job cycles) 0 (record { task = lone_task; made = of_code seven }) ∷ []))

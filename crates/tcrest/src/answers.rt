@@ -1,31 +1,34 @@
 ghost use Rattle.std.specs.Prelude as prelude;
-ghost use Rattle.std.specs.Prelude.{◌≡◌, ◌<◌, All, IfOk, length};
+ghost use Rattle.std.specs.Prelude.{◌≡◌, ◌<◌, All, Option, Ok, true, IfOk, length};
 ghost use Rattle.argo_grid.specs.Report as grid;
-ghost use Rattle.patmos_model.specs.State as state;
 ghost use Rattle.tc_job.specs.Job.{job_of};
 ghost use Rattle.tc_job.specs.Ranges.{KeepsRanges};
 ghost use Rattle.tcrest.specs.Answer as specs;
+ghost use Rattle.tcrest.specs.Command as words;
+ghost use Rattle.tcrest.specs.declared.command.Command.TheVariants as commands;
 ghost use Rattle.tcrest.specs.declared.command.JobCommand.TheVariants as variants;
+ghost use Rattle.tcrest.specs.Tasks.{Coded, coded_from};
+ghost use Rattle.tcrest.specs.Telling.{AreMade, TellsTasks, TellsRun};
 ghost use Rattle.tcrest.specs.Coding.{all_shown, IsAmong};
-ghost use Rattle.tcrest.specs.Loading.{IsLoadedFor};
 
-use crate::command::{CodeCommand, InputCommand, JobCommand};
+use crate::bounds::bounds_text;
+use crate::command::{Command, JobCommand};
 use crate::listing::listings;
 use crate::loading::loaded_of;
 use crate::meanings::meanings;
-use crate::pipe::pipe_answer;
+use crate::pipe::{PipeFault, fault_answer, is_lone, pipe_with};
 use crate::refusal::{Halt, refusal_answer};
 use crate::rows::{report_text_of, rows_of, status_of};
 use crate::tasks::{CodedTask, coded_tasks};
 use argo_grid::{GridReport, grid_report};
-use global_step::Loaded;
+use global_step::machine_keeps_ranges;
 use std::alloc::{AllocError, Global};
 use std::sync::Wait;
 use std::thread::Threads;
 use tc_io::Gate;
 use tc_job::{Job, JobError, JobFault, put_fault, read_job};
 use tc_report::Row;
-use tc_run::run_machine;
+use tc_run::{loaded_with_words, run_machine};
 use tc_word::{List, OutOfMemory};
 
 /// A status and the text that is written with it.
@@ -35,21 +38,27 @@ pub struct Answer {
     pub text: List<u8>,
 }
 
-/// The answer that a command owes these bytes, which are no more than a text may have.
+/// The line that tells the commands.
+pub const USAGE: &[u8] = b"usage: tcrest run|bound|asm|mean|gen N|bench N|pipe|grid\n";
+
+/// The answer that a command that reads owes a text that is not too long.
 #[tactic(auto, using(crate::proofs::Outcomes::below_if, crate::proofs::Outcomes::grid_below))]
-pub fn input_answer<R: Threads + Wait + Sync, G: Gate + Sync>(
+pub fn text_answer<R: Threads + Wait + Sync, G: Gate + Sync>(
     alloc: Global,
     rt: &R,
-    command: InputCommand,
+    command: Command,
     bytes: &[u8],
     gate: &G,
 ) -> Result<Answer, OutOfMemory>
-    ensures answer { IfOk result (λ answer. answer ≡ specs.input_answer command bytes.now) }
+    requires reads { words.ReadsNothing command → ⊥ }
+    ensures answer { IfOk result (λ answer. answer ≡ specs.text_answer command bytes.now) }
     ensures below { IfOk result (λ answer. answer.status < 5) }
+    ensures told { IfOk result (λ _. TellsRun command bytes.now) }
 {
     match command {
-        InputCommand::Job(command) => job_answer(alloc, rt, command, bytes, gate),
-        InputCommand::Grid => grid_answer(alloc, bytes),
+        Command::OfJob(command) => job_answer(alloc, rt, command, bytes, gate),
+        Command::Grid => grid_answer(alloc, bytes),
+        Command::Usage => unreachable!(),
     }
 }
 
@@ -72,6 +81,7 @@ fn job_answer<R: Threads + Wait + Sync, G: Gate + Sync>(
 ) -> Result<Answer, OutOfMemory>
     ensures answer { IfOk result (λ answer. answer ≡ specs.job_answer command (job_of bytes.now)) }
     ensures below { IfOk result (λ answer. answer.status < 5) }
+    ensures told { IfOk result (λ _. TellsRun (commands.OfJob command) bytes.now) }
 {
     match read_job(alloc, bytes) {
         Ok(job) => answer_by(alloc, rt, command, &job, gate),
@@ -97,6 +107,7 @@ fn no_job(
 }
 
 // the answer to a job
+#[tactic(auto, using(crate::proofs::Outcomes::below_if, crate::proofs::Outcomes::answer_by_below))]
 fn answer_by<R: Threads + Wait + Sync, G: Gate + Sync>(
     alloc: Global,
     rt: &R,
@@ -107,27 +118,11 @@ fn answer_by<R: Threads + Wait + Sync, G: Gate + Sync>(
     requires { KeepsRanges job.now }
     ensures answer { IfOk result (λ answer. answer ≡ specs.answer_by command job.now) }
     ensures below { IfOk result (λ answer. answer.status < 5) }
+    ensures told { IfOk result (λ _. (coded : prelude.List (Option Coded)) → command ≡ variants.Run → coded_from job.now 0 job.now.cores ≡ Ok coded → TellsTasks job.now coded) }
 {
-    match command {
-        JobCommand::OfCode(command) => code_answer(alloc, rt, command, job, gate),
-        JobCommand::Mean => meanings_answer(alloc, job),
-        JobCommand::Pipe => pipe_answer(alloc, job),
+    if !is_taken(command, job) {
+        return fault_answer(alloc, PipeFault::OneCore);
     }
-}
-
-// the answer about the code of a job's tasks
-#[tactic(auto, using(crate::proofs::Outcomes::below_if, crate::proofs::Outcomes::answer_with_below))]
-fn code_answer<R: Threads + Wait + Sync, G: Gate + Sync>(
-    alloc: Global,
-    rt: &R,
-    command: CodeCommand,
-    job: &Job,
-    gate: &G,
-) -> Result<Answer, OutOfMemory>
-    requires { KeepsRanges job.now }
-    ensures answer { IfOk result (λ answer. answer ≡ specs.answer_by (variants.OfCode command) job.now) }
-    ensures below { IfOk result (λ answer. answer.status < 5) }
-{
     match coded_tasks(alloc, job) {
         Ok(coded) => answer_with(alloc, rt, command, job, coded, gate),
         Err(Halt::Refused(refused)) => refusal_answer(alloc, refused),
@@ -135,25 +130,21 @@ fn code_answer<R: Threads + Wait + Sync, G: Gate + Sync>(
     }
 }
 
-// the answer about what the programs of a job's C tasks mean
-#[tactic(auto, using(crate::proofs::Outcomes::below_if))]
-fn meanings_answer(alloc: Global, job: &Job) -> Result<Answer, OutOfMemory>
-    requires { KeepsRanges job.now }
-    ensures answer { IfOk result (λ answer. answer ≡ specs.answer_by variants.Mean job.now) }
-    ensures below { IfOk result (λ answer. answer.status < 5) }
+// `pipe` takes a job of one core with a task alone
+fn is_taken(command: JobCommand, job: &Job) -> bool
+    ensures { result ≡ specs.is_taken command job.now }
 {
-    match meanings(alloc, job) {
-        Ok(text) => Ok(whole(text)),
-        Err(Halt::Refused(refused)) => refusal_answer(alloc, refused),
-        Err(Halt::Memory) => Err(AllocError),
+    match command {
+        JobCommand::Pipe => is_lone(job),
+        _ => true,
     }
 }
 
-// the answer to a job whose tasks have these codes
+// the answer to a job whose tasks are made to these
 fn answer_with<R: Threads + Wait + Sync, G: Gate + Sync>(
     alloc: Global,
     rt: &R,
-    command: CodeCommand,
+    command: JobCommand,
     job: &Job,
     coded: Vec<Option<CodedTask<'_>>>,
     gate: &G,
@@ -161,14 +152,17 @@ fn answer_with<R: Threads + Wait + Sync, G: Gate + Sync>(
     requires ranges { KeepsRanges job.now }
     requires count { length coded.items ≡ job.now.cores }
     requires among { All (IsAmong job.now.cores) coded.items }
-    ensures { IfOk result (λ answer. answer ≡ specs.answer_with command job.now (all_shown coded.entry.items)) }
+    requires made { AreMade job.now (all_shown coded.items) }
+    requires taken { specs.is_taken command job.now ≡ true }
+    ensures answer { IfOk result (λ answer. answer ≡ specs.answer_with command job.now (all_shown coded.entry.items)) }
+    ensures told { IfOk result (λ _. command ≡ variants.Run → TellsTasks job.now (all_shown coded.entry.items)) }
 {
     match command {
-        CodeCommand::Run => {
-            let loaded = loaded_of(alloc, job, coded)?;
-            report_of(alloc, rt, job, &loaded, gate)
-        }
-        CodeCommand::Asm => Ok(whole(listings(alloc, coded.as_slice())?)),
+        JobCommand::Run => report_of(alloc, rt, job, coded, gate),
+        JobCommand::Bound => Ok(whole(bounds_text(alloc, job, &coded)?)),
+        JobCommand::Asm => Ok(whole(listings(alloc, &coded)?)),
+        JobCommand::Mean => Ok(whole(meanings(alloc, job.cycles, &coded)?)),
+        JobCommand::Pipe => pipe_with(alloc, job, coded),
     }
 }
 
@@ -177,15 +171,21 @@ fn report_of<R: Threads + Wait + Sync, G: Gate + Sync>(
     alloc: Global,
     rt: &R,
     job: &Job,
-    loaded: &Loaded,
+    coded: Vec<Option<CodedTask<'_>>>,
     gate: &G,
 ) -> Result<Answer, OutOfMemory>
-    requires { KeepsRanges job.now }
-    ensures { IfOk result (λ answer. (cores : prelude.List state.Core) → IsLoadedFor job.now cores loaded.now
-        → answer ≡ specs.report_of job.now cores) }
+    requires ranges { KeepsRanges job.now }
+    requires count { length coded.items ≡ job.now.cores }
+    requires among { All (IsAmong job.now.cores) coded.items }
+    requires made { AreMade job.now (all_shown coded.items) }
+    ensures answer { IfOk result (λ answer. answer ≡ specs.report_of job.now (all_shown coded.entry.items)) }
+    ensures told { IfOk result (λ _. TellsTasks job.now (all_shown coded.entry.items)) }
 {
-    let end = run_machine(alloc, rt, loaded, gate)?;
-    let rows = rows_of(alloc, end.cores.as_slice())?;
+    machine_keeps_ranges();
+    let (loaded, tasks) = loaded_of(alloc, job, coded)?;
+    loaded_with_words(&loaded);
+    let end = run_machine(alloc, rt, &loaded, gate)?;
+    let rows = rows_of(alloc, end.cores.as_slice(), &tasks)?;
     reported(alloc, job, rows)
 }
 

@@ -1,7 +1,9 @@
-ghost use Rattle.std.specs.Prelude.{◌≡◌, ℕ, ◌<◌, ◌↔◌, false, List, [], ◌∷◌, length, map, codes};
+ghost use Rattle.std.specs.Prelude.{◌≡◌, ℕ, ◌<◌, ◌≤◌, ◌↔◌, false, List, [], ◌∷◌, Ok, length, map, codes};
+ghost use Rattle.std.specs.List.{AllByRecursion as Each};
 ghost use Rattle.patmos_model.specs.State.{Core};
 ghost use Rattle.global_step.specs.Loaded.{Machine};
 ghost use Rattle.global_step.specs.Machine.{at_limit};
+ghost use Rattle.tc_job.specs.Job.{job_of};
 ghost use Rattle.tc_job.specs.declared.job.Job.{Job as JobParts};
 ghost use Rattle.c_meaning.specs.Small as small;
 ghost use Rattle.c_tree.specs.declared.tokens.Token.{Token};
@@ -10,13 +12,12 @@ ghost use Rattle.c_tree.specs.Reading.{IsReading};
 ghost use Rattle.c_parse.proofs.Reading.{tree_of};
 ghost use Rattle.tc_report.specs.Line.{line};
 ghost use Rattle.tc_report.specs.declared.rows.RowState.TheVariants.{Limit, Done};
-ghost use Rattle.tcrest.specs.declared.command.Command.TheVariants.{OfInput, Usage};
-ghost use Rattle.tcrest.specs.declared.command.InputCommand.{InputCommand};
-ghost use Rattle.tcrest.specs.declared.command.InputCommand.TheVariants.{Job, Grid};
-ghost use Rattle.tcrest.specs.declared.command.JobCommand.TheVariants.{OfCode, Mean, Pipe};
-ghost use Rattle.tcrest.specs.declared.command.CodeCommand.TheVariants.{Run, Asm};
+ghost use Rattle.tcrest.specs.declared.command.Command.{Command};
+ghost use Rattle.tcrest.specs.declared.command.Command.TheVariants.{OfJob, Grid, Usage};
+ghost use Rattle.tcrest.specs.declared.command.JobCommand.TheVariants.{Run, Bound, Asm, Mean, Pipe};
 ghost use Rattle.tcrest.specs.Answer.{answer, bytes_answer, text_fault_number, too_long, usage};
 ghost use Rattle.tcrest.specs.Command.{command_of};
+ghost use Rattle.tcrest.specs.Complete.{HasCode, IsWhole};
 ghost use Rattle.tcrest.specs.Loading.{IsLoadedFor};
 ghost use Rattle.tcrest.specs.Machine.{machine_of};
 ghost use Rattle.tcrest.specs.Meanings.{program_lines};
@@ -32,14 +33,23 @@ use crate::top::MOST_BYTES;
 pub fn refusals_in_order()
     // Status 1 comes exactly where the words are no command.
     ensures usage { (words : List (List ℕ)) (bytes : List ℕ) → ((answer words bytes).status ≡ 1) ↔ (command_of words ≡ Usage) }
-    ensures run { (words : List (List ℕ)) → (command_of words ≡ OfInput (Job (OfCode Run))) ↔ (words ≡ codes "run" ∷ []) }
-    ensures asm { (words : List (List ℕ)) → (command_of words ≡ OfInput (Job (OfCode Asm))) ↔ (words ≡ codes "asm" ∷ []) }
-    ensures mean { (words : List (List ℕ)) → (command_of words ≡ OfInput (Job Mean)) ↔ (words ≡ codes "mean" ∷ []) }
-    ensures pipe { (words : List (List ℕ)) → (command_of words ≡ OfInput (Job Pipe)) ↔ (words ≡ codes "pipe" ∷ []) }
-    ensures grid { (words : List (List ℕ)) → (command_of words ≡ OfInput Grid) ↔ (words ≡ codes "grid" ∷ []) }
+    ensures run { (words : List (List ℕ)) → (command_of words ≡ OfJob Run) ↔ (words ≡ codes "run" ∷ []) }
+    ensures bound { (words : List (List ℕ)) → (command_of words ≡ OfJob Bound) ↔ (words ≡ codes "bound" ∷ []) }
+    ensures asm { (words : List (List ℕ)) → (command_of words ≡ OfJob Asm) ↔ (words ≡ codes "asm" ∷ []) }
+    ensures mean { (words : List (List ℕ)) → (command_of words ≡ OfJob Mean) ↔ (words ≡ codes "mean" ∷ []) }
+    ensures pipe { (words : List (List ℕ)) → (command_of words ≡ OfJob Pipe) ↔ (words ≡ codes "pipe" ∷ []) }
+    ensures grid { (words : List (List ℕ)) → (command_of words ≡ Grid) ↔ (words ≡ codes "grid" ∷ []) }
 
     // A text is too long exactly where it has more than `MOST_BYTES` bytes.
-    ensures too_long { (command : InputCommand) (bytes : List ℕ) → (bytes_answer command bytes ≡ too_long) ↔ (MOST_BYTES < length bytes) }
+    ensures too_long { (command : Command) (bytes : List ℕ) → (bytes_answer command bytes ≡ too_long) ↔ (MOST_BYTES < length bytes) }
+{}
+
+/// A job is reported whole under `run`, where its bytes are not too many and each of its tasks has code: nothing else is
+/// answered. A law: it does nothing.
+#[tactic(auto, using(crate::proofs::Complete::reported_whole))]
+pub fn jobs_with_code_are_reported()
+    ensures { (bytes : List ℕ) (job : JobParts) → length bytes ≤ MOST_BYTES → job_of bytes ≡ Ok job → Each (HasCode job) job.tasks
+        → IsWhole job (answer (codes "run" ∷ []) bytes) }
 {}
 
 /// The trees that the answer speaks of are a reading: those of programs are the ones that they are written by, and

@@ -9,10 +9,9 @@ use tc_io::{put_hex8, put_number};
 use tc_report::put_core_name;
 use tc_word::OutOfMemory;
 
-/// The listings of the tasks of cores, in the order of the cores.
-#[tactic(auto, using(crate::proofs::Listings::next_listing, crate::proofs::Listings::all_listed))]
+/// The listings of the assembly tasks of cores, in the order of the cores.
 pub fn listings(alloc: Global, coded: &[Option<CodedTask<'_>>]) -> Result<Vec<u8>, OutOfMemory>
-    ensures { IfOk result (λ text. text.items ≡ specs.listings 0 (all_shown coded.now)) }
+    ensures { IfOk result (λ text. text.items ≡ specs.listings (all_shown coded.now)) }
 {
     let mut text = Vec::new(alloc);
     for (core, one) in coded.iter().enumerate() {
@@ -21,7 +20,7 @@ pub fn listings(alloc: Global, coded: &[Option<CodedTask<'_>>]) -> Result<Vec<u8
     Ok(text)
 }
 
-// the listing of a core's task, if it has one
+// the listing of a core's task, if it has one in assembly
 fn put_listing_on(
     text: &mut Vec<u8>,
     core: u64,
@@ -29,9 +28,12 @@ fn put_listing_on(
 ) -> Result<(), OutOfMemory>
     ensures { OnOk result (text.new.items ≡ text.old.items ++ specs.listing_on core (shown coded.now)) }
 {
-    match coded {
-        Some(one) => put_listing(text, core, one.code.words()),
-        None => Ok(()),
+    let Some(coded) = coded else {
+        return Ok(());
+    };
+    match &coded.made.program {
+        Some(_) => Ok(()),
+        None => put_listing(text, core, coded.made.image.words()),
     }
 }
 

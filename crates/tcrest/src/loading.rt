@@ -1,77 +1,88 @@
 ghost use Rattle.std.specs.Prelude.{◌≡◌, ℕ, List, Option, All, ◌<◌, ◌≤◌, length, map, IfOk, IfSome};
 ghost use Rattle.patmos_code.specs.Images.{Parts};
 ghost use Rattle.patmos_model.specs.Apart.{site_of};
+ghost use Rattle.patmos_model.specs.Begin.{begun};
 ghost use Rattle.tc_job.specs.Ranges.{KeepsRanges, IsTaskAmong};
 ghost use Rattle.global_step.specs.Machine.{first_core};
 ghost use Rattle.global_step.specs.Loaded.{AreOnePlatform};
 ghost use Rattle.tcrest.specs.Machine as specs;
-ghost use Rattle.tcrest.specs.Coding.{coded_of, shown, all_shown, IsAmong};
+ghost use Rattle.tcrest.specs.Coding.{runs, shown, all_shown, IsAmong};
 ghost use Rattle.tcrest.specs.Loading.{IsLoadedFor, IsPlaced};
+ghost use Rattle.tcrest.specs.Tasks.{runs_on};
 
-use crate::tasks::CodedTask;
+use crate::tasks::{CodedTask, CoreTask};
 use global_step::{Loaded, LoadedCore};
-use patmos_asm::image_of;
+use patmos_code::Image;
 use slot_arbiter::{LATEST_START, Place, Table};
 use std::alloc::Global;
-use tc_job::Job;
+use tc_job::{Job, Task};
 use tc_word::{List, OutOfMemory};
 
-/// The machine of a job whose tasks have these codes, one of which may stand for each core.
+/// The machine of a job whose tasks are made to these, one of which may stand for each core, and what each core runs.
 pub fn loaded_of(
     alloc: Global,
     job: &Job,
     coded: Vec<Option<CodedTask<'_>>>,
-) -> Result<Loaded, OutOfMemory>
+) -> Result<(Loaded, Vec<CoreTask>), OutOfMemory>
     requires ranges { KeepsRanges job.now }
     requires count { length coded.items ≡ job.now.cores }
     requires among { All (IsAmong job.now.cores) coded.items }
-    ensures { IfOk result (IsLoadedFor job.now (specs.cores_from job.now 0 (all_shown coded.entry.items))) }
+    ensures tasks { IfOk result (λ r. length r.1.items ≡ job.now.cores) }
+    ensures loaded { IfOk result (λ r. IsLoadedFor job.now (specs.cores_from job.now 0 (all_shown coded.entry.items)) r.0) }
+    ensures runs { IfOk result (λ r. map runs r.1.items ≡ map runs_on (all_shown coded.entry.items)) }
 {
-    let cores = List::of(cores_of(alloc, job, coded)?);
-    match Loaded::new(cores, job.cycles, job.trace, job.workers) {
-        Some(loaded) => Ok(loaded),
+    let (cores, tasks) = cores_of(alloc, job, coded)?;
+    match Loaded::new(List::of(cores), job.cycles, job.trace, job.workers) {
+        Some(loaded) => Ok((loaded, tasks)),
         None => unreachable!(),
     }
 }
 
-// its cores
+// its cores, and what each runs
 fn cores_of(
     alloc: Global,
     job: &Job,
     coded: Vec<Option<CodedTask<'_>>>,
-) -> Result<Vec<LoadedCore>, OutOfMemory>
+) -> Result<(Vec<LoadedCore>, Vec<CoreTask>), OutOfMemory>
     requires ranges { KeepsRanges job.now }
     requires count { length coded.items ≡ job.now.cores }
     requires among { All (IsAmong job.now.cores) coded.items }
-    ensures cores { IfOk result (λ cores. map first_core cores.items ≡ specs.cores_from job.now 0 (all_shown coded.entry.items)) }
-    ensures count { IfOk result (λ cores. length cores.items ≡ job.now.cores) }
-    ensures platform { IfOk result (λ cores. AreOnePlatform cores.items) }
+    ensures cores { IfOk result (λ r. map first_core r.0.items ≡ specs.cores_from job.now 0 (all_shown coded.entry.items)) }
+    ensures count { IfOk result (λ r. length r.0.items ≡ job.now.cores) }
+    ensures tasks { IfOk result (λ r. length r.1.items ≡ job.now.cores) }
+    ensures platform { IfOk result (λ r. AreOnePlatform r.0.items) }
+    ensures runs { IfOk result (λ r. map runs r.1.items ≡ map runs_on (all_shown coded.entry.items)) }
 {
     let mut cores = Vec::new(alloc);
+    let mut tasks = Vec::new(alloc);
     for one in coded {
         let core = cores.len() as u32;
-        cores.push(core_with(alloc, job, core, one)?)?;
+        let (loaded, task) = core_with(alloc, job, core, one)?;
+        cores.push(loaded)?;
+        tasks.push(task)?;
     }
-    Ok(cores)
+    Ok((cores, tasks))
 }
 
-// a core with its task, if it has one
+// a core with its task, if it has one, and what it runs
 fn core_with(
     alloc: Global,
     job: &Job,
     core: u32,
     coded: Option<CodedTask<'_>>,
-) -> Result<LoadedCore, OutOfMemory>
+) -> Result<(LoadedCore, CoreTask), OutOfMemory>
     requires ranges { KeepsRanges job.now }
     requires number { core < job.now.cores }
     requires among { IsAmong job.now.cores coded }
-    ensures core { IfOk result (λ l. first_core l ≡ specs.core_with job.now core (shown coded.entry)) }
-    ensures placed { IfOk result (IsPlaced job.now core) }
+    ensures core { IfOk result (λ r. first_core r.0 ≡ specs.core_with job.now core (shown coded.entry)) }
+    ensures placed { IfOk result (λ r. IsPlaced job.now core r.0) }
+    ensures runs { IfOk result (λ r. runs r.1 ≡ runs_on (shown coded.entry)) }
 {
-    match coded {
-        Some(coded) => begun_on(alloc, job, core, coded),
-        None => Ok(idle_on(alloc, job, core)),
-    }
+    let Some(CodedTask { task, made }) = coded else {
+        return Ok((idle_on(alloc, job, core), CoreTask::Idle));
+    };
+    let loaded = begun_on(alloc, job, core, task, made.image)?;
+    Ok((loaded, CoreTask::of(made.program)))
 }
 
 // a core without a task
@@ -88,24 +99,24 @@ fn idle_on(alloc: Global, job: &Job, core: u32) -> LoadedCore
     }
 }
 
-// a core with its task
+// a core with a task of this image
 fn begun_on(
     alloc: Global,
     job: &Job,
     core: u32,
-    coded: CodedTask<'_>,
+    task: &Task,
+    image: Image,
 ) -> Result<LoadedCore, OutOfMemory>
     requires ranges { KeepsRanges job.now }
     requires number { core < job.now.cores }
-    requires task { IsTaskAmong job.now.cores coded.task.now }
-    ensures core { IfOk result (λ l. first_core l ≡ specs.begun_on job.now core (coded_of coded.entry)) }
+    requires task { IsTaskAmong job.now.cores task.now }
+    ensures core { IfOk result (λ l. first_core l ≡ begun (specs.site_on job.now core task.now.start image) task.now.input) }
     ensures placed { IfOk result (IsPlaced job.now core) }
 {
-    let CodedTask { task, code } = coded;
     let input = List::of(Vec::from_slice(alloc, task.input.as_slice())?);
     Ok(LoadedCore {
         place: place_of(job, core, task.start),
-        image: Some(image_of(code)),
+        image: Some(image),
         input,
     })
 }
@@ -119,6 +130,8 @@ pub fn place_of(job: &Job, core: u32, start: u64) -> Place
     ensures site { (image : Parts) → site_of result image ≡ specs.site_on job.now core start image }
     ensures cores { result.cores ≡ job.now.cores }
     ensures core { result.core ≡ core }
+    ensures slot { result.slot ≡ job.now.slot }
+    ensures table { result.table ≡ job.now.table }
     ensures placed { (image : Option Parts) (input : List ℕ) → IsPlaced job.now core (record { place = result; image = image; input = input }) }
 {
     let Some(table) = Table::new(job.table.as_slice(), job.cores) else {

@@ -8,13 +8,14 @@
 #![tactic(auto)]
 
 mod answers;
+mod bounds;
 mod command;
 mod laws;
 mod listing;
 mod loading;
 mod meanings;
+mod output;
 mod pipe;
-mod programs;
 mod refusal;
 mod rows;
 mod tasks;

@@ -4,27 +4,26 @@ ghost use Rattle.patmos_model.specs.Begin.{begun};
 ghost use Rattle.patmos_model.specs.State.{Core};
 ghost use Rattle.pipe_five.specs.Pipe.{StandsFor, IsThrough, limit_of};
 ghost use Rattle.pipe_five.specs.Steps.{done_below};
-ghost use Rattle.tc_job.specs.Ranges.{KeepsRanges, IsTaskAmong};
+ghost use Rattle.tc_job.specs.Ranges.{KeepsRanges};
 ghost use Rattle.tcrest.specs.Answer as answers;
 ghost use Rattle.tc_report.specs.Report.{state_line};
-ghost use Rattle.tcrest.specs.Coding.{coded_of, shown, all_shown, IsAmong};
-ghost use Rattle.tcrest.specs.Machine.{begun_on};
+ghost use Rattle.tcrest.specs.Coding.{runs, shown, all_shown, IsAmong};
 ghost use Rattle.tcrest.specs.Pipe as specs;
 ghost use Rattle.tcrest.specs.Rows as rows_specs;
-ghost use Rattle.tcrest.specs.declared.command.JobCommand.TheVariants as variants;
 
 use crate::answers::Answer;
 use crate::loading::place_of;
-use crate::refusal::{Halt, refusal_answer};
-use crate::rows::{period_of, row_state, status_of};
-use crate::tasks::{CodedTask, coded_tasks};
-use patmos_asm::image_of;
+use crate::rows::{all_running, is_flagged, period_of, row_state, status_of};
+use crate::tasks::{CodedTask, CoreTask};
+use c_mentions::is_alone;
 use patmos_code::Image;
+use patmos_core::CoreState;
 use pipe_five::{Beat, PipeCore};
 use slot_arbiter::{MOST_CYCLES, Place};
-use std::alloc::{AllocError, Global};
+use std::alloc::Global;
+use std::slice;
 use tc_job::Job;
-use tc_report::{Row, RowState, put_platform_line, put_state_line, put_step_line};
+use tc_report::{Row, put_platform_line, put_state_line, put_step_line};
 use tc_word::{List, OutOfMemory};
 
 /// Why `pipe` refuses a job that other commands take.
@@ -54,32 +53,15 @@ impl PipeFault {
     }
 }
 
-/// The answer about the five stages of a job's only core.
-#[tactic(auto, using(crate::proofs::Outcomes::below_if, crate::proofs::Outcomes::pipe_with_below))]
-pub fn pipe_answer(alloc: Global, job: &Job) -> Result<Answer, OutOfMemory>
-    requires { KeepsRanges job.now }
-    ensures answer { IfOk result (λ answer. answer ≡ answers.answer_by variants.Pipe job.now) }
-    ensures below { IfOk result (λ answer. answer.status < 5) }
-{
-    if !is_lone(job) {
-        return fault_answer(alloc, PipeFault::OneCore);
-    }
-    match coded_tasks(alloc, job) {
-        Ok(coded) => pipe_with(alloc, job, coded),
-        Err(Halt::Refused(refused)) => refusal_answer(alloc, refused),
-        Err(Halt::Memory) => Err(AllocError),
-    }
-}
-
-// the job has one core, and a task
-fn is_lone(job: &Job) -> bool
+/// Whether the job has one core, and a task.
+pub fn is_lone(job: &Job) -> bool
     ensures { result ≡ specs.is_lone job.now }
 {
     job.cores == 1 && !job.tasks.as_slice().is_empty()
 }
 
-// the answer to a job that `pipe` refuses
-fn fault_answer(alloc: Global, fault: PipeFault) -> Result<Answer, OutOfMemory>
+/// The answer to a job that `pipe` refuses.
+pub fn fault_answer(alloc: Global, fault: PipeFault) -> Result<Answer, OutOfMemory>
     ensures { IfOk result (λ answer. answer ≡ answers.no_pipe fault) }
 {
     let mut text = Vec::new(alloc);
@@ -90,8 +72,8 @@ fn fault_answer(alloc: Global, fault: PipeFault) -> Result<Answer, OutOfMemory>
     Ok(Answer { status: 2, text })
 }
 
-// the answer to a job whose only core has this code, if it has one
-fn pipe_with(
+/// The answer about the five stages of the only core of a job, whose task is made, if it has one.
+pub fn pipe_with(
     alloc: Global,
     job: &Job,
     coded: Vec<Option<CodedTask<'_>>>,
@@ -117,41 +99,33 @@ fn core_answer(
     requires among { IsAmong job.now.cores coded }
     ensures { IfOk result (λ answer. answer ≡ answers.pipe_with job.now (shown coded.entry ∷ [])) }
 {
-    match coded {
-        Some(coded) => task_answer(alloc, job, coded),
-        None => fault_answer(alloc, PipeFault::OneCore),
-    }
-}
-
-// the answer to a job whose only core has this task
-fn task_answer(alloc: Global, job: &Job, coded: CodedTask<'_>) -> Result<Answer, OutOfMemory>
-    requires ranges { KeepsRanges job.now }
-    requires lone { job.now.cores ≡ 1 }
-    requires task { IsTaskAmong job.now.cores coded.task.now }
-    ensures { IfOk result (λ answer. answer ≡ specs.pipe_of job.now (begun_on job.now 0 (coded_of coded.entry))) }
-{
-    let CodedTask { task, code } = coded;
+    let Some(CodedTask { task, made }) = coded else {
+        return fault_answer(alloc, PipeFault::OneCore);
+    };
     let place = place_of(job, 0, task.start);
-    stages_answer(alloc, job, place, &image_of(code), task.input.as_slice())
+    let runs = CoreTask::of(made.program);
+    stages_answer(alloc, job, place, &made.image, task.input.as_slice(), &runs)
 }
 
-// the answer about a task that begins so
+// the answer about a task that begins so, and what its core runs
 fn stages_answer(
     alloc: Global,
     job: &Job,
     place: Place,
     image: &Image,
     input: &[u32],
+    task: &CoreTask,
 ) -> Result<Answer, OutOfMemory>
     requires ranges { KeepsRanges job.now }
     requires alone { place.cores ≡ 1 }
-    ensures { IfOk result (λ answer. answer ≡ specs.pipe_of job.now (begun (site_of place image.now) input.now)) }
+    ensures { IfOk result (λ answer. answer ≡ specs.pipe_of job.now (runs task.now) (begun (site_of place image.now) input.now)) }
 {
     let mut core = PipeCore::new(alloc, place, image, input)?;
     let mut text = Vec::new(alloc);
     put_platform_line(&mut text, job.cores, job.slot, period_of(job))?;
     put_steps(&mut text, &mut core, job.cycles, job.trace)?;
-    ended(alloc, text, row_state(core.state()))
+    let row = end_row(alloc, task, core.state())?;
+    ended(alloc, text, row)
 }
 
 // the steps below a limit, of which the first so many are told
@@ -182,16 +156,13 @@ fn put_steps(
     Ok(())
 }
 
-// the answer behind the steps, by what became of the task
-fn ended(alloc: Global, text: Vec<u8>, state: RowState) -> Result<Answer, OutOfMemory>
-    ensures { IfOk result (λ answer. answer ≡ record {
-      status = rows_specs.status_of (specs.row_in state ∷ []);
-      text = text.items ++ state_line 0 (specs.row_in state);
-    }) }
+// the row of the core, of which the line of its state alone is told
+fn end_row(alloc: Global, task: &CoreTask, state: CoreState) -> Result<Row, OutOfMemory>
+    ensures { IfOk result (λ row. row ≡ specs.told_row (runs task.now) state) }
 {
-    let mut text = text;
+    let all = all_running(alloc, slice::from_ref(task))?;
     let row = Row {
-        state,
+        state: row_state(state),
         bound: None,
         alone: false,
         overrun: false,
@@ -200,6 +171,26 @@ fn ended(alloc: Global, text: Vec<u8>, state: RowState) -> Result<Answer, OutOfM
         dropped: 0,
         accesses: List::of(Vec::new(alloc)),
     };
+    match task {
+        CoreTask::Idle => Ok(row),
+        CoreTask::Assembly => Ok(row),
+        CoreTask::C(program) => Ok(Row {
+            bound: Some(program.bound),
+            alone: is_alone(0, &all),
+            overrun: is_flagged(state),
+            ..row
+        }),
+    }
+}
+
+// the answer behind the steps
+fn ended(alloc: Global, text: Vec<u8>, row: Row) -> Result<Answer, OutOfMemory>
+    ensures { IfOk result (λ answer. answer ≡ record {
+      status = rows_specs.status_of (row ∷ []);
+      text = text.items ++ state_line 0 row;
+    }) }
+{
+    let mut text = text;
     put_state_line(&mut text, 0, &row)?;
     let rows = vec![in alloc; row]?;
     let status = status_of(rows.as_slice());

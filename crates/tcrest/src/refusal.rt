@@ -3,6 +3,10 @@ ghost use Rattle.tcrest.specs.Tasks as specs;
 ghost use Rattle.tcrest.specs.Answer as answers;
 
 use crate::answers::Answer;
+use c_check::CheckError;
+use c_compile::CompileFault;
+use c_lex::LexFault;
+use c_parse::ParseFault;
 use c_tree::{CheckFault, Fault};
 use patmos_asm::{AsmFault, AsmKind};
 use std::alloc::Global;
@@ -23,8 +27,28 @@ pub enum Refusal {
     Syntax { at: u32 },
     /// It is a program that breaks a rule: its least fault.
     Invalid(Fault),
-    /// It can't be taken yet.
-    Later,
+    /// It is a valid program that may take more cycles than a bound may have.
+    Long,
+}
+
+impl From<CompileFault> for Halt<Refusal> {
+    ghost use Rattle.std.specs.Prelude.{◌≡◌};
+    ghost use Rattle.tcrest.specs.Gives.{of_fault};
+
+    ghost from_gives = { λ fault halt. halt ≡ of_fault fault };
+
+    fn from(fault: CompileFault) -> Halt<Refusal> {
+        match fault {
+            CompileFault::Lex(LexFault::Char { at }) => Halt::Refused(Refusal::Char { at }),
+            CompileFault::Lex(LexFault::Wide { at }) => Halt::Refused(Refusal::Wide { at }),
+            CompileFault::Parse(ParseFault::Syntax { at }) => Halt::Refused(Refusal::Syntax { at }),
+            CompileFault::Check(CheckError::Fault { kind, at }) => {
+                Halt::Refused(Refusal::Invalid(Fault { at, kind }))
+            }
+            CompileFault::Long => Halt::Refused(Refusal::Long),
+            _ => Halt::Memory,
+        }
+    }
 }
 
 /// Why a job is refused for the task of a core.
@@ -69,7 +93,7 @@ fn put_refusal(text: &mut Vec<u8>, refusal: Refusal) -> Result<(), OutOfMemory>
     ensures { OnOk result (text.new.items ≡ text.old.items ++ specs.refusal_text refusal) }
 {
     match refusal {
-        Refusal::Later => text.extend_from_slice(b"Later"),
+        Refusal::Long => text.extend_from_slice(b"Long"),
         Refusal::Char { at } => put_place(text, b"Char", at),
         Refusal::Wide { at } => put_place(text, b"Wide", at),
         Refusal::Syntax { at } => put_place(text, b"Syntax", at),

@@ -1,13 +1,22 @@
-ghost use Rattle.std.specs.Prelude.{◌≡◌, ℕ, ◌+◌, ◌^◌, ◌<◌, ◌≤◌, length, IfOk};
+ghost use Rattle.std.specs.Prelude.{◌≡◌, ℕ, ◌+◌, ◌^◌, ◌<◌, ◌≤◌, length, map, IfOk, Some};
 ghost use Rattle.std.specs.List.{list_any};
 ghost use Rattle.slot_arbiter.specs.Slot.{period};
 ghost use Rattle.tc_report.specs.Report.{report_text};
 ghost use Rattle.tc_job.specs.Ranges.{KeepsRanges};
 ghost use Rattle.global_step.specs.Loaded.{Machine};
+ghost use Rattle.global_step.specs.Machine as machine;
 ghost use Rattle.global_step.specs.Machine.{at_limit};
+ghost use Rattle.c_mentions.specs.Tasks.{running as mentioned};
+ghost use Rattle.c_tree.specs.Plain.{plain};
 ghost use Rattle.tc_run.specs.Final.{IsFinalCore, AreFinal};
+ghost use Rattle.tcrest.specs.Coding.{runs};
+ghost use Rattle.tcrest.specs.Meanings.{output_slot};
 ghost use Rattle.tcrest.specs.Rows as specs;
 
+use crate::output::{Output, output_in};
+use crate::tasks::{CoreTask, Program};
+use c_mentions as mentions;
+use c_mentions::is_alone;
 use patmos_core::{Core, CoreState};
 use std::alloc::Global;
 use tc_job::Job;
@@ -15,22 +24,71 @@ use tc_report::{Row, RowState, Rows, report};
 use tc_run::{accesses_of, dropped_of, outcome_of};
 use tc_word::{List, OutOfMemory};
 
-/// The rows of the cores of a machine at its limit.
-pub fn rows_of(alloc: Global, cores: &[Core]) -> Result<Vec<Row>, OutOfMemory>
+/// The rows of the cores of a machine at its limit, which run these tasks.
+pub fn rows_of(alloc: Global, cores: &[Core], tasks: &[CoreTask]) -> Result<Vec<Row>, OutOfMemory>
+    requires few { length cores.now ≤ 16 }
+    requires count { length tasks.now ≡ length cores.now }
     ensures { IfOk result (λ rows. (m : Machine) → AreFinal m cores.now
-        → rows.items ≡ specs.rows_of (length m.cores) m.limit m.trace (at_limit m)) }
+        → rows.items ≡ specs.rows_of m.limit m.trace (map runs tasks.now) (at_limit m)) }
 {
+    let all = all_running(alloc, tasks)?;
     let mut rows = Vec::new(alloc);
-    for core in cores {
-        rows.push(row_of(alloc, core)?)?;
+    for number in 0..cores.len() {
+        rows.push(row_of(alloc, &all, number, &tasks[number], &cores[number])?)?;
     }
     Ok(rows)
 }
 
-// the row of one of them
-fn row_of(alloc: Global, core: &Core) -> Result<Row, OutOfMemory>
+/// What all cores run, as far as their data is concerned.
+pub fn all_running<'a>(
+    alloc: Global,
+    tasks: &'a [CoreTask],
+) -> Result<Vec<mentions::Task<'a>>, OutOfMemory>
+    ensures { IfOk result (λ all. map mentioned all.items ≡ map specs.running (map runs tasks.now)) }
+{
+    let mut all = Vec::new(alloc);
+    for task in tasks {
+        all.push(running(task))?;
+    }
+    Ok(all)
+}
+
+fn running(task: &CoreTask) -> mentions::Task<'_>
+    ensures { mentioned result ≡ specs.running (runs task.now) }
+{
+    match task {
+        CoreTask::Idle => mentions::Task::Idle,
+        CoreTask::Assembly => mentions::Task::Assembly,
+        CoreTask::C(program) => mentions::Task::Program {
+            program: mentions::Program::of(&program.checked.unit),
+        },
+    }
+}
+
+// the row of one of them, among what all run
+fn row_of(
+    alloc: Global,
+    all: &[mentions::Task<'_>],
+    number: usize,
+    task: &CoreTask,
+    core: &Core,
+) -> Result<Row, OutOfMemory>
+    requires few { number < 16 }
     ensures { IfOk result (λ row. (m : Machine) (k : ℕ) → IsFinalCore m k core.now
-        → row ≡ specs.row_of m.limit m.trace ((at_limit m).cores k)) }
+        → row ≡ specs.row_of m.limit m.trace (map mentioned all.now) number (runs task.now) ((at_limit m).cores k)) }
+{
+    let row = plain_row(alloc, core)?;
+    match task {
+        CoreTask::Idle => Ok(row),
+        CoreTask::Assembly => Ok(row),
+        CoreTask::C(program) => with_program(alloc, row, is_alone(number, all), program, core),
+    }
+}
+
+// the row of a core without a program
+fn plain_row(alloc: Global, core: &Core) -> Result<Row, OutOfMemory>
+    ensures { IfOk result (λ row. (m : Machine) (k : ℕ) → IsFinalCore m k core.now
+        → row ≡ specs.plain_row m.limit m.trace ((at_limit m).cores k)) }
 {
     let accesses = Vec::from_slice(alloc, accesses_of(core))?;
     Ok(Row {
@@ -43,6 +101,44 @@ fn row_of(alloc: Global, core: &Core) -> Result<Row, OutOfMemory>
         dropped: dropped_of(core),
         accesses: List::of(accesses),
     })
+}
+
+// the row with what is told of a program besides
+fn with_program(
+    alloc: Global,
+    row: Row,
+    alone: bool,
+    program: &Program,
+    core: &Core,
+) -> Result<Row, OutOfMemory>
+    ensures { IfOk result (λ told. (m : Machine) (k : ℕ) → IsFinalCore m k core.now
+        → told ≡ record row {
+          bound = Some program.now.bound;
+          alone = alone;
+          overrun = specs.is_flagged (machine.outcome_of m k);
+          outs = specs.words_out (specs.own_world ((at_limit m).cores k).plain) (output_slot (plain program.now.checked.unit));
+          outs_unsigned = specs.is_unsigned_out (output_slot (plain program.now.checked.unit));
+        }) }
+{
+    let Output { words, unsigned } = output_in(alloc, &program.checked, core)?;
+    Ok(Row {
+        bound: Some(program.bound),
+        alone,
+        overrun: is_flagged(outcome_of(core)),
+        outs: words,
+        outs_unsigned: unsigned,
+        ..row
+    })
+}
+
+/// Whether a done task's flag is set.
+pub fn is_flagged(outcome: CoreState) -> bool
+    ensures { result ≡ specs.is_flagged outcome }
+{
+    match outcome {
+        CoreState::Done { flag, .. } => flag != 0,
+        _ => false,
+    }
 }
 
 /// What became of a task.

@@ -1,34 +1,74 @@
-ghost use Rattle.std.specs.Prelude.{◌≡◌, All, IfOk, IfSome, length, option_map};
+ghost use Rattle.std.specs.Prelude.{◌≡◌, All, None, IfOk, IfSome, length, option_map};
+ghost use Rattle.std.specs.List.{AllByRecursion as Each};
+ghost use Rattle.patmos_model.specs.Range.{IsWord};
 ghost use Rattle.patmos_asm.specs.Assembly.{code_of};
 ghost use Rattle.tc_job.specs.Ranges.{KeepsRanges, IsTaskAmong};
 ghost use Rattle.tcrest.specs.Tasks as specs;
-ghost use Rattle.tcrest.specs.Coding.{shown, all_shown, IsAmong};
+ghost use Rattle.tcrest.specs.Coding.{bounded, made_of, runs, shown, all_shown, IsAmong};
 ghost use Rattle.tcrest.specs.Gives.{Gives};
+ghost use Rattle.tcrest.specs.Telling.{IsCompiled, IsMadeOn, AreMade};
 
-use crate::programs::program_of;
+use crate::loading::place_of;
 use crate::refusal::{CoreRefusal, Halt, Refusal};
-use patmos_asm::{AsmError, Code, assemble};
+use c_compile::compile;
+use c_tree::Checked;
+use patmos_asm::{AsmError, Code, assemble, image_of};
+use patmos_code::Image;
 use std::alloc::Global;
 use tc_job::{Job, Lang, Task};
 
-/// A task and its code.
+/// A C program, and how many cycles it takes at most on its core.
+#[derive(Drop)]
+pub struct Program {
+    pub checked: Checked,
+    pub bound: u64,
+}
+
+/// What a task is made to: an image, and the program of a C task.
+#[derive(Drop)]
+pub struct MadeTask {
+    pub image: Image,
+    pub program: Option<Program>,
+}
+
+/// A task and what it is made to.
 #[derive(Drop)]
 pub struct CodedTask<'a> {
     pub task: &'a Task,
-    pub code: Code,
+    pub made: MadeTask,
 }
 
-/// The tasks of a job with their codes, by the numbers of their cores: one pass over the cores, which the first
-/// refused task ends.
+/// What a core runs, as far as its report is concerned.
+#[derive(Drop)]
+pub enum CoreTask {
+    Idle,
+    Assembly,
+    C(Program),
+}
+
+impl CoreTask {
+    /// What a core with such a program runs.
+    pub fn of(program: Option<Program>) -> CoreTask
+        ensures { runs result ≡ specs.runs_by (option_map bounded program) }
+    {
+        match program {
+            Some(program) => CoreTask::C(program),
+            None => CoreTask::Assembly,
+        }
+    }
+}
+
+/// The tasks of a job, each made, by the numbers of their cores: one pass over the cores, which the first refused task
+/// ends.
 pub fn coded_tasks(
     alloc: Global,
     job: &Job,
 ) -> Result<Vec<Option<CodedTask<'_>>>, Halt<CoreRefusal>>
     requires { KeepsRanges job.now }
-    ensures coded { Gives (λ coded. all_shown coded.items) result
-        (specs.coded_from job.now.cores job.now.tasks 0 job.now.cores) }
+    ensures coded { Gives (λ coded. all_shown coded.items) result (specs.coded_from job.now 0 job.now.cores) }
     ensures count { IfOk result (λ coded. length coded.items ≡ job.now.cores) }
     ensures among { IfOk result (λ coded. All (IsAmong job.now.cores) coded.items) }
+    ensures made { IfOk result (λ coded. AreMade job.now (all_shown coded.items)) }
 {
     let mut coded = Vec::new(alloc);
     for core in 0..job.cores {
@@ -44,13 +84,13 @@ pub fn coded_tasks(
 }
 
 /// The task of a core, if it has one.
-pub fn task_on(tasks: &[Task], core: u32) -> Option<&Task>
+fn task_on(tasks: &[Task], core: u32) -> Option<&Task>
     ensures { option_map (λ t. t.now) result ≡ specs.task_on tasks.now core }
 {
     tasks.iter().find(|task| task.core == core)
 }
 
-// a core's task with its code, if it has one
+// a core's task, made, if it has one
 fn coded_on<'a>(
     alloc: Global,
     job: &Job,
@@ -59,45 +99,80 @@ fn coded_on<'a>(
 ) -> Result<Option<CodedTask<'a>>, Halt<CoreRefusal>>
     requires ranges { KeepsRanges job.now }
     requires among { IfSome (option_map (λ t. t.now) task) (IsTaskAmong job.now.cores) }
-    ensures coded { Gives shown result (specs.coded_on job.now.cores core (option_map (λ t. t.now) task.entry)) }
+    requires core { IfSome (option_map (λ t. t.now) task) (λ t. t.core ≡ core) }
+    ensures coded { Gives shown result (specs.coded_on job.now core (option_map (λ t. t.now) task.entry)) }
     ensures same { IfOk result (λ c. option_map (λ t. t.task.now) c ≡ option_map (λ t. t.now) task.entry) }
+    ensures made { IfOk result (λ c. IsMadeOn job.now core (shown c)) }
 {
     let Some(task) = task else {
         return Ok(None);
     };
-    match code_by(alloc, job, task) {
-        Ok(code) => Ok(Some(CodedTask { task, code })),
+    words_fit(task.input.as_slice());
+    match made_by(alloc, job, task) {
+        Ok(made) => Ok(Some(CodedTask { task, made })),
         Err(Halt::Refused(refusal)) => Err(Halt::Refused(CoreRefusal { core, refusal })),
         Err(Halt::Memory) => Err(Halt::Memory),
     }
 }
 
-// the code of a task; that of a C program comes later
-fn code_by(alloc: Global, job: &Job, task: &Task) -> Result<Code, Halt<Refusal>>
+// input is words of 32 bits
+fn words_fit(words: &[u32])
+    ensures { Each IsWord words.now }
+{}
+
+// what a task is made to
+fn made_by(alloc: Global, job: &Job, task: &Task) -> Result<MadeTask, Halt<Refusal>>
     requires ranges { KeepsRanges job.now }
     requires among { IsTaskAmong job.now.cores task.now }
-    ensures { Gives (λ code. code) result (specs.code_by job.now.cores task.now) }
+    ensures made { Gives made_of result (specs.made_by job.now task.now) }
+    ensures compiled { IfOk result (λ m. IfSome (made_of m).program (IsCompiled job.now task.now.core m.image)) }
 {
     match task.lang {
         Lang::Asm => assembled(alloc, task.source.as_str()),
-        Lang::C => match program_of(alloc, job, task) {
-            Ok(_program) => Err(Halt::Refused(Refusal::Later)),
-            Err(halt) => Err(halt),
-        },
+        Lang::C => compiled(alloc, job, task),
     }
 }
 
-/// The code of an assembly text. A text of 2^32 bytes does not come from a job, whose text has at most
-/// `MOST_BYTES` of them; it is answered as want of memory.
-pub fn assembled(alloc: Global, source: &str) -> Result<Code, Halt<Refusal>>
-    ensures { Gives (λ code. code) result (specs.coded (code_of source.now)) }
+// an assembly task. A text of 2^32 bytes does not come from a job, whose text has at most `MOST_BYTES` of them; it is
+// answered as want of memory
+fn assembled(alloc: Global, source: &str) -> Result<MadeTask, Halt<Refusal>>
+    ensures made { Gives made_of result (specs.assembled source.now) }
+    ensures none { IfOk result (λ m. (made_of m).program ≡ None) }
 {
     if source.len() > u32::MAX as usize {
         return Err(Halt::Memory);
     }
     match assemble(alloc, source) {
-        Ok(code) => Ok(code),
+        Ok(code) => Ok(of_code(code)),
         Err(AsmError::Fault(fault)) => Err(Halt::Refused(Refusal::Faulty(fault))),
         Err(AsmError::Memory) => Err(Halt::Memory),
     }
+}
+
+// the image of an assembly task's code
+fn of_code(code: Code) -> MadeTask
+    ensures { made_of result ≡ specs.of_code code }
+{
+    MadeTask {
+        image: image_of(code),
+        program: None,
+    }
+}
+
+// a C task
+fn compiled(alloc: Global, job: &Job, task: &Task) -> Result<MadeTask, Halt<Refusal>>
+    requires ranges { KeepsRanges job.now }
+    requires among { IsTaskAmong job.now.cores task.now }
+    ensures made { Gives made_of result (specs.compiled job.now task.now.core task.now.source) }
+    ensures compiled { IfOk result (λ m. IfSome (made_of m).program (IsCompiled job.now task.now.core m.image)) }
+{
+    let place = place_of(job, task.core, task.start);
+    let compiled = compile(alloc, task.source.as_str(), &place)?;
+    Ok(MadeTask {
+        image: compiled.image,
+        program: Some(Program {
+            checked: compiled.program,
+            bound: compiled.bound,
+        }),
+    })
 }

@@ -34,10 +34,17 @@ const SCHEDULE_REPORT: &[u8] =
 
 /// Two C tasks: the sum of 0 to 9, cut off by its bound on core 1, which ends with what C leaves undefined in `out`.
 const PROGRAMS: &[u8] =
-    b"version = 1\ncores = 2\nslot = 6\ncycles = 1000\n[[task]]\ncore = 1\nlang = \"c\"\nsource = '''int out[6]; int main() { int s = 0; int i = 0; _Pragma(\"loopbound min 5 max 5\") while (i < 10) { s = s + i; i = i + 1; } out[0] = -7 / 2; out[1] = -7 % 2; out[2] = 5 / 0; out[3] = 5 % 0; out[4] = (0 - 2147483647 - 1) / -1; out[5] = 1 << 33; return s; }'''\n[[task]]\ncore = 0\nlang = \"c\"\nsource = '''int main() { int s = 0; int i = 0; _Pragma(\"loopbound min 10 max 10\") while (i < 10) { s = s + i; i = i + 1; } return s; }'''\n";
+    b"version = 1\ncores = 2\nslot = 6\ncycles = 10000\n[[task]]\ncore = 1\nlang = \"c\"\nsource = '''int out[6]; int main() { int s = 0; int i = 0; _Pragma(\"loopbound min 5 max 5\") while (i < 10) { s = s + i; i = i + 1; } out[0] = -7 / 2; out[1] = -7 % 2; out[2] = 5 / 0; out[3] = 5 % 0; out[4] = (0 - 2147483647 - 1) / -1; out[5] = 1 << 33; return s; }'''\n[[task]]\ncore = 0\nlang = \"c\"\nsource = '''int main() { int s = 0; int i = 0; _Pragma(\"loopbound min 10 max 10\") while (i < 10) { s = s + i; i = i + 1; } return s; }'''\n";
 
 const MEANINGS: &[u8] =
     b"core 0 mean 45\ncore 1 mean 10 overrun\ncore 1 out 0 -3\ncore 1 out 1 -1\ncore 1 out 2 0\ncore 1 out 3 5\ncore 1 out 4 -2147483648\ncore 1 out 5 2\n";
+
+/// Four loops of 65,535 turns around one another, whose bound is past the largest; and a number past 32 bits, at byte 20.
+const LONG: &[u8] =
+    b"version = 1\ncores = 1\nslot = 6\ncycles = 1000\n[[task]]\ncore = 0\nlang = \"c\"\nsource = '''int main() { _Pragma(\"loopbound min 0 max 65535\") while (0) { _Pragma(\"loopbound min 0 max 65535\") while (0) { _Pragma(\"loopbound min 0 max 65535\") while (0) { _Pragma(\"loopbound min 0 max 65535\") while (0) { } } } } return 0; }'''\n";
+
+const WIDE: &[u8] =
+    b"version = 1\ncores = 1\nslot = 6\ncycles = 1000\n[[task]]\ncore = 0\nlang = \"c\"\nsource = \"int main() { return 4294967296; }\"\n";
 
 /// A task of five bundles, whose first five steps are told; one that goes on behind its function's end; and what their five
 /// stages hold.
@@ -120,7 +127,9 @@ const NEVER: u32 = 1_000_000;
 fn inputs_are_answered(rt: HostRuntime) -> Result<(), Fail> {
     for (word, input, text) in [
         ("run", JOB, REPORT),
+        ("bound", JOB, b"platform cores 1 slot 6 period 6\n"),
         ("asm", JOB, LISTING),
+        ("asm", PROGRAMS, b""),
         ("grid", SCHEDULE, SCHEDULE_REPORT),
         ("mean", JOB, b""),
         ("mean", PROGRAMS, MEANINGS),
@@ -133,11 +142,16 @@ fn inputs_are_answered(rt: HostRuntime) -> Result<(), Fail> {
 }
 
 #[test]
-fn a_valid_program_has_its_code_later(rt: HostRuntime) -> Result<(), Fail> {
-    for word in ["run", "asm"] {
-        let (status, sink) = answer_to(&rt, rt.alloc(), &[word], PROGRAMS)?;
-        assert_eq!(rt; status, 4);
-        assert_eq!(rt; sink.kept(), b"core 0: Later\n".as_slice());
+fn programs_are_refused_alike(rt: HostRuntime) -> Result<(), Fail> {
+    for (input, text) in [
+        (LONG, b"core 0: Long\n".as_slice()),
+        (WIDE, b"core 0: Wide at 20\n"),
+    ] {
+        for word in ["run", "bound", "asm", "mean", "pipe"] {
+            let (status, sink) = answer_to(&rt, rt.alloc(), &[word], input)?;
+            assert_eq!(rt; status, 4);
+            assert_eq!(rt; sink.kept(), text);
+        }
     }
     Ok(())
 }
@@ -158,7 +172,7 @@ fn stages_are_told_of_a_core_alone(rt: HostRuntime) -> Result<(), Fail> {
 
 #[test]
 fn other_words_are_answered_with_usage(rt: HostRuntime) -> Result<(), Fail> {
-    for word in ["gen", "bench", "bound", "means", "run x", "Run", "--help"] {
+    for word in ["gen", "bench", "bounds", "means", "run x", "Run", "--help"] {
         let (status, sink) = answer_to(&rt, rt.alloc(), &[word], JOB)?;
         assert_eq!(rt; status, 1);
         assert_eq!(rt; sink.kept(), USAGE);

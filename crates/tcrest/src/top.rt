@@ -2,10 +2,11 @@ ghost use Rattle.std.specs.Prelude.{◌≡◌, ◌⊎◌, [], IfSome};
 ghost use Rattle.tc_io.specs.Faults.{Rose};
 ghost use Rattle.tcrest.specs.Answer.{answer, command_answer, bytes_answer, text_fault_number};
 ghost use Rattle.tcrest.specs.Command as commands;
+ghost use Rattle.tcrest.specs.Telling.{HasReport, TellsRun};
 ghost use Rattle.tcrest.specs.Outcome.{Ends, IsAnswered, IsSent, HasWritten};
 
-use crate::answers::input_answer;
-use crate::command::{Command, InputCommand, command_of};
+use crate::answers::{USAGE, text_answer};
+use crate::command::{Command, command_of};
 use std::alloc::Global;
 use std::sync::Wait;
 use std::thread::Threads;
@@ -27,7 +28,7 @@ const READ_FAULT: u8 = 5;
 ///
 /// | status | meaning | written |
 /// |---|---|---|
-/// | 0 | the command did what it says | the report, the listings, or the bounds of a schedule |
+/// | 0 | the command did what it says | the report, the listings, or the bounds of tasks or of a schedule |
 /// | 1 | the words are no command | the usage line |
 /// | 2 | the job or the schedule is refused | `job: ` or `grid: ` and the fault |
 /// | 3 | a task was stopped, or has not ended by the limit | the report |
@@ -54,6 +55,12 @@ pub fn tcrest<R: Threads + Wait + Sync, S: Source, K: Sink, G: Gate + Sync>(
     ensures answered_unread { commands.ReadsNothing (commands.command_of words.now) → (Rose (K.faults sink.old) (K.faults sink.new) → ⊥)
         → IsAnswered (answer words.now []) result (K.taken sink.old) (K.taken sink.new) }
 
+    // Of each C task its row in the report tells its times, its bound and what its text means: its transactions, its end and its
+    // cycles hang on its text and its place alone, its end is at most its start and the bound that is told, it never traps, and
+    // once it is done its value, its flag and its words of `out` are what its text means in each world that fits its loads; told
+    // to be alone, in the world of zeros.
+    ensures programs { IfSome (S.left source.old) (λ bytes. HasReport result → TellsRun (commands.command_of words.now) bytes) }
+
     // What was written, whatever failed.
     ensures written { IfSome (S.left source.old) (λ bytes. HasWritten (answer words.now bytes)
         (Rose (S.faults source.old) (S.faults source.new)) result (K.taken sink.old) (K.taken sink.new)) }
@@ -79,16 +86,13 @@ fn perform<R: Threads + Wait + Sync, S: Source, K: Sink, G: Gate + Sync>(
     ensures unread { commands.ReadsNothing command → source.new ≡ source.old }
     ensures ends_unread { commands.ReadsNothing command → Ends (command_answer command []) ⊥ result
         (K.faults sink.old) (K.faults sink.new) (K.taken sink.old) (K.taken sink.new) }
+    ensures told { IfSome (S.left source.old) (λ bytes. HasReport result → TellsRun command bytes) }
     ensures read_fault { result ≡ 5 → Rose (S.faults source.old) (S.faults source.new) }
     ensures write_fault { result ≡ 6 → Rose (K.faults sink.old) (K.faults sink.new) }
 {
     match command {
-        Command::OfInput(command) => answer_input(alloc, rt, command, source, sink, gate),
-        Command::Usage => finish(
-            sink,
-            1,
-            b"usage: tcrest run|bound|asm|mean|gen N|bench N|pipe|grid\n",
-        ),
+        Command::Usage => finish(sink, 1, USAGE),
+        _ => answer_input(alloc, rt, command, source, sink, gate),
     }
 }
 
@@ -110,18 +114,20 @@ impl TextFault {
     }
 }
 
-/// Answers a command about the input: all bytes are read, and a text that is not too long is answered.
+/// Answers a command that reads: all bytes are read, and a text that is not too long is answered.
 fn answer_input<R: Threads + Wait + Sync, S: Source, K: Sink, G: Gate + Sync>(
     alloc: Global,
     rt: &R,
-    command: InputCommand,
+    command: Command,
     source: &mut S,
     sink: &mut K,
     gate: &G,
 ) -> u8
+    requires reads { commands.ReadsNothing command → ⊥ }
     ensures ends { IfSome (S.left source.old) (λ bytes. Ends (bytes_answer command bytes)
         (Rose (S.faults source.old) (S.faults source.new)) result
         (K.faults sink.old) (K.faults sink.new) (K.taken sink.old) (K.taken sink.new)) }
+    ensures told { IfSome (S.left source.old) (λ bytes. HasReport result → TellsRun command bytes) }
     ensures read_fault { result ≡ 5 → Rose (S.faults source.old) (S.faults source.new) }
     ensures write_fault { result ≡ 6 → Rose (K.faults sink.old) (K.faults sink.new) }
 {
@@ -131,7 +137,7 @@ fn answer_input<R: Threads + Wait + Sync, S: Source, K: Sink, G: Gate + Sync>(
         Err(ReadError::TooLong) => return finish(sink, 2, b"job: TooLong\n"),
         Err(ReadError::Memory) => return MEMORY,
     };
-    match input_answer(alloc, rt, command, bytes.as_slice(), gate) {
+    match text_answer(alloc, rt, command, bytes.as_slice(), gate) {
         Ok(answer) => finish(sink, answer.status, answer.text.as_slice()),
         Err(_) => MEMORY,
     }

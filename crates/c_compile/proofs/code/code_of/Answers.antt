@@ -1,18 +1,28 @@
-use Rattle.std.proofs.Common.{◌≡◌, ℕ, ◌<◌, true, List, length, ap, ◌∙◌, subst}
-use Rattle.std.specs.List.{All}
-use Rattle.std.proofs.lemmas.Result.{IfOk-weaker}
-use Rattle.patmos_instr.specs.Bundles.{FitsBundle}
-use Rattle.sp_tree.specs.Begun.{begun}
+use Rattle.std.proofs.Common.{◌≡◌, ◌<◌, true, ap, ◌∙◌, subst, rules}
+use Rattle.std.specs.List.{AllByRecursion as Each}
+use Rattle.patmos_model.specs.Range.{IsWord}
 use Rattle.sp_tree.specs.Shown.{plain_unit}
 use Rattle.sp_shape.proofs.Plain.{functions_count}
 use Rattle.sp_shape.specs.Formed.{is_formed}
 use Rattle.sp_shape.specs.Shown.{plain_shape}
-use Rattle.sp_emit.specs.Means.{HoldsWords}
 use Rattle.bundle_sched.specs.Placed.{placed}
-use Rattle.tc_link.specs.Placed.{flat}
-use Rattle.c_compile.specs.Code.{code_of, CarriesOut}
+use Rattle.task_core.specs.Tasks.{code_of}
 use Rattle.c_compile.proofs.Carrying.{Fit, carried_out}
 use Rattle.c_compile.proofs.code.code_of.Goals as goal
+
+pub returns-clause-code : goal.returns-clause-code
+returns-clause-code c =
+    let u = plain_unit c.args.unit.now in
+    let shape = c.in_ok-shape-2.shape in
+    let is : plain_shape shape ≡ code_of u = c.in_ok-shape-2.ensures.told ∙ ap placed c.in_ok-shape.ensures.told in
+    let fit : Fit (plain_shape shape) = λ k less. c.in_ok-image.ensures.fit k (subst (λ n. k < n) (functions_count shape.functions) less) in
+    let initial : Each IsWord u.initial = search rules in
+    record {
+      formed = subst (λ s. is_formed s ≡ true) is c.in_ok-shape-2.ensures.formed;
+      fits = c.requires.fits;
+      bundles = subst Fit is fit;
+      initial = initial;
+    }
 
 pub returns-clause-means : goal.returns-clause-means
 returns-clause-means c =
@@ -20,11 +30,5 @@ returns-clause-means c =
     let shape = c.in_ok-shape-2.shape in
     let is : plain_shape shape ≡ code_of u = c.in_ok-shape-2.ensures.told ∙ ap placed c.in_ok-shape.ensures.told in
     let formed = subst (λ s. is_formed s ≡ true) is c.in_ok-shape-2.ensures.formed in
-    let count = functions_count shape.functions in
-    IfOk-weaker c.link.result
-    (λ image. (k : ℕ) → k < length shape.functions → All FitsBundle (flat (plain_shape shape) k))
-    (λ image. (input : List ℕ) (shared comm : ℕ → ℕ) → HoldsWords (begun u input shared comm) → CarriesOut u input shared comm)
-    (λ image fits input shared comm words.
-    let fit : Fit (plain_shape shape) = λ k less. fits k (subst (λ n. k < n) count less) in
-    carried_out u c.requires.formed formed c.requires.fits (subst Fit is fit) input shared comm words)
-    c.link.ensures.fit
+    let fit : Fit (plain_shape shape) = λ k less. c.in_ok-image.ensures.fit k (subst (λ n. k < n) (functions_count shape.functions) less) in
+    λ input shared comm words. carried_out u c.requires.formed formed c.requires.fits (subst Fit is fit) input shared comm words

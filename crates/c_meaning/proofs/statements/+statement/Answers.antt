@@ -7,10 +7,10 @@ use Rattle.c_tree.specs.Plain.{plain_expr, plain_right, plain_head, plain_stmt}
 use Rattle.c_tree.proofs.Plains.{block_of, arms_of}
 use Rattle.c_meaning.specs.declared.actions.Branch.{Branch}
 use Rattle.c_meaning.specs.declared.actions.Action.TheViews.{Loop}
-use Rattle.c_meaning.specs.Actions.{PlainAction, PlainActions, turns, chooses, returns, branch, one, joined}
+use Rattle.c_meaning.specs.Actions.{PlainAction, PlainActions, turns, returns, branch, one, joined}
 use Rattle.c_meaning.specs.Meaning.{most_turns, names_after}
 use Rattle.c_meaning.specs.Open.{names_of, functions_of, closed}
-use Rattle.c_meaning.specs.Resolve.{variable_target, maybe_sets, resolved_right, resolved_begin, resolved_condition, resolved_next, resolved_block, resolved_arms, resolved_stmt}
+use Rattle.c_meaning.specs.Resolve.{variable_target, maybe_sets, resolved_right, resolved_begin, resolved_condition, resolved_next, choice, resolved_block, resolved_arms, resolved_stmt}
 use Rattle.c_meaning.specs.Shown.{actions_of, plain_action, plain_assignment}
 use Rattle.c_meaning.specs.Values.{named}
 use Rattle.c_meaning.proofs.Acted.{plain_loop, joined_none, joined_joined, more_branches, branches_push, branches_all}
@@ -151,8 +151,8 @@ pub stmt-returns-in_ok-add_choice-in-None-clause-actions : goal.stmt-returns-in_
 stmt-returns-in_ok-add_choice-in-None-clause-actions t c =
     let part = if_resolved (functions_of c.args.scope.now) (names_of c.args.scope.now) c.args.s.now c.in-If.arms c.in-If.otherwise c.in-If.is c.in-None.is in
     let branches = c.in_ok-branches-in-If.ensures.branches ∙ ap (λ arms. resolved_arms (functions_of c.args.scope.now) (names_of c.args.scope.now) (arms_of arms)) c.as_slice-in-If.ensures in
-    let plain = ap₂ chooses branches (ap actions_of (c.of-otherwise.ensures ∙ c.new.ensures.items)) in
-    c.in_ok-add_choice-in-None.ensures ∙ ap (λ a. joined (actions_of c.args.out.now.items) (one a)) plain ∙ ap (joined (actions_of c.args.out.now.items)) (sym part)
+    let plain = ap₂ choice branches (ap actions_of (c.of-otherwise.ensures ∙ c.new.ensures.items)) in
+    c.in_ok-add_choice-in-None.ensures ∙ ap (joined (actions_of c.args.out.now.items)) plain ∙ ap (joined (actions_of c.args.out.now.items)) (sym part)
 
 pub stmt-returns-in_ok-add_choice-in-None-clause-names : goal.stmt-returns-in_ok-add_choice-in-None-clause-names
 stmt-returns-in_ok-add_choice-in-None-clause-names t c =
@@ -166,8 +166,8 @@ stmt-returns-in_ok-add_choice-in-Some-clause-actions t c =
     let scope = ap₂ (λ f n. resolved_block f n (block_of c.in-Some.body)) c.in_ok-branches-in-If.ensures.functions c.in_ok-branches-in-If.ensures.names in
     let body = c.in_ok-otherwise-in-Some.ensures.actions
     ∙ ap (λ ss. resolved_block (functions_of c.branches.new.scope) (names_of c.branches.new.scope) (block_of ss)) c.as_slice-in-Some.ensures ∙ scope in
-    let plain = ap₂ chooses branches body in
-    c.in_ok-add_choice-in-Some.ensures ∙ ap (λ a. joined (actions_of c.args.out.now.items) (one a)) plain ∙ ap (joined (actions_of c.args.out.now.items)) (sym part)
+    let plain = ap₂ choice branches body in
+    c.in_ok-add_choice-in-Some.ensures ∙ ap (joined (actions_of c.args.out.now.items)) plain ∙ ap (joined (actions_of c.args.out.now.items)) (sym part)
 
 pub stmt-returns-in_ok-add_choice-in-Some-clause-names : goal.stmt-returns-in_ok-add_choice-in-Some-clause-names
 stmt-returns-in_ok-add_choice-in-Some-clause-names t c =

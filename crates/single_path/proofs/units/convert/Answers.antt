@@ -32,11 +32,11 @@ returns-clause-meaning c =
     (meant program.place.cores program.place.core (plain program.unit) program.valid)
 
 pub returns-clause-cost : goal.returns-clause-cost
-returns-clause-cost c fits =
+returns-clause-cost c =
     let program = c.args.program.now in
     so_of_tree c.tree_of.result (plain program.unit)
     (λ u. (k : ℕ) → k < length u.functions → cost (slice_index_or u.functions k no_function) ≤ slice_index (weights_in (plain program.unit)) k) c.tree_of.ensures
-    (costs_within _ program.unit.items fits)
+    (costs_within _ _ (plain program.unit))
 
 pub returns-clause-frame : goal.returns-clause-frame
 returns-clause-frame c =

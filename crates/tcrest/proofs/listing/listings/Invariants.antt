@@ -1,7 +1,8 @@
 use Rattle.std.proofs.Common.{◌≡◌, ◌++◌, drop}
 use Rattle.tcrest.specs.Coding.{all_shown}
-use Rattle.tcrest.specs.Listing.{listings}
+use Rattle.tcrest.specs.Listing.{listing_on, listings}
+use Rattle.tcrest.specs.Tasks.{told_from}
 use Rattle.tcrest.proofs.listing.listings.Given as goal
 
 abbrev pub invariant-loop-core : goal.invariant-loop-core
-invariant-loop-core l = l.text.items ++ listings l.core (all_shown (drop l.core l.coded)) ≡ listings 0 (all_shown l.coded)
+invariant-loop-core l = l.text.items ++ told_from listing_on l.core (all_shown (drop l.core l.coded)) ≡ listings (all_shown l.coded)

@@ -1,7 +1,8 @@
 use Rattle.std.proofs.Common.{◌≡◌, length, map}
 use Rattle.global_step.specs.Machine.{first_core}
 use Rattle.tcrest.specs.Machine.{cores_from}
-use Rattle.tcrest.specs.Coding.{all_shown}
+use Rattle.tcrest.specs.Coding.{runs, all_shown}
+use Rattle.tcrest.specs.Tasks.{runs_on}
 use Rattle.tcrest.proofs.CoresFound.{ArePlaced}
 use Rattle.tcrest.proofs.loading.cores_of.Given as goal
 
@@ -10,4 +11,6 @@ invariant-loop-one l = record {
   so_far : map first_core l.cores.items ≡ cores_from l.job 0 (all_shown l.yielded);
   count : length l.cores.items ≡ length l.yielded;
   placed : ArePlaced l.job l.cores.items;
+  runs : map runs l.tasks.items ≡ map runs_on (all_shown l.yielded);
+  tasks : length l.tasks.items ≡ length l.yielded;
 }

@@ -1,8 +1,8 @@
-use Rattle.std.proofs.Common.{◌≡◌, ◌-◌}
-use Rattle.tcrest.specs.Meanings.{meanings_from}
-use Rattle.tcrest.proofs.MeaningsTold.{told}
+use Rattle.std.proofs.Common.{◌≡◌, ◌++◌, drop}
+use Rattle.tcrest.specs.Coding.{all_shown}
+use Rattle.tcrest.specs.Meanings.{lines_on, meanings}
+use Rattle.tcrest.specs.Tasks.{told_from}
 use Rattle.tcrest.proofs.meanings.meanings.Given as goal
 
 abbrev pub invariant-loop-core : goal.invariant-loop-core
-invariant-loop-core l = told l.text.items (meanings_from l.job.cores l.job.tasks l.core (l.job.cores - l.core))
-    ≡ meanings_from l.job.cores l.job.tasks 0 l.job.cores
+invariant-loop-core l = l.text.items ++ told_from (lines_on l.limit) l.core (all_shown (drop l.core l.coded)) ≡ meanings l.limit (all_shown l.coded)

@@ -6,8 +6,8 @@ use Rattle.patmos_model.specs.Outcome.{state_at}
 use Rattle.patmos_model.specs.State.{Core}
 use Rattle.pipe_five.specs.Steps.{core_before, done_below}
 use Rattle.tc_report.specs.Report.{platform_line}
-use Rattle.tcrest.specs.Pipe.{steps_text}
-use Rattle.tcrest.specs.Rows.{row_state}
+use Rattle.tcrest.specs.Coding.{runs}
+use Rattle.tcrest.specs.Pipe.{steps_text, told_row}
 use Rattle.tcrest.proofs.Piped.{told_whole}
 use Rattle.tcrest.proofs.pipe.stages_answer.Goals as goal
 
@@ -18,6 +18,6 @@ returns c =
     let count = length (done_below x job.cycles) in
     let platform : c.put_platform_line.new.text.items ≡ platform_line job.cores job.slot (period job.table job.slot) = c.in_ok-put_platform_line.ensures.appended
     ∙ ap (λ t. t ++ platform_line job.cores job.slot c.period_of.result) c.new-text.ensures.items ∙ ap (platform_line job.cores job.slot) c.period_of.ensures in
-    told_whole job x c.row_state.result c.put_steps.new.text.items c.ended.result
-    (c.row_state.ensures ∙ ap row_state (c.state.ensures x count (c.in_ok-put_steps.ensures.stands x c.in_ok-core.ensures.stands) ∙ ap (λ t. state_at t (core_before x t).plain) c.in_ok-put_steps.ensures.limit))
+    told_whole job (runs c.args.task.now) x c.in_ok-row.row c.put_steps.new.text.items c.ended.result
+    (c.in_ok-row.ensures ∙ ap (told_row (runs c.args.task.now)) (c.state.ensures x count (c.in_ok-put_steps.ensures.stands x c.in_ok-core.ensures.stands) ∙ ap (λ t. state_at t (core_before x t).plain) c.in_ok-put_steps.ensures.limit))
     (c.in_ok-put_steps.ensures.told x c.in_ok-core.ensures.stands ∙ ap (λ t. t ++ steps_text x job.cycles (min job.trace count)) platform) c.ended.ensures

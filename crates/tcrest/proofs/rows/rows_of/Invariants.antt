@@ -1,11 +1,9 @@
 use Rattle.std.proofs.Common.{◌≡◌, map}
-use Rattle.std.specs.List.{range_with_len}
+use Rattle.c_mentions.specs.Tasks.{running as mentioned}
 use Rattle.global_step.specs.Loaded.{Machine}
-use Rattle.global_step.specs.Machine.{at_limit}
 use Rattle.tc_run.specs.Final.{AreFinal}
-use Rattle.tcrest.specs.Rows.{row_of}
+use Rattle.tcrest.proofs.RowsFound.{rows_below}
 use Rattle.tcrest.proofs.rows.rows_of.Given as goal
 
-abbrev pub invariant-loop-core : goal.invariant-loop-core
-invariant-loop-core l = (m : Machine) → AreFinal m l.cores
-    → l.rows.items ≡ map (λ k. row_of m.limit m.trace ((at_limit m).cores k)) (range_with_len 0 l.core-index)
+abbrev pub invariant-loop-number : goal.invariant-loop-number
+invariant-loop-number l = (m : Machine) → AreFinal m l.cores → l.rows.items ≡ rows_below (map mentioned l.all.items) l.tasks l.number m

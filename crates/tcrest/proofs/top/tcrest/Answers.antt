@@ -6,3 +6,6 @@ pub returns-clause-written : goal.returns-clause-written
 returns-clause-written g c =
     written_if (answer c.args.words.now) _ _ _ _ _ _ (g.S.Source.left c.args.source.now) (answer-status c.args.words.now)
     (rw c.command_of.ensures at c.perform.ensures.ends)
+
+pub returns-clause-programs : goal.returns-clause-programs
+returns-clause-programs g c = rw (← c.command_of.ensures) c.perform.ensures.told

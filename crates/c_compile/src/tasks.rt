@@ -1,0 +1,89 @@
+//! Compiled tasks.
+ghost use Rattle.std.specs.Prelude.{◌≡◌, ◌+◌, ◌≤◌, IfOk};
+ghost use Rattle.c_compile.specs.Answered.{Gives};
+ghost use Rattle.c_compile.specs.Texts as specs;
+ghost use Rattle.c_mentions.specs.Told.{Tells};
+ghost use Rattle.c_task.specs.Doing.{ComesToMeaning, KeepsTimes, NeverTraps, TouchesMentioned};
+ghost use Rattle.c_task.specs.Translation.{bound, times, translation};
+ghost use Rattle.c_tree.specs.Plain.{plain};
+ghost use Rattle.sp_shape.specs.Shown.{plain_shape};
+ghost use Rattle.task_core.specs.Tasks.{IsCode};
+
+use crate::code::{Code, code_of};
+use crate::faults::CompileFault;
+use crate::programs::program_of;
+use c_mentions::{Mentions, mentions_of};
+use c_task::{
+    programs_come_to_their_meaning, programs_fit_images, programs_keep_their_times,
+    programs_touch_what_they_mention,
+};
+use c_tree::Checked;
+use cycle_bound::bound_uncounted;
+use patmos_code::Image;
+use single_path::convert;
+use slot_arbiter::Place;
+use sp_emit::Shape;
+use std::alloc::Global;
+use tc_word::OutOfMemory;
+
+/// A compiled task: its words, its code, how many cycles it takes at most on its core's place, its program, and what that
+/// mentions.
+#[derive(Debug, Drop)]
+pub struct Compiled {
+    pub image: Image,
+    pub shape: Shape,
+    pub bound: u64,
+    pub program: Checked,
+    pub mentions: Mentions,
+}
+
+// the code of a valid program
+fn code_by(alloc: Global, program: &Checked, place: &Place) -> Result<Code, OutOfMemory>
+    requires place { program.now.place ≡ place.now }
+    ensures told { IfOk result (λ c. plain_shape c.shape ≡ (translation (plain program.now.unit)).placed) }
+    ensures image { IfOk result (λ c. c.image ≡ (translation (plain program.now.unit)).image) }
+    ensures code { IfOk result (λ _. IsCode (translation (plain program.now.unit)).tree) }
+{
+    programs_fit_images(place);
+    let unit = convert(alloc, program)?;
+    code_of(alloc, &unit)
+}
+
+/// The task of a C text for a core's place, whatever its input is. It is `Err` exactly where the text has no tokens, these are
+/// no program, the program is not valid on its core, or its bound is more than [`cycle_bound::MOST_BOUND`]: the first of these
+/// counts. Want of memory is told of a text of 2^32 bytes or more too.
+pub fn compile(alloc: Global, source: &str, place: &Place) -> Result<Compiled, CompileFault>
+    ensures told { Gives (λ c. plain c.program.unit) result (specs.task_on place.now.cores place.now.table place.now.slot place.now.core source.now) }
+
+    // What is told of a program is its own, and nothing else's.
+    ensures place { IfOk result (λ c. c.program.place ≡ place.now) }
+    ensures image { IfOk result (λ c. c.image ≡ (translation (plain c.program.unit)).image) }
+    ensures shape { IfOk result (λ c. plain_shape c.shape ≡ (translation (plain c.program.unit)).placed) }
+    ensures bound { IfOk result (λ c. c.bound ≡ bound place.now (plain c.program.unit)) }
+    ensures mentions { IfOk result (λ c. Tells c.mentions (plain c.program.unit)) }
+
+    // Whatever words are put in and read, a core that runs the image apart has the program's times, which are within its
+    // bound; no check stops it; it comes to what the text means; and it touches only what the text mentions.
+    ensures times { IfOk result (λ c. KeepsTimes (plain c.program.unit) place.now c.image) }
+    ensures within { IfOk result (λ c. (times place.now (plain c.program.unit)).end ≤ place.now.start + c.bound) }
+    ensures never_traps { IfOk result (λ c. NeverTraps place.now c.image) }
+    ensures meaning { IfOk result (λ c. ComesToMeaning (plain c.program.unit) place.now c.image) }
+    ensures touches { IfOk result (λ c. TouchesMentioned (plain c.program.unit) place.now c.image) }
+
+    // What the laws of machines that run it want of its code.
+    ensures code { IfOk result (λ c. IsCode (translation (plain c.program.unit)).tree) }
+{
+    programs_keep_their_times(place);
+    programs_come_to_their_meaning(place);
+    programs_touch_what_they_mention(place);
+    let program = program_of(alloc, source, place)?;
+    let Code { shape, image } = code_by(alloc, &program, place)?;
+    let bound = bound_uncounted(&shape, place)?;
+    Ok(Compiled {
+        image,
+        shape,
+        bound,
+        mentions: mentions_of(&program.unit),
+        program,
+    })
+}

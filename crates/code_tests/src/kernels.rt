@@ -1,0 +1,131 @@
+//! Kernels in C as cores run their compiled tasks: what gcc gives for the same texts and inputs, at times that no input
+//! changes, within the bound; and texts that are refused.
+
+use crate::kernel_texts::{KERNELS, Kernel};
+use c_check::CheckError;
+use c_compile::{CompileFault, Compiled, compile};
+use c_lex::LexFault;
+use c_parse::ParseFault;
+use c_tree::{CheckFault, Checked};
+use local_store::{Cell, PRIVATE_WORDS};
+use patmos_core::{Core, CoreState, Next};
+use slot_arbiter::{MOST_CYCLES, Place};
+use std::alloc::Global;
+use std::process::Abort;
+use std::test::Fail;
+
+/// How many transactions of a run are kept: more than a kernel has.
+const ROOM: u32 = 20_000;
+
+/// Words told in decimal, with blanks between them. Negative numbers are in two's complement.
+fn words(alloc: Global, text: &str) -> Result<Vec<u32>, Fail> {
+    let mut words = Vec::new(alloc);
+    for number in text.split_whitespace() {
+        let word = match number.parse::<i32>() {
+            Ok(number) => number.cast_unsigned(),
+            Err(_) => number.parse::<u32>()?,
+        };
+        words.push(word)?;
+    }
+    Ok(words)
+}
+
+/// A core that has run a task, and what its last step gave.
+fn run(
+    alloc: Global,
+    compiled: &Compiled,
+    place: &Place,
+    input: &str,
+) -> Result<(Core, Next), Fail> {
+    let input = words(alloc, input)?;
+    let mut core = Core::new(alloc, *place, &compiled.image, input.as_slice(), ROOM)?;
+    let last = core.next(MOST_CYCLES);
+    Ok((core, last))
+}
+
+/// The words of the array `out` in private memory, as a core has them.
+fn out_of(alloc: Global, program: &Checked, core: &Core) -> Result<Vec<u32>, Fail> {
+    let mut out = Vec::new(alloc);
+    for slot in program.layout.as_slice() {
+        if slot.name.as_str() == "out" {
+            if let Cell::Private(first) = slot.cell {
+                for word in first..first.saturating_add(slot.length) {
+                    if (word as usize) < PRIVATE_WORDS {
+                        out.push(core.word(Cell::Private(word)))?;
+                    }
+                }
+            }
+        }
+    }
+    Ok(out)
+}
+
+/// Runs a kernel's task apart on each input, and compares. Its times are those without an input.
+fn compare(rt: &impl Abort, alloc: Global, place: &Place, kernel: &Kernel) -> Result<(), Fail> {
+    let compiled = compile(alloc, kernel.text, place)?;
+    let (without, _) = run(alloc, &compiled, place, "")?;
+    for told in &kernel.runs {
+        let (core, last) = run(alloc, &compiled, place, told.input)?;
+        assert_eq!(rt; last, Next::Ended);
+        let CoreState::Done {
+            value,
+            flag,
+            cycles,
+        } = core.state()
+        else {
+            panic!(rt; "not at its end");
+        };
+        assert_eq!(rt; (value, flag), (told.value.cast_unsigned(), 0));
+        let out = out_of(alloc, &compiled.program, &core)?;
+        let wanted = words(alloc, told.out)?;
+        assert_eq!(rt; out.as_slice(), wanted.as_slice());
+        assert!(rt; cycles <= compiled.bound);
+        assert!(rt;
+            matches!(without.state(), CoreState::Done { cycles: same, .. } if same == cycles)
+        );
+        assert!(rt; core.trace().len() < ROOM as usize);
+        assert_eq!(rt; core.trace(), without.trace());
+    }
+    Ok(())
+}
+
+#[test]
+fn cores_come_to_what_gcc_gives(rt: HostRuntime) -> Result<(), Fail> {
+    let place = Place::new(1, 0, 6, 0).expect(&rt, "a place");
+    for kernel in &KERNELS {
+        compare(&rt, rt.alloc(), &place, kernel)?;
+    }
+    Ok(())
+}
+
+/// Four loops inside one another, whose turns are more than 2^63.
+const LONG: &str = "int main() { \
+    _Pragma(\"loopbound min 0 max 65535\") while (1) { _Pragma(\"loopbound min 0 max 65535\") while (1) { \
+    _Pragma(\"loopbound min 0 max 65535\") while (1) { _Pragma(\"loopbound min 0 max 65535\") while (1) { \
+    } } } } return 0; }";
+
+#[test]
+fn texts_are_refused(rt: HostRuntime) {
+    let place = Place::new(1, 0, 6, 0).expect(&rt, "a place");
+    for (text, want) in [
+        (
+            "int main() { return 1 @ 2; }",
+            CompileFault::Lex(LexFault::Char { at: 22 }),
+        ),
+        (
+            "int main() { return 1 2; }",
+            CompileFault::Parse(ParseFault::Syntax { at: 7 }),
+        ),
+        (
+            "int main() { while (1) { } return 0; }",
+            CompileFault::Check(CheckError::Fault {
+                kind: CheckFault::NoBound,
+                at: 5,
+            }),
+        ),
+        (LONG, CompileFault::Long),
+    ] {
+        let compiled = compile(rt.alloc(), text, &place);
+        assert_eq!(rt; compiled.err(), Some(want), "{text}");
+    }
+}

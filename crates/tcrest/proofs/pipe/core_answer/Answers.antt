@@ -1,0 +1,20 @@
+use Rattle.std.proofs.Common.{◌≡◌, ◌∙◌, ap, subst, rules, IfOk}
+use Rattle.patmos_model.specs.Begin.{begun}
+use Rattle.patmos_model.specs.Apart.{site_of}
+use Rattle.tcrest.specs.Machine.{site_on}
+use Rattle.tcrest.specs.Coding.{runs, made_of}
+use Rattle.tcrest.specs.Pipe.{pipe_of}
+use Rattle.tcrest.specs.Tasks.{runs_made}
+use Rattle.tcrest.proofs.pipe.core_answer.Goals as goal
+
+pub returns : goal.returns
+returns c =
+    let task = c.in-Some.field-0.task.now in
+    let image = c.in-Some.field-0.made.image in
+    let input = c.as_slice.result.now in
+    let begins : begun (site_of c.place_of-place.result image) input ≡ begun (site_on c.args.job.now 0 task.start image) task.input =
+    ap (λ site. begun site input) (c.place_of-place.ensures.site image) ∙ ap (begun (site_on c.args.job.now 0 task.start image)) (search rules) in
+    let run : runs c.of-runs.result ≡ runs_made (made_of c.in-Some.field-0.made) = c.of-runs.ensures in
+    let told = subst (λ x. IfOk c.stages_answer.result (λ a. a ≡ pipe_of c.args.job.now (runs c.of-runs.result) x)) begins c.stages_answer.ensures in
+    let whole = subst (λ r. IfOk c.stages_answer.result (λ a. a ≡ pipe_of c.args.job.now r (begun (site_on c.args.job.now 0 task.start image) task.input))) run told in
+    search (rules, whole)

@@ -1,0 +1,101 @@
+-- What the report of a job tells of its C tasks, in terms of what their texts mean and of the times of their code.
+use Rattle.std.specs.Prelude.{◌≡◌, ℕ, ◌+◌, ◌-◌, ◌<◌, ◌≤◌, ◌⊎◌, true, List, take, map, Option, Some, IfSome, Ok, slice_get}
+use Rattle.std.specs.List.{AllByRecursion as Each}
+use Rattle.slot_arbiter.specs.declared.place.Place.{Place}
+use Rattle.slot_arbiter.specs.declared.place.TheConstants.{LATEST_START}
+use Rattle.shared_order.specs.Machine.{State}
+use Rattle.shared_order.specs.Words.{zeros}
+use Rattle.c_tree.specs.Plain.{PlainItem}
+use Rattle.c_tree.specs.Valid.{IsValid}
+use Rattle.c_meaning.specs.Meaning.{Given}
+use Rattle.core_pace.specs.Growth.{below}
+use Rattle.patmos_code.specs.Images.{Parts}
+use Rattle.patmos_model.specs.Range.{IsWord}
+use Rattle.patmos_model.specs.State.{Core}
+use Rattle.single_path.specs.Single.{single}
+use Rattle.task_core.specs.Tasks.{IsCode}
+use Rattle.c_task.specs.Programs.{said}
+use Rattle.c_task.specs.Telling.{FitsWorld}
+use Rattle.c_task.specs.Translation.{IsWorld, bound_on, times, translation}
+use Rattle.tc_job.specs.Job.{job_of}
+use Rattle.tc_job.specs.declared.job.Job.{Job}
+use Rattle.tc_report.specs.declared.rows.Row.{Row}
+use Rattle.tc_report.specs.declared.rows.RowState.TheVariants.{Limit, Done}
+use Rattle.tcrest.specs.declared.command.Command.{Command}
+use Rattle.tcrest.specs.declared.command.Command.TheVariants.{OfJob}
+use Rattle.tcrest.specs.declared.command.JobCommand.TheVariants.{Run}
+use Rattle.tcrest.specs.Machine.{cores_from, machine_of}
+use Rattle.tcrest.specs.Meanings.{output_slot}
+use Rattle.tcrest.specs.Rows.{rows_of, words_out}
+use Rattle.tcrest.specs.Tasks.{Bounded, Coded, coded_from, runs_on}
+
+-- a place on the platform of a job, at which a task starts in a cycle
+pub record IsPlaceOf (job : Job) (start : ℕ) (place : Place) : Type 0 where
+  pub cores : place.cores ≡ job.cores
+  pub slot : place.slot ≡ job.slot
+  pub table : place.table ≡ job.table
+  pub starts : place.start ≡ start
+
+-- a row tells what a text means: the value, whether a loop ran past its bound, and the words of `out`
+pub record TellsMeaning (place : Place) (items : List PlainItem) (g : Given) (row : Row) : Type 0 where
+  pub state : row.state ≡ Done g.value ((times place items).end - place.start)
+  pub overrun : row.overrun ≡ g.world.overrun
+  pub outs : row.outs ≡ words_out g.world (output_slot items)
+
+-- What the row of a core tells of a C task, in the machine of its job at the limit. The program's times hang on its text and its
+-- place alone, and neither on its input nor on what the other cores do.
+pub record TellsTask (job : Job) (m : State Core) (place : Place) (items : List PlainItem) (input : List ℕ) (row : Row) : Type 0 where
+  -- the transactions are the first of the program's times below the limit
+  pub accesses : row.accesses ≡ take job.trace (below job.cycles (times place items).accesses)
+  -- it is done exactly where its end is at most the limit, and else runs there; so it never traps
+  pub done : (times place items).end ≤ job.cycles → (value : ℕ) × (row.state ≡ Done value ((times place items).end - place.start))
+  pub limit : job.cycles < (times place items).end → row.state ≡ Limit
+  -- its end is at most its start and the bound that is told
+  pub bound : IfSome row.bound (λ b. (times place items).end ≤ place.start + b)
+  -- a done task is told to be what its text means in each world that fits, and alone the world of zeros does
+  pub meaning : (world : ℕ → ℕ) → IsWorld world → FitsWorld items place input m job.cycles world → (times place items).end ≤ job.cycles
+      → TellsMeaning place items (said items place input world) row
+  pub alone : row.alone ≡ true → FitsWorld items place input m job.cycles zeros
+
+-- the machine of a job, at its limit
+abbrev pub end_of : Job → List (Option Coded) → State Core
+end_of job coded = machine_of job (cores_from job 0 coded)
+
+-- so does each row of a core with a C task
+abbrev pub TellsTasks : Job → List (Option Coded) → Type 0
+TellsTasks job coded =
+    (place : Place) (c : Coded) (p : Bounded) (row : Row) → IsPlaceOf job c.task.start place
+    → slice_get coded place.core ≡ Some (Some c) → c.made.program ≡ Some p
+    → slice_get (rows_of job.cycles job.trace (map runs_on coded) (end_of job coded)) place.core ≡ Some row
+    → TellsTask job (end_of job coded) place p.items c.task.input row
+
+-- where a job is run whose tasks are all made
+abbrev pub TellsRun : Command → List ℕ → Type 0
+TellsRun command bytes =
+    (job : Job) (coded : List (Option Coded)) → command ≡ OfJob Run → job_of bytes ≡ Ok job → coded_from job 0 job.cores ≡ Ok coded → TellsTasks job coded
+
+-- the statuses with which a report is written
+abbrev pub HasReport : ℕ → Type 0
+HasReport status = (status ≡ 0) ⊎ (status ≡ 3)
+
+-- ---- what is known of tasks that are made
+
+-- a program that was compiled for a core
+pub record IsCompiled (job : Job) (core : ℕ) (image : Parts) (p : Bounded) : Type 0 where
+  pub valid : IsValid p.items job.cores core
+  pub code : IsCode (single p.items)
+  pub image_is : image ≡ (translation p.items).image
+  pub bound : p.bound ≡ bound_on job.table job.slot core p.items
+
+-- a core's task is of that core, its input is words, and its program was compiled for it
+pub record IsMadeFor (job : Job) (core : ℕ) (c : Coded) : Type 0 where
+  pub core_is : c.task.core ≡ core
+  pub start : c.task.start ≤ LATEST_START
+  pub given : Each IsWord c.task.input
+  pub compiled : IfSome c.made.program (IsCompiled job core c.made.image)
+
+abbrev pub IsMadeOn : Job → ℕ → Option Coded → Type 0
+IsMadeOn job core c = IfSome c (IsMadeFor job core)
+
+abbrev pub AreMade : Job → List (Option Coded) → Type 0
+AreMade job coded = (core : ℕ) → IfSome (slice_get coded core) (IsMadeOn job core)
