@@ -2,6 +2,7 @@
 use Rattle.std.proofs.Common.{◌≡◌, inl, inr, ℕ, ◌<◌, ◌≤◌, List, [], length, take, refl, sym, subst, IfOk, ◌∙◌, ◌≢◌, ◌↔◌, ap, slice_index, map, arith, Option, Some, None, IfSome}
 use Rattle.std.proofs.lemmas.Bool.{cases_lt}
 use Rattle.std.proofs.lemmas.Bool.Decides.{nat_tests}
+use Rattle.job_gen.specs.Generator.{generated}
 use Rattle.tc_job.specs.Fault.{Fault}
 use Rattle.tc_job.specs.Job.{job_of}
 use Rattle.tc_job.specs.declared.fault.JobFault.{JobFault}
@@ -14,7 +15,7 @@ use Rattle.patmos_model.specs.State.{Core}
 use Rattle.tcrest.specs.declared.top.TheConstants.{MOST_BYTES}
 use Rattle.tcrest.specs.declared.answers.Answer.{Answer}
 use Rattle.tcrest.specs.declared.command.Command.{Command}
-use Rattle.tcrest.specs.declared.command.Command.TheVariants.{OfJob, Grid, Usage}
+use Rattle.tcrest.specs.declared.command.Command.TheVariants.{OfJob, Grid, Gen, Bench, Usage}
 use Rattle.argo_grid.specs.declared.fault.GridFault.{GridFault}
 use Rattle.argo_grid.specs.declared.fault.GridFault.TheVariants as grid_faults
 use Rattle.argo_grid.specs.Check.{checked}
@@ -33,7 +34,7 @@ use Rattle.tcrest.specs.Meanings.{meanings}
 use Rattle.tcrest.specs.Pipe.{end_row, pipe_of}
 use Rattle.tcrest.specs.Rows.{rows_of, is_early, status_of}
 use Rattle.tcrest.specs.Tasks.{Coded, Runs, coded_from, runs_made, runs_on}
-use Rattle.tcrest.specs.Answer.{read_fault, too_long, no_job, no_task, whole, report_of, answer_with, answer_or, is_taken, one_core, pipe_with, answer_by, job_answer, of_grid, text_answer, bytes_answer, command_answer, answer, usage}
+use Rattle.tcrest.specs.Answer.{read_fault, too_long, no_job, no_task, whole, report_of, answer_with, answer_or, is_taken, one_core, pipe_with, answer_by, job_answer, of_grid, text_answer, bytes_answer, command_answer, answer, unread_answer}
 use Rattle.tcrest.specs.Outcome.{IsSent, Ends, HasWritten}
 
 -- the answer to a job has the status of a whole text or of a refused task
@@ -142,11 +143,15 @@ grid_answer-is (Err fault) = record {
 text_answer-is : (command : Command) (bytes : List ℕ) → (ReadsNothing command → ⊥) → IsOfInput (text_answer command bytes)
 text_answer-is (OfJob command) bytes reads = job_answer-is command (job_of bytes)
 text_answer-is Grid bytes reads = grid_answer-is (schedule_of bytes)
+text_answer-is (Gen number) bytes reads = absurd (reads tt)
+text_answer-is (Bench number) bytes reads = absurd (reads tt)
 text_answer-is Usage bytes reads = absurd (reads tt)
 
 text_answer-not_long : (command : Command) (bytes : List ℕ) → text_answer command bytes ≢ too_long
 text_answer-not_long (OfJob command) bytes = (job_answer-is command (job_of bytes)).not_long
 text_answer-not_long Grid bytes = (grid_answer-is (schedule_of bytes)).not_long
+text_answer-not_long (Gen number) bytes = λ same. absurd (let status : 0 ≡ 2 = ap (λ (a : Answer). a.status) same in omega (arith, status))
+text_answer-not_long (Bench number) bytes = (job_answer-is Run (job_of (generated number))).not_long
 text_answer-not_long Usage bytes = λ same. absurd (let status : 1 ≡ 2 = ap (λ (a : Answer). a.status) same in omega (arith, status))
 
 -- each of these answers has a status below those of faults of the outside
@@ -184,6 +189,8 @@ bytes_answer-status command bytes reads = elim (cases_lt MOST_BYTES (length byte
 command_answer-status : (command : Command) (bytes : List ℕ) → (command_answer command bytes).status < 5
 command_answer-status (OfJob command) bytes = (bytes_answer-status (OfJob command) bytes (λ none. none)).0
 command_answer-status Grid bytes = (bytes_answer-status Grid bytes (λ none. none)).0
+command_answer-status (Gen number) bytes = omega arith
+command_answer-status (Bench number) bytes = (job_answer-is Run (job_of (generated number))).below
 command_answer-status Usage bytes = omega arith
 
 pub answer-status : (words : List (List ℕ)) (bytes : List ℕ) → (answer words bytes).status < 5
@@ -192,13 +199,25 @@ answer-status words bytes = command_answer-status (command_of words) bytes
 pub command_answer-is_usage : (command : Command) (bytes : List ℕ) → ((command_answer command bytes).status ≡ 1) ↔ (command ≡ Usage)
 command_answer-is_usage (OfJob command) bytes = (λ one. absurd ((bytes_answer-status (OfJob command) bytes (λ none. none)).1 one), λ is. absurd (cc))
 command_answer-is_usage Grid bytes = (λ one. absurd ((bytes_answer-status Grid bytes (λ none. none)).1 one), λ is. absurd (cc))
+command_answer-is_usage (Gen number) bytes = (λ one. absurd (omega (arith, one)), λ is. absurd (cc))
+command_answer-is_usage (Bench number) bytes = (λ one. absurd ((job_answer-is Run (job_of (generated number))).not_usage one), λ is. absurd (cc))
 command_answer-is_usage Usage bytes = (λ _. refl, λ _. refl)
 
 -- of a command that reads the answer is that to its bytes
 pub reads_bytes : (command : Command) (bytes : List ℕ) → (ReadsNothing command → ⊥) → command_answer command bytes ≡ bytes_answer command bytes
 reads_bytes (OfJob command) bytes reads = refl
 reads_bytes Grid bytes reads = refl
+reads_bytes (Gen number) bytes reads = absurd (reads tt)
+reads_bytes (Bench number) bytes reads = absurd (reads tt)
 reads_bytes Usage bytes reads = absurd (reads tt)
+
+-- of one that reads nothing it is the same whatever the bytes are
+pub unread_bytes : (command : Command) (bytes : List ℕ) → ReadsNothing command → command_answer command bytes ≡ unread_answer command
+unread_bytes (OfJob command) bytes none = absurd none
+unread_bytes Grid bytes none = absurd none
+unread_bytes (Gen number) bytes none = refl
+unread_bytes (Bench number) bytes none = refl
+unread_bytes Usage bytes none = refl
 
 module _ (failed : Type 0) (status faults faults' : ℕ) (taken taken' : Option (List ℕ)) where
   pub sent_too_long : (command : Command) (left : Option (List ℕ)) → IfSome left (λ bytes. MOST_BYTES < length bytes) → IsSent too_long status faults faults' taken taken'
@@ -211,12 +230,15 @@ module _ (failed : Type 0) (status faults faults' : ℕ) (taken taken' : Option 
   sent_within command None came all within sent = tt
   sent_within command (Some bytes) came all within sent = rw (← all, bytes_answer-within command came within) (inr (inl sent))
 
-  pub usage_sent : (command : Command) (left : Option (List ℕ)) → command ≡ Usage → IsSent usage status faults faults' taken taken'
+  pub unread_ends : (command : Command) (left : Option (List ℕ)) → ReadsNothing command → Ends (unread_answer command) ⊥ status faults faults' taken taken'
       → IfSome left (λ bytes. Ends (command_answer command bytes) failed status faults faults' taken taken')
-  usage_sent (OfJob command) left is sent = absurd (cc)
-  usage_sent Grid left is sent = absurd (cc)
-  usage_sent Usage None is sent = tt
-  usage_sent Usage (Some bytes) is sent = inr (inl sent)
+  unread_ends command None reads ends = tt
+  unread_ends command (Some bytes) reads ends = rw (unread_bytes command bytes reads) (by ends)
+    where
+      by : Ends (unread_answer command) ⊥ status faults faults' taken taken' → Ends (unread_answer command) failed status faults faults' taken taken'
+      by (inl nothing) = inl nothing
+      by (inr (inl sent)) = inr (inl sent)
+      by (inr (inr line)) = absurd line.1
 
 -- a sink that tells its bytes was handed a text
 HasWritten-Ends : (a : Answer) (failed : Type 0) (status faults faults' : ℕ) (taken taken' : Option (List ℕ)) → a.status < 5

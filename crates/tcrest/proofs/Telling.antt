@@ -27,13 +27,14 @@ use Rattle.tc_job.specs.Job.{job_of}
 use Rattle.tc_job.specs.declared.job.Job.{Job}
 use Rattle.tc_report.specs.declared.rows.Row.{Row}
 use Rattle.tcrest.specs.declared.command.Command.{Command}
-use Rattle.tcrest.specs.declared.command.Command.TheVariants.{OfJob, Grid, Usage}
+use Rattle.tcrest.specs.declared.command.Command.TheVariants.{OfJob, Grid, Gen, Bench, Usage}
 use Rattle.tcrest.specs.declared.command.JobCommand.{JobCommand}
-use Rattle.tcrest.specs.declared.command.JobCommand.TheVariants.{Run}
+use Rattle.tcrest.specs.declared.command.JobCommand.TheVariants.{Run, Bound, Asm, Mean, Pipe}
+use Rattle.tcrest.specs.Command.{ReadsNothing}
 use Rattle.tcrest.specs.Machine.{core_with, core_in, cores_from, machine_of, site_on}
 use Rattle.tcrest.specs.Rows.{is_flagged, program_row, row_of, row_state, rows_from, running}
 use Rattle.tcrest.specs.Tasks.{Bounded, Coded, coded_from, runs_by, runs_on}
-use Rattle.tcrest.specs.Telling.{IsPlaceOf, TellsMeaning, TellsTask, TellsTasks, TellsRun, end_of, IsCompiled, IsMadeFor, IsMadeOn, AreMade}
+use Rattle.tcrest.specs.Telling.{IsPlaceOf, TellsMeaning, TellsTask, TellsTasks, TellsJob, TellsRun, end_of, IsCompiled, IsMadeFor, IsMadeOn, AreMade}
 use Rattle.tcrest.proofs.Outs.{outs_are}
 
 -- ---- one row
@@ -218,15 +219,36 @@ told_of job command coded (Ok x) is told = λ cs runs other. subst (TellsTasks j
 told_of job command coded (Err e) is told = tt
 
 -- the job is that of the bytes
-run_is : (command : JobCommand) → OfJob command ≡ OfJob Run → command ≡ Run
-run_is command same = ap (λ c. elim c as (λ _. JobCommand) [ OfJob x ↦ x | Grid ↦ command | Usage ↦ command ]) same
-
 pub told_run : {X E : Type 0} (command : JobCommand) (bytes : List ℕ) (job : Job) (result : Result X E) → job_of bytes ≡ Ok job
-    → IfOk result (λ _. (cs : List (Option Coded)) → command ≡ Run → coded_from job 0 job.cores ≡ Ok cs → TellsTasks job cs) → IfOk result (λ _. TellsRun (OfJob command) bytes)
-told_run command bytes job (Ok x) is told = λ other cs runs read.
+    → IfOk result (λ _. (cs : List (Option Coded)) → command ≡ Run → coded_from job 0 job.cores ≡ Ok cs → TellsTasks job cs) → IfOk result (λ _. command ≡ Run → TellsJob bytes)
+told_run command bytes job (Ok x) is told = λ runs other cs read.
     let same : job ≡ other = ok_is job other (sym is ∙ read) in
-    subst (λ j. coded_from j 0 j.cores ≡ Ok cs → TellsTasks j cs) same (told cs (run_is command runs))
+    subst (λ j. coded_from j 0 j.cores ≡ Ok cs → TellsTasks j cs) same (told cs runs)
 told_run command bytes job (Err e) is told = tt
+
+pub told_command : {X E : Type 0} (command : JobCommand) (bytes : List ℕ) (result : Result X E) → IfOk result (λ _. command ≡ Run → TellsJob bytes) → IfOk result (λ _. TellsRun (OfJob command) bytes)
+told_command command bytes (Err e) told = tt
+told_command Run bytes (Ok x) told = told refl
+told_command Bound bytes (Ok x) told = tt
+told_command Asm bytes (Ok x) told = tt
+told_command Mean bytes (Ok x) told = tt
+told_command Pipe bytes (Ok x) told = tt
+
+pub told_of_run : {X E : Type 0} (text : List ℕ) (result : Result X E) → IfOk result (λ _. Run ≡ Run → TellsJob text) → IfOk result (λ _. TellsJob text)
+told_of_run text (Ok x) told = told refl
+told_of_run text (Err e) told = tt
+
+-- what a command runs that reads nothing is the same whatever the bytes are
+tells_unread : (command : Command) (bytes : List ℕ) → ReadsNothing command → TellsRun command [] → TellsRun command bytes
+tells_unread (OfJob command) bytes none told = absurd none
+tells_unread Grid bytes none told = absurd none
+tells_unread (Gen number) bytes none told = tt
+tells_unread (Bench number) bytes none told = told
+tells_unread Usage bytes none told = tt
+
+pub told_unread : (command : Command) (left : Option (List ℕ)) (report : Type 0) → ReadsNothing command → (report → TellsRun command []) → IfSome left (λ bytes. report → TellsRun command bytes)
+told_unread command None report reads told = tt
+told_unread command (Some bytes) report reads told = λ made. tells_unread command bytes reads (told made)
 
 pub told_bytes : (command : Command) (left : Option (List ℕ)) (came : List ℕ) (report : Type 0) → IfSome left (λ bytes. came ≡ bytes) → TellsRun command came
     → IfSome left (λ bytes. report → TellsRun command bytes)

@@ -2,6 +2,7 @@
 use Rattle.std.specs.Prelude.{ℕ, nat_lt, Bool, true, if◌then◌else◌, List, [], ◌∷◌, Option, None, Some, ◌++◌, length, map, codes, Result, Ok, Err}
 use Rattle.argo_grid.specs.declared.report.GridReport.{GridReport}
 use Rattle.argo_grid.specs.Report as grid
+use Rattle.job_gen.specs.Generator.{generated}
 use Rattle.tc_job.specs.Fault.{Fault, fault_text}
 use Rattle.tc_job.specs.Job.{job_of}
 use Rattle.tc_job.specs.declared.job.Job.{Job}
@@ -11,7 +12,7 @@ use Rattle.tc_report.specs.Report.{report_text}
 use Rattle.tcrest.specs.declared.top.TheConstants.{MOST_BYTES}
 use Rattle.tcrest.specs.declared.answers.Answer.{Answer}
 use Rattle.tcrest.specs.declared.command.Command.{Command}
-use Rattle.tcrest.specs.declared.command.Command.TheVariants.{OfJob, Grid, Usage}
+use Rattle.tcrest.specs.declared.command.Command.TheVariants.{OfJob, Grid, Gen, Bench, Usage}
 use Rattle.tcrest.specs.declared.command.JobCommand.{JobCommand}
 use Rattle.tcrest.specs.declared.command.JobCommand.TheVariants.{Run, Bound, Asm, Mean, Pipe}
 use Rattle.tcrest.specs.declared.pipe.PipeFault.{PipeFault}
@@ -111,11 +112,21 @@ job_answer command (Ok job) = answer_by command job
 abbrev pub of_grid : GridReport → Answer
 of_grid report = record { status = report.status; text = report.text }
 
+-- what is written where nothing is read: the text of a generated job, what `run` writes for it, or the usage line
+abbrev pub unread_answer : Command → Answer
+unread_answer (Gen number) = whole (generated number)
+unread_answer (Bench number) = job_answer Run (job_of (generated number))
+unread_answer Usage = usage
+unread_answer (OfJob command) = usage
+unread_answer Grid = usage
+
 -- what is written for a text that is not too long
 abbrev pub text_answer : Command → List ℕ → Answer
 text_answer (OfJob command) bytes = job_answer command (job_of bytes)
 text_answer Grid bytes = of_grid (grid.report_of bytes)
-text_answer Usage bytes = usage
+text_answer (Gen number) bytes = unread_answer (Gen number)
+text_answer (Bench number) bytes = unread_answer (Bench number)
+text_answer Usage bytes = unread_answer Usage
 
 unfoldable pub bytes_answer : Command → List ℕ → Answer
 bytes_answer command bytes = if nat_lt MOST_BYTES (length bytes) then too_long else text_answer command bytes
@@ -123,7 +134,9 @@ bytes_answer command bytes = if nat_lt MOST_BYTES (length bytes) then too_long e
 abbrev pub command_answer : Command → List ℕ → Answer
 command_answer (OfJob command) bytes = bytes_answer (OfJob command) bytes
 command_answer Grid bytes = bytes_answer Grid bytes
-command_answer Usage bytes = usage
+command_answer (Gen number) bytes = unread_answer (Gen number)
+command_answer (Bench number) bytes = unread_answer (Bench number)
+command_answer Usage bytes = unread_answer Usage
 
 -- the one order of refusals: words, reading, length, job or schedule, tasks by core number
 abbrev pub answer : List (List ℕ) → List ℕ → Answer

@@ -1,5 +1,5 @@
 -- What the report of a job tells of its C tasks, in terms of what their texts mean and of the times of their code.
-use Rattle.std.specs.Prelude.{◌≡◌, ℕ, ◌+◌, ◌-◌, ◌<◌, ◌≤◌, ◌⊎◌, true, List, take, map, Option, Some, IfSome, Ok, slice_get}
+use Rattle.std.specs.Prelude.{◌≡◌, ℕ, ◌+◌, ◌-◌, ◌<◌, ◌≤◌, ◌⊎◌, true, List, take, map, Option, None, Some, IfSome, Ok, slice_get}
 use Rattle.std.specs.List.{AllByRecursion as Each}
 use Rattle.slot_arbiter.specs.declared.place.Place.{Place}
 use Rattle.slot_arbiter.specs.declared.place.TheConstants.{LATEST_START}
@@ -9,6 +9,7 @@ use Rattle.c_tree.specs.Plain.{PlainItem}
 use Rattle.c_tree.specs.Valid.{IsValid}
 use Rattle.c_meaning.specs.Meaning.{Given}
 use Rattle.core_pace.specs.Growth.{below}
+use Rattle.job_gen.specs.Generator.{generated}
 use Rattle.patmos_code.specs.Images.{Parts}
 use Rattle.patmos_model.specs.Range.{IsWord}
 use Rattle.patmos_model.specs.State.{Core}
@@ -22,7 +23,7 @@ use Rattle.tc_job.specs.declared.job.Job.{Job}
 use Rattle.tc_report.specs.declared.rows.Row.{Row}
 use Rattle.tc_report.specs.declared.rows.RowState.TheVariants.{Limit, Done}
 use Rattle.tcrest.specs.declared.command.Command.{Command}
-use Rattle.tcrest.specs.declared.command.Command.TheVariants.{OfJob}
+use Rattle.tcrest.specs.declared.command.Command.TheVariants.{OfJob, Bench}
 use Rattle.tcrest.specs.declared.command.JobCommand.TheVariants.{Run}
 use Rattle.tcrest.specs.Machine.{cores_from, machine_of}
 use Rattle.tcrest.specs.Meanings.{output_slot}
@@ -69,10 +70,19 @@ TellsTasks job coded =
     → slice_get (rows_of job.cycles job.trace (map runs_on coded) (end_of job coded)) place.core ≡ Some row
     → TellsTask job (end_of job coded) place p.items c.task.input row
 
--- where a job is run whose tasks are all made
+-- where the text is a job whose tasks are all made
+abbrev pub TellsJob : List ℕ → Type 0
+TellsJob text = (job : Job) (coded : List (Option Coded)) → job_of text ≡ Ok job → coded_from job 0 job.cores ≡ Ok coded → TellsTasks job coded
+
+-- the text of the job that a command runs: the input, or a generated job
+abbrev pub run_text : Command → List ℕ → Option (List ℕ)
+run_text (OfJob Run) bytes = Some bytes
+run_text (Bench number) bytes = Some (generated number)
+run_text _ bytes = None
+
+-- where a job is run
 abbrev pub TellsRun : Command → List ℕ → Type 0
-TellsRun command bytes =
-    (job : Job) (coded : List (Option Coded)) → command ≡ OfJob Run → job_of bytes ≡ Ok job → coded_from job 0 job.cores ≡ Ok coded → TellsTasks job coded
+TellsRun command bytes = IfSome (run_text command bytes) TellsJob
 
 -- the statuses with which a report is written
 abbrev pub HasReport : ℕ → Type 0

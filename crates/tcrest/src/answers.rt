@@ -1,14 +1,14 @@
 ghost use Rattle.std.specs.Prelude as prelude;
-ghost use Rattle.std.specs.Prelude.{◌≡◌, ◌<◌, All, Option, Ok, true, IfOk, length};
+ghost use Rattle.std.specs.Prelude.{◌≡◌, ◌<◌, All, [], Option, Ok, true, IfOk, length};
 ghost use Rattle.argo_grid.specs.Report as grid;
+ghost use Rattle.job_gen.specs.Generator.{generated};
 ghost use Rattle.tc_job.specs.Job.{job_of};
 ghost use Rattle.tc_job.specs.Ranges.{KeepsRanges};
 ghost use Rattle.tcrest.specs.Answer as specs;
 ghost use Rattle.tcrest.specs.Command as words;
-ghost use Rattle.tcrest.specs.declared.command.Command.TheVariants as commands;
 ghost use Rattle.tcrest.specs.declared.command.JobCommand.TheVariants as variants;
 ghost use Rattle.tcrest.specs.Tasks.{Coded, coded_from};
-ghost use Rattle.tcrest.specs.Telling.{AreMade, TellsTasks, TellsRun};
+ghost use Rattle.tcrest.specs.Telling.{AreMade, TellsJob, TellsTasks, TellsRun};
 ghost use Rattle.tcrest.specs.Coding.{all_shown, IsAmong};
 
 use crate::bounds::bounds_text;
@@ -22,6 +22,7 @@ use crate::rows::{report_text_of, rows_of, status_of};
 use crate::tasks::{CodedTask, coded_tasks};
 use argo_grid::{GridReport, grid_report};
 use global_step::machine_keeps_ranges;
+use job_gen::generate;
 use std::alloc::{AllocError, Global};
 use std::sync::Wait;
 use std::thread::Threads;
@@ -58,8 +59,64 @@ pub fn text_answer<R: Threads + Wait + Sync, G: Gate + Sync>(
     match command {
         Command::OfJob(command) => job_answer(alloc, rt, command, bytes, gate),
         Command::Grid => grid_answer(alloc, bytes),
+        Command::Gen { .. } => unreachable!(),
+        Command::Bench { .. } => unreachable!(),
         Command::Usage => unreachable!(),
     }
+}
+
+/// The answer that a command that reads nothing owes.
+pub fn unread_answer<R: Threads + Wait + Sync, G: Gate + Sync>(
+    alloc: Global,
+    rt: &R,
+    command: Command,
+    gate: &G,
+) -> Result<Answer, OutOfMemory>
+    requires { words.ReadsNothing command }
+    ensures answer { IfOk result (λ answer. answer ≡ specs.unread_answer command) }
+    ensures below { IfOk result (λ answer. answer.status < 5) }
+    ensures told { IfOk result (λ _. TellsRun command []) }
+{
+    match command {
+        Command::Gen { number } => gen_answer(alloc, number),
+        Command::Bench { number } => bench_answer(alloc, rt, number, gate),
+        Command::Usage => usage_answer(alloc),
+        Command::OfJob(_) => unreachable!(),
+        Command::Grid => unreachable!(),
+    }
+}
+
+// the text of a generated job
+fn gen_answer(alloc: Global, number: u32) -> Result<Answer, OutOfMemory>
+    ensures { IfOk result (λ answer. answer ≡ specs.whole (generated number)) }
+{
+    Ok(whole(generate(alloc, u64::from(number))?))
+}
+
+// what `run` writes for it
+#[tactic(auto, using(crate::proofs::Outcomes::below_if))]
+fn bench_answer<R: Threads + Wait + Sync, G: Gate + Sync>(
+    alloc: Global,
+    rt: &R,
+    number: u32,
+    gate: &G,
+) -> Result<Answer, OutOfMemory>
+    ensures answer { IfOk result (λ answer. answer ≡ specs.job_answer variants.Run (job_of (generated number))) }
+    ensures below { IfOk result (λ answer. answer.status < 5) }
+    ensures told { IfOk result (λ _. TellsJob (generated number)) }
+{
+    let text = generate(alloc, u64::from(number))?;
+    job_answer(alloc, rt, JobCommand::Run, text.as_slice(), gate)
+}
+
+// the usage line
+fn usage_answer(alloc: Global) -> Result<Answer, OutOfMemory>
+    ensures { IfOk result (λ answer. answer ≡ specs.usage) }
+{
+    Ok(Answer {
+        status: 1,
+        text: List::of(Vec::from_slice(alloc, USAGE)?),
+    })
 }
 
 // the answer to the bytes of a schedule of the network
@@ -81,7 +138,7 @@ fn job_answer<R: Threads + Wait + Sync, G: Gate + Sync>(
 ) -> Result<Answer, OutOfMemory>
     ensures answer { IfOk result (λ answer. answer ≡ specs.job_answer command (job_of bytes.now)) }
     ensures below { IfOk result (λ answer. answer.status < 5) }
-    ensures told { IfOk result (λ _. TellsRun (commands.OfJob command) bytes.now) }
+    ensures told { IfOk result (λ _. command ≡ variants.Run → TellsJob bytes.now) }
 {
     match read_job(alloc, bytes) {
         Ok(job) => answer_by(alloc, rt, command, &job, gate),

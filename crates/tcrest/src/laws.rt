@@ -1,4 +1,4 @@
-ghost use Rattle.std.specs.Prelude.{◌≡◌, ℕ, ◌<◌, ◌≤◌, ◌↔◌, false, List, [], ◌∷◌, Ok, length, map, codes};
+ghost use Rattle.std.specs.Prelude.{◌≡◌, ℕ, ◌<◌, ◌≤◌, ◌↔◌, false, List, [], ◌∷◌, Some, Ok, length, map, codes};
 ghost use Rattle.std.specs.List.{AllByRecursion as Each};
 ghost use Rattle.patmos_model.specs.State.{Core};
 ghost use Rattle.global_step.specs.Loaded.{Machine};
@@ -13,10 +13,10 @@ ghost use Rattle.c_parse.proofs.Reading.{tree_of};
 ghost use Rattle.tc_report.specs.Line.{line};
 ghost use Rattle.tc_report.specs.declared.rows.RowState.TheVariants.{Limit, Done};
 ghost use Rattle.tcrest.specs.declared.command.Command.{Command};
-ghost use Rattle.tcrest.specs.declared.command.Command.TheVariants.{OfJob, Grid, Usage};
+ghost use Rattle.tcrest.specs.declared.command.Command.TheVariants.{OfJob, Grid, Gen, Bench, Usage};
 ghost use Rattle.tcrest.specs.declared.command.JobCommand.TheVariants.{Run, Bound, Asm, Mean, Pipe};
 ghost use Rattle.tcrest.specs.Answer.{answer, bytes_answer, text_fault_number, too_long, usage};
-ghost use Rattle.tcrest.specs.Command.{command_of};
+ghost use Rattle.tcrest.specs.Command.{command_of, number_in};
 ghost use Rattle.tcrest.specs.Complete.{HasCode, IsWhole};
 ghost use Rattle.tcrest.specs.Loading.{IsLoadedFor};
 ghost use Rattle.tcrest.specs.Machine.{machine_of};
@@ -39,6 +39,8 @@ pub fn refusals_in_order()
     ensures mean { (words : List (List ℕ)) → (command_of words ≡ OfJob Mean) ↔ (words ≡ codes "mean" ∷ []) }
     ensures pipe { (words : List (List ℕ)) → (command_of words ≡ OfJob Pipe) ↔ (words ≡ codes "pipe" ∷ []) }
     ensures grid { (words : List (List ℕ)) → (command_of words ≡ Grid) ↔ (words ≡ codes "grid" ∷ []) }
+    ensures generated { (word digits : List ℕ) (number : ℕ) → (command_of (word ∷ digits ∷ []) ≡ Gen number) ↔ ((word ≡ codes "gen") × (number_in digits ≡ Some number)) }
+    ensures bench { (word digits : List ℕ) (number : ℕ) → (command_of (word ∷ digits ∷ []) ≡ Bench number) ↔ ((word ≡ codes "bench") × (number_in digits ≡ Some number)) }
 
     // A text is too long exactly where it has more than `MOST_BYTES` bytes.
     ensures too_long { (command : Command) (bytes : List ℕ) → (bytes_answer command bytes ≡ too_long) ↔ (MOST_BYTES < length bytes) }

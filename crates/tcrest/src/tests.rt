@@ -89,7 +89,7 @@ pub fn answer_under<R: Threads + Wait + Sync, G: Gate + Sync>(
     gate: &G,
 ) -> Result<(u8, SureGather), Fail> {
     let mut source = SureBytes::new(Vec::from_slice(alloc, input)?);
-    let mut sink = SureGather::new(alloc, 1_000)?;
+    let mut sink = SureGather::new(alloc, 20_000)?;
     let words = words_of(alloc, given)?;
     let status = tcrest(alloc, rt, words.as_slice(), &mut source, &mut sink, gate);
     Ok((status, sink))
@@ -157,6 +157,25 @@ fn programs_are_refused_alike(rt: HostRuntime) -> Result<(), Fail> {
 }
 
 #[test]
+fn generated_jobs_are_run(rt: HostRuntime) -> Result<(), Fail> {
+    for number in ["0", "4294967295"] {
+        let (made, text) = answer_to(&rt, rt.alloc(), &["gen", number], b"")?;
+        let (ran, report) = answer_to(&rt, rt.alloc(), &["run"], text.kept())?;
+        let (benched, same) = answer_to(&rt, rt.alloc(), &["bench", number], b"")?;
+        assert_eq!(rt; (made, ran, benched), (0, 0, 0));
+        assert_eq!(rt; same.kept(), report.kept());
+    }
+    for number in ["", "-1", "+1", "1 ", "0x1", "00000000001", "4294967296"] {
+        for word in ["gen", "bench"] {
+            let (status, sink) = answer_to(&rt, rt.alloc(), &[word, number], b"")?;
+            assert_eq!(rt; status, 1);
+            assert_eq!(rt; sink.kept(), USAGE);
+        }
+    }
+    Ok(())
+}
+
+#[test]
 fn stages_are_told_of_a_core_alone(rt: HostRuntime) -> Result<(), Fail> {
     for (input, wanted, text) in [
         (STAGES_JOB, 0, STAGES),
@@ -179,8 +198,8 @@ fn other_words_are_answered_with_usage(rt: HostRuntime) -> Result<(), Fail> {
     }
     let (two, _) = answer_to(&rt, rt.alloc(), &["run", "x"], JOB)?;
     let (none, _) = answer_to(&rt, rt.alloc(), &[], JOB)?;
-    let (wide, sink) = answer_to(&rt, rt.alloc(), &["gen", "4294967296"], JOB)?;
-    assert_eq!(rt; (two, none, wide), (1, 1, 1));
+    let (three, sink) = answer_to(&rt, rt.alloc(), &["gen", "1", "1"], JOB)?;
+    assert_eq!(rt; (two, none, three), (1, 1, 1));
     assert_eq!(rt; sink.kept(), USAGE);
     Ok(())
 }

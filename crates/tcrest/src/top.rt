@@ -1,11 +1,12 @@
 ghost use Rattle.std.specs.Prelude.{◌≡◌, ◌⊎◌, [], IfSome};
 ghost use Rattle.tc_io.specs.Faults.{Rose};
+ghost use Rattle.tcrest.specs.Answer as answers;
 ghost use Rattle.tcrest.specs.Answer.{answer, command_answer, bytes_answer, text_fault_number};
 ghost use Rattle.tcrest.specs.Command as commands;
 ghost use Rattle.tcrest.specs.Telling.{HasReport, TellsRun};
 ghost use Rattle.tcrest.specs.Outcome.{Ends, IsAnswered, IsSent, HasWritten};
 
-use crate::answers::{USAGE, text_answer};
+use crate::answers::{text_answer, unread_answer};
 use crate::command::{Command, command_of};
 use std::alloc::Global;
 use std::sync::Wait;
@@ -28,7 +29,7 @@ const READ_FAULT: u8 = 5;
 ///
 /// | status | meaning | written |
 /// |---|---|---|
-/// | 0 | the command did what it says | the report, the listings, or the bounds of tasks or of a schedule |
+/// | 0 | the command did what it says | the report, the bounds, the listings, the meanings, the steps, the text of a generated job, or the bounds of a schedule |
 /// | 1 | the words are no command | the usage line |
 /// | 2 | the job or the schedule is refused | `job: ` or `grid: ` and the fault |
 /// | 3 | a task was stopped, or has not ended by the limit | the report |
@@ -60,6 +61,7 @@ pub fn tcrest<R: Threads + Wait + Sync, S: Source, K: Sink, G: Gate + Sync>(
     // once it is done its value, its flag and its words of `out` are what its text means in each world that fits its loads; told
     // to be alone, in the world of zeros.
     ensures programs { IfSome (S.left source.old) (λ bytes. HasReport result → TellsRun (commands.command_of words.now) bytes) }
+    ensures programs_unread { commands.ReadsNothing (commands.command_of words.now) → HasReport result → TellsRun (commands.command_of words.now) [] }
 
     // What was written, whatever failed.
     ensures written { IfSome (S.left source.old) (λ bytes. HasWritten (answer words.now bytes)
@@ -87,12 +89,15 @@ fn perform<R: Threads + Wait + Sync, S: Source, K: Sink, G: Gate + Sync>(
     ensures ends_unread { commands.ReadsNothing command → Ends (command_answer command []) ⊥ result
         (K.faults sink.old) (K.faults sink.new) (K.taken sink.old) (K.taken sink.new) }
     ensures told { IfSome (S.left source.old) (λ bytes. HasReport result → TellsRun command bytes) }
+    ensures told_unread { commands.ReadsNothing command → HasReport result → TellsRun command [] }
     ensures read_fault { result ≡ 5 → Rose (S.faults source.old) (S.faults source.new) }
     ensures write_fault { result ≡ 6 → Rose (K.faults sink.old) (K.faults sink.new) }
 {
     match command {
-        Command::Usage => finish(sink, 1, USAGE),
-        _ => answer_input(alloc, rt, command, source, sink, gate),
+        Command::OfJob(_) | Command::Grid => answer_input(alloc, rt, command, source, sink, gate),
+        Command::Gen { .. } | Command::Bench { .. } | Command::Usage => {
+            answer_unread(alloc, rt, command, sink, gate)
+        }
     }
 }
 
@@ -138,6 +143,27 @@ fn answer_input<R: Threads + Wait + Sync, S: Source, K: Sink, G: Gate + Sync>(
         Err(ReadError::Memory) => return MEMORY,
     };
     match text_answer(alloc, rt, command, bytes.as_slice(), gate) {
+        Ok(answer) => finish(sink, answer.status, answer.text.as_slice()),
+        Err(_) => MEMORY,
+    }
+}
+
+/// Answers a command that reads nothing.
+fn answer_unread<R: Threads + Wait + Sync, K: Sink, G: Gate + Sync>(
+    alloc: Global,
+    rt: &R,
+    command: Command,
+    sink: &mut K,
+    gate: &G,
+) -> u8
+    requires unread { commands.ReadsNothing command }
+    ensures ends { Ends (answers.unread_answer command) ⊥ result
+        (K.faults sink.old) (K.faults sink.new) (K.taken sink.old) (K.taken sink.new) }
+    ensures told { HasReport result → TellsRun command [] }
+    ensures read_fault { result ≡ 5 → ⊥ }
+    ensures write_fault { result ≡ 6 → Rose (K.faults sink.old) (K.faults sink.new) }
+{
+    match unread_answer(alloc, rt, command, gate) {
         Ok(answer) => finish(sink, answer.status, answer.text.as_slice()),
         Err(_) => MEMORY,
     }
