@@ -14,18 +14,16 @@ use Rattle.patmos_sem.specs.declared.writes.Write.{Write}
 use Rattle.patmos_sem.specs.declared.writes.Write.TheVariants as write
 use Rattle.patmos_sem.proofs.Told.{kept_registers, kept_preds}
 use Rattle.sp_shape.proofs.Whole.{with_pending, stored_regs, stacked_regs, behind, late_fits}
-use Rattle.sp_shape.specs.Run.{Run, IsWhole, Sources, effected, late, once, settled, with_settled, run_late}
+use Rattle.sp_shape.specs.Run.{Run, IsWhole, Sources, effected, late, once, settled, with_settled}
 use Rattle.sp_shape.specs.Small.{idle}
-use Rattle.sp_shape.specs.Trail.{all_done}
 use Rattle.sp_shape.specs.Words.{is_late}
-use Rattle.bundle_sched.specs.Placed.{one_spaced}
 
-abbrev with_regs : Run → Registers → Run
+abbrev pub with_regs : Run → Registers → Run
 with_regs m regs = record m { regs = regs }
 
 -- ---- a bundle whose value does not come late
 
-settled_same : (regs : Registers) → FitsRegisters regs → regs.pending ≡ pending.Nothing → settled regs ≡ regs
+pub settled_same : (regs : Registers) → FitsRegisters regs → regs.pending ≡ pending.Nothing → settled regs ≡ regs
 settled_same regs fits nothing =
     ap (λ p. with_pending (after_writes (came p ∷ []) regs) pending.Nothing) nothing
     ∙ (λ k. record {
@@ -39,7 +37,7 @@ settled_same regs fits nothing =
     })
 
 -- an operation whose value does not come late leaves nothing pending, whether or not its guard is true
-leaves_nothing : (from : Sources) (on : Bool) (op : Op) (regs : Registers) (m : Run) → is_late op ≡ false → m.regs.pending ≡ (if on then begun regs op else pending.Nothing)
+pub leaves_nothing : (from : Sources) (on : Bool) (op : Op) (regs : Registers) (m : Run) → is_late op ≡ false → m.regs.pending ≡ (if on then begun regs op else pending.Nothing)
     → (effected from (if on then asked regs op else effect.Nothing) m).regs.pending ≡ pending.Nothing
 leaves_nothing from false op regs m early is = is
 leaves_nothing from true (Load space width rd ra imm) regs m early is = absurd cc
@@ -49,7 +47,7 @@ leaves_nothing from true (Store space width ra rs imm) regs m early is =
     ap (λ r. r.pending) (stored_regs space width (address_of (word_in regs ra) imm (store_bytes width)) (word_in regs rs) m) ∙ is
 leaves_nothing from true _ regs m early is = is
 
-early_once : (from : Sources) (b : Slots) (m : Run) → IsWhole m → is_late b.first.op ≡ false → late from b m ≡ once from b m
+pub early_once : (from : Sources) (b : Slots) (m : Run) → IsWhole m → is_late b.first.op ≡ false → late from b m ≡ once from b m
 early_once from b m whole early =
     let nothing = leaves_nothing from (holds m.regs b.first.guard) b.first.op m.regs (behind b m) early refl in
     sym (ap (with_regs (late from b m)) (settled_same (late from b m).regs (late_fits from b m whole.fits) nothing))
@@ -74,17 +72,8 @@ zero_written w v regs = λ k. record {
 }
 
 -- what was pending comes, and all else stays
-idle_settles : (from : Sources) (m : Run) → FitsRegisters m.regs → late from idle m ≡ with_settled m
+pub idle_settles : (from : Sources) (m : Run) → FitsRegisters m.regs → late from idle m ≡ with_settled m
 idle_settles from m fits =
     let written = λ (on : Bool). came m.regs.pending ∷ (if on then write_of m.st m.ss m.regs idle.first.op else write.Nothing) ∷ write.Nothing ∷ [] in
     ap (λ on. effected from (if on then effect.Nothing else effect.Nothing) (with_regs m (with_pending (after_writes (written on) m.regs) (if on then pending.Nothing else pending.Nothing)))) fits.always
     ∙ ap (with_regs m) (zero_written (came m.regs.pending) (alu_value (alu_of imm.Add) (word_in m.regs 0) 0) m.regs)
-
--- ---- both
-
-pub one_runs : (from : Sources) (b : Slots) (m : Run) → IsWhole m → run_late from (all_done (one_spaced b)) m ≡ once from b m
-one_runs from b m whole = placed_so (is_late b.first.op) refl
-  where
-    placed_so : (is : Bool) → is_late b.first.op ≡ is → run_late from (all_done (if is then b ∷ idle ∷ [] else b ∷ [])) m ≡ once from b m
-    placed_so true late_one = idle_settles from (late from b m) (late_fits from b m whole.fits)
-    placed_so false early = early_once from b m whole early

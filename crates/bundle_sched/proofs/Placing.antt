@@ -10,15 +10,15 @@ use Rattle.sp_shape.specs.declared.parts.Part.{Part}
 use Rattle.sp_shape.specs.declared.parts.Part.TheViews.{Repeat}
 use Rattle.bundle_sched.specs.Placed.{one_spaced, spaced, part_placed, parts_placed}
 
-drop_item : {X : Type 0} (xs : List X) (i : ℕ) (x : X) → i < length xs → x ≡ get_or xs i x → drop i xs ≡ x ∷ drop (i + 1) xs
+pub drop_item : {X : Type 0} (xs : List X) (i : ℕ) (x : X) → i < length xs → x ≡ get_or xs i x → drop i xs ≡ x ∷ drop (i + 1) xs
 drop_item xs i x within is = drop-cons xs i x within ∙ ap (λ y. y ∷ drop (suc i) xs) (sym is) ∙ ap (λ n. x ∷ drop n xs) (sym (add-one i))
 
 -- ---- bundles
 
 pub bundle_added : (bs : List Slots) (i : ℕ) (b : Slots) (done next whole : List Slots) → i < length bs → b ≡ get_or bs i b
-    → done ++ spaced (drop i bs) ≡ whole → next ≡ done ++ one_spaced b → next ++ spaced (drop (i + 1) bs) ≡ whole
+    → done ++ spaced (drop i bs) ≡ whole → next ≡ done ++ one_spaced b (drop (i + 1) bs) → next ++ spaced (drop (i + 1) bs) ≡ whole
 bundle_added bs i b done next whole within is before added =
-    ap (λ xs. xs ++ spaced (drop (i + 1) bs)) added ∙ append_assoc done (one_spaced b) (spaced (drop (i + 1) bs))
+    ap (λ xs. xs ++ spaced (drop (i + 1) bs)) added ∙ append_assoc done (one_spaced b (drop (i + 1) bs)) (spaced (drop (i + 1) bs))
     ∙ ap (λ xs. done ++ spaced xs) (sym (drop_item bs i b within is)) ∙ before
 
 pub bundles_done : (bs : List Slots) (i : ℕ) (done whole : List Slots) → length bs ≤ i → done ++ spaced (drop i bs) ≡ whole → done ≡ whole

@@ -1,77 +1,12 @@
--- Loops that make all their turns where the trail is read at once make them where the spaced one is read late.
-use Rattle.std.proofs.Common.{ℕ, zero, suc, ◌≡◌, ◌==◌, Bool, true, false, List, [], ◌∷◌, ◌++◌, length, map, slice_index_or, sym, subst}
-use Rattle.std.specs.Bool.{MatchBool}
-use Rattle.std.proofs.lemmas.List.{length-map}
-use Rattle.patmos_instr.specs.Bundles.{Slots}
-use Rattle.sp_shape.specs.Parts.{PlainPart, straight, repeats, calls_to, leaves, PlainParts, no_part, part, PlainShape}
-use Rattle.sp_shape.specs.Run.{Run, IsWhole, Back, Sources, branches, returns, run_late, run}
-use Rattle.sp_shape.specs.Trail.{Step, begins, all_done, part_trail, trails}
-use Rattle.sp_shape.specs.Turning.{AllTurns, PartTurns, PartsTurn, back_of, FunctionsTurn, ShapeTurns}
-use Rattle.bundle_sched.specs.Placed.{spaced, part_placed, parts_placed, placed}
-use Rattle.bundle_sched.proofs.Runs.{Same, same_nothing, same_then, same_begun, same_bundles, same_part, same_parts, same_functions, placed_at}
+-- Loops that make all their turns where a shape's trail is read at once make them where the scheduled one's is read late.
+use Rattle.std.proofs.Common.{◌≡◌}
+use Rattle.sp_shape.specs.Parts.{PlainShape}
+use Rattle.sp_shape.specs.Run.{Run, IsWhole, Sources, run, run_late}
+use Rattle.sp_shape.specs.Turning.{ShapeTurns}
+use Rattle.bundle_sched.specs.Packing.{merged}
+use Rattle.bundle_sched.specs.Scheduled.{scheduled}
+use Rattle.bundle_sched.proofs.PackedTurns.{merged_turns}
+use Rattle.bundle_sched.proofs.SpacedTurns.{spaced_turns}
 
--- what is said of the runs before and behind a tail
-behind_tail : {from : Sources} {xs us : List Step} (P : Run → Run → Type 0) (tail : List Slots) → Same from xs us → (m : Run) → IsWhole m
-    → P (run from us m) (run from (all_done tail) (run from us m)) → P (run_late from xs m) (run_late from (all_done (spaced tail)) (run_late from xs m))
-behind_tail {from} {xs} {us} P tail a m whole h =
-    subst (λ t. P t (run_late from (all_done (spaced tail)) t)) (sym (a.runs m whole))
-    (subst (λ u. P (run from us m) u) (sym ((same_bundles from tail).runs (run from us m) (a.whole m whole))) h)
-
-turns_same : {from : Sources} {xs us : List Step} (Inside Late : Run → Type 0) (tail : List Slots) → Same from xs us → ((m : Run) → IsWhole m → Inside m → Late m)
-    → (n : ℕ) (m : Run) → IsWhole m → AllTurns (run from) Inside us tail n m → AllTurns (run_late from) Late xs (spaced tail) n m
-turns_same Inside Late tail a inside zero m whole h = tt
-turns_same Inside Late tail a inside (suc zero) m whole h = (inside m whole h.0, behind_tail (λ t u. u.ways ≡ t.ways) tail a m whole h.1)
-turns_same {from} {xs} {us} Inside Late tail a inside (suc (suc n)) m whole h =
-    let turn = same_then a (same_bundles from tail) in
-    let others = turns_same Inside Late tail a inside (suc n) (run from (us ++ all_done tail) m) (turn.whole m whole) h.2 in (
-      inside m whole h.0,
-      behind_tail (λ t u. u.ways ≡ t.ways ++ branches ∷ []) tail a m whole h.1,
-      subst (AllTurns (run_late from) Late xs (spaced tail) (suc n)) (sym (turn.runs m whole)) others,
-    )
-
--- ---- parts, over functions whose trails are the same and that make their turns
-
-module _ (from : Sources) (f g : ℕ → List Step) (Called Late : ℕ → Run → Type 0) (each : (k : ℕ) → Same from (g k) (f k))
-    (called : (k : ℕ) (m : Run) → IsWhole m → Called k m → Late k m) (back : Back) where
-  mutual
-    part_turns : (p : PlainPart) (m : Run) → IsWhole m → PartTurns (run from) f Called back p m → PartTurns (run_late from) g Late back (part_placed p) m
-    part_turns (straight bs) m whole h = tt
-    part_turns (repeats count body tail) m whole h =
-        turns_same (λ t. PartsTurn (run from) f Called back body t) (λ t. PartsTurn (run_late from) g Late back (parts_placed body) t) tail (same_parts f g each body)
-        (λ t whole h. parts_turn body t whole h) count m whole h
-    part_turns (calls_to k tail) m whole h =
-        let way = same_then (same_bundles from tail) (same_begun (same_nothing from)) in
-        subst (Late k) (sym (way.runs m whole)) (called k (run from (all_done tail ++ begins ∷ []) m) (way.whole m whole) h)
-    part_turns (leaves tail) m whole h = subst (λ t. t.ways ≡ m.ways ++ returns back.base back.offset ∷ []) (sym ((same_bundles from tail).runs m whole)) h
-
-    pub parts_turn : (ps : PlainParts) (m : Run) → IsWhole m → PartsTurn (run from) f Called back ps m → PartsTurn (run_late from) g Late back (parts_placed ps) m
-    parts_turn no_part m whole h = tt
-    parts_turn (part p rest) m whole h =
-        let before = same_part f g each p in (
-          part_turns p m whole h.0,
-          subst (PartsTurn (run_late from) g Late back (parts_placed rest)) (sym (before.runs m whole)) (parts_turn rest (run from (part_trail f p) m) (before.whole m whole) h.1),
-        )
-
--- ---- functions and shapes
-
--- what is said by a test
-chosen : {A B C D : Type 0} (b : Bool) → (A → C) → (B → D) → MatchBool b A B → MatchBool b C D
-chosen true here there h = here h
-chosen false here there h = there h
-
-functions_turn : (from : Sources) (fs : List PlainParts) (n k : ℕ) (m : Run) → IsWhole m → FunctionsTurn (run from) fs n k m
-    → FunctionsTurn (run_late from) (map parts_placed fs) n k m
-functions_turn from fs zero k m whole h = tt
-functions_turn from fs (suc n) k m whole h =
-    let gs = map parts_placed fs in
-    let own = λ (own : PartsTurn (run from) (trails fs n) (FunctionsTurn (run from) fs n) (back_of m) (slice_index_or fs n no_part) m).
-    subst (λ ps. PartsTurn (run_late from) (trails gs n) (FunctionsTurn (run_late from) gs n) (back_of m) ps m) (sym (placed_at fs n))
-    (parts_turn from (trails fs n) (trails gs n) (FunctionsTurn (run from) fs n) (FunctionsTurn (run_late from) gs n) (same_functions from fs n)
-    (λ j t whole h. functions_turn from fs n j t whole h) (back_of m) (slice_index_or fs n no_part) m whole own) in
-    chosen (k == n) own (λ other. functions_turn from fs n k m whole other) h
-
-pub turns_as : (s t : PlainShape) → t ≡ placed s → (from : Sources) (m : Run) → IsWhole m → ShapeTurns (run from) s m → ShapeTurns (run_late from) t m
-turns_as s t told from m whole h =
-    subst (λ x. ShapeTurns (run_late from) x m) (sym told)
-    (subst (λ n. FunctionsTurn (run_late from) (map parts_placed s.functions) n s.entry m) (sym (length-map s.functions parts_placed))
-    (functions_turn from s.functions (length s.functions) s.entry m whole h))
+pub turns_as : (s t : PlainShape) → t ≡ scheduled s → (from : Sources) (m : Run) → IsWhole m → ShapeTurns (run from) s m → ShapeTurns (run_late from) t m
+turns_as s t told from m whole h = spaced_turns (merged s) t told from m whole (merged_turns s from m whole h)

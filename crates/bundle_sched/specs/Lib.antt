@@ -1,1 +1,6 @@
+pub mod Operands
+pub mod Packed
+pub mod Packing
 pub mod Placed
+pub mod Scheduled
+pub mod Shown

@@ -4,12 +4,13 @@ ghost use Rattle.bundle_sched.specs.Placed as specs;
 ghost use Rattle.sp_shape.specs.Small as small;
 ghost use Rattle.sp_shape.specs.Words.{is_late};
 
-use patmos_instr::{Bundle, Instr, Op};
+use crate::operands::leaves_read;
+use patmos_instr::{Bundle, Instr, Op, Special};
 use std::alloc::Global;
 use tc_word::{List, OutOfMemory};
 
-// whether its value comes late
-fn is_late(op: &Op) -> bool
+/// Whether its value comes late.
+pub fn is_late(op: &Op) -> bool
     ensures { result ≡ is_late op.now }
 {
     matches!(op, Op::Load { .. } | Op::Mul { .. })
@@ -22,12 +23,58 @@ fn idle() -> Bundle
     Bundle::single(Instr::nop())
 }
 
-// a bundle, and behind one whose value comes late one that does nothing
-fn push_spaced(out: &mut Vec<Bundle>, bundle: Bundle) -> Result<(), OutOfMemory>
-    ensures { OnOk result (out.new.items ≡ out.old.items ++ specs.one_spaced bundle) }
+// whether a half of a product is read
+fn reads_product(op: &Op) -> bool
+    ensures { result ≡ specs.reads_product op.now }
 {
-    out.push(bundle)?;
-    if is_late(&bundle.first().op) {
+    matches!(
+        *op,
+        Op::FromSpecial {
+            special: Special::Sl | Special::Sh,
+            ..
+        }
+    )
+}
+
+// whether an operation does not read what comes late of another
+fn ignores(late: &Op, op: &Op) -> bool
+    ensures { result ≡ specs.ignores late.now op.now }
+{
+    match *late {
+        Op::Load { .. } => leaves_read(late, op),
+        Op::Mul { .. } => !reads_product(op),
+        _ => true,
+    }
+}
+
+// the same, of both slots
+fn ignores_both(late: &Op, bundle: &Bundle) -> bool
+    ensures { result ≡ specs.ignores_both late.now bundle.now }
+{
+    let first = ignores(late, &bundle.first().op);
+    match bundle.second() {
+        Some(second) => first && ignores(late, &second.op),
+        None => first,
+    }
+}
+
+// whether what comes late of a bundle is waited for: the next one reads it, or there is none
+fn is_awaited(bundle: &Bundle, others: &[Bundle]) -> bool
+    ensures { result ≡ specs.is_awaited bundle.now others.now }
+{
+    let op = bundle.first().op;
+    match others {
+        [] => is_late(&op),
+        [next, ..] => is_late(&op) && !ignores_both(&op, next),
+    }
+}
+
+// a bundle before others, and behind it one that does nothing where what comes late of it is waited for
+fn push_spaced(out: &mut Vec<Bundle>, bundle: &Bundle, others: &[Bundle]) -> Result<(), OutOfMemory>
+    ensures { OnOk result (out.new.items ≡ out.old.items ++ specs.one_spaced bundle.now others.now) }
+{
+    out.push(*bundle)?;
+    if is_awaited(bundle, others) {
         out.push(idle())?;
     }
     Ok(())
@@ -39,8 +86,10 @@ pub fn spaced(alloc: Global, bundles: &[Bundle]) -> Result<List<Bundle>, OutOfMe
     ensures { IfOk result (λ list. list ≡ specs.spaced bundles.now) }
 {
     let mut list = Vec::new(alloc);
-    for bundle in bundles {
-        push_spaced(&mut list, *bundle)?;
+    let mut rest = bundles;
+    while let [bundle, others @ ..] = rest {
+        push_spaced(&mut list, bundle, others)?;
+        rest = others;
     }
     Ok(List::of(list))
 }

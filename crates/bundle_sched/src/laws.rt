@@ -1,13 +1,17 @@
 //! Laws of scheduled shapes.
 ghost use Rattle.std.specs.Prelude.{◌≡◌, ℕ, Bool, true, slice_index_or};
-ghost use Rattle.bundle_sched.specs.Placed.{placed};
+ghost use Rattle.bundle_sched.specs.Packed.{can_pair};
+ghost use Rattle.bundle_sched.specs.Packing.{pair};
+ghost use Rattle.bundle_sched.specs.Scheduled.{scheduled};
 ghost use Rattle.patmos_instr.specs.Bundles.{Slots};
-ghost use Rattle.sp_shape.specs.Bundles.{parts_all};
+ghost use Rattle.sp_shape.specs.Bundles.{is_idle, parts_all};
 ghost use Rattle.sp_shape.specs.Parts.{no_part, PlainShape};
 
-/// No bundle is lost: what holds of each bundle of a function that is scheduled holds of each that it had before.
-#[tactic(auto, using(crate::proofs::Kept::placed_all))]
-pub fn scheduling_only_adds()
-    ensures { (holds : Slots → Bool) (s : PlainShape) (k : ℕ) → parts_all holds (slice_index_or (placed s).functions k no_part) ≡ true
-        → parts_all holds (slice_index_or s.functions k no_part) ≡ true }
+/// No bundle is lost: what holds of each bundle of a function that is scheduled holds of each that it had before, where
+/// it holds of bundles that do nothing, and of two that can be one where it holds of that one.
+#[tactic(auto, using(crate::proofs::Kept::none_lost))]
+pub fn no_bundle_is_lost()
+    ensures { (holds : Slots → Bool) → ((b : Slots) → is_idle b ≡ true → holds b ≡ true)
+        → ((a b : Slots) → can_pair a b ≡ true → holds (pair a b) ≡ true → (holds a ≡ true) × (holds b ≡ true)) → (s : PlainShape) (k : ℕ)
+        → parts_all holds (slice_index_or (scheduled s).functions k no_part) ≡ true → parts_all holds (slice_index_or s.functions k no_part) ≡ true }
 {}

@@ -18,7 +18,7 @@ use Rattle.sp_emit.specs.Functions.{emitted}
 use Rattle.sp_emit.specs.Means.{HoldsWords}
 use Rattle.sp_emit.specs.Ran.{begun_memory}
 use Rattle.sp_emit.specs.Serving.{Answers}
-use Rattle.bundle_sched.proofs.Kept.{placed_all}
+use Rattle.bundle_sched.proofs.Kept.{none_lost, word_dropped, word_paired}
 use Rattle.bundle_sched.proofs.Runs.{runs_as}
 use Rattle.bundle_sched.proofs.Turns.{turns_as}
 use Rattle.tc_link.proofs.Constants.{function_words_fit}
@@ -41,7 +41,7 @@ words_at s fits k = elim (cases_lt k (length s.functions)) [
 ]
 
 code_words : (u : PlainUnit) → Fit (code_of u) → (k : ℕ) → parts_all has_word (slice_index_or (emitted u).functions k no_part) ≡ true
-code_words u fits k = placed_all has_word (emitted u) k (words_at (code_of u) fits k)
+code_words u fits k = none_lost has_word word_dropped word_paired (emitted u) k (words_at (code_of u) fits k)
 
 begun_whole : (u : PlainUnit) (input : List ℕ) (shared comm : ℕ → ℕ) → IsWhole (begun_run u input shared comm)
 begun_whole u input shared comm = record { fits = record { count = refl; pred_count = refl; zero = refl; always = refl }; pending = refl }

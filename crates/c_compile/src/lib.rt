@@ -1,10 +1,10 @@
 //! From C texts to images.
 //!
 //! [`compile`] makes the task of a C text for a core's place: its program, that program's single-path code and the words of
-//! that, how many cycles it takes at most there, and what it mentions. It never sees an input. Which texts it refuses, and
+//! that, how many cycles it takes at most there, by two bounds, and what it mentions. It never sees an input. Which texts it refuses, and
 //! for what, is exactly `specs/Texts.antt`. It promises of a core that runs the image, whatever words are put in and read:
 //!
-//! - its transactions and its end are the same, and its end is within the bound;
+//! - its transactions and its end are the same, and its end is within both bounds;
 //! - no check stops it;
 //! - it comes to what the text means, where each of its own loads of a word that others reach gives what it stored there
 //!   last, else the word of a world;

@@ -4,7 +4,7 @@ ghost use Rattle.c_compile.specs.Answered.{Gives};
 ghost use Rattle.c_compile.specs.Texts as specs;
 ghost use Rattle.c_mentions.specs.Told.{Tells};
 ghost use Rattle.c_task.specs.Doing.{ComesToMeaning, KeepsTimes, NeverTraps, TouchesMentioned};
-ghost use Rattle.c_task.specs.Translation.{bound, times, translation};
+ghost use Rattle.c_task.specs.Translation.{bound, persist, times, translation};
 ghost use Rattle.c_tree.specs.Plain.{plain};
 ghost use Rattle.sp_shape.specs.Shown.{plain_shape};
 ghost use Rattle.task_core.specs.Tasks.{IsCode};
@@ -12,10 +12,11 @@ ghost use Rattle.task_core.specs.Tasks.{IsCode};
 use crate::code::{Code, code_of};
 use crate::faults::CompileFault;
 use crate::programs::program_of;
+use bound_persist::persist_bound_uncounted;
 use c_mentions::{Mentions, mentions_of};
 use c_task::{
-    programs_come_to_their_meaning, programs_fit_images, programs_keep_their_times,
-    programs_touch_what_they_mention,
+    programs_come_to_their_meaning, programs_fit_images, programs_keep_their_persistent_bound,
+    programs_keep_their_times, programs_touch_what_they_mention,
 };
 use c_tree::Checked;
 use cycle_bound::bound_uncounted;
@@ -26,13 +27,14 @@ use sp_emit::Shape;
 use std::alloc::Global;
 use tc_word::OutOfMemory;
 
-/// A compiled task: its words, its code, how many cycles it takes at most on its core's place, its program, and what that
-/// mentions.
+/// A compiled task: its words, its code, how many cycles it takes at most on its core's place, and by what stays in the method
+/// cache, its program, and what that mentions.
 #[derive(Debug, Drop)]
 pub struct Compiled {
     pub image: Image,
     pub shape: Shape,
     pub bound: u64,
+    pub persist: u64,
     pub program: Checked,
     pub mentions: Mentions,
 }
@@ -40,7 +42,7 @@ pub struct Compiled {
 // the code of a valid program
 fn code_by(alloc: Global, program: &Checked, place: &Place) -> Result<Code, OutOfMemory>
     requires place { program.now.place ≡ place.now }
-    ensures told { IfOk result (λ c. plain_shape c.shape ≡ (translation (plain program.now.unit)).placed) }
+    ensures told { IfOk result (λ c. plain_shape c.shape ≡ (translation (plain program.now.unit)).scheduled) }
     ensures image { IfOk result (λ c. c.image ≡ (translation (plain program.now.unit)).image) }
     ensures code { IfOk result (λ _. IsCode (translation (plain program.now.unit)).tree) }
 {
@@ -58,14 +60,17 @@ pub fn compile(alloc: Global, source: &str, place: &Place) -> Result<Compiled, C
     // What is told of a program is its own, and nothing else's.
     ensures place { IfOk result (λ c. c.program.place ≡ place.now) }
     ensures image { IfOk result (λ c. c.image ≡ (translation (plain c.program.unit)).image) }
-    ensures shape { IfOk result (λ c. plain_shape c.shape ≡ (translation (plain c.program.unit)).placed) }
+    ensures shape { IfOk result (λ c. plain_shape c.shape ≡ (translation (plain c.program.unit)).scheduled) }
     ensures bound { IfOk result (λ c. c.bound ≡ bound place.now (plain c.program.unit)) }
+    ensures persist { IfOk result (λ c. c.persist ≡ persist place.now (plain c.program.unit)) }
     ensures mentions { IfOk result (λ c. Tells c.mentions (plain c.program.unit)) }
 
-    // Whatever words are put in and read, a core that runs the image apart has the program's times, which are within its
-    // bound; no check stops it; it comes to what the text means; and it touches only what the text mentions.
+    // Whatever words are put in and read, a core that runs the image apart has the program's times, which are within both of
+    // its bounds, the persistent one of which is no more than the other; no check stops it; it comes to what the text means; and it touches only what the text mentions.
     ensures times { IfOk result (λ c. KeepsTimes (plain c.program.unit) place.now c.image) }
     ensures within { IfOk result (λ c. (times place.now (plain c.program.unit)).end ≤ place.now.start + c.bound) }
+    ensures within_persist { IfOk result (λ c. (times place.now (plain c.program.unit)).end ≤ place.now.start + c.persist) }
+    ensures tighter { IfOk result (λ c. c.persist ≤ c.bound) }
     ensures never_traps { IfOk result (λ c. NeverTraps place.now c.image) }
     ensures meaning { IfOk result (λ c. ComesToMeaning (plain c.program.unit) place.now c.image) }
     ensures touches { IfOk result (λ c. TouchesMentioned (plain c.program.unit) place.now c.image) }
@@ -74,15 +79,18 @@ pub fn compile(alloc: Global, source: &str, place: &Place) -> Result<Compiled, C
     ensures code { IfOk result (λ c. IsCode (translation (plain c.program.unit)).tree) }
 {
     programs_keep_their_times(place);
+    programs_keep_their_persistent_bound(place);
     programs_come_to_their_meaning(place);
     programs_touch_what_they_mention(place);
     let program = program_of(alloc, source, place)?;
     let Code { shape, image } = code_by(alloc, &program, place)?;
     let bound = bound_uncounted(&shape, place)?;
+    let persist = persist_bound_uncounted(&shape, place)?;
     Ok(Compiled {
         image,
         shape,
         bound,
+        persist,
         mentions: mentions_of(&program.unit),
         program,
     })

@@ -1,5 +1,6 @@
 pub mod Frames
 pub mod Targets
+pub mod Persisting
 pub mod Runs
 pub mod Sizes
 pub mod Alone

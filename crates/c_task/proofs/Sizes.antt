@@ -27,7 +27,6 @@ use Rattle.sp_shape.specs.Bundles.{parts_idle}
 use Rattle.sp_emit.specs.Functions.{function_code, emitted}
 use Rattle.sp_emit.proofs.Formed as emit_formed
 use Rattle.sp_emit.proofs.Kept as emit
-use Rattle.bundle_sched.specs.Placed.{parts_placed}
 use Rattle.bundle_sched.proofs.Kept as schedule
 use Rattle.bundle_sched.proofs.WellFormed as schedule_formed
 use Rattle.tc_link.specs.Fits.{FitsImage}
@@ -95,7 +94,7 @@ words_within size ws (suc n) each =
 -- ---- the code of a tree
 
 code_length : (u : PlainUnit) → length (code_of u).functions ≡ length u.functions
-code_length u = length-map (map function_code u.functions) parts_placed ∙ length-map u.functions function_code
+code_length u = schedule.functions_stay (emitted u) ∙ length-map u.functions function_code
 
 idle_slots : (u : PlainUnit) (k : ℕ) → k < length (emitted u).functions → parts_idle (slice_index_or (emitted u).functions k no_part) ≡ true
 idle_slots u k below = emit.idle_as (emitted u) u refl k (omega (arith, below, length-map u.functions function_code))

@@ -3,7 +3,7 @@ ghost use Rattle.std.specs.Prelude.{◌≡◌, ℕ, ◌+◌, ◌<◌, ◌≤◌,
 ghost use Rattle.c_mentions.specs.Alone.{Running};
 ghost use Rattle.c_task.specs.Doing.{ComesToMeaning, KeepsTimes, NeverTraps, TouchesMentioned};
 ghost use Rattle.c_task.specs.Telling.{HasProgram, Tells};
-ghost use Rattle.c_task.specs.Translation.{translation, times, bound};
+ghost use Rattle.c_task.specs.Translation.{translation, times, bound, persist};
 ghost use Rattle.c_tree.specs.Plain.{PlainItem};
 ghost use Rattle.c_tree.specs.Valid.{IsValid};
 ghost use Rattle.patmos_model.specs.State.{Core};
@@ -29,10 +29,10 @@ pub fn programs_can_be_run(place: &Place)
 /// The code of a program that is valid on its core is well formed and fits an image: with its size, each function takes at
 /// most as many words as it weighs. A law: it does nothing.
 pub fn programs_fit_images(place: &Place)
-    ensures formed { (items : List PlainItem) → IsValid items place.now.cores place.now.core → is_formed (translation items).placed ≡ true }
-    ensures size { (items : List PlainItem) → IsValid items place.now.cores place.now.core → (k : ℕ) → k < length (translation items).placed.functions
-        → 1 + size_of (translation items).placed k ≤ slice_index (weights_in items) k }
-    ensures fits { (items : List PlainItem) → IsValid items place.now.cores place.now.core → FitsImage (translation items).placed }
+    ensures formed { (items : List PlainItem) → IsValid items place.now.cores place.now.core → is_formed (translation items).scheduled ≡ true }
+    ensures size { (items : List PlainItem) → IsValid items place.now.cores place.now.core → (k : ℕ) → k < length (translation items).scheduled.functions
+        → 1 + size_of (translation items).scheduled k ≤ slice_index (weights_in items) k }
+    ensures fits { (items : List PlainItem) → IsValid items place.now.cores place.now.core → FitsImage (translation items).scheduled }
 {}
 
 /// A program's task on its core keeps its times. Whatever words are put in and read, its transactions below each cycle are
@@ -49,6 +49,14 @@ pub fn programs_keep_their_times(place: &Place)
     tasks_never_trap(place);
     place_has_slots(place);
 }
+
+/// A program's task on its core ends within its persistent bound too, whatever words are put in and read, and that is never
+/// more than its bound. A law: it does nothing.
+pub fn programs_keep_their_persistent_bound(place: &Place)
+    ensures within { (items : List PlainItem) → IsValid items place.now.cores place.now.core → IsCode (single items)
+        → (times place.now items).end ≤ place.now.start + persist place.now items }
+    ensures tighter { (items : List PlainItem) → IsValid items place.now.cores place.now.core → persist place.now items ≤ bound place.now items }
+{}
 
 /// A program's task on its core comes to what its text means. From its end on, for each world in which each of the task's own
 /// loads of a word that others reach gives its own last store there, else the world's word, it has the value, the flag, the

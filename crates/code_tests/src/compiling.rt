@@ -11,8 +11,8 @@ fn words_are_the_assemblers(rt: HostRuntime) -> Result<(), Fail> {
     let unit = nine(rt.alloc())?;
     let code = code_of(rt.alloc(), &unit)?;
     let want = [
-        24,
-        0x03c0_0004,
+        22,
+        0x83c0_0004,
         0x0084_2001,
         0x0440_0100,
         0x03aa_0003,
@@ -29,11 +29,9 @@ fn words_are_the_assemblers(rt: HostRuntime) -> Result<(), Fail> {
         0,
         0x0341_5004,
         0x0402_0001,
-        0,
         0x0005_a000,
-        0x03c8_0004,
         0x0540_0000,
-        0,
+        0x03c8_0004,
         0,
         0,
     ];

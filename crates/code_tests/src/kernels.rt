@@ -63,6 +63,7 @@ fn out_of(alloc: Global, program: &Checked, core: &Core) -> Result<Vec<u32>, Fai
 /// Runs a kernel's task apart on each input, and compares. Its times are those without an input.
 fn compare(rt: &impl Abort, alloc: Global, place: &Place, kernel: &Kernel) -> Result<(), Fail> {
     let compiled = compile(alloc, kernel.text, place)?;
+    assert!(rt; compiled.bound < kernel.straight);
     let (without, _) = run(alloc, &compiled, place, "")?;
     for told in &kernel.runs {
         let (core, last) = run(alloc, &compiled, place, told.input)?;
@@ -95,6 +96,24 @@ fn cores_come_to_what_gcc_gives(rt: HostRuntime) -> Result<(), Fail> {
     for kernel in &KERNELS {
         compare(&rt, rt.alloc(), &place, kernel)?;
     }
+    Ok(())
+}
+
+/// A filter that sends the word that it comes to, and its bound on the first of four cores with slots of 6 cycles, by a
+/// schedule as told of the kernels.
+const FILTER: &str = "int in[64]; int h[16] = {1,1,1,1,1,1,1,1,1,1,1,1,1,1,1,1}; int out[1]; \
+    int main() { int n = 0; int k = 0; int s = 0; \
+    _Pragma(\"loopbound min 49 max 49\") for (n = 0; n < 49; n = n + 1) { s = 0; \
+    _Pragma(\"loopbound min 16 max 16\") for (k = 0; k < 16; k = k + 1) { s = s + h[k] * in[n + k]; } } \
+    comm[0] = s; send(2, 0, 0, 1); out[0] = s; return s; }";
+
+const FILTER_STRAIGHT: u64 = 104_159;
+
+#[test]
+fn packed_code_has_a_lower_bound(rt: HostRuntime) -> Result<(), Fail> {
+    let place = Place::new(4, 0, 6, 0).expect(&rt, "a place");
+    let compiled = compile(rt.alloc(), FILTER, &place)?;
+    assert!(rt; compiled.bound < FILTER_STRAIGHT);
     Ok(())
 }
 

@@ -20,4 +20,6 @@ mod linking;
 #[cfg(test)]
 mod making;
 #[cfg(test)]
+mod persisting;
+#[cfg(test)]
 mod scheduling;

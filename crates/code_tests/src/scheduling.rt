@@ -56,24 +56,28 @@ fn loading(alloc: Global) -> Result<Shape, AllocError>
     })
 }
 
-// the bundles of straight code
+// the bundles of straight code, or those of a return and its delay slots
 fn bundles_of(part: Option<&Part>) -> Option<&[Bundle]> {
     match part {
-        Some(Part::Straight { bundles }) => Some(bundles.as_slice()),
+        Some(Part::Straight { bundles } | Part::Leave { tail: bundles }) => Some(
+            bundles.as_slice(),
+        ),
         _ => None,
     }
 }
 
-// a bundle that does nothing stands between the load and the addition
+// the addition goes into the return's first delay slot; the load is the last of its piece, so that its value is awaited
 #[test]
-fn a_load_is_awaited(rt: HostRuntime) -> Result<(), Fail> {
+fn an_addition_fills_a_delay_slot(rt: HostRuntime) -> Result<(), Fail> {
     let shape = loading(rt.alloc())?;
     let shape = schedule(rt.alloc(), shape)?;
     let functions = shape.functions.as_slice();
     assert_eq!(rt; functions.len(), 1);
     let parts = functions.first().expect(&rt, "a function").as_slice();
     assert_eq!(rt; parts.len(), 2);
-    let want = [load(), idle(), add()];
-    assert_eq!(rt; bundles_of(parts.first()), Some(want.as_slice()));
+    let before = [load(), idle()];
+    assert_eq!(rt; bundles_of(parts.first()), Some(before.as_slice()));
+    let way = [alone(Op::Return), add(), idle(), idle()];
+    assert_eq!(rt; bundles_of(parts.get(1)), Some(way.as_slice()));
     Ok(())
 }

@@ -24,7 +24,7 @@ use Rattle.core_pace.proofs.SlotStarts.{start_is_next, gap_outlasts}
 use Rattle.sp_shape.specs.Parts.{PlainPart, straight, repeats, calls_to, leaves, PlainParts, no_part, part, PlainShape}
 use Rattle.sp_shape.specs.Run.{Back, first_load, other_loads}
 use Rattle.sp_shape.specs.Trail.{Step, does, begins, all_done, copies, part_trail, parts_trail, trails, trail}
-use Rattle.cycle_bound.specs.Bound.{transactions, op_moves, fill_moves, bundles_bound, part_bound, parts_bound, bounds}
+use Rattle.cycle_bound.specs.Bound.{transactions, op_moves, fill_moves, bundles_bound, part_bound, parts_bound, bounds, fill_bound}
 use Rattle.sp_shape.specs.Formed.{is_branch, is_call, is_turn, is_way, part_formed, parts_formed, function_formed, functions_formed, is_formed}
 use Rattle.sp_shape.specs.Words.{bundles_words, part_words, parts_words}
 use Rattle.sp_tree.specs.declared.limits.TheConstants.{MOST_FUNCTIONS}
@@ -48,11 +48,11 @@ ends_within site (suc count) t slots =
     omega (arith, rest, one)
 
 -- so many slots or fewer
-record Within (site : Site) (p : Pace) (most : ℕ) (q : Pace) : Type 0 where
-  free : q.free ≤ p.free + most_in_slot site * most
-  held : q.held ≡ p.held
+pub record Within (site : Site) (p : Pace) (most : ℕ) (q : Pace) : Type 0 where
+  pub free : q.free ≤ p.free + most_in_slot site * most
+  pub held : q.held ≡ p.held
 
-carried_within : (site : Site) (p : Pace) (most : ℕ) → IsSlotted site → slots_of p.words ≤ most → Within site p most (carried site p)
+pub carried_within : (site : Site) (p : Pace) (most : ℕ) → IsSlotted site → slots_of p.words ≤ most → Within site p most (carried site p)
 carried_within site p most slots few = by (p.words == 0)
   where
     by : (b : Bool) → Within site p most (elim b as (λ _. Pace) [
@@ -72,11 +72,11 @@ carried_within site p most slots few = by (p.words == 0)
         record { free = omega (arith, time, more); held = refl }
 
 -- what an event asks for
-record Few (each : ℕ) (e : Event) (p q : Pace) : Type 0 where
-  most : ℕ
-  words : slots_of q.words ≤ most
-  free : q.free + each * most ≤ p.free + cost each e
-  held : q.held ≤ 128
+pub record Few (each : ℕ) (e : Event) (p q : Pace) : Type 0 where
+  pub most : ℕ
+  pub words : slots_of q.words ≤ most
+  pub free : q.free + each * most ≤ p.free + cost each e
+  pub held : q.held ≤ 128
 
 few_asks : (each : ℕ) (e : Event) (write : Bool) (w h most : ℕ) (p : Pace) → p.words ≡ 0 → h ≤ 128 → slots_of w ≤ most → cost each e ≡ 1 + each * most → Few each e p (asks write w (record p { held = h }))
 few_asks each e write w h most p none small few is = by (w == 0)
@@ -85,7 +85,7 @@ few_asks each e write w h most p none small few is = by (w == 0)
     by true = record { most = most; words = omega (arith, none); free = omega (arith, is); held = small }
     by false = record { most = most; words = few; free = omega (arith, is); held = small }
 
-few_so : (each : ℕ) (e : Event) (es : List Event) (p : Pace) → AreFew (e ∷ es) → p.words ≡ 0 → p.held ≤ 128 → Few each e p (asked_by e p)
+pub few_so : (each : ℕ) (e : Event) (es : List Event) (p : Pace) → AreFew (e ∷ es) → p.words ≡ 0 → p.held ≤ 128 → Few each e p (asked_by e p)
 few_so each quick es p few none small = record { most = 0; words = omega (arith, none); free = omega arith; held = small }
 few_so each load es p few none small = record { most = 1; words = omega arith; free = omega arith; held = small }
 few_so each (cached address) es p few none small = by (is_loaded address p.loads)
@@ -111,7 +111,7 @@ few_so each (came method) es p few none small = by (is_among method.function (re
     by true = record { most = 0; words = omega arith; free = omega arith; held = small }
     by false = record { most = transactions (1 + method.words); words = omega arith; free = omega arith; held = small }
 
-few_rest : (e : Event) (es : List Event) → AreFew (e ∷ es) → AreFew es
+pub few_rest : (e : Event) (es : List Event) → AreFew (e ∷ es) → AreFew es
 few_rest quick es few = few
 few_rest load es few = few
 few_rest (cached address) es few = few
@@ -129,7 +129,7 @@ clock_costs site (e ∷ es) p slots few none small =
 
 -- ---- a trail
 
-kind_cost : (each address : ℕ) (op : Op) → cost each (kind_of op address) ≡ 1 + each * op_moves op
+pub kind_cost : (each address : ℕ) (op : Op) → cost each (kind_of op address) ≡ 1 + each * op_moves op
 kind_cost each address (Load mem.S width rd ra imm) = omega arith
 kind_cost each address (Load mem.L width rd ra imm) = omega arith
 kind_cost each address (Load mem.C width rd ra imm) = omega arith
@@ -241,13 +241,13 @@ module _ (image : Parts) (each : ℕ) where
 
     module _ (f : ℕ → List Step) (goals : ℕ → Back → List (Option Goal)) (g : ℕ → ℕ) (number : ℕ) (within : number < length s.functions) (called : Called f goals g number) (home : Back) where
       mutual
-        part_costs : (p : PlainPart) (at : ℕ) → part_formed number p ≡ true → Costs (part_trail f p) (part_dues (start_of s) goals home (start_of s number) at p) (part_bound s.functions each g number p)
+        part_costs : (p : PlainPart) (at : ℕ) → part_formed number p ≡ true → Costs (part_trail f p) (part_dues (start_of s) goals home (start_of s number) at p) (part_bound each (fill_bound each s.functions) g number p)
         part_costs (straight bs) at formed = undue_cost bs
         part_costs (repeats count body tail) at formed =
             let a = and_parts (nat_lt 0 count) (parts_formed number body && is_turn tail) formed in
             let b = and_parts (parts_formed number body) (is_turn tail) a.1 in
             turns_cost (parts_trail f body) (all_done tail) (parts_dues (start_of s) goals home (start_of s number) at body) (turn_dues (goal.Within at) tail) (undue tail)
-            (parts_bound s.functions each g number body) (bundles_bound each tail) (parts_costs body at b.0) (turn_cost at tail) (undue_cost tail) count
+            (parts_bound each (fill_bound each s.functions) g number body) (bundles_bound each tail) (parts_costs body at b.0) (turn_cost at tail) (undue_cost tail) count
         part_costs (calls_to k []) at formed = absurd (true≢false (sym (and_parts (nat_lt k number) (is_way is_call []) formed).1))
         part_costs (calls_to k (b ∷ bs)) at formed =
             let less : k < number = ltb-true k number (and_parts (nat_lt k number) (is_way is_call (b ∷ bs)) formed).0 in
@@ -258,20 +258,20 @@ module _ (image : Parts) (each : ℕ) where
             let begun_callee : Costs (begins ∷ f k) (goals k back_to) (g k + goal_cost (goal.Return back_to.base back_to.offset)) = record { fits = callee.fits; is = callee.is } in
             let c1 = call_cost k there in
             let c2 = return_cost number back_to.offset within in
-            other_cost (part_bound s.functions each g number (calls_to k (b ∷ bs)))
+            other_cost (part_bound each (fill_bound each s.functions) g number (calls_to k (b ∷ bs)))
             (let all : bundles_bound each (b ∷ bs) + goal_cost (goal.Call (start_of s k)) + (g k + goal_cost (goal.Return back_to.base back_to.offset))
-            ≡ bundles_bound each (b ∷ bs) + (each * (fill_moves s.functions k + fill_moves s.functions number) + g k) = omega (arith, c1, c2) in all)
+            ≡ bundles_bound each (b ∷ bs) + (fill_bound each s.functions k + fill_bound each s.functions number + g k) = omega (arith, c1, c2) in all)
             (both way begun_callee)
         part_costs (leaves tail) at formed = absurd (true≢false (sym formed))
 
-        parts_costs : (ps : PlainParts) (at : ℕ) → parts_formed number ps ≡ true → Costs (parts_trail f ps) (parts_dues (start_of s) goals home (start_of s number) at ps) (parts_bound s.functions each g number ps)
+        parts_costs : (ps : PlainParts) (at : ℕ) → parts_formed number ps ≡ true → Costs (parts_trail f ps) (parts_dues (start_of s) goals home (start_of s number) at ps) (parts_bound each (fill_bound each s.functions) g number ps)
         parts_costs no_part at formed = record { fits = tt; is = refl }
         parts_costs (part p rest) at formed =
             let a = and_parts (part_formed number p) (parts_formed number rest) formed in
             both (part_costs p at a.0) (parts_costs rest (at + part_words p) a.1)
 
       function_costs : (ps : PlainParts) (at : ℕ) → function_formed number ps ≡ true
-          → Costs (parts_trail f ps) (parts_dues (start_of s) goals home (start_of s number) at ps) (parts_bound s.functions each g number ps + goal_cost (goal.Return home.base home.offset))
+          → Costs (parts_trail f ps) (parts_dues (start_of s) goals home (start_of s number) at ps) (parts_bound each (fill_bound each s.functions) g number ps + goal_cost (goal.Return home.base home.offset))
       function_costs no_part at formed = absurd (true≢false (sym formed))
       function_costs (part (leaves []) no_part) at formed = absurd (true≢false (sym formed))
       function_costs (part (leaves (b ∷ bs)) no_part) at formed =
@@ -280,34 +280,34 @@ module _ (image : Parts) (each : ℕ) where
       function_costs (part (leaves tail) (part p more)) at formed = absurd (true≢false (sym formed))
       function_costs (part (straight bs) more) at formed =
           let a = and_parts (part_formed number (straight bs)) (function_formed number more) formed in
-          other_cost (part_bound s.functions each g number (straight bs) + parts_bound s.functions each g number more + goal_cost (goal.Return home.base home.offset)) (omega arith)
+          other_cost (part_bound each (fill_bound each s.functions) g number (straight bs) + parts_bound each (fill_bound each s.functions) g number more + goal_cost (goal.Return home.base home.offset)) (omega arith)
           (both (part_costs (straight bs) at a.0) (function_costs more (at + part_words (straight bs)) a.1))
       function_costs (part (repeats count body tail) more) at formed =
           let a = and_parts (part_formed number (repeats count body tail)) (function_formed number more) formed in
-          other_cost (part_bound s.functions each g number (repeats count body tail) + parts_bound s.functions each g number more + goal_cost (goal.Return home.base home.offset)) (omega arith)
+          other_cost (part_bound each (fill_bound each s.functions) g number (repeats count body tail) + parts_bound each (fill_bound each s.functions) g number more + goal_cost (goal.Return home.base home.offset)) (omega arith)
           (both (part_costs (repeats count body tail) at a.0) (function_costs more (at + part_words (repeats count body tail)) a.1))
       function_costs (part (calls_to k tail) more) at formed =
           let a = and_parts (part_formed number (calls_to k tail)) (function_formed number more) formed in
-          other_cost (part_bound s.functions each g number (calls_to k tail) + parts_bound s.functions each g number more + goal_cost (goal.Return home.base home.offset)) (omega arith)
+          other_cost (part_bound each (fill_bound each s.functions) g number (calls_to k tail) + parts_bound each (fill_bound each s.functions) g number more + goal_cost (goal.Return home.base home.offset)) (omega arith)
           (both (part_costs (calls_to k tail) at a.0) (function_costs more (at + part_words (calls_to k tail)) a.1))
 
     functions_cost : (n : ℕ) → n ≤ length s.functions → functions_formed s.functions n ≡ true → (k : ℕ) → k < n → (home : Back)
-        → Costs (trails s.functions n k) (dues (start_of s) s.functions n k home) (bounds s.functions each n k + goal_cost (goal.Return home.base home.offset))
+        → Costs (trails s.functions n k) (dues (start_of s) s.functions n k home) (bounds s.functions each (fill_bound each s.functions) n k + goal_cost (goal.Return home.base home.offset))
     functions_cost zero within formed k less home = absurd (omega (arith, less))
     functions_cost (suc n) within formed k less home =
         let a = and_parts (functions_formed s.functions n) (function_formed n (slice_index_or s.functions n no_part)) formed in
         by a.1 (functions_cost n (omega (arith, within)) a.0) (k == n) refl
       where
         by : function_formed n (slice_index_or s.functions n no_part) ≡ true
-            → ((j : ℕ) → j < n → (home : Back) → Costs (trails s.functions n j) (dues (start_of s) s.functions n j home) (bounds s.functions each n j + goal_cost (goal.Return home.base home.offset)))
+            → ((j : ℕ) → j < n → (home : Back) → Costs (trails s.functions n j) (dues (start_of s) s.functions n j home) (bounds s.functions each (fill_bound each s.functions) n j + goal_cost (goal.Return home.base home.offset)))
             → (b : Bool) → (k == n) ≡ b
             → Costs (if b then parts_trail (trails s.functions n) (slice_index_or s.functions n no_part) else trails s.functions n k)
             (if b then parts_dues (start_of s) (dues (start_of s) s.functions n) home (start_of s n) 0 (slice_index_or s.functions n no_part) else dues (start_of s) s.functions n k home)
-            ((if b then parts_bound s.functions each (bounds s.functions each n) n (slice_index_or s.functions n no_part) else bounds s.functions each n k) + goal_cost (goal.Return home.base home.offset))
-        by own earlier true is = function_costs (trails s.functions n) (dues (start_of s) s.functions n) (bounds s.functions each n) n (omega (arith, within)) earlier home (slice_index_or s.functions n no_part) 0 own
+            ((if b then parts_bound each (fill_bound each s.functions) (bounds s.functions each (fill_bound each s.functions) n) n (slice_index_or s.functions n no_part) else bounds s.functions each (fill_bound each s.functions) n k) + goal_cost (goal.Return home.base home.offset))
+        by own earlier true is = function_costs (trails s.functions n) (dues (start_of s) s.functions n) (bounds s.functions each (fill_bound each s.functions) n) n (omega (arith, within)) earlier home (slice_index_or s.functions n no_part) 0 own
         by own earlier false other = earlier k (let ne = eqb-false k n other in omega (arith, less, ne)) home
 
-    pub shape_costs : is_formed s ≡ true → trail_cost image each (trail s) (dues_of s (back 0 0)) ≡ bounds s.functions each (length s.functions) s.entry
+    pub shape_costs : is_formed s ≡ true → trail_cost image each (trail s) (dues_of s (back 0 0)) ≡ bounds s.functions each (fill_bound each s.functions) (length s.functions) s.entry
     shape_costs formed =
         let a = and_parts (nat_le (length s.functions) MOST_FUNCTIONS) (functions_formed s.functions (length s.functions) && nat_lt s.entry (length s.functions)) formed in
         let b = and_parts (functions_formed s.functions (length s.functions)) (nat_lt s.entry (length s.functions)) a.1 in

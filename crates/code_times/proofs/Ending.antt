@@ -1,5 +1,5 @@
 -- A task ends within its bound.
-use Rattle.std.proofs.Common.{◌≡◌, ℕ, zero, ◌+◌, ◌-◌, ◌*◌, ◌<◌, ◌≤◌, ◌==◌, ◌&&◌, if◌then◌else◌, nat_lt, Bool, true, false, List, [], ◌∷◌, ◌++◌, length, Option, None, Some, refl, ap, ◌∙◌, subst, arith}
+use Rattle.std.proofs.Common.{◌≡◌, ℕ, ◌+◌, ◌*◌, ◌<◌, ◌≤◌, ◌==◌, ◌&&◌, if◌then◌else◌, nat_lt, Bool, true, false, List, [], ◌∷◌, ◌++◌, length, Option, None, Some, refl, ap, ◌∙◌, subst, arith}
 use Rattle.std.specs.Prelude.{nat_le}
 use Rattle.std.proofs.lemmas.Bool.{and_parts, ltb-true}
 use Rattle.slot_arbiter.specs.declared.place.Place.{Place}
@@ -27,7 +27,7 @@ use Rattle.sp_shape.specs.Pointers.{Pointers, pointers_of}
 use Rattle.sp_shape.specs.Run.{Run, Sources, late, begun as run_begun}
 use Rattle.sp_shape.specs.Trail.{Step, does, begins, trail}
 use Rattle.sp_tree.specs.declared.limits.TheConstants.{MOST_FUNCTIONS}
-use Rattle.cycle_bound.specs.Bound.{transactions, fill_moves, bounds, shape_bound}
+use Rattle.cycle_bound.specs.Bound.{transactions, fill_moves, bounds, fill_bound, shape_bound}
 use Rattle.tc_link.specs.Backs.{back}
 use Rattle.tc_link.specs.Dues.{dues_of}
 use Rattle.tc_link.specs.Placed.{start_of, size_of, linked}
@@ -78,25 +78,33 @@ few_events site image from (does b ∷ steps) (d ∷ ds) m sound =
 few_events site image from (begins ∷ steps) ds m sound = few_events site image from steps ds (run_begun m) sound
 
 module _ (place : Place) (s : PlainShape) (addresses : List ℕ) (link : IsLinkable s) (behaves : Behaves s place addresses) (slots : IsSlotted (site_of place (linked s))) (among : place.core < place.cores) where
-  few_fixed : AreFew (fixed_events (linked s) (trail s) (dues_of s (back 0 0)) addresses)
+  pub few_fixed : AreFew (fixed_events (linked s) (trail s) (dues_of s (back 0 0)) addresses)
   few_fixed =
       let m : Run = begun_run s [] in
       let fits : FitsRegisters m.regs = record { count = refl; pred_count = refl; zero = refl; always = refl } in
       subst AreFew (fixed (linked s) by_stack (trail s) (dues_of s (back 0 0)) m (steady_trail s link.steady) fits ∙ ap (fixed_events (linked s) (trail s) (dues_of s (back 0 0))) (behaves.same no_memory [] tt))
       (few_events (site_of place (linked s)) (linked s) by_stack (trail s) (dues_of s (back 0 0)) m (behaves.sound no_memory [] tt))
 
-  -- the moment in which the task has ended comes within the bound
-  pub ends_within : (input values : List ℕ) → AreGiven input values → (after_bundles place.cores place.core (begun (site_of place (linked s)) input) values (bundles_in (trail s))).cycle ≤ place.start + shape_bound (most_in_slot (site_of place (linked s))) s
-  ends_within input values given =
+  -- the cycle in which the task has ended is the one in which its events are over
+  pub cycle_is : (input values : List ℕ) → AreGiven input values → (after_bundles place.cores place.core (begun (site_of place (linked s)) input) values (bundles_in (trail s))).cycle
+      ≡ (clock (site_of place (linked s)) (first_event (site_of place (linked s)) ∷ fixed_events (linked s) (trail s) (dues_of s (back 0 0)) addresses) (starting (site_of place (linked s)))).free
+  cycle_is input values given =
+      clock_cycle place.cores place.core (site_of place (linked s)) input values (bundles_in (trail s)) slots
+      ∙ ap (λ es. (clock (site_of place (linked s)) es (starting (site_of place (linked s)))).free) (ends place s addresses link behaves slots among input values given).events
+
+  -- and that comes within the bound
+  pub clock_within : (clock (site_of place (linked s)) (first_event (site_of place (linked s)) ∷ fixed_events (linked s) (trail s) (dues_of s (back 0 0)) addresses) (starting (site_of place (linked s)))).free
+      ≤ place.start + shape_bound (most_in_slot (site_of place (linked s))) s
+  clock_within =
       let site : Site = site_of place (linked s) in
       let each : ℕ = most_in_slot site in
-      let events : List Event = first_event site ∷ fixed_events (linked s) (trail s) (dues_of s (back 0 0)) addresses in
-      let is = (ends place s addresses link behaves slots among input values given).events in
-      let cycle = clock_cycle place.cores place.core site input values (bundles_in (trail s)) slots ∙ ap (λ es. (clock site es (starting site)).free) is in
-      let time = clock_costs site events (starting site) slots few_fixed refl (omega arith) in
+      let time = clock_costs site (first_event site ∷ fixed_events (linked s) (trail s) (dues_of s (back 0 0)) addresses) (starting site) slots few_fixed refl (omega arith) in
       let a = and_parts (nat_le (length s.functions) MOST_FUNCTIONS) (functions_formed s.functions (length s.functions) && nat_lt s.entry (length s.functions)) link.formed in
       let b = and_parts (functions_formed s.functions (length s.functions)) (nat_lt s.entry (length s.functions)) a.1 in
       let first : each * transactions (1 + size_at (linked s) (start_of s s.entry)) ≡ each * fill_moves s.functions s.entry = ap (λ w. each * transactions (1 + w)) (size_stands s s.entry (ltb-true s.entry (length s.functions) b.1)) in
-      let rest : costs each (fixed_events (linked s) (trail s) (dues_of s (back 0 0)) addresses) ≡ bounds s.functions each (length s.functions) s.entry =
+      let rest : costs each (fixed_events (linked s) (trail s) (dues_of s (back 0 0)) addresses) ≡ bounds s.functions each (fill_bound each s.functions) (length s.functions) s.entry =
       fixed_cost (linked s) each (trail s) (dues_of s (back 0 0)) addresses ∙ shape_costs (linked s) each s (size_stands s) (λ k. start_behind (size_of s) s.entry k) link.formed in
-      omega (arith, cycle, time, first, rest)
+      omega (arith, time, first, rest)
+
+  pub ends_within : (input values : List ℕ) → AreGiven input values → (after_bundles place.cores place.core (begun (site_of place (linked s)) input) values (bundles_in (trail s))).cycle ≤ place.start + shape_bound (most_in_slot (site_of place (linked s))) s
+  ends_within input values given = omega (arith, cycle_is input values given, clock_within)

@@ -18,7 +18,6 @@ use Rattle.core_pace.specs.Moment.{Moment, core_in, before}
 use Rattle.core_pace.specs.Run.{after_bundles}
 use Rattle.core_pace.specs.Spans.{IsSlotted}
 use Rattle.core_pace.proofs.Growing.{run_before, stays_still}
-use Rattle.sp_tree.specs.Statements.{PlainUnit}
 use Rattle.sp_shape.specs.Parts.{PlainShape}
 use Rattle.sp_shape.specs.Trail.{trail}
 use Rattle.cycle_bound.specs.Bound.{shape_bound}

@@ -50,6 +50,10 @@ earlier_one fs k (suc n) below h =
       | inr more ↦ let same : n ≡ k = omega arith in subst (λ j. function_formed j (slice_index_or fs j no_part) ≡ true) same both.1
     ]
 
+-- all functions of a well-formed shape
+pub functions_below : (fs : List PlainParts) (n k : ℕ) → functions_formed fs n ≡ true → k < n → CallsBelow k (slice_index_or fs k no_part)
+functions_below fs n k h less = function_below k (slice_index_or fs k no_part) (earlier_one fs k n less h)
+
 pub function_at : (functions : List (List Part)) (n : ℕ) (f : List Part) → n < length functions → f ≡ get_or functions n f
     → slice_index_or (functions_of functions) n no_part ≡ parts_of f
 function_at [] n f within is = absurd (omega arith)
@@ -60,7 +64,7 @@ pub known_below : (functions : List (List Part)) (n : ℕ) (f : List Part) → n
     → functions_formed (functions_of functions) (length functions) ≡ true → CallsBelow n (parts_of f)
 known_below functions n f within is h =
     subst (CallsBelow n) (function_at functions n f within is)
-    (function_below n (slice_index_or (functions_of functions) n no_part) (earlier_one (functions_of functions) n (length functions) within h))
+    (functions_below (functions_of functions) (length functions) n h within)
 
 -- ---- of parts
 

@@ -1,6 +1,5 @@
 -- Sums and products of held numbers.
-use Rattle.std.proofs.Common.{◌≡◌, ℕ, ◌+◌, ◌*◌, ◌^◌, ◌≤◌, ap, sym, ◌∙◌, arith}
-use Rattle.std.proofs.Math.Nat.{mul-add}
+use Rattle.std.proofs.Common.{◌≡◌, ℕ, ◌+◌, ◌*◌, ◌^◌, ◌≤◌, arith}
 use Rattle.std.proofs.lemmas.Grind.{common_steps}
 use Rattle.cycle_bound.specs.Held.{held}
 
@@ -21,9 +20,6 @@ held_sum s a b x y h e f = grind (arith, common_steps, h, e, f)
 pub held_times : (s n a x : ℕ) → s ≡ held (n * a) → a ≡ held x → s ≡ held (n * x)
 held_times s n a x h e = grind (arith, common_steps, h, e)
 
--- a function that is called: two fetches of so many transactions, and what it takes itself
-pub held_call : (s r a b c each x y z : ℕ) → r ≡ held (s + c) → s ≡ held (a + b) → a ≡ held (each * x) → b ≡ held (each * y) → c ≡ held z
-    → r ≡ held (each * (x + y) + z)
-held_call s r a b c each x y z h e f g k =
-    held_sum r s c (each * (x + y)) z h
-    (held_sum s a b (each * x) (each * y) e f g ∙ ap held (sym (mul-add each x y))) k
+-- a function that is called: two fetches, and what it takes itself
+pub held_call : (s r a b c x y z : ℕ) → r ≡ held (s + c) → s ≡ held (a + b) → a ≡ held x → b ≡ held y → c ≡ held z → r ≡ held (x + y + z)
+held_call s r a b c x y z h e f g k = held_sum r s c (x + y) z h (held_sum s a b x y e f g) k

@@ -60,16 +60,16 @@ pub parts_words_at_end : (ps : List Part) (i s all : ℕ) → length ps ≤ i �
     → held (s + parts_words (parts_of (drop i ps))) ≡ held all → s ≡ held all
 parts_words_at_end ps i s all past small h = sum_at_end (λ xs. parts_words (parts_of xs)) refl ps i s all past small h
 
-pub part_cycles_next : (fs : List PlainParts) (each n : ℕ) (ps : List Part) (i : ℕ) (p : Part) (s a r all : ℕ) → i < length ps → p ≡ get_or ps i p
-    → s ≡ held (a + r) → r ≡ held (part_bound fs each (bounds fs each n) n (plain_part p))
-    → held (a + parts_bound fs each (bounds fs each n) n (parts_of (drop i ps))) ≡ all
-    → held (s + parts_bound fs each (bounds fs each n) n (parts_of (drop (i + 1) ps))) ≡ all
-part_cycles_next fs each n ps i p s a r all within is e one h =
-    sum_next_held (λ xs. parts_bound fs each (bounds fs each n) n (parts_of xs)) ps i p s a r (part_bound fs each (bounds fs each n) n (plain_part p)) all within is refl e one h
+pub part_cycles_next : (fs : List PlainParts) (each : ℕ) (fill : ℕ → ℕ) (n : ℕ) (ps : List Part) (i : ℕ) (p : Part) (s a r all : ℕ) → i < length ps → p ≡ get_or ps i p
+    → s ≡ held (a + r) → r ≡ held (part_bound each fill (bounds fs each fill n) n (plain_part p))
+    → held (a + parts_bound each fill (bounds fs each fill n) n (parts_of (drop i ps))) ≡ all
+    → held (s + parts_bound each fill (bounds fs each fill n) n (parts_of (drop (i + 1) ps))) ≡ all
+part_cycles_next fs each fill n ps i p s a r all within is e one h =
+    sum_next_held (λ xs. parts_bound each fill (bounds fs each fill n) n (parts_of xs)) ps i p s a r (part_bound each fill (bounds fs each fill n) n (plain_part p)) all within is refl e one h
 
-pub parts_cycles_at_end : (fs : List PlainParts) (each n : ℕ) (ps : List Part) (i s all : ℕ) → length ps ≤ i → s ≤ 2 ^ 62 + 1
-    → held (s + parts_bound fs each (bounds fs each n) n (parts_of (drop i ps))) ≡ held all → s ≡ held all
-parts_cycles_at_end fs each n ps i s all past small h = sum_at_end (λ xs. parts_bound fs each (bounds fs each n) n (parts_of xs)) refl ps i s all past small h
+pub parts_cycles_at_end : (fs : List PlainParts) (each : ℕ) (fill : ℕ → ℕ) (n : ℕ) (ps : List Part) (i s all : ℕ) → length ps ≤ i → s ≤ 2 ^ 62 + 1
+    → held (s + parts_bound each fill (bounds fs each fill n) n (parts_of (drop i ps))) ≡ held all → s ≡ held all
+parts_cycles_at_end fs each fill n ps i s all past small h = sum_at_end (λ xs. parts_bound each fill (bounds fs each fill n) n (parts_of xs)) refl ps i s all past small h
 
 pub nodes_next : (ps : List Part) (i : ℕ) (p : Part) (s a all : ℕ) → i < length ps → p ≡ get_or ps i p → s ≡ a + part_nodes (plain_part p)
     → a + parts_nodes (parts_of (drop i ps)) ≡ all → s + parts_nodes (parts_of (drop (i + 1) ps)) ≡ all

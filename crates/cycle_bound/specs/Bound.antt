@@ -53,24 +53,29 @@ abbrev pub bundles_bound : ℕ → List Slots → ℕ
 bundles_bound each [] = 0
 bundles_bound each (b ∷ bs) = bundle_bound each b + bundles_bound each bs
 
--- parts of the function of a number, over the bounds of the functions that it calls: at a call the method cache may
--- have to fetch the function that is called, and behind it the one that is returned to
+-- parts of the function of a number, over the bounds of the functions that it calls, and over what is counted for the
+-- fetch of each: at a call the method cache may have to fetch the function that is called, and behind it the one that is
+-- returned to
 abbrev mutual
-  pub part_bound : List PlainParts → ℕ → (ℕ → ℕ) → ℕ → PlainPart → ℕ
-  part_bound fs each g own (straight bs) = bundles_bound each bs
-  part_bound fs each g own (repeats count body tail) = count * (parts_bound fs each g own body + bundles_bound each tail)
-  part_bound fs each g own (calls_to k tail) = bundles_bound each tail + (each * (fill_moves fs k + fill_moves fs own) + g k)
-  part_bound fs each g own (leaves tail) = bundles_bound each tail
+  pub part_bound : ℕ → (ℕ → ℕ) → (ℕ → ℕ) → ℕ → PlainPart → ℕ
+  part_bound each fill g own (straight bs) = bundles_bound each bs
+  part_bound each fill g own (repeats count body tail) = count * (parts_bound each fill g own body + bundles_bound each tail)
+  part_bound each fill g own (calls_to k tail) = bundles_bound each tail + (fill k + fill own + g k)
+  part_bound each fill g own (leaves tail) = bundles_bound each tail
 
-  pub parts_bound : List PlainParts → ℕ → (ℕ → ℕ) → ℕ → PlainParts → ℕ
-  parts_bound fs each g own no_part = 0
-  parts_bound fs each g own (part p rest) = part_bound fs each g own p + parts_bound fs each g own rest
+  pub parts_bound : ℕ → (ℕ → ℕ) → (ℕ → ℕ) → ℕ → PlainParts → ℕ
+  parts_bound each fill g own no_part = 0
+  parts_bound each fill g own (part p rest) = part_bound each fill g own p + parts_bound each fill g own rest
 
 -- functions in order, each over the earlier ones
-abbrev pub bounds : List PlainParts → ℕ → ℕ → ℕ → ℕ
-bounds fs each zero k = 0
-bounds fs each (suc n) k = if k == n then parts_bound fs each (bounds fs each n) n (slice_index_or fs n no_part) else bounds fs each n k
+abbrev pub bounds : List PlainParts → ℕ → (ℕ → ℕ) → ℕ → ℕ → ℕ
+bounds fs each fill zero k = 0
+bounds fs each fill (suc n) k = if k == n then parts_bound each fill (bounds fs each fill n) n (slice_index_or fs n no_part) else bounds fs each fill n k
 
--- the entry has to be fetched, and is run
+-- what the fetch of a function takes
+abbrev pub fill_bound : ℕ → List PlainParts → ℕ → ℕ
+fill_bound each fs k = each * fill_moves fs k
+
+-- the entry has to be fetched, and is run; at calls and returns each fetch is counted
 abbrev pub shape_bound : ℕ → PlainShape → ℕ
-shape_bound each s = each * fill_moves s.functions s.entry + bounds s.functions each (length s.functions) s.entry
+shape_bound each s = fill_bound each s.functions s.entry + bounds s.functions each (fill_bound each s.functions) (length s.functions) s.entry

@@ -3,7 +3,7 @@ ghost use Rattle.std.specs.Prelude.{◌≡◌, ℕ, ◌+◌, ◌*◌, ◌≤◌,
 ghost use Rattle.sp_shape.specs.Parts.{PlainParts};
 ghost use Rattle.sp_shape.specs.Shown.{plain_part, parts_of};
 ghost use Rattle.sp_tree.specs.declared.limits.TheConstants.{MOST_FUNCTIONS};
-ghost use Rattle.cycle_bound.specs.Bound.{fill_moves, part_bound, parts_bound, bounds};
+ghost use Rattle.cycle_bound.specs.Bound.{part_bound, parts_bound, bounds};
 ghost use Rattle.cycle_bound.specs.Calls.{PartCallsBelow, CallsBelow};
 ghost use Rattle.cycle_bound.specs.Held.{held};
 ghost use Rattle.cycle_bound.specs.Known.{Knows};
@@ -23,8 +23,8 @@ use std::sync::ledger::Ledger;
 fn cycles_of_call(function: usize, number: usize, known: &Known) -> u64
     requires earlier { function < number }
     requires number { number < MOST_FUNCTIONS }
-    ensures { (fs : List PlainParts) (each : ℕ) → Knows fs each (number + 1) number known.now
-        → result ≡ held (each * (fill_moves fs function + fill_moves fs number) + bounds fs each number function) }
+    ensures { (fs : List PlainParts) (each : ℕ) (fill : ℕ → ℕ) → Knows fs each fill (number + 1) number known.now
+        → result ≡ held (fill function + fill number + bounds fs each fill number function) }
 {
     let fills = plus(known.fills[function], known.fills[number]);
     plus(fills, known.bounds[function])
@@ -43,8 +43,8 @@ fn cycles_of_part<L: Ledger>(
     requires earlier { PartCallsBelow number (plain_part part.now) }
     requires number { number < MOST_FUNCTIONS }
     requires few { each ≤ MOST_EACH }
-    ensures cycles { (fs : List PlainParts) → Knows fs each (number + 1) number known.now
-        → result ≡ held (part_bound fs each (bounds fs each number) number (plain_part part.now)) }
+    ensures cycles { (fs : List PlainParts) (fill : ℕ → ℕ) → Knows fs each fill (number + 1) number known.now
+        → result ≡ held (part_bound each fill (bounds fs each fill number) number (plain_part part.now)) }
     ensures steps { steps.new ≡ steps.old + part_nodes (plain_part part.now) }
 {
     steps.tick();
@@ -76,8 +76,8 @@ pub fn cycles_of_parts<L: Ledger>(
     requires earlier { CallsBelow number (parts_of parts.now) }
     requires number { number < MOST_FUNCTIONS }
     requires few { each ≤ MOST_EACH }
-    ensures cycles { (fs : List PlainParts) → Knows fs each (number + 1) number known.now
-        → result ≡ held (parts_bound fs each (bounds fs each number) number (parts_of parts.now)) }
+    ensures cycles { (fs : List PlainParts) (fill : ℕ → ℕ) → Knows fs each fill (number + 1) number known.now
+        → result ≡ held (parts_bound each fill (bounds fs each fill number) number (parts_of parts.now)) }
     ensures steps { steps.new ≡ steps.old + parts_nodes (parts_of parts.now) }
 {
     let mut cycles = 0;

@@ -10,7 +10,7 @@ ghost use Rattle.cycle_bound.specs.Gap.{gap, place_bound};
 ghost use Rattle.cycle_bound.specs.Held.{held};
 ghost use Rattle.cycle_bound.specs.Nodes.{nodes};
 
-use crate::functions::cycles_of_functions;
+use crate::functions::{cycles_of_functions, fills_of_functions};
 use crate::held::{MOST_BOUND, plus};
 use crate::steps::Steps;
 use slot_arbiter::{Place, gap_of};
@@ -23,7 +23,7 @@ use std::sync::ledger::{Blank, Ledger};
 pub struct Long;
 
 /// The number of cycles, unless it is more than a bound may be.
-fn within(cycles: u64) -> Result<u64, Long>
+pub fn within(cycles: u64) -> Result<u64, Long>
     ensures { (n : ℕ) → cycles ≡ held n → Answers result n }
 {
     if cycles > MOST_BOUND {
@@ -45,7 +45,9 @@ pub fn bound<L: Ledger>(shape: &Shape, place: &Place, steps: &mut Steps<L>) -> R
     ensures forward { steps.old ≤ steps.new }
 {
     let each = gap_of(place) + u64::from(place.slot) - 1;
-    let known = cycles_of_functions(shape.functions.as_slice(), each, steps);
+    let functions = shape.functions.as_slice();
+    let fills = fills_of_functions(functions, each, steps);
+    let known = cycles_of_functions(functions, &fills, each, steps);
     let entry = shape.entry as usize;
     within(plus(known.fills[entry], known.bounds[entry]))
 }

@@ -24,12 +24,12 @@ line text = text ++ 10 ∷ []
 unfoldable pub platform_lines : List ℕ
 platform_lines = line (codes "version = 1") ++ line (codes "cores = 4") ++ line (codes "slot = 8") ++ line (codes "cycles = 20000000")
 
--- the lines of a core's task above its C text, and its arrays, with which the C text begins
+-- the lines of a core's task above its C text, and the arrays with which the C text begins
 unfoldable pub head_lines : ℕ → List ℕ
-head_lines core = line (codes "[[task]]") ++ line (codes "core = " ++ decimal core) ++ line (codes "lang = \"c\"")
+head_lines core = line (codes "[[task]]") ++ line (codes "core = " ++ decimal core) ++ line (codes "lang = \"c\"") ++ line (codes "source = '''")
 
 unfoldable pub array_lines : List ℕ
-array_lines = line (codes "source = '''") ++ line (codes "int in[16];") ++ line (codes "int out[1];")
+array_lines = line (codes "int in[16];") ++ line (codes "int out[1];")
 
 -- A function with its mask, its factor and its term: how it begins, what it does where no bit of the mask is set,
 -- what it does else, and how it ends.
@@ -65,11 +65,15 @@ unfoldable pub calls : ℕ → ℕ → List ℕ
 calls zero index = []
 calls (suc left) index = call_line index ++ calls left (index + 1)
 
--- the function `main`, which calls each function once, and the end of the C text
+-- the function `main`, which calls each function once
 unfoldable pub main_lines : List ℕ
 main_lines =
     line (codes "int main() { int s = 0; int i = 0; _Pragma(\"loopbound min 16 max 16\") while (i < 16) { s = s + in[i];")
-    ++ calls FUNCTIONS 0 ++ line (codes "i = i + 1; } out[0] = s; return s; }") ++ line (codes "'''")
+    ++ calls FUNCTIONS 0 ++ line (codes "i = i + 1; } out[0] = s; return s; }")
+
+-- the C text of a task whose draws begin at a state
+unfoldable pub source : ℕ → List ℕ
+source x = array_lines ++ functions FUNCTIONS 0 x ++ main_lines
 
 -- so many draws from a state on, each behind a comma and a space
 unfoldable pub more_draws : ℕ → ℕ → List ℕ
@@ -89,7 +93,7 @@ after_task x = after WORDS (after_functions x)
 
 -- the task of a core, whose draws begin at a state
 unfoldable pub task : ℕ → ℕ → List ℕ
-task core x = head_lines core ++ array_lines ++ functions FUNCTIONS 0 x ++ main_lines ++ input_line (after_functions x)
+task core x = head_lines core ++ source x ++ line (codes "'''") ++ input_line (after_functions x)
 
 -- the tasks of so many cores from a core on; each goes on with the state that the one before it left
 unfoldable pub tasks : ℕ → ℕ → ℕ → List ℕ

@@ -25,9 +25,8 @@ pub fn put_task(text: &mut Vec<u8>, core: u64, draws: &mut Draws) -> Result<(), 
     ensures left { OnOk result (draws.new.state ≡ specs.after_task draws.old.state) }
 {
     put_head(text, core)?;
-    put_arrays(text)?;
-    put_functions(text, draws)?;
-    put_main(text)?;
+    put_source(text, draws)?;
+    put_line(text, "'''")?;
     put_input(text, draws)
 }
 
@@ -38,7 +37,19 @@ fn put_head(text: &mut Vec<u8>, core: u64) -> Result<(), OutOfMemory>
 {
     put_line(text, "[[task]]")?;
     put_line_with(text, "core = ", core)?;
-    put_line(text, "lang = \"c\"")
+    put_line(text, "lang = \"c\"")?;
+    put_line(text, "source = '''")
+}
+
+// the C text
+#[tactic(auto, unfolding(crate::specs::Generator::source))]
+fn put_source(text: &mut Vec<u8>, draws: &mut Draws) -> Result<(), OutOfMemory>
+    ensures appended { OnOk result (text.new.items ≡ text.old.items ++ specs.source draws.old.state) }
+    ensures left { OnOk result (draws.new.state ≡ specs.after_functions draws.old.state) }
+{
+    put_arrays(text)?;
+    put_functions(text, draws)?;
+    put_main(text)
 }
 
 // the arrays, with which the C text begins
@@ -46,7 +57,6 @@ fn put_head(text: &mut Vec<u8>, core: u64) -> Result<(), OutOfMemory>
 fn put_arrays(text: &mut Vec<u8>) -> Result<(), OutOfMemory>
     ensures { OnOk result (text.new.items ≡ text.old.items ++ specs.array_lines) }
 {
-    put_line(text, "source = '''")?;
     put_line(text, "int in[16];")?;
     put_line(text, "int out[1];")
 }
@@ -129,7 +139,7 @@ fn put_return(text: &mut Vec<u8>) -> Result<(), OutOfMemory>
     put_line(text, "; } return y; }")
 }
 
-// the function `main`, and the end of the C text
+// the function `main`
 #[tactic(auto, unfolding(crate::specs::Generator::main_lines))]
 fn put_main(text: &mut Vec<u8>) -> Result<(), OutOfMemory>
     ensures { OnOk result (text.new.items ≡ text.old.items ++ specs.main_lines) }
@@ -139,8 +149,7 @@ fn put_main(text: &mut Vec<u8>) -> Result<(), OutOfMemory>
         "int main() { int s = 0; int i = 0; _Pragma(\"loopbound min 16 max 16\") while (i < 16) { s = s + in[i];",
     )?;
     put_calls(text)?;
-    put_line(text, "i = i + 1; } out[0] = s; return s; }")?;
-    put_line(text, "'''")
+    put_line(text, "i = i + 1; } out[0] = s; return s; }")
 }
 
 // a call of each function

@@ -17,7 +17,6 @@ use Rattle.sp_shape.specs.Run.{Run, Sources, branches, once, effected, run, IsWh
 use Rattle.sp_shape.specs.Trail.{all_done}
 use Rattle.sp_emit.specs.Holding.{held}
 use Rattle.sp_emit.specs.Instructions.{always, where_so, idle, with_short, compare_short, branch}
-use Rattle.sp_emit.specs.declared.registers.TheConstants.{TEST}
 use Rattle.sp_emit.proofs.Leaving.{did_with_short, did_compare_short}
 use Rattle.sp_emit.proofs.Once.{so, did_nothing, did_branch, got, so_got}
 
@@ -55,26 +54,22 @@ same_ways from (b ∷ bs) m calm =
 
 -- ---- a branch and its delay slots
 
-abbrev pub back_again : List Slots
-back_again = branch TEST ∷ idle ∷ idle ∷ []
+abbrev pub back_again : ℕ → List Slots
+back_again p = branch p ∷ idle ∷ idle ∷ []
 
--- where the test holds the branch is asked for, else none
-pub again : (from : Sources) (m : Run) → IsWhole m → so TEST m ≡ true → (run from (all_done back_again) m).ways ≡ m.ways ++ branches ∷ []
-again from m whole on = same_ways from (idle ∷ idle ∷ []) (once from (branch TEST) m) refl ∙ ap (λ t. t.ways) (did_branch from (where_so TEST) (pos 0) m whole on)
+-- where the predicate holds the branch is asked for, else none
+pub again : (from : Sources) (p : ℕ) (m : Run) → IsWhole m → so p m ≡ true → (run from (all_done (back_again p)) m).ways ≡ m.ways ++ branches ∷ []
+again from p m whole on = same_ways from (idle ∷ idle ∷ []) (once from (branch p) m) refl ∙ ap (λ t. t.ways) (did_branch from (where_so p) (pos 0) m whole on)
 
-pub no_more : (from : Sources) (m : Run) → IsWhole m → so TEST m ≡ false → (run from (all_done back_again) m).ways ≡ m.ways
-no_more from m whole off = same_ways from (idle ∷ idle ∷ []) (once from (branch TEST) m) refl ∙ ap (λ t. t.ways) (did_nothing from (where_so TEST) (Branch (pos 0)) m whole off)
+pub no_more : (from : Sources) (p : ℕ) (m : Run) → IsWhole m → so p m ≡ false → (run from (all_done (back_again p)) m).ways ≡ m.ways
+no_more from p m whole off = same_ways from (idle ∷ idle ∷ []) (once from (branch p) m) refl ∙ ap (λ t. t.ways) (did_nothing from (where_so p) (Branch (pos 0)) m whole off)
 
 -- ---- a count in a register goes down by 1, and is tested
 
-abbrev pub counted_down : ℕ → List Slots
-counted_down r = with_short always imm.Sub r r 1 ∷ compare_short cmp.Neq TEST r 0 ∷ []
-
--- the states behind
 pub counts_down : (from : Sources) (r n : ℕ) (m : Run) → IsWhole m → 1 ≤ r → r < 32 → held r m ≡ suc n → suc n < 2 ^ 32 → held r (once from (with_short always imm.Sub r r 1) m) ≡ n
 counts_down from r n m whole some few is word =
     ap (held r) (did_with_short from imm.Sub r r 1 m whole) ∙ got r _ m whole some few ∙ ap (λ c. (c + (2 ^ 32 - 1)) % 2 ^ 32) is ∙ omega (arith, word)
 
-pub tests_count : (from : Sources) (r n : ℕ) (m : Run) → IsWhole m → held r m ≡ n → so TEST (once from (compare_short cmp.Neq TEST r 0) m) ≡ not (n == 0)
-tests_count from r n m whole is =
-    ap (so TEST) (did_compare_short from cmp.Neq TEST r 0 m whole) ∙ so_got TEST (not (held r m == 0)) m whole (omega arith) (omega arith) ∙ ap (λ c. not (c == 0)) is
+pub tests_count : (from : Sources) (p r n : ℕ) (m : Run) → IsWhole m → 1 ≤ p → p < 8 → held r m ≡ n → so p (once from (compare_short cmp.Neq p r 0) m) ≡ not (n == 0)
+tests_count from p r n m whole some few is =
+    ap (so p) (did_compare_short from cmp.Neq p r 0 m whole) ∙ so_got p (not (held r m == 0)) m whole some few ∙ ap (λ c. not (c == 0)) is

@@ -57,7 +57,7 @@ counter_counted from counter n m told whole few is word =
     let c3 : held SPARE m3 ≡ n = ap (held SPARE) stored ∙ c2 in
     record {
       whole = behind.whole;
-      test = tests_count from SPARE n m3 h3 c3;
+      test = tests_count from TEST SPARE n m3 h3 (omega arith) (omega arith) c3;
       word = ap (λ s. s (m.st + counter)) behind.stack ∙ ap (λ t. t.stack (m.st + counter)) stored ∙ ap (λ st. put (st + counter) (held SPARE m2) m2.stack (m.st + counter)) before.st
           ∙ put_same (m.st + counter) (held SPARE m2) m2.stack ∙ c2;
       ways = same_ways from (counter_tested counter) m refl;
@@ -71,7 +71,7 @@ record TailCounted (counter n : ℕ) (m t : Run) : Type 0 where
 tail_counted : (from : Sources) (counter n : ℕ) (m : Run) → from.stack ≡ true → IsWhole m → counter < 128 → m.stack (m.st + counter) ≡ suc n → suc n < 2 ^ 32 → TailCounted counter n m (run from (all_done (turns_tail counter)) m)
 tail_counted from counter n m told whole few is word =
     let c = counter_counted from counter n m told whole few is word in
-    let k = calm_run from SPARE (all_done back_again) (run from (all_done (counter_tested counter)) m) (omega arith) c.whole refl in
+    let k = calm_run from SPARE (all_done (back_again TEST)) (run from (all_done (counter_tested counter)) m) (omega arith) c.whole refl in
     record {
       keeps = passes_done from (counter + 1) (turns_tail counter) m (omega (arith, few)) whole (turns_tail_low (counter + 1) counter (omega arith));
       word = ap (λ s. s (m.st + counter)) k.stack ∙ c.word;
@@ -80,12 +80,12 @@ tail_counted from counter n m told whole few is word =
 asks_again : (from : Sources) (counter n : ℕ) (m : Run) → from.stack ≡ true → IsWhole m → counter < 128 → m.stack (m.st + counter) ≡ suc (suc n) → suc (suc n) < 2 ^ 32 → AsksAgain (run from) (turns_tail counter) m
 asks_again from counter n m told whole few is word =
     let c = counter_counted from counter (suc n) m told whole few is word in
-    again from (run from (all_done (counter_tested counter)) m) c.whole (c.test ∙ ap not (ne_eqb (suc n) 0 (omega arith))) ∙ ap (λ w. w ++ branches ∷ []) c.ways
+    again from TEST (run from (all_done (counter_tested counter)) m) c.whole (c.test ∙ ap not (ne_eqb (suc n) 0 (omega arith))) ∙ ap (λ w. w ++ branches ∷ []) c.ways
 
 asks_no_more : (from : Sources) (counter : ℕ) (m : Run) → from.stack ≡ true → IsWhole m → counter < 128 → m.stack (m.st + counter) ≡ 1 → AsksNoMore (run from) (turns_tail counter) m
 asks_no_more from counter m told whole few is =
     let c = counter_counted from counter 0 m told whole few is (omega arith) in
-    no_more from (run from (all_done (counter_tested counter)) m) c.whole c.test ∙ c.ways
+    no_more from TEST (run from (all_done (counter_tested counter)) m) c.whole c.test ∙ c.ways
 
 -- all turns of a loop whose body leaves the counter
 pub counter_turns : (from : Sources) (f : ℕ → List Step) (Body : Run → Type 0) (body : PlainParts) (counter low : ℕ) → from.stack ≡ true → counter < 128

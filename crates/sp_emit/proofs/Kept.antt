@@ -1,6 +1,6 @@
 -- What holds of each function's code holds of each function of the shape.
 use Rattle.std.proofs.Common.{◌≡◌, ℕ, ◌+◌, ◌<◌, ◌≤◌, true, length, slice_index_or, ap, sym, ◌∙◌, subst}
-use Rattle.std.specs.Prelude.{nat_le}
+use Rattle.std.specs.Prelude.{nat_le, is_none}
 use Rattle.std.proofs.lemmas.Bool.{and_parts}
 use Rattle.std.proofs.lemmas.List.{get_or-map}
 use Rattle.sp_tree.proofs.Forms.{earlier_one}
@@ -11,6 +11,7 @@ use Rattle.sp_shape.specs.Bundles.{is_steady, parts_all, parts_idle}
 use Rattle.sp_shape.specs.Parts.{no_part, PlainShape}
 use Rattle.sp_shape.specs.Words.{parts_room}
 use Rattle.sp_emit.specs.Functions.{function_code, emitted}
+use Rattle.sp_emit.proofs.Alone.{function_alone}
 use Rattle.sp_emit.proofs.Idle.{function_idle}
 use Rattle.sp_emit.proofs.Room.{function_room}
 use Rattle.sp_emit.proofs.Steady.{function_steady}
@@ -21,6 +22,9 @@ code_at s u told k below = ap (λ x. slice_index_or x.functions k no_part) told 
 
 pub idle_as : (s : PlainShape) (u : PlainUnit) → s ≡ emitted u → (k : ℕ) → k < length u.functions → parts_idle (slice_index_or s.functions k no_part) ≡ true
 idle_as s u told k below = ap parts_idle (code_at s u told k below) ∙ function_idle (slice_index_or u.functions k no_function)
+
+pub alone_as : (s : PlainShape) (u : PlainUnit) → s ≡ emitted u → (k : ℕ) → k < length u.functions → parts_all (λ b. is_none b.second) (slice_index_or s.functions k no_part) ≡ true
+alone_as s u told k below = ap (parts_all (λ b. is_none b.second)) (code_at s u told k below) ∙ function_alone (slice_index_or u.functions k no_function)
 
 pub steady_as : (s : PlainShape) (u : PlainUnit) → s ≡ emitted u → (k : ℕ) → k < length u.functions → parts_all is_steady (slice_index_or s.functions k no_part) ≡ true
 steady_as s u told k below = ap (parts_all is_steady) (code_at s u told k below) ∙ function_steady (slice_index_or u.functions k no_function)

@@ -1,4 +1,5 @@
 pub mod Accessing
+pub mod Alone
 pub mod Apart
 pub mod Arguments
 pub mod Asking
@@ -52,6 +53,7 @@ pub mod Storing
 pub mod TaskAsks
 pub mod Tasks
 pub mod Turns
+pub mod Untouched
 pub mod ValueAsks
 pub mod Values
 pub mod WithinFrames

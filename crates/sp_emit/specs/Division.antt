@@ -8,7 +8,7 @@ use Rattle.patmos_instr.specs.declared.functions.ImmFunc.TheVariants as imm
 use Rattle.patmos_instr.specs.declared.functions.PredFunc.TheVariants as comb
 use Rattle.sp_shape.specs.Parts.{PlainPart, straight, repeats, PlainParts, no_part, part}
 use Rattle.sp_emit.specs.Instructions.{always, where_so, idle, set_short, copy, with_short, compute, compare, compare_short, combine, branch}
-use Rattle.sp_emit.specs.declared.registers.TheConstants.{SPARE, DIVIDEND, DIVISOR, REMAINDER, DIGITS, TEST, SECOND, REST_NEGATIVE, QUOTIENT_NEGATIVE}
+use Rattle.sp_emit.specs.declared.registers.TheConstants.{SPARE, DIVIDEND, DIVISOR, REMAINDER, DIGITS, TEST, SECOND, REST_NEGATIVE, QUOTIENT_NEGATIVE, MORE}
 
 -- the operands stand in two registers; nothing is left so far, and 32 digits are to be taken
 abbrev pub operands : ℕ → ℕ → List Slots
@@ -25,7 +25,9 @@ without_signs =
     ∷ []
 
 -- a digit: the highest bit of the dividend goes to what is left; where the divisor then goes into that, it is taken off,
--- and the quotient's digit is 1. What is left may have 33 bits, of which the highest is the second predicate
+-- and the quotient's digit is 1. What is left may have 33 bits, of which the highest is the second predicate. The digits
+-- still to be taken are counted in between: so the bundles stand in pairs, of which the second reads nothing that the
+-- first writes, and a pair can be one bundle
 abbrev pub digit : List Slots
 digit =
     compare_short cmp.Btest SECOND REMAINDER 31
@@ -33,15 +35,15 @@ digit =
     ∷ compute always alu.Shadd REMAINDER REMAINDER SPARE
     ∷ compute always alu.Add DIVIDEND DIVIDEND DIVIDEND
     ∷ compare cmp.Ule TEST DIVISOR REMAINDER
+    ∷ with_short always imm.Sub DIGITS DIGITS 1
     ∷ combine comb.Por TEST TEST SECOND
+    ∷ compare_short cmp.Neq MORE DIGITS 0
     ∷ compute (where_so TEST) alu.Sub REMAINDER REMAINDER DIVISOR
     ∷ with_short (where_so TEST) imm.Add DIVIDEND DIVIDEND 1
-    ∷ with_short always imm.Sub DIGITS DIGITS 1
-    ∷ compare_short cmp.Neq TEST DIGITS 0
     ∷ []
 
 abbrev pub digit_tail : List Slots
-digit_tail = digit ++ branch TEST ∷ idle ∷ idle ∷ []
+digit_tail = digit ++ branch MORE ∷ idle ∷ idle ∷ []
 
 abbrev pub digits : PlainPart
 digits = repeats 32 no_part digit_tail

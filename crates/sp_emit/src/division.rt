@@ -11,8 +11,8 @@ use crate::instructions::{
 };
 use crate::parts::{listed, push, push_straight};
 use crate::registers::{
-    DIGITS, DIVIDEND, DIVISOR, QUOTIENT_NEGATIVE, REMAINDER, REST_NEGATIVE, SECOND, SPARE, TEST,
-    pred, reg,
+    DIGITS, DIVIDEND, DIVISOR, MORE, QUOTIENT_NEGATIVE, REMAINDER, REST_NEGATIVE, SECOND, SPARE,
+    TEST, pred, reg,
 };
 use patmos_instr::{AluFunc, Bundle, CmpFunc, ImmFunc, PredFunc, Reg};
 use sp_shape::Part;
@@ -52,19 +52,19 @@ fn digit() -> [Bundle; 13]
 {
     let (dividend, divisor) = (reg(DIVIDEND), reg(DIVISOR));
     let (remainder, spare) = (reg(REMAINDER), reg(SPARE));
-    let (test, second) = (pred(TEST), pred(SECOND));
+    let (test, second, more) = (pred(TEST), pred(SECOND), pred(MORE));
     [
         compare_short(CmpFunc::Btest, second, remainder, 31),
         with_short(always(), ImmFunc::Sr, spare, dividend, 31),
         compute(always(), AluFunc::Shadd, remainder, remainder, spare),
         compute(always(), AluFunc::Add, dividend, dividend, dividend),
         compare(CmpFunc::Ule, test, divisor, remainder),
+        with_short(always(), ImmFunc::Sub, reg(DIGITS), reg(DIGITS), 1),
         combine(PredFunc::Por, test, test, second),
+        compare_short(CmpFunc::Neq, more, reg(DIGITS), 0),
         compute(where_so(test), AluFunc::Sub, remainder, remainder, divisor),
         with_short(where_so(test), ImmFunc::Add, dividend, dividend, 1),
-        with_short(always(), ImmFunc::Sub, reg(DIGITS), reg(DIGITS), 1),
-        compare_short(CmpFunc::Neq, test, reg(DIGITS), 0),
-        branch(test),
+        branch(more),
         idle(),
         idle(),
     ]

@@ -1,5 +1,5 @@
 //! Functions and tasks.
-ghost use Rattle.std.specs.Prelude.{◌≡◌, ◌+◌, ◌++◌, ◌<◌, ◌≤◌, ℕ, true, IfOk, OnOk, length, map, slice_index_or};
+ghost use Rattle.std.specs.Prelude.{◌≡◌, ◌+◌, ◌++◌, ◌<◌, ◌≤◌, ℕ, true, IfOk, OnOk, length, map, slice_index_or, is_none};
 ghost use Rattle.sp_emit.specs.Functions as specs;
 ghost use Rattle.sp_emit.specs.Fits.{FunctionFits};
 ghost use Rattle.sp_shape.specs.Formed as shape;
@@ -153,6 +153,8 @@ pub fn emit(alloc: Global, unit: &SpUnit) -> Result<Shape, OutOfMemory>
     ensures formed { IfOk result (λ s. shape.is_formed (plain_shape s) ≡ true) }
     ensures slots { IfOk result (λ s. (k : ℕ) → k < length (plain_unit unit.now).functions
         → parts_idle (slice_index_or (plain_shape s).functions k no_part) ≡ true) }
+    ensures alone { IfOk result (λ s. (k : ℕ) → k < length (plain_unit unit.now).functions
+        → parts_all (λ b. is_none b.second) (slice_index_or (plain_shape s).functions k no_part) ≡ true) }
     ensures steady { IfOk result (λ s. (k : ℕ) → k < length (plain_unit unit.now).functions
         → parts_all is_steady (slice_index_or (plain_shape s).functions k no_part) ≡ true) }
     ensures room { IfOk result (λ s. (k : ℕ) → k < length (plain_unit unit.now).functions

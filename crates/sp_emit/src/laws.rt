@@ -32,7 +32,7 @@ ghost use Rattle.sp_emit.specs.Ran.{begun_memory, ran};
 ghost use Rattle.sp_emit.specs.Serving.{Answers, AreFunctions, AreStatements, CalledWith};
 ghost use Rattle.sp_emit.specs.Statements.{stmts_code};
 ghost use Rattle.sp_tree.specs.declared.limits.TheConstants.{MOST_FRAME};
-ghost use Rattle.sp_emit.specs.declared.registers.TheConstants.{RESULT, MASK, FIRST, SPARE, DIVIDEND, DIVISOR, REMAINDER, DIGITS, OVERRUN, TEST, SECOND, REST_NEGATIVE, QUOTIENT_NEGATIVE};
+ghost use Rattle.sp_emit.specs.declared.registers.TheConstants.{RESULT, MASK, FIRST, SPARE, DIVIDEND, DIVISOR, REMAINDER, DIGITS, OVERRUN, TEST, SECOND, REST_NEGATIVE, QUOTIENT_NEGATIVE, MORE};
 
 /// What the code of an expression leaves, from a register on. Whatever loads give, the registers below that one, the
 /// flag of loops, the stack and all memories are as they were. Where each load gives what was stored last in its word,
@@ -116,4 +116,5 @@ pub fn registers_numbered()
     ensures second { SECOND ≡ 2 }
     ensures rest { REST_NEGATIVE ≡ 3 }
     ensures quotient { QUOTIENT_NEGATIVE ≡ 4 }
+    ensures more { MORE ≡ 5 }
 {}

@@ -6,8 +6,9 @@
 //! else uses, so that the transactions are the same too.
 //!
 //! [`emit`] writes the code of a well-formed task, as the shape that `specs/Functions.antt` defines. It promises besides
-//! that the shape is well formed, that its delay slots do nothing, that whatever may have a transaction with main memory
-//! is always done, and that a function takes at most as many words as its tree costs.
+//! that the shape is well formed, that each of its bundles is one instruction, that its delay slots do nothing, that
+//! whatever may have a transaction with main memory is always done, and that a function takes at most as many words as
+//! its tree costs.
 //!
 //! [`tasks_do_what_they_mean`] says that what comes of a task's code is what its tree means, where each load gives what
 //! was stored last in its word. [`expressions_are_worked_out`] says it of an expression, and what its code keeps whatever
@@ -49,8 +50,8 @@ pub use laws::{
     tasks_do_what_they_mean, tasks_stay_within_the_stack,
 };
 pub use registers::{
-    DIGITS, DIVIDEND, DIVISOR, FIRST, MASK, OVERRUN, QUOTIENT_NEGATIVE, REMAINDER, REST_NEGATIVE,
-    RESULT, SECOND, SPARE, TEST,
+    DIGITS, DIVIDEND, DIVISOR, FIRST, MASK, MORE, OVERRUN, QUOTIENT_NEGATIVE, REMAINDER,
+    REST_NEGATIVE, RESULT, SECOND, SPARE, TEST,
 };
 pub use sp_shape::{Part, Shape};
 pub use worked::{worked_calls, worked_divisions, worked_effects};

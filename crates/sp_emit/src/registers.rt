@@ -44,6 +44,9 @@ pub const REST_NEGATIVE: u32 = 3;
 /// The predicate that the quotient is negative.
 pub const QUOTIENT_NEGATIVE: u32 = 4;
 
+/// The predicate that digits are still to be taken.
+pub const MORE: u32 = 5;
+
 /// The register of a number.
 pub fn reg(number: u32) -> Reg
     requires { number < 32 }

@@ -1,16 +1,18 @@
 -- The code of a task asks for nothing that a check of a core stops, makes its turns, and has the same events.
-use Rattle.std.proofs.Common.{◌≡◌, ℕ, ◌+◌, ◌*◌, ◌%◌, ◌^◌, ◌<◌, ◌⊎◌, inl, inr, true, List, [], ◌∷◌, ◌++◌, length, Some, slice_index_or, refl, sym, ap, ◌∙◌, subst, arith}
+use Rattle.std.proofs.Common.{◌≡◌, ℕ, ◌+◌, ◌*◌, ◌%◌, ◌^◌, ◌<◌, ◌⊎◌, inl, inr, true, Bool, List, [], ◌∷◌, ◌++◌, length, Option, None, Some, slice_index_or, refl, sym, ap, ◌∙◌, subst, arith}
 use Rattle.std.proofs.Math.ListN.{get_or-eq_default}
 use Rattle.std.proofs.lemmas.List.{length-map}
-use Rattle.std.specs.Prelude.{nat_le, nat_lt}
+use Rattle.std.specs.Prelude.{◌&&◌, is_none, nat_le, nat_lt}
 use Rattle.std.specs.List.{Contains, AllByRecursion as Each}
-use Rattle.std.proofs.lemmas.Bool.{and_parts, leb-true, ltb-true, cases_lt}
+use Rattle.std.proofs.lemmas.Bool.{and_from, and_parts, leb-true, ltb-true, cases_lt}
 use Rattle.std.proofs.lemmas.List.Elements.{recursion_from_All, All-contains_itself}
 use Rattle.slot_arbiter.specs.declared.place.Place.{Place}
 use Rattle.c_world.specs.Shown.{room_in}
 use Rattle.c_world.specs.declared.region.Region.{Region}
 use Rattle.c_world.specs.declared.region.Region.TheVariants as region
 use Rattle.local_store.specs.declared.map.Cell.TheVariants as cell
+use Rattle.patmos_instr.specs.Bundles.{Slots}
+use Rattle.patmos_instr.specs.declared.instructions.Instr.{Instr}
 use Rattle.patmos_instr.specs.declared.memories.Mem.TheVariants as mem
 use Rattle.patmos_sem.specs.Bundles.{effect_of}
 use Rattle.patmos_sem.specs.Effects.{width_bytes, store_bytes}
@@ -23,7 +25,7 @@ use Rattle.sp_tree.specs.Statements.{PlainUnit}
 use Rattle.sp_tree.specs.Uses.{Use, sends_to, uses_of}
 use Rattle.sp_shape.specs.Memory.{Memory, cell_of}
 use Rattle.sp_shape.specs.Pointers.{Pointers, pointers_of, IsWithinStack, AreWithinStack}
-use Rattle.sp_shape.specs.Bundles.{has_word, is_steady, parts_all}
+use Rattle.sp_shape.specs.Bundles.{has_word, is_idle, is_steady, parts_all}
 use Rattle.sp_shape.specs.Parts.{no_part}
 use Rattle.sp_shape.specs.Run.{Run, IsWhole, Sources, run, late, begun, at_begin}
 use Rattle.sp_shape.specs.Trail.{Step, does, begins, trail}
@@ -36,9 +38,12 @@ use Rattle.sp_emit.specs.Starting.{AllWords}
 use Rattle.sp_emit.proofs.Constants.{constants_are_words, counts_are_words}
 use Rattle.sp_emit.proofs.Kept as emit
 use Rattle.bundle_sched.proofs.Kept as sched
-use Rattle.bundle_sched.specs.Placed.{parts_placed}
+use Rattle.bundle_sched.specs.Packed.{can_pair}
+use Rattle.bundle_sched.specs.Packing.{pair}
+use Rattle.bundle_sched.proofs.Commute.{idle_is}
+use Rattle.bundle_sched.proofs.TwoInOne.{pairs}
 use Rattle.tc_link.proofs.Constants.{function_words_fit}
-use Rattle.patmos_model.specs.Range.{IsWord, HasCode}
+use Rattle.patmos_model.specs.Range.{IsWord, HasCode, constant_of}
 use Rattle.sp_emit.proofs.Aligned.{read_aligned, stored_aligned}
 use Rattle.sp_emit.proofs.Cells.{cell_in}
 use Rattle.sp_emit.proofs.FunctionTurns.{task_turns}
@@ -51,7 +56,7 @@ use Rattle.tc_link.specs.Backs.{backs_of}
 use Rattle.tc_link.specs.Placed.{linked}
 use Rattle.code_core.specs.Asked.{asked_of, asks_in, MaySendAt, MaySend, AllSend}
 use Rattle.code_core.specs.Fixed.{IsLinkable, cached_in, addresses_in, Behaves}
-use Rattle.code_core.specs.Words.{has_constants, AllFit}
+use Rattle.code_core.specs.Words.{has_constants, second_constant, AllFit}
 use Rattle.code_core.proofs.BackWords.{backs_fit}
 use Rattle.code_core.proofs.CodeWords.{code_is_words}
 use Rattle.code_core.proofs.Constants.{constants_at, trail_fits}
@@ -247,11 +252,28 @@ addresses_of from (begins ∷ steps) m = addresses_of from steps (begun m)
 
 -- ---- tasks
 
+-- the constants of bundles that a schedule leaves out or puts in one
+constants_dropped : (b : Slots) → is_idle b ≡ true → has_constants b ≡ true
+constants_dropped b nothing = ap has_constants (idle_is b nothing)
+
+constants_paired : (a b : Slots) → can_pair a b ≡ true → has_constants (pair a b) ≡ true → (has_constants a ≡ true) × (has_constants b ≡ true)
+constants_paired a b can h =
+    let both = and_parts (nat_lt (constant_of a.first.op) (2 ^ 32)) (nat_lt (constant_of b.first.op) (2 ^ 32)) h in
+    let two = pairs a b can in
+    (alone_fits a both.0 two.first_alone, alone_fits b both.1 two.second_alone)
+  where
+    alone_fits : (x : Slots) → nat_lt (constant_of x.first.op) (2 ^ 32) ≡ true → is_none x.second ≡ true → has_constants x ≡ true
+    alone_fits x fits none = so x.second none
+      where
+        so : (second : Option Instr) → is_none second ≡ true → (nat_lt (constant_of x.first.op) (2 ^ 32) && second_constant second) ≡ true
+        so None none = and_from (nat_lt (constant_of x.first.op) (2 ^ 32)) true fits refl
+        so (Some i) none = absurd (cc)
+
 -- what the laws of emit and schedule tell of the code
 module _ (u : PlainUnit) (code : IsCode u) where
   steady_code : (k : ℕ) → k < length (code_of u).functions → parts_all is_steady (slice_index_or (code_of u).functions k no_part) ≡ true
   steady_code k below =
-      let few : k < length u.functions = omega (arith, below, length-map (emitted u).functions parts_placed, length-map u.functions function_code) in
+      let few : k < length u.functions = omega (arith, below, sched.functions_stay (emitted u), length-map u.functions function_code) in
       sched.steady_as (emitted u) (code_of u) refl k (emit.steady_as (emitted u) u refl k few)
 
   code_words : HasCode (linked (code_of u))
@@ -267,7 +289,7 @@ module _ (u : PlainUnit) (code : IsCode u) where
   ]
 
   emitted_words : (k : ℕ) → parts_all has_word (slice_index_or (emitted u).functions k no_part) ≡ true
-  emitted_words k = sched.placed_all has_word (emitted u) k (words_at k)
+  emitted_words k = sched.none_lost has_word sched.word_dropped sched.word_paired (emitted u) k (words_at k)
 
   pub counts_of : HasCounts u.functions
   counts_of = counts_are_words u emitted_words
@@ -277,7 +299,7 @@ module _ (u : PlainUnit) (code : IsCode u) where
 
   -- the constants of all bundles are words
   emitted_fits : AllFit (trail (emitted u))
-  emitted_fits = trail_fits (emitted u) (λ k. sched.placed_all has_constants (emitted u) k (constants_at (code_of u) code.bundles k))
+  emitted_fits = trail_fits (emitted u) (λ k. sched.none_lost has_constants constants_dropped constants_paired (emitted u) k (constants_at (code_of u) code.bundles k))
 
   pub words_there : (memory : Memory) (loads : List ℕ) → Each IsWord loads → AllWords by_stack (trail (emitted u)) (at_begin memory loads (backs_of (code_of u)))
   words_there memory loads words =

@@ -12,7 +12,7 @@ use Rattle.sp_shape.specs.Formed as shape
 use Rattle.sp_shape.specs.Parts.{PlainShape}
 use Rattle.sp_emit.specs.Chains.{chains}
 use Rattle.sp_emit.specs.Functions.{emitted}
-use Rattle.bundle_sched.specs.Placed.{placed}
+use Rattle.bundle_sched.specs.Scheduled.{scheduled}
 use Rattle.core_pace.specs.Times.{Times}
 use Rattle.code_times.specs.Times.{bound_at, times_at}
 use Rattle.tc_link.specs.Fits.{FitsImage}
@@ -20,7 +20,7 @@ use Rattle.tc_link.specs.Placed.{flat}
 
 -- the code of a task's tree
 abbrev pub code_of : PlainUnit → PlainShape
-code_of u = placed (emitted u)
+code_of u = scheduled (emitted u)
 
 -- the tree is well formed, its frames fit the stack, and it sends to other cores of the platform
 pub record IsRunnable (u : PlainUnit) (place : Place) : Type 0 where

@@ -24,9 +24,10 @@ use Rattle.argo_grid.specs.Report as grid
 use Rattle.argo_grid.specs.Report.{by_check, report_on}
 use Rattle.argo_grid.specs.Schedule.{Schedule}
 use Rattle.tcrest.specs.declared.command.JobCommand.{JobCommand}
-use Rattle.tcrest.specs.declared.command.JobCommand.TheVariants.{Run, Bound, Asm, Mean, Pipe}
+use Rattle.tcrest.specs.declared.command.JobCommand.TheVariants.{Run, Bound, Asm, Mean, Pipe, Persist}
 use Rattle.tcrest.specs.declared.refusal.CoreRefusal.{CoreRefusal}
 use Rattle.tcrest.specs.Bounds.{bounds_text}
+use Rattle.tcrest.specs.declared.bounds.Bounds.TheVariants.{Plain, Persistent}
 use Rattle.tcrest.specs.Command.{command_of, ReadsNothing}
 use Rattle.tcrest.specs.Listing.{listings}
 use Rattle.tcrest.specs.Machine.{begun_on, cores_from, machine_of}
@@ -95,10 +96,11 @@ whole-is text = of_tasks (whole text) (omega arith, omega arith, omega arith)
 answer_with-is : (command : JobCommand) (job : Job) (coded : List (Option Coded)) → IsOfInput (answer_with command job coded)
 answer_with-is Run job coded =
     of_tasks (report_of job coded) (status_of-is (rows_of job.cycles job.trace (map runs_on coded) (machine_of job (cores_from job 0 coded))))
-answer_with-is Bound job coded = whole-is (bounds_text job coded)
+answer_with-is Bound job coded = whole-is (bounds_text Plain job coded)
 answer_with-is Asm job coded = whole-is (listings coded)
 answer_with-is Mean job coded = whole-is (meanings job.cycles coded)
 answer_with-is Pipe job coded = pipe_with-is job coded
+answer_with-is Persist job coded = whole-is (bounds_text Persistent job coded)
 
 answer_or-is : (command : JobCommand) (job : Job) (coded : Result (List (Option Coded)) CoreRefusal) → IsOfInput (answer_or command job coded)
 answer_or-is command job (Ok coded) = answer_with-is command job coded

@@ -8,6 +8,7 @@ use Rattle.slot_arbiter.specs.declared.place.TheConstants.{LATEST_START}
 use Rattle.shared_order.specs.Machine.{State, cycled}
 use Rattle.c_mentions.specs.Alone as alone
 use Rattle.c_mentions.specs.Alone.{Running, is_alone}
+use Rattle.c_tree.specs.Plain.{PlainItem}
 use Rattle.c_tree.specs.Valid.{IsValid}
 use Rattle.c_world.specs.Numbers.{flag}
 use Rattle.patmos_model.specs.Apart.{site_of}
@@ -19,9 +20,10 @@ use Rattle.task_machine.specs.Machines.{BeginsAs}
 use Rattle.task_words.specs.Meant.{Leaves}
 use Rattle.c_task.specs.Programs.{said, task_of, task_on}
 use Rattle.c_task.specs.Telling.{HasProgram, Tells}
-use Rattle.c_task.specs.Translation.{translation, times, bound_on, bound}
+use Rattle.c_task.specs.Translation.{translation, times, bound_on, bound, persist_on}
 use Rattle.c_task.proofs.Runs.{program_runs}
-use Rattle.c_task.proofs.Telling.{tells}
+use Rattle.c_task.proofs.Persisting.{program_sooner, program_tighter}
+use Rattle.c_task.proofs.Telling.{program_within, tells}
 use Rattle.tc_job.specs.Ranges.{KeepsRanges}
 use Rattle.tc_job.specs.Job.{job_of}
 use Rattle.tc_job.specs.declared.job.Job.{Job}
@@ -34,7 +36,7 @@ use Rattle.tcrest.specs.Command.{ReadsNothing}
 use Rattle.tcrest.specs.Machine.{core_with, core_in, cores_from, machine_of, site_on}
 use Rattle.tcrest.specs.Rows.{is_flagged, program_row, row_of, row_state, rows_from, running}
 use Rattle.tcrest.specs.Tasks.{Bounded, Coded, coded_from, runs_by, runs_on}
-use Rattle.tcrest.specs.Telling.{IsPlaceOf, TellsMeaning, TellsTask, TellsTasks, TellsJob, TellsRun, end_of, IsCompiled, IsMadeFor, IsMadeOn, AreMade}
+use Rattle.tcrest.specs.Telling.{IsPlaceOf, TellsMeaning, TellsTask, TellsTasks, TellsAllBounds, TellsOf, TellsJob, TellsTasksOf, end_of, IsCompiled, IsMadeFor, IsMadeOn, AreMade}
 use Rattle.tcrest.proofs.Outs.{outs_are}
 
 -- ---- one row
@@ -60,7 +62,8 @@ row_tells job m all place p input valid bound_is t = record {
   accesses = ap (take job.trace) t.keeps.accesses;
   done = λ enough. let d = t.keeps.done enough in (d.0, ap row_state d.1.1);
   limit = λ early. ap row_state (t.keeps.running early);
-  bound = subst (λ b. (times place p.items).end ≤ place.start + b) (sym bound_is) t.within;
+  bound = ap Some bound_is;
+  within = t.within;
   meaning = λ world words fits enough. row_means job.cycles job.trace all place p input world _ (m.cores place.core) valid (t.meaning world words fits enough);
   alone = t.alone;
 }
@@ -102,6 +105,34 @@ row_at limit trace all m from (b ∷ cs) (suc k) c row is at =
     let there : from + suc k ≡ from + 1 + k = omega arith in
     ap (λ n. row_of limit trace all n (runs_on c) (m.cores n)) there ∙ row_at limit trace all m (from + 1) cs k c row is at
 
+-- ---- tasks that are made
+
+pub made_at : (job : Job) (coded : List (Option Coded)) → AreMade job coded → (core : ℕ) (c : Coded) → slice_get coded core ≡ Some (Some c) → IsMadeFor job core c
+made_at job coded made core c is = subst (λ o. IfSome o (IsMadeOn job core)) is (made core)
+
+compiled_at : (job : Job) (core : ℕ) (c : Coded) (p : Bounded) → IsMadeFor job core c → c.made.program ≡ Some p → IsCompiled job core c.made.image p
+compiled_at job core c p m some = subst (λ o. IfSome o (IsCompiled job core c.made.image)) some m.compiled
+
+valid_at : (job : Job) (start : ℕ) (place : Place) (items : List PlainItem) → IsPlaceOf job start place → IsValid items job.cores place.core → IsValid items place.cores place.core
+valid_at job start place items at valid = subst (λ n. IsValid items n place.core) (sym at.cores) valid
+
+-- what hangs on the table and the slots of a job is the same at a place of its platform
+on_place : (job : Job) (start : ℕ) (place : Place) (f : List ℕ → ℕ → ℕ) → IsPlaceOf job start place → f job.table job.slot ≡ f place.table place.slot
+on_place job start place f at = ap (λ t. f t job.slot) (sym at.table) ∙ ap (f place.table) (sym at.slot)
+
+pub bounds_tell : (job : Job) (coded : List (Option Coded)) → AreMade job coded → TellsAllBounds job coded
+bounds_tell job coded made place c p at is some =
+    let m = made_at job coded made place.core c is in
+    let k = compiled_at job place.core c p m some in
+    let valid = valid_at job c.task.start place p.items at k.valid in
+    let bound_is = k.bound ∙ on_place job c.task.start place (λ t s. bound_on t s place.core p.items) at in
+    let persist_is = k.persist ∙ on_place job c.task.start place (λ t s. persist_on t s place.core p.items) at in
+    record {
+      bound = omega (arith, bound_is, program_within place p.items valid k.code);
+      persist = omega (arith, persist_is, program_sooner place p.items valid k.code);
+      tighter = omega (arith, bound_is, persist_is, program_tighter place p.items valid);
+    }
+
 -- ---- the machine of a job
 
 room_for : (limit cores : ℕ) → limit ≤ 20000000 → cores ≤ 16 → 2 * limit * cores ≤ 2 ^ 64
@@ -126,9 +157,6 @@ module _ (job : Job) (ranges : KeepsRanges job) (coded : List (Option Coded)) (m
     owned = ranges.platform.owned;
   }
 
-  made_at : (core : ℕ) (c : Coded) → slice_get coded core ≡ Some (Some c) → IsMadeFor job core c
-  made_at core c is = subst (λ o. IfSome o (IsMadeOn job core)) is (made core)
-
   -- each core begins with what is said of it
   begins : (core : ℕ) → core < job.cores → BeginsAs job.cores core (cores core) (task_of (task_on tasks core))
   begins core among = by (slice_get coded core) refl
@@ -136,12 +164,12 @@ module _ (job : Job) (ranges : KeepsRanges job) (coded : List (Option Coded)) (m
       by : (o : Option (Option Coded)) → slice_get coded core ≡ o → BeginsAs job.cores core (cores core) (task_of (task_on tasks core))
       by None is = subst (λ r. BeginsAs job.cores core (cores core) (task_of r)) (sym (none_running coded core is)) (_, no_core job 0 coded core is)
       by (Some None) is = subst (λ r. BeginsAs job.cores core (cores core) (task_of r)) (sym (running_at coded core None is)) (_, core_at job 0 coded core None is)
-      by (Some (Some c)) is = subst (λ r. BeginsAs job.cores core (cores core) (task_of r)) (sym (running_at coded core (Some c) is)) (of c (made_at core c is) (core_at job 0 coded core (Some c) is) c.made.program refl)
+      by (Some (Some c)) is = subst (λ r. BeginsAs job.cores core (cores core) (task_of r)) (sym (running_at coded core (Some c) is)) (of c (made_at job coded made core c is) (core_at job 0 coded core (Some c) is) c.made.program refl)
         where
           of : (c : Coded) → IsMadeFor job core c → cores core ≡ core_with job (0 + core) (Some c) → (p : Option Bounded) → c.made.program ≡ p → BeginsAs job.cores core (cores core) (task_of (running (runs_by p)))
           of c m begun_is None none = tt
           of c m begun_is (Some p) some =
-              let k : IsCompiled job core c.made.image p = subst (λ o. IfSome o (IsCompiled job core c.made.image)) some m.compiled in
+              let k = compiled_at job core c p m some in
               let place : Place = place_on core c.task.start among m.start in
               let number : 0 + core ≡ core = omega arith in
               record {
@@ -160,7 +188,7 @@ module _ (job : Job) (ranges : KeepsRanges job) (coded : List (Option Coded)) (m
       → IsCompiled job place.core c.made.image p → Each IsWord c.task.input → HasProgram p.items place c.task.input words cores tasks job.cycles
   has_program place c p at is some k given =
       let number : 0 + place.core ≡ place.core = omega arith in
-      let valid : IsValid p.items place.cores place.core = subst (λ n. IsValid p.items n place.core) (sym at.cores) k.valid in
+      let valid = valid_at job c.task.start place p.items at k.valid in
       let site : site_on job place.core c.task.start (translation p.items).image ≡ site_of place (translation p.items).image = λ i. record {
         cores = sym at.cores i;
         core = place.core;
@@ -189,12 +217,12 @@ module _ (job : Job) (ranges : KeepsRanges job) (coded : List (Option Coded)) (m
   pub report_tells : TellsTasks job coded
   unfolding machine_of
   report_tells place c p row at is some told =
-      let m = made_at place.core c is in
-      let k : IsCompiled job place.core c.made.image p = subst (λ o. IfSome o (IsCompiled job place.core c.made.image)) some m.compiled in
+      let m = made_at job coded made place.core c is in
+      let k = compiled_at job place.core c p m some in
       let h = has_program place c p at is some k m.given in
       let all : Tells p.items place c.task.input tasks (end_of job coded) job.cycles =
       subst (λ n. Tells p.items place c.task.input tasks (cycled turn n cores job.cycles) job.cycles) at.cores (tells p.items place c.task.input words cores tasks job.cycles h) in
-      let bound_is : p.bound ≡ bound place p.items = k.bound ∙ ap (λ t. bound_on t job.slot place.core p.items) (sym at.table) ∙ ap (λ s. bound_on place.table s place.core p.items) (sym at.slot) in
+      let bound_is = k.bound ∙ on_place job c.task.start place (λ t s. bound_on t s place.core p.items) at in
       let number : 0 + place.core ≡ place.core = omega arith in
       let row_is : program_row job.cycles job.trace tasks place.core p ((end_of job coded).cores place.core) ≡ row =
       ap (λ o. row_of job.cycles job.trace tasks place.core (runs_by o) ((end_of job coded).cores place.core)) (sym some)
@@ -213,44 +241,31 @@ ok_is a b same = ap (λ r. elim r as (λ _. _) [ Ok x ↦ x | Err e ↦ a ]) sam
 
 -- the tasks that are made are those of the job
 pub told_of : {X E : Type 0} (job : Job) (command : JobCommand) (coded : List (Option Coded)) (result : Result X E) → coded_from job 0 job.cores ≡ Ok coded
-    → IfOk result (λ _. command ≡ Run → TellsTasks job coded)
-    → IfOk result (λ _. (cs : List (Option Coded)) → command ≡ Run → coded_from job 0 job.cores ≡ Ok cs → TellsTasks job cs)
-told_of job command coded (Ok x) is told = λ cs runs other. subst (TellsTasks job) (ok_is coded cs (sym is ∙ other)) (told runs)
+    → IfOk result (λ _. TellsOf command job coded) → IfOk result (λ _. (cs : List (Option Coded)) → coded_from job 0 job.cores ≡ Ok cs → TellsOf command job cs)
+told_of job command coded (Ok x) is told = λ cs other. subst (TellsOf command job) (ok_is coded cs (sym is ∙ other)) told
 told_of job command coded (Err e) is told = tt
 
 -- the job is that of the bytes
-pub told_run : {X E : Type 0} (command : JobCommand) (bytes : List ℕ) (job : Job) (result : Result X E) → job_of bytes ≡ Ok job
-    → IfOk result (λ _. (cs : List (Option Coded)) → command ≡ Run → coded_from job 0 job.cores ≡ Ok cs → TellsTasks job cs) → IfOk result (λ _. command ≡ Run → TellsJob bytes)
-told_run command bytes job (Ok x) is told = λ runs other cs read.
+pub told_job : {X E : Type 0} (command : JobCommand) (bytes : List ℕ) (job : Job) (result : Result X E) → job_of bytes ≡ Ok job
+    → IfOk result (λ _. (cs : List (Option Coded)) → coded_from job 0 job.cores ≡ Ok cs → TellsOf command job cs) → IfOk result (λ _. TellsJob command bytes)
+told_job command bytes job (Ok x) is told = λ other cs read.
     let same : job ≡ other = ok_is job other (sym is ∙ read) in
-    subst (λ j. coded_from j 0 j.cores ≡ Ok cs → TellsTasks j cs) same (told cs runs)
-told_run command bytes job (Err e) is told = tt
+    subst (λ j. coded_from j 0 j.cores ≡ Ok cs → TellsOf command j cs) same (told cs)
+told_job command bytes job (Err e) is told = tt
 
-pub told_command : {X E : Type 0} (command : JobCommand) (bytes : List ℕ) (result : Result X E) → IfOk result (λ _. command ≡ Run → TellsJob bytes) → IfOk result (λ _. TellsRun (OfJob command) bytes)
-told_command command bytes (Err e) told = tt
-told_command Run bytes (Ok x) told = told refl
-told_command Bound bytes (Ok x) told = tt
-told_command Asm bytes (Ok x) told = tt
-told_command Mean bytes (Ok x) told = tt
-told_command Pipe bytes (Ok x) told = tt
-
-pub told_of_run : {X E : Type 0} (text : List ℕ) (result : Result X E) → IfOk result (λ _. Run ≡ Run → TellsJob text) → IfOk result (λ _. TellsJob text)
-told_of_run text (Ok x) told = told refl
-told_of_run text (Err e) told = tt
-
--- what a command runs that reads nothing is the same whatever the bytes are
-tells_unread : (command : Command) (bytes : List ℕ) → ReadsNothing command → TellsRun command [] → TellsRun command bytes
+-- what a command tells that reads nothing is the same whatever the bytes are
+tells_unread : (command : Command) (bytes : List ℕ) → ReadsNothing command → TellsTasksOf command [] → TellsTasksOf command bytes
 tells_unread (OfJob command) bytes none told = absurd none
 tells_unread Grid bytes none told = absurd none
 tells_unread (Gen number) bytes none told = tt
 tells_unread (Bench number) bytes none told = told
 tells_unread Usage bytes none told = tt
 
-pub told_unread : (command : Command) (left : Option (List ℕ)) (report : Type 0) → ReadsNothing command → (report → TellsRun command []) → IfSome left (λ bytes. report → TellsRun command bytes)
+pub told_unread : (command : Command) (left : Option (List ℕ)) (report : Type 0) → ReadsNothing command → (report → TellsTasksOf command []) → IfSome left (λ bytes. report → TellsTasksOf command bytes)
 told_unread command None report reads told = tt
 told_unread command (Some bytes) report reads told = λ made. tells_unread command bytes reads (told made)
 
-pub told_bytes : (command : Command) (left : Option (List ℕ)) (came : List ℕ) (report : Type 0) → IfSome left (λ bytes. came ≡ bytes) → TellsRun command came
-    → IfSome left (λ bytes. report → TellsRun command bytes)
+pub told_bytes : (command : Command) (left : Option (List ℕ)) (came : List ℕ) (report : Type 0) → IfSome left (λ bytes. came ≡ bytes) → TellsTasksOf command came
+    → IfSome left (λ bytes. report → TellsTasksOf command bytes)
 told_bytes command None came report all told = tt
-told_bytes command (Some bytes) came report all told = λ _. subst (TellsRun command) all told
+told_bytes command (Some bytes) came report all told = λ _. subst (TellsTasksOf command) all told

@@ -14,13 +14,14 @@ use Rattle.tcrest.specs.declared.answers.Answer.{Answer}
 use Rattle.tcrest.specs.declared.command.Command.{Command}
 use Rattle.tcrest.specs.declared.command.Command.TheVariants.{OfJob, Grid, Gen, Bench, Usage}
 use Rattle.tcrest.specs.declared.command.JobCommand.{JobCommand}
-use Rattle.tcrest.specs.declared.command.JobCommand.TheVariants.{Run, Bound, Asm, Mean, Pipe}
+use Rattle.tcrest.specs.declared.command.JobCommand.TheVariants.{Run, Bound, Asm, Mean, Pipe, Persist}
 use Rattle.tcrest.specs.declared.pipe.PipeFault.{PipeFault}
 use Rattle.tcrest.specs.declared.pipe.PipeFault.TheVariants.{OneCore}
 use Rattle.tcrest.specs.declared.top.TextFault.{TextFault}
 use Rattle.tcrest.specs.declared.top.TextFault.TheVariants.{TooLong}
 use Rattle.tcrest.specs.declared.refusal.CoreRefusal.{CoreRefusal}
 use Rattle.tcrest.specs.Bounds.{bounds_text}
+use Rattle.tcrest.specs.declared.bounds.Bounds.TheVariants.{Plain, Persistent}
 use Rattle.tcrest.specs.Command.{command_of}
 use Rattle.tcrest.specs.Listing.{listings}
 use Rattle.tcrest.specs.Machine.{begun_on, cores_from, machine_of}
@@ -34,7 +35,7 @@ abbrev pub lone_line : ℕ → List ℕ → Answer
 lone_line status text = record { status = status; text = line text }
 
 abbrev pub usage : Answer
-usage = lone_line 1 (codes "usage: tcrest run|bound|asm|mean|gen N|bench N|pipe|grid")
+usage = lone_line 1 (codes "usage: tcrest run|bound|asm|mean|gen N|bench N|pipe|grid|persist")
 
 -- the source failed
 abbrev pub read_fault : Answer
@@ -85,10 +86,11 @@ pipe_with job (Some c ∷ d ∷ cs) = one_core
 -- what is written for a job whose tasks are made to these
 abbrev pub answer_with : JobCommand → Job → List (Option Coded) → Answer
 answer_with Run job coded = report_of job coded
-answer_with Bound job coded = whole (bounds_text job coded)
+answer_with Bound job coded = whole (bounds_text Plain job coded)
 answer_with Asm job coded = whole (listings coded)
 answer_with Mean job coded = whole (meanings job.cycles coded)
 answer_with Pipe job coded = pipe_with job coded
+answer_with Persist job coded = whole (bounds_text Persistent job coded)
 
 -- the same, or a refused task
 abbrev pub answer_or : JobCommand → Job → Result (List (Option Coded)) CoreRefusal → Answer

@@ -11,7 +11,7 @@ use Rattle.tcrest.specs.declared.tasks.Program.{Program}
 use Rattle.tcrest.specs.Tasks.{Bounded, Made, Coded, Runs, nothing, assembly, program}
 
 abbrev pub bounded : Program → Bounded
-bounded p = record { items = plain p.checked.unit; bound = p.bound }
+bounded p = record { items = plain p.checked.unit; bound = p.bound; persist = p.persist }
 
 abbrev pub made_of : MadeTask → Made
 made_of m = record { image = m.image; program = option_map bounded m.program }

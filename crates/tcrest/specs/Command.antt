@@ -4,7 +4,7 @@ use Rattle.patmos_syntax.specs.Readers.{value_of}
 use Rattle.patmos_syntax.specs.declared.readers.Radix.TheVariants.{Decimal}
 use Rattle.tcrest.specs.declared.command.Command.{Command}
 use Rattle.tcrest.specs.declared.command.Command.TheVariants.{OfJob, Grid, Gen, Bench, Usage}
-use Rattle.tcrest.specs.declared.command.JobCommand.TheVariants.{Run, Bound, Asm, Mean, Pipe}
+use Rattle.tcrest.specs.declared.command.JobCommand.TheVariants.{Run, Bound, Asm, Mean, Pipe, Persist}
 use Rattle.tcrest.specs.declared.command.TheConstants.{MOST_DIGITS}
 
 -- words that are no command ask for the usage line
@@ -14,7 +14,8 @@ lone_word word = if bytes_eq word (codes "run") then OfJob Run
     else (if bytes_eq word (codes "asm") then OfJob Asm
     else (if bytes_eq word (codes "mean") then OfJob Mean
     else (if bytes_eq word (codes "pipe") then OfJob Pipe
-    else (if bytes_eq word (codes "grid") then Grid else Usage)))))
+    else (if bytes_eq word (codes "persist") then OfJob Persist
+    else (if bytes_eq word (codes "grid") then Grid else Usage))))))
 
 -- a number of 1 to 10 decimal digits that is at most 2^32 - 1
 abbrev pub word_in : ℕ → Option ℕ

@@ -8,7 +8,7 @@ use Rattle.c_tree.specs.declared.checks.CheckFault.TheVariants as check
 use Rattle.c_tree.specs.Plain.{PlainItem}
 use Rattle.c_compile.specs.Texts as compile
 use Rattle.c_compile.specs.Texts.{Refused, no_token_at, too_wide_at, no_program_at, not_valid, too_long}
-use Rattle.c_task.specs.Translation.{bound_on, translation}
+use Rattle.c_task.specs.Translation.{bound_on, persist_on, translation}
 use Rattle.local_store.specs.declared.store.TheConstants.{FIRST_DATA_WORD, INPUT_WORDS}
 use Rattle.patmos_code.specs.Images.{Parts, parts}
 use Rattle.patmos_syntax.specs.declared.faults.AsmKind.{AsmKind}
@@ -62,10 +62,11 @@ program_of job core source = taken (compile.task_on job.cores job.table job.slot
 
 -- ---- what a task is made to
 
--- a C program, and how many cycles it takes at most on its core
+-- a C program, and how many cycles it takes at most on its core, and by what stays in the method cache
 pub record Bounded : Type 0 where
   pub items : List PlainItem
   pub bound : ℕ
+  pub persist : ℕ
 
 -- an image, and the program of a C task
 pub record Made : Type 0 where
@@ -78,7 +79,11 @@ of_code code = record { image = image_of code; program = None }
 abbrev pub of_program : Job → ℕ → List PlainItem → Made
 of_program job core items = record {
   image = (translation items).image;
-  program = Some (record { items = items; bound = bound_on job.table job.slot core items });
+  program = Some (record {
+    items = items;
+    bound = bound_on job.table job.slot core items;
+    persist = persist_on job.table job.slot core items;
+  });
 }
 
 abbrev pub assembled : List ℕ → Result Made Refusal

@@ -17,14 +17,15 @@ use Rattle.single_path.specs.Single.{single}
 use Rattle.task_core.specs.Tasks.{IsCode}
 use Rattle.c_task.specs.Programs.{said}
 use Rattle.c_task.specs.Telling.{FitsWorld}
-use Rattle.c_task.specs.Translation.{IsWorld, bound_on, times, translation}
+use Rattle.c_task.specs.Translation.{IsWorld, bound as bound_of, bound_on, persist_on, times, translation}
 use Rattle.tc_job.specs.Job.{job_of}
 use Rattle.tc_job.specs.declared.job.Job.{Job}
 use Rattle.tc_report.specs.declared.rows.Row.{Row}
 use Rattle.tc_report.specs.declared.rows.RowState.TheVariants.{Limit, Done}
 use Rattle.tcrest.specs.declared.command.Command.{Command}
-use Rattle.tcrest.specs.declared.command.Command.TheVariants.{OfJob, Bench}
-use Rattle.tcrest.specs.declared.command.JobCommand.TheVariants.{Run}
+use Rattle.tcrest.specs.declared.command.Command.TheVariants.{OfJob, Grid, Gen, Bench, Usage}
+use Rattle.tcrest.specs.declared.command.JobCommand.{JobCommand}
+use Rattle.tcrest.specs.declared.command.JobCommand.TheVariants.{Run, Bound, Asm, Mean, Pipe, Persist}
 use Rattle.tcrest.specs.Machine.{cores_from, machine_of}
 use Rattle.tcrest.specs.Meanings.{output_slot}
 use Rattle.tcrest.specs.Rows.{rows_of, words_out}
@@ -51,8 +52,9 @@ pub record TellsTask (job : Job) (m : State Core) (place : Place) (items : List 
   -- it is done exactly where its end is at most the limit, and else runs there; so it never traps
   pub done : (times place items).end ≤ job.cycles → (value : ℕ) × (row.state ≡ Done value ((times place items).end - place.start))
   pub limit : job.cycles < (times place items).end → row.state ≡ Limit
-  -- its end is at most its start and the bound that is told
-  pub bound : IfSome row.bound (λ b. (times place items).end ≤ place.start + b)
+  -- the program's bound is told, and its end is at most its start and that
+  pub bound : row.bound ≡ Some (bound_of place items)
+  pub within : (times place items).end ≤ place.start + bound_of place items
   -- a done task is told to be what its text means in each world that fits, and alone the world of zeros does
   pub meaning : (world : ℕ → ℕ) → IsWorld world → FitsWorld items place input m job.cycles world → (times place items).end ≤ job.cycles
       → TellsMeaning place items (said items place input world) row
@@ -70,19 +72,39 @@ TellsTasks job coded =
     → slice_get (rows_of job.cycles job.trace (map runs_on coded) (end_of job coded)) place.core ≡ Some row
     → TellsTask job (end_of job coded) place p.items c.task.input row
 
+-- What the bounds of a program tell, whatever its input is and the other cores do: its end is at most its start and each of
+-- them, and the persistent one is no more than the other.
+pub record TellsBounds (place : Place) (p : Bounded) : Type 0 where
+  pub bound : (times place p.items).end ≤ place.start + p.bound
+  pub persist : (times place p.items).end ≤ place.start + p.persist
+  pub tighter : p.persist ≤ p.bound
+
+-- so do those of each C task
+abbrev pub TellsAllBounds : Job → List (Option Coded) → Type 0
+TellsAllBounds job coded =
+    (place : Place) (c : Coded) (p : Bounded) → IsPlaceOf job c.task.start place → slice_get coded place.core ≡ Some (Some c) → c.made.program ≡ Some p
+    → TellsBounds place p
+
+-- what the answer to a job tells of its tasks, which are made to these
+abbrev pub TellsOf : JobCommand → Job → List (Option Coded) → Type 0
+TellsOf Run job coded = TellsTasks job coded
+TellsOf Bound job coded = TellsAllBounds job coded
+TellsOf Asm job coded = Unit {0}
+TellsOf Mean job coded = Unit {0}
+TellsOf Pipe job coded = Unit {0}
+TellsOf Persist job coded = TellsAllBounds job coded
+
 -- where the text is a job whose tasks are all made
-abbrev pub TellsJob : List ℕ → Type 0
-TellsJob text = (job : Job) (coded : List (Option Coded)) → job_of text ≡ Ok job → coded_from job 0 job.cores ≡ Ok coded → TellsTasks job coded
+abbrev pub TellsJob : JobCommand → List ℕ → Type 0
+TellsJob command text = (job : Job) (coded : List (Option Coded)) → job_of text ≡ Ok job → coded_from job 0 job.cores ≡ Ok coded → TellsOf command job coded
 
--- the text of the job that a command runs: the input, or a generated job
-abbrev pub run_text : Command → List ℕ → Option (List ℕ)
-run_text (OfJob Run) bytes = Some bytes
-run_text (Bench number) bytes = Some (generated number)
-run_text _ bytes = None
-
--- where a job is run
-abbrev pub TellsRun : Command → List ℕ → Type 0
-TellsRun command bytes = IfSome (run_text command bytes) TellsJob
+-- what a command tells of C tasks: of those of the input, or of a generated job
+abbrev pub TellsTasksOf : Command → List ℕ → Type 0
+TellsTasksOf (OfJob command) bytes = TellsJob command bytes
+TellsTasksOf Grid bytes = Unit {0}
+TellsTasksOf (Gen number) bytes = Unit {0}
+TellsTasksOf (Bench number) bytes = TellsJob Run (generated number)
+TellsTasksOf Usage bytes = Unit {0}
 
 -- the statuses with which a report is written
 abbrev pub HasReport : ℕ → Type 0
@@ -96,6 +118,7 @@ pub record IsCompiled (job : Job) (core : ℕ) (image : Parts) (p : Bounded) : T
   pub code : IsCode (single p.items)
   pub image_is : image ≡ (translation p.items).image
   pub bound : p.bound ≡ bound_on job.table job.slot core p.items
+  pub persist : p.persist ≡ persist_on job.table job.slot core p.items
 
 -- a core's task is of that core, its input is words, and its program was compiled for it
 pub record IsMadeFor (job : Job) (core : ℕ) (c : Coded) : Type 0 where

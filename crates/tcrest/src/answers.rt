@@ -8,10 +8,10 @@ ghost use Rattle.tcrest.specs.Answer as specs;
 ghost use Rattle.tcrest.specs.Command as words;
 ghost use Rattle.tcrest.specs.declared.command.JobCommand.TheVariants as variants;
 ghost use Rattle.tcrest.specs.Tasks.{Coded, coded_from};
-ghost use Rattle.tcrest.specs.Telling.{AreMade, TellsJob, TellsTasks, TellsRun};
+ghost use Rattle.tcrest.specs.Telling.{AreMade, TellsJob, TellsOf, TellsTasks, TellsTasksOf};
 ghost use Rattle.tcrest.specs.Coding.{all_shown, IsAmong};
 
-use crate::bounds::bounds_text;
+use crate::bounds::{Bounds, bounds_text};
 use crate::command::{Command, JobCommand};
 use crate::listing::listings;
 use crate::loading::loaded_of;
@@ -40,7 +40,7 @@ pub struct Answer {
 }
 
 /// The line that tells the commands.
-pub const USAGE: &[u8] = b"usage: tcrest run|bound|asm|mean|gen N|bench N|pipe|grid\n";
+pub const USAGE: &[u8] = b"usage: tcrest run|bound|asm|mean|gen N|bench N|pipe|grid|persist\n";
 
 /// The answer that a command that reads owes a text that is not too long.
 #[tactic(auto, using(crate::proofs::Outcomes::below_if, crate::proofs::Outcomes::grid_below))]
@@ -54,7 +54,7 @@ pub fn text_answer<R: Threads + Wait + Sync, G: Gate + Sync>(
     requires reads { words.ReadsNothing command → ⊥ }
     ensures answer { IfOk result (λ answer. answer ≡ specs.text_answer command bytes.now) }
     ensures below { IfOk result (λ answer. answer.status < 5) }
-    ensures told { IfOk result (λ _. TellsRun command bytes.now) }
+    ensures told { IfOk result (λ _. TellsTasksOf command bytes.now) }
 {
     match command {
         Command::OfJob(command) => job_answer(alloc, rt, command, bytes, gate),
@@ -75,7 +75,7 @@ pub fn unread_answer<R: Threads + Wait + Sync, G: Gate + Sync>(
     requires { words.ReadsNothing command }
     ensures answer { IfOk result (λ answer. answer ≡ specs.unread_answer command) }
     ensures below { IfOk result (λ answer. answer.status < 5) }
-    ensures told { IfOk result (λ _. TellsRun command []) }
+    ensures told { IfOk result (λ _. TellsTasksOf command []) }
 {
     match command {
         Command::Gen { number } => gen_answer(alloc, number),
@@ -103,7 +103,7 @@ fn bench_answer<R: Threads + Wait + Sync, G: Gate + Sync>(
 ) -> Result<Answer, OutOfMemory>
     ensures answer { IfOk result (λ answer. answer ≡ specs.job_answer variants.Run (job_of (generated number))) }
     ensures below { IfOk result (λ answer. answer.status < 5) }
-    ensures told { IfOk result (λ _. TellsJob (generated number)) }
+    ensures told { IfOk result (λ _. TellsJob variants.Run (generated number)) }
 {
     let text = generate(alloc, u64::from(number))?;
     job_answer(alloc, rt, JobCommand::Run, text.as_slice(), gate)
@@ -138,7 +138,7 @@ fn job_answer<R: Threads + Wait + Sync, G: Gate + Sync>(
 ) -> Result<Answer, OutOfMemory>
     ensures answer { IfOk result (λ answer. answer ≡ specs.job_answer command (job_of bytes.now)) }
     ensures below { IfOk result (λ answer. answer.status < 5) }
-    ensures told { IfOk result (λ _. command ≡ variants.Run → TellsJob bytes.now) }
+    ensures told { IfOk result (λ _. TellsJob command bytes.now) }
 {
     match read_job(alloc, bytes) {
         Ok(job) => answer_by(alloc, rt, command, &job, gate),
@@ -175,7 +175,7 @@ fn answer_by<R: Threads + Wait + Sync, G: Gate + Sync>(
     requires { KeepsRanges job.now }
     ensures answer { IfOk result (λ answer. answer ≡ specs.answer_by command job.now) }
     ensures below { IfOk result (λ answer. answer.status < 5) }
-    ensures told { IfOk result (λ _. (coded : prelude.List (Option Coded)) → command ≡ variants.Run → coded_from job.now 0 job.now.cores ≡ Ok coded → TellsTasks job.now coded) }
+    ensures told { IfOk result (λ _. (coded : prelude.List (Option Coded)) → coded_from job.now 0 job.now.cores ≡ Ok coded → TellsOf command job.now coded) }
 {
     if !is_taken(command, job) {
         return fault_answer(alloc, PipeFault::OneCore);
@@ -212,14 +212,15 @@ fn answer_with<R: Threads + Wait + Sync, G: Gate + Sync>(
     requires made { AreMade job.now (all_shown coded.items) }
     requires taken { specs.is_taken command job.now ≡ true }
     ensures answer { IfOk result (λ answer. answer ≡ specs.answer_with command job.now (all_shown coded.entry.items)) }
-    ensures told { IfOk result (λ _. command ≡ variants.Run → TellsTasks job.now (all_shown coded.entry.items)) }
+    ensures told { IfOk result (λ _. TellsOf command job.now (all_shown coded.entry.items)) }
 {
     match command {
         JobCommand::Run => report_of(alloc, rt, job, coded, gate),
-        JobCommand::Bound => Ok(whole(bounds_text(alloc, job, &coded)?)),
+        JobCommand::Bound => Ok(whole(bounds_text(alloc, Bounds::Plain, job, &coded)?)),
         JobCommand::Asm => Ok(whole(listings(alloc, &coded)?)),
         JobCommand::Mean => Ok(whole(meanings(alloc, job.cycles, &coded)?)),
         JobCommand::Pipe => pipe_with(alloc, job, coded),
+        JobCommand::Persist => Ok(whole(bounds_text(alloc, Bounds::Persistent, job, &coded)?)),
     }
 }
 

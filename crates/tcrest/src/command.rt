@@ -35,6 +35,8 @@ pub enum JobCommand {
     Mean,
     /// What the five stages of its only core hold, step by step.
     Pipe,
+    /// How many cycles its C tasks take at most, and at most where functions stay in the method cache.
+    Persist,
 }
 
 /// The command that the words call.
@@ -58,6 +60,7 @@ fn lone_word(word: &str) -> Command
         "asm" => Command::OfJob(JobCommand::Asm),
         "mean" => Command::OfJob(JobCommand::Mean),
         "pipe" => Command::OfJob(JobCommand::Pipe),
+        "persist" => Command::OfJob(JobCommand::Persist),
         "grid" => Command::Grid,
         _ => Command::Usage,
     }

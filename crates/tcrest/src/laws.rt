@@ -14,7 +14,7 @@ ghost use Rattle.tc_report.specs.Line.{line};
 ghost use Rattle.tc_report.specs.declared.rows.RowState.TheVariants.{Limit, Done};
 ghost use Rattle.tcrest.specs.declared.command.Command.{Command};
 ghost use Rattle.tcrest.specs.declared.command.Command.TheVariants.{OfJob, Grid, Gen, Bench, Usage};
-ghost use Rattle.tcrest.specs.declared.command.JobCommand.TheVariants.{Run, Bound, Asm, Mean, Pipe};
+ghost use Rattle.tcrest.specs.declared.command.JobCommand.TheVariants.{Run, Bound, Asm, Mean, Pipe, Persist};
 ghost use Rattle.tcrest.specs.Answer.{answer, bytes_answer, text_fault_number, too_long, usage};
 ghost use Rattle.tcrest.specs.Command.{command_of, number_in};
 ghost use Rattle.tcrest.specs.Complete.{HasCode, IsWhole};
@@ -38,6 +38,7 @@ pub fn refusals_in_order()
     ensures asm { (words : List (List ℕ)) → (command_of words ≡ OfJob Asm) ↔ (words ≡ codes "asm" ∷ []) }
     ensures mean { (words : List (List ℕ)) → (command_of words ≡ OfJob Mean) ↔ (words ≡ codes "mean" ∷ []) }
     ensures pipe { (words : List (List ℕ)) → (command_of words ≡ OfJob Pipe) ↔ (words ≡ codes "pipe" ∷ []) }
+    ensures persist { (words : List (List ℕ)) → (command_of words ≡ OfJob Persist) ↔ (words ≡ codes "persist" ∷ []) }
     ensures grid { (words : List (List ℕ)) → (command_of words ≡ Grid) ↔ (words ≡ codes "grid" ∷ []) }
     ensures generated { (word digits : List ℕ) (number : ℕ) → (command_of (word ∷ digits ∷ []) ≡ Gen number) ↔ ((word ≡ codes "gen") × (number_in digits ≡ Some number)) }
     ensures bench { (word digits : List ℕ) (number : ℕ) → (command_of (word ∷ digits ∷ []) ≡ Bench number) ↔ ((word ≡ codes "bench") × (number_in digits ≡ Some number)) }

@@ -17,11 +17,12 @@ use patmos_code::Image;
 use std::alloc::Global;
 use tc_job::{Job, Lang, Task};
 
-/// A C program, and how many cycles it takes at most on its core.
+/// A C program, and how many cycles it takes at most on its core, and by what stays in the method cache.
 #[derive(Drop)]
 pub struct Program {
     pub checked: Checked,
     pub bound: u64,
+    pub persist: u64,
 }
 
 /// What a task is made to: an image, and the program of a C task.
@@ -173,6 +174,7 @@ fn compiled(alloc: Global, job: &Job, task: &Task) -> Result<MadeTask, Halt<Refu
         program: Some(Program {
             checked: compiled.program,
             bound: compiled.bound,
+            persist: compiled.persist,
         }),
     })
 }

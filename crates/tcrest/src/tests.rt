@@ -60,7 +60,7 @@ const STAGES: &[u8] =
 const STOPPED_STAGES: &[u8] =
     b"platform cores 1 slot 6 period 6\nstep 6 F - D - E 1 M - W -\ncore 0 trap 4 at 7\n";
 
-const USAGE: &[u8] = b"usage: tcrest run|bound|asm|mean|gen N|bench N|pipe|grid\n";
+const USAGE: &[u8] = b"usage: tcrest run|bound|asm|mean|gen N|bench N|pipe|grid|persist\n";
 
 fn words_of(alloc: Global, given: &[&str]) -> Result<Vec<Text>, Fail> {
     let mut words = Vec::new(alloc);
@@ -128,6 +128,7 @@ fn inputs_are_answered(rt: HostRuntime) -> Result<(), Fail> {
     for (word, input, text) in [
         ("run", JOB, REPORT),
         ("bound", JOB, b"platform cores 1 slot 6 period 6\n"),
+        ("persist", JOB, b"platform cores 1 slot 6 period 6\n"),
         ("asm", JOB, LISTING),
         ("asm", PROGRAMS, b""),
         ("grid", SCHEDULE, SCHEDULE_REPORT),
@@ -147,7 +148,7 @@ fn programs_are_refused_alike(rt: HostRuntime) -> Result<(), Fail> {
         (LONG, b"core 0: Long\n".as_slice()),
         (WIDE, b"core 0: Wide at 20\n"),
     ] {
-        for word in ["run", "bound", "asm", "mean", "pipe"] {
+        for word in ["run", "bound", "asm", "mean", "pipe", "persist"] {
             let (status, sink) = answer_to(&rt, rt.alloc(), &[word], input)?;
             assert_eq!(rt; status, 4);
             assert_eq!(rt; sink.kept(), text);
@@ -191,7 +192,9 @@ fn stages_are_told_of_a_core_alone(rt: HostRuntime) -> Result<(), Fail> {
 
 #[test]
 fn other_words_are_answered_with_usage(rt: HostRuntime) -> Result<(), Fail> {
-    for word in ["gen", "bench", "bounds", "means", "run x", "Run", "--help"] {
+    for word in [
+        "gen", "bench", "bounds", "persists", "means", "run x", "Run", "--help",
+    ] {
         let (status, sink) = answer_to(&rt, rt.alloc(), &[word], JOB)?;
         assert_eq!(rt; status, 1);
         assert_eq!(rt; sink.kept(), USAGE);

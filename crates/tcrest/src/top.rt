@@ -3,7 +3,7 @@ ghost use Rattle.tc_io.specs.Faults.{Rose};
 ghost use Rattle.tcrest.specs.Answer as answers;
 ghost use Rattle.tcrest.specs.Answer.{answer, command_answer, bytes_answer, text_fault_number};
 ghost use Rattle.tcrest.specs.Command as commands;
-ghost use Rattle.tcrest.specs.Telling.{HasReport, TellsRun};
+ghost use Rattle.tcrest.specs.Telling.{HasReport, TellsTasksOf};
 ghost use Rattle.tcrest.specs.Outcome.{Ends, IsAnswered, IsSent, HasWritten};
 
 use crate::answers::{text_answer, unread_answer};
@@ -59,9 +59,10 @@ pub fn tcrest<R: Threads + Wait + Sync, S: Source, K: Sink, G: Gate + Sync>(
     // Of each C task its row in the report tells its times, its bound and what its text means: its transactions, its end and its
     // cycles hang on its text and its place alone, its end is at most its start and the bound that is told, it never traps, and
     // once it is done its value, its flag and its words of `out` are what its text means in each world that fits its loads; told
-    // to be alone, in the world of zeros.
-    ensures programs { IfSome (S.left source.old) (λ bytes. HasReport result → TellsRun (commands.command_of words.now) bytes) }
-    ensures programs_unread { commands.ReadsNothing (commands.command_of words.now) → HasReport result → TellsRun (commands.command_of words.now) [] }
+    // to be alone, in the world of zeros. Under `bound` and `persist`, its end is at most its start and each bound that is told,
+    // and the persistent one is no more than the other.
+    ensures programs { IfSome (S.left source.old) (λ bytes. HasReport result → TellsTasksOf (commands.command_of words.now) bytes) }
+    ensures programs_unread { commands.ReadsNothing (commands.command_of words.now) → HasReport result → TellsTasksOf (commands.command_of words.now) [] }
 
     // What was written, whatever failed.
     ensures written { IfSome (S.left source.old) (λ bytes. HasWritten (answer words.now bytes)
@@ -88,8 +89,8 @@ fn perform<R: Threads + Wait + Sync, S: Source, K: Sink, G: Gate + Sync>(
     ensures unread { commands.ReadsNothing command → source.new ≡ source.old }
     ensures ends_unread { commands.ReadsNothing command → Ends (command_answer command []) ⊥ result
         (K.faults sink.old) (K.faults sink.new) (K.taken sink.old) (K.taken sink.new) }
-    ensures told { IfSome (S.left source.old) (λ bytes. HasReport result → TellsRun command bytes) }
-    ensures told_unread { commands.ReadsNothing command → HasReport result → TellsRun command [] }
+    ensures told { IfSome (S.left source.old) (λ bytes. HasReport result → TellsTasksOf command bytes) }
+    ensures told_unread { commands.ReadsNothing command → HasReport result → TellsTasksOf command [] }
     ensures read_fault { result ≡ 5 → Rose (S.faults source.old) (S.faults source.new) }
     ensures write_fault { result ≡ 6 → Rose (K.faults sink.old) (K.faults sink.new) }
 {
@@ -132,7 +133,7 @@ fn answer_input<R: Threads + Wait + Sync, S: Source, K: Sink, G: Gate + Sync>(
     ensures ends { IfSome (S.left source.old) (λ bytes. Ends (bytes_answer command bytes)
         (Rose (S.faults source.old) (S.faults source.new)) result
         (K.faults sink.old) (K.faults sink.new) (K.taken sink.old) (K.taken sink.new)) }
-    ensures told { IfSome (S.left source.old) (λ bytes. HasReport result → TellsRun command bytes) }
+    ensures told { IfSome (S.left source.old) (λ bytes. HasReport result → TellsTasksOf command bytes) }
     ensures read_fault { result ≡ 5 → Rose (S.faults source.old) (S.faults source.new) }
     ensures write_fault { result ≡ 6 → Rose (K.faults sink.old) (K.faults sink.new) }
 {
@@ -159,7 +160,7 @@ fn answer_unread<R: Threads + Wait + Sync, K: Sink, G: Gate + Sync>(
     requires unread { commands.ReadsNothing command }
     ensures ends { Ends (answers.unread_answer command) ⊥ result
         (K.faults sink.old) (K.faults sink.new) (K.taken sink.old) (K.taken sink.new) }
-    ensures told { HasReport result → TellsRun command [] }
+    ensures told { HasReport result → TellsTasksOf command [] }
     ensures read_fault { result ≡ 5 → ⊥ }
     ensures write_fault { result ≡ 6 → Rose (K.faults sink.old) (K.faults sink.new) }
 {

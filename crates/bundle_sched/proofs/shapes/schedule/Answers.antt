@@ -1,5 +1,6 @@
 use Rattle.sp_shape.specs.Shown.{plain_shape}
-use Rattle.bundle_sched.proofs.Kept.{slots_as, steady_as, room_as}
+use Rattle.bundle_sched.proofs.AllPacked.{packed_as}
+use Rattle.bundle_sched.proofs.Kept.{steady_as, room_as}
 use Rattle.bundle_sched.proofs.Runs.{runs_as}
 use Rattle.bundle_sched.proofs.Turns.{turns_as}
 use Rattle.bundle_sched.proofs.WellFormed.{formed_as}
@@ -7,9 +8,6 @@ use Rattle.bundle_sched.proofs.shapes.schedule.Goals as goal
 
 pub returns-clause-formed : goal.returns-clause-formed
 returns-clause-formed c = formed_as (plain_shape c.args.shape) (plain_shape c.in_ok-shape.shape) c.in_ok-shape.ensures c.requires.formed c.requires.slots
-
-pub returns-clause-slots : goal.returns-clause-slots
-returns-clause-slots c = slots_as (plain_shape c.args.shape) (plain_shape c.in_ok-shape.shape) c.in_ok-shape.ensures c.requires.slots
 
 pub returns-clause-runs : goal.returns-clause-runs
 returns-clause-runs c = runs_as (plain_shape c.args.shape) (plain_shape c.in_ok-shape.shape) c.in_ok-shape.ensures
@@ -22,3 +20,6 @@ returns-clause-steady c = steady_as (plain_shape c.args.shape) (plain_shape c.in
 
 pub returns-clause-room : goal.returns-clause-room
 returns-clause-room c = room_as (plain_shape c.args.shape) (plain_shape c.in_ok-shape.shape) c.in_ok-shape.ensures
+
+pub returns-clause-packed : goal.returns-clause-packed
+returns-clause-packed c = packed_as (plain_shape c.args.shape) (plain_shape c.in_ok-shape.shape) c.in_ok-shape.ensures c.requires.formed c.requires.slots c.requires.alone

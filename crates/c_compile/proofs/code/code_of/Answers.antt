@@ -5,7 +5,7 @@ use Rattle.sp_tree.specs.Shown.{plain_unit}
 use Rattle.sp_shape.proofs.Plain.{functions_count}
 use Rattle.sp_shape.specs.Formed.{is_formed}
 use Rattle.sp_shape.specs.Shown.{plain_shape}
-use Rattle.bundle_sched.specs.Placed.{placed}
+use Rattle.bundle_sched.specs.Scheduled.{scheduled}
 use Rattle.task_core.specs.Tasks.{code_of}
 use Rattle.c_compile.proofs.Carrying.{Fit, carried_out}
 use Rattle.c_compile.proofs.code.code_of.Goals as goal
@@ -14,7 +14,7 @@ pub returns-clause-code : goal.returns-clause-code
 returns-clause-code c =
     let u = plain_unit c.args.unit.now in
     let shape = c.in_ok-shape-2.shape in
-    let is : plain_shape shape ≡ code_of u = c.in_ok-shape-2.ensures.told ∙ ap placed c.in_ok-shape.ensures.told in
+    let is : plain_shape shape ≡ code_of u = c.in_ok-shape-2.ensures.told ∙ ap scheduled c.in_ok-shape.ensures.told in
     let fit : Fit (plain_shape shape) = λ k less. c.in_ok-image.ensures.fit k (subst (λ n. k < n) (functions_count shape.functions) less) in
     let initial : Each IsWord u.initial = search rules in
     record {
@@ -28,7 +28,7 @@ pub returns-clause-means : goal.returns-clause-means
 returns-clause-means c =
     let u = plain_unit c.args.unit.now in
     let shape = c.in_ok-shape-2.shape in
-    let is : plain_shape shape ≡ code_of u = c.in_ok-shape-2.ensures.told ∙ ap placed c.in_ok-shape.ensures.told in
+    let is : plain_shape shape ≡ code_of u = c.in_ok-shape-2.ensures.told ∙ ap scheduled c.in_ok-shape.ensures.told in
     let formed = subst (λ s. is_formed s ≡ true) is c.in_ok-shape-2.ensures.formed in
     let fit : Fit (plain_shape shape) = λ k less. c.in_ok-image.ensures.fit k (subst (λ n. k < n) (functions_count shape.functions) less) in
     λ input shared comm words. carried_out u c.requires.formed formed c.requires.fits (subst Fit is fit) input shared comm words

@@ -1,6 +1,6 @@
 use Rattle.std.proofs.Common.{◌≡◌, sym, subst, arith, rules}
 use Rattle.c_task.specs.Doing.{ComesToMeaning, KeepsTimes, NeverTraps, TouchesMentioned}
-use Rattle.c_task.specs.Translation.{bound}
+use Rattle.c_task.specs.Translation.{bound, persist}
 use Rattle.c_tree.specs.Plain.{plain}
 use Rattle.c_compile.proofs.Checked.{valid_there}
 use Rattle.c_compile.proofs.tasks.compile.Goals as goal
@@ -17,6 +17,21 @@ returns-clause-within c =
     let most = c.programs_keep_their_times.ensures.within (plain p.unit) (valid_there p c.args.place.now c.in_ok-program.ensures.place) c.in_ok-shape.ensures.code in
     let is : c.in_ok-bound.bound ≡ bound c.args.place.now (plain p.unit) = search rules in
     omega (arith, most, is)
+
+pub returns-clause-within_persist : goal.returns-clause-within_persist
+returns-clause-within_persist c =
+    let p = c.in_ok-program.program in
+    let most = c.programs_keep_their_persistent_bound.ensures.within (plain p.unit) (valid_there p c.args.place.now c.in_ok-program.ensures.place) c.in_ok-shape.ensures.code in
+    let is : c.in_ok-persist.persist ≡ persist c.args.place.now (plain p.unit) = search rules in
+    omega (arith, most, is)
+
+pub returns-clause-tighter : goal.returns-clause-tighter
+returns-clause-tighter c =
+    let p = c.in_ok-program.program in
+    let less = c.programs_keep_their_persistent_bound.ensures.tighter (plain p.unit) (valid_there p c.args.place.now c.in_ok-program.ensures.place) in
+    let is : c.in_ok-persist.persist ≡ persist c.args.place.now (plain p.unit) = search rules in
+    let most : c.in_ok-bound.bound ≡ bound c.args.place.now (plain p.unit) = search rules in
+    omega (arith, less, is, most)
 
 pub returns-clause-never_traps : goal.returns-clause-never_traps
 returns-clause-never_traps c =

@@ -1,6 +1,6 @@
 use Rattle.std.proofs.Common.{◌+◌, ◌*◌, length, ap, sym, ◌∙◌, subst, arith, rules}
 use Rattle.sp_shape.specs.Shown.{parts_of}
-use Rattle.cycle_bound.specs.Bound.{fill_moves, bundles_bound, part_bound, parts_bound, bounds}
+use Rattle.cycle_bound.specs.Bound.{bundles_bound, part_bound, parts_bound, bounds}
 use Rattle.cycle_bound.specs.Calls.{CallsBelow}
 use Rattle.cycle_bound.specs.Held.{held}
 use Rattle.cycle_bound.specs.Nodes.{part_nodes, parts_nodes}
@@ -13,9 +13,9 @@ use Rattle.cycle_bound.proofs.parts.+cycles.Goals as goal
 
 pub cycles_of_part-returns-in-Straight-clause-cycles : goal.cycles_of_part-returns-in-Straight-clause-cycles
 cycles_of_part-returns-in-Straight-clause-cycles g t c =
-    λ fs knows.
+    λ fs fill knows.
     c.cycles_of_bundles.ensures.cycles ∙ ap (λ bs. held (bundles_bound c.args.each bs)) c.as_slice.ensures
-    ∙ ap (λ p. held (part_bound fs c.args.each (bounds fs c.args.each c.args.number) c.args.number p)) (sym (straight_said c.args.part.now c.in-Straight.bundles c.in-Straight.is))
+    ∙ ap (λ p. held (part_bound c.args.each fill (bounds fs c.args.each fill c.args.number) c.args.number p)) (sym (straight_said c.args.part.now c.in-Straight.bundles c.in-Straight.is))
 
 pub cycles_of_part-returns-in-Straight-clause-steps : goal.cycles_of_part-returns-in-Straight-clause-steps
 cycles_of_part-returns-in-Straight-clause-steps g t c =
@@ -25,15 +25,15 @@ cycles_of_part-returns-in-Straight-clause-steps g t c =
 
 pub cycles_of_part-returns-in-Repeat-clause-cycles : goal.cycles_of_part-returns-in-Repeat-clause-cycles
 cycles_of_part-returns-in-Repeat-clause-cycles g t c =
-    λ fs knows.
-    let body = parts_bound fs c.args.each (bounds fs c.args.each c.args.number) c.args.number (parts_of c.in-Repeat.body) in
+    λ fs fill knows.
+    let body = parts_bound c.args.each fill (bounds fs c.args.each fill c.args.number) c.args.number (parts_of c.in-Repeat.body) in
     let tail = bundles_bound c.args.each c.in-Repeat.tail in
     let turn = held_sum c.plus-turn.result c.cycles_of_parts-once.result c.cycles_of_bundles-in-Repeat.result body tail c.plus-turn.ensures
-    (c.cycles_of_parts-once.ensures.cycles fs knows
-    ∙ ap (λ ps. held (parts_bound fs c.args.each (bounds fs c.args.each c.args.number) c.args.number (parts_of ps))) c.as_slice-in-Repeat.ensures)
+    (c.cycles_of_parts-once.ensures.cycles fs fill knows
+    ∙ ap (λ ps. held (parts_bound c.args.each fill (bounds fs c.args.each fill c.args.number) c.args.number (parts_of ps))) c.as_slice-in-Repeat.ensures)
     (c.cycles_of_bundles-in-Repeat.ensures.cycles ∙ ap (λ bs. held (bundles_bound c.args.each bs)) c.as_slice-in-Repeat-2.ensures) in
     held_times c.times.result c.in-Repeat.count c.plus-turn.result (body + tail) (c.times.ensures ∙ ap (λ n. held (n * c.plus-turn.result)) c.from.ensures) turn
-    ∙ ap (λ p. held (part_bound fs c.args.each (bounds fs c.args.each c.args.number) c.args.number p))
+    ∙ ap (λ p. held (part_bound c.args.each fill (bounds fs c.args.each fill c.args.number) c.args.number p))
     (sym (repeat_said c.args.part.now c.in-Repeat.count c.in-Repeat.body c.in-Repeat.tail c.in-Repeat.is))
 
 pub cycles_of_part-returns-in-Repeat-clause-steps : goal.cycles_of_part-returns-in-Repeat-clause-steps
@@ -45,12 +45,12 @@ cycles_of_part-returns-in-Repeat-clause-steps g t c =
 
 pub cycles_of_part-returns-in-CallTo-clause-cycles : goal.cycles_of_part-returns-in-CallTo-clause-cycles
 cycles_of_part-returns-in-CallTo-clause-cycles g t c =
-    λ fs knows.
-    let call = c.args.each * (fill_moves fs c.in-CallTo.function + fill_moves fs c.args.number) + bounds fs c.args.each c.args.number c.in-CallTo.function in
+    λ fs fill knows.
+    let call = fill c.in-CallTo.function + fill c.args.number + bounds fs c.args.each fill c.args.number c.in-CallTo.function in
     held_sum c.plus.result c.cycles_of_bundles-way.result c.cycles_of_call.result (bundles_bound c.args.each c.in-CallTo.tail) call c.plus.ensures
     (c.cycles_of_bundles-way.ensures.cycles ∙ ap (λ bs. held (bundles_bound c.args.each bs)) c.as_slice-in-CallTo.ensures)
-    (c.cycles_of_call.ensures fs c.args.each knows)
-    ∙ ap (λ p. held (part_bound fs c.args.each (bounds fs c.args.each c.args.number) c.args.number p))
+    (c.cycles_of_call.ensures fs c.args.each fill knows)
+    ∙ ap (λ p. held (part_bound c.args.each fill (bounds fs c.args.each fill c.args.number) c.args.number p))
     (sym (call_said c.args.part.now c.in-CallTo.function c.in-CallTo.tail c.in-CallTo.is))
 
 pub cycles_of_part-returns-in-CallTo-clause-steps : goal.cycles_of_part-returns-in-CallTo-clause-steps
@@ -61,9 +61,9 @@ cycles_of_part-returns-in-CallTo-clause-steps g t c =
 
 pub cycles_of_part-returns-in-Leave-clause-cycles : goal.cycles_of_part-returns-in-Leave-clause-cycles
 cycles_of_part-returns-in-Leave-clause-cycles g t c =
-    λ fs knows.
+    λ fs fill knows.
     c.cycles_of_bundles-in-Leave.ensures.cycles ∙ ap (λ bs. held (bundles_bound c.args.each bs)) c.as_slice-in-Leave.ensures
-    ∙ ap (λ p. held (part_bound fs c.args.each (bounds fs c.args.each c.args.number) c.args.number p)) (sym (leave_said c.args.part.now c.in-Leave.tail c.in-Leave.is))
+    ∙ ap (λ p. held (part_bound c.args.each fill (bounds fs c.args.each fill c.args.number) c.args.number p)) (sym (leave_said c.args.part.now c.in-Leave.tail c.in-Leave.is))
 
 pub cycles_of_part-returns-in-Leave-clause-steps : goal.cycles_of_part-returns-in-Leave-clause-steps
 cycles_of_part-returns-in-Leave-clause-steps g t c =

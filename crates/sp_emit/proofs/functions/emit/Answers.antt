@@ -1,7 +1,7 @@
 use Rattle.sp_shape.specs.Shown.{plain_shape}
 use Rattle.sp_tree.specs.Shown.{plain_unit}
 use Rattle.sp_emit.proofs.Formed.{formed_as}
-use Rattle.sp_emit.proofs.Kept.{idle_as, steady_as, room_as}
+use Rattle.sp_emit.proofs.Kept.{idle_as, alone_as, steady_as, room_as}
 use Rattle.sp_emit.proofs.functions.emit.Goals as goal
 
 pub returns-clause-formed : goal.returns-clause-formed
@@ -9,6 +9,9 @@ returns-clause-formed c = formed_as (plain_shape c.in_ok-shape.shape) (plain_uni
 
 pub returns-clause-slots : goal.returns-clause-slots
 returns-clause-slots c = λ k below. idle_as (plain_shape c.in_ok-shape.shape) (plain_unit c.args.unit.now) c.in_ok-shape.ensures k below
+
+pub returns-clause-alone : goal.returns-clause-alone
+returns-clause-alone c = λ k below. alone_as (plain_shape c.in_ok-shape.shape) (plain_unit c.args.unit.now) c.in_ok-shape.ensures k below
 
 pub returns-clause-steady : goal.returns-clause-steady
 returns-clause-steady c = λ k below. steady_as (plain_shape c.in_ok-shape.shape) (plain_unit c.args.unit.now) c.in_ok-shape.ensures k below

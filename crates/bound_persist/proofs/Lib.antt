@@ -1,0 +1,4 @@
+pub mod Marking
+pub mod Summing
+pub mod Tighter
+pub mod Together

@@ -1,0 +1,192 @@
+-- Packed code, read at once, leaves what the code leaves that it was made of.
+use Rattle.std.proofs.Common.{◌≡◌, ℕ, zero, suc, ◌==◌, true, false, true≢false, if◌then◌else◌, List, [], ◌∷◌, ◌++◌, length, map, slice_index_or, refl, sym, ap, ◌∙◌, subst, append_assoc}
+use Rattle.std.proofs.lemmas.Bool.{and_parts}
+use Rattle.std.proofs.lemmas.List.{map-append, length-map}
+use Rattle.patmos_instr.specs.Bundles.{Slots}
+use Rattle.sp_shape.specs.Bundles.{is_idle}
+use Rattle.sp_shape.specs.Formed.{is_branch}
+use Rattle.sp_shape.specs.Parts.{straight, repeats, calls_to, leaves, PlainParts, no_part, part, PlainShape}
+use Rattle.sp_shape.proofs.Whole.{once_whole, begun_whole, run_append, run_whole}
+use Rattle.sp_shape.specs.Run.{Run, IsWhole, Sources, once, begun, run}
+use Rattle.sp_shape.specs.Trail.{Step, does, begins, all_done, copies, parts_trail, trails, trail}
+use Rattle.bundle_sched.specs.Packed.{can_pair, last_or}
+use Rattle.bundle_sched.specs.Packing.{pair, paired, packed, can_move, lets_pass, has_room, filled, but_last, goes_down, kept, way, before_branch, from_branch, turned, turn_packed, straights, parts_merged, merged}
+use Rattle.bundle_sched.proofs.Commute.{idle_is, idle_once, pair_once}
+use Rattle.bundle_sched.proofs.BehindFlow.{moved_once}
+
+-- ---- trails that leave the same, read at once
+
+pub record Alike (from : Sources) (xs ys : List Step) : Type 0 where
+  pub runs : (m : Run) → IsWhole m → run from xs m ≡ run from ys m
+
+pub alike_same : (from : Sources) (xs : List Step) → Alike from xs xs
+alike_same from xs = record { runs = λ m whole. refl }
+
+pub alike_then : {from : Sources} {xs ys us vs : List Step} → Alike from xs us → Alike from ys vs → Alike from (xs ++ ys) (us ++ vs)
+alike_then {from} {xs} {ys} {us} {vs} a b = record {
+  runs = λ m whole. run_append from xs ys m ∙ ap (run from ys) (a.runs m whole) ∙ b.runs (run from us m) (run_whole from us m whole) ∙ sym (run_append from us vs m);
+}
+
+pub alike_on : {from : Sources} {xs ys zs : List Step} → Alike from xs ys → Alike from ys zs → Alike from xs zs
+alike_on a b = record { runs = λ m whole. a.runs m whole ∙ b.runs m whole }
+
+pub alike_is : (from : Sources) (xs ys : List Step) → xs ≡ ys → Alike from xs ys
+alike_is from xs ys is = record { runs = λ m whole. ap (λ zs. run from zs m) is }
+
+pub alike_begun : {from : Sources} {xs ys : List Step} → Alike from xs ys → Alike from (begins ∷ xs) (begins ∷ ys)
+alike_begun a = record { runs = λ m whole. a.runs (begun m) (begun_whole m whole) }
+
+alike_done : {from : Sources} (b : Slots) {xs ys : List Step} → Alike from xs ys → Alike from (does b ∷ xs) (does b ∷ ys)
+alike_done {from} b a = record { runs = λ m whole. a.runs (once from b m) (once_whole from b m whole) }
+
+pub alike_copies : {from : Sources} {xs ys : List Step} → Alike from xs ys → (n : ℕ) → Alike from (copies n xs) (copies n ys)
+alike_copies {from} a zero = alike_same from []
+alike_copies a (suc n) = alike_then a (alike_copies a n)
+
+-- ---- bundles
+
+left_out : (from : Sources) (b : Slots) (bs : List Step) → is_idle b ≡ true → Alike from bs (does b ∷ bs)
+left_out from b bs is = record { runs = λ m whole. ap (run from bs) (sym (ap (λ x. once from x m) (idle_is b is) ∙ idle_once from m whole)) }
+
+in_one : (from : Sources) (a b : Slots) (bs : List Step) → can_pair a b ≡ true → Alike from (does (pair a b) ∷ bs) (does a ∷ does b ∷ bs)
+in_one from a b bs can = record { runs = λ m whole. ap (run from bs) (pair_once from a b m whole can) }
+
+paired_alike : (from : Sources) (a : Slots) (bs : List Slots) → Alike from (all_done (paired a bs)) (all_done (a ∷ bs))
+paired_alike from a [] = alike_same from (does a ∷ [])
+paired_alike from a (b ∷ bs) =
+    elim (is_idle b) as (λ idles. is_idle b ≡ idles → Alike from (all_done (if idles then paired a bs else (if can_pair a b then paired (pair a b) bs else a ∷ paired b bs))) (all_done (a ∷ b ∷ bs))) [
+      | true ↦ λ is. alike_on (paired_alike from a bs) (alike_done a (left_out from b (all_done bs) is))
+      | false ↦ λ is. elim (can_pair a b) as (λ can. can_pair a b ≡ can → Alike from (all_done (if can then paired (pair a b) bs else a ∷ paired b bs)) (all_done (a ∷ b ∷ bs))) [
+        | true ↦ λ can. alike_on (paired_alike from (pair a b) bs) (in_one from a b (all_done bs) can)
+        | false ↦ λ can. alike_done a (paired_alike from b bs)
+      ] refl
+    ] refl
+
+pub packed_alike : (from : Sources) (bs : List Slots) → Alike from (all_done (packed bs)) (all_done bs)
+packed_alike from [] = alike_same from []
+packed_alike from (b ∷ bs) =
+    elim (is_idle b) as (λ idles. is_idle b ≡ idles → Alike from (all_done (if idles then packed bs else paired b bs)) (all_done (b ∷ bs))) [
+      | true ↦ λ is. alike_on (packed_alike from bs) (left_out from b (all_done bs) is)
+      | false ↦ λ is. paired_alike from b bs
+    ] refl
+
+-- ---- a bundle in a delay slot
+
+-- the flow behind a bundle, and the bundle in its first slot
+slot_filled : (from : Sources) (b : Slots) (tail : List Slots) → can_move b ≡ true → has_room b tail ≡ true → Alike from (all_done (filled b tail)) (all_done (b ∷ tail))
+slot_filled from b [] can room = absurd (true≢false (sym room))
+slot_filled from b (t ∷ []) can room = absurd (true≢false (sym room))
+slot_filled from b (t ∷ slot ∷ slots) can room =
+    let both = and_parts (lets_pass t b) (is_idle slot) room in
+    alike_on (record { runs = λ m whole. ap (run from (all_done slots)) (moved_once from b can t m whole both.0) })
+    (alike_done b (alike_done t (left_out from slot (all_done slots) both.1)))
+
+pub in_front : (b : Slots) (bs xs : List Slots) → but_last b bs ++ (last_or b bs ∷ xs) ≡ b ∷ (bs ++ xs)
+in_front b [] xs = refl
+in_front b (c ∷ cs) xs = ap (λ ys. b ∷ ys) (in_front c cs xs)
+
+pub done_append : (xs ys : List Slots) → all_done (xs ++ ys) ≡ all_done xs ++ all_done ys
+done_append xs ys = map-append does xs ys
+
+pub way_alike : (from : Sources) (bs tail : List Slots) → Alike from (all_done (kept bs tail) ++ all_done (way bs tail)) (all_done bs ++ all_done tail)
+way_alike from [] tail = alike_same from (all_done tail)
+way_alike from (b ∷ bs) tail =
+    elim (goes_down (b ∷ bs) tail) as (λ down. goes_down (b ∷ bs) tail ≡ down
+    → Alike from (all_done (if down then but_last b bs else b ∷ bs) ++ all_done (if down then filled (last_or b bs) tail else tail)) (all_done (b ∷ bs) ++ all_done tail)) [
+      | true ↦ λ is.
+          let both = and_parts (can_move (last_or b bs)) (has_room (last_or b bs) tail) is in
+          alike_on (alike_then (alike_same from (all_done (but_last b bs))) (slot_filled from (last_or b bs) tail both.0 both.1))
+          (alike_is from (all_done (but_last b bs) ++ all_done (last_or b bs ∷ tail)) (all_done (b ∷ bs) ++ all_done tail)
+          (sym (done_append (but_last b bs) (last_or b bs ∷ tail)) ∙ ap all_done (in_front b bs tail) ∙ done_append (b ∷ bs) tail))
+      | false ↦ λ is. alike_same from (all_done (b ∷ bs) ++ all_done tail)
+    ] refl
+
+-- ---- tails of loops
+
+pub tail_split : (tail : List Slots) → before_branch tail ++ from_branch tail ≡ tail
+tail_split [] = refl
+tail_split (b ∷ bs) =
+    elim (is_branch b.first.op) as (λ back. (if back then [] else b ∷ before_branch bs) ++ (if back then b ∷ bs else from_branch bs) ≡ b ∷ bs) [ true ↦ refl | false ↦ ap (λ xs. b ∷ xs) (tail_split bs) ]
+
+pub turn_alike : (from : Sources) (tail : List Slots) → Alike from (all_done (turn_packed tail)) (all_done tail)
+turn_alike from tail =
+    let front = before_branch tail in
+    let back = from_branch tail in
+    let p = packed front in
+    alike_on (alike_is from (all_done (turned p back)) (all_done (kept p back) ++ all_done (way p back)) (done_append (kept p back) (way p back)))
+    (alike_on (way_alike from p back)
+    (alike_on (alike_then (packed_alike from front) (alike_same from (all_done back)))
+    (alike_is from (all_done front ++ all_done back) (all_done tail) (sym (done_append front back) ∙ ap all_done (tail_split tail)))))
+
+-- ---- parts, over trails of functions that leave the same
+
+pub straights_trail : (f : ℕ → List Step) (bs : List Slots) (rest : PlainParts) → parts_trail f (straights bs rest) ≡ all_done bs ++ parts_trail f rest
+straights_trail f [] rest = refl
+straights_trail f (b ∷ bs) rest = refl
+
+module _ (from : Sources) (f g : ℕ → List Step) (each : (k : ℕ) → Alike from (g k) (f k)) where
+  -- behind straight code
+  held_alike : (bs held : List Slots) (rest : PlainParts) (ys : List Step) → Alike from (all_done bs ++ parts_trail g rest) (all_done held ++ ys)
+      → Alike from (parts_trail g (straights bs rest)) (all_done held ++ ys)
+  held_alike bs held rest ys a = alike_on (alike_is from (parts_trail g (straights bs rest)) (all_done bs ++ parts_trail g rest) (straights_trail g bs rest)) a
+
+  -- a way, with what runs behind it
+  way_then : (held tail : List Slots) (xs ys us vs : List Step) → Alike from xs us → Alike from ys vs
+      → Alike from (all_done (kept (packed held) tail) ++ ((all_done (way (packed held) tail) ++ xs) ++ ys)) (all_done held ++ ((all_done tail ++ us) ++ vs))
+  way_then held tail xs ys us vs a b =
+      let p = kept (packed held) tail in
+      let q = way (packed held) tail in
+      let front = alike_on (way_alike from (packed held) tail) (alike_then (packed_alike from held) (alike_same from (all_done tail))) in
+      alike_on (alike_is from (all_done p ++ ((all_done q ++ xs) ++ ys)) ((all_done p ++ all_done q) ++ (xs ++ ys))
+      (ap (λ zs. all_done p ++ zs) (append_assoc (all_done q) xs ys) ∙ sym (append_assoc (all_done p) (all_done q) (xs ++ ys))))
+      (alike_on (alike_then front (alike_then a b))
+      (alike_is from ((all_done held ++ all_done tail) ++ (us ++ vs)) (all_done held ++ ((all_done tail ++ us) ++ vs))
+      (append_assoc (all_done held) (all_done tail) (us ++ vs) ∙ ap (λ zs. all_done held ++ zs) (sym (append_assoc (all_done tail) us vs)))))
+
+  pub merged_alike : (held : List Slots) (ps : PlainParts) → Alike from (parts_trail g (parts_merged held ps)) (all_done held ++ parts_trail f ps)
+  merged_alike held no_part = held_alike (packed held) held no_part [] (alike_then (packed_alike from held) (alike_same from []))
+  merged_alike held (part (straight bs) rest) =
+      alike_on (merged_alike (held ++ bs) rest)
+      (alike_is from (all_done (held ++ bs) ++ parts_trail f rest) (all_done held ++ (all_done bs ++ parts_trail f rest))
+      (ap (λ xs. xs ++ parts_trail f rest) (done_append held bs) ∙ append_assoc (all_done held) (all_done bs) (parts_trail f rest)))
+  merged_alike held (part (repeats count body tail) rest) =
+      held_alike (packed held) held (part (repeats count (parts_merged [] body) (turn_packed tail)) (parts_merged [] rest)) (copies count (parts_trail f body ++ all_done tail) ++ parts_trail f rest)
+      (alike_then (packed_alike from held) (alike_then (alike_copies (alike_then (merged_alike [] body) (turn_alike from tail)) count) (merged_alike [] rest)))
+  merged_alike held (part (calls_to k tail) rest) =
+      held_alike (kept (packed held) tail) held (part (calls_to k (way (packed held) tail)) (parts_merged [] rest)) ((all_done tail ++ begins ∷ f k) ++ parts_trail f rest)
+      (way_then held tail (begins ∷ g k) (parts_trail g (parts_merged [] rest)) (begins ∷ f k) (parts_trail f rest) (alike_begun (each k)) (merged_alike [] rest))
+  merged_alike held (part (leaves tail) rest) =
+      held_alike (kept (packed held) tail) held (part (leaves (way (packed held) tail)) (parts_merged [] rest)) (all_done tail ++ parts_trail f rest)
+      (leave_then held tail (parts_trail g (parts_merged [] rest)) (parts_trail f rest) (merged_alike [] rest))
+    where
+      leave_then : (held tail : List Slots) (ys vs : List Step) → Alike from ys vs
+          → Alike from (all_done (kept (packed held) tail) ++ (all_done (way (packed held) tail) ++ ys)) (all_done held ++ (all_done tail ++ vs))
+      leave_then held tail ys vs b =
+          let p = kept (packed held) tail in
+          let q = way (packed held) tail in
+          let front = alike_on (way_alike from (packed held) tail) (alike_then (packed_alike from held) (alike_same from (all_done tail))) in
+          alike_on (alike_is from (all_done p ++ (all_done q ++ ys)) ((all_done p ++ all_done q) ++ ys) (sym (append_assoc (all_done p) (all_done q) ys)))
+          (alike_on (alike_then front b) (alike_is from ((all_done held ++ all_done tail) ++ vs) (all_done held ++ (all_done tail ++ vs)) (append_assoc (all_done held) (all_done tail) vs)))
+
+-- ---- functions and shapes
+
+pub merged_at : (fs : List PlainParts) (n : ℕ) → slice_index_or (map (parts_merged []) fs) n no_part ≡ parts_merged [] (slice_index_or fs n no_part)
+merged_at [] n = refl
+merged_at (ps ∷ fs) zero = refl
+merged_at (ps ∷ fs) (suc n) = merged_at fs n
+
+pub functions_alike : (from : Sources) (fs : List PlainParts) (n k : ℕ) → Alike from (trails (map (parts_merged []) fs) n k) (trails fs n k)
+functions_alike from fs zero k = alike_same from []
+functions_alike from fs (suc n) k =
+    let gs = map (parts_merged []) fs in
+    let earlier = λ (j : ℕ). functions_alike from fs n j in
+    let own = merged_alike from (trails fs n) (trails gs n) earlier [] (slice_index_or fs n no_part) in
+    elim (k == n) as (λ b. Alike from (if b then parts_trail (trails gs n) (slice_index_or gs n no_part) else trails gs n k) (if b then parts_trail (trails fs n) (slice_index_or fs n no_part) else trails fs n k)) [
+      | true ↦ subst (λ ps. Alike from (parts_trail (trails gs n) ps) (parts_trail (trails fs n) (slice_index_or fs n no_part))) (sym (merged_at fs n)) own
+      | false ↦ earlier k
+    ]
+
+pub merged_runs : (s : PlainShape) (from : Sources) (m : Run) → IsWhole m → run from (trail (merged s)) m ≡ run from (trail s) m
+merged_runs s from m whole =
+    ap (λ n. run from (trails (map (parts_merged []) s.functions) n s.entry) m) (length-map s.functions (parts_merged []))
+    ∙ (functions_alike from s.functions (length s.functions) s.entry).runs m whole

@@ -1,0 +1,104 @@
+-- No bundle is lost: what holds of each bundle of packed code holds of each before.
+use Rattle.std.proofs.Common.{◌≡◌, Bool, true, false, true≢false, if◌then◌else◌, List, [], ◌∷◌, ◌++◌, refl, sym, ◌∙◌, ap}
+use Rattle.std.specs.Prelude.{◌&&◌}
+use Rattle.std.specs.List.{list_all}
+use Rattle.std.proofs.lemmas.Bool.{and_parts, and_from}
+use Rattle.std.proofs.lemmas.List.Folds.{list_all-append}
+use Rattle.patmos_instr.specs.Bundles.{Slots}
+use Rattle.sp_shape.specs.Bundles.{is_idle, parts_all}
+use Rattle.sp_shape.specs.Parts.{straight, repeats, calls_to, leaves, PlainParts, no_part, part}
+use Rattle.bundle_sched.specs.Packed.{can_pair, last_or}
+use Rattle.bundle_sched.specs.Packing.{pair, paired, packed, can_move, lets_pass, has_room, filled, but_last, goes_down, kept, way, before_branch, from_branch, turn_packed, straights, parts_merged}
+use Rattle.bundle_sched.proofs.Alike.{tail_split}
+
+-- it holds of what does nothing, and of two bundles where it holds of the one that they become
+module _ (holds : Slots → Bool) (dropped : (b : Slots) → is_idle b ≡ true → holds b ≡ true)
+    (split : (a b : Slots) → can_pair a b ≡ true → holds (pair a b) ≡ true → (holds a ≡ true) × (holds b ≡ true)) where
+  paired_had : (a : Slots) (bs : List Slots) → list_all holds (paired a bs) ≡ true → list_all holds (a ∷ bs) ≡ true
+  paired_had a [] h = h
+  paired_had a (b ∷ bs) h =
+      elim (is_idle b) as (λ idles. is_idle b ≡ idles → list_all holds (if idles then paired a bs else (if can_pair a b then paired (pair a b) bs else a ∷ paired b bs)) ≡ true → list_all holds (a ∷ b ∷ bs) ≡ true) [
+        | true ↦ λ is h.
+            let both = and_parts (holds a) (list_all holds bs) (paired_had a bs h) in
+            and_from (holds a) (holds b && list_all holds bs) both.0 (and_from (holds b) (list_all holds bs) (dropped b is) both.1)
+        | false ↦ λ is h. elim (can_pair a b) as (λ can. can_pair a b ≡ can → list_all holds (if can then paired (pair a b) bs else a ∷ paired b bs) ≡ true → list_all holds (a ∷ b ∷ bs) ≡ true) [
+          | true ↦ λ can h.
+              let both = and_parts (holds (pair a b)) (list_all holds bs) (paired_had (pair a b) bs h) in
+              let had = split a b can both.0 in
+              and_from (holds a) (holds b && list_all holds bs) had.0 (and_from (holds b) (list_all holds bs) had.1 both.1)
+          | false ↦ λ can h.
+              let both = and_parts (holds a) (list_all holds (paired b bs)) h in
+              and_from (holds a) (list_all holds (b ∷ bs)) both.0 (paired_had b bs both.1)
+        ] refl h
+      ] refl h
+
+  packed_had : (bs : List Slots) → list_all holds (packed bs) ≡ true → list_all holds bs ≡ true
+  packed_had [] h = refl
+  packed_had (b ∷ bs) h =
+      elim (is_idle b) as (λ idles. is_idle b ≡ idles → list_all holds (if idles then packed bs else paired b bs) ≡ true → list_all holds (b ∷ bs) ≡ true) [
+        | true ↦ λ is h. and_from (holds b) (list_all holds bs) (dropped b is) (packed_had bs h)
+        | false ↦ λ is h. paired_had b bs h
+      ] refl h
+
+  front_had : (b : Slots) (bs : List Slots) → list_all holds (but_last b bs) ≡ true → holds (last_or b bs) ≡ true → list_all holds (b ∷ bs) ≡ true
+  front_had b [] h last = and_from (holds b) true last refl
+  front_had b (c ∷ cs) h last =
+      let both = and_parts (holds b) (list_all holds (but_last c cs)) h in
+      and_from (holds b) (list_all holds (c ∷ cs)) both.0 (front_had c cs both.1 last)
+
+  filled_had : (b : Slots) (tail : List Slots) → has_room b tail ≡ true → list_all holds (filled b tail) ≡ true → (holds b ≡ true) × (list_all holds tail ≡ true)
+  filled_had b [] room h = absurd (true≢false (sym room))
+  filled_had b (t ∷ []) room h = absurd (true≢false (sym room))
+  filled_had b (t ∷ slot ∷ slots) room h =
+      let idles = (and_parts (lets_pass t b) (is_idle slot) room).1 in
+      let one = and_parts (holds t) (holds b && list_all holds slots) h in
+      let two = and_parts (holds b) (list_all holds slots) one.1 in
+      (two.0, and_from (holds t) (holds slot && list_all holds slots) one.0 (and_from (holds slot) (list_all holds slots) (dropped slot idles) two.1))
+
+  way_had : (bs tail : List Slots) → list_all holds (kept bs tail) ≡ true → list_all holds (way bs tail) ≡ true → (list_all holds bs ≡ true) × (list_all holds tail ≡ true)
+  way_had [] tail hk hw = (refl, hw)
+  way_had (b ∷ bs) tail hk hw =
+      elim (goes_down (b ∷ bs) tail) as (λ down. goes_down (b ∷ bs) tail ≡ down → list_all holds (if down then but_last b bs else b ∷ bs) ≡ true
+      → list_all holds (if down then filled (last_or b bs) tail else tail) ≡ true → (list_all holds (b ∷ bs) ≡ true) × (list_all holds tail ≡ true)) [
+        | true ↦ λ is hk hw.
+            let had = filled_had (last_or b bs) tail (and_parts (can_move (last_or b bs)) (has_room (last_or b bs) tail) is).1 hw in
+            (front_had b bs hk had.0, had.1)
+        | false ↦ λ is hk hw. (hk, hw)
+      ] refl hk hw
+
+  turn_had : (tail : List Slots) → list_all holds (turn_packed tail) ≡ true → list_all holds tail ≡ true
+  turn_had tail h =
+      let front = before_branch tail in
+      let back = from_branch tail in
+      let p = packed front in
+      let both = and_parts (list_all holds (kept p back)) (list_all holds (way p back)) (sym (list_all-append holds (kept p back) (way p back)) ∙ h) in
+      let had = way_had p back both.0 both.1 in
+      ap (list_all holds) (sym (tail_split tail)) ∙ list_all-append holds front back ∙ and_from (list_all holds front) (list_all holds back) (packed_had front had.0) had.1
+
+  straights_had : (bs : List Slots) (rest : PlainParts) → parts_all holds (straights bs rest) ≡ true → (list_all holds bs ≡ true) × (parts_all holds rest ≡ true)
+  straights_had [] rest h = (refl, h)
+  straights_had (b ∷ bs) rest h = and_parts (list_all holds (b ∷ bs)) (parts_all holds rest) h
+
+  pub merged_had : (held : List Slots) (ps : PlainParts) → parts_all holds (parts_merged held ps) ≡ true → (list_all holds held ≡ true) × (parts_all holds ps ≡ true)
+  merged_had held no_part h = (packed_had held (straights_had (packed held) no_part h).0, refl)
+  merged_had held (part (straight bs) rest) h =
+      let both = merged_had (held ++ bs) rest h in
+      let own = and_parts (list_all holds held) (list_all holds bs) (sym (list_all-append holds held bs) ∙ both.0) in
+      (own.0, and_from (list_all holds bs) (parts_all holds rest) own.1 both.1)
+  merged_had held (part (repeats count body tail) rest) h =
+      let both = straights_had (packed held) (part (repeats count (parts_merged [] body) (turn_packed tail)) (parts_merged [] rest)) h in
+      let one = and_parts (parts_all holds (parts_merged [] body) && list_all holds (turn_packed tail)) (parts_all holds (parts_merged [] rest)) both.1 in
+      let two = and_parts (parts_all holds (parts_merged [] body)) (list_all holds (turn_packed tail)) one.0 in
+      (packed_had held both.0, and_from (parts_all holds body && list_all holds tail) (parts_all holds rest) (and_from (parts_all holds body) (list_all holds tail) (merged_had [] body two.0).1 (turn_had tail two.1)) (merged_had [] rest one.1).1)
+  merged_had held (part (calls_to k tail) rest) h =
+      let p = packed held in
+      let both = straights_had (kept p tail) (part (calls_to k (way p tail)) (parts_merged [] rest)) h in
+      let one = and_parts (list_all holds (way p tail)) (parts_all holds (parts_merged [] rest)) both.1 in
+      let had = way_had p tail both.0 one.0 in
+      (packed_had held had.0, and_from (list_all holds tail) (parts_all holds rest) had.1 (merged_had [] rest one.1).1)
+  merged_had held (part (leaves tail) rest) h =
+      let p = packed held in
+      let both = straights_had (kept p tail) (part (leaves (way p tail)) (parts_merged [] rest)) h in
+      let one = and_parts (list_all holds (way p tail)) (parts_all holds (parts_merged [] rest)) both.1 in
+      let had = way_had p tail both.0 one.0 in
+      (packed_had held had.0, and_from (list_all holds tail) (parts_all holds rest) had.1 (merged_had [] rest one.1).1)

@@ -1,0 +1,328 @@
+-- Packed code is well formed where the code was, and no value of a delay slot comes late.
+use Rattle.std.proofs.Common.{◌≡◌, ℕ, zero, suc, ◌==◌, Bool, true, false, true≢false, if◌then◌else◌, List, [], ◌∷◌, ◌++◌, length, map, slice_index_or, refl, sym, ap, ◌∙◌}
+use Rattle.std.specs.Prelude.{nat_lt, nat_le, ◌&&◌, not, is_none}
+use Rattle.std.specs.List.{list_all}
+use Rattle.std.proofs.lemmas.Bool.{and_parts, and_from, not-true}
+use Rattle.std.proofs.lemmas.List.{length-map}
+use Rattle.patmos_instr.specs.Bundles.{Slots}
+use Rattle.patmos_instr.specs.declared.instructions.Op.{Op}
+use Rattle.sp_shape.specs.Bundles.{is_idle_op, is_idle, turn_idles, way_idles, parts_idle}
+use Rattle.sp_shape.specs.Formed.{is_branch, is_call, is_return, is_fill, is_flow, is_always, are_calm, are_delay_slots, is_turn, is_way, part_formed, parts_formed, function_formed, functions_formed, is_formed}
+use Rattle.sp_shape.specs.Parts.{straight, repeats, calls_to, leaves, PlainPart, PlainParts, no_part, part, PlainShape}
+use Rattle.sp_shape.specs.Words.{is_late}
+use Rattle.sp_tree.specs.declared.limits.TheConstants.{MOST_FUNCTIONS}
+use Rattle.bundle_sched.specs.Packed.{can_pair, last_or, holds_special}
+use Rattle.bundle_sched.specs.Packing.{pair, paired, packed, can_move, has_room, filled, but_last, goes_down, kept, way, before_branch, from_branch, turn_packed, straights, parts_merged, merged}
+use Rattle.bundle_sched.proofs.Merged.{all_packed, all_kept}
+use Rattle.bundle_sched.proofs.Alike.{merged_at}
+use Rattle.bundle_sched.proofs.SpacedFormed.{is_prompt, turn_prompt, way_prompt, parts_prompt, idle_early, turn_front}
+
+-- ---- delay slots that do nothing are prompt
+
+idles_prompt : (bs : List Slots) → list_all is_idle bs ≡ true → list_all is_prompt bs ≡ true
+idles_prompt [] h = refl
+idles_prompt (b ∷ bs) h =
+    let both = and_parts (is_idle b) (list_all is_idle bs) h in
+    let nothing = and_parts (is_idle_op b.first.op) (is_none b.second) (and_parts (is_always b.first.guard) (is_idle_op b.first.op && is_none b.second) both.0).1 in
+    and_from (is_prompt b) (list_all is_prompt bs) (ap not (idle_early b.first.op nothing.0)) (idles_prompt bs both.1)
+
+-- ---- packed code
+
+calm_paired : (a : Slots) (bs : List Slots) → is_flow a.first.op ≡ false → are_calm bs ≡ true → are_calm (paired a bs) ≡ true
+calm_paired a [] ha h = and_from (not (is_flow a.first.op)) true (ap not ha) refl
+calm_paired a (b ∷ bs) ha h =
+    let both = and_parts (not (is_flow b.first.op)) (are_calm bs) h in
+    elim (is_idle b) as (λ idles. are_calm (if idles then paired a bs else (if can_pair a b then paired (pair a b) bs else a ∷ paired b bs)) ≡ true) [
+      | true ↦ calm_paired a bs ha both.1
+      | false ↦ elim (can_pair a b) as (λ can. are_calm (if can then paired (pair a b) bs else a ∷ paired b bs) ≡ true) [
+        | true ↦ calm_paired (pair a b) bs ha both.1
+        | false ↦ and_from (not (is_flow a.first.op)) (are_calm (paired b bs)) (ap not ha) (calm_paired b bs (not-true (is_flow b.first.op) both.0) both.1)
+      ]
+    ]
+
+pub calm_packed : (bs : List Slots) → are_calm bs ≡ true → are_calm (packed bs) ≡ true
+calm_packed [] h = refl
+calm_packed (b ∷ bs) h =
+    let both = and_parts (not (is_flow b.first.op)) (are_calm bs) h in
+    elim (is_idle b) as (λ idles. are_calm (if idles then packed bs else paired b bs) ≡ true) [ true ↦ calm_packed bs both.1 | false ↦ calm_paired b bs (not-true (is_flow b.first.op) both.0) both.1 ]
+
+pub calm_append : (xs ys : List Slots) → are_calm xs ≡ true → are_calm ys ≡ true → are_calm (xs ++ ys) ≡ true
+calm_append [] ys hx hy = hy
+calm_append (x ∷ xs) ys hx hy =
+    let both = and_parts (not (is_flow x.first.op)) (are_calm xs) hx in
+    and_from (not (is_flow x.first.op)) (are_calm (xs ++ ys)) both.0 (calm_append xs ys both.1 hy)
+
+calm_front : (b : Slots) (bs : List Slots) → are_calm (b ∷ bs) ≡ true → are_calm (but_last b bs) ≡ true
+calm_front b [] h = refl
+calm_front b (c ∷ cs) h =
+    let both = and_parts (not (is_flow b.first.op)) (are_calm (c ∷ cs)) h in
+    and_from (not (is_flow b.first.op)) (are_calm (but_last c cs)) both.0 (calm_front c cs both.1)
+
+pub calm_kept : (bs tail : List Slots) → are_calm bs ≡ true → are_calm (kept bs tail) ≡ true
+calm_kept [] tail h = refl
+calm_kept (b ∷ bs) tail h =
+    elim (goes_down (b ∷ bs) tail) as (λ down. are_calm (if down then but_last b bs else b ∷ bs) ≡ true) [ true ↦ calm_front b bs h | false ↦ h ]
+
+-- a bundle that can move is calm and prompt
+move_parts : (b : Slots) → can_move b ≡ true → (not (is_late b.first.op) ≡ true) × (not (is_flow b.first.op) ≡ true)
+move_parts b h =
+    let both = and_parts (not (is_late b.first.op)) (not (is_flow b.first.op) && not (holds_special b)) h in
+    (both.0, (and_parts (not (is_flow b.first.op)) (not (holds_special b)) both.1).0)
+
+filled_way : (is_it : Op → Bool) (b : Slots) (tail : List Slots) → can_move b ≡ true → is_way is_it tail ≡ true → is_way is_it (filled b tail) ≡ true
+filled_way is_it b [] can h = h
+filled_way is_it b (t ∷ []) can h = h
+filled_way is_it b (t ∷ slot ∷ slots) can h =
+    let one = and_parts (is_it t.first.op) (is_always t.first.guard && are_delay_slots 3 (slot ∷ slots)) h in
+    let two = and_parts (is_always t.first.guard) (are_delay_slots 3 (slot ∷ slots)) one.1 in
+    let three = and_parts (length (slot ∷ slots) == 3) (are_calm (slot ∷ slots)) two.1 in
+    let calm = and_from (not (is_flow b.first.op)) (are_calm slots) (move_parts b can).1 (and_parts (not (is_flow slot.first.op)) (are_calm slots) three.1).1 in
+    and_from (is_it t.first.op) (is_always t.first.guard && are_delay_slots 3 (b ∷ slots)) one.0
+    (and_from (is_always t.first.guard) (are_delay_slots 3 (b ∷ slots)) two.0 (and_from (length (b ∷ slots) == 3) (are_calm (b ∷ slots)) three.0 calm))
+
+pub way_formed : (is_it : Op → Bool) (bs tail : List Slots) → is_way is_it tail ≡ true → is_way is_it (way bs tail) ≡ true
+way_formed is_it [] tail h = h
+way_formed is_it (b ∷ bs) tail h =
+    elim (goes_down (b ∷ bs) tail) as (λ down. goes_down (b ∷ bs) tail ≡ down → is_way is_it (if down then filled (last_or b bs) tail else tail) ≡ true) [
+      | true ↦ λ is. filled_way is_it (last_or b bs) tail (and_parts (can_move (last_or b bs)) (has_room (last_or b bs) tail) is).0 h
+      | false ↦ λ is. h
+    ] refl
+
+filled_prompt : (b : Slots) (tail : List Slots) → can_move b ≡ true → way_idles tail ≡ true → way_prompt (filled b tail) ≡ true
+filled_prompt b [] can h = refl
+filled_prompt b (t ∷ []) can h = refl
+filled_prompt b (t ∷ slot ∷ slots) can h = and_from (is_prompt b) (list_all is_prompt slots) (move_parts b can).0 (idles_prompt slots (and_parts (is_idle slot) (list_all is_idle slots) h).1)
+
+idle_way : (tail : List Slots) → way_idles tail ≡ true → way_prompt tail ≡ true
+idle_way [] h = refl
+idle_way (t ∷ slots) h = idles_prompt slots h
+
+pub prompt_way : (bs tail : List Slots) → way_idles tail ≡ true → way_prompt (way bs tail) ≡ true
+prompt_way [] tail h = idle_way tail h
+prompt_way (b ∷ bs) tail h =
+    elim (goes_down (b ∷ bs) tail) as (λ down. goes_down (b ∷ bs) tail ≡ down → way_prompt (if down then filled (last_or b bs) tail else tail) ≡ true) [
+      | true ↦ λ is. filled_prompt (last_or b bs) tail (and_parts (can_move (last_or b bs)) (has_room (last_or b bs) tail) is).0 h
+      | false ↦ λ is. idle_way tail h
+    ] refl
+
+-- ---- tails of loops
+
+-- no branch
+abbrev is_plain : Slots → Bool
+is_plain b = not (is_branch b.first.op)
+
+-- a branch is the first, where there is any bundle
+abbrev at_branch : List Slots → Bool
+at_branch [] = true
+at_branch (b ∷ bs) = is_branch b.first.op
+
+before_plain : (tail : List Slots) → list_all is_plain (before_branch tail) ≡ true
+before_plain [] = refl
+before_plain (b ∷ bs) =
+    elim (is_branch b.first.op) as (λ back. is_branch b.first.op ≡ back → list_all is_plain (if back then [] else b ∷ before_branch bs) ≡ true) [
+      | true ↦ λ is. refl
+      | false ↦ λ is. and_from (is_plain b) (list_all is_plain (before_branch bs)) (ap not is) (before_plain bs)
+    ] refl
+
+from_at : (tail : List Slots) → at_branch (from_branch tail) ≡ true
+from_at [] = refl
+from_at (b ∷ bs) =
+    elim (is_branch b.first.op) as (λ back. is_branch b.first.op ≡ back → at_branch (if back then b ∷ bs else from_branch bs) ≡ true) [ true ↦ λ is. is | false ↦ λ is. from_at bs ] refl
+
+from_idles : (tail : List Slots) → turn_idles tail ≡ true → turn_idles (from_branch tail) ≡ true
+from_idles [] h = refl
+from_idles (b ∷ bs) h =
+    elim (is_branch b.first.op) as (λ back. is_branch b.first.op ≡ back → (if back then list_all is_idle bs else turn_idles bs) ≡ true → turn_idles (if back then b ∷ bs else from_branch bs) ≡ true) [
+      | true ↦ λ is idles. ap (λ back. if back then list_all is_idle bs else turn_idles bs) is ∙ idles
+      | false ↦ λ is idles. from_idles bs idles
+    ] refl h
+
+plain_then : (xs ys : List Slots) → list_all is_plain xs ≡ true → turn_prompt ys ≡ true → turn_prompt (xs ++ ys) ≡ true
+plain_then [] ys plain h = h
+plain_then (x ∷ xs) ys plain h =
+    let both = and_parts (is_plain x) (list_all is_plain xs) plain in
+    ap (λ back. if back then list_all is_prompt (xs ++ ys) else turn_prompt (xs ++ ys)) (not-true (is_branch x.first.op) both.0) ∙ plain_then xs ys both.1 h
+
+idle_turn : (tail : List Slots) → turn_idles tail ≡ true → turn_prompt tail ≡ true
+idle_turn [] h = refl
+idle_turn (b ∷ bs) h =
+    elim (is_branch b.first.op) as (λ back. (if back then list_all is_idle bs else turn_idles bs) ≡ true → (if back then list_all is_prompt bs else turn_prompt bs) ≡ true) [
+      | true ↦ λ idles. idles_prompt bs idles
+      | false ↦ λ idles. idle_turn bs idles
+    ] h
+
+filled_prompt_turn : (b : Slots) (tail : List Slots) → can_move b ≡ true → at_branch tail ≡ true → turn_idles tail ≡ true → turn_prompt (filled b tail) ≡ true
+filled_prompt_turn b [] can at h = refl
+filled_prompt_turn b (t ∷ []) can at h = idle_turn (t ∷ []) h
+filled_prompt_turn b (t ∷ slot ∷ slots) can at h =
+    let idles = ap (λ back. if back then list_all is_idle (slot ∷ slots) else turn_idles (slot ∷ slots)) (sym at) ∙ h in
+    ap (λ back. if back then list_all is_prompt (b ∷ slots) else turn_prompt (b ∷ slots)) at
+    ∙ and_from (is_prompt b) (list_all is_prompt slots) (move_parts b can).0 (idles_prompt slots (and_parts (is_idle slot) (list_all is_idle slots) idles).1)
+
+way_prompt_turn : (bs tail : List Slots) → at_branch tail ≡ true → turn_idles tail ≡ true → turn_prompt (way bs tail) ≡ true
+way_prompt_turn [] tail at h = idle_turn tail h
+way_prompt_turn (b ∷ bs) tail at h =
+    elim (goes_down (b ∷ bs) tail) as (λ down. goes_down (b ∷ bs) tail ≡ down → turn_prompt (if down then filled (last_or b bs) tail else tail) ≡ true) [
+      | true ↦ λ is. filled_prompt_turn (last_or b bs) tail (and_parts (can_move (last_or b bs)) (has_room (last_or b bs) tail) is).0 at h
+      | false ↦ λ is. idle_turn tail h
+    ] refl
+
+prompt_turn : (tail : List Slots) → turn_idles tail ≡ true → turn_prompt (turn_packed tail) ≡ true
+prompt_turn tail h =
+    let p = packed (before_branch tail) in
+    let back = from_branch tail in
+    plain_then (kept p back) (way p back) (all_kept is_plain p back (all_packed is_plain (λ a b plain. plain) (before_branch tail) (before_plain tail)))
+    (way_prompt_turn p back (from_at tail) (from_idles tail h))
+
+calm_before : (tail : List Slots) → is_turn tail ≡ true → are_calm (before_branch tail) ≡ true
+calm_before [] h = refl
+calm_before (b ∷ bs) h =
+    elim (is_branch b.first.op) as (λ back. (if back then are_delay_slots 2 bs else (not (is_flow b.first.op) && is_turn bs)) ≡ true → are_calm (if back then [] else b ∷ before_branch bs) ≡ true) [
+      | true ↦ λ turn. refl
+      | false ↦ λ turn.
+          let both = and_parts (not (is_flow b.first.op)) (is_turn bs) turn in
+          and_from (not (is_flow b.first.op)) (are_calm (before_branch bs)) both.0 (calm_before bs both.1)
+    ] h
+
+from_turn : (tail : List Slots) → is_turn tail ≡ true → is_turn (from_branch tail) ≡ true
+from_turn [] h = h
+from_turn (b ∷ bs) h =
+    elim (is_branch b.first.op) as (λ back. is_branch b.first.op ≡ back → (if back then are_delay_slots 2 bs else (not (is_flow b.first.op) && is_turn bs)) ≡ true
+    → is_turn (if back then b ∷ bs else from_branch bs) ≡ true) [
+      | true ↦ λ is turn. ap (λ back. if back then are_delay_slots 2 bs else (not (is_flow b.first.op) && is_turn bs)) is ∙ turn
+      | false ↦ λ is turn. from_turn bs (and_parts (not (is_flow b.first.op)) (is_turn bs) turn).1
+    ] refl h
+
+calm_branch : (op : Op) → is_flow op ≡ false → is_branch op ≡ false
+calm_branch op h = elim (is_branch op) as (λ back. (if back then true else (if is_call op then true else (if is_return op then true else is_fill op))) ≡ false → back ≡ false) [ true ↦ λ x. x | false ↦ λ x. refl ] h
+
+calm_turn : (xs ys : List Slots) → are_calm xs ≡ true → is_turn ys ≡ true → is_turn (xs ++ ys) ≡ true
+calm_turn [] ys calm h = h
+calm_turn (x ∷ xs) ys calm h =
+    let both = and_parts (not (is_flow x.first.op)) (are_calm xs) calm in
+    turn_front x (xs ++ ys) (calm_branch x.first.op (not-true (is_flow x.first.op) both.0)) both.0 (calm_turn xs ys both.1 h)
+
+filled_turn : (b : Slots) (tail : List Slots) → can_move b ≡ true → at_branch tail ≡ true → is_turn tail ≡ true → is_turn (filled b tail) ≡ true
+filled_turn b [] can at h = h
+filled_turn b (t ∷ []) can at h = h
+filled_turn b (t ∷ slot ∷ slots) can at h =
+    let two = ap (λ back. if back then are_delay_slots 2 (slot ∷ slots) else (not (is_flow t.first.op) && is_turn (slot ∷ slots))) (sym at) ∙ h in
+    let three = and_parts (length (slot ∷ slots) == 2) (are_calm (slot ∷ slots)) two in
+    let calm = and_from (not (is_flow b.first.op)) (are_calm slots) (move_parts b can).1 (and_parts (not (is_flow slot.first.op)) (are_calm slots) three.1).1 in
+    ap (λ back. if back then are_delay_slots 2 (b ∷ slots) else (not (is_flow t.first.op) && is_turn (b ∷ slots))) at ∙ and_from (length (b ∷ slots) == 2) (are_calm (b ∷ slots)) three.0 calm
+
+way_turn : (bs tail : List Slots) → at_branch tail ≡ true → is_turn tail ≡ true → is_turn (way bs tail) ≡ true
+way_turn [] tail at h = h
+way_turn (b ∷ bs) tail at h =
+    elim (goes_down (b ∷ bs) tail) as (λ down. goes_down (b ∷ bs) tail ≡ down → is_turn (if down then filled (last_or b bs) tail else tail) ≡ true) [
+      | true ↦ λ is. filled_turn (last_or b bs) tail (and_parts (can_move (last_or b bs)) (has_room (last_or b bs) tail) is).0 at h
+      | false ↦ λ is. h
+    ] refl
+
+turn_formed : (tail : List Slots) → is_turn tail ≡ true → is_turn (turn_packed tail) ≡ true
+turn_formed tail h =
+    let p = packed (before_branch tail) in
+    let back = from_branch tail in
+    calm_turn (kept p back) (way p back) (calm_kept p back (calm_packed (before_branch tail) (calm_before tail h))) (way_turn p back (from_at tail) (from_turn tail h))
+
+-- ---- parts
+
+prompt_straights : (bs : List Slots) (rest : PlainParts) → parts_prompt rest ≡ true → parts_prompt (straights bs rest) ≡ true
+prompt_straights [] rest h = h
+prompt_straights (b ∷ bs) rest h = h
+
+pub merged_prompt : (held : List Slots) (ps : PlainParts) → parts_idle ps ≡ true → parts_prompt (parts_merged held ps) ≡ true
+merged_prompt held no_part h = prompt_straights (packed held) no_part refl
+merged_prompt held (part (straight bs) rest) h = merged_prompt (held ++ bs) rest h
+merged_prompt held (part (repeats count body tail) rest) h =
+    let both = and_parts (parts_idle body && turn_idles tail) (parts_idle rest) h in
+    let own = and_parts (parts_idle body) (turn_idles tail) both.0 in
+    prompt_straights (packed held) (part (repeats count (parts_merged [] body) (turn_packed tail)) (parts_merged [] rest))
+    (and_from (parts_prompt (parts_merged [] body) && turn_prompt (turn_packed tail)) (parts_prompt (parts_merged [] rest))
+    (and_from (parts_prompt (parts_merged [] body)) (turn_prompt (turn_packed tail)) (merged_prompt [] body own.0) (prompt_turn tail own.1)) (merged_prompt [] rest both.1))
+merged_prompt held (part (calls_to k tail) rest) h =
+    let both = and_parts (way_idles tail) (parts_idle rest) h in
+    prompt_straights (kept (packed held) tail) (part (calls_to k (way (packed held) tail)) (parts_merged [] rest))
+    (and_from (way_prompt (way (packed held) tail)) (parts_prompt (parts_merged [] rest)) (prompt_way (packed held) tail both.0) (merged_prompt [] rest both.1))
+merged_prompt held (part (leaves tail) rest) h =
+    let both = and_parts (way_idles tail) (parts_idle rest) h in
+    prompt_straights (kept (packed held) tail) (part (leaves (way (packed held) tail)) (parts_merged [] rest))
+    (and_from (way_prompt (way (packed held) tail)) (parts_prompt (parts_merged [] rest)) (prompt_way (packed held) tail both.0) (merged_prompt [] rest both.1))
+
+formed_straights : (n : ℕ) (bs : List Slots) (rest : PlainParts) → are_calm bs ≡ true → parts_formed n rest ≡ true → parts_formed n (straights bs rest) ≡ true
+formed_straights n [] rest hb h = h
+formed_straights n (b ∷ bs) rest hb h = and_from (are_calm (b ∷ bs)) (parts_formed n rest) hb h
+
+pub merged_formed : (n : ℕ) (held : List Slots) (ps : PlainParts) → are_calm held ≡ true → parts_formed n ps ≡ true → parts_formed n (parts_merged held ps) ≡ true
+merged_formed n held no_part hh h = formed_straights n (packed held) no_part (calm_packed held hh) refl
+merged_formed n held (part (straight bs) rest) hh h =
+    let both = and_parts (are_calm bs) (parts_formed n rest) h in
+    merged_formed n (held ++ bs) rest (calm_append held bs hh both.0) both.1
+merged_formed n held (part (repeats count body tail) rest) hh h =
+    let both = and_parts (part_formed n (repeats count body tail)) (parts_formed n rest) h in
+    let some = and_parts (nat_lt 0 count) (parts_formed n body && is_turn tail) both.0 in
+    let own = and_parts (parts_formed n body) (is_turn tail) some.1 in
+    formed_straights n (packed held) (part (repeats count (parts_merged [] body) (turn_packed tail)) (parts_merged [] rest)) (calm_packed held hh)
+    (and_from (part_formed n (repeats count (parts_merged [] body) (turn_packed tail))) (parts_formed n (parts_merged [] rest))
+    (and_from (nat_lt 0 count) (parts_formed n (parts_merged [] body) && is_turn (turn_packed tail)) some.0 (and_from (parts_formed n (parts_merged [] body)) (is_turn (turn_packed tail)) (merged_formed n [] body refl own.0) (turn_formed tail own.1)))
+    (merged_formed n [] rest refl both.1))
+merged_formed n held (part (calls_to k tail) rest) hh h =
+    let both = and_parts (nat_lt k n && is_way is_call tail) (parts_formed n rest) h in
+    let own = and_parts (nat_lt k n) (is_way is_call tail) both.0 in
+    formed_straights n (kept (packed held) tail) (part (calls_to k (way (packed held) tail)) (parts_merged [] rest)) (calm_kept (packed held) tail (calm_packed held hh))
+    (and_from (nat_lt k n && is_way is_call (way (packed held) tail)) (parts_formed n (parts_merged [] rest))
+    (and_from (nat_lt k n) (is_way is_call (way (packed held) tail)) own.0 (way_formed is_call (packed held) tail own.1)) (merged_formed n [] rest refl both.1))
+merged_formed n held (part (leaves tail) rest) hh h = absurd (true≢false (sym h))
+
+-- ---- functions: behind straight code the function goes on
+
+function_straights : (n : ℕ) (bs : List Slots) (p : PlainPart) (rest : PlainParts) → are_calm bs ≡ true → function_formed n (part p rest) ≡ true → function_formed n (straights bs (part p rest)) ≡ true
+function_straights n [] p rest hb h = h
+function_straights n (b ∷ bs) p rest hb h = and_from (are_calm (b ∷ bs)) (function_formed n (part p rest)) hb h
+
+function_then : (n : ℕ) (p : PlainPart) (rest : PlainParts) → part_formed n p ≡ true → function_formed n rest ≡ true → function_formed n (part p rest) ≡ true
+function_then n (straight bs) rest hp h = and_from (part_formed n (straight bs)) (function_formed n rest) hp h
+function_then n (repeats count body tail) rest hp h = and_from (part_formed n (repeats count body tail)) (function_formed n rest) hp h
+function_then n (calls_to k tail) rest hp h = and_from (part_formed n (calls_to k tail)) (function_formed n rest) hp h
+function_then n (leaves tail) rest hp h = absurd (true≢false (sym hp))
+
+pub merged_function : (n : ℕ) (held : List Slots) (ps : PlainParts) → are_calm held ≡ true → function_formed n ps ≡ true → function_formed n (parts_merged held ps) ≡ true
+merged_function n held no_part hh h = absurd (true≢false (sym h))
+merged_function n held (part (straight bs) rest) hh h =
+    let both = and_parts (are_calm bs) (function_formed n rest) h in
+    merged_function n (held ++ bs) rest (calm_append held bs hh both.0) both.1
+merged_function n held (part (repeats count body tail) rest) hh h =
+    let both = and_parts (part_formed n (repeats count body tail)) (function_formed n rest) h in
+    let some = and_parts (nat_lt 0 count) (parts_formed n body && is_turn tail) both.0 in
+    let own = and_parts (parts_formed n body) (is_turn tail) some.1 in
+    function_straights n (packed held) (repeats count (parts_merged [] body) (turn_packed tail)) (parts_merged [] rest) (calm_packed held hh)
+    (function_then n (repeats count (parts_merged [] body) (turn_packed tail)) (parts_merged [] rest)
+    (and_from (nat_lt 0 count) (parts_formed n (parts_merged [] body) && is_turn (turn_packed tail)) some.0 (and_from (parts_formed n (parts_merged [] body)) (is_turn (turn_packed tail)) (merged_formed n [] body refl own.0) (turn_formed tail own.1)))
+    (merged_function n [] rest refl both.1))
+merged_function n held (part (calls_to k tail) rest) hh h =
+    let both = and_parts (nat_lt k n && is_way is_call tail) (function_formed n rest) h in
+    let own = and_parts (nat_lt k n) (is_way is_call tail) both.0 in
+    function_straights n (kept (packed held) tail) (calls_to k (way (packed held) tail)) (parts_merged [] rest) (calm_kept (packed held) tail (calm_packed held hh))
+    (function_then n (calls_to k (way (packed held) tail)) (parts_merged [] rest)
+    (and_from (nat_lt k n) (is_way is_call (way (packed held) tail)) own.0 (way_formed is_call (packed held) tail own.1)) (merged_function n [] rest refl both.1))
+merged_function n held (part (leaves tail) no_part) hh h =
+    function_straights n (kept (packed held) tail) (leaves (way (packed held) tail)) no_part (calm_kept (packed held) tail (calm_packed held hh)) (way_formed is_return (packed held) tail h)
+merged_function n held (part (leaves tail) (part p rest)) hh h = absurd (true≢false (sym h))
+
+merged_functions : (fs : List PlainParts) (n : ℕ) → functions_formed fs n ≡ true → functions_formed (map (parts_merged []) fs) n ≡ true
+merged_functions fs zero h = refl
+merged_functions fs (suc n) h =
+    let f = slice_index_or fs n no_part in
+    let both = and_parts (functions_formed fs n) (function_formed n f) h in
+    and_from (functions_formed (map (parts_merged []) fs) n) (function_formed n (slice_index_or (map (parts_merged []) fs) n no_part)) (merged_functions fs n both.0)
+    (ap (function_formed n) (merged_at fs n) ∙ merged_function n [] f refl both.1)
+
+pub merged_is_formed : (s : PlainShape) → is_formed s ≡ true → is_formed (merged s) ≡ true
+merged_is_formed s h =
+    let fs = map (parts_merged []) s.functions in
+    let count = length s.functions in
+    let few = and_parts (nat_le count MOST_FUNCTIONS) (functions_formed s.functions count && nat_lt s.entry count) h in
+    let both = and_parts (functions_formed s.functions count) (nat_lt s.entry count) few.1 in
+    ap (λ n. nat_le n MOST_FUNCTIONS && (functions_formed fs n && nat_lt s.entry n)) (length-map s.functions (parts_merged []))
+    ∙ and_from (nat_le count MOST_FUNCTIONS) (functions_formed fs count && nat_lt s.entry count) few.0
+    (and_from (functions_formed fs count) (nat_lt s.entry count) (merged_functions s.functions count both.0) both.1)

@@ -1,0 +1,102 @@
+-- Packed code: no two neighbouring bundles stand apart that could be one, and no delay slot of a call or a return does
+-- nothing that the bundle before could fill (our own profile TP1).
+use Rattle.std.specs.Prelude.{Bool, true, false, not, ◌&&◌, ◌||◌, None, Some, is_none, List, [], ◌∷◌}
+use Rattle.std.specs.List.{list_all}
+use Rattle.patmos_instr.specs.Bundles.{Slots}
+use Rattle.patmos_instr.specs.Instructions.{is_long, is_second_kind}
+use Rattle.patmos_instr.specs.declared.instructions.Instr.{Instr}
+use Rattle.patmos_instr.specs.declared.instructions.Op.{Op}
+use Rattle.patmos_instr.specs.declared.instructions.Op.TheVariants.{ToSpecial}
+use Rattle.sp_shape.specs.Bundles.{is_idle_op, is_idle}
+use Rattle.sp_shape.specs.Formed.{is_always}
+use Rattle.sp_shape.specs.Parts.{PlainPart, straight, repeats, calls_to, leaves, PlainParts, no_part, part, PlainShape}
+use Rattle.sp_shape.specs.Words.{is_late}
+use Rattle.bundle_sched.specs.Operands.{reads, tests, results, flags, apart, spares}
+
+-- ---- bundles that can be one
+
+-- one instruction that is one word long
+abbrev pub is_small : Slots → Bool
+is_small b = is_none b.second && not (is_long b.first.op)
+
+-- the second neither reads nor writes what the first writes: its guard is read, and a write of s0 writes all predicates
+abbrev pub is_free : Instr → Instr → Bool
+is_free a b = apart (results a.op) (reads b.op) && (spares a.op (tests b) && (apart (results a.op) (results b.op) && spares a.op (flags b.op)))
+
+-- two that can be one: no value of the first comes late
+abbrev pub can_pair : Slots → Slots → Bool
+can_pair a b = is_small a && (is_small b && (is_second_kind b.first.op && (not (is_late a.first.op) && is_free a.first b.first)))
+
+-- a and b can be one behind x: no value of x comes late, so none comes in a
+abbrev pub mergeable : Slots → Slots → Slots → Bool
+mergeable x a b = not (is_late x.first.op) && can_pair a b
+
+-- no three neighbours are so
+abbrev pub none_mergeable : List Slots → Bool
+none_mergeable (x ∷ a ∷ b ∷ bs) = not (mergeable x a b) && none_mergeable (a ∷ b ∷ bs)
+none_mergeable _ = true
+
+-- ---- bundles of two
+
+-- the instruction that does nothing
+abbrev pub is_nop : Instr → Bool
+is_nop i = is_always i.guard && is_idle_op i.op
+
+-- it does not stand in the second slot
+abbrev pub is_filled : Slots → Bool
+is_filled b = elim b.second as (λ _. Bool) [ None ↦ true | Some i ↦ not (is_nop i) ]
+
+-- ---- delay slots
+
+-- a write of a special register
+abbrev pub is_special : Op → Bool
+is_special (ToSpecial to ra) = true
+is_special _ = false
+
+-- in one of the slots
+abbrev pub holds_special : Slots → Bool
+holds_special b = is_special b.first.op || elim b.second as (λ _. Bool) [ None ↦ false | Some i ↦ is_special i.op ]
+
+-- the last bundle
+abbrev pub last_or : Slots → List Slots → Slots
+last_or b [] = b
+last_or b (c ∷ cs) = last_or c cs
+
+-- the first delay slot of a tail does something
+abbrev pub slot_used : List Slots → Bool
+slot_used (flow ∷ slot ∷ slots) = not (is_idle slot)
+slot_used _ = false
+
+-- or the last bundle before the tail does nothing, or has to stay where it is
+abbrev pub is_used : List Slots → List Slots → Bool
+is_used [] tail = true
+is_used (b ∷ bs) tail = (is_idle (last_or b bs) || holds_special (last_or b bs)) || slot_used tail
+
+-- ---- parts and shapes
+
+-- what may stand directly behind a part
+abbrev pub can_follow : PlainPart → PlainParts → Bool
+can_follow (straight bs) (part (straight cs) rest) = false
+can_follow (straight bs) (part (calls_to k tail) rest) = is_used bs tail
+can_follow (straight bs) (part (leaves tail) rest) = is_used bs tail
+can_follow _ _ = true
+
+-- there is a bundle
+abbrev pub some_bundle : List Slots → Bool
+some_bundle [] = false
+some_bundle (b ∷ bs) = true
+
+-- of a part, of parts one after another, and of a shape
+abbrev mutual
+  pub part_packed : PlainPart → Bool
+  part_packed (straight bs) = some_bundle bs && (list_all is_filled bs && none_mergeable bs)
+  part_packed (repeats count body tail) = parts_packed body && list_all is_filled tail
+  part_packed (calls_to k tail) = list_all is_filled tail
+  part_packed (leaves tail) = list_all is_filled tail
+
+  pub parts_packed : PlainParts → Bool
+  parts_packed no_part = true
+  parts_packed (part p rest) = part_packed p && (can_follow p rest && parts_packed rest)
+
+abbrev pub is_packed : PlainShape → Bool
+is_packed s = list_all parts_packed s.functions

@@ -1,0 +1,4 @@
+pub mod Bare
+pub mod Going
+pub mod Once
+pub mod Sooner

@@ -1,0 +1,15 @@
+pub mod Lines
+pub mod Inputs
+pub mod Tasks
+pub mod Quiet
+pub mod Documents
+pub mod Ascii
+pub mod Jobs
+pub mod Cut
+pub mod Numbers
+pub mod Trees
+pub mod Fitting
+pub mod Valid
+pub mod Functions
+pub mod Sources
+pub mod Programs
