@@ -4,13 +4,13 @@ use Rattle.std.specs.Option.{option_and_then}
 use Rattle.toml.specs.Data.{Data, Items, as_array, as_integer}
 use Rattle.toml.specs.View.{view, items_view}
 use Rattle.toml.specs.declared.value.Value.{Value}
-use Rattle.tc_job.specs.declared.fault.JobFault.{JobFault}
-use Rattle.tc_job.specs.declared.fault.JobFault.TheVariants as faults
-use Rattle.tc_job.specs.declared.fault.Refusal.{Refusal}
-use Rattle.tc_job.specs.declared.fault.Refusal.TheVariants as refusals
-use Rattle.tc_job.specs.Values.{IsRefusedBy, given, each_of, each_item, array_of, integers_in}
-use Rattle.tc_job.proofs.Each.{behind, more_of, none_of}
-use Rattle.tc_job.proofs.Items.{more_items, no_item}
+use Rattle.tc_toml.specs.declared.fault.JobFault.{JobFault}
+use Rattle.tc_toml.specs.declared.fault.JobFault.TheVariants as faults
+use Rattle.tc_toml.specs.declared.fault.Refusal.{Refusal}
+use Rattle.tc_toml.specs.declared.fault.Refusal.TheVariants as refusals
+use Rattle.tc_toml.specs.Values.{IsRefusedBy, given, each_of, each_item, array_of, integers_in}
+use Rattle.tc_toml.proofs.Each.{behind, more_of, none_of}
+use Rattle.tc_toml.proofs.Items.{more_items, no_item}
 use Rattle.argo_grid.specs.declared.grid.Entry.{Entry}
 use Rattle.argo_grid.specs.Read.{integers_at, entry_of}
 

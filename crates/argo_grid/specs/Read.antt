@@ -3,11 +3,11 @@
 use Rattle.std.specs.Prelude.{ℕ, ℤ, pos, negsuc, ◌*◌, Bool, ◌&&◌, ◌||◌, nat_le, if◌then◌else◌, List, [], ◌∷◌, length, codes, bytes_eq, Option, Some, None, Result, Ok, Err}
 use Rattle.std.specs.Option.{option_and_then}
 use Rattle.toml.specs.Data.{Data, Members, no_members, member, get_member, as_integer, as_array}
-use Rattle.tc_job.specs.declared.fault.JobFault.{JobFault}
-use Rattle.tc_job.specs.declared.fault.JobFault.TheVariants as faults
-use Rattle.tc_job.specs.Fault.{Fault, ◌>>=◌, at_key}
-use Rattle.tc_job.specs.Job.{tree_of}
-use Rattle.tc_job.specs.Values.{given, number_of, each_of, each_item, array_of}
+use Rattle.tc_toml.specs.declared.fault.JobFault.{JobFault}
+use Rattle.tc_toml.specs.declared.fault.JobFault.TheVariants as faults
+use Rattle.tc_toml.specs.Fault.{Fault, ◌>>=◌, at_key}
+use Rattle.tc_toml.specs.Tree.{tree_of}
+use Rattle.tc_toml.specs.Values.{given, number_of, each_of, each_item, array_of}
 use Rattle.argo_grid.specs.declared.job.TheConstants.{MOST_ENTRIES, MOST_PERIOD}
 use Rattle.argo_grid.specs.declared.grid.Entry.{Entry}
 use Rattle.argo_grid.specs.Schedule.{Schedule}

@@ -2,7 +2,7 @@
 use Rattle.std.specs.Prelude.{ℕ, List, [], ◌∷◌, ◌++◌, codes, Result, Ok, Err}
 use Rattle.std.specs.Fmt.{decimal}
 use Rattle.local_store.specs.declared.map.TheConstants.{COMM_WORDS}
-use Rattle.tc_job.specs.Fault.{Fault, fault_text}
+use Rattle.tc_toml.specs.Fault.{Fault, fault_text}
 use Rattle.argo_grid.specs.declared.grid.Grid.{Grid}
 use Rattle.argo_grid.specs.declared.fault.GridFault.{GridFault}
 use Rattle.argo_grid.specs.declared.fault.GridFault.TheVariants.{Range, Late, Shared}

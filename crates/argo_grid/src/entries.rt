@@ -1,13 +1,13 @@
 ghost use Rattle.std.specs.Prelude.{◌≡◌, ◌≤◌, IfOk, length, option_map};
 ghost use Rattle.toml.specs.Data.{as_array};
 ghost use Rattle.toml.specs.View.{view, items_view};
-ghost use Rattle.tc_job.specs.Values.{Reads, array_of, each_item, each_of, given};
+ghost use Rattle.tc_toml.specs.Values.{Reads, array_of, each_item, each_of, given};
 ghost use Rattle.argo_grid.specs.Read as specs;
 
 use crate::grid::Entry;
 use crate::job::MOST_ENTRIES;
 use std::alloc::Global;
-use tc_job::{JobFault, Refusal, integers_in};
+use tc_toml::{JobFault, Refusal, integers_in};
 use tc_word::List;
 use toml::Value;
 

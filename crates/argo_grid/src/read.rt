@@ -1,13 +1,13 @@
 ghost use Rattle.std.specs.Prelude.{◌≡◌, ◌*◌, ◌≤◌, IfOk};
 ghost use Rattle.toml.specs.View.{table_view};
-ghost use Rattle.tc_job.specs.Fault.{Gives};
+ghost use Rattle.tc_toml.specs.Fault.{Gives};
 ghost use Rattle.argo_grid.specs.Read as specs;
 
 use crate::entries::entries_of;
 use crate::grid::Grid;
 use crate::job::{GridJob, MOST_PERIOD};
 use std::alloc::Global;
-use tc_job::{JobError, JobFault, Section, tree_of};
+use tc_toml::{JobError, JobFault, Section, tree_of};
 use toml::Table;
 
 /// The schedule that the bytes stand for, or the first of their faults.

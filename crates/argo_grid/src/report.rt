@@ -1,7 +1,7 @@
 ghost use Rattle.std.specs.Prelude.{◌≡◌, ◌≤◌, ◌++◌, IfOk, OnOk};
 ghost use Rattle.std.specs.Fmt.{decimal};
 ghost use Rattle.argo_grid.specs.Report as specs;
-ghost use Rattle.tc_job.specs.Fault.{fault_text};
+ghost use Rattle.tc_toml.specs.Fault.{fault_text};
 ghost use Rattle.argo_grid.specs.Check.{checked};
 
 use crate::check::check_grid;
@@ -13,7 +13,7 @@ use crate::transfer::latency;
 use itoa::Buffer;
 use local_store::COMM_WORDS;
 use std::alloc::{AllocError, Global};
-use tc_job::{JobError, JobFault, put_fault};
+use tc_toml::{JobError, JobFault, put_fault};
 use tc_word::{List, OutOfMemory};
 
 /// A status and the text that is written with it.

@@ -1,8 +1,9 @@
 //! From C texts to images.
 //!
 //! [`compile`] makes the task of a C text for a core's place: its program, that program's single-path code and the words of
-//! that, how many cycles it takes at most there, by two bounds, and what it mentions. It never sees an input. Which texts it refuses, and
-//! for what, is exactly `specs/Texts.antt`. It promises of a core that runs the image, whatever words are put in and read:
+//! that, how many cycles it takes at most there, by two bounds, and what it mentions. It never sees an input. Which texts
+//! it refuses, and for what, is exactly `specs/Texts.antt`. It promises of a core that runs the image, whatever words are
+//! put in and read:
 //!
 //! - its transactions and its end are the same, and its end is within both bounds;
 //! - no check stops it;

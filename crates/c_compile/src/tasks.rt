@@ -27,8 +27,8 @@ use sp_emit::Shape;
 use std::alloc::Global;
 use tc_word::OutOfMemory;
 
-/// A compiled task: its words, its code, how many cycles it takes at most on its core's place, and by what stays in the method
-/// cache, its program, and what that mentions.
+/// A compiled task: its words, its code, how many cycles it takes at most on its core's place, and how many by what stays
+/// in the method cache, its program, and what that mentions.
 #[derive(Debug, Drop)]
 pub struct Compiled {
     pub image: Image,
@@ -65,8 +65,9 @@ pub fn compile(alloc: Global, source: &str, place: &Place) -> Result<Compiled, C
     ensures persist { IfOk result (λ c. c.persist ≡ persist place.now (plain c.program.unit)) }
     ensures mentions { IfOk result (λ c. Tells c.mentions (plain c.program.unit)) }
 
-    // Whatever words are put in and read, a core that runs the image apart has the program's times, which are within both of
-    // its bounds, the persistent one of which is no more than the other; no check stops it; it comes to what the text means; and it touches only what the text mentions.
+    // Whatever words are put in and read, a core that runs the image apart has the program's times, which are within both
+    // of its bounds, the persistent one of which is no more than the other; no check stops it; it comes to what the text
+    // means; and it touches only what the text mentions.
     ensures times { IfOk result (λ c. KeepsTimes (plain c.program.unit) place.now c.image) }
     ensures within { IfOk result (λ c. (times place.now (plain c.program.unit)).end ≤ place.now.start + c.bound) }
     ensures within_persist { IfOk result (λ c. (times place.now (plain c.program.unit)).end ≤ place.now.start + c.persist) }

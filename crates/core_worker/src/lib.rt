@@ -8,7 +8,8 @@
 //!   event and publishes after each piece; it publishes the event's stamp; it looks, at most once, at each
 //!   clock that it has not seen there yet; and it makes the event, or tells which clock is before it
 //!   ([`Turn`]). It neither waits nor takes memory.
-//! - [`Worker::run`] and [`run_all`] take turns until the limit; they may wait for workers elsewhere.
+//! - [`Worker::run`] and [`run_all`] take turns until the limit, and [`run_some`] until the threads of a run give
+//!   their workers back; they may wait for workers elsewhere.
 //! - [`Waiting`] is what the workers of a run share to do so, beside the board: who waits peeks at a clock and
 //!   then sleeps, and who publishes a stamp that is waited for wakes it.
 //! - [`two_idle_cores`] and [`two_idle_cores_at_once`] show how workers are made, run and taken apart.
@@ -31,7 +32,7 @@ mod waiting;
 mod worked;
 mod worker;
 
-pub use rounds::run_all;
+pub use rounds::{run_all, run_some};
 pub use turn::Turn;
 pub use waiting::Waiting;
 pub use worked::{NoOperations, two_idle_cores, two_idle_cores_at_once};

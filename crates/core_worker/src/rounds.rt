@@ -41,6 +41,27 @@ fn round<R: Wait, C: Course, G: Gate>(
     ended
 }
 
+/// Takes turns of the workers as [`run_all`] does, but ends too where the threads of the run give their workers
+/// back: then events may be left.
+pub fn run_some<R: Wait, C: Course, G: Gate>(
+    rt: &R,
+    workers: &mut [Worker<C>],
+    board: &Board<C>,
+    waiting: &Waiting,
+    gate: &G,
+)
+    requires of { All (IsOn board.now) workers.old }
+    ensures of { All (IsOn board.now) workers.new }
+    ensures later { AreLater workers.old workers.new }
+{
+    let mut patience = Patience::new();
+    for _ in rt.forever() {
+        if round(rt, workers, board, waiting, gate, &mut patience) || waiting.is_gathering() {
+            break;
+        }
+    }
+}
+
 /// Takes turns of the workers, in their order, until no event is left for any of them below its limit. It may
 /// wait for workers elsewhere, and wakes those that sleep for the clocks of these.
 pub fn run_all<R: Wait, C: Course, G: Gate>(

@@ -9,11 +9,14 @@
 //!
 //! Who sleeps sets the alarm before its last peek, and who publishes reads the alarm afterwards, so that one of the
 //! two sees the other. A sleep ends by itself all the same, after a millisecond.
+//!
+//! Where a thread has to let others run time and again and comes hardly further, threads of their own are not worth
+//! what they cost: then all threads of the run give their workers back, and one thread runs them all.
 use clock_board::{Board, Course};
 use std::array;
 use std::hint::spin_loop;
 use std::sync::Wait;
-use std::sync::atomic::{AtomicU64, Ordering};
+use std::sync::atomic::{AtomicBool, AtomicU64, Ordering};
 use std::thread::yield_now;
 use std::time::Duration;
 
@@ -32,14 +35,24 @@ const MISSES: u32 = 128;
 /// How often a thread yields before it sleeps, where it does not peek instead.
 const YIELDS: u32 = 1024;
 
+/// How often a thread lets others run until it is asked how far it has come.
+const WAITS: u32 = 64;
+
+/// How far it has to come for each of these, in stamps, of which a cycle has two for each core.
+const WORTH: u64 = 2048;
+
 /// The longest sleep, in microseconds: what a lost signal costs.
 const MOST_MICROS: u64 = 1000;
 
-/// How often a thread peeks before it sleeps: the more often, the more that served it of late.
+/// How often a thread peeks before it sleeps: the more often, the more that served it of late; and whether it is
+/// worth being one.
 #[derive(Drop)]
 pub(crate) struct Patience {
     peeks: u32,
     misses: u32,
+    // How often it let others run since it was last asked how far it has come, and the stamp at which it was then.
+    waits: u32,
+    since: u64,
 }
 
 impl Patience {
@@ -48,7 +61,21 @@ impl Patience {
         Patience {
             peeks: MOST_PEEKS,
             misses: 0,
+            waits: 0,
+            since: 0,
         }
+    }
+
+    // it has to let others run, for a stamp: whether it has done so often of late, and come hardly further
+    fn is_at_an_end(&mut self, stamp: u64) -> bool {
+        self.waits = self.waits.saturating_add(1);
+        if self.waits < WAITS {
+            return false;
+        }
+        let further = stamp.saturating_sub(self.since);
+        self.waits = 0;
+        self.since = stamp;
+        further < u64::from(WAITS) * WORTH
     }
 
     // how often to peek this time
@@ -80,6 +107,8 @@ pub struct Waiting {
     alarms: [AtomicU64; 16],
     // Whether a thread that waits peeks for a while first, or lets others run.
     peeks_first: bool,
+    // Whether the threads give their workers back.
+    gathers: AtomicBool,
 }
 
 impl Waiting {
@@ -89,6 +118,7 @@ impl Waiting {
         Waiting {
             alarms: array::from_fn(|_| AtomicU64::new(NO_ALARM)),
             peeks_first,
+            gathers: AtomicBool::new(false),
         }
     }
 
@@ -101,7 +131,13 @@ impl Waiting {
         }
     }
 
-    /// Waits until core d's clock is at or past a stamp. Of a core that the board does not have, it waits for none.
+    /// Whether the threads give their workers back, so that one thread runs them all.
+    pub(crate) fn is_gathering(&self) -> bool {
+        self.gathers.load(Ordering::SeqCst)
+    }
+
+    /// Waits until core d's clock is at or past a stamp, or the threads give their workers back. Of a core that the
+    /// board does not have, it waits for none.
     pub(crate) fn wait_for<R: Wait, C: Course>(
         &self,
         rt: &R,
@@ -113,17 +149,17 @@ impl Waiting {
         if is_past(board, d, stamp) {
             return;
         }
-        let comes = if self.peeks_first {
-            comes_soon(board, patience, d, stamp)
-        } else {
-            comes_by_yielding(board, d, stamp)
-        };
-        if !comes {
+        if self.peeks_first && comes_soon(board, patience, d, stamp) {
+            return;
+        }
+        if patience.is_at_an_end(stamp) {
+            self.gathers.store(true, Ordering::SeqCst);
+        } else if self.peeks_first || !comes_by_yielding(board, d, stamp) {
             self.sleep(rt, board, d, stamp);
         }
     }
 
-    // sleeps until core d's clock is at or past a stamp
+    // sleeps until core d's clock is at or past a stamp, or the threads give their workers back
     fn sleep<R: Wait, C: Course>(&self, rt: &R, board: &Board<C>, d: u32, stamp: u64) {
         let Some(alarm) = self.alarms.get(d as usize) else {
             return;
@@ -131,7 +167,7 @@ impl Waiting {
         let limit = Duration::from_micros(MOST_MICROS);
         for _ in rt.forever() {
             let least = alarm.fetch_min(stamp, Ordering::SeqCst).min(stamp);
-            if is_past(board, d, stamp) {
+            if is_past(board, d, stamp) || self.is_gathering() {
                 return;
             }
             alarm.park_timeout(rt, (least % (1 << 32)) as u32, limit);

@@ -4,14 +4,15 @@ use Rattle.std.proofs.lemmas.Bool.Decides.{nat_tests}
 use Rattle.job_gen.specs.Generator.{after_functions, after_task, draw, generated, next, source}
 use Rattle.job_gen.specs.declared.task.TheConstants.{WORDS}
 use Rattle.toml.specs.Data.{array, as_integer, integer, string, Items, member, Members, no_members}
-use Rattle.tc_job.specs.Fault.{Fault}
+use Rattle.tc_toml.specs.Fault.{Fault}
 use Rattle.std.specs.List.{list_any}
 use Rattle.tc_job.specs.declared.task.Task.{Task}
 use Rattle.tc_job.specs.declared.task.Lang.TheVariants.{C}
 use Rattle.tc_job.specs.Input.{input_of, word_of}
-use Rattle.tc_job.specs.Job.{job_in, job_of, platform_in, tree_of}
+use Rattle.tc_job.specs.Job.{job_in, job_of, platform_in}
+use Rattle.tc_toml.specs.Tree.{tree_of}
 use Rattle.tc_job.specs.Task.{core_in, cores_of, task_in, tasks_from}
-use Rattle.tc_job.specs.Values.{each_item, each_of, in_front}
+use Rattle.tc_toml.specs.Values.{each_item, each_of, in_front}
 use Rattle.gen_jobs.proofs.Ascii.{text_is_utf8}
 use Rattle.gen_jobs.proofs.Documents.{document_is}
 use Rattle.gen_jobs.proofs.Inputs.{draw_few, items_from}

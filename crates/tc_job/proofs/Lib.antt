@@ -1,4 +1,1 @@
-pub mod Each
-pub mod Items
 pub mod Tasks
-pub mod Tree

@@ -11,7 +11,7 @@ use Rattle.toml.specs.Data.{Members}
 use Rattle.toml.specs.View.{table_view}
 use Rattle.toml.specs.declared.value.Value.{Value}
 use Rattle.tc_job.specs.declared.task.Task.{Task}
-use Rattle.tc_job.specs.Fault.{Fault}
+use Rattle.tc_toml.specs.Fault.{Fault}
 use Rattle.tc_job.specs.Ranges.{IsTaskAmong}
 use Rattle.tc_job.specs.Task.{cores_of, task_in, tasks_from}
 

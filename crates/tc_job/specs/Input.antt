@@ -2,10 +2,10 @@
 use Rattle.std.specs.Prelude.{ℕ, ℤ, pos, negsuc, ◌-◌, ◌^◌, nat_lt, nat_le, if◌then◌else◌, List, [], length, Option, Some, None, Result, Ok, Err}
 use Rattle.toml.specs.Data.{Data}
 use Rattle.local_store.specs.declared.store.TheConstants.{INPUT_WORDS}
-use Rattle.tc_job.specs.declared.fault.JobFault.{JobFault}
-use Rattle.tc_job.specs.declared.fault.JobFault.TheVariants as faults
-use Rattle.tc_job.specs.Fault.{◌>>=◌}
-use Rattle.tc_job.specs.Values.{each_of, given, integers_in}
+use Rattle.tc_toml.specs.declared.fault.JobFault.{JobFault}
+use Rattle.tc_toml.specs.declared.fault.JobFault.TheVariants as faults
+use Rattle.tc_toml.specs.Fault.{◌>>=◌}
+use Rattle.tc_toml.specs.Values.{each_of, given, integers_in}
 
 -- The word of an integer from -2^31 to 2^32 - 1. A negative one stands for its word in two's
 -- complement: -(n + 1) for 2^32 - 1 - n.

@@ -1,25 +1,20 @@
 -- The job that bytes stand for, or the first of their faults. The tree of the bytes is the meaning that
 -- `toml` gives them. The form is our own; docs/JOBS_AND_REPORTS.md explains it to users.
 use Rattle.std.specs.Prelude.{ℕ, ◌==◌, if◌then◌else◌, List, [], codes, Option, None, Result, Ok}
-use Rattle.std.specs.Str.{is_utf8}
 use Rattle.slot_arbiter.specs.declared.event.TheConstants.{MOST_TRACE}
 use Rattle.slot_arbiter.specs.declared.place.TheConstants.{MOST_CYCLES}
 use Rattle.slot_arbiter.specs.Table.{in_turn}
 use Rattle.toml.specs.Data.{Data, Members, get_member}
-use Rattle.toml.specs.Parse.{parse_document}
-use Rattle.tc_job.specs.declared.fault.JobFault.{JobFault}
-use Rattle.tc_job.specs.declared.fault.JobFault.TheVariants as faults
+use Rattle.tc_toml.specs.Tree.{tree_of}
+use Rattle.tc_toml.specs.declared.fault.JobFault.{JobFault}
+use Rattle.tc_toml.specs.declared.fault.JobFault.TheVariants as faults
 use Rattle.tc_job.specs.declared.job.Job.{Job}
 use Rattle.tc_job.specs.declared.platform.Platform.{Platform}
-use Rattle.tc_job.specs.Fault.{Fault, ◌>>=◌, at_key}
+use Rattle.tc_toml.specs.Fault.{Fault, ◌>>=◌, at_key}
 use Rattle.tc_job.specs.Keys.{known_keys, level_of}
 use Rattle.tc_job.specs.SlotTable.{slot_table}
 use Rattle.tc_job.specs.Task.{tasks_from}
-use Rattle.tc_job.specs.Values.{given, number_of, number_or, tables_of}
-
--- the tree of the bytes, where they are TOML
-unfoldable pub tree_of : List ℕ → Option Members
-tree_of bytes = if is_utf8 bytes then parse_document bytes else None
+use Rattle.tc_toml.specs.Values.{given, number_of, number_or, tables_of}
 
 -- the most cores of a job of that version
 abbrev pub most_cores : ℕ → ℕ

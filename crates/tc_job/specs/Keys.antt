@@ -2,10 +2,10 @@
 use Rattle.std.specs.Prelude.{ℕ, pos, ℤ, Bool, false, ◌||◌, ◌==◌, if◌then◌else◌, List, codes, bytes_eq, Option, Some, Result, Ok, Err}
 use Rattle.toml.specs.Data.{Data, Members, no_members, member, as_integer}
 use Rattle.std.specs.Option.{option_and_then}
-use Rattle.tc_job.specs.declared.fault.JobFault.TheVariants as faults
+use Rattle.tc_toml.specs.declared.fault.JobFault.TheVariants as faults
 use Rattle.tc_job.specs.declared.keys.Level.{Level}
 use Rattle.tc_job.specs.declared.keys.Level.TheVariants.{OfJob, OfTabledJob, OfTask}
-use Rattle.tc_job.specs.Fault.{Fault}
+use Rattle.tc_toml.specs.Fault.{Fault}
 
 -- the keys of a job without a slot table
 abbrev pub is_job_key : List ℕ → Bool

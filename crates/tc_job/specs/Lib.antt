@@ -1,5 +1,3 @@
-pub mod Fault
-pub mod Values
 pub mod SlotTable
 pub mod Input
 pub mod Keys

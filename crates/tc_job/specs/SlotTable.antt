@@ -2,10 +2,10 @@
 use Rattle.std.specs.Prelude.{ℕ, ℤ, pos, negsuc, nat_lt, if◌then◌else◌, List, Option, Some, None, Result, Ok, Err}
 use Rattle.slot_arbiter.specs.Table.{is_table}
 use Rattle.toml.specs.Data.{Data}
-use Rattle.tc_job.specs.declared.fault.JobFault.{JobFault}
-use Rattle.tc_job.specs.declared.fault.JobFault.TheVariants as faults
-use Rattle.tc_job.specs.Fault.{◌>>=◌}
-use Rattle.tc_job.specs.Values.{each_of, given, integers_in}
+use Rattle.tc_toml.specs.declared.fault.JobFault.{JobFault}
+use Rattle.tc_toml.specs.declared.fault.JobFault.TheVariants as faults
+use Rattle.tc_toml.specs.Fault.{◌>>=◌}
+use Rattle.tc_toml.specs.Values.{each_of, given, integers_in}
 
 -- the core that an integer names
 abbrev pub core_of : ℕ → ℤ → Option ℕ

@@ -3,16 +3,16 @@ use Rattle.std.specs.Prelude.{ℕ, ◌-◌, nat_eq, if◌then◌else◌, List, [
 use Rattle.std.specs.List.{list_any}
 use Rattle.slot_arbiter.specs.declared.place.TheConstants.{LATEST_START}
 use Rattle.toml.specs.Data.{Data, Members, get_member}
-use Rattle.tc_job.specs.declared.fault.JobFault.{JobFault}
-use Rattle.tc_job.specs.declared.fault.JobFault.TheVariants as faults
+use Rattle.tc_toml.specs.declared.fault.JobFault.{JobFault}
+use Rattle.tc_toml.specs.declared.fault.JobFault.TheVariants as faults
 use Rattle.tc_job.specs.declared.keys.Level.TheVariants.{OfTask}
 use Rattle.tc_job.specs.declared.task.Lang.{Lang}
 use Rattle.tc_job.specs.declared.task.Lang.TheVariants.{Asm, C}
 use Rattle.tc_job.specs.declared.task.Task.{Task}
-use Rattle.tc_job.specs.Fault.{Fault, ◌>>=◌, at_key}
+use Rattle.tc_toml.specs.Fault.{Fault, ◌>>=◌, at_key}
 use Rattle.tc_job.specs.Input.{input_of}
 use Rattle.tc_job.specs.Keys.{known_keys}
-use Rattle.tc_job.specs.Values.{number_of, number_or, text_of}
+use Rattle.tc_toml.specs.Values.{number_of, number_or, text_of}
 
 -- the language of that name
 abbrev pub lang_named : List ℕ → Result Lang JobFault

@@ -1,12 +1,11 @@
 ghost use Rattle.std.specs.Prelude.{◌≡◌, ◌≤◌, IfOk, length, map, option_map};
 ghost use Rattle.toml.specs.View.{view};
 ghost use Rattle.tc_job.specs.Input as specs;
-ghost use Rattle.tc_job.specs.Values.{Reads, each_of, given};
+ghost use Rattle.tc_toml.specs.Values.{Reads, each_of, given};
 
-use crate::fault::{JobFault, Refusal};
-use crate::values::integers_in;
 use local_store::INPUT_WORDS;
 use std::alloc::Global;
+use tc_toml::{JobFault, Refusal, integers_in};
 use tc_word::List;
 use toml::Value;
 
@@ -28,7 +27,7 @@ pub fn input_of(alloc: Global, value: Option<&Value>) -> Result<List<u32>, Refus
 }
 
 /// The words of integers.
-#[tactic(auto, using(crate::proofs::Each::more_of, crate::proofs::Each::none_of))]
+#[tactic(auto, using(tc_toml::proofs::Each::more_of, tc_toml::proofs::Each::none_of))]
 fn words_in(alloc: Global, integers: &[i64]) -> Result<Vec<u32>, Refusal>
     ensures words { Reads (λ v. v.items) result (given JobFault.Input (each_of specs.word_of integers.now)) }
     ensures count { IfOk result (λ v. length v.items ≡ length integers.now) }

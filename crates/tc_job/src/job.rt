@@ -1,19 +1,16 @@
-ghost use Rattle.std.specs.Prelude.{◌≡◌, [], IfOk};
+ghost use Rattle.std.specs.Prelude.{◌≡◌, IfOk};
 ghost use Rattle.toml.specs.View.{table_view};
-ghost use Rattle.tc_job.specs.Fault.{Gives, at_key};
+ghost use Rattle.tc_toml.specs.Fault.{Gives};
 ghost use Rattle.tc_job.specs.Job as specs;
 ghost use Rattle.tc_job.specs.Ranges.{KeepsRanges};
-ghost use Rattle.tc_job.specs.Values.{given};
 
-use crate::fault::{JobError, JobFault};
-use crate::keys::Level;
+use crate::keys::{Level, know_keys};
 use crate::platform::platform_in;
-use crate::section::Section;
 use crate::task::{Task, tasks_of};
-use crate::values::tables_of;
 use slot_arbiter::{MOST_CYCLES, MOST_TRACE};
 use std::alloc::Global;
-use tc_word::{List, Text};
+use tc_toml::{JobError, Section, tables_of, tree_of};
+use tc_word::List;
 use toml::Table;
 
 /// A job: the platform, the limit, and the tasks.
@@ -47,22 +44,6 @@ pub fn read_job(alloc: Global, bytes: &[u8]) -> Result<Job, JobError>
     job_in(alloc, &table)
 }
 
-/// The tree of the bytes.
-#[tactic(auto, using(crate::proofs::Tree::tree_of_text, crate::proofs::Tree::tree_of_no_text))]
-pub fn tree_of(alloc: Global, bytes: &[u8]) -> Result<Table, JobError>
-    ensures { Gives (λ table. table_view table) result (at_key None [] (given JobFault.Toml (specs.tree_of bytes.now))) }
-{
-    match toml::table_from_slice(alloc, bytes) {
-        Ok(table) => Ok(table),
-        Err(error) if error.is_memory() => Err(JobError::Memory),
-        Err(_) => Err(JobError::Fault {
-            kind: JobFault::Toml,
-            task: None,
-            key: Text::of(String::new(alloc)),
-        }),
-    }
-}
-
 /// The job of a tree.
 #[tactic(auto, unfolding(crate::specs::Job::job_in))]
 fn job_in(alloc: Global, table: &Table) -> Result<Job, JobError>
@@ -74,7 +55,7 @@ fn job_in(alloc: Global, table: &Table) -> Result<Job, JobError>
         table,
         task: None,
     };
-    top.knows_keys(Level::of_job(top.value("version")))?;
+    know_keys(&top, Level::of_job(top.value("version")))?;
     let platform = platform_in(&top)?;
     let cores = platform.cores;
     let cycles = top.number("cycles", 1, MOST_CYCLES as u32)?;

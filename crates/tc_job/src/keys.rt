@@ -1,7 +1,9 @@
 ghost use Rattle.std.specs.Prelude.{◌≡◌, option_map};
-ghost use Rattle.toml.specs.View.{view};
+ghost use Rattle.toml.specs.View.{view, table_view};
+ghost use Rattle.tc_toml.specs.Fault.{Gives};
 ghost use Rattle.tc_job.specs.Keys as specs;
 
+use tc_toml::{JobError, JobFault, Section};
 use toml::Value;
 
 /// The table whose keys are told.
@@ -53,4 +55,16 @@ fn is_task_key(key: &str) -> bool
     ensures { result ≡ specs.is_task_key key.now }
 {
     key == "core" || key == "lang" || key == "source" || key == "input" || key == "start"
+}
+
+/// Refuses the first key that the level does not have.
+pub fn know_keys(section: &Section<'_>, level: Level) -> Result<(), JobError>
+    ensures { Gives (λ _. tt) result (specs.known_keys level section.now.task (table_view section.now.table.now)) }
+{
+    'keys: for (key, _value) in section.table.iter() {
+        if !level.has(key.as_str()) {
+            return Err(section.fault(JobFault::Key, key.as_str()));
+        }
+    }
+    Ok(())
 }

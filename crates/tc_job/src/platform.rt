@@ -2,14 +2,13 @@ ghost use Rattle.std.specs.Prelude.{◌≡◌, ◌≤◌, IfOk, IsTrue, codes};
 ghost use Rattle.slot_arbiter.specs.Table.{is_table};
 ghost use Rattle.toml.specs.Data.{get_member};
 ghost use Rattle.toml.specs.View.{table_view};
-ghost use Rattle.tc_job.specs.Fault.{Gives};
+ghost use Rattle.tc_toml.specs.Fault.{Gives};
 ghost use Rattle.tc_job.specs.Job as specs;
 ghost use Rattle.tc_job.specs.Ranges.{IsPlatform};
-ghost use Rattle.tc_job.specs.Values.{Reads};
+ghost use Rattle.tc_toml.specs.Values.{Reads};
 
-use crate::fault::{JobError, Refusal};
-use crate::section::Section;
 use crate::slots::{slot_table, table_in_turn};
+use tc_toml::{JobError, Refusal, Section};
 use tc_word::List;
 
 /// What a job says of the platform.

@@ -2,12 +2,11 @@ ghost use Rattle.std.specs.Prelude.{◌≡◌, ◌≤◌, IfOk, IsTrue, map, opt
 ghost use Rattle.slot_arbiter.specs.Table.{in_turn, is_table};
 ghost use Rattle.toml.specs.View.{view};
 ghost use Rattle.tc_job.specs.SlotTable as specs;
-ghost use Rattle.tc_job.specs.Values.{Reads, each_of, given};
+ghost use Rattle.tc_toml.specs.Values.{Reads, each_of, given};
 
-use crate::fault::{JobFault, Refusal};
-use crate::values::integers_in;
 use slot_arbiter::{Place, Table};
 use std::alloc::Global;
+use tc_toml::{JobFault, Refusal, integers_in};
 use tc_word::{List, OutOfMemory};
 use toml::Value;
 
@@ -30,7 +29,7 @@ pub fn slot_table(alloc: Global, value: Option<&Value>, cores: u32) -> Result<Li
 }
 
 /// The cores that the integers name.
-#[tactic(auto, using(crate::proofs::Each::more_of, crate::proofs::Each::none_of))]
+#[tactic(auto, using(tc_toml::proofs::Each::more_of, tc_toml::proofs::Each::none_of))]
 fn cores_in(alloc: Global, integers: &[i64], cores: u32) -> Result<Vec<u32>, Refusal>
     ensures { Reads (λ v. v.items) result (given JobFault.Range (each_of (specs.core_of cores) integers.now)) }
 {

@@ -1,19 +1,17 @@
 ghost use Rattle.std.specs.Prelude.{◌≡◌, ◌≢◌, ℕ, ◌<◌, ◌≤◌, [], ◌∷◌, ◌++◌, IfOk, OnOk, nat_eq, All, AllPairs, length, map, option_map};
 ghost use Rattle.std.specs.List.{IsDistinct};
 ghost use Rattle.toml.specs.View.{table_view, view};
-ghost use Rattle.tc_job.specs.Fault.{Gives, at_key};
+ghost use Rattle.tc_toml.specs.Fault.{Gives, at_key};
 ghost use Rattle.tc_job.specs.Ranges.{IsTaskAmong};
 ghost use Rattle.tc_job.specs.Task as specs;
-ghost use Rattle.tc_job.specs.Values.{Reads};
+ghost use Rattle.tc_toml.specs.Values.{Reads};
 
-use crate::fault::{JobError, JobFault, Refusal};
 use crate::input::input_of;
-use crate::keys::Level;
-use crate::section::Section;
-use crate::values::text_of;
+use crate::keys::{Level, know_keys};
 use indexmap::IndexSet;
 use slot_arbiter::LATEST_START;
 use std::alloc::Global;
+use tc_toml::{JobError, JobFault, Refusal, Section, text_of};
 use tc_word::{List, Text};
 use toml::{Table, Value};
 
@@ -93,7 +91,7 @@ fn new_core(section: &Section<'_>, cores: u32, taken: &mut IndexSet<u32>) -> Res
     ensures apart { OnOk result (IsDistinct nat_eq taken.new.keys) }
     ensures among { IfOk result (λ core. core < cores) }
 {
-    section.knows_keys(Level::OfTask)?;
+    know_keys(section, Level::OfTask)?;
     let core = section.number("core", 0, cores - 1)?;
     if taken.insert(core)? {
         Ok(core)

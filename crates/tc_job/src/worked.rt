@@ -1,14 +1,13 @@
 ghost use Rattle.std.specs.Prelude.{◌≡◌, ◌-◌, ◌^◌, [], ◌∷◌, codes, pos, negsuc};
 ghost use Rattle.toml.specs.Data.{integer, member, no_members};
-ghost use Rattle.tc_job.specs.Fault.{fault_text};
 ghost use Rattle.tc_job.specs.Input.{word_of};
 ghost use Rattle.tc_job.specs.Job.{job_in};
 ghost use Rattle.tc_job.specs.SlotTable.{table_of};
 
-use crate::fault::JobFault;
+use tc_toml::JobFault;
 
-/// The definitions at work: the ends of the range of an input's values and their words, slot tables, the
-/// lines of faults, and which of several faults is the first.
+/// The definitions at work: the ends of the range of an input's values and their words, slot tables, and
+/// which of several faults is the first.
 #[tactic(auto, unfolding(crate::specs::Job::job_in, crate::specs::Job::platform_in))]
 pub fn jobs_worked()
     ensures minus_one { word_of (negsuc 0) ≡ Some (2 ^ 32 - 1) }
@@ -20,10 +19,6 @@ pub fn jobs_worked()
     ensures table { table_of 3 (pos 0 ∷ pos 1 ∷ pos 0 ∷ pos 2 ∷ []) ≡ Ok (0 ∷ 1 ∷ 0 ∷ 2 ∷ []) }
     ensures core_left_out { table_of 2 (pos 0 ∷ pos 0 ∷ []) ≡ Err JobFault.Range }
     ensures negative_core { table_of 1 (negsuc 0 ∷ []) ≡ Err JobFault.Range }
-
-    ensures at_the_top { fault_text JobFault.Missing None (codes "version") ≡ codes "job: Missing version" }
-    ensures in_a_task { fault_text JobFault.CoreTwice (Some 1) (codes "core") ≡ codes "job: CoreTwice task 1 core" }
-    ensures no_text { fault_text JobFault.Toml None [] ≡ codes "job: Toml" }
 
     ensures empty { job_in no_members ≡ Err (record { kind = JobFault.Missing; task = None; key = codes "version" }) }
     ensures unknown_first { job_in (member (codes "zeta") (integer (pos 1)) no_members) ≡ Err (record { kind = JobFault.Key; task = None; key = codes "zeta" }) }

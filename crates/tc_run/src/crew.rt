@@ -4,7 +4,7 @@ ghost use Rattle.clock_board.specs.Board.{BoardFace};
 ghost use Rattle.core_worker.specs.Worker.{WorkerFace, IsDone, IsOn};
 ghost use Rattle.tc_run.specs.Carried.{Carries, IsCrewOn, IsReady, workers_in, workers_of};
 
-use crate::threads::{SameWorkers, gather, run_through, start_group};
+use crate::threads::{SameWorkers, gather, run_on, run_through, start_group};
 use clock_board::Board;
 use core_worker::{Waiting, Worker};
 use global_step::Loaded;
@@ -49,7 +49,7 @@ impl Crew {
         Ok(Crew { here, away })
     }
 
-    /// Runs the workers that the caller has until none of them has an event left.
+    /// Runs the workers that the caller has until none of them has an event left, or all threads give theirs back.
     fn run_here<R: Wait, G: Gate>(
         &mut self,
         rt: &R,
@@ -62,7 +62,7 @@ impl Crew {
         ensures ready { (workers : List WorkerFace) (groups : ℕ) → IsReady board.now self.old workers groups
             → IsReady board.now self.new workers groups }
     {
-        run_through(rt, &mut self.here, board, waiting, gate);
+        run_on(rt, &mut self.here, board, waiting, gate);
     }
 
     /// Takes a group of workers on, in a thread of its own. Where no thread can be started, the caller has them.
@@ -130,7 +130,7 @@ impl Crew {
 }
 
 /// Runs all workers: first those that the crew has, and then each of the groups in a thread of its own, or in
-/// the thread of the call where no thread can be started.
+/// the thread of the call where no thread can be started. What the threads give back undone, the call does.
 pub(crate) fn run_groups<R: Threads + Wait + Sync, G: Gate + Sync>(
     rt: &R,
     groups: Vec<Vec<Worker<Loaded>>>,

@@ -4,7 +4,7 @@ ghost use Rattle.core_worker.specs.Worker.{AreLater, IsDone, IsOn};
 ghost use Rattle.tc_run.specs.Carried.{Carries};
 
 use clock_board::Board;
-use core_worker::{Waiting, Worker, run_all};
+use core_worker::{Waiting, Worker, run_all, run_some};
 use global_step::Loaded;
 use std::snapshot::Snapshot;
 use std::sync::Wait;
@@ -26,7 +26,8 @@ impl Promise<Vec<Worker<Loaded>>> for SameWorkers {
     ghost kept_by = { λ p ws. All (IsOn p.board.value) ws.items × AreLater p.was.value.items ws.items };
 }
 
-/// What the thread of a group does: it runs the workers, unless its start was refused, and gives them back.
+/// What the thread of a group does: it runs the workers, unless its start was refused, until none of them has an event
+/// left or all threads give theirs back, and gives them back.
 pub(crate) fn run_group<R: Wait, G: Gate>(
     rt: &R,
     mut workers: Vec<Worker<Loaded>>,
@@ -40,7 +41,7 @@ pub(crate) fn run_group<R: Wait, G: Gate>(
     ensures later { AreLater workers.items result.items }
 {
     if !refused.load(Ordering::SeqCst) {
-        run_all(rt, workers.as_mut_slice(), board, waiting, gate);
+        run_some(rt, workers.as_mut_slice(), board, waiting, gate);
     }
     workers
 }
@@ -86,6 +87,21 @@ pub(crate) fn gather(all: &mut Vec<Worker<Loaded>>, mut group: Vec<Worker<Loaded
     if all.append(&mut group).is_err() {
         unreachable!()
     }
+}
+
+/// Runs workers until none of them has an event left, or the threads of the run give theirs back.
+pub(crate) fn run_on<R: Wait, G: Gate>(
+    rt: &R,
+    workers: &mut Vec<Worker<Loaded>>,
+    board: &Board<Loaded>,
+    waiting: &Waiting,
+    gate: &G,
+)
+    requires on { All (IsOn board.now) workers.old.items }
+    ensures carries { Carries board.now workers.old.items workers.new.items }
+    ensures room { vec_capacity workers.new ≡ vec_capacity workers.old }
+{
+    run_some(rt, workers.as_mut_slice(), board, waiting, gate);
 }
 
 /// Runs workers until none of them has an event left.

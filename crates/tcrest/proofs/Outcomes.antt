@@ -3,10 +3,10 @@ use Rattle.std.proofs.Common.{◌≡◌, inl, inr, ℕ, ◌<◌, ◌≤◌, List
 use Rattle.std.proofs.lemmas.Bool.{cases_lt}
 use Rattle.std.proofs.lemmas.Bool.Decides.{nat_tests}
 use Rattle.job_gen.specs.Generator.{generated}
-use Rattle.tc_job.specs.Fault.{Fault}
+use Rattle.tc_toml.specs.Fault.{Fault}
 use Rattle.tc_job.specs.Job.{job_of}
-use Rattle.tc_job.specs.declared.fault.JobFault.{JobFault}
-use Rattle.tc_job.specs.declared.fault.JobFault.TheVariants as faults
+use Rattle.tc_toml.specs.declared.fault.JobFault.{JobFault}
+use Rattle.tc_toml.specs.declared.fault.JobFault.TheVariants as faults
 use Rattle.tc_job.specs.declared.job.Job.{Job}
 use Rattle.std.specs.List.{list_any}
 use Rattle.tc_report.specs.declared.rows.Row.{Row}

@@ -3,7 +3,7 @@ use Rattle.std.specs.Prelude.{ℕ, nat_lt, Bool, true, if◌then◌else◌, List
 use Rattle.argo_grid.specs.declared.report.GridReport.{GridReport}
 use Rattle.argo_grid.specs.Report as grid
 use Rattle.job_gen.specs.Generator.{generated}
-use Rattle.tc_job.specs.Fault.{Fault, fault_text}
+use Rattle.tc_toml.specs.Fault.{Fault, fault_text}
 use Rattle.tc_job.specs.Job.{job_of}
 use Rattle.tc_job.specs.declared.job.Job.{Job}
 use Rattle.tc_report.specs.declared.rows.Row.{Row}

@@ -27,9 +27,10 @@ use std::alloc::{AllocError, Global};
 use std::sync::Wait;
 use std::thread::Threads;
 use tc_io::Gate;
-use tc_job::{Job, JobError, JobFault, put_fault, read_job};
+use tc_job::{Job, read_job};
 use tc_report::Row;
 use tc_run::{loaded_with_words, run_machine};
+use tc_toml::{JobError, JobFault, put_fault};
 use tc_word::{List, OutOfMemory};
 
 /// A status and the text that is written with it.

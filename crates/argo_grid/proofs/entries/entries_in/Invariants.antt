@@ -1,6 +1,6 @@
 use Rattle.std.proofs.Common.{◌≡◌, drop, length}
-use Rattle.tc_job.specs.Values.{each_of}
-use Rattle.tc_job.proofs.Each.{behind}
+use Rattle.tc_toml.specs.Values.{each_of}
+use Rattle.tc_toml.proofs.Each.{behind}
 use Rattle.argo_grid.specs.Read.{entry_of}
 use Rattle.argo_grid.proofs.entries.entries_in.Given as goal
 

@@ -1,7 +1,7 @@
 use Rattle.std.proofs.Common.{◌≡◌, drop}
 use Rattle.toml.specs.View.{items_view}
-use Rattle.tc_job.specs.Values.{each_item}
-use Rattle.tc_job.proofs.Each.{behind}
+use Rattle.tc_toml.specs.Values.{each_item}
+use Rattle.tc_toml.proofs.Each.{behind}
 use Rattle.argo_grid.specs.Read.{integers_at}
 use Rattle.argo_grid.proofs.entries.lists_of.Given as goal
 

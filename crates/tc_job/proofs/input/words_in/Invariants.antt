@@ -1,7 +1,7 @@
 use Rattle.std.proofs.Common.{◌≡◌, drop, length}
 use Rattle.tc_job.specs.Input.{word_of}
-use Rattle.tc_job.specs.Values.{each_of}
-use Rattle.tc_job.proofs.Each.{behind}
+use Rattle.tc_toml.specs.Values.{each_of}
+use Rattle.tc_toml.proofs.Each.{behind}
 use Rattle.tc_job.proofs.input.words_in.Given as goal
 
 abbrev pub invariant-loop-integer : goal.invariant-loop-integer

@@ -1,7 +1,7 @@
 use Rattle.std.proofs.Common.{◌≡◌, drop}
 use Rattle.tc_job.specs.SlotTable.{core_of}
-use Rattle.tc_job.specs.Values.{each_of}
-use Rattle.tc_job.proofs.Each.{behind}
+use Rattle.tc_toml.specs.Values.{each_of}
+use Rattle.tc_toml.proofs.Each.{behind}
 use Rattle.tc_job.proofs.slots.cores_in.Given as goal
 
 abbrev pub invariant-loop-integer : goal.invariant-loop-integer

@@ -6,15 +6,15 @@ use Rattle.tc_run.proofs.crew.Crew.run_here.Goals as goal
 
 pub returns-clause-carries : goal.returns-clause-carries
 returns-clause-carries g c =
-    beside_same c.args.board.now c.args.self.now.here.items c.run_through.new.workers.items (flat_map (λ h. h.promise.was.value.items) c.args.self.now.away.items) c.run_through.ensures.carries
+    beside_same c.args.board.now c.args.self.now.here.items c.run_on.new.workers.items (flat_map (λ h. h.promise.was.value.items) c.args.self.now.away.items) c.run_on.ensures.carries
 
 pub returns-clause-ready : goal.returns-clause-ready
 returns-clause-ready g c = λ workers groups ready.
-    let b = c.args.board.now in let here = c.run_through.new.workers.items in let away = flat_map (λ h. h.promise.was.value.items) c.args.self.now.away.items in
-    let carries = beside_same b c.args.self.now.here.items here away c.run_through.ensures.carries in
+    let b = c.args.board.now in let here = c.run_on.new.workers.items in let away = flat_map (λ h. h.promise.was.value.items) c.args.self.now.away.items in
+    let carries = beside_same b c.args.self.now.here.items here away c.run_on.ensures.carries in
     record {
       on = (beside_same b (workers_of c.args.self.now) (here ++ away) workers carries).on ready.on;
       away = ready.away;
-      room = omega (arith, ready.room, carries.count, c.run_through.ensures.room);
+      room = omega (arith, ready.room, carries.count, c.run_on.ensures.room);
       threads = ready.threads;
     }
