@@ -1,7 +1,7 @@
 -- The test of two entries and the places where their routes meet.
 use Rattle.std.proofs.Common.{◌≡◌, ℕ, zero, suc, ◌+◌, ◌%◌, Bool, true, false, ◌&&◌, not, ◌==◌, nat_lt, inl, inr, List, [], ◌∷◌, Some, slice_get, IsTrue, ◌↔◌, refl, sym, ap, ◌∙◌, subst, arith}
 use Rattle.std.specs.List.{list_any}
-use Rattle.std.proofs.lemmas.Bool.{eq-eqb, eqb-true, ne_eqb, ltb-true}
+use Rattle.std.proofs.lemmas.Bool.{eq-eqb, eqb-true, ne_eqb, ltb-true, and_parts, and_from}
 use Rattle.std.proofs.lemmas.Bool.Decides.{nat_tests}
 use Rattle.argo_grid.specs.Grid.{routers}
 use Rattle.argo_grid.specs.declared.grid.Entry.{Entry}
@@ -14,13 +14,6 @@ use Rattle.argo_grid.specs.Schedule.{Schedule}
 use Rattle.argo_grid.specs.Correct.{IsInRange}
 use Rattle.argo_grid.specs.Check.{in_range, Use, uses_from, uses_of, same_router, same_link, same_use, shares, MeetIn}
 use Rattle.argo_grid.proofs.Lists.{true_or_false, passes_any}
-
-both : (a b : Bool) → a ≡ true → b ≡ true → (a && b) ≡ true
-both a b p q = cc
-
-pub each : (a b : Bool) → (a && b) ≡ true → (a ≡ true) × (b ≡ true)
-each true b h = (refl, h)
-each false b h = cc
 
 -- an element of a list that passes a test
 pub record Passes {X : Type 0} (p : X → Bool) (xs : List X) : Type 0 where
@@ -40,11 +33,11 @@ any_passes p (x ∷ xs) h = elim (true_or_false (p x)) [
 
 same_router_true : (a b : Router) → same_router a b ≡ true → a ≡ b
 same_router_true a b h =
-    let parts = each (a.column == b.column) (a.row == b.row) h in
+    let parts = and_parts (a.column == b.column) (a.row == b.row) h in
     λ i. record { column = eqb-true a.column b.column parts.0 i; row = eqb-true a.row b.row parts.1 i }
 
 same_router_refl : (a : Router) → same_router a a ≡ true
-same_router_refl a = both (a.column == a.column) (a.row == a.row) (eq-eqb a.column a.column refl) (eq-eqb a.row a.row refl)
+same_router_refl a = and_from (a.column == a.column) (a.row == a.row) (eq-eqb a.column a.column refl) (eq-eqb a.row a.row refl)
 
 same_link_true : (a b : Link) → same_link a b ≡ true → a ≡ b
 same_link_true (Inject core) (Inject other) h = ap Inject (eqb-true core other h)
@@ -52,7 +45,7 @@ same_link_true (Inject core) (Between from to) h = cc
 same_link_true (Inject core) (Eject other) h = cc
 same_link_true (Between from to) (Inject other) h = cc
 same_link_true (Between from to) (Between from' to') h =
-    let parts = each (same_router from from') (same_router to to') h in
+    let parts = and_parts (same_router from from') (same_router to to') h in
     λ i. Between (same_router_true from from' parts.0 i) (same_router_true to to' parts.1 i)
 same_link_true (Between from to) (Eject other) h = cc
 same_link_true (Eject core) (Inject other) h = cc
@@ -61,7 +54,7 @@ same_link_true (Eject core) (Eject other) h = ap Eject (eqb-true core other h)
 
 same_link_refl : (a : Link) → same_link a a ≡ true
 same_link_refl (Inject core) = eq-eqb core core refl
-same_link_refl (Between from to) = both (same_router from from) (same_router to to) (same_router_refl from) (same_router_refl to)
+same_link_refl (Between from to) = and_from (same_router from from) (same_router to to) (same_router_refl from) (same_router_refl to)
 same_link_refl (Eject core) = eq-eqb core core refl
 
 -- what is used at a place of the route
@@ -90,7 +83,7 @@ unfolding shares
 shared_means s e other h =
     let own = any_passes (λ u. list_any (same_use u) (uses_of s other)) (uses_of s e) h in
     let found = any_passes (same_use own.value) (uses_of s other) own.passes in
-    let parts = each (same_link own.value.link found.value.link) (own.value.slot == found.value.slot) found.passes in
+    let parts = and_parts (same_link own.value.link found.value.link) (own.value.slot == found.value.slot) found.passes in
     let here = used_at s.length e.slot (links_for s.grid e) own.place own.value own.here in
     let there = used_at s.length other.slot (links_for s.grid other) found.place found.value found.here in
     record {
@@ -111,7 +104,7 @@ meeting_shares s e other m =
     (use_at s.length e.slot (links_for s.grid e) m.place m.link m.here)
     (passes_any (same_use own) (uses_of s other) m.other_place found
     (use_at s.length other.slot (links_for s.grid other) m.other_place m.link m.there)
-    (both (same_link m.link m.link) (own.slot == found.slot) (same_link_refl m.link) (eq-eqb own.slot found.slot m.together)))
+    (and_from (same_link m.link m.link) (own.slot == found.slot) (same_link_refl m.link) (eq-eqb own.slot found.slot m.together)))
 
 pub shares_exactly : (s : Schedule) (e other : Entry) → (shares s e other ≡ true) ↔ MeetIn s.length e.slot (links_for s.grid e) other.slot (links_for s.grid other)
 shares_exactly s e other = (shared_means s e other, meeting_shares s e other)
@@ -135,9 +128,9 @@ shares_by_places s e other b period slot other_slot own theirs is_period is_slot
 -- the test of an entry's numbers
 pub in_range_means : (s : Schedule) (e : Entry) → in_range s e ≡ true → IsInRange s e
 in_range_means s e h =
-    let first = each (nat_lt e.slot s.length && nat_lt e.from (routers s.grid) && nat_lt e.to (routers s.grid)) (not (e.from == e.to)) h in
-    let second = each (nat_lt e.slot s.length && nat_lt e.from (routers s.grid)) (nat_lt e.to (routers s.grid)) first.0 in
-    let third = each (nat_lt e.slot s.length) (nat_lt e.from (routers s.grid)) second.0 in
+    let first = and_parts (nat_lt e.slot s.length && nat_lt e.from (routers s.grid) && nat_lt e.to (routers s.grid)) (not (e.from == e.to)) h in
+    let second = and_parts (nat_lt e.slot s.length && nat_lt e.from (routers s.grid)) (nat_lt e.to (routers s.grid)) first.0 in
+    let third = and_parts (nat_lt e.slot s.length) (nat_lt e.from (routers s.grid)) second.0 in
     record {
       slot = ltb-true e.slot s.length third.0;
       from = ltb-true e.from (routers s.grid) third.1;

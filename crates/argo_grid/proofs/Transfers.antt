@@ -1,12 +1,13 @@
 -- A transfer goes on to its end: in each round of windows one packet of it is sent.
 use Rattle.std.proofs.Common.{◌≡◌, ◌≢◌, ℕ, zero, suc, ◌+◌, ◌-◌, ◌*◌, ◌/◌, ◌%◌, ◌<◌, ◌≤◌, true, false, ◌==◌, nat_lt, nat_le, ◌⊎◌, inl, inr, List, [], ◌∷◌, length, get_or, slice_get, Some, Contains, refl, sym, ap, ◌∙◌, subst, arith}
 use Rattle.std.proofs.Math.ListN.{length-set}
-use Rattle.std.proofs.Math.Nat.{add-mod-mod, mod-eq_of_lt}
+use Rattle.std.proofs.Math.Nat.{mod-eq_of_lt}
 use Rattle.std.proofs.lemmas.Bool.{cases_lt, cases_eq, eq-eqb}
 use Rattle.std.proofs.lemmas.Bool.Decides.{nat_tests}
 use Rattle.std.proofs.lemmas.List.{get_or-set_same}
-use Rattle.std.proofs.lemmas.Nat.{div-add-mod', mod_below, mod-mul-add}
+use Rattle.std.proofs.lemmas.Nat.{mod-mul-add}
 use Rattle.std.proofs.lemmas.Option.{slice_get-get_or}
+use Rattle.slot_arbiter.proofs.Turns.{reach}
 use Rattle.shared_order.specs.declared.operation.Operation.{Operation}
 use Rattle.shared_order.specs.Operation.{load, store}
 use Rattle.argo_ni.specs.declared.packet.Packet.{Packet}
@@ -24,13 +25,6 @@ use Rattle.argo_ni.proofs.Acts.{sends_means}
 use Rattle.argo_grid.specs.Transfer.{latency_of, IsOneOf, Cycle, heard, delivering, injecting, after_cycle, before, IsBrought}
 use Rattle.argo_grid.proofs.Lists.{true_or_false, Has, contains, has_append, has_last}
 use Rattle.argo_grid.proofs.Turns.{IsDelivered, is_delivered, stores, is_injected, is_idle, LeavesChannel, touches_leave, other_channel}
-
--- a core's turn to send to each of the others comes in each round of windows
-reach : (m first j : ℕ) → j < m → (k : ℕ) × ((k < m) × ((first + k) % m ≡ j))
-reach m first j h =
-    let away : ℕ = j + (m - first % m) in
-    let whole : first + (j + (m - first % m)) ≡ (first / m + 1) * m + j = omega (arith, div-add-mod' first m, mod_below first m (omega arith)) in
-    (away % m, (mod_below away m (omega arith), add-mod-mod first away m ∙ ap (λ x. x % m) whole ∙ mod-mul-add (first / m + 1) m j h))
 
 -- a window in which the core sends to the target, from a cycle on
 record NextWindow (n core d cycle : ℕ) : Type 0 where

@@ -16,11 +16,6 @@ record Faulty (s : Schedule) (i : ℕ) : Type 0 where
   next : IsNext s i entry
   faulty : ¬ IsFaultless s i entry
 
-place_of : GridFault → ℕ
-place_of (Range i) = i
-place_of (Late i needs) = i
-place_of (Shared i j) = i
-
 faulty_out : (s : Schedule) (i : ℕ) → IsOutOfRange s i → Faulty s i
 faulty_out s i h = record { entry = h.entry; next = h.next; faulty = λ good. h.outside good.in_range }
 

@@ -1,5 +1,5 @@
--- The check of a schedule, worked out: packets of two entries meet exactly where their entries use one link
--- in one slot of the period.
+-- To be believed. The check of a schedule, worked out: packets of two entries meet exactly where their
+-- entries use one link in one slot of the period.
 use Rattle.std.specs.Prelude.{◌≡◌, ℕ, ◌+◌, ◌%◌, ◌==◌, ◌&&◌, Bool, not, nat_lt, if◌then◌else◌, List, [], ◌∷◌, ◌++◌, length, slice_get, Option, Some, None, option_map, Result, Ok, Err, false, position}
 use Rattle.std.specs.List.{list_any}
 use Rattle.argo_grid.specs.declared.grid.Entry.{Entry}
@@ -60,7 +60,8 @@ pub record MeetIn (period slot : ℕ) (links : List Link) (other_slot : ℕ) (ot
   pub together : (slot + place) % period ≡ (other_slot + other_place) % period
 
 abbrev pub in_range : Schedule → Entry → Bool
-in_range s e = nat_lt e.slot s.length && nat_lt e.from (routers s.grid) && nat_lt e.to (routers s.grid) && not (e.from == e.to)
+in_range s e =
+    nat_lt e.slot s.length && nat_lt e.from (routers s.grid) && nat_lt e.to (routers s.grid) && not (e.from == e.to)
 
 -- the first fault of the entry that follows these
 abbrev pub fault_of : Schedule → List Entry → Entry → Option GridFault

@@ -1,4 +1,4 @@
--- What a schedule has to keep, and what is wrong with one that does not.
+-- To be believed. What a schedule has to keep, and what is wrong with one that does not.
 use Rattle.std.specs.Prelude.{◌≡◌, ◌≢◌, ℕ, ◌<◌, slice_get, Some}
 use Rattle.argo_grid.specs.declared.grid.Entry.{Entry}
 use Rattle.argo_grid.specs.declared.fault.GridFault.{GridFault}

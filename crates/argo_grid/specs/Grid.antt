@@ -1,4 +1,4 @@
--- A grid of routers, one for each core, in rows.
+-- To be believed. A grid of routers, one for each core, in rows.
 use Rattle.std.specs.Prelude.{ℕ, ◌*◌, ◌/◌, ◌%◌}
 use Rattle.argo_grid.specs.declared.grid.Grid.{Grid}
 use Rattle.argo_grid.specs.declared.route.Router.{Router}

@@ -1,5 +1,5 @@
--- When a packet uses a link. An entry sends a packet in its slot of every period, for ever, and the packet
--- moves on by one link in every slot.
+-- To be believed. When a packet uses a link. An entry sends a packet in its slot of every period, for ever,
+-- and the packet moves on by one link in every slot.
 use Rattle.std.specs.Prelude.{◌≡◌, ℕ, ◌+◌, ◌*◌, ◌<◌, ◌≤◌, length, slice_get, Some}
 use Rattle.argo_grid.specs.declared.grid.Grid.{Grid}
 use Rattle.argo_grid.specs.declared.grid.Entry.{Entry}

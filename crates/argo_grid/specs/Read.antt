@@ -1,5 +1,5 @@
--- The schedule that bytes stand for, or the first of their faults. The form is our own: a text in TOML with
--- the keys `columns`, `rows`, `length` and `entries`, whose faults are told as those of a job.
+-- To be believed. The schedule that bytes stand for, or the first of their faults. The form is our own: a text in TOML
+-- with the keys `columns`, `rows`, `length` and `entries`, whose faults are told as those of a job.
 use Rattle.std.specs.Prelude.{ℕ, ℤ, pos, negsuc, ◌*◌, Bool, ◌&&◌, ◌||◌, nat_le, if◌then◌else◌, List, [], ◌∷◌, length, codes, bytes_eq, Option, Some, None, Result, Ok, Err}
 use Rattle.std.specs.Option.{option_and_then}
 use Rattle.toml.specs.Data.{Data, Members, no_members, member, get_member, as_integer, as_array}
@@ -13,7 +13,9 @@ use Rattle.argo_grid.specs.declared.grid.Entry.{Entry}
 use Rattle.argo_grid.specs.Schedule.{Schedule}
 
 abbrev pub is_key : List ℕ → Bool
-is_key key = bytes_eq key (codes "columns") || bytes_eq key (codes "rows") || bytes_eq key (codes "length") || bytes_eq key (codes "entries")
+is_key key =
+    bytes_eq key (codes "columns") || bytes_eq key (codes "rows") || bytes_eq key (codes "length")
+    || bytes_eq key (codes "entries")
 
 -- Every key is one of these, or else the first that is not is at fault. Members stand in the order of their
 -- keys' bytes, so that it is the least of them.
@@ -24,7 +26,8 @@ known_keys (member key d others) = if is_key key then known_keys others
 
 -- rows that make a grid of 2 to 16 routers
 abbrev pub fitting_rows : ℕ → ℕ → Result ℕ JobFault
-fitting_rows columns rows = if nat_le 2 (columns * rows) && nat_le (columns * rows) 16 then Ok rows else Err faults.Range
+fitting_rows columns rows =
+    if nat_le 2 (columns * rows) && nat_le (columns * rows) 16 then Ok rows else Err faults.Range
 
 unfoldable pub rows_in : ℕ → Members → Result ℕ Fault
 rows_in columns ms = do
@@ -42,7 +45,8 @@ part_of (negsuc n) = None
 
 -- the entry of four parts, where each is there
 abbrev pub entry_with : Option ℕ → Option ℕ → Option ℕ → Option ℕ → Option Entry
-entry_with (Some slot) (Some from) (Some to) (Some arrive) = Some (record { slot = slot; from = from; to = to; arrive = arrive })
+entry_with (Some slot) (Some from) (Some to) (Some arrive) =
+    Some (record { slot = slot; from = from; to = to; arrive = arrive })
 entry_with _ _ _ _ = None
 
 -- an entry is four numbers: its slot, the cores that send and receive, and when its packets have arrived

@@ -1,4 +1,4 @@
--- What is written for the bytes of a schedule. The form is our own; docs/GRID.md explains it to users.
+-- To be believed. What is written for the bytes of a schedule. The form is our own; docs/GRID.md explains it to users.
 use Rattle.std.specs.Prelude.{ℕ, List, [], ◌∷◌, ◌++◌, codes, Result, Ok, Err}
 use Rattle.std.specs.Fmt.{decimal}
 use Rattle.local_store.specs.declared.map.TheConstants.{COMM_WORDS}
@@ -17,7 +17,7 @@ use Rattle.argo_grid.specs.Transfer.{latency_of}
 abbrev pub line : List ℕ → List ℕ
 line text = text ++ 10 ∷ []
 
--- a number behind words, and another behind others
+-- a number after words, and another after others
 abbrev pub two_numbers : List ℕ → ℕ → List ℕ → ℕ → List ℕ
 two_numbers words first others second = words ++ decimal first ++ others ++ decimal second
 

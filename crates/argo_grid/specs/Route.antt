@@ -1,5 +1,5 @@
--- The way of a packet through the grid: first along the row of its sender to the column of its target, and
--- then along that column (X-then-Y routing; the links of a core into its router and back out of it count).
+-- To be believed. The way of a packet through the grid: first along the row of its sender to the column of its target,
+-- and then along that column (X-then-Y routing; the links of a core into its router and back out of it count).
 use Rattle.std.specs.Prelude.{ℕ, zero, suc, ◌+◌, ◌-◌, ◌==◌, nat_lt, if◌then◌else◌, List, [], ◌∷◌, ◌++◌}
 use Rattle.std.specs.Int.{abs_diff}
 use Rattle.argo_grid.specs.declared.grid.Grid.{Grid}

@@ -1,5 +1,5 @@
--- A schedule of the network (Argo: Schoeberl et al., 2015): in each period of so many slots of three cycles,
--- each entry sends one packet.
+-- To be believed. A schedule of the network (Argo: Schoeberl et al., 2015): in each period of so many
+-- slots of three cycles, each entry sends one packet.
 use Rattle.std.specs.Prelude.{ℕ, ◌≤◌, List, length}
 use Rattle.argo_grid.specs.declared.job.TheConstants.{MOST_ENTRIES, MOST_PERIOD}
 use Rattle.argo_grid.specs.declared.grid.Grid.{Grid}

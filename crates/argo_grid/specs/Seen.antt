@@ -1,4 +1,4 @@
--- What contracts see of a schedule's fields.
+-- To be believed. What contracts see of a schedule's fields.
 use Rattle.argo_grid.specs.declared.job.GridJob.TheInside.{Inside}
 use Rattle.argo_grid.specs.Schedule.{Schedule}
 

@@ -1,4 +1,4 @@
--- A transfer between two communication memories, from its start until its last word has come.
+-- To be believed. A transfer between two communication memories, from its start until its last word has come.
 use Rattle.std.specs.Prelude.{◌≡◌, ℕ, zero, suc, ◌+◌, ◌-◌, ◌*◌, ◌/◌, ◌<◌, ◌≤◌, List, [], ◌∷◌, length, Contains}
 use Rattle.shared_order.specs.Operation.{load, store}
 use Rattle.shared_order.specs.Program.{Fed, fed}

@@ -1,4 +1,4 @@
--- Grids and schedules for worked values.
+-- For worked rows. Grids and schedules for worked values.
 use Rattle.std.specs.Prelude.{ℕ, ◌+◌, [], ◌∷◌}
 use Rattle.argo_ni.specs.Interface.{Interface, new_interface}
 use Rattle.argo_ni.specs.Start.{with_source, with_target}

@@ -143,7 +143,7 @@ fn put(text: &mut Vec<u8>, words: &str) -> Result<(), OutOfMemory>
     text.extend_from_slice(words.as_bytes())
 }
 
-/// Appends words and a number behind them, twice.
+/// Appends words and a number after them, twice.
 fn put_two(
     text: &mut Vec<u8>,
     words: &str,
@@ -157,7 +157,7 @@ fn put_two(
     put_with(text, others, second)
 }
 
-/// Appends words, and a number in decimal behind them.
+/// Appends words, and a number in decimal after them.
 fn put_with(text: &mut Vec<u8>, words: &str, number: u64) -> Result<(), OutOfMemory>
     ensures { OnOk result (text.new.items ≡ text.old.items ++ (words.now ++ decimal number)) }
 {

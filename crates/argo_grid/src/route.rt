@@ -89,7 +89,7 @@ impl Route {
         self.hops() + 2
     }
 
-    /// The router behind so many links between routers.
+    /// The router after so many links between routers.
     #[tactic(auto, using(crate::proofs::Ways::along_row, crate::proofs::Ways::along_column))]
     fn router_after(&self, links: u64) -> Router
         requires { links ≤ distance self.now.start self.now.end }

@@ -15,7 +15,8 @@ use crate::route::Link;
 /// a row, with their times; and the bounds of transfers.
 #[tactic(auto, unfolding(crate::specs::Route::links_of))]
 pub fn routes_worked()
-    ensures neighbour { links_of (route two_routers 0 1) ≡ Link.Inject 0 ∷ Link.Between (router 0 0) (router 1 0) ∷ Link.Eject 1 ∷ [] }
+    ensures neighbour { links_of (route two_routers 0 1)
+        ≡ Link.Inject 0 ∷ Link.Between (router 0 0) (router 1 0) ∷ Link.Eject 1 ∷ [] }
     ensures corner { links_of (route four_routers 0 3) ≡ Link.Inject 0
         ∷ Link.Between (router 0 0) (router 1 0) ∷ Link.Between (router 1 0) (router 1 1) ∷ Link.Eject 3 ∷ [] }
     ensures back { links_of (route four_routers 3 0) ≡ Link.Inject 3

@@ -1,6 +1,6 @@
 -- Half-cycles: an even one is that of a cycle's deliveries, an odd one that of its injections.
 use Rattle.std.proofs.Common.{◌≡◌, ℕ, zero, suc, ◌+◌, ◌*◌, ◌/◌, ◌%◌, ◌<◌, ◌≤◌, Bool, true, false, ◌==◌, nat_lt, nat_le, length, set, ◌&&◌, List, [], ◌∷◌, drop, filter, not, slice_get, None, ap, sym, ◌∙◌, subst, refl, arith, inl, inr, ◌⊎◌}
-use Rattle.std.proofs.lemmas.Bool.{cases_lt, cases_eq, eq-eqb, ne_eqb, eqb-true, ltb-true, leb-true}
+use Rattle.std.proofs.lemmas.Bool.{cases_lt, cases_eq, eq-eqb, ne_eqb, eqb-true, ltb-true, leb-true, and_parts}
 use Rattle.std.proofs.lemmas.List.{get_or-replicate, get_or_past, get_or-set_same, get_or-set_other}
 use Rattle.std.proofs.Math.ListN.{length-replicate}
 use Rattle.slot_arbiter.specs.Order.{IsNext}
@@ -18,7 +18,6 @@ use Rattle.argo_ni.specs.Turn.{comes, sends, target_at, delivery, delivered, pac
 use Rattle.argo_ni.specs.Event.{IsQuiet, IsNextAct, IsPast}
 use Rattle.argo_ni.specs.Sound.{IsQueue, IsFirst, IsFirstOf}
 use Rattle.argo_ni.specs.Window.{is_used}
-use Rattle.argo_ni.proofs.Windows.{each}
 use Rattle.argo_ni.proofs.Queue.{due_from, is_empty, first_comes, first_due, first_alone, others_stay}
 
 false_unless : (b : Bool) → (b ≡ true → ⊥) → b ≡ false
@@ -181,8 +180,8 @@ pub record Sends (x : Interface) (cycle : ℕ) : Type 0 where
 
 pub sends_means : (x : Interface) (cycle : ℕ) → sends x cycle ≡ true → Sends x cycle
 sends_means x cycle here =
-    let opens = each (cycle % 3 == 0) (is_used x.cores x.core x.ports (cycle / 3)) here in
-    let used = each (nat_le 2 x.cores) (nat_lt 0 (port_to x (target_at x cycle)).channel.left) opens.1 in
+    let opens = and_parts (cycle % 3 == 0) (is_used x.cores x.core x.ports (cycle / 3)) here in
+    let used = and_parts (nat_le 2 x.cores) (nat_lt 0 (port_to x (target_at x cycle)).channel.left) opens.1 in
     record {
       window = eqb-true (cycle % 3) 0 opens.0;
       several = leb-true 2 x.cores used.0;

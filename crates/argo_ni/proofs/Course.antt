@@ -1,8 +1,8 @@
 -- The interface in its run apart: from half-cycle to half-cycle.
-use Rattle.std.proofs.Common.{◌≡◌, ℕ, suc, ◌+◌, ◌-◌, ◌*◌, ◌/◌, ◌%◌, ◌<◌, ◌≤◌, List, ◌++◌, ap, subst, arith, inl, inr}
-use Rattle.std.proofs.lemmas.Nat.{div-add-mod', mod_below, mod-mul-add, mul-le}
-use Rattle.std.proofs.lemmas.Bool.{cases_lt}
+use Rattle.std.proofs.Common.{◌≡◌, ℕ, suc, ◌+◌, ◌-◌, ◌*◌, ◌/◌, ◌%◌, ◌<◌, ◌≤◌, List, ◌++◌, ap, subst, arith}
+use Rattle.std.proofs.lemmas.Nat.{div-add-mod', mod_below, mod-mul-add}
 use Rattle.slot_arbiter.specs.Stamp.{stamp}
+use Rattle.slot_arbiter.proofs.Cycles.{slot_order}
 use Rattle.shared_order.specs.declared.operation.Operation.{Operation}
 use Rattle.shared_order.specs.Program.{Prog, fed}
 use Rattle.shared_order.specs.Stamps.{act_at}
@@ -13,13 +13,6 @@ use Rattle.argo_ni.specs.Interface.{Interface, Standing}
 use Rattle.argo_ni.specs.Turn.{turn}
 use Rattle.argo_ni.specs.Event.{stamp_in, IsQuiet}
 
--- whole numbers of n keep their order
-in_order : (a b n : ℕ) → a * n < (b + 1) * n → a ≤ b
-in_order a b n h = elim (cases_lt b a) [
-  | inl after ↦ let far : (b + 1) * n ≤ a * n = mul-le (b + 1) n a n (omega arith) (omega arith) in absurd (omega arith)
-  | inr fine ↦ fine
-]
-
 pub stays : (n core : ℕ) (x : Interface) (made : List Operation) (s : Standing) (to : ℕ) → core < n → s.from ≤ to → IsQuiet s.interface s.from to → Stands (act_at turn n) n core x made (s.from * n) s.interface → Stands (act_at turn n) n core x made (to * n) s.interface
 stays n core x made s to among later quiet stands =
     let length : s.from * n + (to - s.from) * n ≡ to * n = whole s.from to later in
@@ -28,8 +21,8 @@ stays n core x made s to among later quiet stands =
     (λ u after before own.
     let place : u ≡ u / n * n + u % n = omega (arith, div-add-mod' u n) in
     let below : u % n < n = mod_below u n (omega arith) in
-    let low : s.from ≤ u / n = in_order s.from (u / n) n (omega arith) in
-    let high : u / n + 1 ≤ to = in_order (u / n + 1) to n (omega arith) in
+    let low : s.from ≤ u / n = slot_order s.from (u / n) n (omega arith) in
+    let high : u / n + 1 ≤ to = slot_order (u / n + 1) to n (omega arith) in
     quiet (u / n / 2) (u / n % 2) (omega arith) (omega arith) (omega arith))
     stands)
   where

@@ -2,20 +2,13 @@
 use Rattle.std.proofs.Common.{◌≡◌, ◌≢◌, ℕ, ◌+◌, ◌-◌, ◌*◌, ◌/◌, ◌%◌, ◌<◌, ◌≤◌, Bool, true, false, ◌&&◌, nat_lt, nat_le, List, ap, sym, ◌∙◌, subst, refl, arith, inl, inr, ◌⊎◌, ◌==◌}
 use Rattle.std.proofs.Math.Nat.{add-mod-mod, mod-add-mod, add-mod_right, mod-eq_of_lt}
 use Rattle.std.proofs.lemmas.Nat.{mod-mul-add, mod_below, div-add-mod'}
-use Rattle.std.proofs.lemmas.Bool.{cases_lt, eq-eqb, eqb-true}
+use Rattle.std.proofs.lemmas.Bool.{cases_lt, eq-eqb, eqb-true, and_parts, and_from}
 use Rattle.std.proofs.lemmas.Bool.Decides.{nat_tests}
 use Rattle.slot_arbiter.specs.Order.{IsNext}
 use Rattle.argo_ni.specs.declared.port.Port.{Port}
 use Rattle.argo_ni.specs.Port.{port_at}
 use Rattle.argo_ni.specs.Window.{target_in, is_used, sends_in}
 use Rattle.slot_arbiter.proofs.Turns.{reach}
-
-both : (a b : Bool) → a ≡ true → b ≡ true → (a && b) ≡ true
-both a b p q = cc
-
-pub each : (a b : Bool) → (a && b) ≡ true → (a ≡ true) × (b ≡ true)
-each true b h = (refl, h)
-each false b h = cc
 
 neither : (a : Bool) → (a && false) ≡ false
 neither true = refl
@@ -57,10 +50,10 @@ sends_next n core ports from first window after near h = record {
   passes =
       let whole : 3 * window % 3 ≡ 0 = omega arith in
       let third : 3 * window / 3 ≡ window = omega arith in
-      both (3 * window % 3 == 0) (is_used n core ports (3 * window / 3)) (eq-eqb (3 * window % 3) 0 whole) (ap (is_used n core ports) third ∙ h.passes);
+      and_from (3 * window % 3 == 0) (is_used n core ports (3 * window / 3)) (eq-eqb (3 * window % 3) 0 whole) (ap (is_used n core ports) third ∙ h.passes);
   from = omega (arith, h.from);
   least = λ v at sent.
-      let parts = each (v % 3 == 0) (is_used n core ports (v / 3)) sent in
+      let parts = and_parts (v % 3 == 0) (is_used n core ports (v / 3)) sent in
       let whole : v % 3 ≡ 0 = eqb-true (v % 3) 0 parts.0 in
       let least : window ≤ v / 3 = h.least (v / 3) (omega arith) parts.1 in
       omega arith;
@@ -134,7 +127,7 @@ never_left n core d ports among below other none = elim (cases_lt core d) [
               subst (λ t. 0 < (port_at ports t).channel.left) (sym to) some in
               let used : is_used n core ports k ≡ true = used_here n core k ports several there in
               let sent : sends_in n core ports (3 * k) ≡ true =
-              both (3 * k % 3 == 0) (is_used n core ports (3 * k / 3)) (eq-eqb (3 * k % 3) 0 whole) (ap (is_used n core ports) third ∙ used) in
+              and_from (3 * k % 3 == 0) (is_used n core ports (3 * k / 3)) (eq-eqb (3 * k % 3) 0 whole) (ap (is_used n core ports) third ∙ used) in
               absurd (let no : true ≡ false = cc in cc)
           | inr empty ↦ omega arith
         ]

@@ -1,4 +1,4 @@
--- Events of an interface: the next injection or delivery.
+-- To be believed. Events of an interface: the next injection or delivery.
 use Rattle.std.specs.Prelude.{◌≡◌, ℕ, ◌+◌, ◌*◌, ◌<◌, ◌≤◌, true, List, [], take}
 use Rattle.slot_arbiter.specs.Order.{IsNext}
 use Rattle.shared_order.specs.Program.{done, gets, sets}

@@ -1,4 +1,4 @@
--- The network interface of one core.
+-- To be believed. The network interface of one core.
 use Rattle.std.specs.Prelude.{◌≢◌, ℕ, ◌<◌, List, []}
 use Rattle.argo_ni.specs.declared.port.Port.{Port}
 use Rattle.argo_ni.specs.declared.packet.Packet.{Packet}

@@ -1,4 +1,4 @@
--- The packets under way as the code keeps them.
+-- To be believed. The packets under way as the code keeps them.
 use Rattle.std.specs.Prelude.{List, [], ◌∷◌}
 use Rattle.argo_ni.specs.declared.packet.Packet.{Packet}
 use Rattle.argo_ni.specs.declared.under_way.Line.{Line}

@@ -1,4 +1,4 @@
--- A packet of the network, which carries one or two words from one communication memory to another
+-- To be believed. A packet of the network, which carries one or two words from one communication memory to another
 -- (Argo: Schoeberl et al., 2015; sizes and times are our own profile TP1's).
 use Rattle.std.specs.Prelude.{ℕ, ◌+◌, ◌*◌, true, false, ◌==◌, List, [], ◌∷◌}
 use Rattle.shared_order.specs.Program.{Prog, sets, first, others}

@@ -1,4 +1,4 @@
--- What a network interface has for one target: the registers that the core has set, and the channel
+-- To be believed. What a network interface has for one target: the registers that the core has set, and the channel
 -- of words on their way out (Argo, the message-passing network of T-CREST: Schoeberl et al., 2015;
 -- the registers and their ranges are our own profile TP1's).
 use Rattle.std.specs.Prelude.{ℕ, ◌+◌, ◌≤◌, List, replicate, slice_index_or}

@@ -1,4 +1,4 @@
--- Ranges of an interface: what it sends lies within the communication memories and is words of 32
+-- To be believed. Ranges of an interface: what it sends lies within the communication memories and is words of 32
 -- bits.
 use Rattle.std.specs.Prelude.{ℕ, ◌+◌, ◌^◌, ◌<◌, ◌≤◌, length}
 use Rattle.std.specs.List.{AllByRecursion as Each}

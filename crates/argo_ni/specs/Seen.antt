@@ -1,4 +1,4 @@
--- What contracts see of an interface's fields.
+-- To be believed. What contracts see of an interface's fields.
 use Rattle.argo_ni.specs.declared.ni.Ni.TheInside.{Inside}
 use Rattle.argo_ni.specs.Interface.{Standing}
 

@@ -1,4 +1,4 @@
--- A core that does nothing but fill its communication memory and start transfers, for worked values.
+-- For worked rows. A core that does nothing but fill its communication memory and start transfers, for worked values.
 use Rattle.std.specs.Prelude.{ℕ, zero, suc, true, false, ◌==◌, List, [], ◌∷◌}
 use Rattle.shared_order.specs.Program.{Prog, done, and_then, sets}
 use Rattle.argo_ni.specs.Packet.{comm_word}

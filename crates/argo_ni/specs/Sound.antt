@@ -1,4 +1,4 @@
--- What an interface keeps from call to call.
+-- For proofs. What an interface keeps from call to call.
 use Rattle.std.specs.Prelude.{◌≡◌, ◌≢◌, ℕ, ◌+◌, ◌*◌, ◌%◌, ◌<◌, ◌≤◌, List, [], ◌∷◌, length, drop}
 use Rattle.std.specs.List.{AllByRecursion as Each}
 use Rattle.argo_ni.specs.declared.port.Port.{Port}

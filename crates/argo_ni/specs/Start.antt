@@ -1,4 +1,4 @@
--- What a core does to its interface: it sets the source and the target word of a transfer, and
+-- To be believed. What a core does to its interface: it sets the source and the target word of a transfer, and
 -- starts it by storing the number of words (our own profile TP1). The count is not kept: it goes
 -- straight to the channel.
 use Rattle.std.specs.Prelude.{ℕ, ◌+◌, ◌-◌, ◌*◌, ◌^◌, min, true, false, Bool, ◌&&◌, ◌==◌, nat_lt, nat_le, slice_set}

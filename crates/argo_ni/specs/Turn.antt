@@ -1,4 +1,4 @@
--- The interface cycle by cycle: what it does in the two phases of a cycle, as programs on the shared
+-- To be believed. The interface cycle by cycle: what it does in the two phases of a cycle, as programs on the shared
 -- words. Packets are delivered nine cycles after their injection (our own profile TP1).
 use Rattle.std.specs.Prelude.{ℕ, zero, suc, ◌+◌, ◌-◌, ◌/◌, ◌%◌, min, true, false, Bool, not, ◌==◌, List, [], ◌∷◌, ◌++◌, filter}
 use Rattle.std.specs.List.{list_any}

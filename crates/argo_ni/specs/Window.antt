@@ -1,4 +1,4 @@
--- Windows: time-division multiplexing of the network (Argo: Schoeberl et al., 2015; the schedule is
+-- To be believed. Windows: time-division multiplexing of the network (Argo: Schoeberl et al., 2015; the schedule is
 -- our own profile TP1's). A window begins every third cycle, and in the windows one after another a
 -- core's turn comes to each of the others in the order of their distance from it. So no two cores
 -- ever send to the same target in one window.

@@ -121,7 +121,8 @@ impl Ni {
     pub fn next_after(&self, stamp: u64) -> Option<NiEvent>
         requires clear { IsClear self.now stamp }
         ensures next { IfSome result (λ e. IsNextAct self.now (half_of e)) }
-        ensures above { IfSome result (λ e. stamp < stamp_in self.now.interface.cores self.now.interface.core (half_of e)) }
+        ensures above { IfSome result (λ e. stamp
+            < stamp_in self.now.interface.cores self.now.interface.core (half_of e)) }
         ensures event { IfSome result (IsDone self.now.interface) }
         ensures between { IfSome result (λ e. IsQuiet self.now.interface self.now.from (half_of e)) }
         ensures bounded { IfSome result (λ e. e.cycle ≤ 2 * MOST_CYCLES) }
@@ -204,7 +205,8 @@ impl Ni {
         ensures near { IfSome result (λ cycle. 2 * cycle + 1 < self.now.from + 90) }
         ensures bounded { IfSome result (λ cycle. cycle ≤ 2 * MOST_CYCLES) }
         ensures none { IsNone result → (cycle : ℕ) → sends self.now.interface cycle ≡ false }
-        ensures left { IsNone result → (d : ℕ) → IsTarget self.now.interface d → (port_to self.now.interface d).channel.left ≡ 0 }
+        ensures left { IsNone result → (d : ℕ) → IsTarget self.now.interface d
+            → (port_to self.now.interface d).channel.left ≡ 0 }
     {
         next_send(&self.ports, self.cores, self.core, self.from)
     }

@@ -6,8 +6,8 @@ ghost use Rattle.argo_ni.specs.Start.{with_source, with_target, started};
 ghost use Rattle.argo_ni.specs.Turn.{turn};
 ghost use Rattle.argo_ni.specs.Range.{InRange};
 
-/// An interface in range names only words of shared and communication memory, stores only words of 32
-/// bits, and stays in range, through its turns, its registers being set, and transfers being started. A law: it does nothing.
+/// An interface in range names only words of shared and communication memory, stores only words of 32 bits, and stays
+/// in range, through its turns, its registers being set, and transfers being started. A law: it does nothing.
 pub fn interface_keeps_ranges()
     ensures turn { (x : Interface) (phase cycle words : ℕ) → InRange x → comm_word x.cores 0 ≤ words
         → IsFit InRange words (turn phase cycle x) }

@@ -4,13 +4,13 @@ use Rattle.std.specs.Prelude.{◌⊎◌}
 use Rattle.std.proofs.lemmas.Grind.{get_or-set_at}
 use Rattle.std.proofs.lemmas.List.{at_drop_all}
 use Rattle.std.proofs.lemmas.Bool.{or_left, or_right, eqb-true, eqb-false, eq-eqb, cases_lt}
+use Rattle.tc_word.proofs.Items.{drop_item}
 use Rattle.sp_shape.specs.Shown.{plain_part, parts_of, functions_of}
 use Rattle.sp_shape.specs.declared.parts.Part.{Part}
 use Rattle.sp_shape.specs.Formed.{functions_formed}
 use Rattle.sp_shape.specs.Parts.{PlainPart, straight, repeats, calls_to, leaves, PlainParts, no_part, part}
 use Rattle.cycle_bound.specs.Nodes.{part_nodes, parts_nodes, functions_nodes}
 use Rattle.cycle_bound.specs.Calls.{PartCallsBelow, CallsBelow}
-use Rattle.cycle_bound.proofs.Sums.{drop_item}
 use Rattle.cycle_bound.proofs.Earlier.{functions_below}
 use Rattle.bound_persist.specs.Marks.{is_marked, HaveBelow, AreMarks}
 use Rattle.bound_persist.specs.Reached.{part_reaches, parts_reach, reaches}
@@ -85,17 +85,6 @@ module _ (fs : List PlainParts) where
       by : (k < n → reaches fs k n k ≡ true) → (b : Bool) → (k == n) ≡ b → over k n k b ≡ true
       by earlier true same = or_left (k == n) (parts_reach (reaches fs k n) (at_number n)) same
       by earlier false other = earlier (let ne = eqb-false k n other in omega (arith, less, ne))
-
-  reached_below : (m n k : ℕ) → reaches fs m n k ≡ true → m < n
-  reached_below m zero k is = absurd (true≢false (sym is))
-  reached_below m (suc n) k is = by (λ i. reached_below m n i) (k == n) is
-    where
-      by : ((i : ℕ) → reaches fs m n i ≡ true → m < n) → (b : Bool) → over m n k b ≡ true → m < suc n
-      by earlier true h = elim (or_true (m == n) (parts_reach (reaches fs m n) (at_number n)) h) [
-        | inl same ↦ let e = eqb-true m n same in omega (arith, e)
-        | inr called ↦ let one = calls_one (reaches fs m n) (at_number n) called in let less = earlier one.0 one.1.passes in omega (arith, less)
-      ]
-      by earlier false h = let less = earlier k h in omega (arith, less)
 
   onwards : HaveBelow fs → (m j n k : ℕ) → n ≤ length fs → reaches fs m n k ≡ true → parts_reach (λ i. i == j) (at_number m) ≡ true → reaches fs j n k ≡ true
   onwards below m j zero k within is calls = absurd (true≢false (sym is))

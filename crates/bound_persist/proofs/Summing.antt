@@ -1,8 +1,9 @@
 -- Sums over the functions that are reached; and the persistent bound, of what was summed up.
-use Rattle.std.proofs.Common.{◌≡◌, ℕ, zero, suc, ◌+◌, ◌*◌, ◌<◌, ◌≤◌, ◌&&◌, Bool, true, false, List, [], ◌∷◌, length, drop, get_or, replicate, slice_index, slice_index_or, sum_by, refl, ap, sym, ◌∙◌, arith, subst, add-one}
+use Rattle.std.proofs.Common.{◌≡◌, ℕ, ◌+◌, ◌*◌, ◌<◌, ◌≤◌, ◌&&◌, Bool, true, false, List, [], ◌∷◌, length, drop, get_or, slice_index_or, sum_by, refl, ap, sym, ◌∙◌, arith, subst, add-one}
 use Rattle.std.specs.Prelude.{if◌then◌else◌, nat_le}
 use Rattle.std.proofs.lemmas.Bool.{le-leb, leb-true}
 use Rattle.std.proofs.lemmas.List.Sums.{sum_by-cons}
+use Rattle.tc_word.proofs.Items.{drop_item}
 use Rattle.method_cache.specs.declared.cache.TheConstants.{MOST_METHODS, METHOD_CACHE_WORDS}
 use Rattle.sp_shape.specs.Parts.{PlainParts, no_part, PlainShape}
 use Rattle.sp_shape.specs.Shown.{parts_of, functions_of, plain_shape}
@@ -14,7 +15,6 @@ use Rattle.cycle_bound.specs.Bound.{fill_moves, shape_bound}
 use Rattle.cycle_bound.specs.Held.{held}
 use Rattle.cycle_bound.specs.Nodes.{parts_nodes, functions_nodes}
 use Rattle.cycle_bound.proofs.Holding.{held_sum}
-use Rattle.cycle_bound.proofs.Sums.{drop_item}
 use Rattle.bound_persist.specs.Marks.{is_marked, AreMarks}
 use Rattle.bound_persist.specs.Persist.{runs, fetched_once, persist}
 use Rattle.bound_persist.specs.Reached.{reaches, picked, reached, functions_words, stays}
@@ -59,11 +59,6 @@ functions_passed functions n f s a all within is e h =
     omega (arith, e, h, front)
 
 -- ---- no fetch is counted
-
-pub none_counted : (n k : ℕ) → slice_index (replicate n 0) k ≡ 0
-none_counted zero k = refl
-none_counted (suc n) zero = refl
-none_counted (suc n) (suc k) = none_counted n k
 
 -- ---- the whole shape
 

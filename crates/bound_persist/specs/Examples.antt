@@ -1,4 +1,4 @@
--- Functions for worked examples.
+-- For worked rows. Functions for worked examples.
 use Rattle.std.specs.Prelude.{ℕ, zero, suc, List, [], ◌∷◌, ◌++◌}
 use Rattle.sp_shape.specs.Parts.{repeats, calls_to, PlainParts, part, one}
 use Rattle.sp_shape.specs.Small as small

@@ -1,6 +1,6 @@
--- The persistent bound of a shape: where all functions that are reached fit into the method cache together, none of them
--- is ever put out, so that each is fetched at most once, and no call or return has to fetch besides (after the
--- persistence analyses of the method cache; the cache's sizes are our own profile TP1's).
+-- To be believed. The persistent bound of a shape: where all functions that are reached fit into the method cache
+-- together, none of them is ever put out, so that each is fetched at most once, and no call or return has to fetch
+-- besides (after the persistence analyses of the method cache; the cache's sizes are our own profile TP1's).
 use Rattle.std.specs.Prelude.{ℕ, ◌+◌, ◌-◌, ◌*◌, if◌then◌else◌, List, length, sum_by}
 use Rattle.sp_shape.specs.Parts.{PlainParts, PlainShape}
 use Rattle.cycle_bound.specs.Bound.{bounds, fill_moves, shape_bound}
@@ -13,7 +13,8 @@ runs fs each n k = bounds fs each (λ _. 0) n k
 
 -- each function that is reached is fetched, and the entry is run
 abbrev pub fetched_once : ℕ → PlainShape → ℕ
-fetched_once each s = each * sum_by (fill_moves s.functions) (reached s) + runs s.functions each (length s.functions) s.entry
+fetched_once each s =
+    each * sum_by (fill_moves s.functions) (reached s) + runs s.functions each (length s.functions) s.entry
 
 -- where a transaction takes so many cycles at most
 abbrev pub persist : ℕ → PlainShape → ℕ

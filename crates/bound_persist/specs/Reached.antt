@@ -1,4 +1,4 @@
--- Which functions of a shape are reached: its entry, and each that a function which is reached calls.
+-- To be believed. Which functions of a shape are reached: its entry, and each that a function which is reached calls.
 use Rattle.std.specs.Prelude.{ℕ, zero, suc, ◌==◌, ◌||◌, ◌&&◌, nat_le, Bool, false, if◌then◌else◌, List, [], ◌∷◌, length, sum_by, slice_index_or}
 use Rattle.method_cache.specs.declared.cache.TheConstants.{MOST_METHODS, METHOD_CACHE_WORDS}
 use Rattle.sp_shape.specs.Parts.{PlainPart, straight, repeats, calls_to, leaves, PlainParts, no_part, part, PlainShape}
@@ -16,11 +16,12 @@ abbrev mutual
   parts_reach test no_part = false
   parts_reach test (part p rest) = part_reaches test p || parts_reach test rest
 
--- whether the function `j` is reached from the function `k`, of the first so many: a function reaches itself and what the
--- functions reach that its parts call, and these are earlier ones
+-- whether the function `j` is reached from the function `k`, of the first so many: a function reaches itself and what
+-- the functions reach that its parts call, and these are earlier ones
 abbrev pub reaches : List PlainParts → ℕ → ℕ → ℕ → Bool
 reaches fs j zero k = false
-reaches fs j (suc n) k = if k == n then (j == n || parts_reach (reaches fs j n) (slice_index_or fs n no_part)) else reaches fs j n k
+reaches fs j (suc n) k =
+    if k == n then (j == n || parts_reach (reaches fs j n) (slice_index_or fs n no_part)) else reaches fs j n k
 
 -- the numbers below one that pass a test, the greatest first
 abbrev pub picked : (ℕ → Bool) → ℕ → List ℕ
@@ -36,4 +37,5 @@ functions_words fs numbers = sum_by (λ k. parts_words (slice_index_or fs k no_p
 
 -- what is reached fits into the method cache together
 abbrev pub stays : PlainShape → Bool
-stays s = nat_le (length (reached s)) MOST_METHODS && nat_le (functions_words s.functions (reached s)) METHOD_CACHE_WORDS
+stays s =
+    nat_le (length (reached s)) MOST_METHODS && nat_le (functions_words s.functions (reached s)) METHOD_CACHE_WORDS

@@ -1,4 +1,4 @@
--- Sums over functions.
+-- For proofs. Sums over functions.
 use Rattle.std.specs.Prelude.{◌≡◌, ℕ, ◌*◌, List, length, sum_by}
 use Rattle.sp_shape.specs.Parts.{PlainParts}
 use Rattle.cycle_bound.specs.Bound.{fill_moves}

@@ -1,5 +1,5 @@
--- Functions that all fit into the method cache together: each misses at most once. No list of them need be free of
--- repetitions, since all is said by weights.
+-- To be believed. Functions that all fit into the method cache together: each misses at most once. No list of them need
+-- be free of repetitions, since all is said by weights.
 use Rattle.std.specs.Prelude.{ℕ, ◌+◌, ◌≤◌, if◌then◌else◌, List, [], ◌∷◌, sum_by}
 use Rattle.std.specs.List.{Contains}
 use Rattle.method_cache.specs.declared.cache.Method.{Method}

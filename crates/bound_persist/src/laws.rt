@@ -15,12 +15,13 @@ pub fn persistent_bounds_are_tighter()
 {}
 
 /// Where functions all fit into the method cache together and no other is touched, a function that missed stays in the
-/// cache, so that it misses no more; and whatever functions weigh (each 1, its words, the transactions of its fetch), all
-/// misses weigh no more than the functions do. A law: it does nothing.
+/// cache, so that it misses no more; and whatever functions weigh (each 1, its words, the transactions of its fetch),
+/// all misses weigh no more than the functions do. A law: it does nothing.
 #[tactic(auto, using(crate::proofs::Together::never_again, crate::proofs::Together::misses_once))]
 pub fn each_misses_once()
     ensures stays { (all before later : List Method) → fits all ≡ true → AreOf all before → AreOf all later
-        → (f : ℕ) → is_among f (misses_after [] before) ≡ true → is_among f (resident (misses_after (misses_after [] before) later)) ≡ true }
+        → (f : ℕ) → is_among f (misses_after [] before) ≡ true
+        → is_among f (resident (misses_after (misses_after [] before) later)) ≡ true }
     ensures once { (all touches : List Method) → fits all ≡ true → AreOf all touches
         → (weight : Method → ℕ) → sum_by weight (misses_after [] touches) ≤ sum_by weight all }
 {}

@@ -47,7 +47,8 @@ fn mark_entry(entry: usize) -> Marks
 fn mark_part<L: Ledger>(part: &Part, number: usize, marks: &mut Marks, steps: &mut Steps<L>)
     requires earlier { PartCallsBelow number (plain_part part.now) }
     requires number { number < MOST_FUNCTIONS }
-    ensures marks { (j : ℕ) → is_marked marks.new.set j ≡ (is_marked marks.old.set j || part_reaches (λ k. k == j) (plain_part part.now)) }
+    ensures marks { (j : ℕ) → is_marked marks.new.set j
+        ≡ (is_marked marks.old.set j || part_reaches (λ k. k == j) (plain_part part.now)) }
     ensures steps { steps.new ≤ steps.old + part_nodes (plain_part part.now) }
     ensures forward { steps.old ≤ steps.new }
 {
@@ -66,7 +67,8 @@ fn mark_part<L: Ledger>(part: &Part, number: usize, marks: &mut Marks, steps: &m
 fn mark_parts<L: Ledger>(parts: &[Part], number: usize, marks: &mut Marks, steps: &mut Steps<L>)
     requires earlier { CallsBelow number (parts_of parts.now) }
     requires number { number < MOST_FUNCTIONS }
-    ensures marks { (j : ℕ) → is_marked marks.new.set j ≡ (is_marked marks.old.set j || parts_reach (λ k. k == j) (parts_of parts.now)) }
+    ensures marks { (j : ℕ) → is_marked marks.new.set j
+        ≡ (is_marked marks.old.set j || parts_reach (λ k. k == j) (parts_of parts.now)) }
     ensures steps { steps.new ≤ steps.old + parts_nodes (parts_of parts.now) }
     ensures forward { steps.old ≤ steps.new }
 {
@@ -80,7 +82,8 @@ fn mark_parts<L: Ledger>(parts: &[Part], number: usize, marks: &mut Marks, steps
 fn mark_called<L: Ledger>(parts: &[Part], number: usize, marks: &mut Marks, steps: &mut Steps<L>)
     requires earlier { CallsBelow number (parts_of parts.now) }
     requires number { number < MOST_FUNCTIONS }
-    ensures marks { (fs : List PlainParts) (entry : ℕ) → HaveBelow fs → number < length fs → slice_index_or fs number no_part ≡ parts_of parts.now
+    ensures marks { (fs : List PlainParts) (entry : ℕ) → HaveBelow fs → number < length fs
+        → slice_index_or fs number no_part ≡ parts_of parts.now
         → AreMarks fs entry (number + 1) marks.old.set → AreMarks fs entry number marks.new.set }
     ensures steps { steps.new ≤ steps.old + (1 + parts_nodes (parts_of parts.now)) }
     ensures forward { steps.old ≤ steps.new }
@@ -92,7 +95,7 @@ fn mark_called<L: Ledger>(parts: &[Part], number: usize, marks: &mut Marks, step
 }
 
 /// The functions that are reached from the entry.
-#[tactic(auto, using(cycle_bound::proofs::Earlier::known_below, cycle_bound::proofs::Earlier::function_at, crate::proofs::Marking::functions_down))]
+#[tactic(auto, using(cycle_bound::proofs::Earlier::known_below, sp_shape::proofs::Functions::function_at, crate::proofs::Marking::functions_down))]
 pub fn mark_all<L: Ledger>(functions: &[List<Part>], entry: usize, steps: &mut Steps<L>) -> Marks
     requires most { length functions.now ≤ MOST_FUNCTIONS }
     requires formed { functions_formed (functions_of functions.now) (length functions.now) ≡ true }

@@ -41,9 +41,9 @@ fn run_of_function<L: Ledger>(
     known.bounds[number]
 }
 
-/// How many cycles the shape takes at most at the place, where each function is fetched once if all that are reached fit
-/// into the method cache together, and else as often as for [`bound`]; [`Long`] exactly where that is more than
-/// [`MOST_BOUND`](cycle_bound::MOST_BOUND).
+/// How many cycles the shape takes at most at the place, where each function is fetched once if all that are
+/// reached fit into the method cache together, and else as often as for [`bound`]; [`Long`] exactly where that is
+/// more than [`MOST_BOUND`](cycle_bound::MOST_BOUND).
 #[tactic(auto, using(cycle_bound::proofs::Earlier::shape_parts, sp_shape::proofs::Plain::functions_count, cycle_bound::proofs::Gaps::gap_some))]
 pub fn persist_bound<L: Ledger>(
     shape: &Shape,
@@ -53,7 +53,8 @@ pub fn persist_bound<L: Ledger>(
     requires formed { is_formed (plain_shape shape.now) ≡ true }
     ensures exact { (far : ℕ) → IsGap (is_slot_start place.now.table place.now.slot place.now.core) far
         → Answers result (persist (far + place.now.slot - 1) (plain_shape shape.now)) }
-    ensures number { Answers result (place_persist place.now.table place.now.slot place.now.core (plain_shape shape.now)) }
+    ensures number { Answers result
+        (place_persist place.now.table place.now.slot place.now.core (plain_shape shape.now)) }
     ensures tighter { place_persist place.now.table place.now.slot place.now.core (plain_shape shape.now)
         ≤ place_bound place.now.table place.now.slot place.now.core (plain_shape shape.now) }
     ensures steps { steps.new ≤ steps.old + 16 * nodes (plain_shape shape.now) }
@@ -75,7 +76,8 @@ pub fn persist_bound_uncounted(shape: &Shape, place: &Place) -> Result<u64, Long
     requires formed { is_formed (plain_shape shape.now) ≡ true }
     ensures exact { (far : ℕ) → IsGap (is_slot_start place.now.table place.now.slot place.now.core) far
         → Answers result (persist (far + place.now.slot - 1) (plain_shape shape.now)) }
-    ensures number { Answers result (place_persist place.now.table place.now.slot place.now.core (plain_shape shape.now)) }
+    ensures number { Answers result
+        (place_persist place.now.table place.now.slot place.now.core (plain_shape shape.now)) }
     ensures tighter { place_persist place.now.table place.now.slot place.now.core (plain_shape shape.now)
         ≤ place_bound place.now.table place.now.slot place.now.core (plain_shape shape.now) }
 {
@@ -90,7 +92,8 @@ fn bound_from<L: Ledger>(blank: Blank, shape: &Shape, place: &Place) -> Result<u
     requires formed { is_formed (plain_shape shape.now) ≡ true }
     ensures exact { (far : ℕ) → IsGap (is_slot_start place.now.table place.now.slot place.now.core) far
         → Answers result (persist (far + place.now.slot - 1) (plain_shape shape.now)) }
-    ensures number { Answers result (place_persist place.now.table place.now.slot place.now.core (plain_shape shape.now)) }
+    ensures number { Answers result
+        (place_persist place.now.table place.now.slot place.now.core (plain_shape shape.now)) }
     ensures tighter { place_persist place.now.table place.now.slot place.now.core (plain_shape shape.now)
         ≤ place_bound place.now.table place.now.slot place.now.core (plain_shape shape.now) }
 {

@@ -50,7 +50,8 @@ fn with_one<L: Ledger>(
     requires some { LEAST_EACH ≤ each }
     ensures few { result.count ≤ number + 1 }
     ensures sums { (fs : List PlainParts) → slice_index_or fs number no_part ≡ parts_of parts.now
-        → AreSums fs each (picked (is_marked marks.now.set) number) sums → AreSums fs each (picked (is_marked marks.now.set) (number + 1)) result }
+        → AreSums fs each (picked (is_marked marks.now.set) number) sums
+        → AreSums fs each (picked (is_marked marks.now.set) (number + 1)) result }
     ensures steps { steps.new ≤ steps.old + (1 + parts_nodes (parts_of parts.now)) }
     ensures forward { steps.old ≤ steps.new }
 {
@@ -69,7 +70,7 @@ fn with_one<L: Ledger>(
 }
 
 /// The sums over the functions that are marked, where a transaction takes `each` at most.
-#[tactic(auto, using(cycle_bound::proofs::Earlier::function_at, crate::proofs::Summing::sums_none, crate::proofs::Summing::functions_passed))]
+#[tactic(auto, using(sp_shape::proofs::Functions::function_at, crate::proofs::Summing::sums_none, crate::proofs::Summing::functions_passed))]
 pub fn sums_of<L: Ledger>(
     functions: &[List<Part>],
     marks: &Marks,
@@ -78,7 +79,8 @@ pub fn sums_of<L: Ledger>(
 ) -> Sums
     requires most { length functions.now ≤ MOST_FUNCTIONS }
     requires some { LEAST_EACH ≤ each }
-    ensures sums { AreSums (functions_of functions.now) each (picked (is_marked marks.now.set) (length functions.now)) result }
+    ensures sums { AreSums (functions_of functions.now) each
+        (picked (is_marked marks.now.set) (length functions.now)) result }
     ensures steps { steps.new ≤ steps.old + functions_nodes (functions_of functions.now) }
     ensures forward { steps.old ≤ steps.new }
 {

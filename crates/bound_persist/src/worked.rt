@@ -19,8 +19,8 @@ pub fn worked_persistent_bounds()
     // one function: as the bound
     ensures empty { persist 29 (small.shape_of (small.empty ∷ []) 0) ≡ 62 }
 
-    // 4 + 2 transactions to fetch both functions once; 1 bundle; three turns of 4 bundles, the 4 that are called, and 3;
-    // 1 bundle; 4 bundles
+    // 4 + 2 transactions to fetch both functions once; 1 bundle; three turns of 4 bundles, the 4
+    // that are called, and 3; 1 bundle; 4 bundles
     ensures caller { persist 29 (small.shape_of (small.empty ∷ small.caller 0 ∷ []) 1) ≡ 213 }
 
     // 3 + 2 transactions; three turns of 4 + 4 + 3 bundles, and 4
@@ -33,5 +33,6 @@ pub fn worked_persistent_bounds()
     ensures sixteen { persist 29 (small.shape_of (example.chain 16) 15) ≡ 1487 }
 
     // seventeen functions: the bound
-    ensures seventeen { persist 29 (small.shape_of (example.chain 16) 16) ≡ shape_bound 29 (small.shape_of (example.chain 16) 16) }
+    ensures seventeen { persist 29 (small.shape_of (example.chain 16) 16)
+        ≡ shape_bound 29 (small.shape_of (example.chain 16) 16) }
 {}

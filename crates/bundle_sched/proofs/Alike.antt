@@ -1,7 +1,7 @@
 -- Packed code, read at once, leaves what the code leaves that it was made of.
 use Rattle.std.proofs.Common.{◌≡◌, ℕ, zero, suc, ◌==◌, true, false, true≢false, if◌then◌else◌, List, [], ◌∷◌, ◌++◌, length, map, slice_index_or, refl, sym, ap, ◌∙◌, subst, append_assoc}
 use Rattle.std.proofs.lemmas.Bool.{and_parts}
-use Rattle.std.proofs.lemmas.List.{map-append, length-map}
+use Rattle.std.proofs.lemmas.List.{length-map}
 use Rattle.patmos_instr.specs.Bundles.{Slots}
 use Rattle.sp_shape.specs.Bundles.{is_idle}
 use Rattle.sp_shape.specs.Formed.{is_branch}
@@ -9,10 +9,14 @@ use Rattle.sp_shape.specs.Parts.{straight, repeats, calls_to, leaves, PlainParts
 use Rattle.sp_shape.proofs.Whole.{once_whole, begun_whole, run_append, run_whole}
 use Rattle.sp_shape.specs.Run.{Run, IsWhole, Sources, once, begun, run}
 use Rattle.sp_shape.specs.Trail.{Step, does, begins, all_done, copies, parts_trail, trails, trail}
-use Rattle.bundle_sched.specs.Packed.{can_pair, last_or}
-use Rattle.bundle_sched.specs.Packing.{pair, paired, packed, can_move, lets_pass, has_room, filled, but_last, goes_down, kept, way, before_branch, from_branch, turned, turn_packed, straights, parts_merged, merged}
+use Rattle.sp_shape.proofs.Lists.{done_append}
+use Rattle.bundle_sched.specs.Ordered.{is_plain, lets_by}
+use Rattle.bundle_sched.specs.Packed.{can_pair, pair, last_or}
+use Rattle.bundle_sched.specs.Packing.{packed, can_move, lets_pass, has_room, filled, but_last, goes_down, kept, way, before_branch, from_branch, turned, turn_packed, straights, parts_merged, merged}
 use Rattle.bundle_sched.proofs.Commute.{idle_is, idle_once, pair_once}
 use Rattle.bundle_sched.proofs.BehindFlow.{moved_once}
+use Rattle.bundle_sched.proofs.EachStep.{AtEachStep, packed_steps}
+use Rattle.bundle_sched.proofs.Swapping.{swap_once}
 
 -- ---- trails that leave the same, read at once
 
@@ -51,28 +55,25 @@ left_out from b bs is = record { runs = λ m whole. ap (run from bs) (sym (ap (�
 in_one : (from : Sources) (a b : Slots) (bs : List Step) → can_pair a b ≡ true → Alike from (does (pair a b) ∷ bs) (does a ∷ does b ∷ bs)
 in_one from a b bs can = record { runs = λ m whole. ap (run from bs) (pair_once from a b m whole can) }
 
-paired_alike : (from : Sources) (a : Slots) (bs : List Slots) → Alike from (all_done (paired a bs)) (all_done (a ∷ bs))
-paired_alike from a [] = alike_same from (does a ∷ [])
-paired_alike from a (b ∷ bs) =
-    elim (is_idle b) as (λ idles. is_idle b ≡ idles → Alike from (all_done (if idles then paired a bs else (if can_pair a b then paired (pair a b) bs else a ∷ paired b bs))) (all_done (a ∷ b ∷ bs))) [
-      | true ↦ λ is. alike_on (paired_alike from a bs) (alike_done a (left_out from b (all_done bs) is))
-      | false ↦ λ is. elim (can_pair a b) as (λ can. can_pair a b ≡ can → Alike from (all_done (if can then paired (pair a b) bs else a ∷ paired b bs)) (all_done (a ∷ b ∷ bs))) [
-        | true ↦ λ can. alike_on (paired_alike from (pair a b) bs) (in_one from a b (all_done bs) can)
-        | false ↦ λ can. alike_done a (paired_alike from b bs)
-      ] refl
-    ] refl
+changed : (from : Sources) (b x : Slots) (bs : List Step) → is_plain x ≡ true → lets_by b x ≡ true → Alike from (does x ∷ does b ∷ bs) (does b ∷ does x ∷ bs)
+changed from b x bs plain by = record { runs = λ m whole. ap (run from bs) (sym (swap_once from b x m whole plain by)) }
+
+alike_steps : (from : Sources) → AtEachStep (λ xs ys. Alike from (all_done ys) (all_done xs))
+alike_steps from = record {
+  same = λ bs. alike_same from (all_done bs);
+  through = λ xs ys zs a b. alike_on b a;
+  behind = λ b xs ys a. alike_done b a;
+  left_out = λ b bs is. left_out from b (all_done bs) is;
+  joined = λ a b bs busy can. in_one from a b (all_done bs) can;
+  swapped = λ b x bs plain by. changed from b x (all_done bs) plain by;
+}
 
 pub packed_alike : (from : Sources) (bs : List Slots) → Alike from (all_done (packed bs)) (all_done bs)
-packed_alike from [] = alike_same from []
-packed_alike from (b ∷ bs) =
-    elim (is_idle b) as (λ idles. is_idle b ≡ idles → Alike from (all_done (if idles then packed bs else paired b bs)) (all_done (b ∷ bs))) [
-      | true ↦ λ is. alike_on (packed_alike from bs) (left_out from b (all_done bs) is)
-      | false ↦ λ is. paired_alike from b bs
-    ] refl
+packed_alike from bs = packed_steps (λ xs ys. Alike from (all_done ys) (all_done xs)) (alike_steps from) bs
 
 -- ---- a bundle in a delay slot
 
--- the flow behind a bundle, and the bundle in its first slot
+-- the flow after a bundle, and the bundle in its first slot
 slot_filled : (from : Sources) (b : Slots) (tail : List Slots) → can_move b ≡ true → has_room b tail ≡ true → Alike from (all_done (filled b tail)) (all_done (b ∷ tail))
 slot_filled from b [] can room = absurd (true≢false (sym room))
 slot_filled from b (t ∷ []) can room = absurd (true≢false (sym room))
@@ -84,9 +85,6 @@ slot_filled from b (t ∷ slot ∷ slots) can room =
 pub in_front : (b : Slots) (bs xs : List Slots) → but_last b bs ++ (last_or b bs ∷ xs) ≡ b ∷ (bs ++ xs)
 in_front b [] xs = refl
 in_front b (c ∷ cs) xs = ap (λ ys. b ∷ ys) (in_front c cs xs)
-
-pub done_append : (xs ys : List Slots) → all_done (xs ++ ys) ≡ all_done xs ++ all_done ys
-done_append xs ys = map-append does xs ys
 
 pub way_alike : (from : Sources) (bs tail : List Slots) → Alike from (all_done (kept bs tail) ++ all_done (way bs tail)) (all_done bs ++ all_done tail)
 way_alike from [] tail = alike_same from (all_done tail)
@@ -125,12 +123,12 @@ straights_trail f [] rest = refl
 straights_trail f (b ∷ bs) rest = refl
 
 module _ (from : Sources) (f g : ℕ → List Step) (each : (k : ℕ) → Alike from (g k) (f k)) where
-  -- behind straight code
+  -- after straight code
   held_alike : (bs held : List Slots) (rest : PlainParts) (ys : List Step) → Alike from (all_done bs ++ parts_trail g rest) (all_done held ++ ys)
       → Alike from (parts_trail g (straights bs rest)) (all_done held ++ ys)
   held_alike bs held rest ys a = alike_on (alike_is from (parts_trail g (straights bs rest)) (all_done bs ++ parts_trail g rest) (straights_trail g bs rest)) a
 
-  -- a way, with what runs behind it
+  -- a way, with what runs after it
   way_then : (held tail : List Slots) (xs ys us vs : List Step) → Alike from xs us → Alike from ys vs
       → Alike from (all_done (kept (packed held) tail) ++ ((all_done (way (packed held) tail) ++ xs) ++ ys)) (all_done held ++ ((all_done tail ++ us) ++ vs))
   way_then held tail xs ys us vs a b =

@@ -1,27 +1,17 @@
 -- The scheduled shape is packed.
-use Rattle.std.proofs.Common.{inl, inr, ◌≡◌, ℕ, zero, suc, ◌<◌, ◌≤◌, Bool, true, List, [], ◌∷◌, length, slice_index_or, refl, ap, ◌∙◌, arith}
-use Rattle.std.specs.Prelude.{◌⊎◌, ◌&&◌, nat_lt, nat_le}
+use Rattle.std.proofs.Common.{◌≡◌, ℕ, suc, ◌<◌, Bool, true, List, [], ◌∷◌, length, slice_index_or, refl, ap, ◌∙◌, arith}
+use Rattle.std.specs.Prelude.{◌&&◌, nat_lt, nat_le}
 use Rattle.std.specs.List.{list_all}
-use Rattle.std.proofs.lemmas.Bool.{cases_lt}
 use Rattle.std.proofs.lemmas.Bool.{and_parts, and_from}
 use Rattle.sp_shape.specs.Bundles.{parts_idle, parts_all}
-use Rattle.sp_shape.specs.Formed.{function_formed, functions_formed, is_formed}
+use Rattle.sp_shape.specs.Formed.{functions_formed, is_formed}
 use Rattle.sp_shape.specs.Parts.{PlainParts, no_part, PlainShape}
+use Rattle.sp_shape.proofs.Functions.{each_formed}
 use Rattle.sp_tree.specs.declared.limits.TheConstants.{MOST_FUNCTIONS}
 use Rattle.bundle_sched.specs.Packed.{parts_packed, is_packed}
 use Rattle.bundle_sched.specs.Scheduled.{scheduled}
 use Rattle.bundle_sched.proofs.IsPacked.{is_alone, merged_packed, function_is_shaped}
 use Rattle.bundle_sched.proofs.Kept.{functions_stay, scheduled_at}
-
-formed_at : (fs : List PlainParts) (n k : ℕ) → k < n → functions_formed fs n ≡ true → function_formed k (slice_index_or fs k no_part) ≡ true
-formed_at fs zero k below h = absurd (omega (arith, below))
-formed_at fs (suc n) k below h =
-    let both = and_parts (functions_formed fs n) (function_formed n (slice_index_or fs n no_part)) h in
-    so n k (slice_index_or fs k no_part) (λ j. slice_index_or fs j no_part) below (cases_lt k n) (λ less. formed_at fs n k less both.0) both.1
-  where
-    so : (n k : ℕ) (f : PlainParts) (at : ℕ → PlainParts) → k < suc n → (k < n) ⊎ (n ≤ k) → (k < n → function_formed k (at k) ≡ true) → function_formed n (at n) ≡ true → function_formed k (at k) ≡ true
-    so n k f at below (inl less) more own = more less
-    so n k f at below (inr past) more own = let is : k ≡ n = omega (arith, past, below) in ap (λ j. function_formed j (at j)) is ∙ own
 
 each_holds : (p : PlainParts → Bool) (fs : List PlainParts) → ((k : ℕ) → k < length fs → p (slice_index_or fs k no_part) ≡ true) → list_all p fs ≡ true
 each_holds p [] each = refl
@@ -37,4 +27,4 @@ packed_as s t told formed idles alone =
     each_holds parts_packed t.functions (λ k below.
     let within : k < n = omega (arith, below, count) in
     ap parts_packed (scheduled_at s t told k)
-    ∙ merged_packed [] (slice_index_or s.functions k no_part) refl refl (function_is_shaped k (slice_index_or s.functions k no_part) (formed_at s.functions n k within each)) (idles k within) (alone k within))
+    ∙ merged_packed [] (slice_index_or s.functions k no_part) refl refl (function_is_shaped k (slice_index_or s.functions k no_part) (each_formed s.functions k n within each)) (idles k within) (alone k within))

@@ -1,4 +1,4 @@
--- A bundle behind a flow that stood before it: what comes of them read at once is the same.
+-- A bundle after a flow that stood before it: what comes of them read at once is the same.
 use Rattle.std.proofs.Common.{◌≡◌, ℕ, Bool, true, false, not, true≢false, if◌then◌else◌, Option, Some, None, List, [], ◌∷◌, ◌++◌, refl, sym, ap, ◌∙◌}
 use Rattle.std.specs.Prelude.{◌&&◌, ◌||◌, is_none}
 use Rattle.std.proofs.lemmas.Bool.{and_parts, not-true}
@@ -7,7 +7,7 @@ use Rattle.patmos_instr.specs.declared.guards.Guard.{Guard}
 use Rattle.patmos_instr.specs.declared.instructions.Instr.{Instr}
 use Rattle.patmos_instr.specs.declared.instructions.Op.{Op}
 use Rattle.patmos_instr.specs.declared.instructions.Op.TheVariants.{Mul, ToSpecial, Stack, Load, Store, Branch, Call, BranchFill, Return}
-use Rattle.patmos_sem.specs.Bundles.{slot_write, second_write, after_bundle}
+use Rattle.patmos_sem.specs.Bundles.{slot_write, second_write}
 use Rattle.patmos_instr.specs.declared.functions.StackFunc.TheVariants.{Sres, Sens, Sfree}
 use Rattle.patmos_instr.specs.declared.memories.Mem.TheVariants as mem
 use Rattle.patmos_sem.specs.Effects.{write_of, asked}
@@ -26,9 +26,9 @@ use Rattle.sp_shape.specs.Words.{is_late}
 use Rattle.bundle_sched.specs.Operands.{spares}
 use Rattle.bundle_sched.specs.Packed.{is_special, holds_special}
 use Rattle.bundle_sched.specs.Packing.{can_move, spares_pred, spares_guard, lets_pass}
-use Rattle.bundle_sched.proofs.Once.{with_regs, early_once, settled_same}
-use Rattle.bundle_sched.proofs.Commute.{single, no_second, always_is, regs_apart}
-use Rattle.bundle_sched.proofs.Unwritten.{pred_kept, pred_spared}
+use Rattle.bundle_sched.proofs.Once.{with_regs, early_once, settled_same, three, early_told}
+use Rattle.bundle_sched.proofs.Commute.{single, no_second, always_is}
+use Rattle.bundle_sched.proofs.Unwritten.{pred_kept, pred_spared, second_spared}
 
 abbrev with_ways : Run → List Way → Run
 with_ways m ways = record m { ways = ways }
@@ -113,15 +113,10 @@ or_false : (x y : Bool) → (x || y) ≡ false → (x ≡ false) × (y ≡ false
 or_false true y h = absurd (true≢false h)
 or_false false y h = (refl, h)
 
-second_spared : (o : Option Instr) (st ss : ℕ) (regs : Registers) (p : ℕ) (x : Bool) → (elim o as (λ _. Bool) [ None ↦ true | Some i ↦ spares i.op (p ∷ []) ]) ≡ true
-    → pred_by p (second_write st ss regs o) x ≡ x
-second_spared None st ss regs p x h = refl
-second_spared (Some i) st ss regs p x h = pred_spared (holds regs i.guard) i.op st ss regs p [] x h
-
--- the registers behind a bundle, before what it asks for
-regs_once : (from : Sources) (b : Slots) (m : Run) → IsWhole m → is_late b.first.op ≡ false → (once from b m).regs ≡ after_bundle m.st m.ss b m.regs
-regs_once from b m whole early =
-    ap (λ t. t.regs) (sym (early_once from b m whole early) ∙ regs_apart from (holds m.regs b.first.guard) b.first.op m.regs (after_bundle m.st m.ss b m.regs) m early)
+-- the registers after a bundle
+regs_once : (from : Sources) (b : Slots) (m : Run) → IsWhole m → is_late b.first.op ≡ false
+    → (once from b m).regs ≡ three (slot_write m.st m.ss m.regs b.first) (second_write m.st m.ss m.regs b.second) write.Nothing m.regs
+regs_once from b m whole early = ap (λ t. t.regs) (early_told from b m whole early)
 
 -- the place that a return goes to stays
 back_kept : (from : Sources) (b : Slots) (m : Run) → IsWhole m → is_late b.first.op ≡ false → holds_special b ≡ false
@@ -132,10 +127,8 @@ back_kept from b m whole early none =
     let regs_is = regs_once from b m whole early in
     let v = slot_write m.st m.ss m.regs b.first in
     let w = second_write m.st m.ss m.regs b.second in
-    let base = ap (λ p. base_by w (base_by v (base_by (came p) m.regs.srb))) whole.pending
-    ∙ ap (base_by w) (not_special on b.first.op m.st m.ss m.regs m.regs.srb special_none.0).0 ∙ (second_special b.second m.st m.ss m.regs m.regs.srb special_none.1).0 in
-    let offset = ap (λ p. offset_by w (offset_by v (offset_by (came p) m.regs.sro))) whole.pending
-    ∙ ap (offset_by w) (not_special on b.first.op m.st m.ss m.regs m.regs.sro special_none.0).1 ∙ (second_special b.second m.st m.ss m.regs m.regs.sro special_none.1).1 in
+    let base = ap (base_by w) (not_special on b.first.op m.st m.ss m.regs m.regs.srb special_none.0).0 ∙ (second_special b.second m.st m.ss m.regs m.regs.srb special_none.1).0 in
+    let offset = ap (offset_by w) (not_special on b.first.op m.st m.ss m.regs m.regs.sro special_none.0).1 ∙ (second_special b.second m.st m.ss m.regs m.regs.sro special_none.1).1 in
     (ap (λ r. r.srb) regs_is ∙ base, ap (λ r. r.sro) regs_is ∙ offset)
 
 way_same : (op : Op) (regs next : Registers) → next.srb ≡ regs.srb → next.sro ≡ regs.sro → way_asked op next ≡ way_asked op regs
@@ -158,9 +151,8 @@ guard_kept from b g m whole early h = so (is_always g) refl h
     so false is h =
         let both = and_parts (spares b.first.op (g.pred ∷ [])) (elim b.second as (λ _. Bool) [ None ↦ true | Some i ↦ spares i.op (g.pred ∷ []) ]) h in
         let on = holds m.regs b.first.guard in
-        let kept = pred_kept (came m.regs.pending ∷ first ∷ second ∷ []) m.regs g.pred whole.fits (λ x.
-        ap (λ p. pred_by g.pred second (pred_by g.pred first (pred_by g.pred (came p) x))) whole.pending
-        ∙ ap (pred_by g.pred second) (pred_spared on b.first.op m.st m.ss m.regs g.pred [] x both.0) ∙ second_spared b.second m.st m.ss m.regs g.pred x both.1) in
+        let kept = pred_kept (write.Nothing ∷ first ∷ second ∷ write.Nothing ∷ []) m.regs g.pred whole.fits (λ x.
+        ap (pred_by g.pred second) (pred_spared on b.first.op m.st m.ss m.regs g.pred [] x both.0) ∙ second_spared b.second m.st m.ss m.regs g.pred x both.1) in
         ap (λ p. if g.negated then not p else p) (ap (λ r. pred_in r g.pred) (regs_once from b m whole early) ∙ kept)
 
 module _ (from : Sources) (b : Slots) (h : can_move b ≡ true) where
@@ -177,7 +169,7 @@ module _ (from : Sources) (b : Slots) (h : can_move b ≡ true) where
   pub moved_ways : (m : Run) → (once from b m).ways ≡ m.ways
   moved_ways m = ways_kept from (holds m.regs b.first.guard) b.first.op m.regs (behind b m) can_early can_calm
 
-  -- behind the flow that is asked for it leaves what it leaves before it
+  -- after the flow that is asked for it leaves what it leaves before it
   asked_before : (on : Bool) (op : Op) (m : Run) → IsWhole m → once from b (with_asked on op m) ≡ with_asked on op (once from b m)
   asked_before false op m whole = refl
   asked_before true op m whole =

@@ -15,14 +15,18 @@ use Rattle.sp_shape.specs.Small.{idle}
 use Rattle.sp_shape.specs.Words.{is_late}
 use Rattle.patmos_instr.specs.declared.instructions.Instr.{Instr}
 use Rattle.patmos_instr.specs.declared.instructions.Op.{Op}
+use Rattle.sp_shape.proofs.Lists.{calm_append, all_append, all_weaker}
 use Rattle.bundle_sched.proofs.BehindFlow.{flow_early}
-use Rattle.bundle_sched.proofs.PackedFormed.{calm_packed, calm_append}
+use Rattle.bundle_sched.proofs.PackedFormed.{calm_packed}
 use Rattle.bundle_sched.proofs.SpacedAll.{awaited_late}
 use Rattle.bundle_sched.proofs.SpacedFormed.{none_awaited}
 use Rattle.bundle_sched.specs.Placed.{is_awaited, spaced, parts_placed}
-use Rattle.bundle_sched.specs.Packed.{is_small, is_free, can_pair, mergeable, none_mergeable, is_nop, is_filled, holds_special, last_or, slot_used, is_used, can_follow, some_bundle, part_packed, parts_packed}
-use Rattle.bundle_sched.specs.Packing.{pair, paired, packed, can_move, spares_guard, lets_pass, has_room, filled, but_last, goes_down, kept, way, before_branch, from_branch, turn_packed, straights, parts_merged}
-use Rattle.bundle_sched.proofs.Merged.{all_but_last, all_kept, all_way, all_append, all_split}
+use Rattle.bundle_sched.specs.Ordered.{ordered}
+use Rattle.bundle_sched.specs.Packed.{is_small, is_free, can_pair, mergeable, none_mergeable, pair, is_nop, is_filled, holds_special, last_or, slot_used, is_used, can_follow, some_bundle, part_packed, parts_packed}
+use Rattle.bundle_sched.specs.Packing.{paired, in_pairs, packed, can_move, spares_guard, lets_pass, has_room, filled, but_last, goes_down, kept, way, before_branch, from_branch, turn_packed, straights, parts_merged}
+use Rattle.bundle_sched.proofs.EachStep.{ordered_steps}
+use Rattle.bundle_sched.proofs.TwoInOne.{pairs}
+use Rattle.bundle_sched.proofs.Merged.{all_steps, all_but_last, all_kept, all_way, all_split}
 
 -- a bundle of one instruction
 abbrev pub is_alone : Slots → Bool
@@ -59,9 +63,12 @@ paired_pairless a (b ∷ bs) =
       ] refl
     ]
 
+pairs_pairless : (bs : List Slots) → pairless (in_pairs bs) ≡ true
+pairs_pairless [] = refl
+pairs_pairless (b ∷ bs) = elim (is_idle b) as (λ idles. pairless (if idles then in_pairs bs else paired b bs) ≡ true) [ true ↦ pairs_pairless bs | false ↦ paired_pairless b bs ]
+
 packed_pairless : (bs : List Slots) → pairless (packed bs) ≡ true
-packed_pairless [] = refl
-packed_pairless (b ∷ bs) = elim (is_idle b) as (λ idles. pairless (if idles then packed bs else paired b bs) ≡ true) [ true ↦ packed_pairless bs | false ↦ paired_pairless b bs ]
+packed_pairless bs = pairs_pairless (ordered bs)
 
 front_pairless : (b : Slots) (bs : List Slots) → pairless (b ∷ bs) ≡ true → pairless (but_last b bs) ≡ true
 front_pairless b [] h = refl
@@ -93,7 +100,7 @@ late_alone x a b late =
     (second_false (is_small b) (is_second_kind b.first.op && (not (is_late a.first.op) && is_free a.first b.first))
     (second_false (is_second_kind b.first.op) (not (is_late a.first.op) && is_free a.first b.first) (ap (λ l. not l && is_free a.first b.first) late))))
 
--- three of which the first or the second is late, or the two behind cannot be one
+-- three of which the first or the second is late, or the two after cannot be one
 before_any : (x a : Slots) (ys : List Slots) → ((b : Slots) → mergeable x a b ≡ false) → none_mergeable (a ∷ ys) ≡ true → none_mergeable (x ∷ a ∷ ys) ≡ true
 before_any x a [] apart h = refl
 before_any x a (b ∷ ys) apart h = merge_from x a b ys (apart b) h
@@ -157,32 +164,36 @@ is_good b = is_filled b && is_busy b
 pair_busy : (a b : Slots) → is_busy (pair a b) ≡ true
 pair_busy a b = ap not (second_false (is_always a.first.guard) (is_idle_op a.first.op && false) (second_false (is_idle_op a.first.op) false refl))
 
-good_paired : (a : Slots) (bs : List Slots) → is_good a ≡ true → list_all is_alone bs ≡ true → list_all is_good (paired a bs) ≡ true
+-- the second of a pair does something
+pair_filled : (a b : Slots) → is_idle b ≡ false → can_pair a b ≡ true → is_filled (pair a b) ≡ true
+pair_filled a b busy can = ap not (busy_nop b (pairs a b can).second_alone busy)
+
+good_paired : (a : Slots) (bs : List Slots) → is_good a ≡ true → list_all is_filled bs ≡ true → list_all is_good (paired a bs) ≡ true
 good_paired a [] ha h = and_from (is_good a) true ha refl
 good_paired a (b ∷ bs) ha h =
-    let both = and_parts (is_alone b) (list_all is_alone bs) h in
+    let both = and_parts (is_filled b) (list_all is_filled bs) h in
     elim (is_idle b) as (λ idles. is_idle b ≡ idles → list_all is_good (if idles then paired a bs else (if can_pair a b then paired (pair a b) bs else a ∷ paired b bs)) ≡ true) [
       | true ↦ λ is. good_paired a bs ha both.1
-      | false ↦ λ is. elim (can_pair a b) as (λ can. list_all is_good (if can then paired (pair a b) bs else a ∷ paired b bs) ≡ true) [
-        | true ↦ good_paired (pair a b) bs (and_from (is_filled (pair a b)) (is_busy (pair a b)) (ap not (busy_nop b both.0 is)) (pair_busy a b)) both.1
-        | false ↦ and_from (is_good a) (list_all is_good (paired b bs)) ha (good_paired b bs (and_from (is_filled b) (is_busy b) (alone_filled b both.0) (ap not is)) both.1)
-      ]
+      | false ↦ λ is. elim (can_pair a b) as (λ can. can_pair a b ≡ can → list_all is_good (if can then paired (pair a b) bs else a ∷ paired b bs) ≡ true) [
+        | true ↦ λ can. good_paired (pair a b) bs (and_from (is_filled (pair a b)) (is_busy (pair a b)) (pair_filled a b is can) (pair_busy a b)) both.1
+        | false ↦ λ can. and_from (is_good a) (list_all is_good (paired b bs)) ha (good_paired b bs (and_from (is_filled b) (is_busy b) both.0 (ap not is)) both.1)
+      ] refl
+    ] refl
+
+good_pairs : (bs : List Slots) → list_all is_filled bs ≡ true → list_all is_good (in_pairs bs) ≡ true
+good_pairs [] h = refl
+good_pairs (b ∷ bs) h =
+    let both = and_parts (is_filled b) (list_all is_filled bs) h in
+    elim (is_idle b) as (λ idles. is_idle b ≡ idles → list_all is_good (if idles then in_pairs bs else paired b bs) ≡ true) [
+      | true ↦ λ is. good_pairs bs both.1
+      | false ↦ λ is. good_paired b bs (and_from (is_filled b) (is_busy b) both.0 (ap not is)) both.1
     ] refl
 
 good_packed : (bs : List Slots) → list_all is_alone bs ≡ true → list_all is_good (packed bs) ≡ true
-good_packed [] h = refl
-good_packed (b ∷ bs) h =
-    let both = and_parts (is_alone b) (list_all is_alone bs) h in
-    elim (is_idle b) as (λ idles. is_idle b ≡ idles → list_all is_good (if idles then packed bs else paired b bs) ≡ true) [
-      | true ↦ λ is. good_packed bs both.1
-      | false ↦ λ is. good_paired b bs (and_from (is_filled b) (is_busy b) (alone_filled b both.0) (ap not is)) both.1
-    ] refl
-
-all_weaker : (p q : Slots → Bool) → ((b : Slots) → p b ≡ true → q b ≡ true) → (bs : List Slots) → list_all p bs ≡ true → list_all q bs ≡ true
-all_weaker p q less [] h = refl
-all_weaker p q less (b ∷ bs) h =
-    let both = and_parts (p b) (list_all p bs) h in
-    and_from (q b) (list_all q bs) (less b both.0) (all_weaker p q less bs both.1)
+good_packed bs alone =
+    good_pairs (ordered bs)
+    (ordered_steps (λ xs ys. list_all is_filled xs ≡ true → list_all is_filled ys ≡ true) (all_steps is_filled (λ a b busy can ha hb. pair_filled a b busy can)) bs
+    (all_weaker is_alone is_filled alone_filled bs alone))
 
 filled_spaced : (bs : List Slots) → list_all is_filled bs ≡ true → list_all is_filled (spaced bs) ≡ true
 filled_spaced [] h = refl
@@ -343,7 +354,7 @@ function_is_shaped n (part (calls_to k tail) rest) h =
 
 -- ---- parts
 
--- behind what is no straight code
+-- after what is no straight code
 then_packed : (p : PlainPart) (rest : PlainParts) → part_packed p ≡ true → can_follow p rest ≡ true → parts_packed rest ≡ true → parts_packed (part p rest) ≡ true
 then_packed p rest hp follows h = and_from (part_packed p) (can_follow p rest && parts_packed rest) hp (and_from (can_follow p rest) (parts_packed rest) follows h)
 

@@ -9,8 +9,8 @@ use Rattle.patmos_instr.specs.declared.instructions.Op.TheVariants.{AluLong}
 use Rattle.sp_shape.specs.Bundles.{is_idle, is_steady, parts_all, is_word_op, has_word}
 use Rattle.sp_shape.specs.Parts.{no_part, PlainShape}
 use Rattle.sp_shape.specs.Words.{parts_words, parts_room}
-use Rattle.bundle_sched.specs.Packed.{can_pair}
-use Rattle.bundle_sched.specs.Packing.{pair, parts_merged, merged}
+use Rattle.bundle_sched.specs.Packed.{can_pair, pair}
+use Rattle.bundle_sched.specs.Packing.{parts_merged, merged}
 use Rattle.bundle_sched.specs.Placed.{parts_placed}
 use Rattle.bundle_sched.specs.Scheduled.{scheduled}
 use Rattle.bundle_sched.proofs.Alike.{merged_at}
@@ -32,7 +32,7 @@ scheduled_at s t told k = ap (λ x. slice_index_or x.functions k no_part) told �
 pub steady_as : (s t : PlainShape) → t ≡ scheduled s → (k : ℕ) → parts_all is_steady (slice_index_or s.functions k no_part) ≡ true → parts_all is_steady (slice_index_or t.functions k no_part) ≡ true
 steady_as s t told k h =
     let f = slice_index_or s.functions k no_part in
-    ap (parts_all is_steady) (scheduled_at s t told k) ∙ parts_all_placed is_steady refl (parts_merged [] f) (all_merged is_steady (λ a b ha. ha) [] f refl h)
+    ap (parts_all is_steady) (scheduled_at s t told k) ∙ parts_all_placed is_steady refl (parts_merged [] f) (all_merged is_steady (λ a b busy can ha hb. ha) [] f refl h)
 
 pub room_as : (s t : PlainShape) → t ≡ scheduled s → (k : ℕ) → parts_words (slice_index_or t.functions k no_part) ≤ parts_room (slice_index_or s.functions k no_part)
 room_as s t told k =

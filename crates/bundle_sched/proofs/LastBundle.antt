@@ -3,11 +3,11 @@ use Rattle.std.proofs.Common.{◌≡◌, ◌<◌, true, false, true≢false, if�
 use Rattle.std.specs.Prelude.{slice_set}
 use Rattle.std.proofs.lemmas.Bool.{and_parts}
 use Rattle.std.proofs.lemmas.List.{drop_all}
+use Rattle.tc_word.proofs.Items.{drop_item}
 use Rattle.sp_shape.specs.Formed.{is_branch}
 use Rattle.patmos_instr.specs.Bundles.{Slots}
 use Rattle.bundle_sched.specs.Packed.{last_or}
 use Rattle.bundle_sched.specs.Packing.{can_move, has_room, fills, filled, but_last, goes_down, kept, way, before_branch, from_branch}
-use Rattle.bundle_sched.proofs.Placing.{drop_item}
 
 last_is : (x b : Slots) (xs : List Slots) → last_or x (xs ++ b ∷ []) ≡ b
 last_is x b [] = refl

@@ -2,6 +2,7 @@ pub mod Alike
 pub mod AllPacked
 pub mod BehindFlow
 pub mod Commute
+pub mod EachStep
 pub mod IsPacked
 pub mod Kept
 pub mod LastBundle
@@ -14,11 +15,14 @@ pub mod PackedTurns
 pub mod PackingParts
 pub mod Pairing
 pub mod Placing
+pub mod Putting
+pub mod Reading
 pub mod Runs
 pub mod SpacedAll
 pub mod SpacedFormed
 pub mod SpacedRuns
 pub mod SpacedTurns
+pub mod Swapping
 pub mod Turns
 pub mod TwoInOne
 pub mod Unwritten

@@ -9,31 +9,34 @@ use Rattle.patmos_instr.specs.Instructions.{is_long}
 use Rattle.sp_shape.specs.Bundles.{is_idle, parts_all}
 use Rattle.sp_shape.specs.Parts.{straight, repeats, calls_to, leaves, PlainParts, no_part, part}
 use Rattle.sp_shape.specs.Words.{bundle_words, bundle_room, bundles_room, parts_room}
-use Rattle.bundle_sched.specs.Packed.{can_pair, last_or}
-use Rattle.bundle_sched.specs.Packing.{pair, paired, packed, filled, but_last, goes_down, kept, way, before_branch, from_branch, turn_packed, straights, parts_merged}
+use Rattle.sp_shape.proofs.Lists.{all_append, room_append}
+use Rattle.bundle_sched.specs.Packed.{can_pair, pair, last_or}
+use Rattle.bundle_sched.specs.Packing.{packed, filled, but_last, goes_down, kept, way, before_branch, from_branch, turn_packed, straights, parts_merged}
 use Rattle.bundle_sched.proofs.Alike.{tail_split}
+use Rattle.bundle_sched.proofs.EachStep.{AtEachStep, packed_steps}
 use Rattle.bundle_sched.proofs.TwoInOne.{pairs}
 
--- ---- what holds of each bundle, by its first instruction, holds of each packed one
+-- ---- what holds of each bundle holds of each packed one, where it holds of one that two become
 
-module _ (holds : Slots → Bool) (closed : (a b : Slots) → holds a ≡ true → holds (pair a b) ≡ true) where
-  all_paired : (a : Slots) (bs : List Slots) → holds a ≡ true → list_all holds bs ≡ true → list_all holds (paired a bs) ≡ true
-  all_paired a [] ha h = and_from (holds a) true ha refl
-  all_paired a (b ∷ bs) ha h =
-      let both = and_parts (holds b) (list_all holds bs) h in
-      elim (is_idle b) as (λ idles. list_all holds (if idles then paired a bs else (if can_pair a b then paired (pair a b) bs else a ∷ paired b bs)) ≡ true) [
-        | true ↦ all_paired a bs ha both.1
-        | false ↦ elim (can_pair a b) as (λ can. list_all holds (if can then paired (pair a b) bs else a ∷ paired b bs) ≡ true) [
-          | true ↦ all_paired (pair a b) bs (closed a b ha) both.1
-          | false ↦ and_from (holds a) (list_all holds (paired b bs)) ha (all_paired b bs both.0 both.1)
-        ]
-      ]
+module _ (holds : Slots → Bool) (closed : (a b : Slots) → is_idle b ≡ false → can_pair a b ≡ true → holds a ≡ true → holds b ≡ true → holds (pair a b) ≡ true) where
+  pub all_steps : AtEachStep (λ xs ys. list_all holds xs ≡ true → list_all holds ys ≡ true)
+  all_steps = record {
+    same = λ bs h. h;
+    through = λ xs ys zs f g h. g (f h);
+    behind = λ b xs ys f h. let both = and_parts (holds b) (list_all holds xs) h in and_from (holds b) (list_all holds ys) both.0 (f both.1);
+    left_out = λ b bs is h. (and_parts (holds b) (list_all holds bs) h).1;
+    joined = λ a b bs busy can h.
+        let one = and_parts (holds a) (holds b && list_all holds bs) h in
+        let two = and_parts (holds b) (list_all holds bs) one.1 in
+        and_from (holds (pair a b)) (list_all holds bs) (closed a b busy can one.0 two.0) two.1;
+    swapped = λ b x bs plain by h.
+        let one = and_parts (holds b) (holds x && list_all holds bs) h in
+        let two = and_parts (holds x) (list_all holds bs) one.1 in
+        and_from (holds x) (holds b && list_all holds bs) two.0 (and_from (holds b) (list_all holds bs) one.0 two.1);
+  }
 
   pub all_packed : (bs : List Slots) → list_all holds bs ≡ true → list_all holds (packed bs) ≡ true
-  all_packed [] h = refl
-  all_packed (b ∷ bs) h =
-      let both = and_parts (holds b) (list_all holds bs) h in
-      elim (is_idle b) as (λ idles. list_all holds (if idles then packed bs else paired b bs) ≡ true) [ true ↦ all_packed bs both.1 | false ↦ all_paired b bs both.0 both.1 ]
+  all_packed bs = packed_steps (λ xs ys. list_all holds xs ≡ true → list_all holds ys ≡ true) all_steps bs
 
 pub all_but_last : (holds : Slots → Bool) (b : Slots) (bs : List Slots) → list_all holds (b ∷ bs) ≡ true → (list_all holds (but_last b bs) ≡ true) × (holds (last_or b bs) ≡ true)
 all_but_last holds b [] h = (refl, (and_parts (holds b) true h).0)
@@ -59,9 +62,6 @@ all_way holds [] tail hb h = h
 all_way holds (b ∷ bs) tail hb h =
     elim (goes_down (b ∷ bs) tail) as (λ down. list_all holds (if down then filled (last_or b bs) tail else tail) ≡ true) [ true ↦ all_filled holds (last_or b bs) tail (all_but_last holds b bs hb).1 h | false ↦ h ]
 
-pub all_append : (holds : Slots → Bool) (xs ys : List Slots) → list_all holds xs ≡ true → list_all holds ys ≡ true → list_all holds (xs ++ ys) ≡ true
-all_append holds xs ys hx hy = list_all-append holds xs ys ∙ and_from (list_all holds xs) (list_all holds ys) hx hy
-
 -- of the two pieces of a loop's tail
 pub all_split : (holds : Slots → Bool) (tail : List Slots) → list_all holds tail ≡ true → (list_all holds (before_branch tail) ≡ true) × (list_all holds (from_branch tail) ≡ true)
 all_split holds tail h =
@@ -72,7 +72,7 @@ pub all_straights : (holds : Slots → Bool) (bs : List Slots) (rest : PlainPart
 all_straights holds [] rest hb h = h
 all_straights holds (b ∷ bs) rest hb h = and_from (list_all holds (b ∷ bs)) (parts_all holds rest) hb h
 
-module _ (holds : Slots → Bool) (closed : (a b : Slots) → holds a ≡ true → holds (pair a b) ≡ true) where
+module _ (holds : Slots → Bool) (closed : (a b : Slots) → is_idle b ≡ false → can_pair a b ≡ true → holds a ≡ true → holds b ≡ true → holds (pair a b) ≡ true) where
   all_turn : (tail : List Slots) → list_all holds tail ≡ true → list_all holds (turn_packed tail) ≡ true
   all_turn tail h =
       let p = packed (before_branch tail) in
@@ -113,24 +113,18 @@ pair_room a b h =
     let two : bundle_words (pair a b) ≡ 2 = ap (λ long. if long || true then 2 else 1) (pairs a b h).first_short in
     omega (arith, two, words_some a, words_some b)
 
-paired_room : (a : Slots) (bs : List Slots) → bundles_room (paired a bs) ≤ bundle_room a + bundles_room bs
-paired_room a [] = omega arith
-paired_room a (b ∷ bs) =
-    elim (is_idle b) as (λ idles. bundles_room (if idles then paired a bs else (if can_pair a b then paired (pair a b) bs else a ∷ paired b bs)) ≤ bundle_room a + (bundle_room b + bundles_room bs)) [
-      | true ↦ let less = paired_room a bs in omega (arith, less)
-      | false ↦ elim (can_pair a b) as (λ can. can_pair a b ≡ can → bundles_room (if can then paired (pair a b) bs else a ∷ paired b bs) ≤ bundle_room a + (bundle_room b + bundles_room bs)) [
-        | true ↦ λ is. let less = paired_room (pair a b) bs in let own = pair_room a b is in omega (arith, less, own)
-        | false ↦ λ is. let less = paired_room b bs in omega (arith, less)
-      ] refl
-    ]
+room_steps : AtEachStep (λ xs ys. bundles_room ys ≤ bundles_room xs)
+room_steps = record {
+  same = λ bs. omega arith;
+  through = λ xs ys zs less fewer. omega (arith, less, fewer);
+  behind = λ b xs ys less. omega (arith, less);
+  left_out = λ b bs is. omega arith;
+  joined = λ a b bs busy can. let one = pair_room a b can in omega (arith, one);
+  swapped = λ b x bs plain by. omega arith;
+}
 
 pub packed_room : (bs : List Slots) → bundles_room (packed bs) ≤ bundles_room bs
-packed_room [] = omega arith
-packed_room (b ∷ bs) =
-    elim (is_idle b) as (λ idles. bundles_room (if idles then packed bs else paired b bs) ≤ bundle_room b + bundles_room bs) [
-      | true ↦ let less = packed_room bs in omega (arith, less)
-      | false ↦ paired_room b bs
-    ]
+packed_room bs = packed_steps (λ xs ys. bundles_room ys ≤ bundles_room xs) room_steps bs
 
 room_split : (b : Slots) (bs : List Slots) → bundles_room (but_last b bs) + bundle_room (last_or b bs) ≡ bundle_room b + bundles_room bs
 room_split b [] = omega arith
@@ -152,10 +146,6 @@ way_room (b ∷ bs) tail =
 straights_room : (bs : List Slots) (rest : PlainParts) → parts_room (straights bs rest) ≡ bundles_room bs + parts_room rest
 straights_room [] rest = omega arith
 straights_room (b ∷ bs) rest = refl
-
-pub room_append : (xs ys : List Slots) → bundles_room (xs ++ ys) ≡ bundles_room xs + bundles_room ys
-room_append [] ys = omega arith
-room_append (x ∷ xs) ys = let others = room_append xs ys in omega (arith, others)
 
 turn_room : (tail : List Slots) → bundles_room (turn_packed tail) ≤ bundles_room tail
 turn_room tail =

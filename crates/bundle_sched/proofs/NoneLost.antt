@@ -7,38 +7,32 @@ use Rattle.std.proofs.lemmas.List.Folds.{list_all-append}
 use Rattle.patmos_instr.specs.Bundles.{Slots}
 use Rattle.sp_shape.specs.Bundles.{is_idle, parts_all}
 use Rattle.sp_shape.specs.Parts.{straight, repeats, calls_to, leaves, PlainParts, no_part, part}
-use Rattle.bundle_sched.specs.Packed.{can_pair, last_or}
-use Rattle.bundle_sched.specs.Packing.{pair, paired, packed, can_move, lets_pass, has_room, filled, but_last, goes_down, kept, way, before_branch, from_branch, turn_packed, straights, parts_merged}
+use Rattle.bundle_sched.specs.Packed.{can_pair, pair, last_or}
+use Rattle.bundle_sched.specs.Packing.{packed, can_move, lets_pass, has_room, filled, but_last, goes_down, kept, way, before_branch, from_branch, turn_packed, straights, parts_merged}
 use Rattle.bundle_sched.proofs.Alike.{tail_split}
+use Rattle.bundle_sched.proofs.EachStep.{AtEachStep, packed_steps}
 
 -- it holds of what does nothing, and of two bundles where it holds of the one that they become
 module _ (holds : Slots → Bool) (dropped : (b : Slots) → is_idle b ≡ true → holds b ≡ true)
     (split : (a b : Slots) → can_pair a b ≡ true → holds (pair a b) ≡ true → (holds a ≡ true) × (holds b ≡ true)) where
-  paired_had : (a : Slots) (bs : List Slots) → list_all holds (paired a bs) ≡ true → list_all holds (a ∷ bs) ≡ true
-  paired_had a [] h = h
-  paired_had a (b ∷ bs) h =
-      elim (is_idle b) as (λ idles. is_idle b ≡ idles → list_all holds (if idles then paired a bs else (if can_pair a b then paired (pair a b) bs else a ∷ paired b bs)) ≡ true → list_all holds (a ∷ b ∷ bs) ≡ true) [
-        | true ↦ λ is h.
-            let both = and_parts (holds a) (list_all holds bs) (paired_had a bs h) in
-            and_from (holds a) (holds b && list_all holds bs) both.0 (and_from (holds b) (list_all holds bs) (dropped b is) both.1)
-        | false ↦ λ is h. elim (can_pair a b) as (λ can. can_pair a b ≡ can → list_all holds (if can then paired (pair a b) bs else a ∷ paired b bs) ≡ true → list_all holds (a ∷ b ∷ bs) ≡ true) [
-          | true ↦ λ can h.
-              let both = and_parts (holds (pair a b)) (list_all holds bs) (paired_had (pair a b) bs h) in
-              let had = split a b can both.0 in
-              and_from (holds a) (holds b && list_all holds bs) had.0 (and_from (holds b) (list_all holds bs) had.1 both.1)
-          | false ↦ λ can h.
-              let both = and_parts (holds a) (list_all holds (paired b bs)) h in
-              and_from (holds a) (list_all holds (b ∷ bs)) both.0 (paired_had b bs both.1)
-        ] refl h
-      ] refl h
+  had_steps : AtEachStep (λ xs ys. list_all holds ys ≡ true → list_all holds xs ≡ true)
+  had_steps = record {
+    same = λ bs h. h;
+    through = λ xs ys zs f g h. f (g h);
+    behind = λ b xs ys f h. let both = and_parts (holds b) (list_all holds ys) h in and_from (holds b) (list_all holds xs) both.0 (f both.1);
+    left_out = λ b bs is h. and_from (holds b) (list_all holds bs) (dropped b is) h;
+    joined = λ a b bs busy can h.
+        let both = and_parts (holds (pair a b)) (list_all holds bs) h in
+        let had = split a b can both.0 in
+        and_from (holds a) (holds b && list_all holds bs) had.0 (and_from (holds b) (list_all holds bs) had.1 both.1);
+    swapped = λ b x bs plain by h.
+        let one = and_parts (holds x) (holds b && list_all holds bs) h in
+        let two = and_parts (holds b) (list_all holds bs) one.1 in
+        and_from (holds b) (holds x && list_all holds bs) two.0 (and_from (holds x) (list_all holds bs) one.0 two.1);
+  }
 
   packed_had : (bs : List Slots) → list_all holds (packed bs) ≡ true → list_all holds bs ≡ true
-  packed_had [] h = refl
-  packed_had (b ∷ bs) h =
-      elim (is_idle b) as (λ idles. is_idle b ≡ idles → list_all holds (if idles then packed bs else paired b bs) ≡ true → list_all holds (b ∷ bs) ≡ true) [
-        | true ↦ λ is h. and_from (holds b) (list_all holds bs) (dropped b is) (packed_had bs h)
-        | false ↦ λ is h. paired_had b bs h
-      ] refl h
+  packed_had bs = packed_steps (λ xs ys. list_all holds ys ≡ true → list_all holds xs ≡ true) had_steps bs
 
   front_had : (b : Slots) (bs : List Slots) → list_all holds (but_last b bs) ≡ true → holds (last_or b bs) ≡ true → list_all holds (b ∷ bs) ≡ true
   front_had b [] h last = and_from (holds b) true last refl

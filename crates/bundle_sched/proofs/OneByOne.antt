@@ -1,11 +1,12 @@
 -- What an operation leaves, register by register and predicate by predicate.
-use Rattle.std.proofs.Common.{◌≡◌, ℕ, Bool, true, [], ◌∷◌, refl, sym, ap}
-use Rattle.std.specs.Prelude.{◌&&◌}
+use Rattle.std.proofs.Common.{◌≡◌, ℕ, zero, suc, ◌<◌, Bool, true, [], ◌∷◌, refl, sym, ap, arith}
+use Rattle.std.specs.Prelude.{◌&&◌, nat_lt}
+use Rattle.std.specs.List.{list_all}
 use Rattle.std.proofs.Math.Bool.{and-true}
 use Rattle.patmos_instr.specs.declared.instructions.Op.{Op}
 use Rattle.patmos_instr.specs.declared.instructions.Op.TheVariants.{Cmp, CmpImm, Comb, ToSpecial}
 use Rattle.patmos_instr.specs.declared.specials.WritableSpecial.TheVariants as special
-use Rattle.bundle_sched.specs.Operands.{lacks, apart, spares, results}
+use Rattle.bundle_sched.specs.Operands.{all_preds, lacks, apart, spares, results}
 
 pub apart_one : (op : Op) (r : ℕ) → apart (results op) (r ∷ []) ≡ lacks (results op) r
 apart_one op r = and-true (lacks (results op) r)
@@ -22,3 +23,22 @@ spares_three (Cmp func pd ra rb) p q r = three (lacks (pd ∷ [])) p q r
 spares_three (CmpImm func pd ra imm) p q r = three (lacks (pd ∷ [])) p q r
 spares_three (Comb func pd a b) p q r = three (lacks (pd ∷ [])) p q r
 spares_three _ p q r = refl
+
+pub spares_all : (op : Op) (p : ℕ) → spares op (p ∷ all_preds) ≡ (spares op (p ∷ []) && spares op all_preds)
+spares_all (ToSpecial special.S0 ra) p = refl
+spares_all (Cmp func pd ra rb) p = ap (λ x. x && list_all (lacks (pd ∷ [])) all_preds) (sym (and-true (lacks (pd ∷ []) p)))
+spares_all (CmpImm func pd ra imm) p = ap (λ x. x && list_all (lacks (pd ∷ [])) all_preds) (sym (and-true (lacks (pd ∷ []) p)))
+spares_all (Comb func pd a b) p = ap (λ x. x && list_all (lacks (pd ∷ [])) all_preds) (sym (and-true (lacks (pd ∷ []) p)))
+spares_all _ p = refl
+
+-- a predicate is one of all
+pub one_of_all : (pd : ℕ) → pd < 8 → apart (pd ∷ []) all_preds ≡ nat_lt 7 pd
+one_of_all zero h = refl
+one_of_all (suc zero) h = refl
+one_of_all (suc (suc zero)) h = refl
+one_of_all (suc (suc (suc zero))) h = refl
+one_of_all (suc (suc (suc (suc zero)))) h = refl
+one_of_all (suc (suc (suc (suc (suc zero))))) h = refl
+one_of_all (suc (suc (suc (suc (suc (suc zero)))))) h = refl
+one_of_all (suc (suc (suc (suc (suc (suc (suc zero))))))) h = refl
+one_of_all (suc (suc (suc (suc (suc (suc (suc (suc n)))))))) h = absurd (omega (arith, h))

@@ -11,8 +11,10 @@ use Rattle.sp_shape.specs.Formed.{is_branch, is_call, is_return, is_fill, is_flo
 use Rattle.sp_shape.specs.Parts.{straight, repeats, calls_to, leaves, PlainPart, PlainParts, no_part, part, PlainShape}
 use Rattle.sp_shape.specs.Words.{is_late}
 use Rattle.sp_tree.specs.declared.limits.TheConstants.{MOST_FUNCTIONS}
-use Rattle.bundle_sched.specs.Packed.{can_pair, last_or, holds_special}
-use Rattle.bundle_sched.specs.Packing.{pair, paired, packed, can_move, has_room, filled, but_last, goes_down, kept, way, before_branch, from_branch, turn_packed, straights, parts_merged, merged}
+use Rattle.sp_shape.proofs.Functions.{function_then}
+use Rattle.sp_shape.proofs.Lists.{calm_append}
+use Rattle.bundle_sched.specs.Packed.{last_or, holds_special}
+use Rattle.bundle_sched.specs.Packing.{packed, can_move, has_room, filled, but_last, goes_down, kept, way, before_branch, from_branch, turn_packed, straights, parts_merged, merged}
 use Rattle.bundle_sched.proofs.Merged.{all_packed, all_kept}
 use Rattle.bundle_sched.proofs.Alike.{merged_at}
 use Rattle.bundle_sched.proofs.SpacedFormed.{is_prompt, turn_prompt, way_prompt, parts_prompt, idle_early, turn_front}
@@ -28,29 +30,16 @@ idles_prompt (b ∷ bs) h =
 
 -- ---- packed code
 
-calm_paired : (a : Slots) (bs : List Slots) → is_flow a.first.op ≡ false → are_calm bs ≡ true → are_calm (paired a bs) ≡ true
-calm_paired a [] ha h = and_from (not (is_flow a.first.op)) true (ap not ha) refl
-calm_paired a (b ∷ bs) ha h =
-    let both = and_parts (not (is_flow b.first.op)) (are_calm bs) h in
-    elim (is_idle b) as (λ idles. are_calm (if idles then paired a bs else (if can_pair a b then paired (pair a b) bs else a ∷ paired b bs)) ≡ true) [
-      | true ↦ calm_paired a bs ha both.1
-      | false ↦ elim (can_pair a b) as (λ can. are_calm (if can then paired (pair a b) bs else a ∷ paired b bs) ≡ true) [
-        | true ↦ calm_paired (pair a b) bs ha both.1
-        | false ↦ and_from (not (is_flow a.first.op)) (are_calm (paired b bs)) (ap not ha) (calm_paired b bs (not-true (is_flow b.first.op) both.0) both.1)
-      ]
-    ]
+-- it asks for no flow
+abbrev is_calm : Slots → Bool
+is_calm b = not (is_flow b.first.op)
+
+each_calm : (bs : List Slots) → are_calm bs ≡ list_all is_calm bs
+each_calm [] = refl
+each_calm (b ∷ bs) = ap (λ others. is_calm b && others) (each_calm bs)
 
 pub calm_packed : (bs : List Slots) → are_calm bs ≡ true → are_calm (packed bs) ≡ true
-calm_packed [] h = refl
-calm_packed (b ∷ bs) h =
-    let both = and_parts (not (is_flow b.first.op)) (are_calm bs) h in
-    elim (is_idle b) as (λ idles. are_calm (if idles then packed bs else paired b bs) ≡ true) [ true ↦ calm_packed bs both.1 | false ↦ calm_paired b bs (not-true (is_flow b.first.op) both.0) both.1 ]
-
-pub calm_append : (xs ys : List Slots) → are_calm xs ≡ true → are_calm ys ≡ true → are_calm (xs ++ ys) ≡ true
-calm_append [] ys hx hy = hy
-calm_append (x ∷ xs) ys hx hy =
-    let both = and_parts (not (is_flow x.first.op)) (are_calm xs) hx in
-    and_from (not (is_flow x.first.op)) (are_calm (xs ++ ys)) both.0 (calm_append xs ys both.1 hy)
+calm_packed bs h = each_calm (packed bs) ∙ all_packed is_calm (λ a b busy can ha hb. ha) bs (sym (each_calm bs) ∙ h)
 
 calm_front : (b : Slots) (bs : List Slots) → are_calm (b ∷ bs) ≡ true → are_calm (but_last b bs) ≡ true
 calm_front b [] h = refl
@@ -171,7 +160,7 @@ prompt_turn : (tail : List Slots) → turn_idles tail ≡ true → turn_prompt (
 prompt_turn tail h =
     let p = packed (before_branch tail) in
     let back = from_branch tail in
-    plain_then (kept p back) (way p back) (all_kept is_plain p back (all_packed is_plain (λ a b plain. plain) (before_branch tail) (before_plain tail)))
+    plain_then (kept p back) (way p back) (all_kept is_plain p back (all_packed is_plain (λ a b busy can ha hb. ha) (before_branch tail) (before_plain tail)))
     (way_prompt_turn p back (from_at tail) (from_idles tail h))
 
 calm_before : (tail : List Slots) → is_turn tail ≡ true → are_calm (before_branch tail) ≡ true
@@ -274,17 +263,11 @@ merged_formed n held (part (calls_to k tail) rest) hh h =
     (and_from (nat_lt k n) (is_way is_call (way (packed held) tail)) own.0 (way_formed is_call (packed held) tail own.1)) (merged_formed n [] rest refl both.1))
 merged_formed n held (part (leaves tail) rest) hh h = absurd (true≢false (sym h))
 
--- ---- functions: behind straight code the function goes on
+-- ---- functions: after straight code the function goes on
 
 function_straights : (n : ℕ) (bs : List Slots) (p : PlainPart) (rest : PlainParts) → are_calm bs ≡ true → function_formed n (part p rest) ≡ true → function_formed n (straights bs (part p rest)) ≡ true
 function_straights n [] p rest hb h = h
 function_straights n (b ∷ bs) p rest hb h = and_from (are_calm (b ∷ bs)) (function_formed n (part p rest)) hb h
-
-function_then : (n : ℕ) (p : PlainPart) (rest : PlainParts) → part_formed n p ≡ true → function_formed n rest ≡ true → function_formed n (part p rest) ≡ true
-function_then n (straight bs) rest hp h = and_from (part_formed n (straight bs)) (function_formed n rest) hp h
-function_then n (repeats count body tail) rest hp h = and_from (part_formed n (repeats count body tail)) (function_formed n rest) hp h
-function_then n (calls_to k tail) rest hp h = and_from (part_formed n (calls_to k tail)) (function_formed n rest) hp h
-function_then n (leaves tail) rest hp h = absurd (true≢false (sym hp))
 
 pub merged_function : (n : ℕ) (held : List Slots) (ps : PlainParts) → are_calm held ≡ true → function_formed n ps ≡ true → function_formed n (parts_merged held ps) ≡ true
 merged_function n held no_part hh h = absurd (true≢false (sym h))

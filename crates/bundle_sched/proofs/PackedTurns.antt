@@ -8,9 +8,10 @@ use Rattle.sp_shape.proofs.Whole.{run_append, run_whole}
 use Rattle.sp_shape.specs.Run.{Run, IsWhole, Back, Sources, branches, returns, run}
 use Rattle.sp_shape.specs.Trail.{Step, does, begins, all_done, part_trail, trails}
 use Rattle.sp_shape.specs.Turning.{AllTurns, PartsTurn, back_of, FunctionsTurn, ShapeTurns}
+use Rattle.sp_shape.proofs.Lists.{done_append}
 use Rattle.bundle_sched.specs.Packed.{last_or}
 use Rattle.bundle_sched.specs.Packing.{packed, can_move, has_room, but_last, goes_down, kept, way, turn_packed, straights, parts_merged, merged}
-use Rattle.bundle_sched.proofs.Alike.{Alike, alike_same, alike_then, alike_on, alike_is, alike_begun, packed_alike, way_alike, turn_alike, in_front, done_append, merged_alike, merged_at, functions_alike}
+use Rattle.bundle_sched.proofs.Alike.{Alike, alike_same, alike_then, alike_on, alike_is, alike_begun, packed_alike, way_alike, turn_alike, in_front, merged_alike, merged_at, functions_alike}
 use Rattle.bundle_sched.proofs.BehindFlow.{moved_ways}
 use Rattle.bundle_sched.proofs.SpacedTurns.{chosen}
 
@@ -51,11 +52,11 @@ module _ (from : Sources) (f g : ℕ → List Step) (Called Late : ℕ → Run �
   straights_turn [] rest m h = h
   straights_turn (b ∷ bs) rest m h = (tt, h)
 
-  -- straight code, and a tail behind it
+  -- straight code, and a tail after it
   held_way : (held tail : List Slots) → Alike from (all_done (kept (packed held) tail) ++ all_done (way (packed held) tail)) (all_done held ++ all_done tail)
   held_way held tail = alike_on (way_alike from (packed held) tail) (alike_then (packed_alike from held) (alike_same from (all_done tail)))
 
-  -- what runs behind the tail begins with the same
+  -- what runs after the tail begins with the same
   way_state : (held tail : List Slots) (xs us : List Step) → Alike from xs us → (m : Run) → IsWhole m
       → run from (all_done (way (packed held) tail) ++ xs) (run from (all_done (kept (packed held) tail)) m) ≡ run from (all_done tail ++ us) (run from (all_done held) m)
   way_state held tail xs us a m whole =

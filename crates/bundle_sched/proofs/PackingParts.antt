@@ -1,6 +1,7 @@
--- One more part is packed, behind straight code that is held.
+-- One more part is packed, after straight code that is held.
 use Rattle.std.proofs.Common.{◌≡◌, ℕ, ◌+◌, ◌<◌, ◌≤◌, List, [], ◌∷◌, ◌++◌, length, drop, get_or, refl, sym, ap, ◌∙◌, arith}
 use Rattle.std.proofs.lemmas.List.{drop_all}
+use Rattle.tc_word.proofs.Items.{drop_item}
 use Rattle.patmos_instr.specs.Bundles.{Slots}
 use Rattle.sp_shape.proofs.Joins.{shown, joined-assoc, joined-nothing}
 use Rattle.sp_shape.proofs.Plain.{straight_said, repeat_said, call_said, leave_said}
@@ -9,7 +10,6 @@ use Rattle.sp_shape.specs.Shown.{plain_part, parts_of}
 use Rattle.sp_shape.specs.declared.parts.Part.{Part, Straight, CallTo, Leave}
 use Rattle.sp_shape.specs.declared.parts.Part.TheViews.{Repeat}
 use Rattle.bundle_sched.specs.Packing.{packed, kept, way, turn_packed, straights, parts_merged}
-use Rattle.bundle_sched.proofs.Placing.{drop_item}
 
 -- ---- a part goes out
 

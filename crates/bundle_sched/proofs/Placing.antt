@@ -1,6 +1,7 @@
 -- One more bundle is spaced, and one more part is placed.
-use Rattle.std.proofs.Common.{◌≡◌, ℕ, suc, ◌+◌, ◌<◌, ◌≤◌, List, [], ◌∷◌, ◌++◌, length, drop, get_or, refl, ap, sym, ◌∙◌, add-one, append_assoc, append-nil, drop-cons}
+use Rattle.std.proofs.Common.{◌≡◌, ℕ, ◌+◌, ◌<◌, ◌≤◌, List, [], ◌∷◌, ◌++◌, length, drop, get_or, refl, ap, sym, ◌∙◌, append_assoc, append-nil}
 use Rattle.std.proofs.lemmas.List.{drop_all}
+use Rattle.tc_word.proofs.Items.{drop_item}
 use Rattle.patmos_instr.specs.Bundles.{Slots}
 use Rattle.sp_shape.proofs.Joins.{shown, joined-assoc, joined-nothing}
 use Rattle.sp_shape.proofs.Plain.{repeat_said}
@@ -9,9 +10,6 @@ use Rattle.sp_shape.specs.Shown.{plain_part, parts_of}
 use Rattle.sp_shape.specs.declared.parts.Part.{Part}
 use Rattle.sp_shape.specs.declared.parts.Part.TheViews.{Repeat}
 use Rattle.bundle_sched.specs.Placed.{one_spaced, spaced, part_placed, parts_placed}
-
-pub drop_item : {X : Type 0} (xs : List X) (i : ℕ) (x : X) → i < length xs → x ≡ get_or xs i x → drop i xs ≡ x ∷ drop (i + 1) xs
-drop_item xs i x within is = drop-cons xs i x within ∙ ap (λ y. y ∷ drop (suc i) xs) (sym is) ∙ ap (λ n. x ∷ drop n xs) (sym (add-one i))
 
 -- ---- bundles
 

@@ -54,7 +54,7 @@ early_stays b bs early same = ap (λ awaited. (if awaited then b ∷ idle ∷ []
 abbrev pub is_prompt : Slots → Bool
 is_prompt b = not (is_late b.first.op)
 
--- of the slots behind the flow of a tail
+-- of the slots after the flow of a tail
 abbrev pub turn_prompt : List Slots → Bool
 turn_prompt [] = true
 turn_prompt (b ∷ bs) = if is_branch b.first.op then list_all is_prompt bs else turn_prompt bs

@@ -10,7 +10,7 @@ use Rattle.sp_shape.specs.Turning.{AllTurns, PartTurns, PartsTurn, back_of, Func
 use Rattle.bundle_sched.specs.Placed.{spaced, part_placed, parts_placed, placed}
 use Rattle.bundle_sched.proofs.SpacedRuns.{Same, same_nothing, same_then, same_begun, same_bundles, same_part, same_parts, same_functions, placed_at}
 
--- what is said of the runs before and behind a tail
+-- what is said of the runs before and after a tail
 behind_tail : {from : Sources} {xs us : List Step} (P : Run → Run → Type 0) (tail : List Slots) → Same from xs us → (m : Run) → IsWhole m
     → P (run from us m) (run from (all_done tail) (run from us m)) → P (run_late from xs m) (run_late from (all_done (spaced tail)) (run_late from xs m))
 behind_tail {from} {xs} {us} P tail a m whole h =

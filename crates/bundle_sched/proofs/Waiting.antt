@@ -1,35 +1,32 @@
 -- What comes of code read at once comes of spaced code read late.
-use Rattle.std.proofs.Common.{◌≡◌, ℕ, ◌*◌, ◌==◌, Bool, true, false, not, true≢false, if◌then◌else◌, Option, Some, None, List, [], ◌∷◌, ◌++◌, refl, sym, ap, ◌∙◌, subst}
+use Rattle.std.proofs.Common.{◌≡◌, ℕ, Bool, true, false, not, true≢false, if◌then◌else◌, Option, Some, None, List, [], ◌∷◌, ◌++◌, refl, sym, ap, ◌∙◌, subst}
 use Rattle.std.specs.Prelude.{◌&&◌}
 use Rattle.std.proofs.lemmas.Bool.{and_parts, not-true, not-false}
 use Rattle.patmos_instr.specs.Bundles.{Slots}
-use Rattle.patmos_instr.specs.declared.guards.Guard.{Guard}
 use Rattle.patmos_instr.specs.declared.instructions.Instr.{Instr}
 use Rattle.patmos_instr.specs.declared.instructions.Op.{Op}
-use Rattle.patmos_instr.specs.declared.instructions.Op.TheVariants.{AluImm, AluReg, AluLong, Mul, Cmp, CmpImm, Comb, ToSpecial, FromSpecial, Stack, Load, Store, Return}
+use Rattle.patmos_instr.specs.declared.instructions.Op.TheVariants.{Mul, FromSpecial, Stack, Load, Store}
 use Rattle.patmos_instr.specs.declared.specials.Special.{Special}
 use Rattle.patmos_instr.specs.declared.specials.Special.TheVariants as special
 use Rattle.patmos_sem.specs.Bundles.{slot_write, second_write, slot_begun, effect_of}
-use Rattle.patmos_sem.specs.Effects.{address_of, width_bytes, store_bytes, special_in, write_of, begun, asked}
-use Rattle.patmos_sem.specs.Operations.{alu_of, alu_value, compare_value, pred_value}
-use Rattle.patmos_sem.specs.Registers.{Registers, FitsRegisters, word_in, holds, preds_number}
-use Rattle.patmos_sem.specs.Writes.{after_writes, came, register_after, pred_after, register_by, pred_by, low_by, high_by, base_by, offset_by}
+use Rattle.patmos_sem.specs.Effects.{address_of, store_bytes, special_in, write_of, begun, asked}
+use Rattle.patmos_sem.specs.Registers.{Registers, FitsRegisters, word_in, pred_in, holds, preds_number}
+use Rattle.patmos_sem.specs.Writes.{after_writes, came, register_by, pred_by, low_by, high_by, base_by, offset_by}
 use Rattle.patmos_sem.specs.declared.effects.Effect.TheVariants as effect
-use Rattle.patmos_sem.specs.declared.effects.FlowKind.TheVariants as flow
 use Rattle.patmos_sem.specs.declared.pending.Pending.{Pending}
 use Rattle.patmos_sem.specs.declared.pending.Pending.TheVariants as pending
 use Rattle.patmos_sem.specs.declared.writes.Write.{Write}
 use Rattle.patmos_sem.specs.declared.writes.Write.TheVariants as write
-use Rattle.patmos_sem.proofs.Told.{kept_preds, renewed-renewed}
-use Rattle.tc_word.specs.Word.{product, low_word, high_word}
+use Rattle.patmos_sem.proofs.Told.{kept_preds, after_writes-append}
 use Rattle.sp_shape.proofs.Whole.{with_pending, behind, stored_regs, stacked_regs, once_whole, late_fits}
 use Rattle.sp_shape.specs.Run.{Run, IsWhole, Sources, effected, late, once, settled, with_settled, run_late, run}
 use Rattle.sp_shape.specs.Small.{idle}
 use Rattle.sp_shape.specs.Trail.{all_done}
 use Rattle.sp_shape.specs.Words.{is_late}
-use Rattle.bundle_sched.specs.Operands.{reads, lacks, apart}
+use Rattle.bundle_sched.specs.Operands.{reads, op_tests, tests, lacks, apart}
 use Rattle.bundle_sched.specs.Placed.{reads_product, ignores, second_ignores, ignores_both, is_awaited, spaced}
-use Rattle.bundle_sched.proofs.Unwritten.{word_kept, pred_kept}
+use Rattle.bundle_sched.proofs.Reading.{SameSpecial, each_true, slot_same, any_write, any_begun, any_asked}
+use Rattle.bundle_sched.proofs.Unwritten.{word_kept, pred_kept, word_spared}
 use Rattle.bundle_sched.proofs.Once.{with_regs, early_once, idle_settles}
 
 -- ---- what is pending, and what does not read it
@@ -65,7 +62,7 @@ unread_apart (pending.Product low high) op unread = none_apart (reads op)
 
 register_left : (p : Pending) (r x : ℕ) → lacks (goes_to p) r ≡ true → register_by r (came p) x ≡ x
 register_left pending.Nothing r x h = refl
-register_left (pending.Value rd value) r x h = ap (λ b. if b then value else x) (not-true (rd == r) (and_parts (not (rd == r)) true h).0)
+register_left (pending.Value rd value) r x h = word_spared rd r value x h
 register_left (pending.Product low high) r x h = refl
 
 pred_left : (p : Pending) (n : ℕ) (x : Bool) → pred_by n (came p) x ≡ x
@@ -93,28 +90,17 @@ high_left pending.Nothing rd x unread = refl
 high_left (pending.Value r value) rd x unread = refl
 high_left (pending.Product low high) rd x unread = absurd (true≢false unread)
 
--- ---- an instruction that does not read what is pending does the same before it has come and behind
+-- ---- an instruction that does not read what is pending does the same before it has come and after
 
 module _ (regs : Registers) (fits : FitsRegisters regs) where
   abbrev arriving : Pending
   arriving = regs.pending
 
   word_stays : (r : ℕ) → lacks (goes_to arriving) r ≡ true → word_in (settled regs) r ≡ word_in regs r
-  word_stays r h = word_kept (came arriving) regs r fits (λ x. register_left arriving r x h)
+  word_stays r h = word_kept (came arriving ∷ []) regs r fits (λ x. register_left arriving r x h)
 
-  guard_stays : (g : Guard) → holds (settled regs) g ≡ holds regs g
-  guard_stays g = ap (λ b. if g.negated then not b else b) (pred_kept (came arriving ∷ []) regs g.pred fits (λ x. pred_left arriving g.pred x))
-
-  one_word : {A : Type 0} (f : ℕ → A) (r : ℕ) → apart (goes_to arriving) (r ∷ []) ≡ true → f (word_in (settled regs) r) ≡ f (word_in regs r)
-  one_word f r free = ap f (word_stays r (and_parts (lacks (goes_to arriving) r) true free).0)
-
-  two_words : {A : Type 0} (f : ℕ → ℕ → A) (r s : ℕ) → apart (goes_to arriving) (r ∷ s ∷ []) ≡ true
-      → f (word_in (settled regs) r) (word_in (settled regs) s) ≡ f (word_in regs r) (word_in regs s)
-  two_words f r s free =
-      let both = and_parts (lacks (goes_to arriving) r) (lacks (goes_to arriving) s && true) free in
-      let p = word_stays r both.0 in
-      let q = word_stays s (and_parts (lacks (goes_to arriving) s) true both.1).0 in
-      λ k. f (p k) (q k)
+  pred_stays : (p : ℕ) → true ≡ true → pred_in (settled regs) p ≡ pred_in regs p
+  pred_stays p h = pred_kept (came arriving ∷ []) regs p fits (λ x. pred_left arriving p x)
 
   special_stays : (st ss rd : ℕ) (from : Special) → Unread arriving (FromSpecial rd from) → special_in st ss (settled regs) from ≡ special_in st ss regs from
   special_stays st ss rd special.S0 unread = ap preds_number (sym (kept_preds (came arriving) regs.preds fits.always (λ p old ne. pred_left arriving p old)))
@@ -125,40 +111,24 @@ module _ (regs : Registers) (fits : FitsRegisters regs) where
   special_stays st ss rd special.St unread = refl
   special_stays st ss rd special.Ss unread = refl
 
+  specials_stay : (st ss : ℕ) (op : Op) → Unread arriving op → SameSpecial st ss regs (settled regs) op
+  specials_stay st ss (FromSpecial rd from) unread = special_stays st ss rd from unread
+  specials_stay st ss _ unread = tt
+
   write_stays : (st ss : ℕ) (op : Op) → Unread arriving op → write_of st ss (settled regs) op ≡ write_of st ss regs op
-  write_stays st ss op unread = so op unread (unread_apart arriving op unread)
-    where
-      so : (op : Op) → Unread arriving op → apart (goes_to arriving) (reads op) ≡ true → write_of st ss (settled regs) op ≡ write_of st ss regs op
-      so (AluImm func rd ra imm) unread free = one_word (λ x. write.Register rd (alu_value (alu_of func) x imm)) ra free
-      so (AluReg func rd ra rb) unread free = two_words (λ x y. write.Register rd (alu_value func x y)) ra rb free
-      so (AluLong func rd ra constant) unread free = one_word (λ x. write.Register rd (alu_value func x constant)) ra free
-      so (Cmp func pd ra rb) unread free = two_words (λ x y. write.Predicate pd (compare_value func x y)) ra rb free
-      so (CmpImm func pd ra imm) unread free = one_word (λ x. write.Predicate pd (compare_value func x imm)) ra free
-      so (Comb func pd a b) unread free = λ k. write.Predicate pd (pred_value func (guard_stays a k) (guard_stays b k))
-      so (ToSpecial to ra) unread free = one_word (λ x. write.Special to x) ra free
-      so (FromSpecial rd from) unread free = ap (write.Register rd) (special_stays st ss rd from unread)
-      so _ unread free = refl
+  write_stays st ss op unread =
+      any_write regs (settled regs) (lacks (goes_to arriving)) (λ p. true) word_stays pred_stays st ss op (unread_apart arriving op unread) (each_true (op_tests op)) (specials_stay st ss op unread)
 
   begun_stays : (op : Op) → Unread arriving op → begun (settled regs) op ≡ begun regs op
-  begun_stays op unread = so op (unread_apart arriving op unread)
-    where
-      so : (op : Op) → apart (goes_to arriving) (reads op) ≡ true → begun (settled regs) op ≡ begun regs op
-      so (Mul true ra rb) free = two_words (λ x y. pending.Product (low_word (x * y)) (high_word (x * y))) ra rb free
-      so (Mul false ra rb) free = two_words (λ x y. pending.Product (low_word (product x y)) (high_word (product x y))) ra rb free
-      so _ free = refl
+  begun_stays op unread = any_begun regs (settled regs) (lacks (goes_to arriving)) (λ p. true) word_stays pred_stays op (unread_apart arriving op unread)
 
   asked_stays : (op : Op) → Unread arriving op → asked (settled regs) op ≡ asked regs op
-  asked_stays op unread = so op (unread_apart arriving op unread)
-    where
-      so : (op : Op) → apart (goes_to arriving) (reads op) ≡ true → asked (settled regs) op ≡ asked regs op
-      so (Load space width rd ra imm) free = one_word (λ x. effect.Load space width rd (address_of x imm (width_bytes width))) ra free
-      so (Store space width ra rs imm) free = two_words (λ x y. effect.Store space width (address_of x imm (store_bytes width)) y) ra rs free
-      so Return free = λ k. effect.Flow (flow.Return (base_left arriving regs.srb k) (offset_left arriving regs.sro k))
-      so _ free = refl
+  asked_stays op unread =
+      any_asked regs (settled regs) (lacks (goes_to arriving)) (λ p. true) word_stays pred_stays (base_left arriving regs.srb) (offset_left arriving regs.sro) op (unread_apart arriving op unread)
 
   slot_stays : {A : Type 0} (f : Registers → Op → A) (none : A) (i : Instr) → f (settled regs) i.op ≡ f regs i.op
       → (if holds (settled regs) i.guard then f (settled regs) i.op else none) ≡ (if holds regs i.guard then f regs i.op else none)
-  slot_stays f none i same = λ k. if guard_stays i.guard k then same k else none
+  slot_stays f none i same = slot_same regs (settled regs) (lacks (goes_to arriving)) (λ p. true) word_stays pred_stays f none i (each_true (tests i)) same
 
   second_stays : (st ss : ℕ) (second : Option Instr) → UnreadSecond arriving second
       → second_write st ss (settled regs) second ≡ second_write st ss regs second
@@ -167,23 +137,9 @@ module _ (regs : Registers) (fits : FitsRegisters regs) where
 
 -- ---- what is pending comes first, whether in the bundle or before it
 
-three_registers : (u v w : Write) (r x : ℕ) → register_after (write.Nothing ∷ v ∷ w ∷ []) r (register_after (u ∷ []) r x) ≡ register_after (u ∷ v ∷ w ∷ []) r x
-three_registers u v w r x = elim (r == 0) as (λ b. (if b then 0 else register_by r w (register_by r v (if b then 0 else register_by r u x))) ≡ (if b then 0 else register_by r w (register_by r v (register_by r u x)))) [ true ↦ refl | false ↦ refl ]
-
-three_preds : (u v w : Write) (p : ℕ) (x : Bool) → pred_after (write.Nothing ∷ v ∷ w ∷ []) p (pred_after (u ∷ []) p x) ≡ pred_after (u ∷ v ∷ w ∷ []) p x
-three_preds u v w p x = elim (p == 0) as (λ b. (if b then true else pred_by p w (pred_by p v (if b then true else pred_by p u x))) ≡ (if b then true else pred_by p w (pred_by p v (pred_by p u x)))) [ true ↦ refl | false ↦ refl ]
-
 three_writes : (u v w : Write) (p : Pending) (regs : Registers)
     → with_pending (after_writes (write.Nothing ∷ v ∷ w ∷ []) (with_pending (after_writes (u ∷ []) regs) pending.Nothing)) p ≡ with_pending (after_writes (u ∷ v ∷ w ∷ []) regs) p
-three_writes u v w p regs = λ k. record {
-  general = renewed-renewed 0 (register_after (u ∷ [])) (register_after (write.Nothing ∷ v ∷ w ∷ [])) (register_after (u ∷ v ∷ w ∷ [])) (three_registers u v w) regs.general k;
-  preds = renewed-renewed 0 (pred_after (u ∷ [])) (pred_after (write.Nothing ∷ v ∷ w ∷ [])) (pred_after (u ∷ v ∷ w ∷ [])) (three_preds u v w) regs.preds k;
-  sl = low_by w (low_by v (low_by u regs.sl));
-  sh = high_by w (high_by v (high_by u regs.sh));
-  srb = base_by w (base_by v (base_by u regs.srb));
-  sro = offset_by w (offset_by v (offset_by u regs.sro));
-  pending = p;
-}
+three_writes u v w p regs = ap (λ r. with_pending r p) (after_writes-append (u ∷ []) (write.Nothing ∷ v ∷ w ∷ []) regs)
 
 -- ---- a bundle that does not read what is pending
 
@@ -197,7 +153,7 @@ unread_late from b m fits unread =
     ∙ ap (λ regs. effected from (effect_of b m.regs) (with_regs m regs))
     (three_writes (came m.regs.pending) (slot_write m.st m.ss m.regs b.first) (second_write m.st m.ss m.regs b.second) (slot_begun m.regs b.first) m.regs)
 
--- what is pending behind an operation is not read by what ignores it
+-- what is pending after an operation is not read by what ignores it
 pending_unread : (from : Sources) (on : Bool) (op other : Op) (regs : Registers) (m : Run) → ignores op other ≡ true → m.regs.pending ≡ (if on then begun regs op else pending.Nothing)
     → Unread (effected from (if on then asked regs op else effect.Nothing) m).regs.pending other
 pending_unread from false op other regs m h is = subst (λ p. Unread p other) (sym is) tt
@@ -221,7 +177,7 @@ unread_behind from a b m h = let both = and_parts (ignores a.first.op b.first.op
 
 -- ---- bundles
 
--- where what comes late of a bundle is not waited for, the next one does the same before it has come and behind
+-- where what comes late of a bundle is not waited for, the next one does the same before it has come and after
 goes_on : (from : Sources) (a b : Slots) (bs : List Slots) (m : Run) → IsWhole m → is_awaited a (b ∷ bs) ≡ false → late from b (late from a m) ≡ late from b (once from a m)
 goes_on from a b bs m whole none = so (is_late a.first.op) refl
   where
@@ -239,7 +195,7 @@ by_first from b bs m n same =
       | false ↦ ap (run_late from (all_done (spaced bs))) same
     ]
 
--- the code behind a bundle
+-- the code after a bundle
 rest_runs : (from : Sources) (a : Slots) (bs : List Slots) (m : Run) → IsWhole m → is_awaited a bs ≡ false → run_late from (all_done (spaced bs)) (late from a m) ≡ run_late from (all_done (spaced bs)) (once from a m)
 rest_runs from a [] m whole none = early_once from a m whole none
 rest_runs from a (b ∷ bs) m whole none = by_first from b bs (late from a m) (once from a m) (goes_on from a b bs m whole none)

@@ -1,4 +1,5 @@
 pub mod Operands
+pub mod Ordered
 pub mod Packed
 pub mod Packing
 pub mod Placed

@@ -1,5 +1,5 @@
--- What an instruction reads and writes of the general registers and of the predicates (Patmos Reference Handbook,
--- instruction set).
+-- To be believed. What an instruction reads and writes of the general registers and of the predicates
+-- (Patmos Reference Handbook, instruction set).
 use Rattle.std.specs.Prelude.{ℕ, ◌==◌, Bool, true, false, not, ◌&&◌, List, [], ◌∷◌}
 use Rattle.std.specs.List.{list_all}
 use Rattle.patmos_instr.specs.declared.instructions.Instr.{Instr}

@@ -1,6 +1,6 @@
--- Packed code: no two neighbouring bundles stand apart that could be one, and no delay slot of a call or a return does
--- nothing that the bundle before could fill (our own profile TP1).
-use Rattle.std.specs.Prelude.{Bool, true, false, not, ◌&&◌, ◌||◌, None, Some, is_none, List, [], ◌∷◌}
+-- To be believed. Packed code: no two neighbouring bundles stand apart that could be one, and no delay slot of a call
+-- or a return does nothing that the bundle before could fill (our own profile TP1).
+use Rattle.std.specs.Prelude.{Bool, true, false, not, ◌&&◌, ◌||◌, Some, None, is_none, List, [], ◌∷◌}
 use Rattle.std.specs.List.{list_all}
 use Rattle.patmos_instr.specs.Bundles.{Slots}
 use Rattle.patmos_instr.specs.Instructions.{is_long, is_second_kind}
@@ -21,13 +21,20 @@ is_small b = is_none b.second && not (is_long b.first.op)
 
 -- the second neither reads nor writes what the first writes: its guard is read, and a write of s0 writes all predicates
 abbrev pub is_free : Instr → Instr → Bool
-is_free a b = apart (results a.op) (reads b.op) && (spares a.op (tests b) && (apart (results a.op) (results b.op) && spares a.op (flags b.op)))
+is_free a b =
+    apart (results a.op) (reads b.op)
+    && (spares a.op (tests b) && (apart (results a.op) (results b.op) && spares a.op (flags b.op)))
 
 -- two that can be one: no value of the first comes late
 abbrev pub can_pair : Slots → Slots → Bool
-can_pair a b = is_small a && (is_small b && (is_second_kind b.first.op && (not (is_late a.first.op) && is_free a.first b.first)))
+can_pair a b =
+    is_small a && (is_small b && (is_second_kind b.first.op && (not (is_late a.first.op) && is_free a.first b.first)))
 
--- a and b can be one behind x: no value of x comes late, so none comes in a
+-- two in one
+abbrev pub pair : Slots → Slots → Slots
+pair a b = record { first = a.first; second = Some b.first }
+
+-- a and b can be one after x: no value of x comes late, so none comes in a
 abbrev pub mergeable : Slots → Slots → Slots → Bool
 mergeable x a b = not (is_late x.first.op) && can_pair a b
 
@@ -74,7 +81,7 @@ is_used (b ∷ bs) tail = (is_idle (last_or b bs) || holds_special (last_or b bs
 
 -- ---- parts and shapes
 
--- what may stand directly behind a part
+-- what may stand directly after a part
 abbrev pub can_follow : PlainPart → PlainParts → Bool
 can_follow (straight bs) (part (straight cs) rest) = false
 can_follow (straight bs) (part (calls_to k tail) rest) = is_used bs tail

@@ -58,18 +58,25 @@ fn ignores_both(late: &Op, bundle: &Bundle) -> bool
     }
 }
 
+/// Whether a bundle reads what comes late of the one before it.
+pub fn waits_for(bundle: &Bundle, before: &Bundle) -> bool
+    ensures { result ≡ specs.waits_for bundle.now before.now }
+{
+    let op = before.first().op;
+    is_late(&op) && !ignores_both(&op, bundle)
+}
+
 // whether what comes late of a bundle is waited for: the next one reads it, or there is none
 fn is_awaited(bundle: &Bundle, others: &[Bundle]) -> bool
     ensures { result ≡ specs.is_awaited bundle.now others.now }
 {
-    let op = bundle.first().op;
     match others {
-        [] => is_late(&op),
-        [next, ..] => is_late(&op) && !ignores_both(&op, next),
+        [] => is_late(&bundle.first().op),
+        [next, ..] => waits_for(next, bundle),
     }
 }
 
-// a bundle before others, and behind it one that does nothing where what comes late of it is waited for
+// a bundle before others, and after it one that does nothing where what comes late of it is waited for
 fn push_spaced(out: &mut Vec<Bundle>, bundle: &Bundle, others: &[Bundle]) -> Result<(), OutOfMemory>
     ensures { OnOk result (out.new.items ≡ out.old.items ++ specs.one_spaced bundle.now others.now) }
 {

@@ -1,7 +1,6 @@
 //! Laws of scheduled shapes.
 ghost use Rattle.std.specs.Prelude.{◌≡◌, ℕ, Bool, true, slice_index_or};
-ghost use Rattle.bundle_sched.specs.Packed.{can_pair};
-ghost use Rattle.bundle_sched.specs.Packing.{pair};
+ghost use Rattle.bundle_sched.specs.Packed.{can_pair, pair};
 ghost use Rattle.bundle_sched.specs.Scheduled.{scheduled};
 ghost use Rattle.patmos_instr.specs.Bundles.{Slots};
 ghost use Rattle.sp_shape.specs.Bundles.{is_idle, parts_all};
@@ -12,6 +11,8 @@ ghost use Rattle.sp_shape.specs.Parts.{no_part, PlainShape};
 #[tactic(auto, using(crate::proofs::Kept::none_lost))]
 pub fn no_bundle_is_lost()
     ensures { (holds : Slots → Bool) → ((b : Slots) → is_idle b ≡ true → holds b ≡ true)
-        → ((a b : Slots) → can_pair a b ≡ true → holds (pair a b) ≡ true → (holds a ≡ true) × (holds b ≡ true)) → (s : PlainShape) (k : ℕ)
-        → parts_all holds (slice_index_or (scheduled s).functions k no_part) ≡ true → parts_all holds (slice_index_or s.functions k no_part) ≡ true }
+        → ((a b : Slots) → can_pair a b ≡ true → holds (pair a b) ≡ true → (holds a ≡ true) × (holds b ≡ true))
+        → (s : PlainShape) (k : ℕ)
+        → parts_all holds (slice_index_or (scheduled s).functions k no_part) ≡ true
+        → parts_all holds (slice_index_or s.functions k no_part) ≡ true }
 {}

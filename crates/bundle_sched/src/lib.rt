@@ -1,33 +1,36 @@
 //! Compiled code, packed and with its values in time.
 //!
-//! The processor carries out bundles of one instruction or two. It gives a load's value and a product one bundle late: the
-//! next bundle still reads what stood in their registers before. And behind a call, a return or a branch it carries out
-//! the bundles of its delay slots too. Code is compiled as if each value were there at once, one instruction in a bundle,
-//! and with delay slots that do nothing. It is then scheduled, in two steps:
+//! The processor carries out bundles of one instruction or two. It gives a load's value and a product one bundle late:
+//! the next bundle still reads what stood in their registers before. And after a call, a return or a branch it carries
+//! out the bundles of its delay slots too. Code is compiled as if each value were there at once, one instruction in a
+//! bundle, and with delay slots that do nothing. It is then scheduled, in three steps:
 //!
-//! - It is packed: bundles that do nothing are left out; two neighbours become one bundle where the second neither reads
-//!   nor writes what the first writes; and the last bundle before a call or a return goes into its first delay slot, but
-//!   where its value comes late or it writes a special register. What stands before a loop's branch is packed too, and the
-//!   last of it goes into the branch's first delay slot where it leaves the predicate that the branch asks for.
-//! - Each value comes in time: a bundle that does nothing stands behind each load and each product that the next bundle
+//! - It is ordered: bundles that do nothing are left out; and an instruction that works on registers or predicates
+//!   alone goes back, over a few bundles that have nothing in common with it, to the first that it can be one with, or
+//!   to where it fills the time in which a bundle waits for a load or a product. All else keeps its order.
+//! - It is packed: two neighbours become one bundle where the second neither reads nor writes what the first writes;
+//!   and the last bundle before a call or a return goes into its first delay slot, but where its value comes late or it
+//!   writes a special register. What stands before a loop's branch is ordered and packed too, and the last of it goes
+//!   into the branch's first delay slot where it leaves the predicate that the branch asks for.
+//! - Each value comes in time: a bundle that does nothing stands after each load and each product that the next bundle
 //!   reads, or that is the last of its piece.
 //!
-//! [`schedule`] does so with a shape that is well formed, each bundle of which is one instruction, and whose delay slots do
-//! nothing. It gives exactly the shape that `specs/Scheduled.antt` defines, and promises besides:
+//! [`schedule`] does so with a shape that is well formed, each bundle of which is one instruction, and whose delay
+//! slots do nothing. It gives exactly the shape that `specs/Scheduled.antt` defines, and promises besides:
 //!
 //! - What comes of the answer's trail, read late, is what comes of the argument's, read at once, from all states in
 //!   which nothing is pending, wherever loads take their values from: registers, memories, and what was asked for.
 //! - Where each loop of the argument makes all its turns, each of the answer's does.
 //! - The answer is well formed. Where whatever may have a transaction with main memory is always done, it still is. A
 //!   function takes at most as many words as sp_shape's `specs/Words.antt` gives it room.
-//! - The answer is packed, as `specs/Packed.antt` says: no two neighbours of straight code stand apart that could be one,
-//!   and no call and no return has a first delay slot that does nothing where the bundle before it could fill it.
+//! - The answer is packed, as `specs/Packed.antt` says: no two neighbours of straight code stand apart that could be
+//!   one, and no call and no return has a first delay slot that does nothing where the bundle before it could fill it.
 //!
 //! That no bundle is lost, so that what holds of each of the answer holds of each of the argument, is
 //! [`no_bundle_is_lost`].
 //!
-//! - `specs/Operands.antt` has what an instruction reads and writes, `specs/Packing.antt` how code is packed, and
-//!   `specs/Placed.antt` where a bundle that does nothing is put.
+//! - `specs/Operands.antt` has what an instruction reads and writes, `specs/Ordered.antt` how code is ordered,
+//!   `specs/Packing.antt` how it is packed, and `specs/Placed.antt` where a bundle that does nothing is put.
 //!
 //! What its words mean stands in [the glossary](../../../docs/GLOSSARY.md).
 #![tactic(auto)]
@@ -35,6 +38,7 @@
 mod bundles;
 mod laws;
 mod operands;
+mod ordering;
 mod packing;
 mod pairs;
 mod parts;
@@ -44,4 +48,4 @@ mod worked;
 
 pub use laws::no_bundle_is_lost;
 pub use shapes::schedule;
-pub use worked::{worked_loops, worked_packed, worked_packing, worked_places};
+pub use worked::{worked_loops, worked_ordering, worked_packed, worked_packing, worked_places};

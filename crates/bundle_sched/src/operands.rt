@@ -2,9 +2,8 @@
 ghost use Rattle.std.specs.Prelude.{◌≡◌, ◌&&◌, true, [], ◌∷◌};
 ghost use Rattle.bundle_sched.specs.Operands as operands;
 ghost use Rattle.bundle_sched.specs.Packed as specs;
-ghost use Rattle.patmos_instr.specs.Instructions.{is_second_kind};
 
-use patmos_instr::{Instr, Op, Pred, Reg, WritableSpecial};
+use patmos_instr::{Instr, Op, Pred, Reg, Special, WritableSpecial};
 
 // whether an operation leaves a register
 fn lacks(op: &Op, register: Reg) -> bool
@@ -90,31 +89,65 @@ fn is_no_s0(op: &Op) -> bool
     )
 }
 
-// whether what stands in the second slot neither reads nor writes what the first writes
-fn is_free_of(a: &Op, on: Pred, b: &Op) -> bool
-    requires { is_second_kind b.now ≡ true }
-    ensures { result ≡ (operands.apart (operands.results a.now) (operands.reads b.now) && (operands.spares a.now (on ∷ operands.op_tests b.now)
-        && (operands.apart (operands.results a.now) (operands.results b.now) && operands.spares a.now (operands.flags b.now)))) }
+// whether it leaves all eight predicates
+#[tactic(auto, using(crate::proofs::OneByOne::one_of_all))]
+fn leaves_all_preds(op: &Op) -> bool
+    ensures { result ≡ operands.spares op.now operands.all_preds }
 {
-    match *b {
-        Op::AluImm { rd, ra, .. } => {
-            leaves_one(a, ra) && (lacks_pred(a, on) && (leaves_one(a, rd) && is_no_s0(a)))
-        }
-        Op::AluReg { rd, ra, rb, .. } => {
-            leaves_two(a, ra, rb) && (lacks_pred(a, on) && (leaves_one(a, rd) && is_no_s0(a)))
-        }
-        Op::Cmp { pd, ra, rb, .. } => leaves_two(a, ra, rb)
-            && (lacks_pred(a, on) && lacks_pred(a, pd)),
-        Op::CmpImm { pd, ra, .. } => leaves_one(a, ra) && (lacks_pred(a, on) && lacks_pred(a, pd)),
-        Op::Comb { pd, a: x, b: y, .. } => spares_three(a, on, x.pred, y.pred) && lacks_pred(a, pd),
-        _ => false,
+    match *op {
+        Op::Cmp { pd, .. } | Op::CmpImm { pd, .. } | Op::Comb { pd, .. } => pd.number() > 7,
+        _ => is_no_s0(op),
     }
 }
 
-/// Whether what stands in the second slot neither reads nor writes what the first writes, its guard among it.
+// whether one operation leaves a predicate and those that the other reads
+#[tactic(auto, using(crate::proofs::OneByOne::spares_all))]
+fn leaves_tested(a: &Op, on: Pred, b: &Op) -> bool
+    ensures { result ≡ operands.spares a.now (on ∷ operands.op_tests b.now) }
+{
+    match *b {
+        Op::Comb { a: x, b: y, .. } => spares_three(a, on, x.pred, y.pred),
+        Op::FromSpecial {
+            special: Special::S0,
+            ..
+        } => lacks_pred(a, on) && leaves_all_preds(a),
+        _ => lacks_pred(a, on),
+    }
+}
+
+// whether one operation leaves the register that the other writes
+fn leaves_written(a: &Op, b: &Op) -> bool
+    ensures { result ≡ operands.apart (operands.results a.now) (operands.results b.now) }
+{
+    match *b {
+        Op::AluImm { rd, .. }
+        | Op::AluReg { rd, .. }
+        | Op::AluLong { rd, .. }
+        | Op::FromSpecial { rd, .. }
+        | Op::Load { rd, .. } => leaves_one(a, rd),
+        _ => true,
+    }
+}
+
+// whether one operation leaves the predicates that the other writes
+fn leaves_flags(a: &Op, b: &Op) -> bool
+    ensures { result ≡ operands.spares a.now (operands.flags b.now) }
+{
+    match *b {
+        Op::Cmp { pd, .. } | Op::CmpImm { pd, .. } | Op::Comb { pd, .. } => lacks_pred(a, pd),
+        Op::ToSpecial {
+            special: WritableSpecial::S0,
+            ..
+        } => leaves_all_preds(a),
+        _ => is_no_s0(a),
+    }
+}
+
+/// Whether the second instruction neither reads nor writes what the first writes, its guard among it.
 pub fn is_free(a: &Instr, b: &Instr) -> bool
-    requires { is_second_kind b.now.op ≡ true }
     ensures { result ≡ specs.is_free a.now b.now }
 {
-    is_free_of(&a.op, b.guard.pred, &b.op)
+    leaves_read(&a.op, &b.op)
+        && (leaves_tested(&a.op, b.guard.pred, &b.op)
+            && (leaves_written(&a.op, &b.op) && leaves_flags(&a.op, &b.op)))
 }

@@ -5,7 +5,7 @@ ghost use Rattle.sp_shape.specs.Parts as shown;
 ghost use Rattle.sp_shape.specs.Parts.{PlainParts, joined};
 ghost use Rattle.sp_shape.specs.Shown.{plain_part, parts_of};
 
-use crate::pairs::packed;
+use crate::ordering::packed;
 use crate::slots::{turn, way};
 use patmos_instr::Bundle;
 use sp_shape::Part;
@@ -15,7 +15,9 @@ use tc_word::{List, OutOfMemory};
 // straight code, where there is some
 #[tactic(auto, using(crate::proofs::PackingParts::straight_pushed, crate::proofs::PackingParts::none_pushed))]
 fn push_straight(out: &mut Vec<Part>, bundles: Vec<Bundle>) -> Result<(), OutOfMemory>
-    ensures { OnOk result ((rest : PlainParts) → joined (parts_of out.new.items) rest ≡ joined (parts_of out.old.items) (packing.straights bundles.items rest)) }
+    ensures { OnOk result ((rest : PlainParts)
+        → joined (parts_of out.new.items) rest
+        ≡ joined (parts_of out.old.items) (packing.straights bundles.items rest)) }
 {
     if !bundles.is_empty() {
         out.push(Part::Straight {
@@ -45,7 +47,8 @@ fn push_before(
 ) -> Result<List<Bundle>, OutOfMemory>
     ensures held { OnOk result (held.new.items ≡ []) }
     ensures out { OnOk result ((rest : PlainParts) → joined (parts_of out.new.items) rest
-        ≡ joined (parts_of out.old.items) (packing.straights (packing.kept (packing.packed held.old.items) tail.now) rest)) }
+        ≡ joined (parts_of out.old.items)
+        (packing.straights (packing.kept (packing.packed held.old.items) tail.now) rest)) }
     ensures tail { IfOk result (λ slots. slots ≡ packing.way (packing.packed held.old.items) tail.now) }
 {
     let alloc = *out.allocator();
@@ -60,8 +63,10 @@ fn push_before(
 #[cycle(packed)]
 #[tactic(auto, using(crate::proofs::PackingParts::straight_held, crate::proofs::PackingParts::repeat_packed, crate::proofs::PackingParts::call_packed, crate::proofs::PackingParts::leave_packed))]
 fn push_packed(out: &mut Vec<Part>, held: &mut Vec<Bundle>, part: &Part) -> Result<(), OutOfMemory>
-    ensures { OnOk result ((rest : PlainParts) → joined (parts_of out.new.items) (packing.parts_merged held.new.items rest)
-        ≡ joined (parts_of out.old.items) (packing.parts_merged held.old.items (shown.part (plain_part part.now) rest))) }
+    ensures { OnOk result ((rest : PlainParts)
+        → joined (parts_of out.new.items) (packing.parts_merged held.new.items rest)
+        ≡ joined (parts_of out.old.items)
+        (packing.parts_merged held.old.items (shown.part (plain_part part.now) rest))) }
 {
     match part {
         Part::Straight { bundles } => held.extend_from_slice(bundles.as_slice())?,

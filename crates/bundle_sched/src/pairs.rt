@@ -58,28 +58,33 @@ fn go_together(a: &Instr, b: &Instr) -> bool
     b.op.is_second_kind() && (!is_late(&a.op) && is_free(a, b))
 }
 
-// two bundles in one, where they can be one
-fn joined(a: &Bundle, b: &Bundle) -> Option<Bundle>
-    ensures some { IfSome result (λ both. (specs.can_pair a.now b.now ≡ true) × (both ≡ packing.pair a.now b.now)) }
+/// Whether two bundles can be one.
+pub fn can_pair(a: &Bundle, b: &Bundle) -> bool
+    ensures { result ≡ specs.can_pair a.now b.now }
+{
+    is_small(a) && (is_small(b) && go_together(&a.first(), &b.first()))
+}
+
+/// Two bundles in one, where they can be one.
+pub fn joined(a: &Bundle, b: &Bundle) -> Option<Bundle>
+    ensures some { IfSome result (λ both. (specs.can_pair a.now b.now ≡ true) × (both ≡ specs.pair a.now b.now)) }
     ensures none { IsNone result → specs.can_pair a.now b.now ≡ false }
 {
-    let small = is_small(a) && is_small(b);
-    let (first, second) = (a.first(), b.first());
-    let together = go_together(&first, &second);
-    if small && together {
-        Bundle::pair(first, second).ok()
+    if can_pair(a, b) {
+        Bundle::pair(a.first(), b.first()).ok()
     } else {
         None
     }
 }
 
-// one more bundle behind the one that is held
+// one more bundle after the one that is held
 fn held(
     out: &mut Vec<Bundle>,
     before: Option<Bundle>,
     bundle: &Bundle,
 ) -> Result<Option<Bundle>, OutOfMemory>
-    ensures { IfOk result (λ next. (rest : List Slots) → out.new.items ++ packing.behind next rest ≡ out.old.items ++ packing.behind before (bundle.now ∷ rest)) }
+    ensures { IfOk result (λ next. (rest : List Slots)
+        → out.new.items ++ packing.behind next rest ≡ out.old.items ++ packing.behind before (bundle.now ∷ rest)) }
 {
     if does_nothing(bundle) {
         return Ok(before);
@@ -96,8 +101,8 @@ fn held(
 
 /// Bundles without those that do nothing, and with neighbours in one where they can be one, left to right.
 #[tactic(auto, using(crate::proofs::Pairing::bundle_held, crate::proofs::Pairing::none_held, crate::proofs::Pairing::last_held))]
-pub fn packed(alloc: Global, bundles: &[Bundle]) -> Result<List<Bundle>, OutOfMemory>
-    ensures { IfOk result (λ list. list ≡ packing.packed bundles.now) }
+pub fn in_pairs(alloc: Global, bundles: &[Bundle]) -> Result<List<Bundle>, OutOfMemory>
+    ensures { IfOk result (λ list. list ≡ packing.in_pairs bundles.now) }
 {
     let mut list = Vec::new(alloc);
     let mut before = None;

@@ -6,7 +6,8 @@ ghost use Rattle.sp_shape.specs.Formed.{is_branch, is_flow};
 
 use crate::bundles::is_late;
 use crate::operands::lacks_pred;
-use crate::pairs::{does_nothing, is_always, packed};
+use crate::ordering::packed;
+use crate::pairs::{does_nothing, is_always};
 use patmos_instr::{Bundle, Guard, Op, Pred};
 use std::alloc::Global;
 use tc_word::{List, OutOfMemory};
@@ -39,7 +40,7 @@ fn holds_special(bundle: &Bundle) -> bool
     }
 }
 
-// whether it may be carried out behind a flow
+// whether it may be carried out after a flow
 fn can_move(bundle: &Bundle) -> bool
     ensures { result ≡ packing.can_move bundle.now }
 {
@@ -58,14 +59,14 @@ fn spares_pred(bundle: &Bundle, pred: Pred) -> bool
     }
 }
 
-// whether a guard holds behind the bundle where it holds before it
+// whether a guard holds after the bundle where it holds before it
 fn spares_guard(bundle: &Bundle, guard: &Guard) -> bool
     ensures { result ≡ packing.spares_guard bundle.now guard.now }
 {
     is_always(guard) || spares_pred(bundle, guard.pred)
 }
 
-// whether a flow is alone and asks for the same before another bundle and behind it
+// whether a flow is alone and asks for the same before another bundle and after it
 fn lets_pass(flow: &Bundle, bundle: &Bundle) -> bool
     ensures { result ≡ packing.lets_pass flow.now bundle.now }
 {
@@ -83,7 +84,7 @@ fn has_room(bundle: &Bundle, tail: &[Bundle]) -> bool
     }
 }
 
-// whether a bundle can go into the first delay slot of the tail behind it
+// whether a bundle can go into the first delay slot of the tail after it
 fn fills(bundle: &Bundle, tail: &[Bundle]) -> bool
     ensures { result ≡ packing.fills bundle.now tail.now }
 {
@@ -101,7 +102,7 @@ fn goes_down(bundles: &[Bundle], tail: &[Bundle]) -> bool
     }
 }
 
-/// The tail behind some bundles: the last of them leaves for its first delay slot, where it goes there.
+/// The tail after some bundles: the last of them leaves for its first delay slot, where it goes there.
 #[tactic(auto, using(crate::proofs::LastBundle::room_below, crate::proofs::LastBundle::kept_down, crate::proofs::LastBundle::way_down, crate::proofs::LastBundle::kept_up, crate::proofs::LastBundle::way_up))]
 pub fn way(
     alloc: Global,

@@ -1,20 +1,23 @@
-//! Worked examples: what becomes one, what goes into a delay slot, and where a bundle that does nothing is put.
-ghost use Rattle.std.specs.Prelude.{◌≡◌, [], ◌∷◌, true, false};
-ghost use Rattle.bundle_sched.specs.Packed.{is_packed};
-ghost use Rattle.bundle_sched.specs.Packing.{pair, packed, way, turn_packed};
+//! Worked examples: what goes back, what becomes one, what goes into a delay slot, and
+//! where a bundle that does nothing is put.
+ghost use Rattle.std.specs.Prelude.{◌≡◌, [], ◌∷◌, ◌++◌, replicate, true, false};
+ghost use Rattle.bundle_sched.specs.Ordered.{ordered};
+ghost use Rattle.bundle_sched.specs.Packed.{pair, is_packed};
+ghost use Rattle.bundle_sched.specs.Packing.{packed, way, turn_packed};
 ghost use Rattle.bundle_sched.specs.Placed.{spaced, part_placed, placed};
 ghost use Rattle.bundle_sched.specs.Scheduled.{scheduled};
-ghost use Rattle.bundle_sched.specs.Shown.{add_to, test, ready, packed_ready, turning, packed_turning};
+ghost use Rattle.bundle_sched.specs.Shown.{add_to, set, set_on, test, ready, packed_ready, turning, packed_turning, waiting, ordered_waiting};
 ghost use Rattle.patmos_instr.specs.declared.instructions.Op.TheVariants.{Return};
 ghost use Rattle.sp_shape.specs.Parts.{one, part, straight, repeats, calls_to};
 ghost use Rattle.sp_shape.specs.Small as small;
 
-/// Behind a load and behind a product that the next bundle reads, or that is the last, and nowhere else: in a body that is
-/// repeated and in the tail of its turn too. The tail of a call has no such place.
+/// After a load and after a product that the next bundle reads, or that is the last, and nowhere else: in a body that
+/// is repeated and in the tail of its turn too. The tail of a call has no such place.
 pub fn worked_places()
     ensures nowhere { spaced (small.add 1 ∷ small.add 2 ∷ []) ≡ small.add 1 ∷ small.add 2 ∷ [] }
     ensures load { spaced (small.load ∷ small.add 1 ∷ []) ≡ small.load ∷ small.idle ∷ small.add 1 ∷ [] }
-    ensures product { spaced (small.load ∷ small.square ∷ []) ≡ small.load ∷ small.idle ∷ small.square ∷ small.idle ∷ [] }
+    ensures product { spaced (small.load ∷ small.square ∷ [])
+        ≡ small.load ∷ small.idle ∷ small.square ∷ small.idle ∷ [] }
     ensures ignored { spaced (small.square ∷ small.add 1 ∷ []) ≡ small.square ∷ small.add 1 ∷ [] }
     ensures turns { part_placed (repeats 3 (one (straight (small.load ∷ []))) (small.load ∷ small.again))
         ≡ repeats 3 (one (straight (small.load ∷ small.idle ∷ []))) (small.load ∷ small.again) }
@@ -29,13 +32,32 @@ pub fn worked_packing()
     ensures writes { packed (add_to 2 ∷ add_to 2 ∷ []) ≡ add_to 2 ∷ add_to 2 ∷ [] }
     ensures idle { packed (add_to 2 ∷ small.idle ∷ add_to 3 ∷ []) ≡ pair (add_to 2) (add_to 3) ∷ [] }
     ensures late { packed (small.load ∷ add_to 2 ∷ []) ≡ small.load ∷ add_to 2 ∷ [] }
-    ensures slot { way (add_to 2 ∷ []) small.return ≡ small.under small.always Return ∷ add_to 2 ∷ small.idle ∷ small.idle ∷ [] }
+    ensures slot { way (add_to 2 ∷ []) small.return
+        ≡ small.under small.always Return ∷ add_to 2 ∷ small.idle ∷ small.idle ∷ [] }
     ensures stays { way (small.load ∷ []) small.return ≡ small.return }
     ensures function { scheduled (small.shape_of (ready ∷ []) 0) ≡ small.shape_of (packed_ready ∷ []) 0 }
 {}
 
-/// What stands before a loop's branch becomes one too, and the last of it goes into the branch's first delay slot, but not
-/// where it sets the predicate that the branch asks for.
+/// A plain instruction goes back to where it fills the time of a load, or stands beside another. It goes by none that
+/// gives what it reads, reads what it writes, or sets the predicate that its guard asks for, and looks back at eight
+/// bundles at most.
+pub fn worked_ordering()
+    ensures time { ordered (small.load ∷ small.square ∷ set 2 ∷ [])
+        ≡ small.load ∷ set 2 ∷ small.square ∷ [] }
+    ensures slot { ordered (add_to 2 ∷ small.load ∷ set 3 ∷ []) ≡ pair (add_to 2) (set 3) ∷ small.load ∷ [] }
+    ensures reads { ordered (add_to 2 ∷ small.load ∷ small.add 1 ∷ [])
+        ≡ add_to 2 ∷ small.load ∷ small.add 1 ∷ [] }
+    ensures read { ordered (add_to 2 ∷ small.square ∷ set 1 ∷ []) ≡ add_to 2 ∷ small.square ∷ set 1 ∷ [] }
+    ensures guard { ordered (test ∷ small.load ∷ set_on 3 ∷ []) ≡ test ∷ small.load ∷ set_on 3 ∷ [] }
+    ensures near { ordered (add_to 2 ∷ (replicate 7 small.load ++ set 3 ∷ []))
+        ≡ pair (add_to 2) (set 3) ∷ replicate 7 small.load }
+    ensures far { ordered (add_to 2 ∷ (replicate 8 small.load ++ set 3 ∷ []))
+        ≡ add_to 2 ∷ (replicate 8 small.load ++ set 3 ∷ []) }
+    ensures function { scheduled (small.shape_of (waiting ∷ []) 0) ≡ small.shape_of (ordered_waiting ∷ []) 0 }
+{}
+
+/// What stands before a loop's branch becomes one too, and the last of it goes into the branch's first delay slot, but
+/// not where it sets the predicate that the branch asks for.
 pub fn worked_loops()
     ensures slot { turn_packed (test ∷ small.load ∷ add_to 2 ∷ small.again)
         ≡ test ∷ small.load ∷ small.under small.p1 small.branch ∷ add_to 2 ∷ small.idle ∷ [] }
@@ -43,13 +65,15 @@ pub fn worked_loops()
     ensures function { scheduled (small.shape_of (turning ∷ []) 0) ≡ small.shape_of (packed_turning ∷ []) 0 }
 {}
 
-/// What is packed and what is not: two neighbours that could be one, a delay slot that the bundle before could fill, and
-/// two neighbours behind a load, whose value comes in the first of them.
+/// What is packed and what is not: two neighbours that could be one, a delay slot that the bundle before could fill,
+/// and two neighbours after a load, whose value comes in the first of them.
 pub fn worked_packed()
     ensures straight { is_packed (scheduled (small.shape_of (ready ∷ []) 0)) ≡ true }
     ensures turning { is_packed (scheduled (small.shape_of (turning ∷ []) 0)) ≡ true }
     ensures unpacked { is_packed (placed (small.shape_of (ready ∷ []) 0)) ≡ false }
     ensures slot_left { is_packed (small.shape_of (part (straight (small.add 1 ∷ [])) small.empty ∷ []) 0) ≡ false }
-    ensures idle_left { is_packed (small.shape_of (part (straight (small.load ∷ small.idle ∷ add_to 2 ∷ small.idle ∷ [])) small.empty ∷ []) 0) ≡ false }
-    ensures behind_load { is_packed (small.shape_of (part (straight (small.load ∷ small.idle ∷ [])) small.empty ∷ []) 0) ≡ true }
+    ensures idle_left { is_packed (small.shape_of
+        (part (straight (small.load ∷ small.idle ∷ add_to 2 ∷ small.idle ∷ [])) small.empty ∷ []) 0) ≡ false }
+    ensures behind_load { is_packed
+        (small.shape_of (part (straight (small.load ∷ small.idle ∷ [])) small.empty ∷ []) 0) ≡ true }
 {}

@@ -28,7 +28,7 @@ found_last name at [] = refl
 found_last name at (n ∷ names) =
     means_of_either (last_from name (at + 1) names) (found name names) (bytes_eq n.name name) (record { means = n.means; at = at }) (found_last name (at + 1) names)
 
--- ---- whether a name is declared behind so many
+-- ---- whether a name is declared after so many
 
 -- a declaration that is not one of the first so many
 abbrev pub is_beyond : ℕ → Option Declaration → Bool

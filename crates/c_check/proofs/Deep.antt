@@ -1,10 +1,10 @@
 -- Depths of a chain's operands, one after another.
 use Rattle.std.proofs.Common.{◌≡◌, ℕ, ◌+◌, ◌<◌, max, List, length, get_or, drop, ap}
+use Rattle.tc_word.proofs.Items.{drop_item}
 use Rattle.c_tree.specs.declared.expressions.Step.{Step}
 use Rattle.c_tree.specs.Depth.{expr_depth, steps_depth}
 use Rattle.c_tree.specs.Plain.{plain_expr}
 use Rattle.c_tree.proofs.Plains.{steps_of}
-use Rattle.c_check.proofs.Items.{drop_item}
 
 pub deepest_next : (steps : List Step) (i : ℕ) (s : Step) → i < length steps → s ≡ get_or steps i s
     → steps_depth (steps_of (drop i steps)) ≡ max (1 + expr_depth (plain_expr s.operand)) (steps_depth (steps_of (drop (i + 1) steps)))

@@ -1,4 +1,4 @@
--- Names that stay open while others are declared behind them.
+-- Names that stay open while others are declared after them.
 use Rattle.std.proofs.Common.{◌≡◌, ℕ, ◌≤◌, List, [], ◌∷◌, ◌++◌, length, take, ap, sym, ◌∙◌, arith}
 use Rattle.std.proofs.lemmas.List.{take-append-le, length-take}
 use Rattle.std.proofs.Math.Seq.{take-take, take-length, take-append_seam}
@@ -10,7 +10,7 @@ use Rattle.c_tree.specs.Names.{Named, declared}
 use Rattle.c_tree.specs.Checks.{after}
 use Rattle.c_tree.specs.Valid.{with_parameters}
 
--- behind names of which these are the first
+-- after names of which these are the first
 pub kept_behind : (first names more : List Named) → take (length first) names ≡ first → take (length first) (names ++ more) ≡ first
 kept_behind first names more h =
     let within : length first ≤ length names = omega (arith, length-take (length first) names, ap length h) in

@@ -2,7 +2,6 @@ pub mod Declarations
 pub mod Deep
 pub mod ExprRows
 pub mod First
-pub mod Items
 pub mod Kept
 pub mod Limits
 pub mod Next

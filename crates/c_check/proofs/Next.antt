@@ -1,7 +1,8 @@
--- The faults of the rest of a list: those of its first item, and then those of the rest behind it.
+-- The faults of the rest of a list: those of its first item, and then those of the rest after it.
 use Rattle.std.proofs.Common.{◌≡◌, ℕ, ◌+◌, ◌<◌, Bool, true, false, List, ◌++◌, length, get_or, drop, Option, ◌∙◌, ap}
 use Rattle.std.specs.Prelude.{◌||◌, map}
 use Rattle.std.proofs.lemmas.List.Sums.{sum_by-cons}
+use Rattle.tc_word.proofs.Items.{drop_item}
 use Rattle.c_tree.specs.declared.checks.Fault.{Fault}
 use Rattle.c_tree.specs.declared.checks.Meaning.TheVariants as meaning
 use Rattle.c_tree.specs.declared.checks.Within.{Within}
@@ -20,7 +21,6 @@ use Rattle.c_tree.specs.Valid.{parameters_faults, with_parameters, item_faults, 
 use Rattle.c_tree.specs.Layout.{item_slots, slots_from}
 use Rattle.c_tree.proofs.Leasts.{least_of_both}
 use Rattle.c_tree.proofs.Plains.{steps_of, block_of, arms_of}
-use Rattle.c_check.proofs.Items.{drop_item}
 use Rattle.c_check.proofs.Sums.{step_size, next_size}
 
 pub chain_next : (least : Option Fault) (names : List Named) (at : ℕ) (steps : List Step) (i : ℕ) (s : Step) → i < length steps → s ≡ get_or steps i s

@@ -46,7 +46,7 @@ use Rattle.c_check.specs.Pointed.{token_at, is_name, is_number, is_bound, is_loo
 
 -- ---- tokens that stand among others
 
--- these tokens stand among all, behind so many
+-- these tokens stand among all, after so many
 record Stands (all : List Token) (at : ℕ) (ts : List Token) : Type 0 where
   pub first : List Token
   pub more : List Token
@@ -178,7 +178,7 @@ right_pointed all names at (right.Call text args) s = call_pointed all true name
 
 -- ---- parts of statements
 
--- what stands behind a first token
+-- what stands after a first token
 next_of : (all : List Token) (at n : ℕ) (t : Token) (ts : List Token) → n ≡ at + 1 → Stands all at (t ∷ ts) → Stands all n ts
 next_of all at n t ts e s = rest_of all at n (t ∷ []) ts e s
 

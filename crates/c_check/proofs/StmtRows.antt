@@ -131,10 +131,6 @@ unfolding stmt_faults
 inner_faulted least w names at s body is =
     ap (λ x. least_with least (stmt_faults w names at (plain_stmt x))) is ∙ ap (λ p. least_with least (stmt_faults w names at p)) (plain_inner body)
 
-pub inner_sized : (s : Stmt) (body : List Stmt) → s ≡ Inner body → stmt_size (plain_stmt s) ≡ 2 + block_size (block_of body)
-unfolding stmt_size
-inner_sized s body is = ap (λ x. stmt_size (plain_stmt x)) is ∙ ap stmt_size (plain_inner body)
-
 pub inner_named : (names : List Named) (s : Stmt) (body : List Stmt) → s ≡ Inner body → after names (plain_stmt s) ≡ names
 inner_named names s body is = ap (λ x. after names (plain_stmt x)) is ∙ ap (after names) (plain_inner body)
 
@@ -148,11 +144,6 @@ loop_faulted least w names at s bound head body is =
     ∙ ap (λ p. least_with least (stmt_faults w names at p)) (plain_loop bound head body)
     ∙ least_of_both least (bound_faults at bound) _
     ∙ least_of_both (least_with least (bound_faults at bound)) (head_faults names (at + bound_size bound) (plain_head head)) _
-
-pub loop_sized : (s : Stmt) (bound : Option Bound) (head : Head) (body : List Stmt) → s ≡ Loop bound head body
-    → stmt_size (plain_stmt s) ≡ bound_size bound + (head_size (plain_head head) + (2 + block_size (block_of body)))
-unfolding stmt_size
-loop_sized s bound head body is = ap (λ x. stmt_size (plain_stmt x)) is ∙ ap stmt_size (plain_loop bound head body)
 
 pub loop_named : (names : List Named) (s : Stmt) (bound : Option Bound) (head : Head) (body : List Stmt) → s ≡ Loop bound head body → after names (plain_stmt s) ≡ names
 loop_named names s bound head body is = ap (λ x. after names (plain_stmt x)) is ∙ ap (after names) (plain_loop bound head body)

@@ -123,7 +123,7 @@ body_sized body = omega (arith, sum_mapped stmt_size plain_stmt body, block_size
 abbrev pub arm_size : Arm → ℕ
 arm_size a = expr_size (plain_expr a.condition) + block_size (block_of a.body) + 5
 
--- an arm and the `else` behind it
+-- an arm and the `else` after it
 abbrev pub next_size : Arm → ℕ
 next_size a = arm_size a + 1
 

@@ -2,21 +2,15 @@
 use Rattle.std.proofs.Common.{◌≡◌, ℕ, ◌+◌, true, false, List, [], ◌∷◌, ◌++◌, length, Option, None, Some, refl, length-append, arith}
 use Rattle.std.specs.Prelude.{sum_by, if◌then◌else◌}
 use Rattle.std.proofs.lemmas.List.Sums.{sum_by-cons}
-use Rattle.c_tree.specs.declared.tokens.Token.{Token}
 use Rattle.c_tree.specs.declared.tokens.Token.TheVariants as token
 use Rattle.c_tree.specs.declared.tokens.Keyword.TheVariants as keyword
 use Rattle.c_tree.specs.declared.tokens.Sign.TheVariants as sign
 use Rattle.c_tree.specs.declared.units.Const.{Const}
 use Rattle.c_tree.specs.declared.units.Global.{Global as Variable}
 use Rattle.c_tree.specs.declared.units.Length.{Length}
-use Rattle.c_tree.specs.Tokens.{one, word, ended, braced, kind_tokens, const_tokens, consts_tokens, shape_tokens, global_tokens}
+use Rattle.c_tree.specs.Tokens.{one, word, ended, kind_tokens, const_tokens, consts_tokens, shape_tokens, global_tokens}
 use Rattle.c_tree.specs.Sizes.{kind_size, const_size}
-
-braced_size : (ts : List Token) → length (braced ts) ≡ 2 + length ts
-braced_size ts = simp length-append (omega arith)
-
-ended_size : (ts : List Token) → length (ended ts) ≡ length ts + 1
-ended_size ts = simp length-append (omega arith)
+use Rattle.c_tree.proofs.Sizes.{braced_size, ended_size}
 
 consts_size : (k : Const) (ks : List Const) → length (consts_tokens (k ∷ ks)) + 1 ≡ sum_by const_size (k ∷ ks)
 consts_size k [] = omega (arith, sum_by-cons const_size k [])

@@ -1,5 +1,5 @@
--- The open names as they are kept: each with the declaration of the same name that it hides, and the last declaration
--- of each name.
+-- For proofs. The open names as they are kept: each with the declaration of the same name that it
+-- hides, and the last declaration of each name.
 use Rattle.std.specs.Prelude.{◌≡◌, ℕ, ◌+◌, ◌<◌, if◌then◌else◌, List, [], ◌∷◌, length, take, map, slice_index_or, Option, None, Some, bytes_eq}
 use Rattle.std.specs.Option.{option_or}
 use Rattle.std.specs.HashMap.{HashMap, get_by}
@@ -18,7 +18,8 @@ shown_entries entries = map shown_entry entries
 abbrev pub last_from : List ℕ → ℕ → List Named → Option Declaration
 last_from name at [] = None
 last_from name at (n ∷ names) =
-    option_or (last_from name (at + 1) names) (if bytes_eq n.name name then Some (record { means = n.means; at = at }) else None)
+    option_or (last_from name (at + 1) names) (if bytes_eq n.name name then Some (record { means = n.means; at = at })
+    else None)
 
 abbrev pub last_of : List ℕ → List Entry → Option Declaration
 last_of name entries = last_from name 0 (shown_entries entries)

@@ -1,4 +1,4 @@
--- The open names that a walk keeps, as the list of them.
+-- For proofs. The open names that a walk keeps, as the list of them.
 use Rattle.std.specs.Prelude.{List}
 use Rattle.c_tree.specs.Names.{Named}
 use Rattle.c_check.specs.declared.names.Names.{Names}

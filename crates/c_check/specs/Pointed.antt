@@ -1,4 +1,4 @@
--- What stands at the place of a fault.
+-- To be believed. What stands at the place of a fault.
 use Rattle.std.specs.Prelude.{ℕ, zero, suc, Bool, true, false, IsTrue, List, [], ◌∷◌, Option, None, Some}
 use Rattle.c_tree.specs.declared.checks.CheckFault.TheVariants as fault
 use Rattle.c_tree.specs.declared.checks.Fault.{Fault}

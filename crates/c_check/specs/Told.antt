@@ -1,4 +1,4 @@
--- What an error of the check tells.
+-- To be believed. What an error of the check tells.
 use Rattle.std.specs.Prelude.{◌≡◌, Some, ⊤}
 use Rattle.slot_arbiter.specs.declared.place.Place.{Place}
 use Rattle.c_tree.specs.declared.units.Unit.{Unit as Program}

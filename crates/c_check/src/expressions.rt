@@ -17,7 +17,8 @@ use tc_word::{OutOfMemory, Text};
 /// The name of a variable.
 pub fn scalar(names: &Names<'_>, walk: &mut Walk, name: &Text)
     ensures at { walk.new.at ≡ walk.old.at }
-    ensures least { walk.new.least ≡ least_with walk.old.least (faults.scalar_faults (names_of names.now) walk.old.at name.now) }
+    ensures least { walk.new.least
+        ≡ least_with walk.old.least (faults.scalar_faults (names_of names.now) walk.old.at name.now) }
 {
     match names.find(name.as_str()) {
         None => walk.note(CheckFault::Unknown),
@@ -29,7 +30,8 @@ pub fn scalar(names: &Names<'_>, walk: &mut Walk, name: &Text)
 /// The name of an array.
 pub fn array(names: &Names<'_>, walk: &mut Walk, name: &Text)
     ensures at { walk.new.at ≡ walk.old.at }
-    ensures least { walk.new.least ≡ least_with walk.old.least (faults.array_faults (names_of names.now) walk.old.at name.now) }
+    ensures least { walk.new.least
+        ≡ least_with walk.old.least (faults.array_faults (names_of names.now) walk.old.at name.now) }
 {
     match names.find(name.as_str()) {
         None => walk.note(CheckFault::Unknown),
@@ -65,7 +67,8 @@ fn callee(names: &Names<'_>, walk: &mut Walk, is_right: bool, name: &Text, argum
 #[tactic(auto, using(crate::proofs::ExprRows::chain_faulted, crate::proofs::ExprRows::chain_sized, crate::proofs::ExprRows::unary_faulted, crate::proofs::ExprRows::unary_sized, crate::proofs::ExprRows::number_faulted, crate::proofs::ExprRows::number_sized, crate::proofs::ExprRows::name_faulted, crate::proofs::ExprRows::name_sized, crate::proofs::ExprRows::element_faulted, crate::proofs::ExprRows::element_sized, crate::proofs::ExprRows::paren_faulted, crate::proofs::ExprRows::paren_sized))]
 fn expr(names: &Names<'_>, walk: &mut Walk, e: &Expr) -> Result<(), OutOfMemory>
     ensures at { OnOk result (walk.new.at ≡ walk.old.at + expr_size (plain_expr e.now)) }
-    ensures least { OnOk result (walk.new.least ≡ least_with walk.old.least (faults.expr_faults (names_of names.now) walk.old.at (plain_expr e.now))) }
+    ensures least { OnOk result (walk.new.least
+        ≡ least_with walk.old.least (faults.expr_faults (names_of names.now) walk.old.at (plain_expr e.now))) }
 {
     match e {
         Expr::Chain { first, rest, .. } => {
@@ -107,7 +110,8 @@ fn expr(names: &Names<'_>, walk: &mut Walk, e: &Expr) -> Result<(), OutOfMemory>
 #[tactic(auto, using(crate::proofs::Next::chain_next), unfolding(c_tree::specs::Checks::steps_faults))]
 fn steps(names: &Names<'_>, walk: &mut Walk, steps: &[Step]) -> Result<(), OutOfMemory>
     ensures at { OnOk result (walk.new.at ≡ walk.old.at + steps_size (steps_of steps.now)) }
-    ensures least { OnOk result (walk.new.least ≡ least_with walk.old.least (faults.steps_faults (names_of names.now) walk.old.at (steps_of steps.now))) }
+    ensures least { OnOk result (walk.new.least
+        ≡ least_with walk.old.least (faults.steps_faults (names_of names.now) walk.old.at (steps_of steps.now))) }
 {
     for step in steps {
         walk.pass(1)?;
@@ -120,28 +124,31 @@ fn steps(names: &Names<'_>, walk: &mut Walk, steps: &[Step]) -> Result<(), OutOf
 #[tactic(auto, using(c_tree::proofs::Leasts::least_of_both))]
 pub fn whole(names: &Names<'_>, walk: &mut Walk, e: &Expr) -> Result<(), OutOfMemory>
     ensures at { OnOk result (walk.new.at ≡ walk.old.at + expr_size (plain_expr e.now)) }
-    ensures least { OnOk result (walk.new.least ≡ least_with walk.old.least (faults.whole_faults (names_of names.now) walk.old.at (plain_expr e.now))) }
+    ensures least { OnOk result (walk.new.least
+        ≡ least_with walk.old.least (faults.whole_faults (names_of names.now) walk.old.at (plain_expr e.now))) }
 {
     walk.note_if(is_deep(e), CheckFault::Deep);
     expr(names, walk, e)?;
     Ok(())
 }
 
-/// An argument, and the token behind it.
+/// An argument, and the token after it.
 pub fn argument(names: &Names<'_>, walk: &mut Walk, e: &Expr) -> Result<(), OutOfMemory>
     ensures at { OnOk result (walk.new.at ≡ walk.old.at + argument_size (plain_expr e.now)) }
-    ensures least { OnOk result (walk.new.least ≡ least_with walk.old.least (faults.whole_faults (names_of names.now) walk.old.at (plain_expr e.now))) }
+    ensures least { OnOk result (walk.new.least
+        ≡ least_with walk.old.least (faults.whole_faults (names_of names.now) walk.old.at (plain_expr e.now))) }
 {
     whole(names, walk, e)?;
     walk.pass(1)?;
     Ok(())
 }
 
-// arguments, and one token behind each
+// arguments, and one token after each
 #[tactic(auto, using(crate::proofs::Next::args_next, crate::proofs::Sums::args_sized))]
 fn arguments(names: &Names<'_>, walk: &mut Walk, args: &[Expr]) -> Result<(), OutOfMemory>
     ensures at { OnOk result (walk.new.at ≡ walk.old.at + sum_by argument_size (map plain_expr args.now)) }
-    ensures least { OnOk result (walk.new.least ≡ least_with walk.old.least (faults.args_faults (names_of names.now) walk.old.at (map plain_expr args.now))) }
+    ensures least { OnOk result (walk.new.least
+        ≡ least_with walk.old.least (faults.args_faults (names_of names.now) walk.old.at (map plain_expr args.now))) }
 {
     for e in args {
         argument(names, walk, e)?;
@@ -159,7 +166,9 @@ pub fn call(
     args: &[Expr],
 ) -> Result<(), OutOfMemory>
     ensures at { OnOk result (walk.new.at ≡ walk.old.at + call_size (map plain_expr args.now)) }
-    ensures least { OnOk result (walk.new.least ≡ least_with walk.old.least (faults.call_faults is_right (names_of names.now) walk.old.at name.now (map plain_expr args.now))) }
+    ensures least { OnOk result (walk.new.least
+        ≡ least_with walk.old.least (faults.call_faults is_right (names_of names.now) walk.old.at name.now
+        (map plain_expr args.now))) }
 {
     callee(names, walk, is_right, name, args.len());
     walk.pass(2)?;
@@ -174,7 +183,8 @@ pub fn call(
 /// What is assigned.
 pub fn right(names: &Names<'_>, walk: &mut Walk, r: &Right) -> Result<(), OutOfMemory>
     ensures at { OnOk result (walk.new.at ≡ walk.old.at + right_size (plain_right r.now)) }
-    ensures least { OnOk result (walk.new.least ≡ least_with walk.old.least (faults.right_faults (names_of names.now) walk.old.at (plain_right r.now))) }
+    ensures least { OnOk result (walk.new.least
+        ≡ least_with walk.old.least (faults.right_faults (names_of names.now) walk.old.at (plain_right r.now))) }
 {
     match r {
         Right::Value { of } => {

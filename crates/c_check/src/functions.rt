@@ -41,7 +41,9 @@ fn meaning(f: &Function, inside: bool) -> Meaning
 #[tactic(auto, using(c_tree::proofs::Leasts::least_of_both))]
 fn named(names: &Names<'_>, walk: &mut Walk, f: &Function)
     ensures at { walk.new.at ≡ walk.old.at }
-    ensures least { walk.new.least ≡ least_with walk.old.least (valid.named_faults (names_of names.now) walk.old.at f.now.name f.now.parameters (map plain_stmt f.now.body)) }
+    ensures least { walk.new.least
+        ≡ least_with walk.old.least (valid.named_faults (names_of names.now) walk.old.at f.now.name f.now.parameters
+        (map plain_stmt f.now.body)) }
 {
     twice(0, names, walk, &f.name);
     walk.note_if(
@@ -52,7 +54,7 @@ fn named(names: &Names<'_>, walk: &mut Walk, f: &Function)
     walk.note_if(weights::is_heavy(f), CheckFault::Heavy);
 }
 
-// parameters, and one token behind each
+// parameters, and one token after each
 #[tactic(auto, using(crate::proofs::Next::parameters_next, crate::proofs::Next::with_parameters_next))]
 fn parameters<'a>(
     outer: usize,
@@ -108,9 +110,11 @@ fn inner<'a>(
     walk: &mut Walk,
     f: &'a Function,
 ) -> Result<(), OutOfMemory>
-    ensures at { OnOk result (walk.new.at ≡ walk.old.at + list_size f.now.void_word f.now.parameters + sum_by stmt_size (map plain_stmt f.now.body) + 5) }
+    ensures at { OnOk result (walk.new.at
+        ≡ walk.old.at + list_size f.now.void_word f.now.parameters + sum_by stmt_size (map plain_stmt f.now.body) + 5) }
     ensures least { OnOk result (walk.new.least ≡ least_with walk.old.least
-        (valid.inner_faults place.now.cores place.now.core (names_of names.old) walk.old.at f.now.kind f.now.void_word f.now.parameters (map plain_stmt f.now.body))) }
+        (valid.inner_faults place.now.cores place.now.core
+        (names_of names.old) walk.old.at f.now.kind f.now.void_word f.now.parameters (map plain_stmt f.now.body))) }
     ensures names { OnOk result (names_of names.new ≡ names_of names.old) }
 {
     let outer = names.len();
@@ -140,8 +144,10 @@ pub fn function<'a>(
 ) -> Result<(), OutOfMemory>
     ensures at { OnOk result (walk.new.at ≡ walk.old.at + item_size (plain_item (Item.Function f.now))) }
     ensures least { OnOk result (walk.new.least ≡ least_with walk.old.least
-        (valid.item_faults place.now.cores place.now.core (names_of names.old) walk.old.at (plain_item (Item.Function f.now)))) }
-    ensures names { OnOk result (names_of names.new ≡ declared (names_of names.old) f.now.name (valid.function_means false f.now.kind f.now.parameters)) }
+        (valid.item_faults place.now.cores place.now.core (names_of names.old) walk.old.at
+        (plain_item (Item.Function f.now)))) }
+    ensures names { OnOk result (names_of names.new
+        ≡ declared (names_of names.old) f.now.name (valid.function_means false f.now.kind f.now.parameters)) }
 {
     let outer = names.len();
     walk.pass(gives_size(f.kind))?;

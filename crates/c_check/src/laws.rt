@@ -14,16 +14,21 @@ ghost use Rattle.c_check.specs.Pointed.{PointsAmong};
 /// those that have no such fault.
 #[tactic(auto, using(crate::proofs::First::one_of_them, crate::proofs::First::none_before, crate::proofs::First::no_least, c_tree::proofs::Leasts::none_least))]
 pub fn least_fault_of_all()
-    ensures one_of_them { (items : List PlainItem) (cores own : ℕ) (f : Fault) → fault_of items cores own ≡ Some f → Contains (faults_of items cores own) f }
+    ensures one_of_them { (items : List PlainItem) (cores own : ℕ) (f : Fault) → fault_of items cores own ≡ Some f
+        → Contains (faults_of items cores own) f }
     ensures none_before { (items : List PlainItem) (cores own : ℕ) (f : Fault) → fault_of items cores own ≡ Some f
         → All (λ g. is_before g f ≡ false) (faults_of items cores own) }
-    ensures valid_without { (items : List PlainItem) (cores own : ℕ) → fault_of items cores own ≡ None → IsValid items cores own }
-    ensures none_where_valid { (items : List PlainItem) (cores own : ℕ) → IsValid items cores own → fault_of items cores own ≡ None }
+    ensures valid_without { (items : List PlainItem) (cores own : ℕ) → fault_of items cores own ≡ None
+        → IsValid items cores own }
+    ensures none_where_valid { (items : List PlainItem) (cores own : ℕ) → IsValid items cores own
+        → fault_of items cores own ≡ None }
 {}
 
-/// A fault's place is that of a token that it is about, in a tree that fits the grammar: a name that is unknown, declared
-/// twice or called wrongly; the number of a send's core; a loop's bound; `while` or `for` of a loop without one.
+/// A fault's place is that of a token that it is about, in a tree that fits the grammar: a name
+/// that is unknown, declared twice or called wrongly; the number of a send's core; a loop's
+/// bound; `while` or `for` of a loop without one.
 #[tactic(auto, using(crate::proofs::Pointed::faults_pointed))]
 pub fn faults_point_at_tokens()
-    ensures { (u : Program) (cores own : ℕ) → GrammarFits u → All (PointsAmong (tokens_of u)) (faults_of (plain u) cores own) }
+    ensures { (u : Program) (cores own : ℕ) → GrammarFits u
+        → All (PointsAmong (tokens_of u)) (faults_of (plain u) cores own) }
 {}

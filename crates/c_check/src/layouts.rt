@@ -17,7 +17,7 @@ fn copied(alloc: alloc::Global, text: &str) -> Result<Text, OutOfMemory>
     Ok(Text::of(String::from_str(alloc, text)?))
 }
 
-// where a variable or an array stands, behind so many words
+// where a variable or an array stands, after so many words
 fn slot(alloc: alloc::Global, private: u32, scratch: u32, g: &Global) -> Result<Slot, OutOfMemory>
     ensures { IfOk result (λ s. s ≡ slot_of private scratch g.now) }
 {

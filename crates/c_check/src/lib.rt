@@ -1,8 +1,8 @@
 //! The checks of a C program.
 //!
-//! `specs/Valid.antt` of c_tree lists all faults of a program on a core of so many: what is wrong with its names, types, loops,
-//! calls and sends, and what is too deep, too large or too heavy, each with the number of the token where it is. A
-//! program is valid where that list is empty. [`faults_point_at_tokens`] says which tokens stand there.
+//! `specs/Valid.antt` of c_tree lists all faults of a program on a core of so many: what is wrong with its names,
+//! types, loops, calls and sends, and what is too deep, too large or too heavy, each with the number of the token where
+//! it is. A program is valid where that list is empty. [`faults_point_at_tokens`] says which tokens stand there.
 //!
 //! [`check`] walks the tree once with the open names, keeps the least fault, and gives a valid program with the places
 //! of its variables and arrays.

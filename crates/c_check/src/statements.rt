@@ -28,7 +28,8 @@ pub fn kind_size(kind: Kind) -> usize
 /// A name that is declared, where the first `outer` names are declared outside of the block.
 pub fn twice(outer: usize, names: &Names<'_>, walk: &mut Walk, name: &Text)
     ensures at { walk.new.at ≡ walk.old.at }
-    ensures least { walk.new.least ≡ least_with walk.old.least (faults.twice_faults outer (names_of names.now) walk.old.at name.now) }
+    ensures least { walk.new.least
+        ≡ least_with walk.old.least (faults.twice_faults outer (names_of names.now) walk.old.at name.now) }
 {
     let declared = names.is_declared(name.as_str(), outer);
     walk.note_if(declared, CheckFault::Twice);
@@ -63,9 +64,11 @@ fn declare<'a>(
     name: &'a Text,
     value: &Option<Right>,
 ) -> Result<(), OutOfMemory>
-    ensures at { OnOk result (walk.new.at ≡ walk.old.at + stmt_size (plain_stmt (Stmt.Declare kind name.now value.now))) }
+    ensures at { OnOk result (walk.new.at
+        ≡ walk.old.at + stmt_size (plain_stmt (Stmt.Declare kind name.now value.now))) }
     ensures least { OnOk result (walk.new.least
-        ≡ least_with walk.old.least (faults.declare_faults outer (names_of names.old) walk.old.at kind name.now (option_map plain_right value.now))) }
+        ≡ least_with walk.old.least (faults.declare_faults outer (names_of names.old) walk.old.at kind name.now
+        (option_map plain_right value.now))) }
     ensures names { OnOk result (names_of names.new ≡ declared (names_of names.old) name.now Meaning.Scalar) }
 {
     walk.pass(kind_size(kind))?;
@@ -88,7 +91,9 @@ fn declare<'a>(
 #[tactic(auto, using(c_tree::proofs::Leasts::least_of_both), unfolding(c_tree::specs::Sizes::stmt_size, c_tree::specs::Plain::plain_stmt))]
 fn set(names: &Names<'_>, walk: &mut Walk, name: &Text, value: &Right) -> Result<(), OutOfMemory>
     ensures at { OnOk result (walk.new.at ≡ walk.old.at + stmt_size (plain_stmt (Stmt.Set name.now value.now))) }
-    ensures least { OnOk result (walk.new.least ≡ least_with walk.old.least (faults.set_faults (names_of names.now) walk.old.at name.now (plain_right value.now))) }
+    ensures least { OnOk result (walk.new.least
+        ≡ least_with walk.old.least (faults.set_faults (names_of names.now) walk.old.at name.now
+        (plain_right value.now))) }
 {
     scalar(names, walk, name);
     walk.pass(2)?;
@@ -105,9 +110,11 @@ fn set_element(
     index: &Expr,
     value: &Right,
 ) -> Result<(), OutOfMemory>
-    ensures at { OnOk result (walk.new.at ≡ walk.old.at + stmt_size (plain_stmt (Stmt.SetElement name.now index.now value.now))) }
+    ensures at { OnOk result (walk.new.at
+        ≡ walk.old.at + stmt_size (plain_stmt (Stmt.SetElement name.now index.now value.now))) }
     ensures least { OnOk result (walk.new.least
-        ≡ least_with walk.old.least (faults.set_element_faults (names_of names.now) walk.old.at name.now (plain_expr index.now) (plain_right value.now))) }
+        ≡ least_with walk.old.least (faults.set_element_faults (names_of names.now) walk.old.at name.now
+        (plain_expr index.now) (plain_right value.now))) }
 {
     array(names, walk, name);
     walk.pass(2)?;
@@ -129,10 +136,13 @@ fn send(
     target: &Expr,
     count: &Expr,
 ) -> Result<(), OutOfMemory>
-    ensures at { OnOk result (walk.new.at ≡ walk.old.at + 4 + argument_size (plain_expr source.now) + argument_size (plain_expr target.now)
+    ensures at { OnOk result (walk.new.at
+        ≡ walk.old.at + 4 + argument_size (plain_expr source.now) + argument_size (plain_expr target.now)
         + argument_size (plain_expr count.now)) }
     ensures least { OnOk result (walk.new.least
-        ≡ least_with walk.old.least (faults.send_faults within.now.cores within.now.own (names_of names.now) walk.old.at core (plain_expr source.now) (plain_expr target.now) (plain_expr count.now))) }
+        ≡ least_with walk.old.least (faults.send_faults within.now.cores within.now.own
+        (names_of names.now) walk.old.at core (plain_expr source.now) (plain_expr target.now)
+        (plain_expr count.now))) }
 {
     walk.pass(2)?;
     walk.note_if(
@@ -171,7 +181,9 @@ fn bound(walk: &mut Walk, bound: Option<Bound>) -> Result<(), OutOfMemory>
 #[tactic(auto, using(c_tree::proofs::Leasts::least_of_both))]
 fn assigned(names: &Names<'_>, walk: &mut Walk, name: &Text, e: &Expr) -> Result<(), OutOfMemory>
     ensures at { OnOk result (walk.new.at ≡ walk.old.at + 2 + expr_size (plain_expr e.now)) }
-    ensures least { OnOk result (walk.new.least ≡ least_with walk.old.least (faults.assigned_faults (names_of names.now) walk.old.at name.now (plain_expr e.now))) }
+    ensures least { OnOk result (walk.new.least
+        ≡ least_with walk.old.least (faults.assigned_faults (names_of names.now) walk.old.at name.now
+        (plain_expr e.now))) }
 {
     scalar(names, walk, name);
     walk.pass(2)?;
@@ -182,7 +194,8 @@ fn assigned(names: &Names<'_>, walk: &mut Walk, name: &Text, e: &Expr) -> Result
 #[tactic(auto, using(c_tree::proofs::Leasts::least_of_both))]
 fn head(names: &Names<'_>, walk: &mut Walk, h: &Head) -> Result<(), OutOfMemory>
     ensures at { OnOk result (walk.new.at ≡ walk.old.at + head_size (plain_head h.now)) }
-    ensures least { OnOk result (walk.new.least ≡ least_with walk.old.least (faults.head_faults (names_of names.now) walk.old.at (plain_head h.now))) }
+    ensures least { OnOk result (walk.new.least
+        ≡ least_with walk.old.least (faults.head_faults (names_of names.now) walk.old.at (plain_head h.now))) }
 {
     match h {
         Head::While { condition } => {
@@ -218,7 +231,9 @@ fn returned(
     value: &Option<Expr>,
 ) -> Result<(), OutOfMemory>
     ensures at { OnOk result (walk.new.at ≡ walk.old.at + stmt_size (plain_stmt (Stmt.Return value.now))) }
-    ensures least { OnOk result (walk.new.least ≡ least_with walk.old.least (faults.return_faults gives (names_of names.now) walk.old.at (option_map plain_expr value.now))) }
+    ensures least { OnOk result (walk.new.least
+        ≡ least_with walk.old.least (faults.return_faults gives (names_of names.now) walk.old.at
+        (option_map plain_expr value.now))) }
 {
     match value {
         None => {
@@ -244,7 +259,8 @@ fn loop_head(
     h: &Head,
 ) -> Result<(), OutOfMemory>
     ensures at { OnOk result (walk.new.at ≡ walk.old.at + bound_size b + head_size (plain_head h.now)) }
-    ensures least { OnOk result (walk.new.least ≡ least_with (least_with walk.old.least (faults.bound_faults walk.old.at b))
+    ensures least { OnOk result (walk.new.least
+        ≡ least_with (least_with walk.old.least (faults.bound_faults walk.old.at b))
         (faults.head_faults (names_of names.now) (walk.old.at + bound_size b) (plain_head h.now))) }
 {
     bound(walk, b)?;
@@ -254,7 +270,7 @@ fn loop_head(
 
 /// A statement.
 #[cycle(statement)]
-#[tactic(auto, using(crate::proofs::StmtRows::declare_faulted, crate::proofs::StmtRows::declare_sized, crate::proofs::StmtRows::declare_named, crate::proofs::StmtRows::set_faulted, crate::proofs::StmtRows::set_sized, crate::proofs::StmtRows::set_named, crate::proofs::StmtRows::set_element_faulted, crate::proofs::StmtRows::set_element_sized, crate::proofs::StmtRows::set_element_named, crate::proofs::StmtRows::call_faulted, crate::proofs::StmtRows::call_sized, crate::proofs::StmtRows::call_named, crate::proofs::StmtRows::send_faulted, crate::proofs::StmtRows::send_sized, crate::proofs::StmtRows::send_named, crate::proofs::StmtRows::loop_faulted, crate::proofs::StmtRows::loop_sized, crate::proofs::StmtRows::loop_named, crate::proofs::StmtRows::break_faulted, crate::proofs::StmtRows::break_sized, crate::proofs::StmtRows::break_named, crate::proofs::StmtRows::continue_faulted, crate::proofs::StmtRows::continue_sized, crate::proofs::StmtRows::continue_named, crate::proofs::StmtRows::return_faulted, crate::proofs::StmtRows::return_sized, crate::proofs::StmtRows::return_named, crate::proofs::StmtRows::inner_faulted, crate::proofs::StmtRows::inner_sized, crate::proofs::StmtRows::inner_named, crate::proofs::StmtRows::if_faulted, crate::proofs::StmtRows::if_else_faulted, crate::proofs::StmtRows::if_sized, crate::proofs::StmtRows::if_else_sized, crate::proofs::StmtRows::if_named))]
+#[tactic(auto, using(crate::proofs::StmtRows::declare_faulted, crate::proofs::StmtRows::declare_sized, crate::proofs::StmtRows::declare_named, crate::proofs::StmtRows::set_faulted, crate::proofs::StmtRows::set_sized, crate::proofs::StmtRows::set_named, crate::proofs::StmtRows::set_element_faulted, crate::proofs::StmtRows::set_element_sized, crate::proofs::StmtRows::set_element_named, crate::proofs::StmtRows::call_faulted, crate::proofs::StmtRows::call_sized, crate::proofs::StmtRows::call_named, crate::proofs::StmtRows::send_faulted, crate::proofs::StmtRows::send_sized, crate::proofs::StmtRows::send_named, crate::proofs::StmtRows::loop_faulted, c_tree::proofs::StmtSizes::loop_sized, crate::proofs::StmtRows::loop_named, crate::proofs::StmtRows::break_faulted, crate::proofs::StmtRows::break_sized, crate::proofs::StmtRows::break_named, crate::proofs::StmtRows::continue_faulted, crate::proofs::StmtRows::continue_sized, crate::proofs::StmtRows::continue_named, crate::proofs::StmtRows::return_faulted, crate::proofs::StmtRows::return_sized, crate::proofs::StmtRows::return_named, crate::proofs::StmtRows::inner_faulted, c_tree::proofs::StmtSizes::inner_sized, crate::proofs::StmtRows::inner_named, crate::proofs::StmtRows::if_faulted, crate::proofs::StmtRows::if_else_faulted, crate::proofs::StmtRows::if_sized, crate::proofs::StmtRows::if_else_sized, crate::proofs::StmtRows::if_named))]
 fn stmt<'a>(
     within: &Within,
     names: &mut Names<'a>,
@@ -262,7 +278,9 @@ fn stmt<'a>(
     s: &'a Stmt,
 ) -> Result<(), OutOfMemory>
     ensures at { OnOk result (walk.new.at ≡ walk.old.at + stmt_size (plain_stmt s.now)) }
-    ensures least { OnOk result (walk.new.least ≡ least_with walk.old.least (faults.stmt_faults within.now (names_of names.old) walk.old.at (plain_stmt s.now))) }
+    ensures least { OnOk result (walk.new.least
+        ≡ least_with walk.old.least (faults.stmt_faults within.now (names_of names.old) walk.old.at
+        (plain_stmt s.now))) }
     ensures names { OnOk result (names_of names.new ≡ faults.after (names_of names.old) (plain_stmt s.now)) }
 {
     match s {
@@ -343,7 +361,9 @@ pub fn statements<'a>(
     body: &'a [Stmt],
 ) -> Result<(), OutOfMemory>
     ensures at { OnOk result (walk.new.at ≡ walk.old.at + block_size (block_of body.now)) }
-    ensures least { OnOk result (walk.new.least ≡ least_with walk.old.least (faults.block_faults within.now (names_of names.old) walk.old.at (block_of body.now))) }
+    ensures least { OnOk result (walk.new.least
+        ≡ least_with walk.old.least (faults.block_faults within.now (names_of names.old) walk.old.at
+        (block_of body.now))) }
     ensures kept { OnOk result (take (length (names_of names.old)) (names_of names.new) ≡ names_of names.old) }
 {
     for s in body {
@@ -361,7 +381,9 @@ fn block<'a>(
     body: &'a [Stmt],
 ) -> Result<(), OutOfMemory>
     ensures at { OnOk result (walk.new.at ≡ walk.old.at + 2 + block_size (block_of body.now)) }
-    ensures least { OnOk result (walk.new.least ≡ least_with walk.old.least (faults.block_faults within.now (names_of names.old) (walk.old.at + 1) (block_of body.now))) }
+    ensures least { OnOk result (walk.new.least
+        ≡ least_with walk.old.least (faults.block_faults within.now (names_of names.old) (walk.old.at
+        + 1) (block_of body.now))) }
     ensures names { OnOk result (names_of names.new ≡ names_of names.old) }
 {
     let open_names = names.len();
@@ -381,9 +403,11 @@ fn branch<'a>(
     walk: &mut Walk,
     arm: &'a Arm,
 ) -> Result<(), OutOfMemory>
-    ensures at { OnOk result (walk.new.at ≡ walk.old.at + expr_size (plain_expr arm.now.condition) + block_size (block_of arm.now.body) + 5) }
+    ensures at { OnOk result (walk.new.at
+        ≡ walk.old.at + expr_size (plain_expr arm.now.condition) + block_size (block_of arm.now.body) + 5) }
     ensures least { OnOk result (walk.new.least
-        ≡ least_with (least_with walk.old.least (faults.whole_faults (names_of names.old) (walk.old.at + 2) (plain_expr arm.now.condition)))
+        ≡ least_with (least_with walk.old.least
+        (faults.whole_faults (names_of names.old) (walk.old.at + 2) (plain_expr arm.now.condition)))
         (faults.block_faults (faults.opened within.now (length (names_of names.old))) (names_of names.old)
         (walk.old.at + 2 + expr_size (plain_expr arm.now.condition) + 2) (block_of arm.now.body))) }
     ensures names { OnOk result (names_of names.new ≡ names_of names.old) }
@@ -406,14 +430,16 @@ fn branches<'a>(
     arms: &'a [Arm],
 ) -> Result<(), OutOfMemory>
     ensures at { OnOk result (walk.new.at ≡ walk.old.at + arms_size (arms_of arms.now)) }
-    ensures least { OnOk result (walk.new.least ≡ least_with walk.old.least (faults.arms_faults within.now (names_of names.old) walk.old.at (arms_of arms.now))) }
+    ensures least { OnOk result (walk.new.least
+        ≡ least_with walk.old.least (faults.arms_faults within.now (names_of names.old) walk.old.at
+        (arms_of arms.now))) }
     ensures names { OnOk result (names_of names.new ≡ names_of names.old) }
 {
     for arm in arms {
         branch(within, names, walk, arm)?;
         walk.pass(1)?;
     }
-    // no `else` stands behind the last
+    // no `else` stands after the last
     if !arms.is_empty() {
         walk.back();
     }

@@ -33,7 +33,7 @@ pub fn words(g: &Global) -> u32
     }
 }
 
-// constants, and one token behind each
+// constants, and one token after each
 fn constants(walk: &mut Walk, values: &[Const]) -> Result<(), OutOfMemory>
     ensures at { OnOk result (walk.new.at ≡ walk.old.at + sum_by const_size values.now) }
     ensures least { OnOk result (walk.new.least ≡ walk.old.least) }
@@ -44,7 +44,7 @@ fn constants(walk: &mut Walk, values: &[Const]) -> Result<(), OutOfMemory>
     Ok(())
 }
 
-// what stands behind a variable's or an array's name, with the semicolon
+// what stands after a variable's or an array's name, with the semicolon
 #[tactic(auto, using(crate::proofs::Variables::size_of_shape))]
 fn shape(walk: &mut Walk, g: &Global) -> Result<(), OutOfMemory>
     ensures at { OnOk result (walk.new.at ≡ walk.old.at + length (shape_tokens g.now.length g.now.initial) + 1) }
@@ -98,7 +98,8 @@ fn means(g: &Global) -> Meaning
 #[tactic(auto, using(c_tree::proofs::Leasts::least_of_both, crate::proofs::Variables::size_of_global))]
 fn global<'a>(names: &mut Names<'a>, walk: &mut Walk, g: &'a Global) -> Result<(), OutOfMemory>
     ensures at { OnOk result (walk.new.at ≡ walk.old.at + length (global_tokens g.now)) }
-    ensures least { OnOk result (walk.new.least ≡ least_with walk.old.least (valid.global_faults (names_of names.old) walk.old.at g.now)) }
+    ensures least { OnOk result (walk.new.least
+        ≡ least_with walk.old.least (valid.global_faults (names_of names.old) walk.old.at g.now)) }
     ensures names { OnOk result (names_of names.new ≡ declared (names_of names.old) g.now.name (valid.means_of g.now)) }
 {
     walk.pass(before_name(g))?;
@@ -118,7 +119,9 @@ fn item<'a>(
     i: &'a Item,
 ) -> Result<(), OutOfMemory>
     ensures at { OnOk result (walk.new.at ≡ walk.old.at + item_size (plain_item i.now)) }
-    ensures least { OnOk result (walk.new.least ≡ least_with walk.old.least (valid.item_faults place.now.cores place.now.core (names_of names.old) walk.old.at (plain_item i.now))) }
+    ensures least { OnOk result (walk.new.least
+        ≡ least_with walk.old.least (valid.item_faults place.now.cores place.now.core (names_of names.old) walk.old.at
+        (plain_item i.now))) }
     ensures names { OnOk result (names_of names.new ≡ valid.with_item (names_of names.old) (plain_item i.now)) }
 {
     match i {
@@ -141,7 +144,9 @@ fn items<'a>(
     items: &'a [Item],
 ) -> Result<(), OutOfMemory>
     ensures at { OnOk result (walk.new.at ≡ walk.old.at + sum_by item_size (map plain_item items.now)) }
-    ensures least { OnOk result (walk.new.least ≡ least_with walk.old.least (valid.items_faults place.now.cores place.now.core (names_of names.old) walk.old.at (map plain_item items.now))) }
+    ensures least { OnOk result (walk.new.least
+        ≡ least_with walk.old.least (valid.items_faults place.now.cores place.now.core (names_of names.old) walk.old.at
+        (map plain_item items.now))) }
 {
     for i in items {
         item(place, names, walk, i)?;

@@ -1,4 +1,5 @@
--- What is answered of a text: the program or the refusal that is defined. Want of memory is the one free answer.
+-- To be believed. What is answered of a text: the program or the refusal that is
+-- defined. Want of memory is the one free answer.
 use Rattle.std.specs.Prelude.{◌≡◌, List, Result, Ok, Err}
 use Rattle.c_check.specs.declared.checks.CheckError.{CheckError}
 use Rattle.c_check.specs.declared.checks.CheckError.TheVariants as checks
@@ -37,6 +38,7 @@ Refuses (Check checks.Memory) defined = ⊥
 Refuses Long defined = defined ≡ Err too_long
 Refuses Memory defined = Unit {0}
 
-abbrev pub Gives : {A : Type 0} → (A → List PlainItem) → Result A CompileFault → Result (List PlainItem) Refused → Type 0
+abbrev pub Gives : {A : Type 0} → (A → List PlainItem) → Result A CompileFault → Result (List PlainItem) Refused
+    → Type 0
 Gives view (Ok x) defined = defined ≡ Ok (view x)
 Gives view (Err fault) defined = Refuses fault defined

@@ -1,4 +1,4 @@
--- A task for worked examples.
+-- For worked rows. A task for worked examples.
 use Rattle.std.specs.Prelude.{[], ◌∷◌}
 use Rattle.sp_tree.specs.Plain.{constant}
 use Rattle.sp_tree.specs.Statements.{one, masks, PlainFunction, PlainUnit}

@@ -28,16 +28,17 @@ pub struct Code {
     pub image: Image,
 }
 
-/// The code of a well-formed task's tree whose code fits an image. It takes memory for all bundles and words of the code,
-/// and is `Err` where memory runs out.
+/// The code of a well-formed task's tree whose code fits an image. It takes memory for all bundles and words
+/// of the code, and is `Err` where memory runs out.
 pub fn code_of(alloc: Global, unit: &SpUnit) -> Result<Code, OutOfMemory>
     requires formed { is_formed (plain_unit unit.now) ≡ true }
     requires fits { FitsImage (tasks.code_of (plain_unit unit.now)) }
-    ensures told { IfOk result (λ c. plain_shape c.shape ≡ tasks.code_of (plain_unit unit.now)) }
+    ensures is { IfOk result (λ c. plain_shape c.shape ≡ tasks.code_of (plain_unit unit.now)) }
     ensures image { IfOk result (λ c. c.image ≡ image_of (plain_unit unit.now)) }
     ensures formed { IfOk result (λ c. shape.is_formed (plain_shape c.shape) ≡ true) }
     ensures code { IfOk result (λ _. IsCode (plain_unit unit.now)) }
-    ensures means { IfOk result (λ _. (input : List ℕ) (shared comm : ℕ → ℕ) → HoldsWords (begun (plain_unit unit.now) input shared comm)
+    ensures preserves { IfOk result (λ _. (input : List ℕ) (shared comm : ℕ → ℕ)
+        → HoldsWords (begun (plain_unit unit.now) input shared comm)
         → CarriesOut (plain_unit unit.now) input shared comm) }
 {
     words_fit(unit.initial.as_slice());

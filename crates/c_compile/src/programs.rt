@@ -15,10 +15,11 @@ use slot_arbiter::Place;
 use std::alloc::Global;
 use tc_word::List;
 
-/// The program of a C text that is valid on a core's place, or the first refusal: that it has no tokens, that these are no
-/// program, or the least fault of the program. Want of memory is told of a text of 2^32 bytes or more too.
+/// The program of a C text that is valid on a core's place, or the first refusal: that it has no tokens, that these are
+/// no program, or the least fault of the program. Want of memory is told of a text of 2^32 bytes or more too.
 pub fn program_of(alloc: Global, source: &str, place: &Place) -> Result<Checked, CompileFault>
-    ensures told { Gives (λ c. plain c.unit) result (specs.program_on place.now.cores place.now.core (lexed source.now)) }
+    ensures told { Gives (λ c. plain c.unit) result
+        (specs.program_on place.now.cores place.now.core (lexed source.now)) }
     ensures place { IfOk result (λ c. c.place ≡ place.now) }
 {
     if source.len() > u32::MAX as usize {

@@ -27,8 +27,8 @@ use sp_emit::Shape;
 use std::alloc::Global;
 use tc_word::OutOfMemory;
 
-/// A compiled task: its words, its code, how many cycles it takes at most on its core's place, and how many by what stays
-/// in the method cache, its program, and what that mentions.
+/// A compiled task: its words, its code, how many cycles it takes at most on its core's place, and how many by what
+/// stays in the method cache, its program, and what that mentions.
 #[derive(Debug, Drop)]
 pub struct Compiled {
     pub image: Image,
@@ -51,11 +51,12 @@ fn code_by(alloc: Global, program: &Checked, place: &Place) -> Result<Code, OutO
     code_of(alloc, &unit)
 }
 
-/// The task of a C text for a core's place, whatever its input is. It is `Err` exactly where the text has no tokens, these are
-/// no program, the program is not valid on its core, or its bound is more than [`cycle_bound::MOST_BOUND`]: the first of these
-/// counts. Want of memory is told of a text of 2^32 bytes or more too.
+/// The task of a C text for a core's place, whatever its input is. It is `Err` exactly where the text has no tokens,
+/// these are no program, the program is not valid on its core, or its bound is more than [`cycle_bound::MOST_BOUND`]:
+/// the first of these counts. Want of memory is told of a text of 2^32 bytes or more too.
 pub fn compile(alloc: Global, source: &str, place: &Place) -> Result<Compiled, CompileFault>
-    ensures told { Gives (λ c. plain c.program.unit) result (specs.task_on place.now.cores place.now.table place.now.slot place.now.core source.now) }
+    ensures told { Gives (λ c. plain c.program.unit) result
+        (specs.task_on place.now.cores place.now.table place.now.slot place.now.core source.now) }
 
     // What is told of a program is its own, and nothing else's.
     ensures place { IfOk result (λ c. c.program.place ≡ place.now) }
@@ -65,12 +66,13 @@ pub fn compile(alloc: Global, source: &str, place: &Place) -> Result<Compiled, C
     ensures persist { IfOk result (λ c. c.persist ≡ persist place.now (plain c.program.unit)) }
     ensures mentions { IfOk result (λ c. Tells c.mentions (plain c.program.unit)) }
 
-    // Whatever words are put in and read, a core that runs the image apart has the program's times, which are within both
-    // of its bounds, the persistent one of which is no more than the other; no check stops it; it comes to what the text
-    // means; and it touches only what the text mentions.
+    // Whatever words are put in and read, a core that runs the image apart has the program's times, which are within
+    // both of its bounds, the persistent one of which is no more than the other; no check stops it; it comes to what
+    // the text means; and it touches only what the text mentions.
     ensures times { IfOk result (λ c. KeepsTimes (plain c.program.unit) place.now c.image) }
     ensures within { IfOk result (λ c. (times place.now (plain c.program.unit)).end ≤ place.now.start + c.bound) }
-    ensures within_persist { IfOk result (λ c. (times place.now (plain c.program.unit)).end ≤ place.now.start + c.persist) }
+    ensures within_persist { IfOk result (λ c. (times place.now (plain c.program.unit)).end
+        ≤ place.now.start + c.persist) }
     ensures tighter { IfOk result (λ c. c.persist ≤ c.bound) }
     ensures never_traps { IfOk result (λ c. NeverTraps place.now c.image) }
     ensures meaning { IfOk result (λ c. ComesToMeaning (plain c.program.unit) place.now c.image) }

@@ -1,4 +1,4 @@
--- The two forms of a bound: they end in the text, and are the same in a text that is cut short behind them.
+-- The two forms of a bound: they end in the text, and are the same in a text that is cut short after them.
 use Rattle.std.proofs.Common.{◌≡◌, ◌∙◌, ℕ, ◌+◌, ◌-◌, ◌<◌, ◌≤◌, Bool, true, false, refl, sym, ap, subst, if◌then◌else◌, List, ◌++◌, length, arith, Option, None, Some, length-append}
 use Rattle.std.specs.Prelude.{codes}
 use Rattle.c_lex.specs.declared.pieces.Piece.{Piece}

@@ -1,4 +1,4 @@
--- A number is the same in a text that is cut short behind it.
+-- A number is the same in a text that is cut short after it.
 use Rattle.std.proofs.Common.{◌≡◌, ◌∙◌, ℕ, ◌+◌, ◌<◌, ◌≤◌, ◌==◌, nat_lt, Bool, true, false, ◌&&◌, ◌||◌, refl, sym, ap, if◌then◌else◌, List, [], ◌∷◌, ◌++◌, length, take, drop, arith, Option, None, Some, length-drop}
 use Rattle.std.specs.Prelude.{slice_index}
 use Rattle.std.proofs.lemmas.List.{take-append-le, drop-append-le}
@@ -51,7 +51,7 @@ hexadecimal_less (x ∷ y ∷ []) ys e =
     ]
 hexadecimal_less (x ∷ y ∷ z ∷ xs) ys e = e
 
--- so many digits, behind which a number has so many bytes
+-- so many digits, after which a number has so many bytes
 digits_cut : (V : List ℕ → Option ℕ) (count k : ℕ) (xs ys : List ℕ) (t : Token) (n : ℕ) → k ≤ length xs → n + k ≤ count + length xs
     → number_piece (V (take k (xs ++ ys))) count (drop k (xs ++ ys)) ≡ Is t n → number_piece (V (take k xs)) count (drop k xs) ≡ Is t n
 digits_cut V count k xs ys t n k_within within e =

@@ -1,4 +1,4 @@
--- Readers of a text that is cut short behind what they read.
+-- Readers of a text that is cut short after what they read.
 use Rattle.std.proofs.Common.{◌<◌, ◌≡◌, ℕ, suc, ◌≤◌, ◌==◌, Bool, true, false, ◌&&◌, refl, ap, if◌then◌else◌, List, [], ◌∷◌, ◌++◌, length, arith, None, Some}
 use Rattle.c_lex.specs.declared.classes.Class.{Class}
 use Rattle.c_lex.specs.Bytes.{is_space, passes, run, past, begins_with}

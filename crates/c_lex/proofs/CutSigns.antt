@@ -1,4 +1,4 @@
--- A sign is the same in a text that is cut short behind it.
+-- A sign is the same in a text that is cut short after it.
 use Rattle.std.proofs.Common.{◌≡◌, ◌∙◌, ℕ, ◌≤◌, nat_le, Bool, true, false, ◌&&◌, ◌||◌, refl, sym, ap, if◌then◌else◌, List, [], ◌∷◌, ◌++◌, length, arith, Option, None, Some}
 use Rattle.std.specs.List.{list_all}
 use Rattle.std.proofs.lemmas.Bool.Decides.{nat_tests}

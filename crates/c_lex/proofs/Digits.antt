@@ -10,7 +10,7 @@ min-step : (r : Radix) (limit a d : ℕ) → min limit (min limit a * base_of r 
 min-step Decimal limit a d = omega arith
 min-step Hexadecimal limit a d = omega arith
 
--- digits behind a number cut at the limit write the same, cut, as behind the number
+-- digits after a number cut at the limit write the same, cut, as after the number
 number_of-min : (r : Radix) (limit a : ℕ) (bs : List ℕ) → min limit (number_of r (min limit a) bs) ≡ min limit (number_of r a bs)
 number_of-min r limit a [] = omega arith
 number_of-min r limit a (b ∷ bs) =

@@ -83,7 +83,7 @@ comment_or_sign_cut x xs ys t n within e = either (begins_with (codes "//") (x �
         ∙ ap (λ d. either_of false d (x ∷ xs)) (begins_less (codes "/*") (x ∷ xs) ys g)
         ∙ sign_at_cut (x ∷ xs) ys t n (omega arith) within e
 
--- a token is the same in a text that is cut short behind it
+-- a token is the same in a text that is cut short after it
 cut : (before : List ℕ) (x : ℕ) (xs ys : List ℕ) (t : Token) (n : ℕ) → n ≤ length (x ∷ xs) → piece_behind before (x ∷ xs ++ ys) ≡ Is t n → piece_behind before (x ∷ xs) ≡ Is t n
 unfolding piece_behind
 cut before x xs ys t n within e = either (is_blank x) (begins_name x) (is_digit x) (x == 35) e

@@ -1,4 +1,4 @@
--- Readers that find the same in a text that is cut short behind what they read.
+-- Readers that find the same in a text that is cut short after what they read.
 use Rattle.std.proofs.Common.{◌≡◌, ◌∙◌, ℕ, ◌≤◌, refl, sym, ap, List, ◌++◌, length, arith, Option, None, Some}
 use Rattle.c_lex.specs.Bounds.{and_then}
 
@@ -15,19 +15,19 @@ both_of (Some a) f b e = record { between = a; first = refl; second = e }
 pub then_is : {A B : Type 0} (o : Option A) (f : A → Option B) (a : A) → o ≡ Some a → and_then o f ≡ f a
 then_is o f a e = ap (λ x. and_then x f) e
 
--- what is found in a text with more behind, found without that too; it leaves so much less, and looks the same
+-- what is found in a text with more after it, found without that too; it leaves so much less, and looks the same
 pub record IsKept {A V : Type 0} (rest : A → List ℕ) (look : A → V) (read : List ℕ → Option A) (xs ys : List ℕ) (a : A) : Type 0 where
   pub less : A
   pub same : look less ≡ look a
   pub parts : rest a ≡ rest less ++ ys
   pub found : read xs ≡ Some less
 
--- whatever is behind what the first reader reads, the second finds the same without it
+-- whatever is after what the first reader reads, the second finds the same without it
 pub record IsSteady {A V : Type 0} (rest : A → List ℕ) (look : A → V) (read read' : List ℕ → Option A) : Type 0 where
   pub shrinks : (bs : List ℕ) (a : A) → read bs ≡ Some a → length (rest a) ≤ length bs
   pub kept : (xs ys : List ℕ) (a : A) → read (xs ++ ys) ≡ Some a → length ys ≤ length (rest a) → IsKept rest look read' xs ys a
 
--- one reader behind another
+-- one reader after another
 pub then_steady : {A B V W : Type 0} (rest : A → List ℕ) (look : A → V) (rest' : B → List ℕ) (look' : B → W) (read read' : List ℕ → Option A) (next next' : A → List ℕ → Option B)
     → IsSteady rest look read read' → ((a b : A) → look b ≡ look a → IsSteady rest' look' (next a) (next' b))
     → IsSteady rest' look' (λ bs. and_then (read bs) (λ a. next a (rest a))) (λ bs. and_then (read' bs) (λ b. next' b (rest b)))

@@ -143,7 +143,7 @@ IsNumber read = IsSteady number_rest number_value read read
 number_steady : IsNumber number
 number_steady = record { shrinks = number_long; kept = number_kept }
 
--- behind a gap, and behind a word and a gap
+-- after a gap, and after a word and a gap
 behind_gap : IsNumber (λ bs. and_then (past_gap bs) number)
 behind_gap = then_steady all nothing number_rest number_value past_gap past_gap (λ _. number) (λ _. number) gap_steady (λ _ _ _. number_steady)
 

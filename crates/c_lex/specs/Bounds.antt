@@ -1,5 +1,6 @@
--- The bound of a loop, which our subset writes in two forms: as a pragma of C99 6.10.6 on a line of its own, and by
--- the operator of C99 6.10.9. The forms are literal: their words are separated by spaces and tabs, and by nothing else.
+-- To be believed. The bound of a loop, which our subset writes in two forms: as a pragma of C99 6.10.6
+-- on a line of its own, and by the operator of C99 6.10.9. The forms are literal: their words are
+-- separated by spaces and tabs, and by nothing else.
 use Rattle.std.specs.Prelude.{ℕ, ◌-◌, ◌==◌, ◌&&◌, nat_lt, if◌then◌else◌, List, take, drop, length, slice_index, codes, Option, None, Some}
 use Rattle.c_lex.specs.declared.bounds.BoundNumber.{BoundNumber as Held}
 use Rattle.c_lex.specs.declared.classes.Class.TheVariants.{Digit, Separator}
@@ -26,7 +27,8 @@ digits_in_bound bs =
     then (if nat_lt 1 (run Digit bs) && slice_index bs 0 == 48 then None else Some (run Digit bs))
     else None
 
--- a number of a bound: its value, if it is at most 2^32 - 1, how many bytes are left from its first on, and what follows
+-- a number of a bound: its value, if it is at most 2^32 - 1, how many bytes are
+-- left from its first on, and what follows
 pub record BoundNumber : Type 0 where
   pub value : Option ℕ
   pub left : ℕ
@@ -36,7 +38,7 @@ pub record BoundNumber : Type 0 where
 abbrev pub shown : Held → BoundNumber
 shown n = record { value = n.value; left = n.left; rest = n.rest.now }
 
--- the number behind a word
+-- the number after a word
 abbrev pub number_behind : List ℕ → List ℕ → Option BoundNumber
 number_behind word bs =
     and_then (past word bs) (λ a. and_then (past_gap a) (λ b. and_then (digits_in_bound b) (λ count. Some (record {
@@ -48,7 +50,8 @@ number_behind word bs =
 -- `loopbound min A max B`: both numbers
 abbrev pub bound_text : List ℕ → Option (BoundNumber × BoundNumber)
 bound_text bs =
-    and_then (past (codes "loopbound") bs) (λ a. and_then (past_gap a) (λ b. and_then (number_behind (codes "min") b) (λ low.
+    and_then (past (codes "loopbound") bs)
+    (λ a. and_then (past_gap a) (λ b. and_then (number_behind (codes "min") b) (λ low.
     and_then (past_gap low.rest) (λ c. and_then (number_behind (codes "max") c) (λ high. Some (low, high))))))
 
 -- a bound that begins where so many bytes are left, and ends where so many are left; or the number that is too great
@@ -61,10 +64,11 @@ bound_piece left after b = elim b.0.value [
 -- `_Pragma("loopbound min A max B")`
 abbrev pub word_bound : List ℕ → Option Piece
 word_bound bs =
-    and_then (past (codes "_Pragma(\"") bs) (λ a. and_then (bound_text a) (λ b. and_then (past (codes "\")") b.1.rest) (λ c.
+    and_then (past (codes "_Pragma(\"") bs)
+    (λ a. and_then (bound_text a) (λ b. and_then (past (codes "\")") b.1.rest) (λ c.
     Some (bound_piece (length bs) (length c) b))))
 
--- `#pragma loopbound min A max B`, behind which the line ends
+-- `#pragma loopbound min A max B`, after which the line ends
 abbrev pub line_bound : List ℕ → Option Piece
 line_bound bs =
     and_then (past (codes "#pragma") bs) (λ a. and_then (past_gap a) (λ b. and_then (bound_text b) (λ t.

@@ -1,4 +1,5 @@
--- Bytes of a text, by their classes, and what the bytes from a place on begin with. Letters are those of ASCII.
+-- To be believed. Bytes of a text, by their classes, and what the bytes from a place on
+-- begin with. Letters are those of ASCII.
 use Rattle.std.specs.Prelude.{ℕ, suc, ◌==◌, Bool, true, false, not, ◌&&◌, ◌||◌, nat_le, if◌then◌else◌, List, [], ◌∷◌, Option, None, Some}
 use Rattle.c_lex.specs.declared.classes.Class.{Class}
 use Rattle.c_lex.specs.declared.classes.Class.TheVariants.{Digit, Hexadecimal, NameStart, Name, Blank, Space, Separator, InLine}

@@ -1,4 +1,4 @@
--- Names and keywords (C99 6.4.1 and 6.4.2).
+-- To be believed. Names and keywords (C99 6.4.1 and 6.4.2).
 use Rattle.std.specs.Prelude.{ℕ, Bool, true, false, if◌then◌else◌, List, [], ◌∷◌, bytes_eq, codes, Option, None, Some}
 use Rattle.c_tree.specs.declared.tokens.Token.{Token}
 use Rattle.c_tree.specs.declared.tokens.Token.TheVariants as token
@@ -8,16 +8,21 @@ use Rattle.c_tree.specs.declared.tokens.Keyword.TheVariants as keyword
 -- the keywords that programs use: those of C99, and `_SPM` and `send` of our subset
 abbrev pub keywords : List (List ℕ × Keyword)
 keywords =
-    (codes "int", keyword.Int) ∷ (codes "unsigned", keyword.Unsigned) ∷ (codes "void", keyword.Void) ∷ (codes "_SPM", keyword.Scratchpad)
-    ∷ (codes "send", keyword.Send) ∷ (codes "if", keyword.If) ∷ (codes "else", keyword.Else) ∷ (codes "while", keyword.While) ∷ (codes "for", keyword.For)
+    (codes "int", keyword.Int) ∷ (codes "unsigned", keyword.Unsigned) ∷ (codes "void", keyword.Void)
+    ∷ (codes "_SPM", keyword.Scratchpad)
+    ∷ (codes "send", keyword.Send) ∷ (codes "if", keyword.If) ∷ (codes "else", keyword.Else)
+    ∷ (codes "while", keyword.While) ∷ (codes "for", keyword.For)
     ∷ (codes "break", keyword.Break) ∷ (codes "continue", keyword.Continue) ∷ (codes "return", keyword.Return) ∷ []
 
 -- the other keywords of C99, which are tokens that no program uses
 abbrev pub unused : List (List ℕ)
 unused =
-    codes "auto" ∷ codes "case" ∷ codes "char" ∷ codes "const" ∷ codes "default" ∷ codes "do" ∷ codes "double" ∷ codes "enum" ∷ codes "extern"
-    ∷ codes "float" ∷ codes "goto" ∷ codes "inline" ∷ codes "long" ∷ codes "register" ∷ codes "restrict" ∷ codes "short" ∷ codes "signed"
-    ∷ codes "sizeof" ∷ codes "static" ∷ codes "struct" ∷ codes "switch" ∷ codes "typedef" ∷ codes "union" ∷ codes "volatile" ∷ codes "_Bool"
+    codes "auto" ∷ codes "case" ∷ codes "char" ∷ codes "const" ∷ codes "default" ∷ codes "do" ∷ codes "double"
+    ∷ codes "enum" ∷ codes "extern"
+    ∷ codes "float" ∷ codes "goto" ∷ codes "inline" ∷ codes "long" ∷ codes "register" ∷ codes "restrict"
+    ∷ codes "short" ∷ codes "signed"
+    ∷ codes "sizeof" ∷ codes "static" ∷ codes "struct" ∷ codes "switch" ∷ codes "typedef" ∷ codes "union"
+    ∷ codes "volatile" ∷ codes "_Bool"
     ∷ codes "_Complex" ∷ codes "_Imaginary" ∷ []
 
 abbrev pub is_among : List ℕ → List (List ℕ) → Bool

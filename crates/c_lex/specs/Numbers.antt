@@ -1,4 +1,5 @@
--- Numbers: decimal and hexadecimal constants (C99 6.4.4.1). Our subset has no octal ones, and no suffix but `u` and `U`.
+-- To be believed. Numbers: decimal and hexadecimal constants (C99 6.4.4.1). Our subset has no
+-- octal ones, and no suffix but `u` and `U`.
 use Rattle.std.specs.Prelude.{ℕ, ◌+◌, ◌-◌, ◌*◌, ◌==◌, Bool, true, false, ◌&&◌, ◌||◌, nat_lt, nat_le, if◌then◌else◌, List, [], ◌∷◌, take, drop, slice_index, Option, None, Some}
 use Rattle.c_lex.specs.declared.classes.Class.TheVariants.{Digit, Hexadecimal}
 use Rattle.c_lex.specs.declared.numbers.Radix.{Radix}
@@ -15,7 +16,7 @@ digit_of b = if is_digit b then b - 48 else (if nat_le b 70 then b - 55 else b -
 abbrev pub base_of : Radix → ℕ
 base_of r = elim r [ Decimal ↦ 10 | HexadecimalRadix ↦ 16 ]
 
--- the number that these digits write, behind those of a number
+-- the number that these digits write, after those of a number
 abbrev pub number_of : Radix → ℕ → List ℕ → ℕ
 number_of r value [] = value
 number_of r value (b ∷ bs) = number_of r (value * base_of r + digit_of b) bs
@@ -42,16 +43,22 @@ number_piece value count behind =
 
 -- whether these bytes begin a hexadecimal number: `0x` or `0X`, and a digit
 abbrev pub is_hexadecimal_number : List ℕ → Bool
-is_hexadecimal_number bs = slice_index bs 0 == 48 && ((slice_index bs 1 == 120 || slice_index bs 1 == 88) && is_hexadecimal (slice_index bs 2))
+is_hexadecimal_number bs =
+    slice_index bs 0 == 48 && ((slice_index bs 1 == 120 || slice_index bs 1 == 88) && is_hexadecimal (slice_index bs 2))
 
 -- a decimal number of so many digits: none with a zero before another digit
 abbrev pub decimal_at : ℕ → List ℕ → Piece
-decimal_at count bs = if nat_lt 1 count && slice_index bs 0 == 48 then Bad else number_piece (word_value (number_of Decimal 0 (take count bs))) count (drop count bs)
+decimal_at count bs =
+    if nat_lt 1 count && slice_index bs 0 == 48 then Bad
+    else number_piece (word_value (number_of Decimal 0 (take count bs))) count (drop count bs)
 
 -- a hexadecimal number of so many digits
 abbrev pub hexadecimal_at : ℕ → List ℕ → Piece
-hexadecimal_at count bs = number_piece (word_value (number_of HexadecimalRadix 0 (take count (drop 2 bs)))) (count + 2) (drop count (drop 2 bs))
+hexadecimal_at count bs =
+    number_piece (word_value (number_of HexadecimalRadix 0 (take count (drop 2 bs)))) (count
+    + 2) (drop count (drop 2 bs))
 
 -- the number that begins here, with all the digits that follow one another
 abbrev pub number_at : List ℕ → Piece
-number_at bs = if is_hexadecimal_number bs then hexadecimal_at (run Hexadecimal (drop 2 bs)) bs else decimal_at (run Digit bs) bs
+number_at bs =
+    if is_hexadecimal_number bs then hexadecimal_at (run Hexadecimal (drop 2 bs)) bs else decimal_at (run Digit bs) bs

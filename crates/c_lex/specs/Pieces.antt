@@ -1,4 +1,5 @@
--- What begins at a place of a text. A token is a piece, and so is what stands between tokens: a blank or a comment.
+-- To be believed. What begins at a place of a text. A token is a piece, and so is what
+-- stands between tokens: a blank or a comment.
 use Rattle.std.specs.Prelude.{ℕ, ◌<◌, ◌≤◌, Option, None, Some}
 use Rattle.c_lex.specs.declared.pieces.Piece.{Piece}
 use Rattle.c_lex.specs.declared.pieces.Piece.TheVariants.{Between, Is, Bad, Wide}

@@ -1,4 +1,5 @@
--- Signs: the punctuators of C99 6.4.6 without the digraphs. The longest one is taken (C99 6.4 paragraph 4).
+-- To be believed. Signs: the punctuators of C99 6.4.6 without the digraphs. The
+-- longest one is taken (C99 6.4 paragraph 4).
 use Rattle.std.specs.Prelude.{ℕ, Bool, false, ◌||◌, if◌then◌else◌, List, [], ◌∷◌, codes, Option, None, Some}
 use Rattle.c_lex.specs.declared.pieces.Piece.{Piece}
 use Rattle.c_lex.specs.declared.pieces.Piece.TheVariants.{Is, Bad}
@@ -14,18 +15,26 @@ longest_signs = codes "<<=" ∷ codes ">>=" ∷ []
 -- the signs of two bytes, with what they mean, and those that have no meaning here
 abbrev pub long_signs : List (List ℕ × Sign)
 long_signs =
-    (codes "==", sign.Equal) ∷ (codes "!=", sign.NotEqual) ∷ (codes "<=", sign.LessEqual) ∷ (codes ">=", sign.GreaterEqual) ∷ (codes "<<", sign.ShiftLeft) ∷ (codes ">>", sign.ShiftRight) ∷ (codes "&&", sign.And) ∷ (codes "||", sign.Or) ∷ []
+    (codes "==", sign.Equal) ∷ (codes "!=", sign.NotEqual) ∷ (codes "<=", sign.LessEqual)
+    ∷ (codes ">=", sign.GreaterEqual) ∷ (codes "<<", sign.ShiftLeft) ∷ (codes ">>", sign.ShiftRight)
+    ∷ (codes "&&", sign.And) ∷ (codes "||", sign.Or) ∷ []
 
 abbrev pub unused_signs : List (List ℕ)
-unused_signs = codes "++" ∷ codes "--" ∷ codes "->" ∷ codes "+=" ∷ codes "-=" ∷ codes "*=" ∷ codes "/=" ∷ codes "%=" ∷ codes "&=" ∷ codes "|=" ∷ codes "^=" ∷ []
+unused_signs =
+    codes "++" ∷ codes "--" ∷ codes "->" ∷ codes "+=" ∷ codes "-=" ∷ codes "*=" ∷ codes "/=" ∷ codes "%=" ∷ codes "&="
+    ∷ codes "|=" ∷ codes "^=" ∷ []
 
 -- the signs of one byte
 abbrev pub short_signs : List (List ℕ × Sign)
 short_signs =
-    (codes "(", sign.OpenParenthesis) ∷ (codes ")", sign.CloseParenthesis) ∷ (codes "[", sign.OpenBracket) ∷ (codes "]", sign.CloseBracket)
-    ∷ (codes "{", sign.OpenBrace) ∷ (codes "}", sign.CloseBrace) ∷ (codes ";", sign.Semicolon) ∷ (codes ",", sign.Comma) ∷ (codes "=", sign.Assign)
-    ∷ (codes "~", sign.Tilde) ∷ (codes "!", sign.Exclamation) ∷ (codes "|", sign.BitOr) ∷ (codes "^", sign.BitXor) ∷ (codes "&", sign.BitAnd)
-    ∷ (codes "<", sign.Less) ∷ (codes ">", sign.Greater) ∷ (codes "+", sign.Plus) ∷ (codes "-", sign.Minus) ∷ (codes "*", sign.Star)
+    (codes "(", sign.OpenParenthesis) ∷ (codes ")", sign.CloseParenthesis) ∷ (codes "[", sign.OpenBracket)
+    ∷ (codes "]", sign.CloseBracket)
+    ∷ (codes "{", sign.OpenBrace) ∷ (codes "}", sign.CloseBrace) ∷ (codes ";", sign.Semicolon)
+    ∷ (codes ",", sign.Comma) ∷ (codes "=", sign.Assign)
+    ∷ (codes "~", sign.Tilde) ∷ (codes "!", sign.Exclamation) ∷ (codes "|", sign.BitOr) ∷ (codes "^", sign.BitXor)
+    ∷ (codes "&", sign.BitAnd)
+    ∷ (codes "<", sign.Less) ∷ (codes ">", sign.Greater) ∷ (codes "+", sign.Plus) ∷ (codes "-", sign.Minus)
+    ∷ (codes "*", sign.Star)
     ∷ (codes "/", sign.Slash) ∷ (codes "%", sign.Percent) ∷ []
 
 -- whether the bytes begin with one of these signs
@@ -42,5 +51,6 @@ sign_among (s ∷ ss) bs = if begins_with s.0 bs then Some s.1 else sign_among s
 abbrev pub sign_at : List ℕ → Piece
 sign_at bs = if begins_among longest_signs bs then Bad else elim (sign_among long_signs bs) [
   | Some s ↦ Is (token.Sign s) 2
-  | None ↦ if begins_among unused_signs bs then Bad else elim (sign_among short_signs bs) [ Some s ↦ Is (token.Sign s) 1 | None ↦ Bad ]
+  | None ↦ if begins_among unused_signs bs then Bad
+      else elim (sign_among short_signs bs) [ Some s ↦ Is (token.Sign s) 1 | None ↦ Bad ]
 ]

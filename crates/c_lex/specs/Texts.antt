@@ -1,5 +1,5 @@
--- The tokens of a text: it is cut into pieces, each of which begins where the one before it ends (C99 5.1.1.2,
--- translation phase 3), and its tokens are those among the pieces.
+-- To be believed. The tokens of a text: it is cut into pieces, each of which begins where the one before it ends (C99
+-- 5.1.1.2, translation phase 3), and its tokens are those among the pieces.
 use Rattle.std.specs.Prelude.{◌≡◌, ℕ, zero, suc, ◌+◌, ◌==◌, nat_le, if◌then◌else◌, List, [], ◌∷◌, take, drop, length, slice_index, bytes_eq, codes, None, Some}
 use Rattle.c_lex.specs.declared.classes.Class.TheVariants.{Name}
 use Rattle.c_lex.specs.declared.pieces.Piece.{Piece}
@@ -17,7 +17,9 @@ use Rattle.c_lex.specs.Pieces.{or_bad}
 
 -- a name, with all the bytes of a name that follow one another; `_Pragma` begins a bound and is none
 abbrev pub name_at : List ℕ → Piece
-name_at bs = if bytes_eq (take (run Name bs) bs) (codes "_Pragma") then or_bad (word_bound bs) else Is (word_of (take (run Name bs) bs)) (run Name bs)
+name_at bs =
+    if bytes_eq (take (run Name bs) bs) (codes "_Pragma") then or_bad (word_bound bs)
+    else Is (word_of (take (run Name bs) bs)) (run Name bs)
 
 -- a line's bound begins at the first `#` on its line
 abbrev pub pragma_at : List ℕ → List ℕ → Piece
@@ -27,7 +29,7 @@ pragma_at before bs = if begins_line before then or_bad (line_bound bs) else Bad
 abbrev pub comment_or_sign_at : List ℕ → Piece
 comment_or_sign_at bs = elim (comment_at bs) [ Some p ↦ p | None ↦ sign_at bs ]
 
--- the piece that these bytes begin with, behind those before them
+-- the piece that these bytes begin with, after those before them
 unfoldable pub piece_behind : List ℕ → List ℕ → Piece
 piece_behind before bs =
     let b = slice_index bs 0 in
@@ -63,7 +65,8 @@ behind_piece at later (Wide further) = too_wide (at + further)
 -- what a text is from a place on, in so many pieces at most
 abbrev pub lexed_from : ℕ → List ℕ → ℕ → Lexed
 lexed_from zero text at = tokens []
-lexed_from (suc pieces) text at = if nat_le (length text) at then tokens [] else behind_piece at (lexed_from pieces text) (piece_at text at)
+lexed_from (suc pieces) text at =
+    if nat_le (length text) at then tokens [] else behind_piece at (lexed_from pieces text) (piece_at text at)
 
 -- a text has a byte at least for each of its pieces
 abbrev pub lexed : List ℕ → Lexed

@@ -8,7 +8,8 @@ use crate::pieces::Piece;
 use crate::readers::past;
 use c_tree::Token;
 
-/// A number of a bound: its value, if it is at most 2^32 - 1, how many bytes are left from its first on, and what follows.
+/// A number of a bound: its value, if it is at most 2^32 - 1, how many bytes are
+/// left from its first on, and what follows.
 #[derive(Clone, Copy)]
 pub struct BoundNumber<'a> {
     pub(crate) value: Option<u32>,
@@ -40,7 +41,7 @@ fn digits_in_bound(bytes: &[u8]) -> Option<usize>
     Some(count)
 }
 
-// a number of a bound behind a word
+// a number of a bound after a word
 fn number_behind<'a>(word: &[u8], bytes: &'a [u8]) -> Option<BoundNumber<'a>>
     ensures { option_map shown result ≡ number_behind word.now bytes.now }
 {

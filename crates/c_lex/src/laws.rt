@@ -11,15 +11,19 @@ ghost use Rattle.c_lex.specs.Texts.{piece_behind, lexed_from, lexed, tokens, no_
 #[tactic(auto, unfolding(crate::specs::Texts::piece_behind))]
 pub fn worked_texts()
     ensures declaration { lexed (codes "int a_1 = 0x1Fu; // one") ≡
-        tokens (token.Keyword keyword.Int ∷ token.Word (codes "a_1") ∷ token.Sign sign.Assign ∷ token.Number 31 true ∷ token.Sign sign.Semicolon ∷ []) }
-    ensures three { lexed (codes "a<b") ≡ tokens (token.Word (codes "a") ∷ token.Sign sign.Less ∷ token.Word (codes "b") ∷ []) }
+        tokens (token.Keyword keyword.Int ∷ token.Word (codes "a_1") ∷ token.Sign sign.Assign ∷ token.Number 31 true
+        ∷ token.Sign sign.Semicolon ∷ []) }
+    ensures three { lexed (codes "a<b")
+        ≡ tokens (token.Word (codes "a") ∷ token.Sign sign.Less ∷ token.Word (codes "b") ∷ []) }
     ensures longest { lexed (codes "a<<b<=c") ≡
-        tokens (token.Word (codes "a") ∷ token.Sign sign.ShiftLeft ∷ token.Word (codes "b") ∷ token.Sign sign.LessEqual ∷ token.Word (codes "c") ∷ []) }
+        tokens (token.Word (codes "a") ∷ token.Sign sign.ShiftLeft ∷ token.Word (codes "b") ∷ token.Sign sign.LessEqual
+        ∷ token.Word (codes "c") ∷ []) }
     ensures assigning_shift { lexed (codes "a <<= 1") ≡ no_token 2 }
     ensures decrement { lexed (codes "int main() { int x = 1; return --x; }") ≡ no_token 31 }
     ensures no_sign { lexed (codes "int main() { return 1 $ 2; }") ≡ no_token 22 }
     ensures above_word { lexed (codes "int main() { return 4294967296; }") ≡ too_wide 20 }
-    ensures great { lexed (codes "4294967295 2147483648 7") ≡ tokens (token.Number 4294967295 true ∷ token.Number 2147483648 true ∷ token.Number 7 false ∷ []) }
+    ensures great { lexed (codes "4294967295 2147483648 7")
+        ≡ tokens (token.Number 4294967295 true ∷ token.Number 2147483648 true ∷ token.Number 7 false ∷ []) }
     ensures leading_zero { lexed (codes "08") ≡ no_token 0 }
     ensures no_digit { lexed (codes "0x") ≡ no_token 0 }
     ensures two_suffixes { lexed (codes "1uu") ≡ no_token 0 }
@@ -38,6 +42,7 @@ pub fn worked_texts()
 /// A token is the longest one that can stand at its place, and a text has no more pieces than bytes.
 #[tactic(auto, using(crate::proofs::Longest::token_is_longest, crate::proofs::Steps::enough))]
 pub fn every_text()
-    ensures longest { (before bs : List ℕ) (t : Token) (count : ℕ) → piece_behind before bs ≡ piece.Is t count → IsLongest before bs t count }
+    ensures longest { (before bs : List ℕ) (t : Token) (count : ℕ) → piece_behind before bs ≡ piece.Is t count
+        → IsLongest before bs t count }
     ensures pieces { (text : List ℕ) (pieces : ℕ) → length text ≤ pieces → lexed_from pieces text 0 ≡ lexed text }
 {}

@@ -1,5 +1,5 @@
 -- The plain actions of parts that hold lists, by these lists.
-use Rattle.std.proofs.Common.{◌≡◌, ℕ, ◌<◌, List, [], ◌∷◌, ◌++◌, length, Option, refl, ap, ap₂, arith}
+use Rattle.std.proofs.Common.{◌≡◌, ℕ, zero, suc, ◌<◌, List, [], ◌∷◌, ◌++◌, length, get_or, slice_index_or, Option, refl, sym, ap, ap₂, arith}
 use Rattle.std.specs.Prelude.{option_map}
 use denote.Hole.Carrier.{hidden}
 use Rattle.sp_tree.specs.declared.expressions.SpExpr.{SpExpr}
@@ -9,9 +9,10 @@ use Rattle.c_meaning.specs.declared.actions.Action.TheViews.{Choose, Loop}
 use Rattle.c_meaning.specs.declared.actions.Action.TheBlock.{hidden-the_row-Action-0, hidden-the_row-Branch-1}
 use Rattle.c_meaning.specs.declared.actions.Assignment.{Assignment}
 use Rattle.c_meaning.specs.declared.actions.Branch.{Branch}
+use Rattle.c_meaning.specs.declared.actions.Routine.{Routine}
 use Rattle.c_meaning.specs.Actions.{PlainActions, no_action, action, PlainBranches, no_branch, branch, chooses, turns, one, joined}
 use Rattle.c_meaning.specs.Resolve.{choice}
-use Rattle.c_meaning.specs.Shown.{plain_action, plain_row, plain_branches, plain_assignment, actions_of, branches_of}
+use Rattle.c_meaning.specs.Shown.{plain_action, plain_row, plain_branches, plain_assignment, actions_of, branches_of, bodies_of}
 
 row_actions : (body : List Action) → plain_row (hidden-the_row-Action-0 body) ≡ actions_of body
 unfolding plain_action plain_row hidden-the_row-Action-0 hidden
@@ -75,3 +76,10 @@ branches_push (x ∷ bs) b rest = ap (branch (plain_sp x.condition) (actions_of 
 pub branches_all : (bs : List Branch) → more_branches bs no_branch ≡ branches_of bs
 branches_all [] = refl
 branches_all (b ∷ bs) = ap (branch (plain_sp b.condition) (actions_of b.body)) (branches_all bs)
+
+-- the actions of a function, by its number
+pub body_at : (routines : List Routine) (k : ℕ) (r : Routine) → k < length routines → r ≡ get_or routines k r
+    → slice_index_or (bodies_of routines) k no_action ≡ actions_of r.body
+body_at [] k r within is = absurd (omega (arith, within))
+body_at (x ∷ routines) zero r within is = ap (λ (y : Routine). actions_of y.body) (sym is)
+body_at (x ∷ routines) (suc k) r within is = body_at routines k r (omega (arith, within)) is

@@ -3,17 +3,17 @@ use Rattle.std.proofs.Common.{◌≡◌, ℕ, ◌+◌, ◌<◌, false, List, ◌
 use Rattle.std.specs.Prelude.{if◌then◌else◌}
 use Rattle.std.proofs.lemmas.List.{take-append-drop, take-append-le, length-take}
 use Rattle.std.proofs.Math.Seq.{take-append_seam}
+use Rattle.tc_word.proofs.Items.{drop_item}
 use Rattle.c_tree.specs.declared.units.Item.{Item}
 use Rattle.c_tree.specs.Layout.{item_initial, initial_from, takes_input, input_from}
 use Rattle.c_tree.specs.Plain.{plain_item}
 use Rattle.c_tree.specs.Valid.{item_words}
-use Rattle.c_meaning.proofs.Parts.{drop_item}
 
 pub initial_next : (items : List Item) (i : ℕ) (x : Item) → i < length items → x ≡ get_or items i x
     → initial_from (map plain_item (drop i items)) ≡ item_initial (plain_item x) ++ initial_from (map plain_item (drop (i + 1) items))
 initial_next items i x below is = ap (λ xs. initial_from (map plain_item xs)) (drop_item items i x below is)
 
--- words that begin with others still do so where more words stand behind them
+-- words that begin with others still do so where more words stand after them
 pub kept_first : (first more : List ℕ) → take (length first) (first ++ more) ≡ first
 kept_first first more = take-append_seam first more
 

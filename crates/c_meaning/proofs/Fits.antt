@@ -71,7 +71,7 @@ initial_length cores own names at (i ∷ items) none =
 pub initial_fits : (cores own : ℕ) (items : List PlainItem) → IsValid items cores own → length (initial_of items) ≤ MOST_PRIVATE_WORDS
 initial_fits cores own items valid = omega (arith, initial_length cores own given 0 items (in_items cores own items valid), private_fits cores own items valid)
 
--- the input lies behind the first words, and within those of all that is declared
+-- the input lies after the first words, and within those of all that is declared
 pub input_within : (private : ℕ) (items : List PlainItem) → 4 ≤ private → (4 ≤ (input_from private items).at) × ((input_from private items).at + (input_from private items).room ≤ private + words_in false items)
 input_within private [] first = (omega arith, omega arith)
 input_within private (i ∷ items) first = by (takes_input i) (sum_by-cons (item_words false) i items) (input_within (private + item_words false i) items (omega (arith, first)))

@@ -1,6 +1,7 @@
 -- Statements that fit, by their parts.
 use Rattle.std.proofs.Common.{◌≡◌, ℕ, ◌+◌, ◌<◌, List, length, get_or, drop, map, Option, Some, sym, subst, ◌∙◌, ap}
 use Rattle.std.specs.Prelude.{option_map}
+use Rattle.tc_word.proofs.Items.{drop_item}
 use Rattle.c_tree.specs.declared.expressions.Expr.{Expr}
 use Rattle.c_tree.specs.declared.limits.TheConstants.{MOST_LEVELS}
 use Rattle.c_tree.specs.declared.statements.Arm.{Arm}
@@ -15,7 +16,6 @@ use Rattle.c_tree.proofs.Plains.{block_of, arms_of, otherwise_of, plain_inner, p
 use Rattle.c_meaning.specs.Fits.{ArgsFit, RightFits, FirstFits, StmtFits, BlockFits, ArmsFit, OtherwiseFits}
 use Rattle.c_meaning.specs.Meaning.{names_after}
 use Rattle.c_meaning.specs.Values.{Names}
-use Rattle.c_meaning.proofs.Parts.{drop_item}
 
 pub declare_fits : (o : Names) (s : Stmt) (kind : Kind) (text : List ℕ) (r : Option Right) → s ≡ Declare kind text r → StmtFits o (plain_stmt s)
     → (length o.variables < MOST_LEVELS) × FirstFits (option_map plain_right r)

@@ -1,11 +1,11 @@
 -- The functions of items, resolved, by the items.
 use Rattle.std.proofs.Common.{◌≡◌, ℕ, ◌+◌, ◌<◌, List, [], ◌∷◌, ◌++◌, length, get_or, drop, map, refl, ap, sym, ◌∙◌, append-nil}
+use Rattle.tc_word.proofs.Items.{drop_item}
 use Rattle.c_tree.specs.declared.layout.Slot.{Slot}
 use Rattle.c_tree.specs.declared.units.Item.{Item}
 use Rattle.c_tree.specs.Plain.{PlainItem, plain_item}
 use Rattle.c_tree.specs.Plain as tree
 use Rattle.c_meaning.specs.Resolve.{resolved_items, names_in}
-use Rattle.c_meaning.proofs.Parts.{drop_item}
 
 -- one item, and then the others
 pub first_item : (slots : List Slot) (fs : List (List ℕ)) (i : PlainItem) (items : List PlainItem)

@@ -1,7 +1,8 @@
 -- Expressions, resolved, by their parts.
-use Rattle.std.proofs.Common.{◌≡◌, ℕ, ◌+◌, ◌<◌, suc, Bool, List, ◌∷◌, length, get_or, drop, Option, ap, sym, ◌∙◌, add-one, drop-cons}
+use Rattle.std.proofs.Common.{◌≡◌, ℕ, ◌+◌, ◌<◌, Bool, List, length, get_or, drop, Option, ap, ◌∙◌}
 use Rattle.std.specs.declared.boxed.Box.{Box}
 use Rattle.std.specs.Global.{Global}
+use Rattle.tc_word.proofs.Items.{drop_item}
 use Rattle.c_tree.specs.declared.expressions.Expr.{Expr, Number, Name}
 use Rattle.c_tree.specs.declared.expressions.Expr.TheViews.{Chain, Unary, Element, Paren}
 use Rattle.c_tree.specs.declared.expressions.Step.{Step}
@@ -72,9 +73,6 @@ unfolding plain_expr
 paren_typed names e b is = ap (λ x. expr_unsigned names (plain_expr x)) is
 
 -- ---- lists, from an item on
-
-pub drop_item : {A : Type 0} → (xs : List A) (i : ℕ) (x : A) → i < length xs → x ≡ get_or xs i x → drop i xs ≡ x ∷ drop (i + 1) xs
-drop_item xs i x within is = drop-cons xs i x within ∙ ap (λ y. y ∷ drop (suc i) xs) (sym is) ∙ ap (λ n. x ∷ drop n xs) (sym (add-one i))
 
 pub steps_resolved_next : (names : Names) (fresh : Option ℕ) (u : Bool) (a : PlainSp) (steps : List Step) (i : ℕ) (s : Step) → i < length steps → s ≡ get_or steps i s
     → resolved_steps names fresh u a (steps_of (drop i steps))

@@ -1,13 +1,11 @@
 -- Sizes of statements, by their parts: what goes through them goes from larger to smaller ones.
 use Rattle.std.proofs.Common.{◌≡◌, ℕ, ◌+◌, ◌<◌, ◌≤◌, zero, suc, List, [], ◌∷◌, length, get_or, Option, Some, sym, subst, ap, ◌∙◌, arith}
 use Rattle.c_tree.specs.declared.statements.Arm.{Arm}
-use Rattle.c_tree.specs.declared.statements.Bound.{Bound}
-use Rattle.c_tree.specs.declared.statements.Head.{Head}
 use Rattle.c_tree.specs.declared.statements.Stmt.{Stmt}
-use Rattle.c_tree.specs.declared.statements.Stmt.TheViews.{If, Loop, Inner}
-use Rattle.c_tree.specs.Plain.{plain_head, plain_stmt}
-use Rattle.c_tree.specs.Sizes.{bound_size, head_size, stmt_size, block_size, arms_size, further_size, otherwise_size}
-use Rattle.c_tree.proofs.Plains.{block_of, arms_of, otherwise_of, plain_inner, plain_loop, plain_if}
+use Rattle.c_tree.specs.declared.statements.Stmt.TheViews.{If}
+use Rattle.c_tree.specs.Plain.{plain_stmt}
+use Rattle.c_tree.specs.Sizes.{stmt_size, block_size, arms_size, further_size, otherwise_size}
+use Rattle.c_tree.proofs.Plains.{block_of, arms_of, otherwise_of, plain_if}
 
 pub if_size : (s : Stmt) (arms : List Arm) (otherwise : Option (List Stmt)) → s ≡ If arms otherwise
     → stmt_size (plain_stmt s) ≡ arms_size (arms_of arms) + otherwise_size (otherwise_of otherwise)
@@ -17,15 +15,6 @@ if_size s arms otherwise is = ap (λ x. stmt_size (plain_stmt x)) is ∙ ap stmt
 pub else_size : (otherwise : Option (List Stmt)) (body : List Stmt) → otherwise ≡ Some body → otherwise_size (otherwise_of otherwise) ≡ 3 + block_size (block_of body)
 unfolding otherwise_size
 else_size otherwise body some = ap (λ x. otherwise_size (otherwise_of x)) some
-
-pub loop_size : (s : Stmt) (bound : Option Bound) (head : Head) (body : List Stmt) → s ≡ Loop bound head body
-    → stmt_size (plain_stmt s) ≡ bound_size bound + (head_size (plain_head head) + (2 + block_size (block_of body)))
-unfolding stmt_size
-loop_size s bound head body is = ap (λ x. stmt_size (plain_stmt x)) is ∙ ap stmt_size (plain_loop bound head body)
-
-pub inner_size : (s : Stmt) (body : List Stmt) → s ≡ Inner body → stmt_size (plain_stmt s) ≡ 2 + block_size (block_of body)
-unfolding stmt_size
-inner_size s body is = ap (λ x. stmt_size (plain_stmt x)) is ∙ ap stmt_size (plain_inner body)
 
 pub stmt_in_block : (body : List Stmt) (i : ℕ) (s : Stmt) → i < length body → s ≡ get_or body i s → stmt_size (plain_stmt s) ≤ block_size (block_of body)
 unfolding block_size

@@ -2,6 +2,7 @@
 use Rattle.std.proofs.Common.{◌≡◌, ℕ, ◌+◌, ◌<◌, ◌≤◌, Bool, List, [], ◌∷◌, ◌++◌, length, get_or, take, drop, map, Option, None, Some, refl, ap, ◌∙◌, arith}
 use Rattle.std.specs.Prelude.{option_map}
 use Rattle.std.proofs.lemmas.List.{take-append-le, length-take}
+use Rattle.tc_word.proofs.Items.{drop_item}
 use Rattle.c_tree.specs.declared.expressions.Expr.{Expr}
 use Rattle.c_tree.specs.declared.statements.Arm.{Arm}
 use Rattle.c_tree.specs.declared.statements.Bound.{Bound}
@@ -19,7 +20,6 @@ use Rattle.c_meaning.specs.Open.{closed}
 use Rattle.c_meaning.specs.Resolve.{resolved, resolved_args, variable_target, element_target, maybe_sets, numbered_call, number_of, resolved_right, resolved_declaration, resolved_condition, resolved_begin, resolved_next, resolved_return, choice, resolved_stmt, resolved_block, resolved_arms, resolved_otherwise, resolved_body}
 use Rattle.c_meaning.specs.Scope.{Variable}
 use Rattle.c_meaning.specs.Values.{Names, named}
-use Rattle.c_meaning.proofs.Parts.{drop_item}
 
 -- ---- what a statement is resolved to
 
@@ -87,7 +87,7 @@ pub inner_resolved : (fs : List (List ℕ)) (names : Names) (s : Stmt) (body : L
     → resolved_stmt fs names (plain_stmt s) ≡ resolved_block fs names (block_of body)
 inner_resolved fs names s body is = ap (λ x. resolved_stmt fs names (plain_stmt x)) is ∙ ap (resolved_stmt fs names) (plain_inner body)
 
--- ---- the names behind a statement
+-- ---- the names after a statement
 
 pub declare_named : (names : Names) (s : Stmt) (kind : Kind) (text : List ℕ) (r : Option Right) → s ≡ Declare kind text r
     → names_after names (plain_stmt s) ≡ with_variable names kind text

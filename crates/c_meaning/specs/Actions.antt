@@ -1,5 +1,5 @@
--- Programs whose names are resolved, without the places of their boxes in memory: variables are named by their levels,
--- all else by its place in the memories, functions by their numbers.
+-- To be believed. Programs whose names are resolved, without the places of their boxes in memory: variables are named
+-- by their levels, all else by its place in the memories, functions by their numbers.
 use Rattle.std.specs.Prelude.{ℕ, List, Option}
 use Rattle.sp_tree.specs.Plain.{PlainSp}
 use Rattle.sp_tree.specs.declared.expressions.SpArray.{SpArray}

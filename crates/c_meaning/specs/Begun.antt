@@ -1,4 +1,4 @@
--- What a C task begins with, and what is told of it at its end.
+-- To be believed. What a C task begins with, and what is told of it at its end.
 use Rattle.std.specs.Prelude.{ℕ, ◌-◌, nat_lt, nat_le, false, ◌&&◌, if◌then◌else◌, List, [], length, slice_index}
 use Rattle.local_store.specs.declared.store.TheConstants.{FIRST_DATA_WORD}
 use Rattle.c_world.specs.World.{World}
@@ -25,6 +25,6 @@ begun items input shared comm = record {
   sends = [];
 }
 
--- what a task means on its input: the value of `main`, and the world behind it
+-- what a task means on its input: the value of `main`, and the world after it
 abbrev pub meaning : List PlainItem → List ℕ → (ℕ → ℕ) → (ℕ → ℕ) → Given
 meaning items input shared comm = program_given items (begun items input shared comm)

@@ -1,4 +1,5 @@
--- Names that are open, and functions before this one, as they are kept, and what a name was found to stand for.
+-- For proofs. Names that are open, and functions before this one, as they are kept,
+-- and what a name was found to stand for.
 use Rattle.std.specs.Prelude.{ℕ, List}
 use Rattle.c_meaning.specs.declared.scopes.Found.{Found}
 use Rattle.c_meaning.specs.declared.scopes.Found.TheVariants as found

@@ -1,5 +1,5 @@
--- What fits: slots lie within their memories, no more variables are open than a function has levels, and a call has no
--- more arguments than a function may have parameters.
+-- For proofs. What fits: slots lie within their memories, no more variables are open than a function has levels, and a
+-- call has no more arguments than a function may have parameters.
 use Rattle.std.specs.Prelude.{◌+◌, ◌<◌, ◌≤◌, ⊤, List, [], ◌∷◌, length, Option, None, Some}
 use Rattle.std.specs.List.{All}
 use Rattle.c_tree.specs.declared.layout.Slot.{Slot}
@@ -71,4 +71,5 @@ BodyFits names (s ∷ rest) = StmtFits names s × BodyFits (names_after names s)
 abbrev pub ItemFits : List Slot → PlainItem → Type 0
 ItemFits slots (plain.global of) = ⊤
 ItemFits slots (plain.function kind text void_word parameters body) =
-    (length parameters ≤ MOST_LEVELS) × BodyFits (record { slots = slots; variables = parameter_variables parameters }) body
+    (length parameters ≤ MOST_LEVELS)
+    × BodyFits (record { slots = slots; variables = parameter_variables parameters }) body

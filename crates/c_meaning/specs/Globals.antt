@@ -1,4 +1,4 @@
--- What is declared outside functions, as it is kept: the first slot of each name.
+-- For proofs. What is declared outside functions, as it is kept: the first slot of each name.
 use Rattle.std.specs.Prelude.{ℕ, List, Option, None, Some, bytes_eq}
 use Rattle.std.specs.Option.{option_copied}
 use Rattle.std.specs.HashMap.{HashMap, get_by}

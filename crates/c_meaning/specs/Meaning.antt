@@ -1,5 +1,5 @@
--- What a C task means (C99 6.8 and 6.9, and our subset): what its statements do to the words of its variables and
--- memories. All that C leaves undefined is decided here.
+-- To be believed. What a C task means (C99 6.8 and 6.9, and our subset): what its statements do to the words of its
+-- variables and memories. All that C leaves undefined is decided here.
 use Rattle.std.specs.Prelude.{ℕ, suc, zero, Bool, true, false, if◌then◌else◌, List, [], ◌∷◌, ◌++◌, length, Option, None, Some, bytes_eq, codes, slice_index}
 use Rattle.shared_order.specs.Words.{put}
 use Rattle.c_world.specs.Numbers.{is_true}
@@ -18,12 +18,12 @@ use Rattle.c_meaning.specs.Values.{State, Names, named, expr_value, args_value}
 
 -- ---- how a statement ends
 
--- the way on, and the words behind it
+-- the way on, and the words after it
 pub record Done : Type 0 where
   pub way : Way
   pub state : State
 
--- what a function gives, and the world behind it
+-- what a function gives, and the world after it
 pub record Given : Type 0 where
   pub value : ℕ
   pub world : World
@@ -37,9 +37,10 @@ goes_on s = record { way = way.On; state = s }
 
 -- ---- variables
 
--- the names behind a declaration
+-- the names after a declaration
 abbrev pub with_variable : Names → Kind → List ℕ → Names
-with_variable names kind text = record names { variables = names.variables ++ record { name = text; unsigned = is_unsigned kind } ∷ [] }
+with_variable names kind text =
+    record names { variables = names.variables ++ record { name = text; unsigned = is_unsigned kind } ∷ [] }
 
 -- the word of a level, of what a name stands for, and of an element
 abbrev pub with_level : ℕ → ℕ → State → State
@@ -47,7 +48,8 @@ with_level at value s = record s { locals = put at value s.locals }
 
 abbrev pub with_variable_set : Stands → ℕ → State → State
 with_variable_set (level at unsigned) value s = with_level at value s
-with_variable_set (outside slot) value s = record s { world = with_word (slot_region slot) (slot_word slot) value s.world }
+with_variable_set (outside slot) value s =
+    record s { world = with_word (slot_region slot) (slot_word slot) value s.world }
 with_variable_set nothing value s = s
 
 abbrev pub with_element_set : Stands → ℕ → ℕ → State → State
@@ -61,7 +63,7 @@ with_element_set nothing index value s = s
 abbrev pub in_world : State → World → State
 in_world s world = record s { world = world }
 
--- what a right side gives: a value, and the world behind it where a function was called
+-- what a right side gives: a value, and the world after it where a function was called
 abbrev pub call_given : Calls → Names → State → List ℕ → List PlainExpr → Given
 call_given calls names s text args = calls text (args_value names s args) s.world
 
@@ -78,7 +80,8 @@ declare_done calls names at (Some r) s =
     with_level at given.value (in_world fresh given.world)
 
 abbrev pub set_done : Calls → Names → List ℕ → PlainRight → State → State
-set_done calls names text r s = let given = right_given calls names s r in with_variable_set (named names text) given.value (in_world s given.world)
+set_done calls names text r s =
+    let given = right_given calls names s r in with_variable_set (named names text) given.value (in_world s given.world)
 
 -- the right side comes before the index
 abbrev pub set_element_done : Calls → Names → List ℕ → PlainExpr → PlainRight → State → State
@@ -92,7 +95,7 @@ assigned names text e s = with_variable_set (named names text) (expr_value names
 
 -- ---- loops
 
--- the condition of a loop, what stands before its first turn, and what stands behind each
+-- the condition of a loop, what stands before its first turn, and what stands after each
 abbrev pub head_condition : PlainHead → PlainExpr
 head_condition (plain.turns_while condition) = condition
 head_condition (plain.turns_for first from condition to_set to) = condition
@@ -105,7 +108,7 @@ abbrev pub head_stepped : Names → PlainHead → State → State
 head_stepped names (plain.turns_while condition) s = s
 head_stepped names (plain.turns_for first from condition to_set to) s = assigned names to_set to s
 
--- so many turns at most: before each the condition is tested. Where it still holds behind the last, the loop ends and
+-- so many turns at most: before each the condition is tested. Where it still holds after the last, the loop ends and
 -- the flag is set; a loop that is left otherwise sets nothing. `continue` goes to the step
 abbrev pub turn_done : (State → Done) → (State → State) → Done → Done
 turn_done more step d = elim d.way as (λ _. Done) [
@@ -126,7 +129,7 @@ most_turns (Some b) = b.max
 
 -- ---- statements
 
--- behind a statement the next one, where it goes on
+-- after a statement the next one, where it goes on
 abbrev pub then_done : (State → Done) → Done → Done
 then_done next d = elim d.way as (λ _. Done) [
   | way.On ↦ next d.state
@@ -137,13 +140,14 @@ then_done next d = elim d.way as (λ _. Done) [
 
 abbrev pub send_done : Names → ℕ → PlainExpr → PlainExpr → PlainExpr → State → State
 send_done names core source target count s =
-    in_world s (with_send core (expr_value names s source) (expr_value names s target) (expr_value names s count) s.world)
+    in_world s (with_send core (expr_value names s source) (expr_value names s target)
+    (expr_value names s count) s.world)
 
 abbrev pub return_value : Names → State → Option PlainExpr → ℕ
 return_value names s None = 0
 return_value names s (Some e) = expr_value names s e
 
--- the names behind a statement in its block
+-- the names after a statement in its block
 abbrev pub names_after : Names → PlainStmt → Names
 names_after names (plain.declared kind text r) = with_variable names kind text
 names_after names _ = names
@@ -155,10 +159,13 @@ abbrev mutual
   stmt_done calls names (plain.set text r) s = goes_on (set_done calls names text r s)
   stmt_done calls names (plain.set_element text index r) s = goes_on (set_element_done calls names text index r s)
   stmt_done calls names (plain.called text args) s = goes_on (in_world s (call_given calls names s text args).world)
-  stmt_done calls names (plain.sent core core_unsigned source target count) s = goes_on (send_done names core source target count s)
-  stmt_done calls names (plain.chosen arms otherwise) s = arms_done calls names arms (otherwise_done calls names otherwise) s
+  stmt_done calls names (plain.sent core core_unsigned source target count) s =
+      goes_on (send_done names core source target count s)
+  stmt_done calls names (plain.chosen arms otherwise) s =
+      arms_done calls names arms (otherwise_done calls names otherwise) s
   stmt_done calls names (plain.looped bound head body) s =
-      turns_done (λ t. is_true (expr_value names t (head_condition head))) (block_done calls names body) (head_stepped names head) (most_turns bound)
+      turns_done (λ t. is_true (expr_value names t (head_condition head))) (block_done calls names body)
+      (head_stepped names head) (most_turns bound)
       (head_begun names head s)
   stmt_done calls names plain.broken s = record { way = way.Broken; state = s }
   stmt_done calls names plain.continued s = record { way = way.Continued; state = s }
@@ -168,7 +175,8 @@ abbrev mutual
   -- statements one after another, up to one that goes elsewhere
   pub block_done : Calls → Names → PlainBlock → State → Done
   block_done calls names plain.no_stmt s = goes_on s
-  block_done calls names (plain.stmt t rest) s = then_done (block_done calls (names_after names t) rest) (stmt_done calls names t s)
+  block_done calls names (plain.stmt t rest) s =
+      then_done (block_done calls (names_after names t) rest) (stmt_done calls names t s)
 
   -- the first arm whose condition holds, or else the last block
   pub arms_done : Calls → Names → PlainArms → (State → Done) → State → Done

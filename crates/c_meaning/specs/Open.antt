@@ -1,4 +1,4 @@
--- The names that are open where a program's names are resolved.
+-- For proofs. The names that are open where a program's names are resolved.
 use Rattle.std.specs.Prelude.{ℕ, List, map, take}
 use Rattle.c_meaning.specs.declared.scopes.Scope.{Scope as Opened}
 use Rattle.c_meaning.specs.Entries.{shown_open, shown_known}

@@ -1,5 +1,6 @@
--- What C's operators make of words (C99 6.5), where each operand is an `int` or an `unsigned`. Signed arithmetic wraps,
--- shifts count modulo 32, and a quotient by 0 or of the least number by -1 is decided as the words of tc_word are.
+-- To be believed. What C's operators make of words (C99 6.5), where each operand is an `int` or an
+-- `unsigned`. Signed arithmetic wraps, shifts count modulo 32, and a quotient by 0 or of the least
+-- number by -1 is decided as the words of tc_word are.
 use Rattle.std.specs.Prelude.{ℕ, ◌==◌, nat_lt, bit_and, bit_or, bit_xor, Bool, true, false, not, ◌&&◌, ◌||◌, if◌then◌else◌, List, [], ◌∷◌}
 use Rattle.tc_word.specs.Word.{quotient, rest, quotient_unsigned, rest_unsigned, moved_up, moved_down, moved_down_signed, is_less}
 use Rattle.c_world.specs.Numbers.{flag, is_true, sum_of, difference_of, product_of, complement_of}

@@ -1,4 +1,4 @@
--- Names resolved once: from the plain tree of a program to its actions.
+-- To be believed. Names resolved once: from the plain tree of a program to its actions.
 use Rattle.std.specs.Prelude.{ℕ, ◌+◌, ◌==◌, Bool, true, false, if◌then◌else◌, List, [], ◌∷◌, ◌++◌, length, map, Option, None, Some, bytes_eq}
 use Rattle.std.specs.Option.{option_or}
 use Rattle.c_tree.specs.declared.expressions.BinaryOp.{BinaryOp}
@@ -51,7 +51,8 @@ is_exchanged binary.GreaterEqual = true
 is_exchanged _ = false
 
 abbrev pub resolved_between : BinaryOp → Bool → PlainSp → PlainSp → PlainSp
-resolved_between op u a b = if is_exchanged op then between_two (operator_of op u) b a else between_two (operator_of op u) a b
+resolved_between op u a b =
+    if is_exchanged op then between_two (operator_of op u) b a else between_two (operator_of op u) a b
 
 -- `+` changes nothing
 abbrev pub resolved_sign : UnaryOp → PlainSp → PlainSp
@@ -91,7 +92,8 @@ resolved_element nothing index = constant 0
 
 abbrev mutual
   pub resolved : Names → Option ℕ → PlainExpr → PlainSp
-  resolved names fresh (plain.chain at first rest) = resolved_steps names fresh (expr_unsigned names first) (resolved names fresh first) rest
+  resolved names fresh (plain.chain at first rest) =
+      resolved_steps names fresh (expr_unsigned names first) (resolved names fresh first) rest
   resolved names fresh (plain.unary ops of) = resolved_signs ops (resolved names fresh of)
   resolved names fresh (plain.number n unsigned) = constant n
   resolved names fresh (plain.name text) = resolved_variable fresh (named names text)
@@ -144,11 +146,12 @@ numbered_call (Some k) args result = one (calls k args result)
 
 abbrev pub resolved_right : List (List ℕ) → Names → Option ℕ → Option PlainTarget → PlainRight → PlainActions
 resolved_right fs names fresh result (plain.value e) = maybe_sets (assignment_to result (resolved names fresh e))
-resolved_right fs names fresh result (plain.call text args) = numbered_call (number_of text fs) (resolved_args names fresh args) result
+resolved_right fs names fresh result (plain.call text args) =
+    numbered_call (number_of text fs) (resolved_args names fresh args) result
 
 -- ---- choices
 
--- what is chosen under no condition is what stands behind `else`
+-- what is chosen under no condition is what stands after `else`
 abbrev pub choice : PlainBranches → PlainActions → PlainActions
 choice no_branch otherwise = otherwise
 choice (branch condition body rest) otherwise = one (chooses (branch condition body rest) otherwise)
@@ -180,16 +183,21 @@ resolved_return names (Some e) = resolved names None e
 
 abbrev mutual
   pub resolved_stmt : List (List ℕ) → Names → PlainStmt → PlainActions
-  resolved_stmt fs names (plain.declared kind text r) = resolved_declaration fs (with_variable names kind text) (length names.variables) r
+  resolved_stmt fs names (plain.declared kind text r) =
+      resolved_declaration fs (with_variable names kind text) (length names.variables) r
   resolved_stmt fs names (plain.set text r) = resolved_right fs names None (variable_target (named names text)) r
-  resolved_stmt fs names (plain.set_element text index r) = resolved_right fs names None (element_target (named names text) (resolved names None index)) r
-  resolved_stmt fs names (plain.called text args) = numbered_call (number_of text fs) (resolved_args names None args) None
+  resolved_stmt fs names (plain.set_element text index r) =
+      resolved_right fs names None (element_target (named names text) (resolved names None index)) r
+  resolved_stmt fs names (plain.called text args) =
+      numbered_call (number_of text fs) (resolved_args names None args) None
   resolved_stmt fs names (plain.sent core core_unsigned source target count) =
       one (transfers core (resolved names None source) (resolved names None target) (resolved names None count))
-  resolved_stmt fs names (plain.chosen arms otherwise) = choice (resolved_arms fs names arms) (resolved_otherwise fs names otherwise)
+  resolved_stmt fs names (plain.chosen arms otherwise) =
+      choice (resolved_arms fs names arms) (resolved_otherwise fs names otherwise)
   resolved_stmt fs names (plain.looped bound head body) =
       joined (maybe_sets (resolved_begin names head))
-      (one (turns (most_turns bound) (resolved_condition names head) (resolved_block fs names body) (resolved_next names head)))
+      (one (turns (most_turns bound) (resolved_condition names head) (resolved_block fs names body)
+      (resolved_next names head)))
   resolved_stmt fs names plain.broken = one breaks
   resolved_stmt fs names plain.continued = one continues
   resolved_stmt fs names (plain.returned e) = one (returns (resolved_return names e))
@@ -197,7 +205,8 @@ abbrev mutual
 
   pub resolved_block : List (List ℕ) → Names → PlainBlock → PlainActions
   resolved_block fs names plain.no_stmt = no_action
-  resolved_block fs names (plain.stmt s rest) = joined (resolved_stmt fs names s) (resolved_block fs (names_after names s) rest)
+  resolved_block fs names (plain.stmt s rest) =
+      joined (resolved_stmt fs names s) (resolved_block fs (names_after names s) rest)
 
   pub resolved_arms : List (List ℕ) → Names → PlainArms → PlainBranches
   resolved_arms fs names plain.no_arm = no_branch

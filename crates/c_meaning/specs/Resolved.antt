@@ -1,4 +1,4 @@
--- What a program means whose names are resolved: over the same states as a C text.
+-- To be believed. What a program means whose names are resolved: over the same states as a C text.
 use Rattle.std.specs.Prelude.{ℕ, zero, suc, Bool, true, false, ◌==◌, if◌then◌else◌, List, [], ◌∷◌, Option, None, Some, slice_index, slice_index_or}
 use Rattle.c_world.specs.Numbers.{is_true}
 use Rattle.c_world.specs.World.{World, with_word, with_element, with_send}
@@ -41,12 +41,13 @@ abbrev pub step_done : Option PlainAssignment → State → State
 step_done None s = s
 step_done (Some a) s = assignment_done a s
 
--- what a function gave is set behind the call
+-- what a function gave is set after the call
 abbrev pub given_done : Option PlainTarget → State → Given → State
 given_done result s given = with_result result given.value (in_world s given.world)
 
 abbrev pub transfer_done : ℕ → PlainSp → PlainSp → PlainSp → State → State
-transfer_done core source target count s = in_world s (with_send core (worth source s) (worth target s) (worth count s) s.world)
+transfer_done core source target count s =
+    in_world s (with_send core (worth source s) (worth target s) (worth count s) s.world)
 
 abbrev mutual
   pub action_done : Serves → PlainAction → State → Done
@@ -54,7 +55,8 @@ abbrev mutual
   action_done g (calls k args result) s = goes_on (given_done result s (g k (args_worth args s) s.world))
   action_done g (transfers core source target count) s = goes_on (transfer_done core source target count s)
   action_done g (chooses branches otherwise) s = branches_done g branches (actions_done g otherwise) s
-  action_done g (turns most condition body step) s = turns_done (holds condition) (actions_done g body) (step_done step) most s
+  action_done g (turns most condition body step) s =
+      turns_done (holds condition) (actions_done g body) (step_done step) most s
   action_done g breaks s = record { way = way.Broken; state = s }
   action_done g continues s = record { way = way.Continued; state = s }
   action_done g (returns e) s = record { way = way.Returned (worth e s); state = s }

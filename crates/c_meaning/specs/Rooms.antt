@@ -1,4 +1,4 @@
--- How many words a task's memories have.
+-- To be believed. How many words a task's memories have.
 use Rattle.local_store.specs.declared.store.TheConstants.{PRIVATE_WORDS}
 use Rattle.c_world.specs.Shown.{Rooms, fresh_rooms}
 

@@ -1,4 +1,5 @@
--- What names stand for (C99 6.2.1): variables of a function by their levels, and what is declared outside functions.
+-- To be believed. What names stand for (C99 6.2.1): variables of a function by their
+-- levels, and what is declared outside functions.
 use Rattle.std.specs.Prelude.{ℕ, ◌+◌, Bool, false, if◌then◌else◌, List, [], ◌∷◌, Option, None, Some, bytes_eq}
 use Rattle.std.specs.Option.{option_or}
 use Rattle.local_store.specs.declared.map.Cell.TheVariants as cell
@@ -21,7 +22,8 @@ pub data Stands : Type 0 where
 -- the last variable so called, which hides those before it
 abbrev pub among_levels : ℕ → List ℕ → List Variable → Option Stands
 among_levels at name [] = None
-among_levels at name (v ∷ vs) = option_or (among_levels (at + 1) name vs) (if bytes_eq v.name name then Some (level at v.unsigned) else None)
+among_levels at name (v ∷ vs) =
+    option_or (among_levels (at + 1) name vs) (if bytes_eq v.name name then Some (level at v.unsigned) else None)
 
 abbrev pub among_slots : List ℕ → List Slot → Stands
 among_slots name [] = nothing

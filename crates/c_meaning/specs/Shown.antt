@@ -1,4 +1,4 @@
--- What actions say, without the places of their boxes in memory.
+-- To be believed. What actions say, without the places of their boxes in memory.
 use Rattle.std.specs.Prelude.{List, [], ◌∷◌, map, option_map}
 use Rattle.sp_tree.specs.Plain.{plain_sp}
 use Rattle.c_meaning.specs.declared.actions.Action.{Action, Set, Call, Send, Choose', Loop', Break, Continue, Return}
@@ -25,7 +25,8 @@ unfoldable mutual
   plain_action (Call k args given) = calls k (map plain_sp args.values) (option_map plain_target given)
   plain_action (Send core source aim count) = transfers core (plain_sp source) (plain_sp aim) (plain_sp count)
   plain_action (Choose' l branches k otherwise) = chooses (plain_branches branches) (plain_row otherwise)
-  plain_action (Loop' most condition l body step) = turns most (plain_sp condition) (plain_row body) (option_map plain_assignment step)
+  plain_action (Loop' most condition l body step) =
+      turns most (plain_sp condition) (plain_row body) (option_map plain_assignment step)
   plain_action Break = breaks
   plain_action Continue = continues
   plain_action (Return e) = returns (plain_sp e)
@@ -36,7 +37,8 @@ unfoldable mutual
 
   pub plain_branches : {n : _} → Row_of-Branch n → PlainBranches
   plain_branches end_of-Branch = no_branch
-  plain_branches (more_of-Branch condition l body rest) = branch (plain_sp condition) (plain_row body) (plain_branches rest)
+  plain_branches (more_of-Branch condition l body rest) =
+      branch (plain_sp condition) (plain_row body) (plain_branches rest)
 
 -- the same of plain lists
 abbrev pub actions_of : List Action → PlainActions

@@ -1,4 +1,4 @@
--- How large actions are: what goes through them goes from larger to smaller ones.
+-- For proofs. How large actions are: what goes through them goes from larger to smaller ones.
 use Rattle.std.specs.Prelude.{ℕ, ◌+◌}
 use Rattle.c_meaning.specs.Actions.{PlainAction, sets, calls, transfers, chooses, turns, breaks, continues, returns, PlainActions, no_action, action, PlainBranches, no_branch, branch}
 

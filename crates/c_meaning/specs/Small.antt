@@ -1,4 +1,4 @@
--- Small programs to show meanings on.
+-- For worked rows. Small programs to show meanings on.
 use Rattle.std.specs.Prelude.{ℕ, true, false, List, [], ◌∷◌, Some, codes}
 use Rattle.c_tree.specs.declared.expressions.BinaryOp.{BinaryOp}
 use Rattle.c_tree.specs.declared.expressions.BinaryOp.TheVariants as binary
@@ -65,18 +65,21 @@ continue_program = main_of (
 -- `int main() { while (1) { BODY } }`, which turns so often at most
 abbrev pub turning_program : ℕ → List PlainStmt → List PlainItem
 turning_program most body =
-    main_of (plain.looped (Some (record { min = 0; max = most })) (plain.turns_while (number 1)) (block_of body) ∷ []) ∷ []
+    main_of (plain.looped (Some (record { min = 0; max = most })) (plain.turns_while (number 1)) (block_of body) ∷ [])
+    ∷ []
 
 -- `int x = 7; int main() { int x = VALUE; return x; }`
 abbrev pub hiding_program : PlainExpr → List PlainItem
 hiding_program e =
-    variable_of false (codes "x") (const_of 7 ∷ []) ∷ main_of (declared (codes "x") e ∷ returned (variable (codes "x")) ∷ []) ∷ []
+    variable_of false (codes "x") (const_of 7 ∷ [])
+    ∷ main_of (declared (codes "x") e ∷ returned (variable (codes "x")) ∷ []) ∷ []
 
 -- `int a[3]; int main() { if (CONDITION) { a[INDEX] = 5; } return a[READ]; }`
 abbrev pub store_program : PlainExpr → PlainExpr → PlainExpr → List PlainItem
 store_program condition index read =
     array_of false (codes "a") 3 []
-    ∷ main_of (plain.chosen (plain.arm condition (block_of (plain.set_element (codes "a") index (plain.value (number 5)) ∷ [])) plain.no_arm) plain.no_else
+    ∷ main_of (plain.chosen (plain.arm condition
+    (block_of (plain.set_element (codes "a") index (plain.value (number 5)) ∷ [])) plain.no_arm) plain.no_else
     ∷ returned (at_index (codes "a") read) ∷ []) ∷ []
 
 -- `int i; int a[2]; int f() { i = 1; return 5; } int main() { a[i] = f(); return a[1]; }`
@@ -84,14 +87,16 @@ abbrev pub order_program : List PlainItem
 order_program =
     variable_of false (codes "i") [] ∷ array_of false (codes "a") 2 []
     ∷ function_of (codes "f") [] (set_to (codes "i") (number 1) ∷ returned (number 5) ∷ [])
-    ∷ main_of (plain.set_element (codes "a") (variable (codes "i")) (plain.call (codes "f") []) ∷ returned (at_index (codes "a") (number 1)) ∷ []) ∷ []
+    ∷ main_of (plain.set_element (codes "a") (variable (codes "i")) (plain.call (codes "f") [])
+    ∷ returned (at_index (codes "a") (number 1)) ∷ []) ∷ []
 
 -- `int in[2]; int main() { return in[1]; }`, and the same with `in` in the scratchpad
 abbrev pub input_program : List PlainItem
 input_program = array_of false (codes "in") 2 [] ∷ main_of (returned (at_index (codes "in") (number 1)) ∷ []) ∷ []
 
 abbrev pub scratch_input_program : List PlainItem
-scratch_input_program = array_of true (codes "in") 2 [] ∷ main_of (returned (at_index (codes "in") (number 1)) ∷ []) ∷ []
+scratch_input_program =
+    array_of true (codes "in") 2 [] ∷ main_of (returned (at_index (codes "in") (number 1)) ∷ []) ∷ []
 
 -- `int main() { send(1, 3, 4, 2); }`
 abbrev pub send_program : List PlainItem

@@ -1,4 +1,4 @@
--- What an expression is worth, and whether it is unsigned (C99 6.5). An expression changes nothing.
+-- To be believed. What an expression is worth, and whether it is unsigned (C99 6.5). An expression changes nothing.
 use Rattle.std.specs.Prelude.{ℕ, Bool, List, [], ◌∷◌}
 use Rattle.c_tree.specs.Plain.{PlainExpr, chain, unary, number, name, element, paren, PlainSteps, no_step, step}
 use Rattle.c_tree.specs.declared.layout.Slot.{Slot}
@@ -43,11 +43,13 @@ abbrev mutual
   -- operators of one level, from the left
   pub steps_unsigned : Names → Bool → PlainSteps → Bool
   steps_unsigned names u no_step = u
-  steps_unsigned names u (step op operand rest) = steps_unsigned names (gives_unsigned op u (expr_unsigned names operand)) rest
+  steps_unsigned names u (step op operand rest) =
+      steps_unsigned names (gives_unsigned op u (expr_unsigned names operand)) rest
 
 abbrev mutual
   pub expr_value : Names → State → PlainExpr → ℕ
-  expr_value names s (chain at first rest) = steps_value names s (expr_unsigned names first) (expr_value names s first) rest
+  expr_value names s (chain at first rest) =
+      steps_value names s (expr_unsigned names first) (expr_value names s first) rest
   expr_value names s (unary ops of) = signs_value ops (expr_value names s of)
   expr_value names s (number n unsigned) = n
   expr_value names s (name text) = variable_value (named names text) s

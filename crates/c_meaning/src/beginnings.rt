@@ -18,7 +18,7 @@ pub struct InputPlace {
     pub room: usize,
 }
 
-/// Adds the words that a program's variables and arrays in private memory begin with, in order, behind others. It is
+/// Adds the words that a program's variables and arrays in private memory begin with, in order, after others. It is
 /// `Err` where memory runs out, and then changes nothing.
 #[tactic(auto, using(crate::proofs::Declarations::initial_next, crate::proofs::Declarations::kept_through))]
 pub fn add_initial(words: &mut Vec<u32>, items: &[Item]) -> Result<(), OutOfMemory>
@@ -52,7 +52,7 @@ fn add_item(words: &mut Vec<u32>, item: &Item) -> Result<(), OutOfMemory>
     }
 }
 
-// the first values, and 0 behind them
+// the first values, and 0 after them
 #[tactic(auto, using(crate::proofs::Declarations::kept_first))]
 fn add_global(words: &mut Vec<u32>, global: &Global) -> Result<(), OutOfMemory>
     ensures added { OnOk result (words.new.items ≡ words.old.items ++ layout.first_words global.now) }

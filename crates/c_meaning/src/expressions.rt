@@ -108,7 +108,8 @@ fn variable(fresh: Option<usize>, found: Found<'_>) -> Operand
 // the element of what a name stands for
 #[tactic(auto, unfolding(sp_tree::specs::Plain::plain_sp))]
 fn element(alloc: Global, found: Found<'_>, index: SpExpr) -> Result<Operand, OutOfMemory>
-    ensures value { IfOk result (λ r. plain_sp r.value ≡ resolve.resolved_element (found_shown found.entry) (plain_sp index)) }
+    ensures value { IfOk result (λ r. plain_sp r.value
+        ≡ resolve.resolved_element (found_shown found.entry) (plain_sp index)) }
     ensures unsigned { IfOk result (λ r. r.unsigned ≡ scope_specs.stands_unsigned (found_shown found.entry)) }
 {
     match found {
@@ -136,7 +137,8 @@ pub fn expression(
     fresh: Option<usize>,
     e: &Expr,
 ) -> Result<Operand, OutOfMemory>
-    ensures value { IfOk result (λ r. plain_sp r.value ≡ resolve.resolved (names_of scope.now) fresh (plain_expr e.now)) }
+    ensures value { IfOk result (λ r. plain_sp r.value
+        ≡ resolve.resolved (names_of scope.now) fresh (plain_expr e.now)) }
     ensures unsigned { IfOk result (λ r. r.unsigned ≡ expr_unsigned (names_of scope.now) (plain_expr e.now)) }
 {
     match e {
@@ -176,8 +178,10 @@ fn steps(
     steps: &[Step],
 ) -> Result<Operand, OutOfMemory>
     ensures value { IfOk result (λ r. plain_sp r.value
-        ≡ resolve.resolved_steps (names_of scope.now) fresh first.unsigned (plain_sp first.value) (steps_of steps.now)) }
-    ensures unsigned { IfOk result (λ r. r.unsigned ≡ steps_unsigned (names_of scope.now) first.unsigned (steps_of steps.now)) }
+        ≡ resolve.resolved_steps (names_of scope.now) fresh first.unsigned (plain_sp first.value)
+        (steps_of steps.now)) }
+    ensures unsigned { IfOk result (λ r. r.unsigned
+        ≡ steps_unsigned (names_of scope.now) first.unsigned (steps_of steps.now)) }
 {
     let Operand {
         mut value,
@@ -207,7 +211,8 @@ pub fn arguments(
     fresh: Option<usize>,
     args: &[Expr],
 ) -> Result<List<SpExpr>, OutOfMemory>
-    ensures values { IfOk result (λ r. map plain_sp r ≡ resolve.resolved_args (names_of scope.now) fresh (map plain_expr args.now)) }
+    ensures values { IfOk result (λ r. map plain_sp r
+        ≡ resolve.resolved_args (names_of scope.now) fresh (map plain_expr args.now)) }
     ensures count { IfOk result (λ r. length r ≡ length args.now) }
 {
     let mut values = Vec::new(alloc);

@@ -14,6 +14,8 @@ ghost use Rattle.c_meaning.specs.Values.{Names, State};
 pub fn names_resolved_once()
     ensures statement { (fs : List (List ℕ)) (names : Names) (g : Serves) (s : PlainStmt) (t : State)
         → actions_done g (resolved_stmt fs names s) t ≡ stmt_done (calls_by fs g) names s t }
-    ensures program { (items : List PlainItem) (world : World) → let routines = resolved_items (layout_of items) [] items in
-        program_given items world ≡ numbered (serves routines (length routines)) (number_of (codes "main") (names_in items)) [] world }
+    ensures program { (items : List PlainItem) (world : World)
+        → let routines = resolved_items (layout_of items) [] items in
+        program_given items world ≡ numbered (serves routines (length routines))
+        (number_of (codes "main") (names_in items)) [] world }
 {}

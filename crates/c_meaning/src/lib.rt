@@ -1,14 +1,14 @@
 //! What C tasks mean.
 //!
-//! `specs/Meaning.antt` tells it by recursion on the plain tree of a program: a statement takes the words of a function's
-//! variables, by their levels, and the memories, and gives them as they are behind it, with the way on. All that C
-//! leaves open is decided: division by 0, shifts, elements past an array's end, loops past their bound.
-//! `specs/Begun.antt` says what a task begins with.
+//! `specs/Meaning.antt` tells it by recursion on the plain tree of a program: a statement takes the words of a
+//! function's variables, by their levels, and the memories, and gives them as they are after it, with the way
+//! on. All that C leaves open is decided: division by 0, shifts, elements past an array's end, loops past their
+//! bound. `specs/Begun.antt` says what a task begins with.
 //!
-//! Names can be resolved once: [`resolve`] gives a program's functions as actions ([`Action`]) that name variables by
-//! their levels, all else by its place in the memories, and functions by their numbers. It is exactly `specs/Resolve.antt`
-//! of the program's plain tree; and what those actions do (`specs/Resolved.antt`) is what the program means, as
-//! [`names_resolved_once`] says.
+//! Names can be resolved once: [`resolve`] gives a program's functions as actions ([`Action`]) that name
+//! variables by their levels, all else by its place in the memories, and functions by their numbers. It is
+//! exactly `specs/Resolve.antt` of the program's plain tree; and what those actions do (`specs/Resolved.antt`) is
+//! what the program means, as [`names_resolved_once`] says.
 //!
 //! What its variables and arrays begin with, and where its input lies, [`add_initial`] and [`input_place`] work out.
 //!

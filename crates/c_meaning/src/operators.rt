@@ -33,7 +33,7 @@ pub fn signs(alloc: Global, ops: &[UnaryOp], of: SpExpr) -> Result<SpExpr, OutOf
     }
 }
 
-/// Whether an operand behind these operators is unsigned.
+/// Whether an operand after these operators is unsigned.
 pub fn signs_unsigned(ops: &[UnaryOp], unsigned: bool) -> bool
     ensures { result ≡ operators.signs_unsigned ops.now unsigned }
 {

@@ -72,9 +72,11 @@ fn add_item<'a>(
     requires fits { ItemFits (names_of scope.old).slots (plain_item item.now) }
     requires number { length (functions_of scope.old) + 1 < 2 ^ 32 }
     ensures routines { OnOk result (bodies_of routines.new.items
-        ≡ bodies_of routines.old.items ++ resolved_items (names_of scope.old).slots (functions_of scope.old) (plain_item item.now ∷ [])) }
+        ≡ bodies_of routines.old.items
+        ++ resolved_items (names_of scope.old).slots (functions_of scope.old) (plain_item item.now ∷ [])) }
     ensures names { OnOk result (names_of scope.new ≡ names_of scope.old) }
-    ensures functions { OnOk result (functions_of scope.new ≡ functions_of scope.old ++ names_in (plain_item item.now ∷ [])) }
+    ensures functions { OnOk result (functions_of scope.new
+        ≡ functions_of scope.old ++ names_in (plain_item item.now ∷ [])) }
 {
     match item {
         Item::Global { .. } => Ok(()),
@@ -89,7 +91,8 @@ fn add_item<'a>(
 
 /// Resolves all names of a program. It is `Err` only where an allocation fails.
 pub fn resolve(alloc: Global, program: &Checked) -> Result<Resolved, OutOfMemory>
-    ensures routines { IfOk result (λ r. bodies_of r.routines ≡ resolved_items program.now.layout [] (plain program.now.unit)) }
+    ensures routines { IfOk result (λ r. bodies_of r.routines
+        ≡ resolved_items program.now.layout [] (plain program.now.unit)) }
     ensures main { IfOk result (λ r. r.main ≡ number_of (codes "main") (names_in (plain program.now.unit))) }
 {
     let mut scope = Scope::new(alloc, program.layout.as_slice())?;

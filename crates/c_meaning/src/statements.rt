@@ -56,7 +56,8 @@ fn add_call(
     requires number { IfSome function (λ n. n < 2 ^ 32) }
     requires few { length args ≤ MOST_PARAMETERS }
     ensures { OnOk result (actions_of out.new.items
-        ≡ joined (actions_of out.old.items) (resolve.numbered_call function (map plain_sp args) (option_map plain_target target))) }
+        ≡ joined (actions_of out.old.items)
+        (resolve.numbered_call function (map plain_sp args) (option_map plain_target target))) }
 {
     match function {
         None => add_set(out, assignment_to(target, SpExpr::Const { value: 0 })),
@@ -85,7 +86,8 @@ fn add_right(
 ) -> Result<(), OutOfMemory>
     requires { RightFits (plain_right right.now) }
     ensures { OnOk result (actions_of out.new.items ≡ joined (actions_of out.old.items)
-        (resolve.resolved_right (functions_of scope.now) (names_of scope.now) fresh (option_map plain_target target) (plain_right right.now))) }
+        (resolve.resolved_right (functions_of scope.now) (names_of scope.now) fresh (option_map plain_target target)
+        (plain_right right.now))) }
 {
     match right {
         Right::Value { of } => {
@@ -122,7 +124,8 @@ fn declare<'a>(
     requires room { length (names_of scope.old).variables < MOST_LEVELS }
     requires first { FirstFits (option_map plain_right value.now) }
     ensures actions { OnOk result (actions_of out.new.items ≡ joined (actions_of out.old.items)
-        (resolve.resolved_declaration (functions_of scope.old) (with_variable (names_of scope.old) kind name.now) (length (names_of scope.old).variables)
+        (resolve.resolved_declaration (functions_of scope.old) (with_variable (names_of scope.old) kind name.now)
+        (length (names_of scope.old).variables)
         (option_map plain_right value.now))) }
     ensures names { OnOk result (names_of scope.new ≡ with_variable (names_of scope.old) kind name.now) }
     ensures functions { OnOk result (functions_of scope.new ≡ functions_of scope.old) }
@@ -143,7 +146,8 @@ fn assigned(
     name: &Text,
     e: &Expr,
 ) -> Result<Option<Assignment>, OutOfMemory>
-    ensures { IfOk result (λ a. option_map plain_assignment a ≡ resolve.resolved_assignment (names_of scope.now) name.now (plain_expr e.now)) }
+    ensures { IfOk result (λ a. option_map plain_assignment a
+        ≡ resolve.resolved_assignment (names_of scope.now) name.now (plain_expr e.now)) }
 {
     let target = variable_target(scope.find(name.as_str()));
     let value = value_of(alloc, scope, e)?;
@@ -151,7 +155,8 @@ fn assigned(
 }
 
 fn begin(alloc: Global, scope: &Scope<'_>, head: &Head) -> Result<Option<Assignment>, OutOfMemory>
-    ensures { IfOk result (λ a. option_map plain_assignment a ≡ resolve.resolved_begin (names_of scope.now) (plain_head head.now)) }
+    ensures { IfOk result (λ a. option_map plain_assignment a
+        ≡ resolve.resolved_begin (names_of scope.now) (plain_head head.now)) }
 {
     match head {
         Head::While { .. } => Ok(None),
@@ -160,7 +165,8 @@ fn begin(alloc: Global, scope: &Scope<'_>, head: &Head) -> Result<Option<Assignm
 }
 
 fn next(alloc: Global, scope: &Scope<'_>, head: &Head) -> Result<Option<Assignment>, OutOfMemory>
-    ensures { IfOk result (λ a. option_map plain_assignment a ≡ resolve.resolved_next (names_of scope.now) (plain_head head.now)) }
+    ensures { IfOk result (λ a. option_map plain_assignment a
+        ≡ resolve.resolved_next (names_of scope.now) (plain_head head.now)) }
 {
     match head {
         Head::While { .. } => Ok(None),
@@ -189,7 +195,8 @@ fn most_turns(bound: Option<Bound>) -> u32
 
 #[tactic(auto, unfolding(sp_tree::specs::Plain::plain_sp))]
 fn returned(alloc: Global, scope: &Scope<'_>, value: &Option<Expr>) -> Result<SpExpr, OutOfMemory>
-    ensures { IfOk result (λ e. plain_sp e ≡ resolve.resolved_return (names_of scope.now) (option_map plain_expr value.now)) }
+    ensures { IfOk result (λ e. plain_sp e
+        ≡ resolve.resolved_return (names_of scope.now) (option_map plain_expr value.now)) }
 {
     match value {
         None => Ok(SpExpr::Const { value: 0 }),
@@ -207,7 +214,8 @@ fn set_element(
 ) -> Result<(), OutOfMemory>
     requires { RightFits (plain_right right.now) }
     ensures { OnOk result (actions_of out.new.items ≡ joined (actions_of out.old.items)
-        (resolve.resolved_stmt (functions_of scope.now) (names_of scope.now) (tree.set_element name.now (plain_expr index.now) (plain_right right.now)))) }
+        (resolve.resolved_stmt (functions_of scope.now) (names_of scope.now)
+        (tree.set_element name.now (plain_expr index.now) (plain_right right.now)))) }
 {
     let index = value_of(alloc, scope, index)?;
     let target = element_target(scope.find(name.as_str()), index);
@@ -226,7 +234,8 @@ fn send(
 ) -> Result<(), OutOfMemory>
     ensures { OnOk result (actions_of out.new.items ≡ joined (actions_of out.old.items)
         (one (plain.transfers core (resolve.resolved (names_of scope.now) None (plain_expr source.now))
-        (resolve.resolved (names_of scope.now) None (plain_expr target.now)) (resolve.resolved (names_of scope.now) None (plain_expr count.now))))) }
+        (resolve.resolved (names_of scope.now) None (plain_expr target.now))
+        (resolve.resolved (names_of scope.now) None (plain_expr count.now))))) }
 {
     let source = value_of(alloc, scope, source)?;
     let target = value_of(alloc, scope, target)?;
@@ -242,7 +251,7 @@ fn send(
     )
 }
 
-// actions behind others
+// actions after others
 #[tactic(auto, using(crate::proofs::Acted::actions_append))]
 fn add_all(out: &mut Vec<Action>, actions: List<Action>) -> Result<(), OutOfMemory>
     ensures { OnOk result (actions_of out.new.items ≡ joined (actions_of out.old.items) (actions_of actions)) }
@@ -372,7 +381,8 @@ fn repeat<'a>(
 ) -> Result<(), OutOfMemory>
     requires { BlockFits (names_of scope.old) (block_of body.now) }
     ensures actions { OnOk result (actions_of out.new.items ≡ joined (actions_of out.old.items)
-        (resolve.resolved_stmt (functions_of scope.old) (names_of scope.old) (tree.looped bound (plain_head head.now) (block_of body.now)))) }
+        (resolve.resolved_stmt (functions_of scope.old) (names_of scope.old)
+        (tree.looped bound (plain_head head.now) (block_of body.now)))) }
     ensures names { OnOk result (names_of scope.new ≡ names_of scope.old) }
     ensures functions { OnOk result (functions_of scope.new ≡ functions_of scope.old) }
 {
@@ -406,7 +416,8 @@ pub fn statements<'a>(
     requires { BlockFits (names_of scope.old) (block_of body.now) }
     ensures actions { OnOk result (actions_of out.new.items ≡ joined (actions_of out.old.items)
         (resolve.resolved_block (functions_of scope.old) (names_of scope.old) (block_of body.now))) }
-    ensures kept { OnOk result (closed (length (names_of scope.old).variables) (names_of scope.new) ≡ names_of scope.old) }
+    ensures kept { OnOk result (closed (length (names_of scope.old).variables) (names_of scope.new)
+        ≡ names_of scope.old) }
     ensures functions { OnOk result (functions_of scope.new ≡ functions_of scope.old) }
 {
     for s in body {
@@ -424,7 +435,8 @@ fn block<'a>(
     body: &'a [Stmt],
 ) -> Result<List<Action>, OutOfMemory>
     requires { BlockFits (names_of scope.old) (block_of body.now) }
-    ensures actions { IfOk result (λ r. actions_of r ≡ resolve.resolved_block (functions_of scope.old) (names_of scope.old) (block_of body.now)) }
+    ensures actions { IfOk result (λ r. actions_of r
+        ≡ resolve.resolved_block (functions_of scope.old) (names_of scope.old) (block_of body.now)) }
     ensures names { OnOk result (names_of scope.new ≡ names_of scope.old) }
     ensures functions { OnOk result (functions_of scope.new ≡ functions_of scope.old) }
 {
@@ -443,7 +455,8 @@ fn branches<'a>(
     arms: &'a [Arm],
 ) -> Result<List<Branch>, OutOfMemory>
     requires { ArmsFit (names_of scope.old) (arms_of arms.now) }
-    ensures branches { IfOk result (λ r. branches_of r ≡ resolve.resolved_arms (functions_of scope.old) (names_of scope.old) (arms_of arms.now)) }
+    ensures branches { IfOk result (λ r. branches_of r
+        ≡ resolve.resolved_arms (functions_of scope.old) (names_of scope.old) (arms_of arms.now)) }
     ensures names { OnOk result (names_of scope.new ≡ names_of scope.old) }
     ensures functions { OnOk result (functions_of scope.new ≡ functions_of scope.old) }
 {

@@ -74,7 +74,8 @@ pub fn element_target(found: Found<'_>, index: SpExpr) -> Option<Target>
 
 /// What is set to a value, if anything.
 pub fn assignment_to(target: Option<Target>, value: SpExpr) -> Option<Assignment>
-    ensures { option_map plain_assignment result ≡ resolve.assignment_to (option_map plain_target target) (plain_sp value) }
+    ensures { option_map plain_assignment result
+        ≡ resolve.assignment_to (option_map plain_target target) (plain_sp value) }
 {
     match target {
         None => None,

@@ -1,4 +1,4 @@
--- What one name adds to what is noted, and what it hides behind its declaration.
+-- What one name adds to what is noted, and what it hides after its declaration.
 use Rattle.std.proofs.Common.{◌≡◌, ℕ, ◌+◌, Bool, true, false, not, ◌&&◌, ◌||◌, List, [], ◌∷◌, ◌++◌, length, Option, None, Some, refl, ap, ap₂, sym, subst, ◌∙◌, arith}
 use Rattle.std.specs.Prelude.{if◌then◌else◌, bytes_eq, codes}
 use Rattle.std.specs.Option.{option_or}

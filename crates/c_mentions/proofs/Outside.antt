@@ -1,9 +1,9 @@
 -- What hides the arrays in a function: the variables outside functions, and the parameters.
 use Rattle.std.proofs.Common.{◌≡◌, ℕ, ◌+◌, ◌<◌, Bool, true, false, not, ◌&&◌, ◌||◌, List, [], ◌∷◌, ◌++◌, length, get_or, take, refl, ap, sym, subst, ◌∙◌}
 use Rattle.std.specs.Prelude.{if◌then◌else◌, bytes_eq, codes}
-use Rattle.std.specs.Bool.{one_answer}
 use Rattle.std.proofs.lemmas.Slice.Eq.{bytes_eq-Decides}
 use Rattle.std.proofs.lemmas.List.{take_more}
+use Rattle.tc_word.proofs.Items.{bytes_eq_sym}
 use Rattle.local_store.specs.declared.map.Cell.TheVariants as cell
 use Rattle.c_tree.specs.declared.layout.Slot.{Slot}
 use Rattle.c_tree.specs.declared.units.Global.{Global}
@@ -27,19 +27,15 @@ shared_slot = record { name = codes "shared"; cell = cell.Shared 0; length = 409
 abbrev comm_slot : Slot
 comm_slot = record { name = codes "comm"; cell = cell.Comm 0; length = 512; unsigned = false }
 
-same_test : (x y : List ℕ) → bytes_eq x y ≡ bytes_eq y x
-same_test x y =
-    one_answer (bytes_eq x y) (bytes_eq y x) (bytes_eq-Decides x y) ((λ h. sym ((bytes_eq-Decides y x).0 h)), (λ e. (bytes_eq-Decides y x).1 (sym e)))
-
 given_named : (a : Array) (text : List ℕ) → stands_for a (among_slots text given_slots) ≡ (bytes_eq text (name_of a) && true)
 given_named a text = first a (bytes_eq (codes "shared") text) refl
   where
     second : (a : Array) (b : Bool) → bytes_eq (codes "comm") text ≡ b → bytes_eq (codes "shared") text ≡ false
         → stands_for a (if b then outside comm_slot else nothing) ≡ (bytes_eq text (name_of a) && true)
-    second comm_array true is other = ap (λ t. t && true) (sym (same_test text (codes "comm") ∙ is))
-    second comm_array false is other = ap (λ t. t && true) (sym (same_test text (codes "comm") ∙ is))
-    second shared_array true is other = ap (λ t. t && true) (sym (same_test text (codes "shared") ∙ other))
-    second shared_array false is other = ap (λ t. t && true) (sym (same_test text (codes "shared") ∙ other))
+    second comm_array true is other = ap (λ t. t && true) (sym (bytes_eq_sym text (codes "comm") ∙ is))
+    second comm_array false is other = ap (λ t. t && true) (sym (bytes_eq_sym text (codes "comm") ∙ is))
+    second shared_array true is other = ap (λ t. t && true) (sym (bytes_eq_sym text (codes "shared") ∙ other))
+    second shared_array false is other = ap (λ t. t && true) (sym (bytes_eq_sym text (codes "shared") ∙ other))
 
     first : (a : Array) (b : Bool) → bytes_eq (codes "shared") text ≡ b
         → stands_for a (if b then outside shared_slot else (if bytes_eq (codes "comm") text then outside comm_slot else nothing))

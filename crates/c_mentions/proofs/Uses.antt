@@ -3,6 +3,7 @@ use Rattle.std.proofs.Common.{◌≡◌, ℕ, ◌+◌, ◌<◌, Bool, List, [], 
 use Rattle.std.specs.Prelude.{option_map}
 use Rattle.std.specs.declared.boxed.Box.{Box}
 use Rattle.std.specs.Global.{Global}
+use Rattle.tc_word.proofs.Items.{drop_item}
 use Rattle.c_tree.specs.declared.expressions.Expr.{Expr, Number, Name}
 use Rattle.c_tree.specs.declared.expressions.Expr.TheViews.{Chain, Unary, Element, Paren}
 use Rattle.c_tree.specs.declared.expressions.Step.{Step}
@@ -18,7 +19,6 @@ use Rattle.c_tree.specs.Plain.{plain_expr, plain_right, plain_head, plain_stmt}
 use Rattle.c_tree.proofs.Plains.{steps_of, plain_chain, block_of, arms_of, otherwise_of, plain_inner, plain_loop, plain_if}
 use Rattle.c_meaning.specs.Meaning.{with_variable, names_after}
 use Rattle.c_meaning.specs.Values.{Names, named}
-use Rattle.c_meaning.proofs.Parts.{drop_item}
 use Rattle.c_mentions.specs.Uses.{reads, sets, sends, expr_uses, steps_uses, args_uses, right_uses, first_uses, returned_uses, head_uses, stmt_uses, block_uses, arms_uses, otherwise_uses, body_uses}
 
 -- ---- expressions

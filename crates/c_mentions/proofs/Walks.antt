@@ -52,7 +52,7 @@ left_more hidden m next first us rest old all same notes was = record {
 
 -- ---- statements of a block
 
--- the names behind these statements
+-- the names after these statements
 abbrev pub names_through : Names → List Stmt → Names
 names_through names [] = names
 names_through names (s ∷ body) = names_through (names_after names (plain_stmt s)) body

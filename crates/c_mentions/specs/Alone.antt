@@ -1,4 +1,5 @@
--- When a C task is alone with the data that it uses, among the tasks of a job: no other task can change them.
+-- To be believed. When a C task is alone with the data that it uses, among the tasks
+-- of a job: no other task can change them.
 use Rattle.std.specs.Prelude.{ℕ, ◌+◌, ◌==◌, Bool, true, false, not, ◌&&◌, ◌||◌, List, [], ◌∷◌, slice_index_or}
 use Rattle.c_tree.specs.Plain.{PlainItem}
 use Rattle.c_mentions.specs.Mentions.{comm_array, shared_array, mentions, assigns, sends_to}

@@ -1,4 +1,4 @@
--- Flags as the bits of a word.
+-- To be believed. Flags as the bits of a word.
 use Rattle.std.specs.Prelude.{ℕ, ◌+◌, ◌*◌, ◌/◌, ◌%◌, ◌^◌, ◌==◌, Bool, List, [], ◌∷◌}
 use Rattle.c_world.specs.Numbers.{flag}
 

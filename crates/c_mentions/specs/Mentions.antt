@@ -1,4 +1,5 @@
--- What a C program mentions: the arrays `comm` and `shared`, which each task is given, and the cores that it sends to.
+-- To be believed. What a C program mentions: the arrays `comm` and `shared`, which each task
+-- is given, and the cores that it sends to.
 use Rattle.std.specs.Prelude.{ℕ, ◌==◌, Bool, true, false, List, codes}
 use Rattle.std.specs.List.{list_any}
 use Rattle.local_store.specs.declared.map.Cell.{Cell}

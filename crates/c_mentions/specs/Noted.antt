@@ -1,4 +1,4 @@
--- What is noted of a program's uses, one after another.
+-- For proofs. What is noted of a program's uses, one after another.
 use Rattle.std.specs.Prelude.{◌≡◌, true, false, ◌||◌, List, [], ◌∷◌, replicate, slice_set}
 use Rattle.c_meaning.specs.Values.{Names}
 use Rattle.c_mentions.specs.declared.arrays.Arrays.{Arrays}
@@ -11,7 +11,8 @@ abbrev pub none_noted : Flags
 none_noted = record { comm = false; shared = false; assigns_shared = false; sends = replicate 16 false }
 
 abbrev pub with_use : Flags → Use → Flags
-with_use m (reads s) = record m { comm = m.comm || stands_for comm_array s; shared = m.shared || stands_for shared_array s }
+with_use m (reads s) =
+    record m { comm = m.comm || stands_for comm_array s; shared = m.shared || stands_for shared_array s }
 with_use m (sets s) = record m {
   comm = m.comm || stands_for comm_array s;
   shared = m.shared || stands_for shared_array s;

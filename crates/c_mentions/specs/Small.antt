@@ -1,4 +1,4 @@
--- Small programs to show on what is mentioned, and tasks that are alone with their data or not.
+-- For worked rows. Small programs to show on what is mentioned, and tasks that are alone with their data or not.
 use Rattle.std.specs.Prelude.{ℕ, false, List, [], ◌∷◌, None, codes}
 use Rattle.c_tree.specs.Plain.{PlainExpr, PlainItem}
 use Rattle.c_tree.specs.Plain as plain
@@ -24,16 +24,20 @@ hiding e = main_of (declared (codes "comm") e ∷ returned (variable (codes "com
 -- `int main() { int x = comm[0]; int comm = 1; return comm; }`
 abbrev pub hiding_later : List PlainItem
 hiding_later =
-    main_of (declared (codes "x") comm_element ∷ declared (codes "comm") (number 1) ∷ returned (variable (codes "comm")) ∷ []) ∷ []
+    main_of (declared (codes "x") comm_element ∷ declared (codes "comm") (number 1)
+    ∷ returned (variable (codes "comm")) ∷ []) ∷ []
 
--- `int f(int shared) { return shared; }`, and behind it `int main() { return VALUE; }`
+-- `int f(int shared) { return shared; }`, and after it `int main() { return VALUE; }`
 abbrev pub with_parameter : PlainExpr → List PlainItem
-with_parameter e = function_of (codes "f") (parameter_of (codes "shared") ∷ []) (returned (variable (codes "shared")) ∷ []) ∷ returning e
+with_parameter e =
+    function_of (codes "f") (parameter_of (codes "shared") ∷ []) (returned (variable (codes "shared")) ∷ [])
+    ∷ returning e
 
 -- `int main() { { int comm = 1; comm = 2; } return VALUE; }`
 abbrev pub with_block : PlainExpr → List PlainItem
 with_block e =
-    main_of (plain.inner (block_of (declared (codes "comm") (number 1) ∷ set_to (codes "comm") (number 2) ∷ [])) ∷ returned e ∷ []) ∷ []
+    main_of (plain.inner (block_of (declared (codes "comm") (number 1) ∷ set_to (codes "comm") (number 2) ∷ []))
+    ∷ returned e ∷ []) ∷ []
 
 -- `int comm; int main() { return comm; }`, which is not valid
 abbrev pub hiding_outside : List PlainItem
@@ -42,7 +46,8 @@ hiding_outside = variable_of false (codes "comm") [] ∷ returning (variable (co
 -- `int main() { for (i = 0; CONDITION; i = STEP) { } }`
 abbrev pub looping : PlainExpr → PlainExpr → List PlainItem
 looping condition step =
-    main_of (plain.looped None (plain.turns_for (codes "i") (number 0) condition (codes "i") step) (block_of []) ∷ []) ∷ []
+    main_of (plain.looped None (plain.turns_for (codes "i") (number 0) condition (codes "i") step) (block_of []) ∷ [])
+    ∷ []
 
 -- `int main() { f(VALUE); }`
 abbrev pub calling : PlainExpr → List PlainItem
@@ -55,7 +60,8 @@ assigning text index e = main_of (plain.set_element text index (plain.value e) �
 -- `int main() { if (0) { send(CORE, 0, 0, 1); } }`
 abbrev pub never_sending : ℕ → List PlainItem
 never_sending core =
-    main_of (plain.chosen (plain.arm (number 0) (block_of (plain.sent core false (number 0) (number 0) (number 1) ∷ [])) plain.no_arm) plain.no_else ∷ [])
+    main_of (plain.chosen (plain.arm (number 0)
+    (block_of (plain.sent core false (number 0) (number 0) (number 1) ∷ [])) plain.no_arm) plain.no_else ∷ [])
     ∷ []
 
 -- ---- tasks

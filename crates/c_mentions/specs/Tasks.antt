@@ -1,4 +1,4 @@
--- What the tasks of a job run.
+-- To be believed. What the tasks of a job run.
 use Rattle.c_tree.specs.Plain.{plain}
 use Rattle.c_mentions.specs.declared.tasks.Task.{Task}
 use Rattle.c_mentions.specs.declared.tasks.Task.TheVariants as task

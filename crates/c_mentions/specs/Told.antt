@@ -1,4 +1,4 @@
--- What is told of a program: three flags, and a word with a bit for each core that words are sent to.
+-- To be believed. What is told of a program: three flags, and a word with a bit for each core that words are sent to.
 use Rattle.std.specs.Prelude.{◌≡◌, ℕ, ◌<◌, ◌^◌, List}
 use Rattle.c_tree.specs.Plain.{PlainItem}
 use Rattle.c_mentions.specs.declared.told.Mentions.{Mentions}

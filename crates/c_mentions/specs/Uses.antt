@@ -1,5 +1,5 @@
--- What the text of a C program uses, in the order of the text, whether or not it runs: what each of its names of
--- variables and arrays stands for where it is written (C99 6.2.1), and the cores that words are sent to.
+-- To be believed. What the text of a C program uses, in the order of the text, whether or not it runs: what each of its
+-- names of variables and arrays stands for where it is written (C99 6.2.1), and the cores that words are sent to.
 use Rattle.std.specs.Prelude.{ℕ, List, [], ◌∷◌, ◌++◌, Option, None, Some}
 use Rattle.c_tree.specs.declared.layout.Slot.{Slot}
 use Rattle.c_tree.specs.Layout.{layout_of}
@@ -52,14 +52,16 @@ returned_uses names (Some e) = expr_uses names e
 abbrev pub head_uses : Names → PlainHead → List Use
 head_uses names (plain.turns_while condition) = expr_uses names condition
 head_uses names (plain.turns_for first from condition to_set to) =
-    sets (named names first) ∷ (expr_uses names from ++ (expr_uses names condition ++ sets (named names to_set) ∷ expr_uses names to))
+    sets (named names first) ∷ (expr_uses names from
+    ++ (expr_uses names condition ++ sets (named names to_set) ∷ expr_uses names to))
 
 -- a variable that is declared stands in its own first value; a block closes its names
 abbrev mutual
   pub stmt_uses : Names → PlainStmt → List Use
   stmt_uses names (plain.declared kind text r) = first_uses (with_variable names kind text) r
   stmt_uses names (plain.set text r) = sets (named names text) ∷ right_uses names r
-  stmt_uses names (plain.set_element text index r) = sets (named names text) ∷ (expr_uses names index ++ right_uses names r)
+  stmt_uses names (plain.set_element text index r) =
+      sets (named names text) ∷ (expr_uses names index ++ right_uses names r)
   stmt_uses names (plain.called text args) = args_uses names args
   stmt_uses names (plain.sent core core_unsigned source target count) =
       sends core ∷ (expr_uses names source ++ (expr_uses names target ++ expr_uses names count))
@@ -76,7 +78,8 @@ abbrev mutual
 
   pub arms_uses : Names → PlainArms → List Use
   arms_uses names plain.no_arm = []
-  arms_uses names (plain.arm condition body rest) = expr_uses names condition ++ (block_uses names body ++ arms_uses names rest)
+  arms_uses names (plain.arm condition body rest) =
+      expr_uses names condition ++ (block_uses names body ++ arms_uses names rest)
 
   pub otherwise_uses : Names → PlainOtherwise → List Use
   otherwise_uses names plain.no_else = []

@@ -45,7 +45,8 @@ fn note_sending(
     count: &Expr,
 )
     ensures { Notes hidden m.old m.new (λ names. sends core
-        ∷ (expr_uses names (plain_expr source.now) ++ (expr_uses names (plain_expr target.now) ++ expr_uses names (plain_expr count.now)))) }
+        ∷ (expr_uses names (plain_expr source.now)
+        ++ (expr_uses names (plain_expr target.now) ++ expr_uses names (plain_expr count.now)))) }
 {
     note_send(m, core);
     note_expression(m, hidden, source);

@@ -21,9 +21,11 @@ pub fn worked_mentions()
     ensures step { mentions shared_array (small.looping (text.number 1) small.shared_element) ≡ true }
     ensures argument { mentions shared_array (small.calling small.shared_element) ≡ true }
     ensures assigned { mentions shared_array (small.assigning (codes "shared") (text.number 0) (text.number 5)) ≡ true }
-    ensures element_set { assigns shared_array (small.assigning (codes "shared") (text.number 0) (text.number 5)) ≡ true }
+    ensures element_set { assigns shared_array (small.assigning (codes "shared") (text.number 0) (text.number 5))
+        ≡ true }
     ensures index { mentions comm_array (small.assigning (codes "shared") small.comm_element (text.number 5)) ≡ true }
-    ensures only_read { assigns comm_array (small.assigning (codes "shared") small.comm_element (text.number 5)) ≡ false }
+    ensures only_read { assigns comm_array (small.assigning (codes "shared") small.comm_element (text.number 5))
+        ≡ false }
     ensures neither { mentions comm_array (small.returning small.shared_element) ≡ false }
 {}
 
@@ -34,8 +36,9 @@ pub fn worked_sends()
     ensures no_mention { mentions comm_array (small.never_sending 2) ≡ false }
 {}
 
-/// Tasks by their cores: one that mentions `comm` is alone until another sends to its core, one that reads `shared` until
-/// another assigns an element of it, and assembly beside either changes all; a task that mentions neither is alone.
+/// Tasks by their cores: one that mentions `comm` is alone until another sends to its core, one
+/// that reads `shared` until another assigns an element of it, and assembly beside either changes
+/// all; a task that mentions neither is alone.
 pub fn worked_alone()
     ensures sent_to_another { is_alone 0 (small.reads_comm ∷ small.sends_to_core 2 ∷ []) ≡ true }
     ensures sent_to { is_alone 0 (small.reads_comm ∷ small.sends_to_core 0 ∷ []) ≡ false }

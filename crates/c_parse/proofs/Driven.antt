@@ -59,7 +59,7 @@ open_step {limit} {n} {xs} {ys} {ts} t opens e = record { on = λ h. e (below n 
     least n [] = omega arith
     least n (t ∷ ts) = omega arith
 
--- What is behind an expression: no index and no call of it, and no operator.
+-- What is after an expression: no index and no call of it, and no operator.
 pub record Ends (ts : List Token) : Type 0 where
   pub no_index : begins (is_sign sign.OpenBracket) ts ≡ false
   pub no_call : begins (is_sign sign.OpenParenthesis) ts ≡ false
@@ -124,7 +124,7 @@ operator_no_call binary.Times = refl
 operator_no_call binary.Divide = refl
 operator_no_call binary.Remainder = refl
 
--- behind an operand: no bracket
+-- after an operand: no bracket
 abbrev NoIndex : List Token → Type 0
 NoIndex ts = begins (is_sign sign.OpenBracket) ts ≡ false
 
@@ -163,7 +163,7 @@ operator_step limit n binary.Times xs ts = step (tail_operator limit n binary.Ti
 operator_step limit n binary.Divide xs ts = step (tail_operator limit n binary.Divide ts xs)
 operator_step limit n binary.Remainder xs ts = step (tail_operator limit n binary.Remainder ts xs)
 
--- behind so many brackets and one more, one closes
+-- after so many brackets and one more, one closes
 pub closes : (limit n : ℕ) (s : Sign) (xs : List Expected) (ts : List Token) → open_after (one s) (n + 1) ≡ n → opens_none s ≡ true → Goes limit (n + 1) (Only s ∷ xs) (one s ∷ ts) n xs ts
 closes limit n s xs ts e o = let P : ℕ → Type 0 = λ m. Goes limit (n + 1) (Only s ∷ xs) (one s ∷ ts) m xs ts in subst P e (step (sign_read limit (n + 1) s ts xs o))
 
@@ -205,7 +205,7 @@ mutual
       and_on (operator_step limit n op xs _) (along (append_assoc (expr_tokens operand) (steps_tokens row) rest)
       (and_on (expr_goes operand f.2 limit n xs (steps_tokens row ++ rest) (steps_no_index row rest h)) (steps_go level row f.3 limit n xs rest h)))
 
--- a whole expression, with nothing behind it that could belong to it
+-- a whole expression, with nothing after it that could belong to it
 pub whole_goes : (e : Expr) → ExprFits e → (limit n : ℕ) (xs : List Expected) (rest : List Token) → Ends rest
     → Goes limit n (Operand ∷ Tail ∷ xs) (expr_tokens e ++ rest) n xs rest
 whole_goes e f limit n xs rest ends = ended (expr_goes e f limit n xs rest ends.no_index) ends
@@ -288,7 +288,7 @@ args_more_go (a ∷ args) all e f limit n xs rest =
     (and_on (whole_goes e f limit (n + 1) (MoreArguments ∷ xs) _ (ends_comma _))
     (and_on (step (arguments_next limit (n + 1) _ xs)) (args_more_go args all.1 a all.0 limit n xs rest)))
 
--- the arguments of a call, behind its parenthesis
+-- the arguments of a call, after its parenthesis
 pub args_go : (args : List Expr) → Each ExprFits args → (limit n : ℕ) (xs : List Expected) (rest : List Token)
     → Goes limit (n + 1) (Arguments ∷ xs) (args_tokens args ++ one sign.CloseParenthesis ∷ rest) n xs rest
 args_go [] all limit n xs rest = ended_at (back n)

@@ -151,7 +151,7 @@ through_join [] ys ts rest h = (ts, refl, h)
 through_join (x ∷ xs) ys ts rest h = let later : (mid : List Token) × Through xs h.0 mid × Through ys mid rest = through_join xs ys h.0 rest h.2 in
     (later.0, (h.0, h.1, later.1), later.2)
 
--- something more behind it
+-- something more after it
 pub gives_then : (P Q : List Token → List Token → Type 0) (t : Token) (m : Move) (xs : List Expected) → stays m
     → ((ts mid rest : List Token) → P ts mid → Through xs mid rest → Q ts rest) → Gives P t m → Gives Q t (and_then m xs)
 gives_then P Q t (taken ys) xs s f g = record {

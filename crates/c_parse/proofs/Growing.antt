@@ -112,7 +112,7 @@ pub sent_written : (ts t1 t2 t3 t4 rest : List Token) (core : ℕ) (u : Bool) (s
 unfolding stmt_tokens
 sent_written ts t1 t2 t3 t4 rest core u source target count a b c d e = simp (a, b, c, d, e, append_assoc)
 
--- what is refused behind a step is refused before it
+-- what is refused after a step is refused before it
 pub refused_before : {A : Type 0} (n m : ℕ) (xs ys : List Expected) (ts us : List Token) (r : Result A Stop)
     → PassesTo n xs ts m ys us → IfErr r (Refuses m ys us) → IfErr r (Refuses n xs ts)
 refused_before n m xs ys ts us (Ok x) p h = h

@@ -40,7 +40,7 @@ kind_stays t = chosen (is_keyword keyword.Int t) (is_keyword keyword.Unsigned t)
     chosen false true = tt
     chosen false false = tt
 
--- ---- constants, and what is behind a variable's name
+-- ---- constants, and what is after a variable's name
 
 pub constant_kept : (room : Bool) (t : Token) → Gives IsConstant t (moved room Constant t)
 unfolding moved

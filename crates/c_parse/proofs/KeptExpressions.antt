@@ -1,4 +1,4 @@
--- What a token makes of an operand, of what is behind one, of arguments and of right sides, kept.
+-- What a token makes of an operand, of what is after one, of arguments and of right sides, kept.
 use Rattle.std.proofs.Common.{◌≡◌, ℕ, ◌≤◌, Bool, true, false, List, [], ◌∷◌, ◌++◌, if◌then◌else◌, refl, ap, ◌∙◌, append_assoc, arith, lit≤}
 use Rattle.c_tree.specs.declared.tokens.Token.{Token}
 use Rattle.c_tree.specs.declared.tokens.Token.TheVariants as token
@@ -16,7 +16,7 @@ use Rattle.c_parse.proofs.Pushed.{boxed, Fitting, pushed}
 use Rattle.c_parse.proofs.Written.{Written, Through, IsExpr, IsRight, IsArguments, IsMoreArguments}
 use Rattle.c_parse.proofs.Gives.{Gives, takes, stays_empty, none, at_token, open_is, on_sign, on_open, on_name, on_number, on_prefix, on_operator, gives_then, moved_along}
 
--- an expression and what is behind it
+-- an expression and what is after it
 pub tailed : (least : ℕ) (ts mid rest : List Token) → IsExpr least ts mid → Written Tail mid rest → IsExpr 0 ts rest
 tailed least ts mid rest e f =
     let g : IsExpr 0 (expr_tokens e.expr ++ mid) rest = f e.expr e.fits in
@@ -85,7 +85,7 @@ index_kept room t =
     on_open P room sign.OpenBracket t (takes P (λ ts rest h w. let e : (mid : List Token) × IsExpr 0 ts mid × Through (Only sign.CloseBracket ∷ []) mid rest = whole (Only sign.CloseBracket ∷ []) ts rest h in
     element w ts e.0 e.2.0 rest e.1 e.2.1 e.2.2)) (stays_empty P t (λ ts w. name w ts ts refl))
 
--- an operator and an operand behind an expression, and what is behind them
+-- an operator and an operand after an expression, and what is after them
 operated : (op : BinaryOp) (e : Expr) → ExprFits e → (ts mid rest : List Token) → IsExpr 11 ts mid → Written Tail mid rest → IsExpr 0 (expr_tokens e ++ one (binary_sign op) ∷ ts) rest
 operated op e f ts mid rest x g =
     let p : Fitting 0 (expr_tokens e ++ one (binary_sign op) ∷ expr_tokens x.expr) = pushed e f 0 (omega arith) op (omega arith) x.expr x.above x.fits in
@@ -147,7 +147,7 @@ arguments_kept room t =
     let m : IsMoreArguments x.expr h.0 h.2.0 = h.2.1 x.expr x.fits in
     moved_along IsArguments x.written (record { args = x.expr ∷ m.args; fits = (x.fits, m.fits); written = m.written }) h.2.2) (operand_kept room t))
 
--- one part more, behind a comma
+-- one part more, after a comma
 pub one_more : (es ts args after rest : List Token) (t : Token) → ts ≡ args ++ t ∷ after → after ≡ rest → es ++ one sign.Comma ∷ ts ≡ (es ++ one sign.Comma ∷ args) ++ t ∷ rest
 one_more es ts args after rest t a b = simp (a, b, append_assoc)
 

@@ -20,7 +20,7 @@ use Rattle.c_tree.specs.Plain.{plain_expr, plain_head, plain_stmt, plain_block, 
 
 -- ---- what is told by its tokens
 
--- a block, up to the brace behind it
+-- a block, up to the brace after it
 abbrev OneBlock : {n : _} → Row_of-Stmt n → Type 0
 OneBlock row = (k : _) (row' : Row_of-Stmt k) → BlockFits row' → (r q : List Token) → block_tokens row ++ one sign.CloseBrace ∷ r ≡ block_tokens row' ++ one sign.CloseBrace ∷ q
     → (plain_block row ≡ plain_block row') × (r ≡ q)
@@ -28,7 +28,7 @@ OneBlock row = (k : _) (row' : Row_of-Stmt k) → BlockFits row' → (r q : List
 abbrev OneElse : Held-Stmt-If-1 → Type 0
 OneElse o = (o' : Held-Stmt-If-1) → OtherwiseFits o' → (r q : List Token) → NoElse r → NoElse q → otherwise_tokens o ++ r ≡ otherwise_tokens o' ++ q → (plain_otherwise o ≡ plain_otherwise o') × (r ≡ q)
 
--- further arms, with the last block and what is behind it
+-- further arms, with the last block and what is after it
 abbrev OneFurther : {n : _} → Row_of-Arm n → Type 0
 OneFurther row = (k : _) (row' : Row_of-Arm k) → ArmsFit row' → (o o' : Held-Stmt-If-1) → OneElse o → OtherwiseFits o' → (r q : List Token) → NoElse r → NoElse q
     → further_tokens row ++ (otherwise_tokens o ++ r) ≡ further_tokens row' ++ (otherwise_tokens o' ++ q) → (plain_arms row ≡ plain_arms row') × (plain_otherwise o ≡ plain_otherwise o') × (r ≡ q)
@@ -68,7 +68,7 @@ else_one l row one_row (Some' l' row') g r q n m eq =
     let i : (plain_block row ≡ plain_block row') × (r ≡ q) = one_row _ row' g r q (sym (append_assoc (block_tokens row) (one sign.CloseBrace ∷ []) r) ∙ (cc) ∙ append_assoc (block_tokens row') (one sign.CloseBrace ∷ []) q) in
     (cc, i.1)
 
--- no `if` is behind the last `else`
+-- no `if` is after the last `else`
 last_else : (o : Held-Stmt-If-1) (r q : List Token) → NoElse r → otherwise_tokens o ++ r ≡ word keyword.Else ∷ word keyword.If ∷ q → ⊥
 unfolding otherwise_tokens
 last_else None' r q n eq = no_else_begins r (word keyword.If ∷ q) n eq

@@ -84,9 +84,9 @@ no_parenthesis unary.Complement e = cc
 no_parenthesis unary.Not e = cc
 no_parenthesis unary.Plus e = cc
 
--- ---- what is behind an expression
+-- ---- what is after an expression
 
--- behind an expression of this rank or more: no index, and no operator of so high a level
+-- after an expression of this rank or more: no index, and no operator of so high a level
 pub record Behind (least : ℕ) (ts : List Token) : Type 0 where
   pub no_index : begins (is_sign sign.OpenBracket) ts ≡ false
   pub lower : level_ahead ts < least

@@ -19,11 +19,11 @@ use Rattle.c_tree.specs.declared.units.Item.TheVariants as item
 use Rattle.c_tree.specs.declared.units.Unit.{Unit as Program}
 use Rattle.c_tree.specs.Tokens.{kind_tokens, const_tokens, consts_tokens, shape_tokens, parameters_tokens, gives_tokens, stmt_tokens, body_tokens, global_tokens, function_tokens, item_tokens, items_tokens, tokens_of, braced, one, word}
 use Rattle.c_tree.specs.Fits.{StmtFits, FunctionFits, ItemFits, Fits}
-use Rattle.c_parse.specs.Expected.{begins, is_keyword, listed, scratch_tokens}
-use Rattle.c_parse.proofs.Stated.{NoElse, stmt_no_else, closing_no_else}
+use Rattle.c_parse.specs.Expected.{begins, listed, scratch_tokens}
 use Rattle.c_parse.proofs.OneStatement.{kind_one}
 use Rattle.c_parse.proofs.OneBlock.{stmt_one, stmt_opens}
 use Rattle.c_tree.specs.Plain.{plain_stmt, plain_item, plain}
+use Rattle.c_parse.proofs.Programs.{body_no_else}
 
 -- ---- kinds
 
@@ -186,10 +186,6 @@ listed_one true false ps (q ∷ qs) n m ts us eq = absurd ((no_parameter q qs _ 
 listed_one false true [] qs n m ts us eq = absurd (cc)
 listed_one false true (p ∷ ps) qs n m ts us eq = absurd ((no_parameter p ps _ _).0 (sym eq))
 
-body_no_else : (body : List Stmt) → Each StmtFits body → (r : List Token) → NoElse (body_tokens body ++ one sign.CloseBrace ∷ r)
-body_no_else [] f r = closing_no_else r
-body_no_else (s ∷ body) f r = ap (begins (is_keyword keyword.Else)) (append_assoc (stmt_tokens s) (body_tokens body) (one sign.CloseBrace ∷ r)) ∙ stmt_no_else s f.0 (body_tokens body ++ one sign.CloseBrace ∷ r)
-
 body_one : (a b : List Stmt) → Each StmtFits a → Each StmtFits b → (r q : List Token) → body_tokens a ++ one sign.CloseBrace ∷ r ≡ body_tokens b ++ one sign.CloseBrace ∷ q → (map plain_stmt a ≡ map plain_stmt b) × (r ≡ q)
 body_one [] [] f g r q eq = (refl, cc)
 body_one [] (d ∷ b) f g r q eq = absurd (stmt_opens d g.0 r _ (eq ∙ append_assoc (stmt_tokens d) (body_tokens b) (one sign.CloseBrace ∷ q)))
@@ -217,7 +213,7 @@ function_one f g a b r q eq =
 
 -- ---- declarations
 
--- what is behind a variable's name begins with no parenthesis
+-- what is after a variable's name begins with no parenthesis
 no_function : (l : Option Length) (cs : List Const) (r q : List Token) → shape_tokens l cs ++ one sign.Semicolon ∷ r ≡ one sign.OpenParenthesis ∷ q → ⊥
 no_function None [] r q eq = cc
 no_function None (c ∷ cs) r q eq = cc

@@ -36,7 +36,7 @@ behind_comma : Behind 1 (one sign.Comma ∷ [])
 unfolding is_sign level_at
 behind_comma = record { no_index = refl; lower = lit< tt }
 
--- an expression and the sign behind it
+-- an expression and the sign after it
 pub whole_one : (e d : Expr) → ExprFits e → ExprFits d → (s t : Sign) → Behind 1 (one s ∷ []) → Behind 1 (one t ∷ []) → (r q : List Token) → expr_tokens e ++ one s ∷ r ≡ expr_tokens d ++ one t ∷ q
     → (plain_expr e ≡ plain_expr d) × (one s ∷ r ≡ one t ∷ q)
 whole_one e d f g s t b c r q eq =
@@ -109,7 +109,7 @@ kind_one j k v w r q eq = absurd (cc)
 
 -- ---- statements that hold no others
 
--- what is behind a statement: no `else`
+-- what is after a statement: no `else`
 abbrev pub OneStmt : Stmt → Type 0
 OneStmt s = (d : Stmt) → StmtFits d → (r q : List Token) → NoElse r → NoElse q → stmt_tokens s ++ r ≡ stmt_tokens d ++ q → (plain_stmt s ≡ plain_stmt d) × (r ≡ q)
 

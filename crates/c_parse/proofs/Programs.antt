@@ -87,7 +87,7 @@ parameters_go (p ∷ q ∷ ps) limit n xs rest =
     (and_on (kind_go p.kind p.name _ (parameters_kind limit n p.kind _ xs))
     (and_on (step (name_read limit n p.name _ _)) (and_on (step (parameters_next limit n _ xs)) (parameters_more q ps limit n xs rest))))
 
-body_no_else : (body : List Stmt) → Each StmtFits body → (rest : List Token) → NoElse (body_tokens body ++ one sign.CloseBrace ∷ rest)
+pub body_no_else : (body : List Stmt) → Each StmtFits body → (rest : List Token) → NoElse (body_tokens body ++ one sign.CloseBrace ∷ rest)
 body_no_else [] f rest = closing_no_else rest
 body_no_else (s ∷ body) f rest =
     ap (begins (is_keyword keyword.Else)) (append_assoc (stmt_tokens s) (body_tokens body) (one sign.CloseBrace ∷ rest)) ∙ stmt_no_else s f.0 _
@@ -106,7 +106,7 @@ listed_go : (b : Bool) (ps : List Parameter) (limit n : ℕ) (xs : List Expected
 listed_go true ps limit n xs rest = and_on (step (parameters_void limit n _ xs)) (step (sign_read limit n sign.CloseParenthesis rest xs refl))
 listed_go false ps limit n xs rest = parameters_go ps limit n xs rest
 
--- a function behind its name and the parenthesis there
+-- a function after its name and the parenthesis there
 function_goes : (f : Function) → FunctionFits f → (limit n : ℕ) (xs : List Expected) (rest : List Token)
     → Goes limit (n + 1) (Parameters ∷ Block ∷ xs) ((if f.void_word then word keyword.Void ∷ [] else parameters_tokens f.parameters)
     ++ one sign.CloseParenthesis ∷ one sign.OpenBrace ∷ (body_tokens f.body ++ one sign.CloseBrace ∷ rest)) n xs rest

@@ -1,4 +1,4 @@
--- An operator and an operand behind an expression are an expression: the operand goes where its operator's level says.
+-- An operator and an operand after an expression are an expression: the operand goes where its operator's level says.
 use Rattle.std.proofs.Common.{◌≡◌, ℕ, ◌+◌, ◌<◌, ◌≤◌, nat_lt, Bool, true, false, List, [], ◌∷◌, ◌++◌, refl, ap, sym, subst, ◌∙◌, append_assoc, append-nil, arith, lit≤}
 use Rattle.std.proofs.lemmas.Grind.{common_steps}
 use Rattle.std.specs.declared.boxed.Box.{Box}
@@ -89,7 +89,7 @@ steps_then level (more_of-Step op operand row) f ts s =
     let P : List Token → Type 0 = λ l. Stepping level (one (binary_sign op) ∷ l) in
     subst P (sym (append_assoc (expr_tokens operand) (steps_tokens row) ts)) (more_steps level op operand (steps_tokens row ++ ts) f.0 f.1 f.2 (steps_then level row f.3 ts s))
 
--- the operator and the operand behind an expression that binds closer
+-- the operator and the operand after an expression that binds closer
 alone : (least : ℕ) (e : Expr) (op : BinaryOp) (x : Expr) → ExprFits e → level_of op + 1 ≤ rank e → 11 ≤ rank x → ExprFits x → least ≤ level_of op
     → Fitting least (expr_tokens e ++ one (binary_sign op) ∷ expr_tokens x)
 alone least e op x f closer above g within =
@@ -101,7 +101,7 @@ alone least e op x f closer above g within =
 mutual
   unfolding expr_tokens steps_tokens ExprFits StepsFit
 
-  -- The operator and the operand behind an expression, whatever its level is.
+  -- The operator and the operand after an expression, whatever its level is.
   pub pushed : (e : Expr) → ExprFits e → (least : ℕ) → least ≤ rank e → (op : BinaryOp) → least ≤ level_of op → (x : Expr) → 11 ≤ rank x → ExprFits x
       → Fitting least (expr_tokens e ++ one (binary_sign op) ∷ expr_tokens x)
   pushed (Chain' level p first l row) f least low op within x above g =

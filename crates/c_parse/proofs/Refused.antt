@@ -1,6 +1,7 @@
--- Where a token cannot come no tree goes on with it, however many brackets the tree opens behind it.
+-- Where a token cannot come no tree goes on with it, however many brackets the tree opens after it.
 use Rattle.std.proofs.Common.{◌≡◌, ℕ, zero, suc, ◌+◌, ◌≤◌, max, Bool, true, false, ◌&&◌, nat_lt, List, [], ◌∷◌, ◌++◌, length, take, Option, None, Some, if◌then◌else◌, refl, ap, sym, subst, ◌∙◌, arith}
 use Rattle.std.proofs.lemmas.Grind.{common_steps}
+use Rattle.std.proofs.lemmas.Bool.{and_parts}
 use Rattle.c_tree.specs.declared.tokens.Token.{Token}
 use Rattle.c_tree.specs.declared.tokens.Token.TheVariants as token
 use Rattle.c_tree.specs.declared.tokens.Keyword.TheVariants as keyword
@@ -29,14 +30,10 @@ good_move m = elim m as (λ _. Bool) [ taken xs ↦ all_good xs | passed ↦ tru
 record Good (m : Move) : Type 0 where
   all : good_move m ≡ true
 
-both : (a b : Bool) → (a && b) ≡ true → (a ≡ true) × (b ≡ true)
-both true b h = (refl, h)
-both false b h = absurd (cc)
-
 all_good_join : (xs ys : List Expected) → all_good xs ≡ true → all_good ys ≡ true → all_good (xs ++ ys) ≡ true
 all_good_join [] ys h g = g
 all_good_join (x ∷ xs) ys h g =
-    let parts : (good x ≡ true) × (all_good xs ≡ true) = both (good x) (all_good xs) h in
+    let parts : (good x ≡ true) × (all_good xs ≡ true) = and_parts (good x) (all_good xs) h in
     rw parts.0 (all_good_join xs ys parts.1 g)
 
 good_if : (b : Bool) {m n : Move} → Good m → Good n → Good (if b then m else n)
@@ -117,11 +114,11 @@ good_moved room MoreParameters t = good_if (is_sign sign.Comma t) (these _ refl)
 good_next : (room : Bool) (xs : List Expected) (t : Token) (ys : List Expected) → all_good xs ≡ true → next room xs t ≡ Some ys → all_good ys ≡ true
 unfolding next
 good_next room [] t ys h e = absurd (cc)
-good_next room (x ∷ xs) t ys h e = went (moved room x t) (good_moved room x t).all e (λ f. good_next room xs t ys (both (good x) (all_good xs) h).1 f)
+good_next room (x ∷ xs) t ys h e = went (moved room x t) (good_moved room x t).all e (λ f. good_next room xs t ys (and_parts (good x) (all_good xs) h).1 f)
   where
     went : (m : Move) → good_move m ≡ true → followed m xs (next room xs t) ≡ Some ys → (next room xs t ≡ Some ys → all_good ys ≡ true) → all_good ys ≡ true
     went (taken zs) g e later = let same : zs ++ xs ≡ ys = cc in let P : List Expected → Type 0 = λ l. all_good l ≡ true in
-        subst P same (all_good_join zs xs g (both (good x) (all_good xs) h).1)
+        subst P same (all_good_join zs xs g (and_parts (good x) (all_good xs) h).1)
     went passed g e later = later e
     went refused g e later = absurd (cc)
 
@@ -170,10 +167,10 @@ same_next : (a b : Bool) (xs : List Expected) → all_good xs ≡ true → (t : 
 unfolding next
 same_next a b [] g t h = refl
 same_next a b (x ∷ xs) g t h =
-    let parts : (good x ≡ true) × (all_good xs ≡ true) = both (good x) (all_good xs) g in
+    let parts : (good x ≡ true) × (all_good xs ≡ true) = and_parts (good x) (all_good xs) g in
     ap (λ m. followed m xs (next a xs t)) (same_moved a b x parts.0 t h) ∙ ap (followed (moved b x t) xs) (same_next a b xs parts.1 t h)
 
--- a token behind which no more than 64 brackets are open comes where more may be open just where it comes here
+-- a token after which no more than 64 brackets are open comes where more may be open just where it comes here
 next_alike : (limit n : ℕ) (xs : List Expected) (t : Token) → n ≤ 64 → 64 ≤ limit → open_after t n ≤ 64 → all_good xs ≡ true
     → next (room_to 64 n) xs t ≡ next (room_to limit n) xs t
 next_alike limit n xs t few more within g = by_room (nat_lt n 64) (nat_lt n limit) refl refl
@@ -188,7 +185,7 @@ least n [] = omega arith
 least n (t ∷ ts) = omega arith
 
 -- Where the next token cannot come, no more tokens come of those that open at most 64 brackets, though more may be open
--- behind them.
+-- after them.
 stopped : (ts : List Token) (k n limit : ℕ) (xs : List Expected) (rest : List Token) (left : ℕ) → n ≤ 64 → 64 ≤ limit → all_good xs ≡ true
     → drive n xs ts ≡ Some left → most_open n (take k ts) ≤ 64 → drive_to limit n xs (take k ts ++ rest) ≡ None → k ≤ length ts → k + left ≤ length ts
 unfolding drive_to

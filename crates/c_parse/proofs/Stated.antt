@@ -48,7 +48,7 @@ further_goes : (e : Expr) → ExprFits e → (limit n : ℕ) (xs : List Expected
     → Goes limit n (Further ∷ xs) (one sign.Comma ∷ (expr_tokens e ++ ts)) n xs ts
 further_goes e f limit n xs ts ends = and_on (step (further_comma limit n _ xs)) (whole_goes e f limit n xs ts ends)
 
--- the head of a `for`, behind that word
+-- the head of a `for`, after that word
 for_goes : (first step_name : List ℕ) (from condition to : Expr) → ExprFits from → ExprFits condition → ExprFits to → (limit n : ℕ) (xs : List Expected) (ts : List Token)
     → Goes limit n (Open sign.OpenParenthesis ∷ Assigned ∷ Test ∷ Assigned ∷ Only sign.CloseParenthesis ∷ xs)
     (one sign.OpenParenthesis ∷ (assigned_tokens first (expr_tokens from) ++ one sign.Semicolon ∷ (expr_tokens condition
@@ -96,7 +96,7 @@ unfolding stmt_tokens arms_tokens is_sign is_keyword
 arms_begin end_of-Arm f rest = absurd f
 arms_begin (more_of-Arm condition l body row) f rest = refl
 
--- a kind and the name behind it
+-- a kind and the name after it
 pub kind_go : {limit n : ℕ} {xs ys : List Expected} (k : KindOf) (w : List ℕ) (ts : List Token)
     → (KindEnds k (token.Word w ∷ ts) → drive_to limit n xs (kind_tokens k ++ token.Word w ∷ ts) ≡ drive_to limit n ys (token.Word w ∷ ts))
     → Goes limit n xs (kind_tokens k ++ token.Word w ∷ ts) n ys (token.Word w ∷ ts)
@@ -155,7 +155,7 @@ stmt_no_else (Return None) f rest = refl
 stmt_no_else (Return (Some value)) f rest = refl
 stmt_no_else (Inner' l body) f rest = refl
 
--- What is behind a statement: no `else`.
+-- What is after a statement: no `else`.
 abbrev pub NoElse : List Token → Type 0
 NoElse ts = begins (is_keyword keyword.Else) ts ≡ false
 
@@ -215,7 +215,7 @@ mutual
   stmt_goes (Inner' l body) f limit n xs rest h =
       along (simp append_assoc) (and_on (open_step (one sign.OpenBrace) refl (statement_brace limit n _ xs)) (open_again (back n) (statements_go body f limit (n + 1) xs rest)))
 
-  -- statements and the brace behind them
+  -- statements and the brace after them
   statements_go : {k : _} (row : Row_of-Stmt k) → BlockFits row → (limit n : ℕ) (xs : List Expected) (rest : List Token)
       → Goes limit n (Statements ∷ xs) (block_tokens row ++ one sign.CloseBrace ∷ rest) (n - 1) xs rest
   statements_go end_of-Stmt f limit n xs rest = step (statements_end limit n rest xs)

@@ -1,4 +1,4 @@
--- One token more: what is to come, before and behind it.
+-- One token more: what is to come, before and after it.
 use Rattle.std.proofs.Common.{◌≡◌, ◌≢◌, ℕ, suc, ◌+◌, ◌<◌, Bool, true, false, nat_lt, List, [], ◌∷◌, ◌++◌, length, Some, refl, ap, arith, lit<}
 use Rattle.std.proofs.lemmas.Grind.{common_steps}
 use Rattle.c_tree.specs.declared.tokens.Token.{Token}
@@ -95,7 +95,7 @@ unfolding drive_to moved may_end
 no_operand limit n [] xs a b c d = refl
 no_operand limit n (t ∷ ts) xs a b c d = refuses limit n Operand t ts xs (rw (a, b, c, d))
 
--- ---- behind an operand
+-- ---- after an operand
 
 pub index_bracket : (limit n : ℕ) (ts : List Token) (xs : List Expected) → n < limit
     → drive_to limit n (Index ∷ xs) (one sign.OpenBracket ∷ ts) ≡ drive_to limit (n + 1) (Operand ∷ Tail ∷ Only sign.CloseBracket ∷ xs) ts

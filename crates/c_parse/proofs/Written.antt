@@ -33,7 +33,7 @@ pub record IsRight (ts rest : List Token) : Type 0 where
   pub fits : RightFits right
   pub written : ts ≡ right_tokens right ++ rest
 
--- arguments and the parenthesis behind them
+-- arguments and the parenthesis after them
 pub record IsArguments (ts rest : List Token) : Type 0 where
   pub args : List Expr
   pub fits : Each ExprFits args
@@ -49,7 +49,7 @@ pub record IsStmt (ts rest : List Token) : Type 0 where
   pub fits : StmtFits stmt
   pub written : ts ≡ stmt_tokens stmt ++ rest
 
--- statements and the brace behind them
+-- statements and the brace after them
 pub record IsBody (ts rest : List Token) : Type 0 where
   pub body : List Stmt
   pub fits : Each StmtFits body
@@ -85,7 +85,7 @@ pub record IsItems (ts rest : List Token) : Type 0 where
   pub fits : Each ItemFits items
   pub written : ts ≡ items_tokens items ++ rest
 
--- what is behind a variable's name, with the semicolon
+-- what is after a variable's name, with the semicolon
 pub record IsShape (ts rest : List Token) : Type 0 where
   pub size : Option Length
   pub values : List Const
@@ -104,7 +104,7 @@ pub record IsMoreConstants (first : Const) (ts rest : List Token) : Type 0 where
   pub values : List Const
   pub written : const_tokens first ++ ts ≡ consts_tokens (first ∷ values) ++ one sign.CloseBrace ∷ rest
 
--- parameters and the parenthesis behind them
+-- parameters and the parenthesis after them
 pub record IsParameters (ts rest : List Token) : Type 0 where
   pub void_word : Bool
   pub parameters : List Parameter
@@ -117,7 +117,7 @@ pub record IsMoreParameters (kind : KindOf) (name : List ℕ) (ts rest : List To
 
 -- ---- places
 
--- What stands in a place up to a rest. Behind what was read before, it is a part of a tree with that.
+-- What stands in a place up to a rest. After what was read before, it is a part of a tree with that.
 abbrev pub Written : Expected → List Token → List Token → Type 0
 Written (Only s) ts rest = ts ≡ one s ∷ rest
 Written (Open s) ts rest = ts ≡ one s ∷ rest

@@ -1,4 +1,4 @@
--- What a refusal says of the tokens.
+-- To be believed. What a refusal says of the tokens.
 use Rattle.std.specs.Prelude.{◌≡◌, ℕ, ◌-◌, List, [], ◌∷◌, length, Option, None, Some, option_map, ⊤}
 use Rattle.c_tree.specs.declared.tokens.Token.{Token}
 use Rattle.c_tree.specs.Places.{IsProgram, IsPlace}

@@ -1,4 +1,4 @@
--- What comes next: what a program may go on with, as a stack of what it still has to write.
+-- To be believed. What comes next: what a program may go on with, as a stack of what it still has to write.
 --
 -- A text of our subset is read from left to right, and one token decides how it goes on. `Expected` has what may stand
 -- in a place, `moved` what one token makes of it, and `drive` reads token after token with a stack of them.
@@ -174,13 +174,20 @@ abbrev pub level_ahead : List Token → ℕ
 level_ahead [] = 0
 level_ahead (t ∷ ts) = level_at t
 
--- Where a kind is read, `unsigned` takes an `int` behind it.
+-- Where a kind is read, `unsigned` takes an `int` after it.
 abbrev pub KindEnds : KindOf → List Token → Type 0
-KindEnds k ts = elim k as (λ _. Type 0) [ kind.Int ↦ ⊤ | kind.Unsigned ↦ begins (is_keyword keyword.Int) ts ≡ false | kind.UnsignedInt ↦ ⊤ ]
+KindEnds k ts =
+    elim k as (λ _. Type 0) [
+      | kind.Int ↦ ⊤
+      | kind.Unsigned ↦ begins (is_keyword keyword.Int) ts
+          ≡ false
+      | kind.UnsignedInt ↦ ⊤
+    ]
 
 -- the three expressions of a sending
 abbrev pub three_tokens : Expr → Expr → Expr → List Token
-three_tokens source target count = one sign.Comma ∷ (expr_tokens source ++ one sign.Comma ∷ (expr_tokens target ++ one sign.Comma ∷ expr_tokens count))
+three_tokens source target count =
+    one sign.Comma ∷ (expr_tokens source ++ one sign.Comma ∷ (expr_tokens target ++ one sign.Comma ∷ expr_tokens count))
 
 -- parameters, or `void` for none; the word before a variable in the scratchpad
 abbrev pub listed : Bool → List Parameter → List Token
@@ -197,11 +204,12 @@ pub data Expected : Type 0 where
   Open : Sign → Expected
   Name : Expected
   Number : Expected
-  -- an operand, an index behind a name, and further operands
+  -- an operand, an index after a name, and further operands
   Operand : Expected
   Index : Expected
   Tail : Expected
-  -- a right side, and what is behind its name; arguments and the parenthesis that ends them, and that behind an argument
+  -- a right side, and what is after its name; arguments and the parenthesis that
+  -- ends them, and that after an argument
   Right : Expected
   RightName : Expected
   Arguments : Expected
@@ -209,7 +217,7 @@ pub data Expected : Type 0 where
   -- statements and the brace that ends them, and one statement
   Statements : Expected
   Statement : Expected
-  -- `int` behind `unsigned`; what is behind a variable's name in a block; behind a name that begins a statement
+  -- `int` after `unsigned`; what is after a variable's name in a block; after a name that begins a statement
   PerhapsInt : Expected
   Initial : Expected
   AfterName : Expected
@@ -220,12 +228,12 @@ pub data Expected : Type 0 where
   Assigned : Expected
   Test : Expected
   Further : Expected
-  -- a loop; what `return` gives; `else`, and what is behind it
+  -- a loop; what `return` gives; `else`, and what is after it
   Loop : Expected
   Given : Expected
   Else : Expected
   Branch : Expected
-  -- declarations outside functions, and what is behind a name there
+  -- declarations outside functions, and what is after a name there
   Items : Expected
   Kind : Expected
   Outside : Expected
@@ -236,14 +244,14 @@ pub data Expected : Type 0 where
   Parameters : Expected
   MoreParameters : Expected
 
--- What a token makes of a place: it is taken, and these are to come; the place stays empty and the token is behind it;
+-- What a token makes of a place: it is taken, and these are to come; the place stays empty and the token is after it;
 -- or it cannot stand there.
 pub data Move : Type 0 where
   taken : List Expected → Move
   passed : Move
   refused : Move
 
--- with these to come behind what the token makes
+-- with these to come after what the token makes
 abbrev pub and_then : Move → List Expected → Move
 and_then m S = elim m as (λ _. Move) [ taken xs ↦ taken (xs ++ S) | passed ↦ passed | refused ↦ refused ]
 
@@ -259,7 +267,8 @@ operand_moved room t =
     else (if is_prefix t then taken (Operand ∷ []) else refused)))
 
 abbrev pub index_moved : Bool → Token → Move
-index_moved room t = if may_open room sign.OpenBracket t then taken (Operand ∷ Tail ∷ Only sign.CloseBracket ∷ []) else passed
+index_moved room t =
+    if may_open room sign.OpenBracket t then taken (Operand ∷ Tail ∷ Only sign.CloseBracket ∷ []) else passed
 
 abbrev pub tail_moved : Token → Move
 tail_moved t = if nat_lt 0 (level_at t) then taken (Operand ∷ Tail ∷ []) else passed
@@ -267,14 +276,16 @@ tail_moved t = if nat_lt 0 (level_at t) then taken (Operand ∷ Tail ∷ []) els
 abbrev pub loop_moved : Token → Move
 loop_moved t =
     if is_keyword keyword.While t then taken (Condition ∷ Block ∷ [])
-    else (if is_keyword keyword.For t then taken (Open sign.OpenParenthesis ∷ Assigned ∷ Test ∷ Assigned ∷ Only sign.CloseParenthesis ∷ Block ∷ []) else refused)
+    else (if is_keyword keyword.For t then taken (Open sign.OpenParenthesis ∷ Assigned ∷ Test ∷ Assigned
+    ∷ Only sign.CloseParenthesis ∷ Block ∷ []) else refused)
 
 abbrev pub statement_moved : Bool → Token → Move
 statement_moved room t =
     if is_keyword keyword.Int t then taken (Name ∷ Initial ∷ [])
     else (if is_keyword keyword.Unsigned t then taken (PerhapsInt ∷ Name ∷ Initial ∷ [])
     else (if is_name t then taken (AfterName ∷ [])
-    else (if is_keyword keyword.Send t then taken (Open sign.OpenParenthesis ∷ Number ∷ Further ∷ Further ∷ Further ∷ Only sign.CloseParenthesis ∷ Only sign.Semicolon ∷ [])
+    else (if is_keyword keyword.Send t then taken (Open sign.OpenParenthesis ∷ Number ∷ Further ∷ Further ∷ Further
+    ∷ Only sign.CloseParenthesis ∷ Only sign.Semicolon ∷ [])
     else (if is_keyword keyword.If t then taken (Condition ∷ Block ∷ Else ∷ [])
     else (if is_bound t then taken (Loop ∷ [])
     else (if is_keyword keyword.Break t then taken (Only sign.Semicolon ∷ [])
@@ -285,7 +296,8 @@ statement_moved room t =
 
 abbrev pub kind_moved : Token → Move
 kind_moved t =
-    if is_keyword keyword.Int t then taken [] else (if is_keyword keyword.Unsigned t then taken (PerhapsInt ∷ []) else refused)
+    if is_keyword keyword.Int t then taken []
+    else (if is_keyword keyword.Unsigned t then taken (PerhapsInt ∷ []) else refused)
 
 abbrev pub variable_moved : Bool → Token → Move
 variable_moved room t =
@@ -303,34 +315,45 @@ moved room Operand t = operand_moved room t
 moved room Index t = index_moved room t
 moved room Tail t = tail_moved t
 moved room Right t = if is_name t then taken (RightName ∷ []) else and_then (operand_moved room t) (Tail ∷ [])
-moved room RightName t = if may_open room sign.OpenParenthesis t then taken (Arguments ∷ []) else or_else (and_then (index_moved room t) (Tail ∷ [])) (tail_moved t)
-moved room Arguments t = if is_sign sign.CloseParenthesis t then taken [] else and_then (operand_moved room t) (Tail ∷ MoreArguments ∷ [])
+moved room RightName t =
+    if may_open room sign.OpenParenthesis t then taken (Arguments ∷ [])
+    else or_else (and_then (index_moved room t) (Tail ∷ [])) (tail_moved t)
+moved room Arguments t =
+    if is_sign sign.CloseParenthesis t then taken [] else and_then (operand_moved room t) (Tail ∷ MoreArguments ∷ [])
 moved room MoreArguments t =
-    if is_sign sign.Comma t then taken (Operand ∷ Tail ∷ MoreArguments ∷ []) else (if is_sign sign.CloseParenthesis t then taken [] else refused)
-moved room Statements t = if is_sign sign.CloseBrace t then taken [] else and_then (statement_moved room t) (Statements ∷ [])
+    if is_sign sign.Comma t then taken (Operand ∷ Tail ∷ MoreArguments ∷ [])
+    else (if is_sign sign.CloseParenthesis t then taken [] else refused)
+moved room Statements t =
+    if is_sign sign.CloseBrace t then taken [] else and_then (statement_moved room t) (Statements ∷ [])
 moved room Statement t = statement_moved room t
 moved room PerhapsInt t = if is_keyword keyword.Int t then taken [] else passed
 moved room Initial t =
-    if is_sign sign.Assign t then taken (Right ∷ Only sign.Semicolon ∷ []) else (if is_sign sign.Semicolon t then taken [] else refused)
+    if is_sign sign.Assign t then taken (Right ∷ Only sign.Semicolon ∷ [])
+    else (if is_sign sign.Semicolon t then taken [] else refused)
 moved room AfterName t =
     if is_sign sign.Assign t then taken (Right ∷ Only sign.Semicolon ∷ [])
-    else (if may_open room sign.OpenBracket t then taken (Operand ∷ Tail ∷ Only sign.CloseBracket ∷ Only sign.Assign ∷ Right ∷ Only sign.Semicolon ∷ [])
+    else (if may_open room sign.OpenBracket t then taken (Operand ∷ Tail ∷ Only sign.CloseBracket ∷ Only sign.Assign
+    ∷ Right ∷ Only sign.Semicolon ∷ [])
     else (if may_open room sign.OpenParenthesis t then taken (Arguments ∷ Only sign.Semicolon ∷ []) else refused))
-moved room Condition t = if may_open room sign.OpenParenthesis t then taken (Operand ∷ Tail ∷ Only sign.CloseParenthesis ∷ []) else refused
+moved room Condition t =
+    if may_open room sign.OpenParenthesis t then taken (Operand ∷ Tail ∷ Only sign.CloseParenthesis ∷ []) else refused
 moved room Block t = if may_open room sign.OpenBrace t then taken (Statements ∷ []) else refused
 moved room Assigned t = if is_name t then taken (Only sign.Assign ∷ Operand ∷ Tail ∷ []) else refused
 moved room Test t = if is_sign sign.Semicolon t then taken (Operand ∷ Tail ∷ Only sign.Semicolon ∷ []) else refused
 moved room Further t = if is_sign sign.Comma t then taken (Operand ∷ Tail ∷ []) else refused
 moved room Loop t = loop_moved t
-moved room Given t = if is_sign sign.Semicolon t then taken [] else and_then (operand_moved room t) (Tail ∷ Only sign.Semicolon ∷ [])
+moved room Given t =
+    if is_sign sign.Semicolon t then taken [] else and_then (operand_moved room t) (Tail ∷ Only sign.Semicolon ∷ [])
 moved room Else t = if is_keyword keyword.Else t then taken (Branch ∷ []) else passed
 moved room Branch t =
-    if is_keyword keyword.If t then taken (Condition ∷ Block ∷ Else ∷ []) else (if may_open room sign.OpenBrace t then taken (Statements ∷ []) else refused)
+    if is_keyword keyword.If t then taken (Condition ∷ Block ∷ Else ∷ [])
+    else (if may_open room sign.OpenBrace t then taken (Statements ∷ []) else refused)
 moved room Items t =
     if is_keyword keyword.Int t then taken (Name ∷ Outside ∷ Items ∷ [])
     else (if is_keyword keyword.Unsigned t then taken (PerhapsInt ∷ Name ∷ Outside ∷ Items ∷ [])
     else (if is_keyword keyword.Scratchpad t then taken (Kind ∷ Name ∷ Variable ∷ Items ∷ [])
-    else (if is_keyword keyword.Void t then taken (Name ∷ Open sign.OpenParenthesis ∷ Parameters ∷ Block ∷ Items ∷ []) else passed)))
+    else (if is_keyword keyword.Void t then taken (Name ∷ Open sign.OpenParenthesis ∷ Parameters ∷ Block ∷ Items ∷ [])
+    else passed)))
 moved room Kind t = kind_moved t
 moved room Outside t =
     if may_open room sign.OpenParenthesis t then taken (Parameters ∷ Block ∷ []) else variable_moved room t
@@ -338,15 +361,18 @@ moved room Variable t = variable_moved room t
 moved room Elements t =
     if is_sign sign.Assign t then taken (Open sign.OpenBrace ∷ Constant ∷ MoreConstants ∷ Only sign.Semicolon ∷ [])
     else (if is_sign sign.Semicolon t then taken [] else refused)
-moved room Constant t = if is_number t then taken [] else (if is_sign sign.Minus t then taken (Number ∷ []) else refused)
+moved room Constant t =
+    if is_number t then taken [] else (if is_sign sign.Minus t then taken (Number ∷ []) else refused)
 moved room MoreConstants t =
-    if is_sign sign.Comma t then taken (Constant ∷ MoreConstants ∷ []) else (if is_sign sign.CloseBrace t then taken [] else refused)
+    if is_sign sign.Comma t then taken (Constant ∷ MoreConstants ∷ [])
+    else (if is_sign sign.CloseBrace t then taken [] else refused)
 moved room Parameters t =
     if is_sign sign.CloseParenthesis t then taken []
     else (if is_keyword keyword.Void t then taken (Only sign.CloseParenthesis ∷ [])
     else and_then (kind_moved t) (Name ∷ MoreParameters ∷ []))
 moved room MoreParameters t =
-    if is_sign sign.Comma t then taken (Kind ∷ Name ∷ MoreParameters ∷ []) else (if is_sign sign.CloseParenthesis t then taken [] else refused)
+    if is_sign sign.Comma t then taken (Kind ∷ Name ∷ MoreParameters ∷ [])
+    else (if is_sign sign.CloseParenthesis t then taken [] else refused)
 
 -- the place may stay empty
 abbrev pub may_be_empty : Expected → Bool
@@ -354,9 +380,10 @@ may_be_empty x = elim x as (λ _. Bool) [ Index ↦ true | Tail ↦ true | Right
 
 -- ---- token after token
 
--- what a token has made of the first place, with these behind it, of which it would make that
+-- what a token has made of the first place, with these after it, of which it would make that
 abbrev pub followed : Move → List Expected → Option (List Expected) → Option (List Expected)
-followed m xs later = elim m as (λ _. Option (List Expected)) [ taken ys ↦ Some (ys ++ xs) | passed ↦ later | refused ↦ None ]
+followed m xs later =
+    elim m as (λ _. Option (List Expected)) [ taken ys ↦ Some (ys ++ xs) | passed ↦ later | refused ↦ None ]
 
 -- what a token makes of all that is to come: nothing, if it cannot come next
 unfoldable pub next : Bool → List Expected → Token → Option (List Expected)
@@ -371,30 +398,31 @@ may_end (x ∷ xs) = may_be_empty x && may_end xs
 abbrev pub read_on : ℕ → (List Expected → Option ℕ) → Option (List Expected) → Option ℕ
 read_on left rest now = elim now as (λ _. Option ℕ) [ None ↦ Some (suc left) | Some ys ↦ rest ys ]
 
--- Reads the tokens where this is to come, with so many brackets open, of as many as may be: nothing, if the tokens can all
--- come and end there, else how many are left where the next of them cannot come (none, if more would have to come).
+-- Reads the tokens where this is to come, with so many brackets open, of as many as may be: nothing, if the tokens can
+-- all come and end there, else how many are left where the next of them cannot come (none, if more would have to come).
 unfoldable pub drive_to : ℕ → ℕ → List Expected → List Token → Option ℕ
 drive_to limit n xs [] = if may_end xs then None else Some 0
-drive_to limit n xs (t ∷ ts) = read_on (length ts) (λ ys. drive_to limit (open_after t n) ys ts) (next (room_to limit n) xs t)
+drive_to limit n xs (t ∷ ts) =
+    read_on (length ts) (λ ys. drive_to limit (open_after t n) ys ts) (next (room_to limit n) xs t)
 
 -- The same, where at most 64 brackets may be open at once.
 abbrev pub drive : ℕ → List Expected → List Token → Option ℕ
 drive n xs ts = drive_to 64 n xs ts
 
--- Where these are to come, and whatever behind them, the tokens up to the rest are read, and then those are to come.
+-- Where these are to come, and whatever after them, the tokens up to the rest are read, and then those are to come.
 abbrev pub Passes : ℕ → List Expected → List Token → List Expected → List Token → Type 0
 Passes n xs ts ys rest = (behind : List Expected) → drive n (xs ++ behind) ts ≡ drive n (ys ++ behind) rest
 
--- The same, where so many brackets are open behind them.
+-- The same, where so many brackets are open after them.
 abbrev pub PassesTo : ℕ → List Expected → List Token → ℕ → List Expected → List Token → Type 0
 PassesTo n xs ts m ys rest = (behind : List Expected) → drive n (xs ++ behind) ts ≡ drive m (ys ++ behind) rest
 
--- Where these are to come, and whatever behind them, the reader has stopped rightly.
+-- Where these are to come, and whatever after them, the reader has stopped rightly.
 abbrev pub Refuses : ℕ → List Expected → List Token → Stop → Type 0
 Refuses n xs ts (Syntax left) = (behind : List Expected) → drive n (xs ++ behind) ts ≡ Some left
 Refuses n xs ts Memory = ⊤
 
--- Where declarations are to come and nothing behind them, the reader has stopped rightly.
+-- Where declarations are to come and nothing after them, the reader has stopped rightly.
 abbrev pub StopsAt : List Token → Stop → Type 0
 StopsAt ts (Syntax left) = drive 0 (Items ∷ []) ts ≡ Some left
 StopsAt ts Memory = ⊤

@@ -12,7 +12,7 @@ use tc_word::Text;
 /// How many brackets are open at once, at most.
 pub const LIMIT: u32 = 64;
 
-/// What was read, and the tokens behind it.
+/// What was read, and the tokens after it.
 pub type Read<'t, T> = Result<(T, &'t [Token]), Stop>;
 
 #[tactic(auto, using(crate::proofs::Tests::sign_tested, crate::proofs::Tests::sign_found), unfolding(crate::specs::Expected::is_sign))]
@@ -37,7 +37,7 @@ fn is_keyword(word: Keyword, token: &Token) -> bool
     }
 }
 
-/// What is behind this sign, if it comes next.
+/// What is after this sign, if it comes next.
 pub fn after(sign: Sign, tokens: &[Token]) -> Option<&[Token]>
     ensures { MatchOption result (begins (is_sign sign) tokens.now ≡ false) (λ rest. tokens.now ≡ one sign ∷ rest.now) }
 {
@@ -51,7 +51,7 @@ pub fn after(sign: Sign, tokens: &[Token]) -> Option<&[Token]>
     }
 }
 
-/// What is behind this bracket, if it comes next and one more may be open.
+/// What is after this bracket, if it comes next and one more may be open.
 #[tactic(auto, using(crate::proofs::Tests::may_not_open, crate::proofs::Tests::none_open))]
 pub fn opened(sign: Sign, depth: u32, tokens: &[Token]) -> Option<&[Token]>
     ensures { MatchOption result (begins (may_open (room_at depth) sign) tokens.now ≡ false)
@@ -64,9 +64,10 @@ pub fn opened(sign: Sign, depth: u32, tokens: &[Token]) -> Option<&[Token]>
     }
 }
 
-/// What is behind this word, if it comes next.
+/// What is after this word, if it comes next.
 pub fn after_word(word: Keyword, tokens: &[Token]) -> Option<&[Token]>
-    ensures { MatchOption result (begins (is_keyword word) tokens.now ≡ false) (λ rest. tokens.now ≡ word_token word ∷ rest.now) }
+    ensures { MatchOption result (begins (is_keyword word) tokens.now ≡ false) (λ rest. tokens.now
+        ≡ word_token word ∷ rest.now) }
 {
     let [next, rest @ ..] = tokens else {
         return None;
@@ -78,7 +79,7 @@ pub fn after_word(word: Keyword, tokens: &[Token]) -> Option<&[Token]>
     }
 }
 
-/// The name that comes next, and what is behind it.
+/// The name that comes next, and what is after it.
 #[tactic(auto, unfolding(crate::specs::Expected::is_name))]
 pub fn name_at(tokens: &[Token]) -> Option<(&Text, &[Token])>
     ensures { MatchOption result (begins is_name tokens.now ≡ false) (λ r. tokens.now ≡ token.Word r.0.now ∷ r.1.now) }
@@ -92,10 +93,11 @@ pub fn name_at(tokens: &[Token]) -> Option<(&Text, &[Token])>
     }
 }
 
-/// The number that comes next, whether it is unsigned, and what is behind it.
+/// The number that comes next, whether it is unsigned, and what is after it.
 #[tactic(auto, unfolding(crate::specs::Expected::is_number))]
 pub fn number_at(tokens: &[Token]) -> Option<(u32, bool, &[Token])>
-    ensures { MatchOption result (begins is_number tokens.now ≡ false) (λ r. tokens.now ≡ token.Number r.0 r.1 ∷ r.2.now) }
+    ensures { MatchOption result (begins is_number tokens.now ≡ false) (λ r. tokens.now
+        ≡ token.Number r.0 r.1 ∷ r.2.now) }
 {
     let [next, rest @ ..] = tokens else {
         return None;
@@ -106,10 +108,11 @@ pub fn number_at(tokens: &[Token]) -> Option<(u32, bool, &[Token])>
     }
 }
 
-/// The bound that comes next, and what is behind it.
+/// The bound that comes next, and what is after it.
 #[tactic(auto, unfolding(crate::specs::Expected::is_bound))]
 pub fn bound_at(tokens: &[Token]) -> Option<(Bound, &[Token])>
-    ensures { MatchOption result (begins is_bound tokens.now ≡ false) (λ r. tokens.now ≡ token.Bound r.0.min r.0.max ∷ r.1.now) }
+    ensures { MatchOption result (begins is_bound tokens.now ≡ false) (λ r. tokens.now
+        ≡ token.Bound r.0.min r.0.max ∷ r.1.now) }
 {
     let [next, rest @ ..] = tokens else {
         return None;
@@ -136,7 +139,8 @@ pub fn stop(tokens: &[Token]) -> Stop
 /// This sign has to come next.
 pub fn sign(sign: Sign, tokens: &[Token]) -> Result<&[Token], Stop>
     ensures read { IfOk result (λ rest. tokens.now ≡ one sign ∷ rest.now) }
-    ensures refuses { IfErr result (λ e. (e ≡ stops.Syntax (length tokens.now)) × (begins (is_sign sign) tokens.now ≡ false)) }
+    ensures refuses { IfErr result (λ e. (e ≡ stops.Syntax (length tokens.now))
+        × (begins (is_sign sign) tokens.now ≡ false)) }
 {
     match after(sign, tokens) {
         Some(rest) => Ok(rest),
@@ -147,7 +151,8 @@ pub fn sign(sign: Sign, tokens: &[Token]) -> Result<&[Token], Stop>
 /// This bracket has to come next, and one more has to be allowed.
 pub fn bracket(sign: Sign, depth: u32, tokens: &[Token]) -> Result<&[Token], Stop>
     ensures read { IfOk result (λ rest. (tokens.now ≡ one sign ∷ rest.now) × (depth < 64)) }
-    ensures refuses { IfErr result (λ e. (e ≡ stops.Syntax (length tokens.now)) × (begins (may_open (room_at depth) sign) tokens.now ≡ false)) }
+    ensures refuses { IfErr result (λ e. (e ≡ stops.Syntax (length tokens.now))
+        × (begins (may_open (room_at depth) sign) tokens.now ≡ false)) }
 {
     match opened(sign, depth, tokens) {
         Some(rest) => Ok(rest),
@@ -169,7 +174,8 @@ pub fn name(tokens: &[Token]) -> Read<'_, &Text>
 /// A number has to come next.
 pub fn number(tokens: &[Token]) -> Read<'_, (u32, bool)>
     ensures read { IfOk result (λ r. tokens.now ≡ token.Number r.0.0 r.0.1 ∷ r.1.now) }
-    ensures refuses { IfErr result (λ e. (e ≡ stops.Syntax (length tokens.now)) × (begins is_number tokens.now ≡ false)) }
+    ensures refuses { IfErr result (λ e. (e ≡ stops.Syntax (length tokens.now))
+        × (begins is_number tokens.now ≡ false)) }
 {
     match number_at(tokens) {
         Some((value, unsigned, rest)) => Ok(((value, unsigned), rest)),

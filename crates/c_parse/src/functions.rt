@@ -28,7 +28,7 @@ pub fn kind(depth: u32, tokens: &[Token]) -> Read<'_, Kind>
     }
 }
 
-// a parameter behind its kind
+// a parameter after its kind
 #[tactic(auto, using(crate::proofs::Steps::name_read, crate::proofs::Steps::no_name))]
 fn parameter(alloc: Global, depth: u32, kind: Kind, tokens: &[Token]) -> Read<'_, Parameter>
     ensures kind { IfOk result (λ r. r.0.kind ≡ kind) }
@@ -42,7 +42,7 @@ fn parameter(alloc: Global, depth: u32, kind: Kind, tokens: &[Token]) -> Read<'_
     Ok((Parameter { kind, name }, rest))
 }
 
-/// The parameters of a function, behind their parenthesis, and the closing one. The first part says whether `void`
+/// The parameters of a function, after their parenthesis, and the closing one. The first part says whether `void`
 /// stands for them.
 #[tactic(auto, using(crate::proofs::Starts::parameters_end, crate::proofs::Starts::parameters_void, crate::proofs::Starts::parameters_kind, crate::proofs::Starts::parameters_next, crate::proofs::Starts::parameters_done, crate::proofs::Starts::kind_kind, crate::proofs::Starts::no_parameters, crate::proofs::Starts::no_more_parameters, crate::proofs::Steps::sign_read, crate::proofs::Steps::no_sign))]
 fn parameters(alloc: Global, depth: u32, tokens: &[Token]) -> Read<'_, (bool, List<Parameter>)>
@@ -75,7 +75,7 @@ fn parameters(alloc: Global, depth: u32, tokens: &[Token]) -> Read<'_, (bool, Li
     Ok(((false, List::of(parameters)), rest))
 }
 
-/// A function behind its name and the parenthesis there.
+/// A function after its name and the parenthesis there.
 pub fn function<'t>(
     alloc: Global,
     depth: u32,
@@ -84,7 +84,8 @@ pub fn function<'t>(
     tokens: &'t [Token],
 ) -> Read<'t, Function>
     requires { depth < 64 }
-    ensures written { IfOk result (λ r. gives_tokens kind ++ token.Word text.now ∷ one sign.OpenParenthesis ∷ tokens.now ≡ function_tokens r.0 ++ r.1.now) }
+    ensures written { IfOk result (λ r. gives_tokens kind
+        ++ token.Word text.now ∷ one sign.OpenParenthesis ∷ tokens.now ≡ function_tokens r.0 ++ r.1.now) }
     ensures fits { IfOk result (λ r. FunctionFits r.0) }
     ensures passes { IfOk result (λ r. PassesTo (depth + 1) (Parameters ∷ Block ∷ []) tokens.now depth [] r.1.now) }
     ensures refuses { IfErr result (Refuses (depth + 1) (Parameters ∷ Block ∷ []) tokens.now) }

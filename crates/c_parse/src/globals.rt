@@ -8,7 +8,7 @@ use c_tree::{Const, Length, Sign, Token};
 use std::alloc::Global;
 use tc_word::List;
 
-/// What is behind the name of a global variable or array: its length, if it is an array, and its first values.
+/// What is after the name of a global variable or array: its length, if it is an array, and its first values.
 pub type Shape = (Option<Length>, List<Const>);
 
 // a constant with its sign
@@ -39,12 +39,13 @@ fn constant(depth: u32, tokens: &[Token]) -> Read<'_, Const>
     Ok((constant, rest))
 }
 
-// the first values of an array, behind their brace, and the closing one
+// the first values of an array, after their brace, and the closing one
 #[tactic(auto, using(crate::proofs::Starts::constants_next, crate::proofs::Starts::constants_done, crate::proofs::Starts::no_more_constants))]
 fn constants(alloc: Global, depth: u32, tokens: &[Token]) -> Read<'_, List<Const>>
     ensures some { IfOk result (λ r. 1 ≤ length r.0) }
     ensures written { IfOk result (λ r. tokens.now ≡ consts_tokens r.0 ++ one sign.CloseBrace ∷ r.1.now) }
-    ensures passes { IfOk result (λ r. PassesTo depth (Constant ∷ MoreConstants ∷ []) tokens.now (depth - 1) [] r.1.now) }
+    ensures passes { IfOk result (λ r. PassesTo depth (Constant ∷ MoreConstants
+        ∷ []) tokens.now (depth - 1) [] r.1.now) }
     ensures refuses { IfErr result (Refuses depth (Constant ∷ MoreConstants ∷ []) tokens.now) }
     ensures shorter { IfOk result (λ r. length r.1.now < length tokens.now) }
 {
@@ -60,7 +61,7 @@ fn constants(alloc: Global, depth: u32, tokens: &[Token]) -> Read<'_, List<Const
     Ok((List::of(constants), rest))
 }
 
-/// What is behind a global's name, up to its semicolon.
+/// What is after a global's name, up to its semicolon.
 #[tactic(auto, using(crate::proofs::Starts::variable_array, crate::proofs::Starts::variable_assign, crate::proofs::Starts::variable_end, crate::proofs::Starts::no_variable, crate::proofs::Steps::sign_read, crate::proofs::Steps::no_sign, crate::proofs::Steps::number_read, crate::proofs::Steps::no_number))]
 pub fn shape(alloc: Global, depth: u32, tokens: &[Token]) -> Read<'_, Shape>
     ensures written { IfOk result (λ r. tokens.now ≡ ended (shape_tokens r.0.0 r.0.1) ++ r.1.now) }

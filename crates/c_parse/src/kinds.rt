@@ -6,7 +6,7 @@ ghost use Rattle.c_parse.specs.Expected.{KindEnds, begins, is_keyword};
 use crate::ahead::after_word;
 use c_tree::{Keyword, Kind, Token};
 
-/// The kind that comes next, and what is behind it.
+/// The kind that comes next, and what is after it.
 pub fn kind_at(tokens: &[Token]) -> Option<(Kind, &[Token])>
     ensures written { IfSome result (λ r. tokens.now ≡ kind_tokens r.0 ++ r.1.now) }
     ensures ends { IfSome result (λ r. KindEnds r.0 r.1.now) }

@@ -2,8 +2,8 @@
 //!
 //! Tokens are a program exactly where they are the tokens of a tree that fits our subset's grammar: its levels of
 //! operators, and at most 64 brackets open at once (`c_tree`). [`parse`] gives such a tree, the only one there is
-//! ([`one_tree`]), and refuses exactly the tokens that are no program, with the place at which they go wrong: the most of
-//! the first tokens that can go on. [`reading_is_the_grammar`] says the same of reading token after token.
+//! ([`one_tree`]), and refuses exactly the tokens that are no program, with the place at which they go wrong: the most
+//! of the first tokens that can go on. [`reading_is_the_grammar`] says the same of reading token after token.
 //!
 //! It reads by recursive descent, in time linear in the tokens. The recursion is as deep as brackets are open, times
 //! the levels; chains, signs, `else if` and statements are loops. `specs/Expected.antt` says what may come next at

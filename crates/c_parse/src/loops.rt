@@ -14,7 +14,8 @@ use tc_word::Text;
 /// An expression in parentheses.
 #[tactic(auto, using(crate::proofs::Starts::condition_open, crate::proofs::Starts::no_condition, crate::proofs::Steps::sign_read, crate::proofs::Steps::no_sign))]
 pub fn condition(alloc: Global, depth: u32, tokens: &[Token]) -> Read<'_, Expr>
-    ensures written { IfOk result (λ r. tokens.now ≡ one sign.OpenParenthesis ∷ (expr_tokens r.0 ++ one sign.CloseParenthesis ∷ r.1.now)) }
+    ensures written { IfOk result (λ r. tokens.now
+        ≡ one sign.OpenParenthesis ∷ (expr_tokens r.0 ++ one sign.CloseParenthesis ∷ r.1.now)) }
     ensures fits { IfOk result (λ r. ExprFits r.0) }
     ensures passes { IfOk result (λ r. Passes depth (Condition ∷ []) tokens.now [] r.1.now) }
     ensures refuses { IfErr result (Refuses depth (Condition ∷ []) tokens.now) }
@@ -41,7 +42,7 @@ fn assigned(alloc: Global, depth: u32, tokens: &[Token]) -> Read<'_, (Text, Expr
     Ok(((copy(alloc, text)?, of), rest))
 }
 
-/// The head of a `while`, behind that word.
+/// The head of a `while`, after that word.
 pub fn while_head(alloc: Global, depth: u32, tokens: &[Token]) -> Read<'_, Head>
     ensures written { IfOk result (λ r. word keyword.While ∷ tokens.now ≡ head_tokens r.0 ++ r.1.now) }
     ensures fits { IfOk result (λ r. HeadFits r.0) }
@@ -56,7 +57,8 @@ pub fn while_head(alloc: Global, depth: u32, tokens: &[Token]) -> Read<'_, Head>
 // the condition of a `for`, between its semicolons
 #[tactic(auto, using(crate::proofs::Starts::test_semicolon, crate::proofs::Starts::no_test, crate::proofs::Steps::sign_read, crate::proofs::Steps::no_sign))]
 fn middle(alloc: Global, depth: u32, tokens: &[Token]) -> Read<'_, Expr>
-    ensures written { IfOk result (λ r. tokens.now ≡ one sign.Semicolon ∷ (expr_tokens r.0 ++ one sign.Semicolon ∷ r.1.now)) }
+    ensures written { IfOk result (λ r. tokens.now
+        ≡ one sign.Semicolon ∷ (expr_tokens r.0 ++ one sign.Semicolon ∷ r.1.now)) }
     ensures fits { IfOk result (λ r. ExprFits r.0) }
     ensures passes { IfOk result (λ r. Passes depth (Test ∷ []) tokens.now [] r.1.now) }
     ensures refuses { IfErr result (Refuses depth (Test ∷ []) tokens.now) }
@@ -68,13 +70,16 @@ fn middle(alloc: Global, depth: u32, tokens: &[Token]) -> Read<'_, Expr>
     Ok((condition, rest))
 }
 
-/// The head of a `for`, behind that word.
+/// The head of a `for`, after that word.
 #[tactic(auto, using(crate::proofs::Steps::bracket_read, crate::proofs::Steps::no_bracket, crate::proofs::Steps::sign_read, crate::proofs::Steps::no_sign))]
 pub fn for_head(alloc: Global, depth: u32, tokens: &[Token]) -> Read<'_, Head>
     ensures written { IfOk result (λ r. word keyword.For ∷ tokens.now ≡ head_tokens r.0 ++ r.1.now) }
     ensures fits { IfOk result (λ r. HeadFits r.0) }
-    ensures passes { IfOk result (λ r. Passes depth (Open sign.OpenParenthesis ∷ Assigned ∷ Test ∷ Assigned ∷ Only sign.CloseParenthesis ∷ []) tokens.now [] r.1.now) }
-    ensures refuses { IfErr result (Refuses depth (Open sign.OpenParenthesis ∷ Assigned ∷ Test ∷ Assigned ∷ Only sign.CloseParenthesis ∷ []) tokens.now) }
+    ensures passes { IfOk result (λ r. Passes depth (Open sign.OpenParenthesis ∷ Assigned ∷ Test ∷ Assigned
+        ∷ Only sign.CloseParenthesis ∷ []) tokens.now [] r.1.now) }
+    ensures refuses { IfErr result
+        (Refuses depth (Open sign.OpenParenthesis ∷ Assigned ∷ Test ∷ Assigned ∷ Only sign.CloseParenthesis
+        ∷ []) tokens.now) }
     ensures shorter { IfOk result (λ r. length r.1.now < length tokens.now) }
 {
     let behind = bracket(Sign::OpenParenthesis, depth, tokens)?;

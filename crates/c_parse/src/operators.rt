@@ -5,7 +5,7 @@ ghost use Rattle.c_parse.specs.Expected.{begins, is_prefix, is_prefix_sign, sign
 
 use c_tree::{BinaryOp, Sign, Token, UnaryOp};
 
-/// The operator of this level that comes next, and what is behind it.
+/// The operator of this level that comes next, and what is after it.
 pub fn operator_at(level: u8, tokens: &[Token]) -> Option<(BinaryOp, &[Token])>
     requires { 1 ≤ level }
     ensures { MatchOption result (level_ahead tokens.now ≢ level)
@@ -63,7 +63,8 @@ fn prefix_in(token: &Token) -> Option<UnaryOp>
 
 /// The operator between operands that a sign is, if it is one.
 pub fn operator(sign: Sign) -> Option<BinaryOp>
-    ensures { MatchOption result (sign_level sign ≡ 0) (λ op. (binary_sign op ≡ sign) × (level_of op ≡ sign_level sign)) }
+    ensures { MatchOption result (sign_level sign ≡ 0) (λ op. (binary_sign op ≡ sign)
+        × (level_of op ≡ sign_level sign)) }
 {
     match sign {
         Sign::Or => Some(BinaryOp::Or),
@@ -88,9 +89,10 @@ pub fn operator(sign: Sign) -> Option<BinaryOp>
     }
 }
 
-/// The operator before an operand that comes next, and what is behind it.
+/// The operator before an operand that comes next, and what is after it.
 pub fn prefix_at(tokens: &[Token]) -> Option<(UnaryOp, &[Token])>
-    ensures { MatchOption result (begins is_prefix tokens.now ≡ false) (λ r. tokens.now ≡ one (unary_sign r.0) ∷ r.1.now) }
+    ensures { MatchOption result (begins is_prefix tokens.now ≡ false) (λ r. tokens.now
+        ≡ one (unary_sign r.0) ∷ r.1.now) }
 {
     let [next, rest @ ..] = tokens else {
         return None;

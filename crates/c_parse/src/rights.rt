@@ -11,7 +11,7 @@ use c_tree::{Expr, Right, Sign, Token};
 use std::alloc::Global;
 use tc_word::List;
 
-/// The arguments of a call, behind its parenthesis, and the closing one.
+/// The arguments of a call, after its parenthesis, and the closing one.
 #[tactic(auto, using(crate::proofs::Starts::arguments_end, crate::proofs::Starts::arguments_next, crate::proofs::Starts::arguments_done, crate::proofs::Starts::arguments_operand, crate::proofs::Starts::no_more_arguments))]
 pub fn arguments(alloc: Global, depth: u32, tokens: &[Token]) -> Read<'_, List<Expr>>
     ensures written { IfOk result (λ r. tokens.now ≡ args_tokens r.0 ++ one sign.CloseParenthesis ∷ r.1.now) }

@@ -53,7 +53,7 @@ pub fn simple(alloc: Global, depth: u32, tokens: &[Token]) -> Read<'_, Stmt>
     given(alloc, depth, behind)
 }
 
-// a variable of a block, behind its kind
+// a variable of a block, after its kind
 #[tactic(auto, using(crate::proofs::Starts::initial_assign, crate::proofs::Starts::initial_end, crate::proofs::Starts::no_initial, crate::proofs::Steps::name_read, crate::proofs::Steps::no_name, crate::proofs::Steps::sign_read, crate::proofs::Steps::no_sign), unfolding(c_tree::specs::Tokens::stmt_tokens, c_tree::specs::Fits::StmtFits))]
 fn declaration(alloc: Global, depth: u32, kind: Kind, tokens: &[Token]) -> Read<'_, Stmt>
     ensures written { IfOk result (λ r. kind_tokens kind ++ tokens.now ≡ stmt_tokens r.0 ++ r.1.now) }
@@ -149,13 +149,16 @@ fn three(alloc: Global, depth: u32, tokens: &[Token]) -> Read<'_, (Expr, Expr, E
     Ok(((source, target, count), rest))
 }
 
-// a sending, behind its word
+// a sending, after its word
 #[tactic(auto, using(crate::proofs::Steps::sign_read, crate::proofs::Steps::no_sign, crate::proofs::Steps::bracket_read, crate::proofs::Steps::no_bracket, crate::proofs::Steps::name_read, crate::proofs::Steps::no_name, crate::proofs::Steps::number_read, crate::proofs::Steps::no_number), unfolding(c_tree::specs::Tokens::stmt_tokens, c_tree::specs::Fits::StmtFits))]
 fn sent(alloc: Global, depth: u32, tokens: &[Token]) -> Read<'_, Stmt>
     ensures written { IfOk result (λ r. word keyword.Send ∷ tokens.now ≡ stmt_tokens r.0 ++ r.1.now) }
     ensures fits { IfOk result (λ r. StmtFits r.0) }
-    ensures passes { IfOk result (λ r. Passes depth (Open sign.OpenParenthesis ∷ Number ∷ Further ∷ Further ∷ Further ∷ Only sign.CloseParenthesis ∷ Only sign.Semicolon ∷ []) tokens.now [] r.1.now) }
-    ensures refuses { IfErr result (Refuses depth (Open sign.OpenParenthesis ∷ Number ∷ Further ∷ Further ∷ Further ∷ Only sign.CloseParenthesis ∷ Only sign.Semicolon ∷ []) tokens.now) }
+    ensures passes { IfOk result (λ r. Passes depth (Open sign.OpenParenthesis ∷ Number ∷ Further ∷ Further ∷ Further
+        ∷ Only sign.CloseParenthesis ∷ Only sign.Semicolon ∷ []) tokens.now [] r.1.now) }
+    ensures refuses { IfErr result
+        (Refuses depth (Open sign.OpenParenthesis ∷ Number ∷ Further ∷ Further ∷ Further ∷ Only sign.CloseParenthesis
+        ∷ Only sign.Semicolon ∷ []) tokens.now) }
     ensures shorter { IfOk result (λ r. length r.1.now < length tokens.now) }
 {
     let behind = bracket(Sign::OpenParenthesis, depth, tokens)?;
@@ -175,7 +178,7 @@ fn sent(alloc: Global, depth: u32, tokens: &[Token]) -> Read<'_, Stmt>
     ))
 }
 
-// what a function gives, behind `return`
+// what a function gives, after `return`
 #[tactic(auto, using(crate::proofs::Starts::given_none, crate::proofs::Starts::given_operand, crate::proofs::Steps::sign_read, crate::proofs::Steps::no_sign), unfolding(c_tree::specs::Tokens::stmt_tokens, c_tree::specs::Fits::StmtFits))]
 fn given(alloc: Global, depth: u32, tokens: &[Token]) -> Read<'_, Stmt>
     ensures written { IfOk result (λ r. word keyword.Return ∷ tokens.now ≡ stmt_tokens r.0 ++ r.1.now) }

@@ -50,10 +50,11 @@ pub fn block(alloc: Global, depth: u32, tokens: &[Token]) -> Read<'_, List<Stmt>
     Ok((body, rest))
 }
 
-// a condition and its block, behind `if`
+// a condition and its block, after `if`
 #[cycle(statement)]
 fn arm(alloc: Global, depth: u32, tokens: &[Token]) -> Read<'_, Arm>
-    ensures written { IfOk result (λ r. word keyword.If ∷ tokens.now ≡ arm_tokens r.0.condition (body_tokens r.0.body) ++ r.1.now) }
+    ensures written { IfOk result (λ r. word keyword.If ∷ tokens.now
+        ≡ arm_tokens r.0.condition (body_tokens r.0.body) ++ r.1.now) }
     ensures fits { IfOk result (λ r. ExprFits r.0.condition) }
     ensures passes { IfOk result (λ r. Passes depth (Condition ∷ Block ∷ []) tokens.now [] r.1.now) }
     ensures refuses { IfErr result (Refuses depth (Condition ∷ Block ∷ []) tokens.now) }
@@ -65,7 +66,7 @@ fn arm(alloc: Global, depth: u32, tokens: &[Token]) -> Read<'_, Arm>
     Ok((Arm { condition, body }, rest))
 }
 
-// an `if` with all that is behind it
+// an `if` with all that is after it
 #[cycle(statement)]
 #[tactic(auto, using(crate::proofs::Starts::else_more, crate::proofs::Starts::branch_if, crate::proofs::Starts::branch_block, crate::proofs::Starts::no_else, c_tree::proofs::Blocks::if_tokens))]
 fn conditional(alloc: Global, depth: u32, tokens: &[Token]) -> Read<'_, Stmt>

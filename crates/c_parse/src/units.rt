@@ -56,7 +56,7 @@ fn item(alloc: Global, tokens: &[Token]) -> Read<'_, Item>
     Ok((Item::Function { function }, rest))
 }
 
-// a variable or a function, behind its kind
+// a variable or a function, after its kind
 #[tactic(auto, using(crate::proofs::Starts::outside_function, crate::proofs::Starts::outside_variable, crate::proofs::Steps::name_read, crate::proofs::Steps::no_name))]
 fn outside(alloc: Global, kind: Kind, tokens: &[Token]) -> Read<'_, Item>
     ensures written { IfOk result (λ r. kind_tokens kind ++ tokens.now ≡ item_tokens r.0 ++ r.1.now) }
@@ -73,10 +73,11 @@ fn outside(alloc: Global, kind: Kind, tokens: &[Token]) -> Read<'_, Item>
     Ok((Item::Function { function }, rest))
 }
 
-// a variable or an array, behind its kind
+// a variable or an array, after its kind
 #[tactic(auto, using(crate::proofs::Steps::name_read, crate::proofs::Steps::no_name))]
 fn variable(alloc: Global, scratch: bool, kind: Kind, tokens: &[Token]) -> Read<'_, Item>
-    ensures written { IfOk result (λ r. scratch_tokens scratch ++ (kind_tokens kind ++ tokens.now) ≡ item_tokens r.0 ++ r.1.now) }
+    ensures written { IfOk result (λ r. scratch_tokens scratch ++ (kind_tokens kind ++ tokens.now)
+        ≡ item_tokens r.0 ++ r.1.now) }
     ensures fits { IfOk result (λ r. ItemFits r.0) }
     ensures passes { IfOk result (λ r. Passes 0 (Name ∷ variable_here ∷ []) tokens.now [] r.1.now) }
     ensures refuses { IfErr result (Refuses 0 (Name ∷ variable_here ∷ []) tokens.now) }

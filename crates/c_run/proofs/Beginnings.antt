@@ -9,7 +9,7 @@ use Rattle.c_tree.specs.Layout.{initial_of, input_of}
 use Rattle.c_tree.specs.Plain.{PlainItem}
 use Rattle.c_meaning.specs.Begun.{begun_private}
 
--- zeros behind words change nothing
+-- zeros after words change nothing
 padded : (words : List ℕ) (zeros k : ℕ) → get_or (words ++ replicate zeros 0) k 0 ≡ get_or words k 0
 padded words zeros k = elim (cases_lt k (length words)) [
   | inl below ↦ get_or_append_left words (replicate zeros 0) 0 k below
@@ -22,7 +22,7 @@ padded words zeros k = elim (cases_lt k (length words)) [
       | inr past ↦ get_or_past (replicate zeros 0) i 0 (omega (arith, past, length-replicate {A = ℕ} zeros 0))
     ]
 
--- words behind four zeros
+-- words after four zeros
 behind_four : (words : List ℕ) (k : ℕ) → get_or (replicate 4 0 ++ words) k 0 ≡ (if nat_le 4 k then get_or words (k - 4) 0 else 0)
 behind_four words k = elim (cases_lt k 4) [
   | inl below ↦ let no : nat_le 4 k ≡ false = grind (arith, nat_tests, below) in
@@ -83,7 +83,7 @@ below_both i a b = elim (cases_lt i a) [
     is_past : (i n : ℕ) → n ≤ i → nat_lt i n ≡ false
     is_past i n past = grind (arith, nat_tests, past)
 
--- the first words, zeros behind them, and the input over them
+-- the first words, zeros after them, and the input over them
 pub begun_words : (items : List PlainItem) (input first words : List ℕ) (zeros reach : ℕ) → first ≡ replicate 4 0 ++ initial_of items → length first ≤ 65536
     → words ≡ take 65536 first ++ replicate zeros 0 → reach ≡ min (input_of items).room (length input)
     → (input_of items).at + reach ≤ length words

@@ -1,12 +1,12 @@
 -- Branches, from one on.
 use Rattle.std.proofs.Common.{◌≡◌, ℕ, zero, suc, ◌+◌, ◌<◌, true, false, List, [], ◌∷◌, length, drop, get_or, ap, ◌∙◌, arith}
+use Rattle.tc_word.proofs.Items.{drop_item}
 use Rattle.c_meaning.specs.declared.actions.Branch.{Branch}
 use Rattle.c_meaning.specs.Meaning.{Done}
 use Rattle.sp_tree.specs.Plain.{plain_sp}
 use Rattle.c_meaning.specs.Resolved.{Serves, holds, actions_done, branches_done}
 use Rattle.c_meaning.specs.Shown.{actions_of, branches_of}
 use Rattle.c_meaning.specs.Values.{State}
-use Rattle.c_meaning.proofs.Parts.{drop_item}
 use Rattle.c_meaning.specs.Sizes.{actions_size, branches_size}
 
 from_here : (g : Serves) (o : State → Done) (branches : List Branch) (i : ℕ) (b : Branch) (s : State) → i < length branches → b ≡ get_or branches i b
@@ -18,13 +18,6 @@ pub here : (g : Serves) (o : State → Done) (branches : List Branch) (i : ℕ) 
 here g o branches i b s within is it_holds =
     from_here g o branches i b s within is
     ∙ ap (λ c. elim c as (λ _. Done) [ true ↦ actions_done g (actions_of b.body) s | false ↦ branches_done g (branches_of (drop (i + 1) branches)) o s ]) it_holds
-
-pub further : (g : Serves) (o : State → Done) (branches : List Branch) (i : ℕ) (b : Branch) (s : State) → i < length branches → b ≡ get_or branches i b
-    → holds (plain_sp b.condition) s ≡ false
-    → branches_done g (branches_of (drop i branches)) o s ≡ branches_done g (branches_of (drop (i + 1) branches)) o s
-further g o branches i b s within is it_fails =
-    from_here g o branches i b s within is
-    ∙ ap (λ c. elim c as (λ _. Done) [ true ↦ actions_done g (actions_of b.body) s | false ↦ branches_done g (branches_of (drop (i + 1) branches)) o s ]) it_fails
 
 pub smaller : (branches : List Branch) (i : ℕ) (b : Branch) → i < length branches → b ≡ get_or branches i b
     → actions_size (actions_of b.body) < branches_size (branches_of branches)

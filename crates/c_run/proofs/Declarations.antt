@@ -1,8 +1,8 @@
 -- One declaration of a program after another.
 use Rattle.std.proofs.Common.{◌≡◌, ℕ, ◌+◌, ◌<◌, List, ◌∷◌, length, map, drop, get_or, ap}
+use Rattle.tc_word.proofs.Items.{drop_item}
 use Rattle.c_tree.specs.declared.units.Item.{Item}
 use Rattle.c_tree.specs.Plain.{plain_item}
-use Rattle.c_meaning.proofs.Parts.{drop_item}
 use Rattle.c_run.specs.Told.{output_from}
 
 pub output_next : (number : ℕ) (items : List Item) (i : ℕ) (x : Item) → i < length items → x ≡ get_or items i x

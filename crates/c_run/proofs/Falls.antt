@@ -1,13 +1,12 @@
 -- A call goes to something smaller.
-use Rattle.std.proofs.Common.{◌≡◌, ℕ, zero, suc, ◌+◌, ◌<◌, ◌≤◌, List, [], ◌∷◌, length, get_or, slice_index_or, ap, sym, arith, subst, inl, inr}
+use Rattle.std.proofs.Common.{◌≡◌, ℕ, zero, suc, ◌+◌, ◌<◌, ◌≤◌, List, slice_index_or, ap, arith, subst, inl, inr}
 use Rattle.std.proofs.lemmas.Bool.{cases_lt}
 use Rattle.std.specs.Prelude.{Option}
 use Rattle.c_meaning.specs.declared.actions.Action.{Action, Call}
 use Rattle.c_meaning.specs.declared.actions.Arguments.{Arguments}
-use Rattle.c_meaning.specs.declared.actions.Routine.{Routine}
 use Rattle.c_meaning.specs.declared.actions.Target.{Target}
 use Rattle.c_meaning.specs.Actions.{PlainActions, no_action}
-use Rattle.c_meaning.specs.Shown.{plain_action, actions_of, bodies_of}
+use Rattle.c_meaning.specs.Shown.{plain_action}
 use Rattle.c_meaning.specs.Sizes.{action_size, actions_size}
 use Rattle.c_run.specs.Sizes.{total}
 
@@ -18,12 +17,6 @@ unfolding plain_action
 call_size a k args t is = ap (λ x. action_size (plain_action x)) is
 
 -- ---- functions
-
-pub body_at : (routines : List Routine) (n : ℕ) (r : Routine) → n < length routines → r ≡ get_or routines n r
-    → slice_index_or (bodies_of routines) n no_action ≡ actions_of r.body
-body_at [] n r within is = absurd (omega arith)
-body_at (x ∷ routines) zero r within is = ap (λ (y : Routine). actions_of y.body) (sym is)
-body_at (x ∷ routines) (suc n) r within is = body_at routines n r (omega arith) is
 
 pub total_grows : (fs : List PlainActions) (k n : ℕ) → k < n → total fs k + actions_size (slice_index_or fs k no_action) ≤ total fs n
 total_grows fs k zero below = absurd (omega arith)

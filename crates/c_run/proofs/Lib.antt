@@ -4,5 +4,4 @@ pub mod Branches
 pub mod Declarations
 pub mod Earlier
 pub mod Falls
-pub mod Meant
 pub mod Runs

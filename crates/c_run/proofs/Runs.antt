@@ -1,9 +1,10 @@
 -- How runs go on: from words in code to the next.
-use Rattle.std.proofs.Common.{◌≡◌, ℕ, zero, suc, ◌+◌, ◌<◌, ◌≤◌, Bool, true, false, List, [], ◌∷◌, ◌++◌, length, drop, get_or, slice_index, slice_index_or, refl, ap, sym, ◌∙◌, arith, eq-eqb, ne_eqb, ◌≢◌, if◌then◌else◌, inl, inr}
+use Rattle.std.proofs.Common.{◌≡◌, ℕ, zero, suc, ◌+◌, ◌<◌, ◌≤◌, Bool, true, false, List, length, drop, get_or, slice_index, slice_index_or, refl, ap, sym, ◌∙◌, arith, eq-eqb, ne_eqb, ◌≢◌, if◌then◌else◌, inl, inr}
 use Rattle.std.proofs.lemmas.Bool.{cases_lt}
 use Rattle.std.proofs.lemmas.List.{drop_all}
+use Rattle.tc_word.proofs.Items.{drop_item}
 use Rattle.c_world.specs.Shown.{shown}
-use Rattle.c_world.specs.World.{World, Sending, may_start, with_send, with_overrun}
+use Rattle.c_world.specs.World.{World, Sending, with_overrun}
 use Rattle.c_world.specs.declared.memory.Memory.{Memory}
 use Rattle.c_meaning.specs.declared.ways.Way.{Way}
 use Rattle.c_meaning.specs.declared.ways.Way.TheVariants as way
@@ -11,7 +12,6 @@ use Rattle.c_meaning.specs.declared.actions.Action.{Action}
 use Rattle.c_meaning.specs.Actions.{PlainAction, PlainActions, no_action, action}
 use Rattle.c_meaning.specs.Meaning.{Done, Given, goes_on, then_done, turn_done, turns_done, way_value}
 use Rattle.c_meaning.specs.Shown.{plain_action, actions_of}
-use Rattle.c_meaning.proofs.Parts.{drop_item}
 use Rattle.c_meaning.specs.Resolved.{Serves, action_done, actions_done, serves, routine_given}
 use Rattle.c_meaning.specs.Values.{State}
 use Rattle.c_run.specs.Ran.{state_of, HasDone, HasGiven, GoesOn}
@@ -39,18 +39,6 @@ reaches_first next frame memory sends = record { sends = sends; same = refl }
 
 pub along : (d e : Done) (w : Way) (frame : List ℕ) (memory : Memory) → d ≡ e → HasDone e w frame memory → HasDone d w frame memory
 along d e w frame memory same h = has_done d w frame memory e.state.world.sends (same ∙ h.ends)
-
--- a send changes no word
-pub sent_shown : (core source target count : ℕ) (m : Memory) (sends : List Sending)
-    → with_send core source target count (shown m sends) ≡ shown m (with_send core source target count (shown m sends)).sends
-sent_shown core source target count m sends = by (may_start source target count)
-  where
-    more : List Sending
-    more = sends ++ record { core = core; source = source; target = target; count = count } ∷ []
-
-    by : (b : Bool) → (if b then shown m more else shown m sends) ≡ shown m (if b then shown m more else shown m sends).sends
-    by true = refl
-    by false = refl
 
 -- ---- actions one after another
 

@@ -1,4 +1,4 @@
--- Where a word is set.
+-- For proofs. Where a word is set.
 use Rattle.std.specs.Prelude.{ℕ}
 use Rattle.c_world.specs.World.{with_word}
 use Rattle.c_meaning.specs.Meaning.{with_level}

@@ -1,4 +1,4 @@
--- How large functions are: a run goes from larger to smaller ones.
+-- For proofs. How large functions are: a run goes from larger to smaller ones.
 use Rattle.std.specs.Prelude.{ℕ, zero, suc, ◌+◌, List, slice_index_or}
 use Rattle.c_meaning.specs.Actions.{PlainActions, no_action}
 use Rattle.c_meaning.specs.Sizes.{actions_size}

@@ -1,4 +1,5 @@
--- What is told of a C task at its end: the words of its variables and arrays, and which of them is its output.
+-- To be believed. What is told of a C task at its end: the words of its variables and
+-- arrays, and which of them is its output.
 use Rattle.std.specs.Prelude.{ℕ, zero, suc, ◌+◌, Bool, ◌&&◌, if◌then◌else◌, List, [], ◌∷◌, ◌++◌, Option, None, Some, bytes_eq, codes, is_some}
 use Rattle.c_tree.specs.declared.layout.Slot.{Slot}
 use Rattle.c_tree.specs.declared.units.Global.{Global}

@@ -49,7 +49,8 @@ fn private_words(
 // lays words over others, from one on
 fn lay(words: &mut Vec<u32>, at: usize, over: &[u32])
     requires { at + length over.now ≤ vec_len words.old }
-    ensures words { words.new.items ≡ take at words.old.items ++ (over.now ++ drop (at + length over.now) words.old.items) }
+    ensures words { words.new.items
+        ≡ take at words.old.items ++ (over.now ++ drop (at + length over.now) words.old.items) }
     ensures room { vec_len words.new ≡ vec_len words.old }
 {
     words[at..at + over.len()].copy_from_slice(over);

@@ -24,18 +24,21 @@ use tc_word::{List, OutOfMemory};
 pub struct Outcome {
     /// What `main` gives.
     pub value: u32,
-    /// Whether a loop's condition still held behind its last turn.
+    /// Whether a loop's condition still held after its last turn.
     pub overrun: bool,
     /// The words of each variable and array at the end, by the slots of the layout.
     pub stores: List<List<u32>>,
 }
 
-/// What a program means on its input, where `shared` and `comm` begin with 0. It is `Err` only where an allocation fails.
+/// What a program means on its input, where `shared` and `comm` begin with 0. It is
+/// `Err` only where an allocation fails.
 pub fn mean(alloc: alloc::Global, program: &Checked, input: &[u32]) -> Result<Outcome, OutOfMemory>
     ensures value { IfOk result (λ o. o.value ≡ (meaning (plain program.now.unit) input.now (λ _. 0) (λ _. 0)).value) }
-    ensures overrun { IfOk result (λ o. o.overrun ≡ (meaning (plain program.now.unit) input.now (λ _. 0) (λ _. 0)).world.overrun) }
+    ensures overrun { IfOk result (λ o. o.overrun
+        ≡ (meaning (plain program.now.unit) input.now (λ _. 0) (λ _. 0)).world.overrun) }
     ensures stores { IfOk result (λ o. o.stores
-        ≡ map (told.slot_words (meaning (plain program.now.unit) input.now (λ _. 0) (λ _. 0)).world) program.now.layout) }
+        ≡ map (told.slot_words (meaning (plain program.now.unit) input.now (λ _. 0)
+        (λ _. 0)).world) program.now.layout) }
 {
     names_resolved_once();
     let resolved = resolve(alloc, program)?;
@@ -57,7 +60,9 @@ fn main_given(
 ) -> Result<u32, OutOfMemory>
     requires rooms { rooms memory.old ≡ all_rooms }
     requires number { length resolved.now.routines < 2 ^ 32 }
-    ensures { IfOk result (λ value. HasGiven (numbered (serves (bodies_of resolved.now.routines) (length resolved.now.routines)) resolved.now.main [] (shown memory.old [])) value memory.new) }
+    ensures { IfOk result (λ value. HasGiven
+        (numbered (serves (bodies_of resolved.now.routines) (length resolved.now.routines)) resolved.now.main []
+        (shown memory.old [])) value memory.new) }
 {
     match resolved.main {
         None => Ok(0),
@@ -74,7 +79,8 @@ fn first_called(
 ) -> Result<u32, OutOfMemory>
     requires rooms { rooms memory.old ≡ all_rooms }
     requires number { length routines.now < 2 ^ 32 }
-    ensures { IfOk result (λ value. HasGiven (serves (bodies_of routines.now) (length routines.now) function [] (shown memory.old [])) value memory.new) }
+    ensures { IfOk result (λ value. HasGiven
+        (serves (bodies_of routines.now) (length routines.now) function [] (shown memory.old [])) value memory.new) }
 {
     let mut frames = vec![in alloc; 0; routines.len() * MOST_LEVELS]?;
     let args = Arguments {
@@ -97,7 +103,8 @@ fn stores_of(
     slots: &[Slot],
     memory: &Memory,
 ) -> Result<List<List<u32>>, OutOfMemory>
-    ensures { IfOk result (λ stores. (sends : List Sending) → stores ≡ map (told.slot_words (shown memory.now sends)) slots.now) }
+    ensures { IfOk result (λ stores. (sends : List Sending)
+        → stores ≡ map (told.slot_words (shown memory.now sends)) slots.now) }
 {
     let mut stores = Vec::with_capacity(alloc, slots.len())?;
     for slot in slots {
@@ -108,7 +115,8 @@ fn stores_of(
 
 // the words of one of them
 fn store_of(alloc: alloc::Global, slot: &Slot, memory: &Memory) -> Result<List<u32>, OutOfMemory>
-    ensures { IfOk result (λ words. (sends : List Sending) → words ≡ told.slot_words (shown memory.now sends) slot.now) }
+    ensures { IfOk result (λ words. (sends : List Sending)
+        → words ≡ told.slot_words (shown memory.now sends) slot.now) }
 {
     let array = array_of(slot);
     let mut words = Vec::new(alloc);

@@ -61,7 +61,7 @@ pub fn result_place(target: &Option<Target>, frame: &[u32], memory: &Memory) -> 
 }
 
 /// Sets a word at a place.
-#[tactic(auto, using(c_world::proofs::Words::word_set))]
+#[tactic(auto, using(shared_order::proofs::Words::words_put))]
 pub fn put(place: Place, given: u32, frame: &mut [u32], memory: &mut Memory)
     requires frame { length frame.old ≡ MOST_LEVELS }
     requires rooms { rooms memory.old ≡ all_rooms }

@@ -32,7 +32,8 @@ fn act(
     requires rest { MOST_LEVELS * length routines.now ≤ length rest.old }
     requires rooms { rooms memory.old ≡ all_rooms }
     ensures done { (sends : List Sending) → HasDone
-        (action_done (served_by routines.now) (plain_action action.now) (state_of frame.old memory.old sends)) result frame.new memory.new }
+        (action_done (served_by routines.now) (plain_action action.now)
+        (state_of frame.old memory.old sends)) result frame.new memory.new }
     ensures rooms { rooms memory.new ≡ all_rooms }
 {
     match action {
@@ -71,7 +72,7 @@ fn act(
     }
 }
 
-// a function is called, and what it gives is set, if anything: the place is found behind the call
+// a function is called, and what it gives is set, if anything: the place is found after the call
 #[cycle(run)]
 fn call(
     function: u32,
@@ -87,7 +88,8 @@ fn call(
     requires rooms { rooms memory.old ≡ all_rooms }
     ensures done { (sends : List Sending) → HasDone
         (goes_on (given_done (option_map plain_target target.now) (state_of frame.old memory.old sends)
-        (served_by routines.now function (args_worth (map plain_sp args.now.values) (state_of frame.old memory.old sends))
+        (served_by routines.now function
+        (args_worth (map plain_sp args.now.values) (state_of frame.old memory.old sends))
         (shown memory.old sends)))) result frame.new memory.new }
     ensures rooms { rooms memory.new ≡ all_rooms }
 {
@@ -111,7 +113,8 @@ fn all(
     requires rest { MOST_LEVELS * length routines.now ≤ length rest.old }
     requires rooms { rooms memory.old ≡ all_rooms }
     ensures done { (sends : List Sending) → HasDone
-        (actions_done (served_by routines.now) (actions_of actions.now) (state_of frame.old memory.old sends)) result frame.new memory.new }
+        (actions_done (served_by routines.now) (actions_of actions.now)
+        (state_of frame.old memory.old sends)) result frame.new memory.new }
     ensures rooms { rooms memory.new ≡ all_rooms }
 {
     for action in actions {
@@ -128,9 +131,11 @@ fn all(
 // the first branch whose condition holds
 #[tactic(auto, using(crate::proofs::Branches::here, crate::proofs::Branches::smaller))]
 fn pick<'a>(branches: &'a [Branch], frame: &[u32], memory: &Memory) -> Option<&'a Branch>
-    ensures picked { (sends : List Sending) (g : Serves) (o : State → Done) → branches_done g (branches_of branches.now) o (state_of frame.now memory.now sends)
+    ensures picked { (sends : List Sending) (g : Serves) (o : State → Done)
+        → branches_done g (branches_of branches.now) o (state_of frame.now memory.now sends)
         ≡ picked_done g o (option_copied result) (state_of frame.now memory.now sends) }
-    ensures smaller { IfSome (option_copied result) (λ b. actions_size (actions_of b.body) < branches_size (branches_of branches.now)) }
+    ensures smaller { IfSome (option_copied result) (λ b. actions_size (actions_of b.body)
+        < branches_size (branches_of branches.now)) }
 {
     for branch in branches {
         if value(&branch.condition, frame, memory) != 0 {
@@ -155,7 +160,8 @@ fn choose(
     requires rooms { rooms memory.old ≡ all_rooms }
     ensures done { (sends : List Sending) → HasDone
         (branches_done (served_by routines.now) (branches_of branches.now)
-        (actions_done (served_by routines.now) (actions_of otherwise.now)) (state_of frame.old memory.old sends)) result frame.new memory.new }
+        (actions_done (served_by routines.now) (actions_of otherwise.now))
+        (state_of frame.old memory.old sends)) result frame.new memory.new }
     ensures rooms { rooms memory.new ≡ all_rooms }
 {
     match pick(branches, frame, memory) {
@@ -178,7 +184,8 @@ fn turn(
     requires rest { MOST_LEVELS * length routines.now ≤ length rest.old }
     requires rooms { rooms memory.old ≡ all_rooms }
     ensures turned { (sends : List Sending) → HasTurned (step_done (option_map plain_assignment next.now))
-        (actions_done (served_by routines.now) (actions_of body.now) (state_of frame.old memory.old sends)) result frame.new memory.new }
+        (actions_done (served_by routines.now) (actions_of body.now)
+        (state_of frame.old memory.old sends)) result frame.new memory.new }
     ensures rooms { rooms memory.new ≡ all_rooms }
 {
     match all(body, routines, frame, rest, memory) {
@@ -212,7 +219,8 @@ fn turns(
     requires rooms { rooms memory.old ≡ all_rooms }
     ensures done { (sends : List Sending) → HasDone
         (turns_done (holds (plain_sp condition.now)) (actions_done (served_by routines.now) (actions_of body.now))
-        (step_done (option_map plain_assignment next.now)) max (state_of frame.old memory.old sends)) result frame.new memory.new }
+        (step_done (option_map plain_assignment next.now)) max
+        (state_of frame.old memory.old sends)) result frame.new memory.new }
     ensures rooms { rooms memory.new ≡ all_rooms }
 {
     for _turned in 0..max {
@@ -242,7 +250,8 @@ fn served(
     requires rest { MOST_LEVELS * length routines.now ≤ length rest.old }
     requires rooms { rooms memory.old ≡ all_rooms }
     ensures given { (sends : List Sending) → HasGiven
-        (served_by routines.now function (args_worth (map plain_sp args.now.values) (state_of frame.now memory.old sends)) (shown memory.old sends))
+        (served_by routines.now function
+        (args_worth (map plain_sp args.now.values) (state_of frame.now memory.old sends)) (shown memory.old sends))
         result memory.new }
     ensures rooms { rooms memory.new ≡ all_rooms }
 {
@@ -270,7 +279,8 @@ pub fn called(
     requires rest { MOST_LEVELS * known ≤ length rest.old }
     requires rooms { rooms memory.old ≡ all_rooms }
     ensures given { (sends : List Sending) → HasGiven
-        (serves (bodies_of routines.now) known function (args_worth (map plain_sp args.now.values) (state_of frame.now memory.old sends)) (shown memory.old sends))
+        (serves (bodies_of routines.now) known function
+        (args_worth (map plain_sp args.now.values) (state_of frame.now memory.old sends)) (shown memory.old sends))
         result memory.new }
     ensures rooms { rooms memory.new ≡ all_rooms }
 {

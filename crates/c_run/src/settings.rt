@@ -19,7 +19,8 @@ use sp_tree::{SpExpr, value};
 pub fn assign(assignment: &Assignment, frame: &mut [u32], memory: &mut Memory)
     requires frame { length frame.old ≡ MOST_LEVELS }
     requires rooms { rooms memory.old ≡ all_rooms }
-    ensures done { (sends : List Sending) → assignment_done (plain_assignment assignment.now) (state_of frame.old memory.old sends)
+    ensures done { (sends : List Sending)
+        → assignment_done (plain_assignment assignment.now) (state_of frame.old memory.old sends)
         ≡ state_of frame.new memory.new sends }
     ensures rooms { rooms memory.new ≡ all_rooms }
 {
@@ -28,11 +29,12 @@ pub fn assign(assignment: &Assignment, frame: &mut [u32], memory: &mut Memory)
     put(place, given, frame, memory);
 }
 
-/// What is set behind a turn of a loop, if anything.
+/// What is set after a turn of a loop, if anything.
 pub fn step(assignment: &Option<Assignment>, frame: &mut [u32], memory: &mut Memory)
     requires frame { length frame.old ≡ MOST_LEVELS }
     requires rooms { rooms memory.old ≡ all_rooms }
-    ensures done { (sends : List Sending) → step_done (option_map plain_assignment assignment.now) (state_of frame.old memory.old sends)
+    ensures done { (sends : List Sending)
+        → step_done (option_map plain_assignment assignment.now) (state_of frame.old memory.old sends)
         ≡ state_of frame.new memory.new sends }
     ensures rooms { rooms memory.new ≡ all_rooms }
 {
@@ -45,7 +47,8 @@ pub fn step(assignment: &Option<Assignment>, frame: &mut [u32], memory: &mut Mem
 // the word of an argument; 0 where there is none
 #[tactic(auto, using(crate::proofs::Arguments::worth_at, crate::proofs::Arguments::worth_past))]
 fn argument(args: &[SpExpr], number: usize, frame: &[u32], memory: &Memory) -> u32
-    ensures { (sends : List Sending) → result ≡ slice_index (args_worth (map plain_sp args.now) (state_of frame.now memory.now sends)) number }
+    ensures { (sends : List Sending)
+        → result ≡ slice_index (args_worth (map plain_sp args.now) (state_of frame.now memory.now sends)) number }
 {
     if number < args.len() {
         value(&args[number], frame, memory)
@@ -54,10 +57,11 @@ fn argument(args: &[SpExpr], number: usize, frame: &[u32], memory: &Memory) -> u
     }
 }
 
-/// The words of a function's own frame: its arguments, and 0 behind them.
+/// The words of a function's own frame: its arguments, and 0 after them.
 pub fn pass(args: &[SpExpr], frame: &[u32], own: &mut [u32], memory: &Memory)
     requires { length args.now ≤ length own.old }
-    ensures { (sends : List Sending) → slice_index own.new ≡ slice_index (args_worth (map plain_sp args.now) (state_of frame.now memory.now sends)) }
+    ensures { (sends : List Sending)
+        → slice_index own.new ≡ slice_index (args_worth (map plain_sp args.now) (state_of frame.now memory.now sends)) }
 {
     for number in 0..own.len() {
         own[number] = argument(args, number, frame, memory);

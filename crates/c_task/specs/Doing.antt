@@ -1,4 +1,4 @@
--- What a core does that runs an image apart from the others, whatever words are put in and read.
+-- To be believed. What a core does that runs an image apart from the others, whatever words are put in and read.
 use Rattle.std.specs.Prelude.{◌≡◌, ℕ, ◌≤◌, List}
 use Rattle.slot_arbiter.specs.declared.place.Place.{Place}
 use Rattle.shared_order.specs.Words.{Sees}
@@ -13,24 +13,31 @@ use Rattle.task_machine.specs.Told.{HasTimes}
 use Rattle.c_task.specs.Programs.{HasProgramMeaning, Touches}
 use Rattle.c_task.specs.Translation.{IsWorld, translation, times}
 
--- its transactions below each cycle are those of the program's times, it runs until their end, and is done from there on
+-- its transactions below each cycle are those of the program's times, it runs
+-- until their end, and is done from there on
 abbrev pub KeepsTimes : List PlainItem → Place → Parts → Type 0
 KeepsTimes items place image =
-    (input values : List ℕ) → AreGiven input values → (cycles : ℕ) → HasTimes (translation items).tree place cycles (apart_at place image input values cycles).core
+    (input values : List ℕ) → AreGiven input values → (cycles : ℕ)
+    → HasTimes (translation items).tree place cycles (apart_at place image input values cycles).core
 
 -- no check stops it
 abbrev pub NeverTraps : Place → Parts → Type 0
 NeverTraps place image =
-    (input values : List ℕ) → AreGiven input values → (cycles : ℕ) (fault : Trap) (at : ℕ) → state_at cycles (apart_at place image input values cycles).core.plain ≡ Trapped fault at → ⊥
+    (input values : List ℕ) → AreGiven input values → (cycles : ℕ) (fault : Trap) (at : ℕ)
+    → state_at cycles (apart_at place image input values cycles).core.plain ≡ Trapped fault at → ⊥
 
--- from its end on it has the value, the flag, the words and the transfers that the program's text comes to from a world, where
--- each of the task's own loads of a word that others reach gives its own last store there, else the world's word
+-- from its end on it has the value, the flag, the words and the transfers that the program's text
+-- comes to from a world, where each of the task's own loads of a word that others reach gives its
+-- own last store there, else the world's word
 abbrev pub ComesToMeaning : List PlainItem → Place → Parts → Type 0
 ComesToMeaning items place image =
-    (input values : List ℕ) (world : ℕ → ℕ) → AreGiven input values → IsWorld world → (cycles : ℕ) → (times place items).end ≤ cycles
+    (input values : List ℕ) (world : ℕ → ℕ) → AreGiven input values → IsWorld world → (cycles : ℕ)
+    → (times place items).end ≤ cycles
     → Sees world (own_operations place image input values cycles)
-    → HasProgramMeaning items place input world cycles (own_operations place image input values cycles) (apart_at place image input values cycles).core
+    → HasProgramMeaning items place input world cycles (own_operations place image input values cycles)
+    (apart_at place image input values cycles).core
 
 -- of the words that others reach, and of the cores, it touches only those that the program's text mentions
 abbrev pub TouchesMentioned : List PlainItem → Place → Parts → Type 0
-TouchesMentioned items place image = (input values : List ℕ) → AreGiven input values → (cycles : ℕ) → Touches items place image input values cycles
+TouchesMentioned items place image =
+    (input values : List ℕ) → AreGiven input values → (cycles : ℕ) → Touches items place image input values cycles

@@ -1,5 +1,5 @@
--- What a C program becomes, and how long that takes on a core. What it becomes hangs on the program alone, its times and its
--- bound on the program and the core's place.
+-- To be believed. What a C program becomes, and how long that takes on a core. What it becomes hangs on the program
+-- alone, its times and its bound on the program and the core's place.
 use Rattle.std.specs.Prelude.{ℕ, ◌^◌, ◌<◌, List}
 use Rattle.slot_arbiter.specs.declared.place.Place.{Place}
 use Rattle.c_tree.specs.Plain.{PlainItem}

@@ -48,7 +48,7 @@ unfolding stmt_tokens block_tokens hidden-the_row-Stmt-0 hidden
 row_tokens [] = refl
 row_tokens (s ∷ body) = ap (λ ts. stmt_tokens s ++ ts) (row_tokens body)
 
--- arms, and each but the first behind `else`
+-- arms, and each but the first after `else`
 abbrev pub tokens_of_further : List Arm → List Token
 tokens_of_further [] = []
 tokens_of_further (a ∷ arms) = word keyword.Else ∷ (arm_tokens a.condition (body_tokens a.body) ++ tokens_of_further arms)

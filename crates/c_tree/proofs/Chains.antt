@@ -17,7 +17,7 @@ abbrev pub tokens_of_steps : List Step → List Token
 tokens_of_steps [] = []
 tokens_of_steps (s ∷ steps) = one (binary_sign s.op) ∷ (expr_tokens s.operand ++ tokens_of_steps steps)
 
--- what a chain has behind its first operand
+-- what a chain has after its first operand
 unfoldable behind : Expr → List Token
 behind (Chain' level p first l rest) = steps_tokens rest
 behind (Unary' ops p of) = []
@@ -52,7 +52,7 @@ pub steps_fit_push : (level : ℕ) (steps : List Step) (s : Step) → AllStepsFi
 steps_fit_push level [] s h a b c = (a, b, c, tt)
 steps_fit_push level (t ∷ steps) s h a b c = (h.0, h.1, h.2, steps_fit_push level steps s h.3 a b c)
 
--- what a chain has behind its first operand fits
+-- what a chain has after its first operand fits
 unfoldable BehindFits : Expr → Type 0
 BehindFits (Chain' level p first l rest) = StepsFit level rest
 BehindFits (Unary' ops p of) = ⊤

@@ -4,3 +4,4 @@ pub mod Faultless
 pub mod Leasts
 pub mod Plains
 pub mod Sizes
+pub mod StmtSizes

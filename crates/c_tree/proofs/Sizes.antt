@@ -24,10 +24,10 @@ use Rattle.c_tree.specs.Plain.{plain_expr, plain_steps, plain_right, plain_head,
 use Rattle.c_tree.specs.Tokens.{one, unary_sign, word, expr_tokens, steps_tokens, args_tokens, call_tokens, right_tokens, kind_tokens, assigned_tokens, bound_tokens, head_tokens, arm_tokens, braced, ended, stmt_tokens, block_tokens, arms_tokens, further_tokens, otherwise_tokens, body_tokens, gives_tokens, parameters_tokens, item_tokens, items_tokens, tokens_of}
 use Rattle.c_tree.specs.Sizes.{expr_size, steps_size, argument_size, call_size, right_size, bound_size, head_size, stmt_size, block_size, arms_size, further_size, otherwise_size, list_size, item_size}
 
-braced_size : (ts : List Token) → length (braced ts) ≡ 2 + length ts
+pub braced_size : (ts : List Token) → length (braced ts) ≡ 2 + length ts
 braced_size ts = simp length-append (omega arith)
 
-ended_size : (ts : List Token) → length (ended ts) ≡ length ts + 1
+pub ended_size : (ts : List Token) → length (ended ts) ≡ length ts + 1
 ended_size ts = simp length-append (omega arith)
 
 -- ---- expressions
@@ -49,7 +49,7 @@ mutual
   size_of_steps end_of-Step = refl
   size_of_steps (more_of-Step op operand rest) = omega (arith, length-append (expr_tokens operand) (steps_tokens rest), size_of_expr operand, size_of_steps rest)
 
--- arguments, with one token behind each
+-- arguments, with one token after each
 size_of_args : (e : Expr) (args : List Expr) → length (args_tokens (e ∷ args)) + 1 ≡ sum_by argument_size (map plain_expr (e ∷ args))
 size_of_args e [] = omega (arith, size_of_expr e) ∙ sym (sum_by-cons argument_size (plain_expr e) [])
 size_of_args e (f ∷ args) =

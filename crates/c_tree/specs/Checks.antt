@@ -1,4 +1,5 @@
--- The faults of a program's parts, each with its place: the number of tokens before it (our subset of C99 6.5 to 6.9).
+-- To be believed. The faults of a program's parts, each with its place: the number of tokens
+-- before it (our subset of C99 6.5 to 6.9).
 use Rattle.std.specs.Prelude.{ℕ, ◌==◌, ◌+◌, nat_lt, Bool, true, false, not, ◌&&◌, ◌||◌, List, [], ◌∷◌, ◌++◌, length, Option, None, Some}
 use Rattle.c_tree.specs.declared.checks.CheckFault.TheVariants as fault
 use Rattle.c_tree.specs.declared.checks.Fault.{Fault}
@@ -50,7 +51,8 @@ callee_faults is_right at arguments (Some m) = meant_faults is_right at argument
 
 unfoldable mutual
   pub expr_faults : List Named → ℕ → PlainExpr → List Fault
-  expr_faults names at (chain level first rest) = expr_faults names at first ++ steps_faults names (at + expr_size first) rest
+  expr_faults names at (chain level first rest) =
+      expr_faults names at first ++ steps_faults names (at + expr_size first) rest
   expr_faults names at (unary ops of) = expr_faults names (at + length ops) of
   expr_faults names at (number n unsigned) = []
   expr_faults names at (name text) = scalar_faults names at text
@@ -67,7 +69,7 @@ unfoldable mutual
 abbrev pub whole_faults : List Named → ℕ → PlainExpr → List Fault
 whole_faults names at e = where_so (nat_lt MOST_DEPTH (expr_depth e)) at fault.Deep ++ expr_faults names at e
 
--- arguments, each with one token behind it
+-- arguments, each with one token after it
 abbrev pub args_faults : List Named → ℕ → List PlainExpr → List Fault
 args_faults names at [] = []
 args_faults names at (e ∷ args) = whole_faults names at e ++ args_faults names (at + argument_size e) args
@@ -89,7 +91,7 @@ opened w open_names = record w { outer = open_names }
 abbrev pub looped : Within → ℕ → Within
 looped w open_names = record w { in_loop = true; outer = open_names }
 
--- the names behind a statement
+-- the names after a statement
 abbrev pub after : List Named → PlainStmt → List Named
 after names (declares kind text r) = declared names text meaning.Scalar
 after names _ = names
@@ -102,7 +104,8 @@ twice_faults outer names at text = where_so (is_declared text outer names) at fa
 abbrev pub declare_faults : ℕ → List Named → ℕ → Kind → List ℕ → Option PlainRight → List Fault
 declare_faults outer names at kind text None = twice_faults outer names (at + kind_size kind) text
 declare_faults outer names at kind text (Some r) =
-    twice_faults outer names (at + kind_size kind) text ++ right_faults (declared names text meaning.Scalar) (at + kind_size kind + 2) r
+    twice_faults outer names (at + kind_size kind) text
+    ++ right_faults (declared names text meaning.Scalar) (at + kind_size kind + 2) r
 
 -- a variable and what it is set to
 abbrev pub set_faults : List Named → ℕ → List ℕ → PlainRight → List Fault
@@ -111,7 +114,8 @@ set_faults names at text r = scalar_faults names at text ++ right_faults names (
 -- an element and what it is set to
 abbrev pub set_element_faults : List Named → ℕ → List ℕ → PlainExpr → PlainRight → List Fault
 set_element_faults names at text index r =
-    array_faults names at text ++ (whole_faults names (at + 2) index ++ right_faults names (at + 2 + expr_size index + 2) r)
+    array_faults names at text ++ (whole_faults names (at + 2) index
+    ++ right_faults names (at + 2 + expr_size index + 2) r)
 
 -- a variable that a `for` sets to an expression
 abbrev pub assigned_faults : List Named → ℕ → List ℕ → PlainExpr → List Fault
@@ -128,14 +132,16 @@ head_faults names at (turns_while condition) = whole_faults names (at + 2) condi
 head_faults names at (turns_for first from condition next to) =
     let second = at + 2 + 2 + expr_size from + 1 in
     let third = second + expr_size condition + 1 in
-    assigned_faults names (at + 2) first from ++ (whole_faults names second condition ++ assigned_faults names third next to)
+    assigned_faults names (at + 2) first from
+    ++ (whole_faults names second condition ++ assigned_faults names third next to)
 
 -- the core of a send is one of the platform's cores, and not the own
 abbrev pub target_faults : ℕ → ℕ → ℕ → ℕ → List Fault
 target_faults cores own at core = where_so (not (nat_lt core cores) || core == own) at fault.Target
 
 abbrev pub send_faults : ℕ → ℕ → List Named → ℕ → ℕ → PlainExpr → PlainExpr → PlainExpr → List Fault
-send_faults cores own names at core source target count = target_faults cores own (at + 2) core ++ args_faults names (at + 2 + 2) (source ∷ target ∷ count ∷ [])
+send_faults cores own names at core source target count =
+    target_faults cores own (at + 2) core ++ args_faults names (at + 2 + 2) (source ∷ target ∷ count ∷ [])
 
 -- `return` with or without a value
 abbrev pub return_faults : Bool → List Named → ℕ → Option PlainExpr → List Fault
@@ -148,8 +154,10 @@ unfoldable mutual
   stmt_faults w names at (set text r) = set_faults names at text r
   stmt_faults w names at (set_element text index r) = set_element_faults names at text index r
   stmt_faults w names at (called text args) = call_faults false names at text args
-  stmt_faults w names at (sent core core_unsigned source target count) = send_faults w.cores w.own names at core source target count
-  stmt_faults w names at (chosen arms otherwise) = arms_faults w names at arms ++ otherwise_faults w names (at + arms_size arms) otherwise
+  stmt_faults w names at (sent core core_unsigned source target count) =
+      send_faults w.cores w.own names at core source target count
+  stmt_faults w names at (chosen arms otherwise) =
+      arms_faults w names at arms ++ otherwise_faults w names (at + arms_size arms) otherwise
   stmt_faults w names at (loops bound head body) =
       bound_faults at bound ++ (head_faults names (at + bound_size bound) head
       ++ block_faults (looped w (length names)) names (at + bound_size bound + head_size head + 1) body)
@@ -161,13 +169,15 @@ unfoldable mutual
   -- statements one after another, from the first token of the first
   pub block_faults : Within → List Named → ℕ → PlainBlock → List Fault
   block_faults w names at no_stmt = []
-  block_faults w names at (stmt s rest) = stmt_faults w names at s ++ block_faults w (after names s) (at + stmt_size s) rest
+  block_faults w names at (stmt s rest) =
+      stmt_faults w names at s ++ block_faults w (after names s) (at + stmt_size s) rest
 
   -- arms, from the first one's `if`; `else` stands before the next
   pub arms_faults : Within → List Named → ℕ → PlainArms → List Fault
   arms_faults w names at no_arm = []
   arms_faults w names at (arm condition body rest) =
-      (whole_faults names (at + 2) condition ++ block_faults (opened w (length names)) names (at + 2 + expr_size condition + 2) body)
+      (whole_faults names (at + 2) condition
+      ++ block_faults (opened w (length names)) names (at + 2 + expr_size condition + 2) body)
       ++ arms_faults w names (at + (expr_size condition + block_size body + 5 + 1)) rest
 
   pub otherwise_faults : Within → List Named → ℕ → PlainOtherwise → List Fault

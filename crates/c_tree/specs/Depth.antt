@@ -1,4 +1,5 @@
--- How deep an expression is (our subset): how many operands wait at once, at most, while it is evaluated.
+-- To be believed. How deep an expression is (our subset): how many operands wait at
+-- once, at most, while it is evaluated.
 use Rattle.std.specs.Prelude.{ℕ, ◌+◌, max}
 use Rattle.c_tree.specs.Plain.{PlainExpr, PlainSteps, chain, unary, number, name, element, paren, no_step, step}
 

@@ -1,4 +1,5 @@
--- Which trees fit our subset: the grammar with its levels of operators, and a limit of brackets open at once.
+-- To be believed. Which trees fit our subset: the grammar with its levels of
+-- operators, and a limit of brackets open at once.
 use Rattle.std.specs.Prelude.{◌≡◌, ℕ, ◌+◌, ◌-◌, ◌≤◌, max, IsTrue, List, [], ◌∷◌, length, None, Some, IfSome, ⊤}
 use Rattle.std.specs.List.{AllByRecursion as Each}
 use Rattle.c_tree.specs.declared.limits.TheConstants.{MOST_BRACKETS}
@@ -62,7 +63,8 @@ has_step (more_of-Step op operand rest) = ⊤
 
 unfoldable mutual
   pub ExprFits : Expr → Type 0
-  ExprFits (Chain' level p first l rest) = (1 ≤ level) × (level ≤ 10) × has_step rest × (level + 1 ≤ rank first) × ExprFits first × StepsFit level rest
+  ExprFits (Chain' level p first l rest) =
+      (1 ≤ level) × (level ≤ 10) × has_step rest × (level + 1 ≤ rank first) × ExprFits first × StepsFit level rest
   ExprFits (Unary' ops p of) = (1 ≤ length ops) × (12 ≤ rank of) × ExprFits of
   ExprFits (Number value unsigned) = ⊤
   ExprFits (Name name) = ⊤
@@ -72,7 +74,8 @@ unfoldable mutual
   -- operators of one level, with operands of a greater rank
   pub StepsFit : ℕ → {n : _} → Row_of-Step n → Type 0
   StepsFit level end_of-Step = ⊤
-  StepsFit level (more_of-Step op operand rest) = (level_of op ≡ level) × (level + 1 ≤ rank operand) × ExprFits operand × StepsFit level rest
+  StepsFit level (more_of-Step op operand rest) =
+      (level_of op ≡ level) × (level + 1 ≤ rank operand) × ExprFits operand × StepsFit level rest
 
 abbrev pub RightFits : Right → Type 0
 RightFits r = elim r [

@@ -1,5 +1,5 @@
--- The words that a function keeps on the stack (our subset): those that compiled code keeps besides, one for each
--- parameter and each declared variable, two for each loop, and one for each arm of an `if`.
+-- To be believed. The words that a function keeps on the stack (our subset): those that compiled code keeps besides,
+-- one for each parameter and each declared variable, two for each loop, and one for each arm of an `if`.
 use Rattle.std.specs.Prelude.{ℕ, ◌+◌, List, length, sum_by}
 use Rattle.c_tree.specs.declared.limits.TheConstants.{WORDS_BESIDES}
 use Rattle.c_tree.specs.declared.units.Parameter.{Parameter}

@@ -1,6 +1,6 @@
--- Where a program's variables and arrays stand, and what they begin with (our subset): those in private memory from
--- its first data word on and those in the scratchpad from word 0 on, in the order of their declarations; then the words
--- that all cores share, and the core's communication memory.
+-- To be believed. Where a program's variables and arrays stand, and what they begin with (our subset): those in private
+-- memory from its first data word on and those in the scratchpad from word 0 on, in the order of their declarations;
+-- then the words that all cores share, and the core's communication memory.
 use Rattle.std.specs.Prelude.{ℕ, ◌+◌, ◌-◌, ◌%◌, ◌^◌, Bool, true, false, not, ◌&&◌, if◌then◌else◌, List, [], ◌∷◌, ◌++◌, length, map, replicate, is_some, bytes_eq, codes}
 use Rattle.local_store.specs.declared.map.Cell.TheVariants as cell
 use Rattle.local_store.specs.declared.map.TheConstants.{COMM_WORDS, SHARED_WORDS}
@@ -50,7 +50,7 @@ layout_of items = slots_from FIRST_DATA_WORD 0 items
 abbrev pub const_word : Const → ℕ
 const_word k = if k.negative then (2 ^ 32 - k.value) % 2 ^ 32 else k.value
 
--- the first values, and 0 behind them
+-- the first values, and 0 after them
 abbrev pub first_words : Global → List ℕ
 first_words g = map const_word g.initial ++ replicate (words_of g - length g.initial) 0
 
@@ -81,7 +81,8 @@ takes_input (function its_kind text void_word parameters body) = false
 abbrev pub input_from : ℕ → List PlainItem → Input
 input_from private [] = record { at = FIRST_DATA_WORD; room = 0 }
 input_from private (i ∷ items) =
-    if takes_input i then record { at = private; room = item_words false i } else input_from (private + item_words false i) items
+    if takes_input i then record { at = private; room = item_words false i }
+    else input_from (private + item_words false i) items
 
 abbrev pub input_of : List PlainItem → Input
 input_of items = input_from FIRST_DATA_WORD items

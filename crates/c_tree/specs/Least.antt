@@ -1,4 +1,4 @@
--- The order of faults, and the least of a list (our subset).
+-- To be believed. The order of faults, and the least of a list (our subset).
 use Rattle.std.specs.Prelude.{ℕ, ◌==◌, nat_lt, ◌&&◌, ◌||◌, Bool, if◌then◌else◌, List, [], ◌∷◌, Option, None, Some}
 use Rattle.c_tree.specs.declared.checks.CheckFault.{CheckFault}
 use Rattle.c_tree.specs.declared.checks.CheckFault.TheVariants as fault

@@ -1,4 +1,4 @@
--- Names and their scopes (C99 6.2.1): the list of the names that are open, innermost last.
+-- To be believed. Names and their scopes (C99 6.2.1): the list of the names that are open, innermost last.
 use Rattle.std.specs.Prelude.{ℕ, Bool, if◌then◌else◌, List, [], ◌∷◌, ◌++◌, drop, Option, None, Some, is_some, bytes_eq, codes}
 use Rattle.std.specs.Option.{option_or}
 use Rattle.c_tree.specs.declared.checks.Meaning.{Meaning}
@@ -24,4 +24,5 @@ declared names name means = names ++ record { name = name; means = means } ∷ [
 
 -- what is declared before the text: the words that all cores share, and the core's communication memory
 abbrev pub given : List Named
-given = record { name = codes "shared"; means = meaning.Array } ∷ record { name = codes "comm"; means = meaning.Array } ∷ []
+given =
+    record { name = codes "shared"; means = meaning.Array } ∷ record { name = codes "comm"; means = meaning.Array } ∷ []

@@ -1,4 +1,4 @@
--- Which tokens are a program, and where tokens that are none go wrong.
+-- To be believed. Which tokens are a program, and where tokens that are none go wrong.
 use Rattle.std.specs.Prelude.{◌≡◌, ℕ, ◌≤◌, List, ◌++◌, length, take}
 use Rattle.c_tree.specs.declared.tokens.Token.{Token}
 use Rattle.c_tree.specs.declared.units.Unit.{Unit as Program}
@@ -11,7 +11,7 @@ pub record IsProgram (ts : List Token) : Type 0 where
   pub fits : Fits tree
   pub written : tokens_of tree ≡ ts
 
--- The tokens can go on: a tree that fits the grammar begins with them, however many brackets it opens behind them,
+-- The tokens can go on: a tree that fits the grammar begins with them, however many brackets it opens after them,
 -- and they themselves open no more at once than may be.
 pub record CanGoOn (ts : List Token) : Type 0 where
   pub tree : Program

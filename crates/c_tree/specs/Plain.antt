@@ -1,4 +1,4 @@
--- A tree without the places of its boxes in memory: all that is written, and no more.
+-- To be believed. A tree without the places of its boxes in memory: all that is written, and no more.
 use Rattle.std.specs.Prelude.{ℕ, Bool, List, map, Option, option_map}
 use Rattle.c_tree.specs.declared.expressions.UnaryOp.{UnaryOp}
 use Rattle.c_tree.specs.declared.expressions.BinaryOp.{BinaryOp}
@@ -65,7 +65,8 @@ pub data PlainHead : Type 0 where
 abbrev pub plain_head : Head → PlainHead
 plain_head h = elim h [
   | head.While condition ↦ turns_while (plain_expr condition)
-  | head.For first from condition to_set to ↦ turns_for first (plain_expr from) (plain_expr condition) to_set (plain_expr to)
+  | head.For first from condition to_set to ↦ turns_for first (plain_expr from) (plain_expr condition) to_set
+      (plain_expr to)
 ]
 
 mutual
@@ -100,7 +101,8 @@ unfoldable mutual
   plain_stmt (Set text r) = set text (plain_right r)
   plain_stmt (SetElement text index r) = set_element text (plain_expr index) (plain_right r)
   plain_stmt (Call text args) = called text (map plain_expr args)
-  plain_stmt (Send core core_unsigned source target count) = sent core core_unsigned (plain_expr source) (plain_expr target) (plain_expr count)
+  plain_stmt (Send core core_unsigned source target count) =
+      sent core core_unsigned (plain_expr source) (plain_expr target) (plain_expr count)
   plain_stmt (If' l arms otherwise) = chosen (plain_arms arms) (plain_otherwise otherwise)
   plain_stmt (Loop' bound h l body) = looped bound (plain_head h) (plain_block body)
   plain_stmt Break = broken

@@ -1,4 +1,4 @@
--- Readings of tokens as trees.
+-- To be believed. Readings of tokens as trees.
 use Rattle.std.specs.Prelude.{◌≡◌, List}
 use Rattle.c_tree.specs.declared.tokens.Token.{Token}
 use Rattle.c_tree.specs.Places.{IsProgram}

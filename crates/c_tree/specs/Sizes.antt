@@ -1,4 +1,4 @@
--- How many tokens a part has. Its place is the number of the tokens before it.
+-- To be believed. How many tokens a part has. Its place is the number of the tokens before it.
 use Rattle.std.specs.Prelude.{ℕ, ◌+◌, List, [], ◌∷◌, length, sum_by, Option, None, Some, Bool, if◌then◌else◌}
 use Rattle.c_tree.specs.declared.statements.Bound.{Bound}
 use Rattle.c_tree.specs.declared.statements.Kind.{Kind}
@@ -10,7 +10,7 @@ use Rattle.c_tree.specs.Tokens.{kind_tokens, const_tokens, global_tokens, gives_
 abbrev pub kind_size : Kind → ℕ
 kind_size k = length (kind_tokens k)
 
--- a parameter, or a constant of a list, and the token behind it: a comma, or what closes the list
+-- a parameter, or a constant of a list, and the token after it: a comma, or what closes the list
 abbrev pub parameter_size : Parameter → ℕ
 parameter_size p = kind_size p.kind + 2
 
@@ -30,7 +30,7 @@ unfoldable mutual
   steps_size no_step = 0
   steps_size (step op operand rest) = 1 + expr_size operand + steps_size rest
 
--- each argument has one token behind it; a call without any has three tokens
+-- each argument has one token after it; a call without any has three tokens
 abbrev pub argument_size : PlainExpr → ℕ
 argument_size e = expr_size e + 1
 
@@ -70,7 +70,7 @@ unfoldable mutual
   block_size no_stmt = 0
   block_size (stmt s rest) = stmt_size s + block_size rest
 
-  -- the first arm, and each further one behind `else`
+  -- the first arm, and each further one after `else`
   pub arms_size : PlainArms → ℕ
   arms_size no_arm = 0
   arms_size (arm condition body rest) = expr_size condition + block_size body + 5 + further_size rest

@@ -1,4 +1,4 @@
--- Small programs to show the definitions on.
+-- For worked rows. Small programs to show the definitions on.
 use Rattle.std.specs.Prelude.{ℕ, Bool, false, List, [], None, Some}
 use Rattle.c_tree.specs.declared.statements.Kind.TheVariants as kind
 use Rattle.c_tree.specs.declared.units.Const.{Const}
@@ -17,11 +17,19 @@ parameter_of name = record { kind = kind.Int; name = name }
 
 -- `int NAME;`, `int NAME[LENGTH];`, and the same in the scratchpad, each with these first values
 abbrev pub variable_of : Bool → List ℕ → List Const → PlainItem
-variable_of scratch name initial = global (record { scratch = scratch; kind = kind.Int; name = name; length = None; initial = initial })
+variable_of scratch name initial =
+    global (record { scratch = scratch; kind = kind.Int; name = name; length = None; initial = initial })
 
 abbrev pub array_of : Bool → List ℕ → ℕ → List Const → PlainItem
 array_of scratch name length initial =
-    global (record { scratch = scratch; kind = kind.Int; name = name; length = Some (record { value = length; unsigned = false }); initial = initial })
+    global (record {
+      scratch = scratch;
+      kind = kind.Int;
+      name = name;
+      length = Some
+          (record { value = length; unsigned = false });
+      initial = initial;
+    })
 
 abbrev pub const_of : ℕ → Const
 const_of value = record { negative = false; value = value; unsigned = false }

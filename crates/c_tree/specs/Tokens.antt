@@ -1,4 +1,4 @@
--- The tokens of a tree, as it is written.
+-- To be believed. The tokens of a tree, as it is written.
 use Rattle.std.specs.Prelude.{ℕ, List, [], ◌∷◌, ◌++◌, map, Option, None, Some, if◌then◌else◌}
 use Rattle.c_tree.specs.declared.tokens.Token.{Token}
 use Rattle.c_tree.specs.declared.tokens.Token.TheVariants as token
@@ -72,14 +72,15 @@ binary_sign op = elim op [
 
 -- ---- expressions
 
--- The children in a list stand in a row. Behind each box its place in memory comes first, which says nothing.
+-- The children in a list stand in a row. After each box its place in memory comes first, which says nothing.
 unfoldable mutual
   pub expr_tokens : Expr → List Token
   expr_tokens (Chain' level p first l rest) = expr_tokens first ++ steps_tokens rest
   expr_tokens (Unary' ops p of) = map (λ op. one (unary_sign op)) ops ++ expr_tokens of
   expr_tokens (Number value unsigned) = token.Number value unsigned ∷ []
   expr_tokens (Name name) = token.Word name ∷ []
-  expr_tokens (Element' name p index) = token.Word name ∷ one sign.OpenBracket ∷ (expr_tokens index ++ one sign.CloseBracket ∷ [])
+  expr_tokens (Element' name p index) =
+      token.Word name ∷ one sign.OpenBracket ∷ (expr_tokens index ++ one sign.CloseBracket ∷ [])
   expr_tokens (Paren' p inner) = one sign.OpenParenthesis ∷ (expr_tokens inner ++ one sign.CloseParenthesis ∷ [])
 
   pub steps_tokens : {n : _} → Row_of-Step n → List Token
@@ -94,7 +95,8 @@ args_tokens (e ∷ f ∷ args) = expr_tokens e ++ one sign.Comma ∷ args_tokens
 
 -- the call of a function
 abbrev pub call_tokens : List ℕ → List Expr → List Token
-call_tokens name args = token.Word name ∷ one sign.OpenParenthesis ∷ (args_tokens args ++ one sign.CloseParenthesis ∷ [])
+call_tokens name args =
+    token.Word name ∷ one sign.OpenParenthesis ∷ (args_tokens args ++ one sign.CloseParenthesis ∷ [])
 
 -- ---- statements
 
@@ -121,16 +123,19 @@ bound_tokens bound = elim bound [ None ↦ [] | Some b ↦ token.Bound b.min b.m
 
 abbrev pub head_tokens : Head → List Token
 head_tokens h = elim h [
-  | head.While condition ↦ word keyword.While ∷ one sign.OpenParenthesis ∷ (expr_tokens condition ++ one sign.CloseParenthesis ∷ [])
+  | head.While condition ↦ word keyword.While ∷ one sign.OpenParenthesis
+      ∷ (expr_tokens condition ++ one sign.CloseParenthesis ∷ [])
   | head.For first from condition step to ↦
-      word keyword.For ∷ one sign.OpenParenthesis ∷ (assigned_tokens first (expr_tokens from) ++ one sign.Semicolon ∷ (expr_tokens condition
+      word keyword.For ∷ one sign.OpenParenthesis
+      ∷ (assigned_tokens first (expr_tokens from) ++ one sign.Semicolon ∷ (expr_tokens condition
       ++ one sign.Semicolon ∷ (assigned_tokens step (expr_tokens to) ++ one sign.CloseParenthesis ∷ [])))
 ]
 
 -- a condition, and under it a block of these
 abbrev pub arm_tokens : Expr → List Token → List Token
 arm_tokens condition body =
-    word keyword.If ∷ one sign.OpenParenthesis ∷ (expr_tokens condition ++ one sign.CloseParenthesis ∷ one sign.OpenBrace ∷ (body ++ one sign.CloseBrace ∷ []))
+    word keyword.If ∷ one sign.OpenParenthesis
+    ∷ (expr_tokens condition ++ one sign.CloseParenthesis ∷ one sign.OpenBrace ∷ (body ++ one sign.CloseBrace ∷ []))
 
 -- these, in braces
 abbrev pub braced : List Token → List Token
@@ -146,10 +151,12 @@ unfoldable mutual
   stmt_tokens (Declare kind name (Some r)) = ended (kind_tokens kind ++ assigned_tokens name (right_tokens r))
   stmt_tokens (Set name r) = ended (assigned_tokens name (right_tokens r))
   stmt_tokens (SetElement name index r) =
-      ended (token.Word name ∷ one sign.OpenBracket ∷ (expr_tokens index ++ one sign.CloseBracket ∷ one sign.Assign ∷ right_tokens r))
+      ended (token.Word name ∷ one sign.OpenBracket
+      ∷ (expr_tokens index ++ one sign.CloseBracket ∷ one sign.Assign ∷ right_tokens r))
   stmt_tokens (Call name args) = ended (call_tokens name args)
   stmt_tokens (Send core core_unsigned source target count) =
-      ended (word keyword.Send ∷ one sign.OpenParenthesis ∷ token.Number core core_unsigned ∷ one sign.Comma ∷ (expr_tokens source ++ one sign.Comma
+      ended (word keyword.Send ∷ one sign.OpenParenthesis ∷ token.Number core core_unsigned ∷ one sign.Comma
+      ∷ (expr_tokens source ++ one sign.Comma
       ∷ (expr_tokens target ++ one sign.Comma ∷ (expr_tokens count ++ one sign.CloseParenthesis ∷ []))))
   stmt_tokens (If' l arms otherwise) = arms_tokens arms ++ otherwise_tokens otherwise
   stmt_tokens (Loop' bound head l body) = bound_tokens bound ++ (head_tokens head ++ braced (block_tokens body))
@@ -164,14 +171,15 @@ unfoldable mutual
   block_tokens end_of-Stmt = []
   block_tokens (more_of-Stmt s rest) = stmt_tokens s ++ block_tokens rest
 
-  -- the first arm, and each further one behind `else`
+  -- the first arm, and each further one after `else`
   pub arms_tokens : {n : _} → Row_of-Arm n → List Token
   arms_tokens end_of-Arm = []
   arms_tokens (more_of-Arm condition l body rest) = arm_tokens condition (block_tokens body) ++ further_tokens rest
 
   pub further_tokens : {n : _} → Row_of-Arm n → List Token
   further_tokens end_of-Arm = []
-  further_tokens (more_of-Arm condition l body rest) = word keyword.Else ∷ (arm_tokens condition (block_tokens body) ++ further_tokens rest)
+  further_tokens (more_of-Arm condition l body rest) =
+      word keyword.Else ∷ (arm_tokens condition (block_tokens body) ++ further_tokens rest)
 
   pub otherwise_tokens : Held-Stmt-If-1 → List Token
   otherwise_tokens None' = []
@@ -223,7 +231,8 @@ gives_tokens k = elim k [ None ↦ word keyword.Void ∷ [] | Some kind ↦ kind
 abbrev pub function_tokens : Function → List Token
 function_tokens f =
     gives_tokens f.kind ++ token.Word f.name ∷ one sign.OpenParenthesis
-    ∷ ((if f.void_word then word keyword.Void ∷ [] else parameters_tokens f.parameters) ++ one sign.CloseParenthesis ∷ braced (body_tokens f.body))
+    ∷ ((if f.void_word then word keyword.Void ∷ [] else parameters_tokens f.parameters)
+    ++ one sign.CloseParenthesis ∷ braced (body_tokens f.body))
 
 abbrev pub item_tokens : Item → List Token
 item_tokens i = elim i [ item.Global global ↦ global_tokens global | item.Function function ↦ function_tokens function ]

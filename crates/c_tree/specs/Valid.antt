@@ -1,4 +1,4 @@
--- Which programs are valid on a core of so many: those without a fault (our subset).
+-- To be believed. Which programs are valid on a core of so many: those without a fault (our subset).
 use Rattle.std.specs.Prelude.{IsTrue, ℕ, ◌==◌, ◌+◌, nat_lt, Bool, true, false, not, ◌&&◌, ◌||◌, if◌then◌else◌, List, [], ◌∷◌, ◌++◌, length, Option, None, Some, is_some, sum_by, bytes_eq, codes}
 use Rattle.std.specs.List.{list_any}
 use Rattle.c_tree.specs.declared.checks.CheckFault.TheVariants as fault
@@ -42,7 +42,7 @@ global_faults names at g =
 abbrev pub function_means : Bool → Option Kind → List Parameter → Meaning
 function_means inside kind parameters = meaning.Function (length parameters) (is_some kind) inside
 
--- parameters, each with one token behind it, where so many names are declared outside of the function
+-- parameters, each with one token after it, where so many names are declared outside of the function
 abbrev pub parameters_faults : ℕ → List Named → ℕ → List Parameter → List Fault
 parameters_faults outer names at [] = []
 parameters_faults outer names at (p ∷ ps) =
@@ -68,22 +68,26 @@ inner_faults cores own names at kind void_word parameters body =
     parameters_faults (length names) names (at + 2) parameters
     ++ body_faults within (with_parameters names parameters) (at + 2 + list_size void_word parameters + 2) body
 
-abbrev pub function_faults : ℕ → ℕ → List Named → ℕ → Option Kind → List ℕ → Bool → List Parameter → List PlainStmt → List Fault
+abbrev pub function_faults : ℕ → ℕ → List Named → ℕ → Option Kind → List ℕ → Bool → List Parameter → List PlainStmt
+    → List Fault
 function_faults cores own names at kind text void_word parameters body =
     let name_at = at + length (gives_tokens kind) in
     named_faults names name_at text parameters body
-    ++ inner_faults cores own (declared names text (function_means true kind parameters)) name_at kind void_word parameters body
+    ++ inner_faults cores own (declared names text
+    (function_means true kind parameters)) name_at kind void_word parameters body
 
 -- ---- units
 
 abbrev pub item_faults : ℕ → ℕ → List Named → ℕ → PlainItem → List Fault
 item_faults cores own names at (global of) = global_faults names at of
-item_faults cores own names at (function its_kind text void_word parameters body) = function_faults cores own names at its_kind text void_word parameters body
+item_faults cores own names at (function its_kind text void_word parameters body) =
+    function_faults cores own names at its_kind text void_word parameters body
 
--- behind a declaration its name is known
+-- after a declaration its name is known
 abbrev pub with_item : List Named → PlainItem → List Named
 with_item names (global of) = declared names of.name (means_of of)
-with_item names (function its_kind text void_word parameters body) = declared names text (function_means false its_kind parameters)
+with_item names (function its_kind text void_word parameters body) =
+    declared names text (function_means false its_kind parameters)
 
 abbrev pub items_faults : ℕ → ℕ → List Named → ℕ → List PlainItem → List Fault
 items_faults cores own names at [] = []
@@ -92,7 +96,8 @@ items_faults cores own names at (i ∷ items) =
 
 -- how many words stand in the scratchpad, or else in private memory
 abbrev pub item_words : Bool → PlainItem → ℕ
-item_words scratch (global of) = if scratch then (if of.scratch then words_of of else 0) else (if of.scratch then 0 else words_of of)
+item_words scratch (global of) =
+    if scratch then (if of.scratch then words_of of else 0) else (if of.scratch then 0 else words_of of)
 item_words scratch (function its_kind text void_word parameters body) = 0
 
 abbrev pub words_in : Bool → List PlainItem → ℕ
@@ -108,7 +113,8 @@ gives_int (Some k) = is_int k
 
 abbrev pub is_main : PlainItem → Bool
 is_main (global of) = false
-is_main (function its_kind text void_word parameters body) = bytes_eq text (codes "main") && (gives_int its_kind && length parameters == 0)
+is_main (function its_kind text void_word parameters body) =
+    bytes_eq text (codes "main") && (gives_int its_kind && length parameters == 0)
 
 abbrev pub has_main : List PlainItem → Bool
 has_main items = list_any is_main items

@@ -1,4 +1,4 @@
--- Weights (our subset): for each part of a program, the most words that its code may take.
+-- To be believed. Weights (our subset): for each part of a program, the most words that its code may take.
 use Rattle.std.specs.Prelude.{ℕ, ◌+◌, ◌*◌, List, length, sum_by, None, Some}
 use Rattle.c_tree.specs.declared.expressions.BinaryOp.{BinaryOp}
 use Rattle.c_tree.specs.declared.expressions.BinaryOp.TheVariants as binary
@@ -36,7 +36,8 @@ right_weight (call text args) = args_weight args
 -- a `for` has its two assignments besides
 abbrev pub head_weight : PlainHead → ℕ
 head_weight (turns_while condition) = 48 + 2 * expr_weight condition
-head_weight (turns_for first from condition next to) = 48 + 2 * expr_weight condition + (12 + expr_weight from) + (12 + expr_weight to)
+head_weight (turns_for first from condition next to) =
+    48 + 2 * expr_weight condition + (12 + expr_weight from) + (12 + expr_weight to)
 
 unfoldable mutual
   pub stmt_weight : PlainStmt → ℕ
@@ -45,7 +46,8 @@ unfoldable mutual
   stmt_weight (set text r) = 12 + right_weight r
   stmt_weight (set_element text index r) = 28 + expr_weight index + right_weight r
   stmt_weight (called text args) = args_weight args
-  stmt_weight (sent core core_unsigned source target count) = 32 + expr_weight source + expr_weight target + expr_weight count
+  stmt_weight (sent core core_unsigned source target count) =
+      32 + expr_weight source + expr_weight target + expr_weight count
   stmt_weight (chosen arms otherwise) = arms_weight arms + otherwise_weight otherwise
   stmt_weight (looped bound head body) = head_weight head + block_weight body
   stmt_weight broken = 16

@@ -16,7 +16,8 @@ pub enum CheckFault {
     BoundRange,
     /// A function calls itself.
     Recursion,
-    /// A function has more than [`crate::MOST_PARAMETERS`] parameters, or a call another number of arguments than parameters.
+    /// A function has more than [`crate::MOST_PARAMETERS`] parameters, or a call
+    /// another number of arguments than parameters.
     Params,
     /// An expression is deeper than [`crate::MOST_DEPTH`].
     Deep,

@@ -35,7 +35,7 @@ pub enum Expr {
     },
 }
 
-/// One more operand of a chain, behind its operator.
+/// One more operand of a chain, after its operator.
 #[derive(Debug, Drop)]
 #[cycle(expression)]
 pub struct Step {

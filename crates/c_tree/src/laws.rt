@@ -16,9 +16,9 @@ pub fn sizes_are_tokens()
     ensures program { (u : Unit) → length (tokens_of u) ≡ sum_by item_size (plain u) }
 {}
 
-/// The limits of the subset, in numbers: words of a frame, those of it that are no variables, levels of variables, weights
-/// of a function and of a task, words of private memory and of the scratchpad, depth of an expression, parameters, turns
-/// and open brackets. A law: it does nothing.
+/// The limits of the subset, in numbers: words of a frame, those of it that are no variables, levels of variables,
+/// weights of a function and of a task, words of private memory and of the scratchpad, depth of an expression,
+/// parameters, turns and open brackets. A law: it does nothing.
 pub fn subset_limits()
     ensures frame { MOST_FRAME_WORDS ≡ 120 }
     ensures besides { WORDS_BESIDES ≡ 24 }

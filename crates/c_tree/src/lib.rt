@@ -8,8 +8,8 @@
 //!
 //! All else is told of plain trees: the place of a part, counted in tokens (`specs/Sizes.antt`, [`sizes_are_tokens`]),
 //! its depth, weight and frame, the faults of a program (`specs/Valid.antt` and the files that it names), and where its
-//! variables and arrays stand (`specs/Layout.antt`). How much a program may have of each, [`subset_limits`] says in numbers.
-//! A [`Checked`] is a program that is valid on its place.
+//! variables and arrays stand (`specs/Layout.antt`). How much a program may have of each, [`subset_limits`] says in
+//! numbers. A [`Checked`] is a program that is valid on its place.
 //!
 //! What its words mean stands in [the glossary](../../../docs/GLOSSARY.md).
 #![tactic(auto)]

@@ -52,22 +52,32 @@ pub fn worked_tokens()
       kind = Kind.UnsignedInt;
       name = codes "a";
       length = Some (record { value = 2; unsigned = false });
-      initial = record { negative = false; value = 1; unsigned = false } ∷ record { negative = true; value = 7; unsigned = false } ∷ [];
+      initial = record { negative = false; value = 1; unsigned = false }
+          ∷ record { negative = true; value = 7; unsigned = false } ∷ [];
     })
-        ≡ word keyword.Scratchpad ∷ word keyword.Unsigned ∷ word keyword.Int ∷ token.Word (codes "a") ∷ one sign.OpenBracket ∷ token.Number 2 false
-        ∷ one sign.CloseBracket ∷ one sign.Assign ∷ one sign.OpenBrace ∷ token.Number 1 false ∷ one sign.Comma ∷ one sign.Minus ∷ token.Number 7 false
+        ≡ word keyword.Scratchpad ∷ word keyword.Unsigned ∷ word keyword.Int ∷ token.Word (codes "a")
+        ∷ one sign.OpenBracket ∷ token.Number 2 false
+        ∷ one sign.CloseBracket ∷ one sign.Assign ∷ one sign.OpenBrace ∷ token.Number 1 false ∷ one sign.Comma
+        ∷ one sign.Minus ∷ token.Number 7 false
         ∷ one sign.CloseBrace ∷ one sign.Semicolon ∷ [] }
-    ensures function { function_tokens (record { kind = None; name = codes "f"; void_word = true; parameters = []; body = Stmt.Return None ∷ [] })
-        ≡ word keyword.Void ∷ token.Word (codes "f") ∷ one sign.OpenParenthesis ∷ word keyword.Void ∷ one sign.CloseParenthesis ∷ one sign.OpenBrace
+    ensures function { function_tokens
+        (record { kind = None; name = codes "f"; void_word = true; parameters = []; body = Stmt.Return None ∷ [] })
+        ≡ word keyword.Void ∷ token.Word (codes "f") ∷ one sign.OpenParenthesis ∷ word keyword.Void
+        ∷ one sign.CloseParenthesis ∷ one sign.OpenBrace
         ∷ word keyword.Return ∷ one sign.Semicolon ∷ one sign.CloseBrace ∷ [] }
     ensures call { stmt_tokens (Stmt.Call (codes "f") (Expr.Number 1 false ∷ Expr.Name (codes "x") ∷ []))
-        ≡ token.Word (codes "f") ∷ one sign.OpenParenthesis ∷ token.Number 1 false ∷ one sign.Comma ∷ token.Word (codes "x") ∷ one sign.CloseParenthesis
+        ≡ token.Word (codes "f") ∷ one sign.OpenParenthesis ∷ token.Number 1 false ∷ one sign.Comma
+        ∷ token.Word (codes "x") ∷ one sign.CloseParenthesis
         ∷ one sign.Semicolon ∷ [] }
-    ensures bounded { stmt_tokens (Stmt.Loop (Some (record { min = 1; max = 2 })) (Head.While (Expr.Number 1 false)) (Stmt.Break ∷ []))
-        ≡ token.Bound 1 2 ∷ word keyword.While ∷ one sign.OpenParenthesis ∷ token.Number 1 false ∷ one sign.CloseParenthesis ∷ one sign.OpenBrace
+    ensures bounded { stmt_tokens (Stmt.Loop (Some (record { min = 1; max = 2 })) (Head.While (Expr.Number 1 false))
+        (Stmt.Break ∷ []))
+        ≡ token.Bound 1 2 ∷ word keyword.While ∷ one sign.OpenParenthesis ∷ token.Number 1 false
+        ∷ one sign.CloseParenthesis ∷ one sign.OpenBrace
         ∷ word keyword.Break ∷ one sign.Semicolon ∷ one sign.CloseBrace ∷ [] }
-    ensures otherwise { stmt_tokens (Stmt.If (record { condition = Expr.Number 1 false; body = Stmt.Continue ∷ [] } ∷ []) (Some []))
-        ≡ word keyword.If ∷ one sign.OpenParenthesis ∷ token.Number 1 false ∷ one sign.CloseParenthesis ∷ one sign.OpenBrace ∷ word keyword.Continue
+    ensures otherwise { stmt_tokens
+        (Stmt.If (record { condition = Expr.Number 1 false; body = Stmt.Continue ∷ [] } ∷ []) (Some []))
+        ≡ word keyword.If ∷ one sign.OpenParenthesis ∷ token.Number 1 false ∷ one sign.CloseParenthesis
+        ∷ one sign.OpenBrace ∷ word keyword.Continue
         ∷ one sign.Semicolon ∷ one sign.CloseBrace ∷ word keyword.Else ∷ one sign.OpenBrace ∷ one sign.CloseBrace ∷ [] }
 {}
 
@@ -77,13 +87,15 @@ pub fn worked_fits()
     ensures equal { level_of BinaryOp.Equal ≡ 6 }
     ensures times { level_of BinaryOp.Times ≡ 10 }
     ensures number { rank (Expr.Number 1 false) ≡ 12 }
-    ensures brackets { most_open 0 (one sign.OpenParenthesis ∷ one sign.OpenBracket ∷ one sign.CloseBracket ∷ one sign.OpenBrace ∷ []) ≡ 2 }
+    ensures brackets { most_open 0 (one sign.OpenParenthesis ∷ one sign.OpenBracket ∷ one sign.CloseBracket
+        ∷ one sign.OpenBrace ∷ []) ≡ 2 }
     ensures two_values { GlobalFits (record {
       scratch = false;
       kind = Kind.Int;
       name = codes "x";
       length = None;
-      initial = record { negative = false; value = 1; unsigned = false } ∷ record { negative = false; value = 2; unsigned = false } ∷ [];
+      initial = record { negative = false; value = 1; unsigned = false }
+          ∷ record { negative = false; value = 2; unsigned = false } ∷ [];
     }) → ⊥ }
     ensures void_and_more { FunctionFits (record {
       kind = None;

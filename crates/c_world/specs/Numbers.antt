@@ -1,5 +1,5 @@
--- What C's operators make of words (C99 6.5). Signed arithmetic wraps, and shifts count modulo 32; quotients by 0 and of
--- the least number by -1 are decided with the words of tc_word.
+-- To be believed. What C's operators make of words (C99 6.5). Signed arithmetic wraps, and shifts count modulo 32;
+-- quotients by 0 and of the least number by -1 are decided with the words of tc_word.
 use Rattle.std.specs.Prelude.{ℕ, ◌+◌, ◌-◌, ◌*◌, ◌%◌, ◌^◌, ◌==◌, Bool, not, if◌then◌else◌}
 
 -- the `int` of a truth, and the truth of a word

@@ -1,4 +1,4 @@
--- The world that memories in code show. The sends that were started before are not kept there.
+-- To be believed. The world that memories in code show. The sends that were started before are not kept there.
 use Rattle.std.specs.Prelude.{ℕ, List, vec_len, slice_index}
 use Rattle.local_store.specs.declared.map.TheConstants.{COMM_WORDS, SHARED_WORDS}
 use Rattle.local_store.specs.declared.store.TheConstants.{SCRATCH_WORDS}

@@ -1,4 +1,5 @@
--- What a C task works on: the words of its memories, the flag of a loop that went past its bound, and its sends.
+-- To be believed. What a C task works on: the words of its memories, the flag of a loop
+-- that went past its bound, and its sends.
 use Rattle.std.specs.Prelude.{ℕ, ◌+◌, nat_le, nat_lt, Bool, false, ◌&&◌, ◌||◌, if◌then◌else◌, List, [], ◌∷◌, ◌++◌}
 use Rattle.shared_order.specs.Words.{put}
 use Rattle.local_store.specs.declared.map.TheConstants.{COMM_WORDS}
@@ -68,7 +69,8 @@ with_overrun held w = record w { overrun = w.overrun || held }
 
 -- a send starts where at least one word, and no more than lie there, lies within either communication memory
 abbrev pub may_start : ℕ → ℕ → ℕ → Bool
-may_start source target count = nat_le 1 count && (nat_le (source + count) COMM_WORDS && nat_le (target + count) COMM_WORDS)
+may_start source target count =
+    nat_le 1 count && (nat_le (source + count) COMM_WORDS && nat_le (target + count) COMM_WORDS)
 
 abbrev pub with_send : ℕ → ℕ → ℕ → ℕ → World → World
 with_send core source target count w =

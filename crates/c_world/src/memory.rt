@@ -47,7 +47,7 @@ impl Memory {
     }
 
     /// The word with this number in a memory; 0 where there is none.
-    #[tactic(auto, using(crate::proofs::Words::past_zero))]
+    #[tactic(auto, using(tc_word::proofs::Items::past_all))]
     pub fn word(&self, region: Region, word: usize) -> u32
         ensures { (sends : List Sending) → result ≡ word_at region word (shown self.now sends) }
     {
@@ -56,10 +56,11 @@ impl Memory {
     }
 
     /// Sets the word with this number in a memory, and no other.
-    #[tactic(auto, using(crate::proofs::Words::word_set))]
+    #[tactic(auto, using(shared_order::proofs::Words::words_put))]
     pub fn set_word(&mut self, region: Region, word: usize, value: u32)
         requires { word < room_in region (rooms self.old) }
-        ensures world { (sends : List Sending) → shown self.new sends ≡ with_word region word value (shown self.old sends) }
+        ensures world { (sends : List Sending)
+            → shown self.new sends ≡ with_word region word value (shown self.old sends) }
         ensures room { rooms self.new ≡ rooms self.old }
     {
         match region {
@@ -93,7 +94,7 @@ impl Memory {
         }
     }
 
-    /// A loop's condition was tested behind its last turn.
+    /// A loop's condition was tested after its last turn.
     pub fn overran(&mut self, held: bool)
         ensures world { (sends : List Sending) → shown self.new sends ≡ with_overrun held (shown self.old sends) }
         ensures room { rooms self.new ≡ rooms self.old }

@@ -14,8 +14,10 @@ pub fn worked_world()
     ensures minus_one { (w : World) → element Region.Shared 0 4096 (2 ^ 32 - 1) w ≡ 0 }
     ensures held { (sends : List Sending) → (with_overrun true (fresh sends)).overrun ≡ true }
     ensures stays { (sends : List Sending) → (with_overrun false (with_overrun true (fresh sends))).overrun ≡ true }
-    ensures one_word { (with_send 3 511 0 1 (fresh [])).sends ≡ record { core = 3; source = 511; target = 0; count = 1 } ∷ [] }
-    ensures all_words { (with_send 3 0 0 512 (fresh [])).sends ≡ record { core = 3; source = 0; target = 0; count = 512 } ∷ [] }
+    ensures one_word { (with_send 3 511 0 1 (fresh [])).sends
+        ≡ record { core = 3; source = 511; target = 0; count = 1 } ∷ [] }
+    ensures all_words { (with_send 3 0 0 512 (fresh [])).sends
+        ≡ record { core = 3; source = 0; target = 0; count = 512 } ∷ [] }
     ensures none { (w : World) → with_send 3 0 0 0 w ≡ w }
     ensures too_many { (w : World) → with_send 3 0 0 513 w ≡ w }
     ensures past_the_source { (w : World) → with_send 3 511 0 2 w ≡ w }

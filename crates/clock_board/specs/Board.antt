@@ -1,4 +1,4 @@
--- What contracts see of a board and of a pass.
+-- To be believed. What contracts see of a board and of a pass.
 use Rattle.std.specs.Prelude.{◌≡◌, ℕ, ◌+◌, ◌<◌, ◌≤◌, List, [], slice_index}
 use Rattle.std.specs.List.{AllByRecursion as Each}
 use Rattle.atomic_table.specs.Seated.{TableId}

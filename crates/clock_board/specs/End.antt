@@ -1,4 +1,4 @@
--- What a board that was closed tells.
+-- To be believed. What a board that was closed tells.
 use Rattle.std.specs.Prelude.{◌≡◌, ℕ, ◌<◌, ◌≤◌, List, ◌++◌, slice_index, Any}
 use Rattle.std.specs.List.{AllByRecursion as Each}
 use Rattle.shared_order.specs.declared.operation.Operation.{Operation}

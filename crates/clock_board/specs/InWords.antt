@@ -1,4 +1,4 @@
--- The rule of the board in words: what holds of it between any two steps.
+-- To be believed. The rule of the board in words: what holds of it between any two steps.
 use Rattle.std.specs.Prelude.{◌≡◌, ◌≢◌, ◌⊎◌, ℕ, ◌+◌, ◌<◌, ◌≤◌, List, [], ◌++◌, length}
 use Rattle.std.specs.List.{AllByRecursion as Each}
 use Rattle.std.specs.List.Sorted.{IsNonDecreasing}

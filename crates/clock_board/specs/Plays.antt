@@ -1,4 +1,4 @@
--- What each step tells the pass that makes it: of its view before, the number found or stored, and
+-- To be believed. What each step tells the pass that makes it: of its view before, the number found or stored, and
 -- its view after.
 use Rattle.std.specs.Prelude.{◌≡◌, ℕ, ◌+◌, ◌<◌, ◌^◌, ◌==◌, List, ◌∷◌, MatchBool}
 use Rattle.atomic_table.specs.Table.{Me}

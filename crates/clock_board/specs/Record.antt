@@ -1,4 +1,4 @@
--- The record of one core: what it has made, published and seen.
+-- To be believed. The record of one core: what it has made, published and seen.
 use Rattle.std.specs.Prelude.{ℕ, ◌-◌, ◌==◌, max, if◌then◌else◌, List, [], ◌∷◌, ◌++◌, length, slice_index}
 use Rattle.shared_order.specs.declared.operation.Operation.{Operation}
 use Rattle.clock_board.specs.declared.known.Look.{Look}

@@ -1,4 +1,4 @@
--- The rule of the board, in the form in which each step keeps it: what holds of the words and of all
+-- To be believed. The rule of the board, in the form in which each step keeps it: what holds of the words and of all
 -- views between any two steps. Core c's clock is word c, its claim word n + c, and shared word w is
 -- word n + n + w.
 use Rattle.std.specs.Prelude.{◌≡◌, ◌≢◌, ℕ, ◌+◌, ◌%◌, ◌==◌, ◌<◌, ◌≤◌, if◌then◌else◌, List, [], ◌++◌, length, slice_index, sum_by}

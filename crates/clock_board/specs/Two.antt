@@ -1,4 +1,4 @@
--- A small course of two cores, for worked values. Core 0 stores 7 in word 5 at stamp 8; core 1 loads
+-- For worked rows. A small course of two cores, for worked values. Core 0 stores 7 in word 5 at stamp 8; core 1 loads
 -- word 5 at stamps 5 and 13, before and after it.
 use Rattle.std.specs.Prelude.{◌≡◌, ℕ, zero, suc, List, [], ◌∷◌}
 use Rattle.shared_order.specs.declared.operation.Operation.{Operation}

@@ -1,4 +1,4 @@
--- What a pass knows: how many cores there are, the course, and the records that it has.
+-- To be believed. What a pass knows: how many cores there are, the course, and the records that it has.
 use Rattle.std.specs.Prelude.{◌≡◌, ◌≢◌, ℕ, ◌<◌, ◌≤◌, List, [], ◌∷◌, ◌++◌, length, drop}
 use Rattle.shared_order.specs.declared.operation.Operation.{Operation}
 use Rattle.shared_order.specs.Operation.{operations_of}

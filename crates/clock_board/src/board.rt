@@ -184,14 +184,14 @@ impl<C: Course> Board<C> {
             .store::<Makes>(&mut pass.seat, place, value as u64);
     }
 
-    /// Where a shared word stands in the table: behind the clocks and the claim words.
+    /// Where a shared word stands in the table: after the clocks and the claim words.
     fn place(&self, word: u32) -> usize
         ensures { result ≡ self.now.cores + self.now.cores + word }
     {
         2 * self.cores as usize + word as usize
     }
 
-    /// Puts a core's record behind those that came back before.
+    /// Puts a core's record after those that came back before.
     pub fn take_back(&self, maker: &mut Pass<C>, pass: Pass<C>)
         requires of_maker { IsPassOf self.now maker.old }
         requires of { IsPassOf self.now pass }

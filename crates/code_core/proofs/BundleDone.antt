@@ -48,7 +48,7 @@ use Rattle.code_core.proofs.Faults.{sound_passes}
 use Rattle.code_core.proofs.Landing.{KeepsPending, landed_pending, waits_on, StartsBehind, Meets, LiesBy, lands_as, ends_there}
 use Rattle.code_core.proofs.Settled.{OfTask, Settles, settled, all_settles}
 
--- ---- what a run has behind a bundle
+-- ---- what a run has after a bundle
 
 -- a load gives what it gave
 abbrev IsTaken : Effect → Run → ℕ → Type 0
@@ -157,7 +157,7 @@ module _ (n core : ℕ) where
       (acting_leaves n core P (bundle m.cycle c) m
       (subst (Leaves (λ (y : Acted). P y.core)) (sym (bundle_is c m.cycle b words found none)) (answers c.plain.site m.cycle r d h ports idle e sound)))
 
-  -- what is pending behind a bundle's transfer is so at the next moment
+  -- what is pending after a bundle's transfer is so at the next moment
   pub next_pending : (m : Moment) → (core_in (all_moved n core (bundled n core m))).plain.transfer.words ≡ 0
       → (core_in (next n core m)).plain.regs.pending ≡ (core_in (all_moved n core (bundled n core m))).plain.regs.pending
   next_pending m none =
@@ -167,9 +167,9 @@ module _ (n core : ℕ) where
       let k : KeepsPending p (landed a.cycle (core_in a)) = landed_pending a.cycle (core_in a) (inl none) in
       all_settles n core P (record { same = λ c d is h. ap (λ (z : Core). z.plain.regs.pending) is.task ∙ h; counts = λ u c h. h }) (landing a) (settled k.pending k.rests)
 
-  -- ---- behind the bundle
+  -- ---- after the bundle
 
-  -- behind its transfer the core is where the walk is behind the bundle, before a flow takes effect
+  -- after its transfer the core is where the walk is after the bundle, before a flow takes effect
   pub record Behind (site : Site) (w : Walk) (rest : List ℕ) (events : List Event) (m : Moment) : Type 0 where
     pub meets : Meets site (all_moved n core (bundled n core m)).cycle w (core_in (all_moved n core (bundled n core m)))
     pub loads : w.run.loads ≡ rest

@@ -60,7 +60,7 @@ abbrev pub IsGiven : Effect → Run → ℕ → Type 0
 IsGiven (effect.Load mem.S width rd address) m value = value ≡ m.stack (m.st + address / 4)
 IsGiven _ m value = Unit {0}
 
--- over what the core was when its registers were those behind the bundle
+-- over what the core was when its registers were those after the bundle
 pub record ComesWith (e : Effect) (m : Run) (k : Memory) (d : Plain) (c : Core) : Type 0 where
   pub value : ℕ
   pub is_given : IsGiven e m value
@@ -123,7 +123,7 @@ main_ports (Some (cell.Port target register)) word m i s h = absurd s
 
 -- ---- bundles
 
--- a core like another, with this behind its only transaction
+-- a core like another, with this after its only transaction
 pub after_one : (P : Core → Type 0) (c : Core) → ((u : ℕ) (d : Core) → IsStill c d → Leaves (λ (y : Acted). P y.core) (transaction_then d.plain.transfer.then u d)) → AfterOne P c
 unfolding transaction
 after_one P c h = h

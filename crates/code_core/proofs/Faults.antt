@@ -1,6 +1,6 @@
 -- What a run may ask for passes a core's checks.
 use Rattle.std.proofs.Common.{◌≡◌, ℕ, ◌+◌, ◌/◌, ◌%◌, ◌==◌, ◌&&◌, not, nat_le, nat_lt, Bool, true, false, Option, None, Some, refl, ap, ◌∙◌, arith}
-use Rattle.std.proofs.lemmas.Bool.{eq-eqb, le-leb, lt-ltb}
+use Rattle.std.proofs.lemmas.Bool.{eq-eqb, le-leb, lt-ltb, and_from}
 use Rattle.local_store.specs.declared.map.Space.TheVariants.{Local, Main}
 use Rattle.local_store.specs.declared.map.Cell.{Cell}
 use Rattle.local_store.specs.declared.map.Cell.TheVariants as cell
@@ -23,7 +23,6 @@ use Rattle.patmos_model.specs.Checks.{check, fault_of, load_cell_fault, store_ce
 use Rattle.argo_ni.specs.Interface.{port_to}
 use Rattle.argo_ni.specs.Start.{is_in_range}
 use Rattle.sp_shape.specs.Memory.{Memory}
-use Rattle.core_pace.proofs.OwnActs.{both}
 use Rattle.sp_shape.specs.Pointers.{pointers_of}
 use Rattle.sp_shape.specs.Run.{Run}
 use Rattle.code_core.specs.Held.{HoldsStack, HoldsPorts}
@@ -64,7 +63,7 @@ local_storable m x width value (Some (cell.Private word)) is h s = absurd s
 local_storable m x width value (Some (cell.Shared word)) is h s = absurd s
 local_storable m x width value (Some (cell.Port core register)) is h s =
     holds_so (may_store x width core register value) trap.Interface None
-    (both (is_other x.site core) _ s.1.0 (both (is_store_word width) _ (ap is_store_word is) (both (not (register == 12)) _ (ap not s.1.1.0) (counts (register == 8) refl)))) refl
+    (and_from (is_other x.site core) _ s.1.0 (and_from (is_store_word width) _ (ap is_store_word is) (and_from (not (register == 12)) _ (ap not s.1.1.0) (counts (register == 8) refl)))) refl
   where
     range : may_send m core value ≡ true → is_in_range (port_to x.interface core) value ≡ true
     range sent = (λ i. nat_lt 0 value && nat_le (h.source core s.0 i + value) 512 && nat_le (h.target core s.0 i + value) 512) ∙ sent
@@ -102,8 +101,8 @@ sound_passes (effect.Store mem.L width address value) m x h ports s flow = word_
 sound_passes (effect.Store mem.C width address value) m x h ports s flow = word_stores x width address value (cell_of Main address) s.0 s.1 (main_storable x width value (cell_of Main address) s.2)
 sound_passes (effect.Store mem.M width address value) m x h ports s flow = word_stores x width address value (cell_of Main address) s.0 s.1 (main_storable x width value (cell_of Main address) s.2)
 sound_passes (effect.StackOp Sres count) m x h ports s flow =
-    holds_so (has_room Sres count x.stack) trap.Stack None (both (nat_le count 128) (nat_le (49152 + count) x.stack.st) (le-leb count 128 s.0) (le-leb (49152 + count) x.stack.st (omega (arith, s.1, h.st)))) refl
+    holds_so (has_room Sres count x.stack) trap.Stack None (and_from (nat_le count 128) (nat_le (49152 + count) x.stack.st) (le-leb count 128 s.0) (le-leb (49152 + count) x.stack.st (omega (arith, s.1, h.st)))) refl
 sound_passes (effect.StackOp Sens count) m x h ports s flow =
-    holds_so (has_room Sens count x.stack) trap.Stack None (both (nat_le count 128) (nat_le (x.stack.st + count) 65536) (le-leb count 128 s.0) (le-leb (x.stack.st + count) 65536 (omega (arith, s.1, h.st)))) refl
+    holds_so (has_room Sens count x.stack) trap.Stack None (and_from (nat_le count 128) (nat_le (x.stack.st + count) 65536) (le-leb count 128 s.0) (le-leb (x.stack.st + count) 65536 (omega (arith, s.1, h.st)))) refl
 sound_passes (effect.StackOp Sfree count) m x h ports s flow =
-    holds_so (has_room Sfree count x.stack) trap.Stack None (both (nat_le count 128) (nat_le (x.stack.st + count) 65536) (le-leb count 128 s.0) (le-leb (x.stack.st + count) 65536 (omega (arith, s.1, h.st)))) refl
+    holds_so (has_room Sfree count x.stack) trap.Stack None (and_from (nat_le count 128) (nat_le (x.stack.st + count) 65536) (le-leb count 128 s.0) (le-leb (x.stack.st + count) 65536 (omega (arith, s.1, h.st)))) refl

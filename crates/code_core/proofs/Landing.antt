@@ -1,7 +1,7 @@
 -- A flow that is due takes effect in a core as in a walk.
 use Rattle.std.proofs.Common.{◌≡◌, if◌then◌else◌, ℕ, zero, suc, ◌+◌, ◌==◌, ◌&&◌, not, Bool, true, false, List, [], ◌∷◌, Option, None, Some, inl, inr, ◌⊎◌, refl, sym, ap, ◌∙◌, subst, arith, true≢false}
 use Rattle.std.specs.List.{list_any}
-use Rattle.std.proofs.lemmas.Bool.{eqb-true, eq-eqb, ne_eqb, and_parts}
+use Rattle.std.proofs.lemmas.Bool.{eqb-true, eq-eqb, ne_eqb, and_parts, and_from}
 use Rattle.method_cache.specs.declared.cache.Method.{Method}
 use Rattle.method_cache.specs.Residents.{resident, is_among}
 use Rattle.patmos_code.specs.Images.{Parts}
@@ -22,7 +22,7 @@ use Rattle.patmos_model.specs.Transfers.{nothing, reads}
 use Rattle.core_pace.specs.Moment.{landed}
 use Rattle.core_pace.specs.Next.{is_due_flow}
 use Rattle.core_pace.specs.Pace.{Event, came, goal_event, flow_event, landing_event}
-use Rattle.core_pace.proofs.OwnActs.{Lands, stays, halts, goes, lands, landed_running, landed_stopped, flow_stays, both}
+use Rattle.core_pace.proofs.OwnActs.{Lands, stays, halts, goes, lands, landed_running, landed_stopped, flow_stays}
 use Rattle.tc_link.proofs.Cores.{placed_alike, gone_alike}
 use Rattle.tc_link.specs.Walk.{Walk, due, due_in, is_place, gone, gone_if, flowed, HasPlace, IsPlaced}
 use Rattle.code_core.specs.Held.{HoldsStack, HoldsPorts}
@@ -30,7 +30,7 @@ use Rattle.code_core.specs.Goes.{Goes, goal_events}
 
 -- ---- whatever takes effect
 
--- nothing is to be moved, or nothing is behind what is
+-- nothing is to be moved, or nothing is after what is
 abbrev pub Rests : Transfer → Type 0
 Rests t = (t.words ≡ 0) ⊎ (t.then ≡ then_on.Nothing)
 
@@ -83,9 +83,6 @@ ended_by x f is none =
     right : (b : Bool) → (b && true) ≡ b
     right true = refl
     right false = refl
-
-no_end : (x : Plain) → x.flow ≡ None → has_ended x ≡ false
-no_end x is = ap (λ o. elim o as (λ _. Bool) [ None ↦ false | Some g ↦ is_end g && (x.transfer.words == 0) ]) is
 
 pub running_by : (x : Plain) (b : Bool) → x.status ≡ Running → has_ended x ≡ b → is_running x ≡ not b
 running_by x b status ended =
@@ -165,7 +162,7 @@ pub record LiesBy (site : Site) (u : ℕ) (to : Option Goal) (w : Walk) (c : Cor
 
 module _ (site : Site) (u : ℕ) where
   free_test : (w : Walk) (c : Core) → Meets site u w c → is_free u c.plain ≡ true
-  free_test w c h = both (c.plain.transfer.words == 0) (c.plain.free == u) (eq-eqb c.plain.transfer.words 0 h.words) (eq-eqb c.plain.free u h.free)
+  free_test w c h = and_from (c.plain.transfer.words == 0) (c.plain.free == u) (eq-eqb c.plain.transfer.words 0 h.words) (eq-eqb c.plain.free u h.free)
 
   -- nothing is due
   rests_on : (w : Walk) (c : Core) → Meets site u w c → is_due_flow w.flow ≡ false → LiesBy site u None w c

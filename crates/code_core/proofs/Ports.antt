@@ -5,8 +5,7 @@ use Rattle.slot_arbiter.specs.Stamp.{stamp}
 use Rattle.shared_order.specs.Program.{Prog, done, gets, sets}
 use Rattle.shared_order.specs.Words.{put}
 use Rattle.argo_ni.specs.Interface.{Interface, port_to}
-use Rattle.argo_ni.specs.Packet.{carried, comm_word, written}
-use Rattle.argo_ni.specs.declared.packet.Packet.{Packet}
+use Rattle.argo_ni.specs.Packet.{comm_word, written}
 use Rattle.argo_ni.specs.declared.port.Port.{Port}
 use Rattle.argo_ni.specs.declared.event.Started.{Started}
 use Rattle.argo_ni.specs.declared.event.Started.TheVariants.{Begun, Dropped, Refused}
@@ -16,7 +15,7 @@ use Rattle.argo_ni.specs.Turn.{comes, sends, target_at, packet_size, moved_on, d
 use Rattle.patmos_model.specs.State.{Core, with_plain}
 use Rattle.patmos_model.specs.Cells.{port_set}
 use Rattle.patmos_model.specs.Apart.{Followed, after_delivery}
-use Rattle.patmos_model.proofs.Leaves.{Leaves}
+use Rattle.patmos_model.proofs.Leaves.{Leaves, leaves_written, leaves_gets}
 use Rattle.core_pace.specs.Growth.{IsSameTask}
 use Rattle.core_pace.specs.Moment.{Moment, core_in, interfaced}
 use Rattle.core_pace.specs.Next.{waited}
@@ -69,18 +68,6 @@ swapped x t port source target = record {
 }
 
 -- ---- what the interface does
-
-leaves_sets : {X : Type 0} (P : X → Type 0) (word : ℕ) (values : List ℕ) (rest : Prog X) → Leaves P rest → Leaves P (sets word values rest)
-leaves_sets P word [] rest h = h
-leaves_sets P word (value ∷ values) rest h = leaves_sets P (word + 1) values rest h
-
-leaves_written : {X : Type 0} (P : X → Type 0) (ps : List Packet) (rest : Prog X) → Leaves P rest → Leaves P (written ps rest)
-leaves_written P [] rest h = h
-leaves_written P (p ∷ ps) rest h = leaves_sets P (comm_word p.target p.first) (carried p.payload) (written ps rest) (leaves_written P ps rest h)
-
-leaves_gets : {X : Type 0} (P : X → Type 0) (count word : ℕ) (go_on : List ℕ → Prog X) → ((values : List ℕ) → Leaves P (go_on values)) → Leaves P (gets count word go_on)
-leaves_gets P zero word go_on h = h []
-leaves_gets P (suc count) word go_on h = λ value. leaves_gets P count (word + 1) (λ values. go_on (value ∷ values)) (λ values. h (value ∷ values))
 
 ports_delivered : (cycle : ℕ) (x : Interface) → Leaves (SamePorts x) (delivery cycle x)
 ports_delivered cycle x = by (comes x cycle)

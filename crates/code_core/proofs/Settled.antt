@@ -18,16 +18,16 @@ pub record OfTask (P : Core → Type 0) : Type 0 where
   pub same : (c d : Core) → IsStill c d → P c → P d
   pub counts : (u : ℕ) (c : Core) → P c → P (counted u c)
 
--- whenever the core makes its first transaction, this is so behind it
+-- whenever the core makes its first transaction, this is so after it
 abbrev pub AfterOne : (Core → Type 0) → Core → Type 0
 AfterOne P c = (u : ℕ) (d : Core) → IsStill c d → Leaves (λ (y : Acted). P y.core) (transaction u d)
 
--- it is so, whatever is still to be moved; or it is so behind the only transaction
+-- it is so, whatever is still to be moved; or it is so after the only transaction
 pub data Settles (P : Core → Type 0) (c : Core) : Type 0 where
   settled : P c → (c.plain.transfer.words ≡ 0) ⊎ (c.plain.transfer.then ≡ then_on.Nothing) → Settles P c
   awaits : slots_of c.plain.transfer.words ≡ 1 → AfterOne P c → Settles P c
 
--- a transfer with nothing behind it only counts
+-- a transfer with nothing after it only counts
 counts_only : (P : Core → Type 0) → OfTask P → (u : ℕ) (c : Core) → P c → c.plain.transfer.then ≡ then_on.Nothing
     → Leaves (λ (y : Acted). P y.core × (y.core.plain.transfer.then ≡ then_on.Nothing)) (transaction u c)
 unfolding transaction
@@ -44,7 +44,7 @@ module _ (n core : ℕ) (P : Core → Type 0) (o : OfTask P) where
       waited_keeps (core_in m).plain.site.slot (transacted n core at)
       (acting_leaves n core P (transaction at.cycle (core_in at)) at (h at.cycle (core_in at) (still_waited n core (start_in (core_in m).plain.site m.cycle - m.cycle) m)))
 
-  -- so many transactions with nothing behind them
+  -- so many transactions with nothing after them
   on_settles : (count : ℕ) (m : Moment) → P (core_in m) → (core_in m).plain.transfer.then ≡ then_on.Nothing → P (core_in (moved n core count m))
   on_settles zero m h none = h
   on_settles (suc count) m h none =

@@ -1,22 +1,17 @@
 -- The core of a task does what its shape says, whatever is put in and read; and always in the same times.
-use Rattle.std.proofs.Common.{◌≡◌, ℕ, zero, ◌+◌, ◌-◌, ◌<◌, ◌≤◌, ◌==◌, ◌||◌, Bool, true, false, if◌then◌else◌, List, [], ◌∷◌, map, slice_index, refl, sym, ap, ◌∙◌, arith}
+use Rattle.std.proofs.Common.{◌≡◌, ℕ, zero, ◌+◌, ◌-◌, ◌<◌, ◌==◌, ◌||◌, Bool, true, false, if◌then◌else◌, List, [], ◌∷◌, map, refl, sym, ap, ◌∙◌, arith}
 use Rattle.std.specs.List.{list_any, AllByRecursion as Each}
 use Rattle.std.proofs.lemmas.Bool.{ne_eqb}
 use Rattle.slot_arbiter.specs.declared.place.Place.{Place}
 use Rattle.patmos_sem.specs.Registers.{FitsRegisters}
-use Rattle.patmos_model.specs.Apart.{site_of, apart_at}
+use Rattle.patmos_model.specs.Apart.{site_of}
 use Rattle.patmos_model.specs.Begin.{begun, entry}
-use Rattle.patmos_model.specs.Outcome.{state_at}
-use Rattle.patmos_model.specs.declared.state.CoreState.TheVariants.{Done}
-use Rattle.core_pace.specs.Growth.{below}
 use Rattle.core_pace.specs.Moment.{core_in}
 use Rattle.core_pace.specs.Run.{first_event, first_moment, after_bundles, past}
 use Rattle.core_pace.specs.Spans.{IsSlotted}
 use Rattle.core_pace.specs.Times.{times}
-use Rattle.core_pace.proofs.Hanging.{ended_free, ended_accesses, same_cycle}
-use Rattle.core_pace.proofs.Outcomes.{ended_is_done}
 use Rattle.sp_shape.specs.Parts.{PlainShape}
-use Rattle.sp_shape.specs.Run.{Run, run_late}
+use Rattle.sp_shape.specs.Run.{Run}
 use Rattle.sp_shape.specs.Trail.{trail}
 use Rattle.tc_link.proofs.Followed.{shape_followed}
 use Rattle.tc_link.specs.Backs.{back, backs_of}
@@ -90,25 +85,3 @@ module _ (place : Place) (s : PlainShape) (addresses : List ℕ) (link : IsLinka
   pub same_past : (input values input' values' : List ℕ) → AreGiven input values → AreGiven input' values' → past place.cores place.core (begun (site_of place (linked s)) input) values (bundles_in (trail s))
       ≡ past place.cores place.core (begun (site_of place (linked s)) input') values' (bundles_in (trail s))
   same_past input values input' values' given given' = (ends input values given).events ∙ sym (ends input' values' given').events
-
-  -- the transactions and the end are those of the run without input and values
-  pub same_accesses : (input values : List ℕ) → AreGiven input values → (cycles limit : ℕ) → (after_bundles place.cores place.core (begun (site_of place (linked s)) []) [] (bundles_in (trail s))).cycle < limit → cycles ≤ limit
-      → (apart_at place (linked s) input values cycles).core.seen.accesses ≡ below cycles (times place (linked s) limit).accesses
-  same_accesses input values given cycles limit late within =
-      ended_accesses place.cores place.core (site_of place (linked s)) input values [] [] (bundles_in (trail s)) cycles limit slots (same_past input values [] [] given (tt, tt)) (ends input values given).still (ends [] [] (tt, tt)).still late within
-
-  pub same_end : (input values : List ℕ) → AreGiven input values → (limit : ℕ) → (after_bundles place.cores place.core (begun (site_of place (linked s)) []) [] (bundles_in (trail s))).cycle < limit
-      → (apart_at place (linked s) input values limit).core.plain.free ≡ (times place (linked s) limit).end
-  same_end input values given limit late =
-      ended_free place.cores place.core (site_of place (linked s)) input values [] [] (bundles_in (trail s)) limit slots (same_past input values [] [] given (tt, tt)) (ends input values given).still (ends [] [] (tt, tt)).still late
-
-  -- the task is done at that cycle, with what r1 and r2 hold in the run
-  pub done_there : (input values : List ℕ) (given : AreGiven input values) (limit : ℕ) → (after_bundles place.cores place.core (begun (site_of place (linked s)) []) [] (bundles_in (trail s))).cycle ≤ limit
-      → state_at limit (apart_at place (linked s) input values limit).core.plain
-      ≡ Done (slice_index (run_late by_stack (trail s) (begun_run s (ends input values given).loads)).regs.general 1) (slice_index (run_late by_stack (trail s) (begun_run s (ends input values given).loads)).regs.general 2)
-      ((after_bundles place.cores place.core (begun (site_of place (linked s)) []) [] (bundles_in (trail s))).cycle - place.start)
-  done_there input values given limit within =
-      let e : IsFollowed place s addresses input values = ends input values given in
-      let same = same_cycle place.cores place.core (site_of place (linked s)) input values [] [] (bundles_in (trail s)) slots (same_past input values [] [] given (tt, tt)) in
-      ended_is_done place.cores place.core (site_of place (linked s)) input values (bundles_in (trail s)) limit slots e.status e.still (omega (arith, within, same))
-      ∙ (λ i. Done (slice_index (e.regs i).general 1) (slice_index (e.regs i).general 2) (same i - place.start))

@@ -1,6 +1,6 @@
 -- What stack instructions and stores leave of a run's stack in a core.
-use Rattle.std.proofs.Common.{◌≡◌, ℕ, zero, suc, ◌+◌, ◌-◌, ◌/◌, ◌<◌, ◌≤◌, ◌&&◌, nat_le, nat_lt, max, min, Bool, true, false, cond, if◌then◌else◌, List, [], ◌∷◌, ◌++◌, length, get_or, set, take, drop, replicate, inl, inr, refl, sym, ap, ◌∙◌, arith, length-take, length-drop, length-append, get_or-take, get_or-drop, length-set, get_or-set_same, get_or-set_other}
-use Rattle.std.proofs.lemmas.Bool.{cases_lt, cases_eq, eq-eqb, ne_eqb, le-leb, lt-ltb, le-ltb}
+use Rattle.std.proofs.Common.{◌≡◌, ℕ, zero, suc, ◌+◌, ◌-◌, ◌/◌, ◌<◌, ◌≤◌, ◌&&◌, nat_le, nat_lt, max, min, Bool, true, false, if◌then◌else◌, List, [], ◌∷◌, ◌++◌, length, get_or, set, take, drop, replicate, inl, inr, refl, sym, ap, ◌∙◌, arith, length-take, length-drop, length-append, get_or-take, get_or-drop, length-set, get_or-set_same, get_or-set_other}
+use Rattle.std.proofs.lemmas.Bool.{cases_lt, cases_eq, le-leb, lt-ltb, le-ltb}
 use Rattle.std.proofs.lemmas.List.{length-replicate, get_or-replicate, get_or_append_left, get_or-append_right}
 use Rattle.std.proofs.lemmas.List.FromFn.{length-map-range_with_len, get_or-map-range_with_len}
 use Rattle.shared_order.specs.Words.{put}
@@ -10,18 +10,12 @@ use Rattle.patmos_instr.specs.declared.memories.Mem.TheVariants as mem
 use Rattle.patmos_instr.specs.declared.memories.StoreWidth.{StoreWidth}
 use Rattle.patmos_sem.specs.Narrow.{merged}
 use Rattle.patmos_model.specs.Bundle.{words_from, with_words, refilled, stack_set}
-use Rattle.core_pace.proofs.StackWords.{kept_below, kept_past}
+use Rattle.core_pace.proofs.StackWords.{kept_below, kept_past, put_here, put_there}
 use Rattle.sp_shape.specs.Run as run
 use Rattle.sp_shape.specs.Run.{Run}
 use Rattle.code_core.specs.Held.{HoldsStack}
 
 -- ---- words put
-
-pub put_here : (memory : ℕ → ℕ) (word value : ℕ) → put word value memory word ≡ value
-put_here memory word value = ap (λ b. cond b value (memory word)) (eq-eqb word word refl)
-
-pub put_there : (memory : ℕ → ℕ) (word value other : ℕ) → (word ≡ other → ⊥) → put word value memory other ≡ memory other
-put_there memory word value other away = ap (λ b. cond b value (memory other)) (ne_eqb word other away)
 
 -- words put from a place on are there
 pub put_among : (memory : ℕ → ℕ) (from : ℕ) (words : List ℕ) (i a : ℕ) → i < length words → from + i ≡ a → with_words from words memory a ≡ get_or words i 0

@@ -1,4 +1,4 @@
--- What a trail that is read late asks for, bundle by bundle.
+-- For proofs. What a trail that is read late asks for, bundle by bundle.
 use Rattle.std.specs.Prelude.{ℕ, List, [], ◌∷◌, ◌++◌, Option, Some}
 use Rattle.local_store.specs.declared.map.Cell.{Cell}
 use Rattle.local_store.specs.declared.map.Cell.TheVariants as cell
@@ -36,5 +36,6 @@ MaySend site _ m = Unit {0}
 
 abbrev pub AllSend : Site → Sources → List Step → Run → Type 0
 AllSend site from [] m = Unit {0}
-AllSend site from (does b ∷ steps) m = MaySend site (effect_of b m.regs) m.memory × AllSend site from steps (late from b m)
+AllSend site from (does b ∷ steps) m =
+    MaySend site (effect_of b m.regs) m.memory × AllSend site from steps (late from b m)
 AllSend site from (begins ∷ steps) m = AllSend site from steps (begun m)

@@ -1,4 +1,4 @@
--- The events of a trail, told by nothing but the addresses of its loads by the data cache.
+-- To be believed. The events of a trail, told by nothing but the addresses of its loads by the data cache.
 use Rattle.std.specs.Prelude.{◌≡◌, ℕ, ◌<◌, true, false, Bool, List, [], ◌∷◌, ◌++◌, Option, length, if◌then◌else◌}
 use Rattle.std.specs.List.{All, AllByRecursion as Each}
 use Rattle.slot_arbiter.specs.declared.place.Place.{Place}
@@ -59,7 +59,8 @@ abbrev pub fixed_events : Parts → List Step → List (Option Goal) → List �
 fixed_events image [] ds addresses = []
 fixed_events image (does b ∷ steps) [] addresses = []
 fixed_events image (does b ∷ steps) (d ∷ ds) addresses =
-    (kind_of b.first.op (first_load addresses) ∷ goal_events image d) ++ fixed_events image steps ds (if is_cached b.first.op then other_loads addresses else addresses)
+    (kind_of b.first.op (first_load addresses) ∷ goal_events image d)
+    ++ fixed_events image steps ds (if is_cached b.first.op then other_loads addresses else addresses)
 fixed_events image (begins ∷ steps) ds addresses = fixed_events image steps ds addresses
 
 -- what has transactions is always done
@@ -86,9 +87,12 @@ no_memory = record { scratch = λ _. 0; comm = λ _. 0; private = λ _. 0; share
 abbrev pub begun_run : PlainShape → List ℕ → Run
 begun_run s loads = at_begin no_memory loads (backs_of s)
 
--- whatever words stand in its memories and its loads from outside the stack give, it makes its turns, asks for nothing that
--- a check stops, and loads by the data cache at these addresses
+-- whatever words stand in its memories and its loads from outside the stack give, it makes its turns, asks for nothing
+-- that a check stops, and loads by the data cache at these addresses
 pub record Behaves (s : PlainShape) (place : Place) (addresses : List ℕ) : Type 0 where
-  pub turns : (memory : Memory) (loads : List ℕ) → Each IsWord loads → ShapeTurns (run_late by_stack) s (at_begin memory loads (backs_of s))
-  pub sound : (memory : Memory) (loads : List ℕ) → Each IsWord loads → AreSound (site_of place (linked s)) by_stack (trail s) (at_begin memory loads (backs_of s))
-  pub same : (memory : Memory) (loads : List ℕ) → Each IsWord loads → addresses_in by_stack (trail s) (at_begin memory loads (backs_of s)) ≡ addresses
+  pub turns : (memory : Memory) (loads : List ℕ) → Each IsWord loads
+      → ShapeTurns (run_late by_stack) s (at_begin memory loads (backs_of s))
+  pub sound : (memory : Memory) (loads : List ℕ) → Each IsWord loads
+      → AreSound (site_of place (linked s)) by_stack (trail s) (at_begin memory loads (backs_of s))
+  pub same : (memory : Memory) (loads : List ℕ) → Each IsWord loads
+      → addresses_in by_stack (trail s) (at_begin memory loads (backs_of s)) ≡ addresses

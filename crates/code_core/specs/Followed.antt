@@ -1,4 +1,4 @@
--- What a core that follows its code comes to.
+-- To be believed. What a core that follows its code comes to.
 use Rattle.std.specs.Prelude.{◌≡◌, ℕ, ◌∷◌, [], List, false}
 use Rattle.patmos_code.specs.Images.{Parts}
 use Rattle.patmos_instr.specs.Bundles.{Slots}
@@ -41,13 +41,13 @@ AreDone image (does b ∷ steps) [] = ⊥
 AreDone image (does b ∷ steps) (d ∷ ds) = IsDoneAs image b d × AreDone image steps ds
 AreDone image (begins ∷ steps) ds = AreDone image steps ds
 
--- the moment behind the last bundle of the trail
+-- the moment after the last bundle of the trail
 abbrev pub last_of : Place → PlainShape → List ℕ → List ℕ → Moment
 last_of place s input values =
     after_bundles place.cores place.core (begun (site_of place (linked s)) input) values (bundles_in (trail s))
 
--- There the task has done its trail and has ended, and no check stopped it; its events are those that its code fixes; and its
--- registers are those of the code, read late, that had the same values from its loads.
+-- There the task has done its trail and has ended, and no check stopped it; its events are those that its code fixes;
+-- and its registers are those of the code, read late, that had the same values from its loads.
 pub record IsFollowed (place : Place) (s : PlainShape) (addresses input values : List ℕ) : Type 0 where
   pub loads : List ℕ
   pub status : (core_in (last_of place s input values)).plain.status ≡ Running
@@ -55,4 +55,5 @@ pub record IsFollowed (place : Place) (s : PlainShape) (addresses input values :
   pub bundles : AreDone (linked s) (trail s) (last_of place s input values).bundles
   pub events : past place.cores place.core (begun (site_of place (linked s)) input) values (bundles_in (trail s))
       ≡ first_event (site_of place (linked s)) ∷ fixed_events (linked s) (trail s) (dues_of s (back 0 0)) addresses
-  pub regs : (core_in (last_of place s input values)).plain.regs ≡ (run_late by_stack (trail s) (begun_run s loads)).regs
+  pub regs : (core_in (last_of place s input values)).plain.regs
+      ≡ (run_late by_stack (trail s) (begun_run s loads)).regs

@@ -1,4 +1,4 @@
--- A core is where a walk is; what its loads gave; and its events, told of the walk.
+-- To be believed. A core is where a walk is; what its loads gave; and its events, told of the walk.
 use Rattle.std.specs.Prelude.{◌≡◌, ℕ, zero, suc, ◌+◌, true, false, List, [], ◌∷◌, ◌++◌, Option, None, Some, ◌==◌, if◌then◌else◌}
 use Rattle.patmos_code.specs.Images.{Parts}
 use Rattle.patmos_sem.specs.Bundles.{effect_of}
@@ -48,7 +48,7 @@ asked_in (Found b words) regs = effect_of b regs
 abbrev pub asked_at : Plain → Effect
 asked_at x = asked_in (fetched_in x) x.regs
 
--- behind a load its value is pending
+-- after a load its value is pending
 abbrev pub given_by : Effect → Registers → List ℕ
 given_by (effect.Load space width rd address) regs = pending_value regs.pending ∷ []
 given_by _ regs = []
@@ -94,9 +94,10 @@ goal_events image (Some (goal.Call target)) = came (method_at image target) ∷ 
 goal_events image (Some (goal.Fill target)) = came (method_at image target) ∷ []
 goal_events image (Some (goal.Return base offset)) = if base == 0 then [] else came (method_at image base) ∷ []
 
--- of a trail that is read late from a run on, where these goals are due behind its bundles
+-- of a trail that is read late from a run on, where these goals are due after its bundles
 abbrev pub run_events : Parts → Sources → List Step → List (Option Goal) → Run → List Event
 run_events image from [] ds m = []
 run_events image from (does b ∷ steps) [] m = []
-run_events image from (does b ∷ steps) (d ∷ ds) m = (event_of (effect_of b m.regs) ∷ goal_events image d) ++ run_events image from steps ds (late from b m)
+run_events image from (does b ∷ steps) (d ∷ ds) m =
+    (event_of (effect_of b m.regs) ∷ goal_events image d) ++ run_events image from steps ds (late from b m)
 run_events image from (begins ∷ steps) ds m = run_events image from steps ds (begun m)

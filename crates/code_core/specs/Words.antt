@@ -1,4 +1,4 @@
--- Words of 32 bits: what a run holds, and what the constants of its bundles are.
+-- To be believed. Words of 32 bits: what a run holds, and what the constants of its bundles are.
 use Rattle.std.specs.Prelude.{ℕ, ◌^◌, ◌&&◌, Bool, true, nat_lt, List, [], ◌∷◌, Option, None, Some}
 use Rattle.std.specs.List.{AllByRecursion as Each}
 use Rattle.patmos_instr.specs.Bundles.{Slots}

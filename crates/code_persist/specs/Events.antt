@@ -1,4 +1,4 @@
--- Events that go to functions of a list alone, and what events cost without the method cache.
+-- For proofs. Events that go to functions of a list alone, and what events cost without the method cache.
 use Rattle.std.specs.Prelude.{ℕ, ◌+◌, List, [], ◌∷◌, Option}
 use Rattle.std.specs.List.{Contains}
 use Rattle.method_cache.specs.declared.cache.Method.{Method}

@@ -3,8 +3,6 @@ use Rattle.std.proofs.Common.{◌≡◌, ℕ, zero, suc, ◌+◌, ◌-◌, ◌*�
 use Rattle.std.specs.Prelude.{nat_le}
 use Rattle.std.proofs.lemmas.Bool.{and_parts, eqb-false, ne_eqb, ltb-true}
 use Rattle.method_cache.specs.Residents.{resident, is_among, touched}
-use Rattle.slot_arbiter.specs.Slot.{is_slot_start}
-use Rattle.slot_arbiter.specs.Order.{IsNext}
 use Rattle.patmos_code.specs.Images.{Parts}
 use Rattle.patmos_instr.specs.Bundles.{Slots}
 use Rattle.patmos_instr.specs.declared.functions.StackFunc.TheVariants.{Sres, Sens, Sfree}
@@ -17,10 +15,9 @@ use Rattle.patmos_model.specs.Bursts.{slots_of}
 use Rattle.patmos_model.specs.Site.{Site, method_at, size_at}
 use Rattle.core_pace.specs.Bound.{most_in_slot}
 use Rattle.core_pace.specs.Pace.{Pace, Event, quick, load, cached, store, stack, came, is_loaded, asks, asked_by, with_line, carried, happened, clock}
-use Rattle.core_pace.specs.Spans.{IsSlotted, start_in, accesses_from, moved_by, end_from}
-use Rattle.core_pace.specs.Starts.{gap_in}
+use Rattle.core_pace.specs.Spans.{IsSlotted, accesses_from, moved_by}
 use Rattle.core_pace.proofs.Moves.{carried_words}
-use Rattle.core_pace.proofs.SlotStarts.{start_is_next, gap_outlasts}
+use Rattle.core_pace.proofs.Longest.{ends_within}
 use Rattle.sp_shape.specs.Parts.{PlainPart, straight, repeats, calls_to, leaves, PlainParts, no_part, part, PlainShape}
 use Rattle.sp_shape.specs.Run.{Back, first_load, other_loads}
 use Rattle.sp_shape.specs.Trail.{Step, does, begins, all_done, copies, part_trail, parts_trail, trails, trail}
@@ -36,16 +33,6 @@ use Rattle.code_core.specs.Goes.{goal_events}
 use Rattle.code_times.specs.Costs.{cost, costs, AreFew, trail_cost}
 
 -- ---- time
-
-ends_within : (site : Site) (count t : ℕ) → IsSlotted site → end_from site count t ≤ t + most_in_slot site * count
-ends_within site zero t slots = omega arith
-ends_within site (suc count) t slots =
-    let u : ℕ = start_in site t in
-    let next : IsNext (is_slot_start site.table site.slot site.core) t u = start_is_next site.table site.slot site.core t slots in
-    let wait : u < t + gap_in site.table site.slot site.core = (gap_outlasts site.table site.slot site.core slots).wait t u next in
-    let rest : end_from site count (u + site.slot) ≤ u + site.slot + most_in_slot site * count = ends_within site count (u + site.slot) slots in
-    let one : u + site.slot ≤ t + most_in_slot site = omega (arith, wait) in
-    omega (arith, rest, one)
 
 -- so many slots or fewer
 pub record Within (site : Site) (p : Pace) (most : ℕ) (q : Pace) : Type 0 where
@@ -198,7 +185,7 @@ module _ (image : Parts) (each : ℕ) where
   undue_cost [] = record { fits = tt; is = refl }
   undue_cost (b ∷ bs) = let k = undue_cost bs in record { fits = k.fits; is = (let rest = k.is in omega (arith, rest)) }
 
-  -- a flow is due behind the last bundle
+  -- a flow is due after the last bundle
   way_cost : (to : Goal) (b : Slots) (bs : List Slots) → Costs (all_done (b ∷ bs)) (way_dues to (b ∷ bs)) (bundles_bound each (b ∷ bs) + goal_cost to)
   way_cost to b [] = record { fits = tt; is = omega arith }
   way_cost to b (c ∷ bs) = let k = way_cost to c bs in record { fits = k.fits; is = (let rest = k.is in omega (arith, rest)) }

@@ -70,11 +70,6 @@ module _ (place : Place) (s : PlainShape) (addresses : List ℕ) (link : IsLinka
       ∙ (all_passed place.cores place.core (site_of place (linked s)) input values (bundles_in (trail s)) slots).pace
       ∙ ap (λ es. clock (site_of place (linked s)) es (starting (site_of place (linked s)))) (ends place s addresses link behaves slots among input values given).events
 
-  -- the end and the transactions are those of the run without input and values
-  pub exact_end : (input values : List ℕ) → AreGiven input values → (limit : ℕ) → place.start + shape_bound (most_in_slot (site_of place (linked s))) s ≤ limit
-      → (apart_at place (linked s) input values limit).core.plain.free ≡ (times place (linked s) limit).end
-  exact_end input values given limit enough = ap (λ (p : Pace). p.free) (paces_so input values given limit enough ∙ sym (paces_so [] [] (tt, tt) limit enough))
-
   pub exact_accesses : (input values : List ℕ) → AreGiven input values → (cycles limit : ℕ) → place.start + shape_bound (most_in_slot (site_of place (linked s))) s ≤ limit → cycles ≤ limit
       → (apart_at place (linked s) input values cycles).core.seen.accesses ≡ below cycles (times place (linked s) limit).accesses
   exact_accesses input values given cycles limit enough within =
@@ -97,10 +92,6 @@ module _ (place : Place) (s : PlainShape) (addresses : List ℕ) (link : IsLinka
     | inl early ↦ exact_accesses input values given cycles (place.start + shape_bound (most_in_slot (site_of place (linked s))) s) (omega arith) (omega (arith, early))
     | inr late ↦ exact_accesses input values given cycles cycles late (omega arith) ∙ ap (λ (p : Pace). below cycles p.accesses) (times_so cycles late)
   ]
-
-  pub end_at : (input values : List ℕ) → AreGiven input values → (limit : ℕ) → place.start + shape_bound (most_in_slot (site_of place (linked s))) s ≤ limit
-      → (apart_at place (linked s) input values limit).core.plain.free ≡ (times place (linked s) (place.start + shape_bound (most_in_slot (site_of place (linked s))) s)).end
-  end_at input values given limit enough = exact_end input values given limit enough ∙ ap (λ (p : Pace). p.free) (times_so limit enough)
 
   pub end_within : (times place (linked s) (place.start + shape_bound (most_in_slot (site_of place (linked s))) s)).end ≤ place.start + shape_bound (most_in_slot (site_of place (linked s))) s
   end_within = omega (arith, ended_cycle [] [] (tt, tt), ends_within place s addresses link behaves slots among [] [] (tt, tt))

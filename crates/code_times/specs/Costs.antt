@@ -1,4 +1,4 @@
--- How many cycles events take at most, where a transaction takes so many.
+-- For proofs. How many cycles events take at most, where a transaction takes so many.
 use Rattle.std.specs.Prelude.{ℕ, ◌+◌, ◌*◌, ◌≤◌, List, [], ◌∷◌, Option}
 use Rattle.stack_cache.specs.declared.slots.TheConstants.{STACK_CACHE_WORDS}
 use Rattle.patmos_code.specs.Images.{Parts}
@@ -26,9 +26,10 @@ AreFew [] = Unit {0}
 AreFew (stack func count ∷ es) = (count ≤ STACK_CACHE_WORDS) × AreFew es
 AreFew (e ∷ es) = AreFew es
 
--- of a trail, with what is due behind its bundles
+-- of a trail, with what is due after its bundles
 abbrev pub trail_cost : Parts → ℕ → List Step → List (Option Goal) → ℕ
 trail_cost image each [] ds = 0
 trail_cost image each (does b ∷ steps) [] = 0
-trail_cost image each (does b ∷ steps) (d ∷ ds) = bundle_bound each b + costs each (goal_events image d) + trail_cost image each steps ds
+trail_cost image each (does b ∷ steps) (d ∷ ds) =
+    bundle_bound each b + costs each (goal_events image d) + trail_cost image each steps ds
 trail_cost image each (begins ∷ steps) ds = trail_cost image each steps ds

@@ -1,5 +1,5 @@
--- The times of code at a core's place: those of the run in which nothing is put in and nothing is read, after the cycles of
--- its bound.
+-- To be believed. The times of code at a core's place: those of the run in which nothing is put in and
+-- nothing is read, after the cycles of its bound.
 use Rattle.std.specs.Prelude.{ℕ, ◌+◌}
 use Rattle.slot_arbiter.specs.declared.place.Place.{Place}
 use Rattle.patmos_model.specs.Apart.{site_of}

@@ -1,4 +1,4 @@
--- Along a walk: what holds of a run beside its core holds behind each bundle, and of each load is said what is said of its word.
+-- Along a walk: what holds of a run beside its core holds after each bundle, and of each load is said what is said of its word.
 use Rattle.std.proofs.Common.{◌≡◌, ℕ, ◌==◌, true, false, List, [], ◌∷◌, ◌++◌, Option, Some, refl, sym, ap, ◌∙◌, subst}
 use Rattle.std.proofs.lemmas.Bool.{eqb-true, and_parts}
 use Rattle.local_store.specs.declared.map.Cell.{Cell}
@@ -35,7 +35,7 @@ use Rattle.code_words.proofs.Saying.{OfLoad, OfLoads, of_first}
 
 -- ---- a bundle that is done
 
--- the run in which a bundle takes effect: its registers are those of the core behind the bundle's own reads
+-- the run in which a bundle takes effect: its registers are those of the core after the bundle's own reads
 abbrev pub entered : Run → Slots → Core → Run
 entered r b c = record r { regs = after_bundle c.plain.stack.st c.plain.stack.ss b c.plain.regs }
 
@@ -88,12 +88,12 @@ module _ (n core : ℕ) (x : Core) (values : List ℕ) where
   -- ---- what is carried along
 
   module _ (Passes : Effect → Type 0) (Says : Option Cell → Memory → ℕ → Type 0) (Beside : Run → Moment → Type 0) (Ends : Moment → Type 0) where
-    -- behind a bundle that asked for this, of a run that was r and is t
+    -- after a bundle that asked for this, of a run that was r and is t
     pub record Behind (e : Effect) (r t : Run) (m : Moment) : Type 0 where
       pub beside : Beside t (next n core m)
       pub says : OfLoad Says e r.memory (pending_value (core_in (next n core m)).plain.regs.pending)
 
-    -- where each bundle passes, and the end is so, it holds behind each bundle
+    -- where each bundle passes, and the end is so, it holds after each bundle
     pub record Carries : Type 1 where
       pub flows : (f g : FlowKind) → Passes (effect.Flow f) ≡ Passes (effect.Flow g)
       pub begins : (r : Run) (m : Moment) → Beside r m → Beside (begun r) m

@@ -43,7 +43,7 @@ module _ (n core : ℕ) (site : Site) (input values : List ℕ) where
       all_settles_by n core P o m1 (settled_by (subst (P (core_in m1)) (sym (waited_own n core wait m0)) h1) (subst Rests (sym transfer) (fetch_rests [] (method_at site.image (entry site.image)))))
 
   module _ (Passes : Effect → Type 0) (Says : Option Cell → Memory → ℕ → Type 0) (Beside : Run → Moment → Type 0) (Ends : Moment → Type 0) where
-    -- behind the last bundle of the task, whose loads gave these
+    -- after the last bundle of the task, whose loads gave these
     pub record CarriedTo (steps : List Step) (m : Run) (e : Walk) : Type 0 where
       pub beside : Beside e.run (after_bundles n core (begun site input) values (bundles_in steps))
       pub loads : OfLoads Says by_stack steps m

@@ -33,6 +33,7 @@ use Rattle.patmos_model.specs.Cycle.{with_interface}
 use Rattle.patmos_model.specs.Bundle.{ends, moves, with_words, refilled, answered}
 use Rattle.patmos_model.specs.Transaction.{counted, moved, with_store, line_taken, transaction, transaction_then}
 use Rattle.patmos_model.proofs.CellRanges.{cell_in_range}
+use Rattle.core_pace.proofs.StackWords.{put_here, put_there}
 use Rattle.sp_shape.specs.Memory as run
 use Rattle.sp_shape.specs.Memory.{Memory}
 use Rattle.sp_shape.specs.Pointers.{pointers_of}
@@ -46,7 +47,6 @@ use Rattle.code_words.proofs.Acting.{LeavesBy, Done, OfBoth, AfterOneBy, Settles
 use Rattle.code_core.proofs.Effects.{regs_with}
 use Rattle.code_words.proofs.OwnWords.{private_cell, line_cell}
 use Rattle.code_core.proofs.Ports.{IsStill}
-use Rattle.code_core.proofs.StackHeld.{put_here, put_there}
 
 -- over what is said of the value, and the memory that the run then has
 pub record ComesBoard (board : ℕ) (Own : ℕ → Type 0) (e : Effect) (k : Memory) (regs_before : Registers) (words : ℕ → ℕ) (c : Core) : Type 0 where

@@ -22,7 +22,7 @@ found_of false w v e = absurd (true≢false (sym (ap is_some e)))
 back_of : (present : Bool) (w v : ℕ) → present ≡ true → w ≡ v → (if present then Some w else None) ≡ Some v
 back_of present w v on same = ap (λ b. if b then Some w else None) on ∙ ap Some same
 
--- behind a load that hit nothing else is there
+-- after a load that hit nothing else is there
 pub after_hit : (accesses : List Access) (address word other value : ℕ) → cached_word accesses address ≡ Some word → cached_word (accesses ++ Load address None ∷ []) other ≡ Some value
     → cached_word accesses other ≡ Some value
 after_hit accesses address word other value hit found =
@@ -40,7 +40,7 @@ after_hit accesses address word other value hit found =
         back_of (is_present other back) (last_word other back) value (sym (line_present address other back line) ∙ there) h.1
     by false is h = back_of (is_present other back) (last_word other back) value (sym (ap (λ b. if b then line_of address == line_of other else is_present other back) is) ∙ h.0) h.1
 
--- behind one that missed, its line is as it was read
+-- after one that missed, its line is as it was read
 pub after_miss : (accesses : List Access) (address : ℕ) (words : List ℕ) (other value : ℕ) → cached_word (accesses ++ Load address (Some words) ∷ []) other ≡ Some value
     → ((line_of address ≡ line_of other) × (slice_index words (place_of other) ≡ value)) ⊎ (cached_word accesses other ≡ Some value)
 after_miss accesses address words other value found =
@@ -59,7 +59,7 @@ after_miss accesses address words other value found =
         present true same = absurd (true≢false (sym (sym (ap (λ b. if b then line_of address == line_of other else is_present other back) same) ∙ h.0) ∙ is))
         present false apart = sym (ap (λ b. if b then line_of address == line_of other else is_present other back) apart) ∙ h.0
 
--- behind a store its word is the one that was stored
+-- after a store its word is the one that was stored
 pub after_store : (accesses : List Access) (address stored other value : ℕ) → cached_word (accesses ++ Store address stored ∷ []) other ≡ Some value
     → ((address / 4 ≡ other / 4) × (stored ≡ value)) ⊎ (((address / 4 ≡ other / 4) → ⊥) × (cached_word accesses other ≡ Some value))
 after_store accesses address stored other value found =

@@ -1,10 +1,8 @@
 -- What a bundle's effect leaves of a core's own words, its words being moved.
 use Rattle.std.proofs.Common.{◌≡◌, if◌then◌else◌, ℕ, zero, suc, ◌+◌, ◌-◌, ◌*◌, ◌/◌, ◌%◌, ◌<◌, ◌≤◌, ◌==◌, cond, Bool, true, false, List, [], ◌∷◌, ◌++◌, length, Option, None, Some, inl, inr, refl, sym, ap, ◌∙◌, subst, arith}
 use Rattle.std.specs.Prelude.{slice_index, unwrap_or}
-use Rattle.std.proofs.lemmas.Bool.{le-leb, lt-ltb}
 use Rattle.shared_order.specs.Words.{put}
 use Rattle.data_cache.specs.Accesses as cache
-use Rattle.local_store.specs.Map.{cell_at}
 use Rattle.local_store.specs.declared.map.Space.TheVariants.{Local, Main}
 use Rattle.local_store.specs.declared.map.Cell.{Cell}
 use Rattle.local_store.specs.declared.map.Cell.TheVariants as cell
@@ -30,13 +28,14 @@ use Rattle.patmos_model.specs.Cycle.{with_interface}
 use Rattle.patmos_model.specs.Bundle.{ends, moves, with_words, refilled, answered}
 use Rattle.patmos_model.specs.Transaction.{counted, moved, with_store, line_taken, line_address, transaction_then}
 use Rattle.patmos_model.proofs.Leaves.{Leaves}
-use Rattle.core_pace.proofs.StackWords.{kept_below}
+use Rattle.core_pace.proofs.StackWords.{kept_below, put_here, put_there}
 use Rattle.sp_shape.specs.Memory as run
 use Rattle.sp_shape.specs.Memory.{Memory}
 use Rattle.sp_shape.specs.Pointers.{pointers_of}
 use Rattle.sp_shape.specs.Run.{Run, effected}
 use Rattle.code_core.specs.Goes.{by_stack}
 use Rattle.std.proofs.lemmas.List.{map-append}
+use Rattle.local_store.proofs.Cells.{private_at}
 use Rattle.code_core.specs.Held.{HoldsStack, HoldsPorts}
 use Rattle.code_words.specs.Own.{sending_of, HoldsOwn, AreOwn, IsBelow, IsUncached, KeepsApart}
 use Rattle.code_core.specs.Sound.{IsSound, IsLocalLoadable, IsMainLoadable, IsLocalStorable, IsMainStorable}
@@ -45,15 +44,10 @@ use Rattle.code_words.proofs.Saying.{IsOwnWord, OfLoad}
 use Rattle.code_words.proofs.Lines.{after_hit, after_miss, after_store}
 use Rattle.code_core.proofs.Ports.{IsStill}
 use Rattle.code_core.proofs.Settled.{OfTask, Settles, settled, awaits}
-use Rattle.code_core.proofs.StackHeld.{put_here, put_there, reserves}
+use Rattle.code_core.proofs.StackHeld.{reserves}
 
 put_alike : (f g : ℕ → ℕ) (at v w x : ℕ) → v ≡ w → f x ≡ g x → put at v f x ≡ put at w g x
 put_alike f g at v w x same there = λ i. cond (at == x) (same i) (there i)
-
--- a private word below the stack
-private_at : (word at : ℕ) → at ≡ 4 * word → word < 65536 → cell_at Main at ≡ Some (cell.Private word)
-private_at word at is below =
-    rw (le-leb 0 at (omega arith), lt-ltb at (0 + 4 * 65536) (omega (arith, is, below))) (ap (λ n. Some (cell.Private n)) (let e : (at - 0) / 4 ≡ word = omega (arith, is) in e))
 
 pub private_cell : (address : ℕ) → address / 4 < 49152 → cell_of Main address ≡ Some (cell.Private (address / 4))
 private_cell address low = private_at (address / 4) (address / 4 * 4) (omega arith) (omega (arith, low))

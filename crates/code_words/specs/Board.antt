@@ -1,4 +1,4 @@
--- The words that other cores reach too, against a run's.
+-- To be believed. The words that other cores reach too, against a run's.
 use Rattle.std.specs.Prelude.{◌≡◌, ℕ, ◌<◌}
 use Rattle.argo_ni.specs.Packet.{comm_word}
 use Rattle.local_store.specs.declared.map.TheConstants.{COMM_WORDS, SHARED_WORDS}

@@ -1,5 +1,5 @@
--- Which words that other cores reach a task may load and store, and to which cores it may send: what it asks for, and what it
--- has made.
+-- To be believed. Which words that other cores reach a task may load and store, and to which cores it may
+-- send: what it asks for, and what it has made.
 use Rattle.std.specs.Prelude.{◌≡◌, ℕ, true, false, List, Option, Some}
 use Rattle.std.specs.List.{AllByRecursion as Each}
 use Rattle.local_store.specs.declared.map.Cell.{Cell}

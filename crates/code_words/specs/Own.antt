@@ -1,5 +1,5 @@
--- The words that only the core itself can reach, against a run's: the scratchpad, private memory below the stack, and the
--- lines of the data cache, which hold what memory holds at the addresses that are loaded by it.
+-- To be believed. The words that only the core itself can reach, against a run's: the scratchpad, private memory below
+-- the stack, and the lines of the data cache, which hold what memory holds at the addresses that are loaded by it.
 use Rattle.std.specs.Prelude.{◌≡◌, ℕ, ◌/◌, ◌<◌, Option, Some, List, [], ◌∷◌, map}
 use Rattle.data_cache.specs.Accesses as cache
 use Rattle.local_store.specs.declared.map.Cell.{Cell}
@@ -22,7 +22,8 @@ sending_of s = record { target = s.core; from = s.source; to = s.target; count =
 pub record HoldsOwn (Cached : ℕ → Type 0) (m : Memory) (c : Core) : Type 0 where
   pub scratch : (word : ℕ) → c.plain.scratch word ≡ m.scratch word
   pub private : (word : ℕ) → word < STACK_LOWEST → c.plain.private word ≡ m.private word
-  pub fresh : (address word : ℕ) → Cached address → cache.cached_word c.seen.cached address ≡ Some word → word ≡ c.plain.private (address / 4)
+  pub fresh : (address word : ℕ) → Cached address → cache.cached_word c.seen.cached address ≡ Some word
+      → word ≡ c.plain.private (address / 4)
   pub sent : c.seen.sendings ≡ map sending_of m.starts
 
 -- those addresses are of private words below the stack

@@ -1,6 +1,6 @@
 -- How a run grows from cycle to cycle.
 use Rattle.std.proofs.Common.{◌≡◌, ℕ, zero, suc, ◌+◌, ◌-◌, ◌<◌, ◌≤◌, ◌==◌, ◌&&◌, nat_lt, min, Bool, true, false, List, [], ◌∷◌, ◌++◌, filter, cond, refl, sym, ap, ◌∙◌, subst, arith, append-nil, inl, Some, None}
-use Rattle.std.proofs.lemmas.Bool.{eqb-true, lt-ltb, le-ltb}
+use Rattle.std.proofs.lemmas.Bool.{eqb-true, lt-ltb, le-ltb, and_parts}
 use Rattle.std.proofs.lemmas.List.Elements.{filter-append}
 use Rattle.slot_arbiter.specs.declared.event.Access.{Access}
 use Rattle.slot_arbiter.specs.Stamp.{stamp}
@@ -27,7 +27,7 @@ use Rattle.core_pace.specs.Pace.{Pace, Event, pace_of, is_loaded, asks, asked_by
 use Rattle.core_pace.specs.Growth.{below, IsSameTask}
 use Rattle.core_pace.specs.Run.{done_below}
 use Rattle.core_pace.proofs.Parts.{leaves_map, leaves_then, fed_leaves}
-use Rattle.core_pace.proofs.OwnActs.{Lands, stays, halts, goes, lands, each, asleep}
+use Rattle.core_pace.proofs.OwnActs.{Lands, stays, halts, goes, lands, asleep}
 use Rattle.core_pace.proofs.Answered.{LeavesAs, Bundles, traps, does, leaves_bundle, bursted, leaves_transaction}
 use Rattle.core_pace.proofs.Waits.{same_again, interface_apart, settled_leaves}
 
@@ -117,7 +117,7 @@ SameAccesses c y = y.core.seen.accesses ≡ c.seen.accesses
 bundle_accesses : (c : Core) (u : ℕ) → is_free u c.plain ≡ true → Leaves (SameAccesses c) (bundle u c)
 unfolding SameAccesses
 bundle_accesses c u free =
-    let at : c.plain.free ≡ u = eqb-true c.plain.free u (each (c.plain.transfer.words == 0) (c.plain.free == u) free).1 in
+    let at : c.plain.free ≡ u = eqb-true c.plain.free u (and_parts (c.plain.transfer.words == 0) (c.plain.free == u) free).1 in
     leaves_map (Bundles c (bundle_event (fetched_in c.plain) c.plain)) (SameAccesses c) (bundles_accesses c (bundle_event (fetched_in c.plain) c.plain)) (bundle u c)
     (subst (λ t. Leaves (Bundles c (bundle_event (fetched_in c.plain) c.plain)) (done_as (fetched_in c.plain) t c)) at (leaves_bundle (fetched_in c.plain) c))
 

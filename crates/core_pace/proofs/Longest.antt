@@ -19,7 +19,7 @@ made_in site zero t words write = refl
 made_in site (suc count) t words write = ap suc (made_in site count (start_in site t + site.slot) (words - 4) write)
 
 -- each takes no more than its most
-ends_within : (site : Site) (count t : ℕ) → IsSlotted site → end_from site count t ≤ t + most_in_slot site * count
+pub ends_within : (site : Site) (count t : ℕ) → IsSlotted site → end_from site count t ≤ t + most_in_slot site * count
 ends_within site zero t slots = omega arith
 ends_within site (suc count) t slots =
     let u : ℕ = start_in site t in

@@ -1,6 +1,6 @@
 -- From a moment in which a core is about to do a bundle to the next.
 use Rattle.std.proofs.Common.{◌≡◌, ℕ, suc, ◌+◌, ◌<◌, ◌≤◌, ◌==◌, ◌&&◌, not, Bool, true, false, List, [], ◌∷◌, ◌++◌, Option, None, Some, refl, sym, ap, ◌∙◌, subst, arith, append-nil, inl, inr, ◌⊎◌}
-use Rattle.std.proofs.lemmas.Bool.{eqb-true, eq-eqb}
+use Rattle.std.proofs.lemmas.Bool.{eqb-true, eq-eqb, and_parts, and_from}
 use Rattle.slot_arbiter.specs.Stamp.{stamp}
 use Rattle.shared_order.specs.Program.{and_then, fed}
 use Rattle.method_cache.specs.declared.cache.Method.{Method}
@@ -29,7 +29,7 @@ use Rattle.core_pace.specs.Moment.{Moment, core_in, done_by, done_in, landed, fe
 use Rattle.core_pace.specs.Next.{IsAboutTo, IsAtBundle, IsDue, ComesTo, about_to, ended, trapped, is_due_flow, line_in, bundled, landing, all_moved, next}
 use Rattle.core_pace.specs.Pace.{Pace, Event, pace_of, asks_method, asked_by, carried, clock, event_of, bundle_event, goal_event, flow_event, landing_event, events_in}
 use Rattle.core_pace.proofs.Parts.{leaves_map}
-use Rattle.core_pace.proofs.OwnActs.{Follows, Lands, stays, halts, goes, each, both, none_done, idle_or_busy, not_free, idle_not_due, sleeps_early, early_not_due, landed_running, landed_stopped, flow_stays, bundle_first, lands, gone_status, gone_flow, running_status, landed_first}
+use Rattle.core_pace.proofs.OwnActs.{Follows, Lands, stays, halts, goes, none_done, idle_or_busy, not_free, idle_not_due, sleeps_early, early_not_due, landed_running, landed_stopped, flow_stays, bundle_first, lands, gone_status, gone_flow, running_status, landed_first}
 use Rattle.core_pace.proofs.Answered.{Bundles, traps, does, leaves_bundle, Asks, some_words, no_words, asks_of_event}
 use Rattle.core_pace.proofs.Waits.{Enters, acting_leaves, acts_first}
 use Rattle.core_pace.proofs.Quick.{nothing_moved, freed_now}
@@ -77,7 +77,7 @@ record Ready (u : ℕ) (c : Core) : Type 0 where
 ready : (m : Moment) → IsAboutTo m → Ready m.cycle (core_in m)
 ready m about =
     let x : Plain = (core_in m).plain in
-    let tests = each (x.transfer.words == 0) (x.free == m.cycle) about.free in
+    let tests = and_parts (x.transfer.words == 0) (x.free == m.cycle) about.free in
     record {
       runs = about.running;
       status = running_status x about.running;
@@ -342,7 +342,7 @@ lands_to : (c : Core) (u : ℕ) → c.plain.transfer.words ≡ 0 → c.plain.fre
 lands_to c u words free line halted = by (is_running c.plain) refl
   where
     free_test : is_free u c.plain ≡ true
-    free_test = both (c.plain.transfer.words == 0) (c.plain.free == u) (eq-eqb c.plain.transfer.words 0 words) (eq-eqb c.plain.free u free)
+    free_test = and_from (c.plain.transfer.words == 0) (c.plain.free == u) (eq-eqb c.plain.transfer.words 0 words) (eq-eqb c.plain.free u free)
 
     events_by : Bool → List Event
     events_by b = elim b as (λ _. List Event) [ true ↦ flow_event u c.plain | false ↦ [] ]
@@ -415,7 +415,7 @@ module _ (n core : ℕ) where
       by : (b : Bool) → is_running y ≡ b → RunsOrHalted (core_in m) → ComesTo m
       by true runs halted = about_to (record {
         running = runs;
-        free = both (y.transfer.words == 0) (y.free == m.cycle) (eq-eqb y.transfer.words 0 words) (eq-eqb y.free m.cycle free);
+        free = and_from (y.transfer.words == 0) (y.free == m.cycle) (eq-eqb y.transfer.words 0 words) (eq-eqb y.free m.cycle free);
         settled = settled runs;
         no_line = line;
       })
@@ -425,7 +425,7 @@ module _ (n core : ℕ) where
           ended runs (has_end (has_ended y) test) free
       by false still (inr stop) = trapped stop.0 (stop.1.0 ∙ ap (Trapped stop.0) free)
 
-  -- behind its bundle, the words of which are moved, a core has nothing to move, and goes on in that cycle
+  -- after its bundle, the words of which are moved, a core has nothing to move, and goes on in that cycle
   pub record IsBehind (m : Moment) : Type 0 where
     pub words : (core_in (all_moved n core (bundled n core m))).plain.transfer.words ≡ 0
     pub free : (core_in (all_moved n core (bundled n core m))).plain.free ≡ (all_moved n core (bundled n core m)).cycle

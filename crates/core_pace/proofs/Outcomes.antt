@@ -1,6 +1,6 @@
 -- The outcome of a task that has ended.
 use Rattle.std.proofs.Common.{◌≡◌, ℕ, ◌-◌, ◌≤◌, ◌&&◌, not, nat_le, Bool, true, false, List, slice_index, refl, sym, ap, ◌∙◌, subst, arith, inl, inr}
-use Rattle.std.proofs.lemmas.Bool.{cases_lt, le-leb}
+use Rattle.std.proofs.lemmas.Bool.{cases_lt, le-leb, and_from}
 use Rattle.shared_order.specs.Apart.{apart}
 use Rattle.patmos_model.specs.declared.state.Status.{Status}
 use Rattle.patmos_model.specs.declared.state.Status.TheVariants as status
@@ -15,7 +15,6 @@ use Rattle.core_pace.specs.Spans.{IsSlotted}
 use Rattle.core_pace.specs.Moment.{Moment, core_in}
 use Rattle.core_pace.specs.Growth.{IsSameTask}
 use Rattle.core_pace.specs.Run.{after_bundles}
-use Rattle.core_pace.proofs.OwnActs.{both}
 use Rattle.core_pace.proofs.Bundlewise.{all_passed, cut_ended, cut_ended_there}
 
 -- a core with a task that does not run has ended it
@@ -41,7 +40,7 @@ done_at limit x runs ended within =
     ∙ ap (λ b. elim b as (λ _. CoreState) [
       | true ↦ Done (slice_index x.regs.general 1) (slice_index x.regs.general 2) (x.free - x.site.start)
       | false ↦ Running
-    ]) (both (has_ended x) (nat_le x.free limit) ended (le-leb x.free limit within))
+    ]) (and_from (has_ended x) (nat_le x.free limit) ended (le-leb x.free limit within))
 
 pub ended_is_done : (n core : ℕ) (site : Site) (input values : List ℕ) (count limit : ℕ) → IsSlotted site
     → (core_in (after_bundles n core (begun site input) values count)).plain.status ≡ status.Running

@@ -1,6 +1,6 @@
 -- What a core's own act in a cycle comes to: nothing, a transaction, or a bundle and what follows on it.
 use Rattle.std.proofs.Common.{◌≡◌, ℕ, ◌<◌, ◌≤◌, ◌==◌, ◌&&◌, not, nat_le, nat_lt, Bool, true, false, List, [], ◌∷◌, Option, None, Some, refl, sym, ap, ◌∙◌, subst, arith, inl, inr, ◌⊎◌}
-use Rattle.std.proofs.lemmas.Bool.{eqb-true, ne_eqb, le-leb, lt-leb, lt-ltb}
+use Rattle.std.proofs.lemmas.Bool.{eqb-true, ne_eqb, le-leb, lt-leb, lt-ltb, and_parts, and_from}
 use Rattle.slot_arbiter.specs.Slot.{is_slot_start}
 use Rattle.shared_order.specs.Program.{Prog, done, set, and_then}
 use Rattle.patmos_model.specs.declared.flow.Flow.{Flow}
@@ -17,59 +17,20 @@ use Rattle.patmos_model.specs.Transaction.{transaction, is_due}
 use Rattle.patmos_model.specs.Flows.{flowed, taken, gone, is_placed}
 use Rattle.patmos_model.specs.Cycle.{own, bundle_step, slot_step, if_running, settled}
 use Rattle.patmos_model.proofs.Leaves.{Leaves}
+use Rattle.patmos_model.proofs.Parts.{in_line}
+use Rattle.patmos_model.proofs.Waits.{none_right, none_left, words_test, stopped_own, flow_waits, bundle_waits, bundle_if_running, slot_waits}
 use Rattle.core_pace.specs.Moment.{Done, done_by, done_in, landed, fetched_in, passes}
 use Rattle.core_pace.specs.Next.{is_due_flow}
 use Rattle.core_pace.specs.Pace.{Event, goal_event, flow_event}
-use Rattle.core_pace.proofs.Parts.{in_line, then_same, leaves_map}
+use Rattle.core_pace.proofs.Parts.{then_same, leaves_map}
 
 -- ---- tests
-
-pub none_right : (a b : Bool) → b ≡ false → (a && b) ≡ false
-none_right true b h = h
-none_right false b h = refl
-
-pub none_left : (a b : Bool) → a ≡ false → (a && b) ≡ false
-none_left a b h = ap (λ x. x && b) h
-
-pub both : (a b : Bool) → a ≡ true → b ≡ true → (a && b) ≡ true
-both a b p q = cc
-
-pub each : (a b : Bool) → (a && b) ≡ true → (a ≡ true) × (b ≡ true)
-each true b h = (refl, h)
-each false b h = cc
 
 -- ---- a core that does nothing in a cycle
 
 -- it does not run; or it is neither free nor can move words
 abbrev pub Sleeps : ℕ → Plain → Type 0
 Sleeps cycle x = (is_running x ≡ false) ⊎ ((is_free cycle x ≡ false) × (is_due cycle x ≡ false))
-
-stopped_own : (c : Core) (u : ℕ) → is_running c.plain ≡ false → own u c ≡ now c
-stopped_own c u is = ap (λ b. elim b as (λ _. Prog Acted) [
-  | true ↦ and_then (if_running (bundle_step u) (flowed u c)) (slot_step u)
-  | false ↦ now c
-]) is
-
-pub flow_waits : (c : Core) (u : ℕ) → is_free u c.plain ≡ false → flowed u c ≡ c
-unfolding flowed
-flow_waits c u busy = ap (λ b. elim b as (λ _. Core) [
-  | true ↦ elim c.plain.flow [
-    | None ↦ c
-    | Some f ↦ elim (f.slots == 0) [ true ↦ taken u f.goal c | false ↦ c ]
-  ]
-  | false ↦ c
-]) busy
-
-bundle_waits : (c : Core) (u : ℕ) → is_free u c.plain ≡ false → bundle_step u c ≡ now c
-bundle_waits c u busy = ap (λ b. elim b as (λ _. Prog Acted) [ true ↦ bundle u c | false ↦ now c ]) busy
-
-pub slot_waits : (a : Acted) (u : ℕ) → is_due u a.core.plain ≡ false → slot_step u a ≡ done a
-slot_waits a u none = ap (λ b. elim b as (λ _. Prog Acted) [ true ↦ transaction u a.core | false ↦ done a ]) none
-
-bundle_if_running : (c : Core) (u : ℕ) (runs : Bool) → bundle_step u c ≡ now c
-    → elim runs as (λ _. Prog Acted) [ true ↦ bundle_step u c | false ↦ now c ] ≡ now c
-bundle_if_running c u true none = none
-bundle_if_running c u false none = refl
 
 -- a core that runs and is not free only moves words
 busy_own : (c : Core) (u : ℕ) → is_running c.plain ≡ true → is_free u c.plain ≡ false → own u c ≡ slot_step u (record { core = c; pending_store = None })
@@ -123,9 +84,6 @@ idle_or_busy c u (inr waits) = inr waits.0
 
 -- ---- when it sleeps
 
-pub words_test : (words : ℕ) → 0 < words → (words == 0) ≡ false
-words_test words some = ne_eqb words 0 (λ e. omega (arith, some, e))
-
 pub not_free : (x : Plain) (u : ℕ) → 0 < x.transfer.words → is_free u x ≡ false
 not_free x u some = none_left (x.transfer.words == 0) (x.free == u) (words_test x.transfer.words some)
 
@@ -166,9 +124,9 @@ pub transaction_own : (c : Core) (u : ℕ) → c.plain.status ≡ Running → 0 
 transaction_own c u status some free start =
     busy_own c u (moving_runs c.plain status some) (not_free c.plain u some)
     ∙ ap (λ b. elim b as (λ _. Prog Acted) [ true ↦ transaction u c | false ↦ done (record { core = c; pending_store = None }) ])
-    (both (nat_lt 0 c.plain.transfer.words) (nat_le c.plain.free u && is_slot_start c.plain.site.table c.plain.site.slot c.plain.site.core u)
+    (and_from (nat_lt 0 c.plain.transfer.words) (nat_le c.plain.free u && is_slot_start c.plain.site.table c.plain.site.slot c.plain.site.core u)
     (lt-ltb 0 c.plain.transfer.words some)
-    (both (nat_le c.plain.free u) (is_slot_start c.plain.site.table c.plain.site.slot c.plain.site.core u) (le-leb c.plain.free u free) start))
+    (and_from (nat_le c.plain.free u) (is_slot_start c.plain.site.table c.plain.site.slot c.plain.site.core u) (le-leb c.plain.free u free) start))
 
 -- ---- a program after which the core sleeps is all of the cycle's act
 
@@ -333,7 +291,7 @@ pub gone_stays : (goal : Goal) (c : Core) (u : ℕ) → flowed u (gone goal c) �
 gone_stays goal c u = flow_stays (gone goal c) u (ap is_due_flow (gone_flow goal c))
 
 free_words : (x : Plain) (u : ℕ) → is_free u x ≡ true → x.transfer.words ≡ 0
-free_words x u free = eqb-true x.transfer.words 0 (each (x.transfer.words == 0) (x.free == u) free).0
+free_words x u free = eqb-true x.transfer.words 0 (and_parts (x.transfer.words == 0) (x.free == u) free).0
 
 pub idle_not_due : (x : Plain) (u : ℕ) → x.transfer.words ≡ 0 → is_due u x ≡ false
 idle_not_due x u none = none_left (nat_lt 0 x.transfer.words) (nat_le x.free u && is_slot_start x.site.table x.site.slot x.site.core u) (ap (nat_lt 0) none)

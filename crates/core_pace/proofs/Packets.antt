@@ -16,11 +16,8 @@ use Rattle.argo_ni.specs.Range.{IsBound}
 use Rattle.argo_ni.specs.Turn.{comes, sends, target_at, packet_size, delivered, delivery, injected, injection}
 use Rattle.patmos_model.specs.Apart.{Followed, followed, after_delivery, after_injection, injected as own_injected}
 use Rattle.patmos_model.specs.Cycle.{with_interface, own, settled, delivered as own_delivered}
-use Rattle.patmos_model.specs.Cycle.{turn}
 use Rattle.patmos_model.specs.State.{Core}
-use Rattle.shared_order.specs.Apart.{apart}
 use Rattle.core_pace.specs.Stores.{Comes, ComesAll}
-use Rattle.core_pace.proofs.Growing.{told_before, run_before}
 use Rattle.shared_order.proofs.SomeWords.{Agree, agree_after, agree_trans, leave_after, on_agreed, on-append, on_first, on_rest}
 
 -- the program stores in such words alone
@@ -81,9 +78,6 @@ stores_injection W cycle x = by (sends x cycle)
     by false = tt
 
 -- ---- the run
-
-pub followed_run : (n core : ℕ) (x : Core) (values : List ℕ) (t : ℕ) → (followed n core x values t).run ≡ apart turn n core x values t
-followed_run n core x values t = ap (λ (f : Followed). f.run) (sym (told_before n core x values t)) ∙ run_before n core x values t
 
 module _ (n core : ℕ) (x : Core) (values : List ℕ) where
   -- the packets that are under way before a cycle come to such words

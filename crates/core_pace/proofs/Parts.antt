@@ -1,20 +1,12 @@
 -- Programs in parts, and what they leave whatever their loads give.
-use Rattle.std.proofs.Common.{◌≡◌, ℕ, List, ◌++◌, refl, sym, ap, ◌∙◌, append_assoc, append-nil}
-use Rattle.shared_order.specs.declared.operation.Operation.{Operation}
+use Rattle.std.proofs.Common.{◌≡◌, ℕ, List, refl, sym, ap, ◌∙◌, append_assoc, append-nil}
 use Rattle.shared_order.specs.Program.{Prog, done, get, set, and_then, Fed, fed, first, others}
-use Rattle.shared_order.specs.Apart.{gone_on}
 use Rattle.shared_order.proofs.Parts.{fed-then}
 use Rattle.argo_ni.specs.Interface.{Interface}
 use Rattle.patmos_model.specs.State.{Core}
 use Rattle.patmos_model.specs.Cycle.{with_interface}
 use Rattle.patmos_model.specs.Apart.{Followed, by_task}
 use Rattle.patmos_model.proofs.Leaves.{Leaves}
-
--- one program after another, and then a third
-pub in_line : {X Y Z : Type 0} (p : Prog X) (f : X → Prog Y) (g : Y → Prog Z) → and_then (and_then p f) g ≡ and_then p (λ x. and_then (f x) g)
-in_line (done x) f g = refl
-in_line (get word go_on) f g = λ i. get word (λ value. in_line (go_on value) f g i)
-in_line (set word value rest) f g = λ i. set word value (in_line rest f g i)
 
 -- what follows may be told in two ways that are one after all that the program leaves
 pub then_same : {X Y : Type 0} (f g : X → Prog Y) (p : Prog X) → Leaves (λ x. f x ≡ g x) p → and_then p f ≡ and_then p g
@@ -37,15 +29,6 @@ pub fed_leaves : {X : Type 0} (P : X → Type 0) (s : ℕ) (p : Prog X) (values 
 fed_leaves P s (done x) values h = h
 fed_leaves P s (get word go_on) values h = fed_leaves P s (go_on (first values)) (others values) (h (first values))
 fed_leaves P s (set word value rest) values h = fed_leaves P s rest values h
-
--- two programs at one stamp go on one after the other
-pub gone_in_parts : {X Y : Type 0} (s : ℕ) (p : Prog X) (f : X → Prog Y) (values : List ℕ) (made : List Operation) →
-    gone_on (fed s (and_then p f) values) made
-    ≡ gone_on (fed s (f (fed s p values).core) (fed s p values).left) (made ++ (fed s p values).ops)
-gone_in_parts {X} {Y} s p f values made =
-    let then_on : Fed Y = fed s (f (fed s p values).core) (fed s p values).left in
-    ap (λ (x : Fed Y). gone_on x made) (fed-then s p f values)
-    ∙ ap (λ ops. record { core = then_on.core; left = then_on.left; made = ops }) (sym (append_assoc made (fed s p values).ops then_on.ops))
 
 -- and so does the task
 pub by_task_in_parts : (s : ℕ) (p : Prog Core) (f : Core → Prog Core) (t : Followed)

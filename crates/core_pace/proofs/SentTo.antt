@@ -20,8 +20,7 @@ use Rattle.argo_ni.specs.Turn.{comes, sends, target_at, packet_size, moved_on, p
 use Rattle.argo_ni.proofs.Acts.{sends_means}
 use Rattle.patmos_model.specs.State.{Sending}
 use Rattle.core_pace.specs.Stores.{is_sent_to, SendsAsAsked}
-use Rattle.patmos_model.proofs.Leaves.{Leaves}
-use Rattle.core_pace.proofs.TaskApart.{leaves_written, leaves_gets}
+use Rattle.patmos_model.proofs.Leaves.{Leaves, leaves_written, leaves_gets}
 
 -- ---- one transfer more
 

@@ -3,14 +3,12 @@ use Rattle.std.proofs.Common.{◌≡◌, ℕ, zero, suc, ◌+◌, ◌-◌, ◌*�
 use Rattle.std.proofs.Math.Nat.{add-mod_right}
 use Rattle.std.proofs.lemmas.Nat.{mod_below, div-add-mod', mod-mul-add, div-mul-add, mul-le}
 use Rattle.std.proofs.lemmas.Bool.{cases_lt}
-use Rattle.std.proofs.lemmas.List.Folds.{Any-from_list_any}
-use Rattle.std.proofs.lemmas.Grind.{get_or_default_zero}
 use Rattle.std.specs.Int.{div_ceil}
-use Rattle.slot_arbiter.specs.Table.{has_entry, is_owned}
+use Rattle.slot_arbiter.specs.Table.{is_owned}
 use Rattle.slot_arbiter.specs.Slot.{is_slot_start, period}
 use Rattle.slot_arbiter.specs.Order.{IsNext, IsGap, OutlastsWaits}
 use Rattle.slot_arbiter.proofs.Cycles.{IsCeiling, ceiling, start_near, start_of_slot}
-use Rattle.slot_arbiter.proofs.Turns.{reach}
+use Rattle.slot_arbiter.proofs.Turns.{next_same, comes}
 use Rattle.core_pace.specs.Starts.{HasSlots, first_passing, start_from, greatest_gap, gap_in}
 
 -- what passes after a number that does not comes later
@@ -42,18 +40,7 @@ first_is_next test (suc n) t k below there =
               after.least v (omega arith) own;
         }
 
--- a number has one next
-pub next_same : (test : ℕ → Bool) (t u v : ℕ) → IsNext test t u → IsNext test t v → u ≡ v
-next_same test t u v a b = omega (arith, a.least v b.from b.passes, b.least u a.from a.passes)
-
 -- ---- a core with an entry has a slot start within a period
-
--- from any slot on, a core that has an entry owns a slot within one round
-comes : (table : List ℕ) (core first : ℕ) → has_entry table core ≡ true → (k : ℕ) × ((k < length table) × (is_owned table core (first + k) ≡ true))
-comes table core first h =
-    let entry = Any-from_list_any (λ e. e == core) table h in
-    let at = reach (length table) first entry.0 entry.2 in
-    (at.0, (at.1.0, ap (λ i. slice_index table i == core) at.1.1 ∙ ap (λ e. e == core) (sym (get_or_default_zero table entry.0 entry.1 entry.2) ∙ entry.3) ∙ entry.4))
 
 -- an own slot is the next from its number on
 next_here : (test : ℕ → Bool) (t : ℕ) → test t ≡ true → IsNext test t t

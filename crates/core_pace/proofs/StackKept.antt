@@ -1,6 +1,6 @@
 -- The stack stays one: its words stand between its pointers, no more than the cache has, in the stack's region.
 use Rattle.std.proofs.Common.{◌≡◌, ℕ, zero, suc, ◌+◌, ◌-◌, ◌/◌, ◌≤◌, ◌==◌, nat_le, min, Bool, true, false, List, [], ◌∷◌, ◌++◌, length, take, drop, replicate, slice_index, slice_set, Option, None, Some, refl, sym, ap, ◌∙◌, subst, arith, length-take, length-drop, length-append}
-use Rattle.std.proofs.lemmas.Bool.{leb-true}
+use Rattle.std.proofs.lemmas.Bool.{leb-true, and_parts}
 use Rattle.std.proofs.lemmas.List.{length-set, length-replicate}
 use Rattle.std.proofs.lemmas.List.FromFn.{length-map-range_with_len}
 use Rattle.slot_arbiter.specs.Stamp.{stamp}
@@ -45,7 +45,7 @@ use Rattle.patmos_model.proofs.Leaves.{Leaves}
 use Rattle.core_pace.specs.Moment.{Moment, fetched_in}
 use Rattle.core_pace.specs.Pace.{flow_event}
 use Rattle.core_pace.proofs.Parts.{leaves_then, fed_leaves}
-use Rattle.core_pace.proofs.OwnActs.{Lands, stays, halts, goes, lands, each}
+use Rattle.core_pace.proofs.OwnActs.{Lands, stays, halts, goes, lands}
 use Rattle.core_pace.proofs.Answered.{leaves_reading, leaves_reading_line}
 use Rattle.core_pace.proofs.Waits.{interface_apart, settled_leaves}
 
@@ -146,17 +146,17 @@ held_moves t u c h = by (t.words == 0)
 
 held_stacked : (func : StackFunc) (count u : ℕ) (c : Core) → IsStack c.plain.stack → has_room func count c.plain.stack ≡ true → IsStack (with_plain (stacked func count u) c).plain.stack
 held_stacked Sres count u c h room =
-    let tests = each (nat_le count 128) (nat_le (49152 + count) c.plain.stack.st) room in
+    let tests = and_parts (nat_le count 128) (nat_le (49152 + count) c.plain.stack.st) room in
     held_moves (writes (length (spilled count c.plain.stack)) then_on.Nothing) u (with_plain (λ x. record x {
       stack = reserved count x.stack;
       private = with_words (reserved count x.stack).ss (spilled count x.stack) x.private;
     }) c) (reserved_is_stack count c.plain.stack h (leb-true (49152 + count) c.plain.stack.st tests.1))
 held_stacked Sens count u c h room =
-    let tests = each (nat_le count 128) (nat_le (c.plain.stack.st + count) 65536) room in
+    let tests = and_parts (nat_le count 128) (nat_le (c.plain.stack.st + count) 65536) room in
     held_moves (reads (missing count c.plain.stack) then_on.Nothing) u (with_plain (λ x. record x { stack = refilled count x.private x.stack }) c)
     (refilled_is_stack count c.plain.private c.plain.stack h (leb-true count 128 tests.0) (leb-true (c.plain.stack.st + count) 65536 tests.1))
 held_stacked Sfree count u c h room =
-    let tests = each (nat_le count 128) (nat_le (c.plain.stack.st + count) 65536) room in
+    let tests = and_parts (nat_le count 128) (nat_le (c.plain.stack.st + count) 65536) room in
     freed_is_stack count c.plain.stack h (leb-true (c.plain.stack.st + count) 65536 tests.1)
 
 held_cached : (rd : ℕ) (width : Width) (address u : ℕ) (c : Core) → IsStack c.plain.stack → IsStack (cache_loaded rd width address u c).plain.stack

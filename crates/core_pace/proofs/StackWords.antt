@@ -7,10 +7,10 @@ use Rattle.stack_cache.specs.Stack.{Stack, IsStack, grown, reserved, spilled, mi
 use Rattle.stack_cache.proofs.Return.{kept, gone}
 use Rattle.patmos_model.specs.Bundle.{words_from, with_words, refilled}
 
-put_here : (memory : ℕ → ℕ) (word value : ℕ) → put word value memory word ≡ value
+pub put_here : (memory : ℕ → ℕ) (word value : ℕ) → put word value memory word ≡ value
 put_here memory word value = ap (λ b. cond b value (memory word)) (eq-eqb word word refl)
 
-put_there : (memory : ℕ → ℕ) (word value other : ℕ) → (word ≡ other → ⊥) → put word value memory other ≡ memory other
+pub put_there : (memory : ℕ → ℕ) (word value other : ℕ) → (word ≡ other → ⊥) → put word value memory other ≡ memory other
 put_there memory word value other away = ap (λ b. cond b value (memory other)) (ne_eqb word other away)
 
 pub kept_below : (memory : ℕ → ℕ) (from : ℕ) (words : List ℕ) (word : ℕ) → word < from → with_words from words memory word ≡ memory word

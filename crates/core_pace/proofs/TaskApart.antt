@@ -1,37 +1,24 @@
 -- The task by itself is the run apart without what its interface reads.
-use Rattle.std.proofs.Common.{◌≡◌, ℕ, zero, suc, ◌+◌, ◌==◌, Bool, true, false, List, [], ◌∷◌, ◌++◌, filter, refl, sym, ap, ◌∙◌, append_assoc, append-nil}
+use Rattle.std.proofs.Common.{◌≡◌, ℕ, zero, suc, ◌+◌, ◌==◌, Bool, true, false, List, [], ◌++◌, filter, refl, sym, ap, ◌∙◌, append_assoc, append-nil}
 use Rattle.slot_arbiter.specs.Stamp.{stamp}
 use Rattle.shared_order.specs.Operation.{loads}
-use Rattle.shared_order.specs.Program.{Prog, done, gets, sets, and_then, Fed, fed}
+use Rattle.shared_order.specs.Program.{Prog, done, gets, and_then, Fed, fed}
 use Rattle.shared_order.specs.Apart.{Alone, gone_on}
 use Rattle.shared_order.proofs.Parts.{fed-then}
 use Rattle.shared_order.proofs.Runs.{fed_fed}
 use Rattle.shared_order.proofs.Lists.{loads-append}
-use Rattle.argo_ni.specs.declared.packet.Packet.{Packet}
-use Rattle.argo_ni.specs.Packet.{carried, comm_word, written}
+use Rattle.argo_ni.specs.Packet.{comm_word, written}
 use Rattle.argo_ni.specs.Interface.{Interface, port_to}
 use Rattle.argo_ni.specs.Turn.{comes, sends, target_at, packet_size, delivered, delivery, injected, injection}
 use Rattle.patmos_model.specs.State.{Core}
 use Rattle.patmos_model.specs.Cycle.{with_interface, own, settled}
 use Rattle.patmos_model.specs.Apart.{Followed, followed, after_delivery, after_injection}
-use Rattle.patmos_model.proofs.Leaves.{Leaves}
+use Rattle.patmos_model.proofs.Leaves.{Leaves, leaves_written, leaves_gets}
 use Rattle.core_pace.specs.Task.{no_packets, unsent, counted_down, unheard, task_turn, task_apart}
 use Rattle.core_pace.proofs.Parts.{fed_leaves, with_interface_left}
 use Rattle.core_pace.proofs.Unsent.{forgets_act}
 
 -- ---- the interface
-
-leaves_sets : {X : Type 0} (P : X → Type 0) (word : ℕ) (values : List ℕ) (rest : Prog X) → Leaves P rest → Leaves P (sets word values rest)
-leaves_sets P word [] rest h = h
-leaves_sets P word (value ∷ values) rest h = leaves_sets P (word + 1) values rest h
-
-pub leaves_written : {X : Type 0} (P : X → Type 0) (ps : List Packet) (rest : Prog X) → Leaves P rest → Leaves P (written ps rest)
-leaves_written P [] rest h = h
-leaves_written P (p ∷ ps) rest h = leaves_sets P (comm_word p.target p.first) (carried p.payload) (written ps rest) (leaves_written P ps rest h)
-
-pub leaves_gets : {X : Type 0} (P : X → Type 0) (count word : ℕ) (go_on : List ℕ → Prog X) → ((values : List ℕ) → Leaves P (go_on values)) → Leaves P (gets count word go_on)
-leaves_gets P zero word go_on h = h []
-leaves_gets P (suc count) word go_on h = λ value. leaves_gets P count (word + 1) (λ values. go_on (value ∷ values)) (λ values. h (value ∷ values))
 
 -- deliveries change the packets alone
 delivery_leaves : (cycle : ℕ) (x : Interface) → Leaves (λ i. no_packets i ≡ no_packets x) (delivery cycle x)

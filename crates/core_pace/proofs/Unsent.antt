@@ -40,8 +40,9 @@ use Rattle.patmos_model.specs.Transaction.{counted, moved, with_store, line_take
 use Rattle.patmos_model.specs.Cycle.{own, bundle_step, slot_step, if_running, settled}
 use Rattle.patmos_model.proofs.Leaves.{Leaves}
 use Rattle.stack_cache.specs.Stack.{reserved, spilled, missing}
+use Rattle.patmos_model.proofs.Parts.{in_line}
 use Rattle.core_pace.specs.Task.{no_packets, unsent}
-use Rattle.core_pace.proofs.Parts.{in_line, then_same}
+use Rattle.core_pace.proofs.Parts.{then_same}
 
 -- what is left by an act, without packets
 abbrev pub unsent_act : Acted → Acted

@@ -1,4 +1,4 @@
--- How long events take at most.
+-- To be believed. How long events take at most.
 use Rattle.std.specs.Prelude.{ℕ, ◌+◌, ◌-◌, List, [], ◌∷◌}
 use Rattle.patmos_model.specs.Site.{Site}
 use Rattle.core_pace.specs.Starts.{gap_in}

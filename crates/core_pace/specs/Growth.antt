@@ -1,4 +1,4 @@
--- How a run grows: what it has made stays, and a task that has ended or was stopped stays as it is.
+-- To be believed. How a run grows: what it has made stays, and a task that has ended or was stopped stays as it is.
 use Rattle.std.specs.Prelude.{◌≡◌, ℕ, nat_lt, List, ◌++◌, filter}
 use Rattle.slot_arbiter.specs.declared.event.Access.{Access}
 use Rattle.patmos_model.specs.State.{Core}

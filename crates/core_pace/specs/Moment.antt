@@ -1,5 +1,5 @@
--- Moments of a run apart. A moment stands within a cycle, after the interface's part of it: what is left of the cycle is
--- the task's own part, or the rest of that.
+-- To be believed. Moments of a run apart. A moment stands within a cycle, after the interface's part of it: what is
+-- left of the cycle is the task's own part, or the rest of that.
 use Rattle.std.specs.Prelude.{◌≡◌, ℕ, zero, suc, Bool, true, false, ◌&&◌, List, [], ◌∷◌, ◌++◌, is_none}
 use Rattle.shared_order.specs.Apart.{alone}
 use Rattle.patmos_sem.specs.Bundles.{effect_of}

@@ -1,5 +1,5 @@
--- From one bundle to the next: what a core that is about to do a bundle makes of it, of the words that it moves, and of
--- a flow that then takes effect.
+-- To be believed. From one bundle to the next: what a core that is about to do a bundle makes of it, of the words
+-- that it moves, and of a flow that then takes effect.
 use Rattle.std.specs.Prelude.{◌≡◌, ℕ, zero, suc, ◌-◌, ◌<◌, ◌≤◌, Bool, true, false, ◌==◌, List, ◌++◌, Option, None, Some}
 use Rattle.slot_arbiter.specs.Stamp.{stamp}
 use Rattle.shared_order.specs.Program.{Prog, fed, and_then}
@@ -49,11 +49,12 @@ pub record IsDue (m : Moment) : Type 0 where
   pub moving : 0 < (core_in m).plain.transfer.words
       → ((core_in m).plain.status ≡ Running) × ((core_in m).plain.free ≡ m.cycle)
 
--- What a core comes to after a bundle: it is about to do the next one; its task has ended; or it was stopped; each in this
--- cycle.
+-- What a core comes to after a bundle: it is about to do the next one; its task has
+-- ended; or it was stopped; each in this cycle.
 pub data ComesTo (m : Moment) : Type 0 where
   about_to : IsAboutTo m → ComesTo m
-  ended : (core_in m).plain.status ≡ Running → has_ended (core_in m).plain ≡ true → (core_in m).plain.free ≡ m.cycle → ComesTo m
+  ended : (core_in m).plain.status ≡ Running → has_ended (core_in m).plain ≡ true → (core_in m).plain.free ≡ m.cycle
+      → ComesTo m
   trapped : (fault : Trap) → (core_in m).plain.status ≡ Trapped fault m.cycle → ComesTo m
 
 module _ (n core : ℕ) where

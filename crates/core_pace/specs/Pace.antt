@@ -1,5 +1,5 @@
--- The pace of a core: what of it its times depend on, and how events change that. Neither a register nor a value is
--- among it.
+-- To be believed. The pace of a core: what of it its times depend on, and how events change that.
+-- Neither a register nor a value is among it.
 use Rattle.std.specs.Prelude.{ℕ, ◌+◌, ◌-◌, min, Bool, true, false, ◌==◌, if◌then◌else◌, List, [], ◌∷◌, ◌++◌, reverse, length, Option, None, Some}
 use Rattle.slot_arbiter.specs.declared.event.Access.{Access}
 use Rattle.method_cache.specs.declared.cache.Method.{Method}
@@ -58,7 +58,8 @@ addresses (cache.Store address value ∷ rest) = addresses rest
 abbrev pub is_loaded : ℕ → List ℕ → Bool
 is_loaded address [] = false
 is_loaded address (other ∷ before) =
-    if cache.index_of other == cache.index_of address then cache.line_of other == cache.line_of address else is_loaded address before
+    if cache.index_of other == cache.index_of address then cache.line_of other == cache.line_of address
+    else is_loaded address before
 
 -- the pace of a core
 abbrev pub pace_of : Core → Pace

@@ -1,4 +1,4 @@
--- A run told by its bundles, and not by its cycles.
+-- To be believed. A run told by its bundles, and not by its cycles.
 use Rattle.std.specs.Prelude.{ℕ, zero, suc, true, false, nat_lt, List, [], ◌∷◌, ◌++◌, filter, None}
 use Rattle.patmos_model.specs.Site.{Site, method_at}
 use Rattle.patmos_model.specs.Begin.{entry}

@@ -1,5 +1,5 @@
--- A transfer in time: the cycles in which its transactions move their words, one after another in slots of the core's
--- own, and the cycle at which the last of these slots ends.
+-- To be believed. A transfer in time: the cycles in which its transactions move their words, one after another in slots
+-- of the core's own, and the cycle at which the last of these slots ends.
 use Rattle.std.specs.Prelude.{ℕ, zero, suc, ◌+◌, Bool, List, [], ◌∷◌}
 use Rattle.slot_arbiter.specs.declared.event.Access.{Access}
 use Rattle.patmos_model.specs.Site.{Site}
@@ -26,7 +26,8 @@ end_from site (suc count) t = end_from site count (start_in site t + site.slot)
 
 -- the transactions of so many words that are wanted at t, read or written, each with its cycle
 abbrev pub accesses_from : Site → ℕ → Bool → ℕ → List Access
-accesses_from site t write words = in_cycles (cycles_from site (slots_of words) t) (bursts_in (slots_of words) write words)
+accesses_from site t write words =
+    in_cycles (cycles_from site (slots_of words) t) (bursts_in (slots_of words) write words)
 
 -- the cycle from which on a core that moves so many words from t on goes on
 abbrev pub moved_by : Site → ℕ → ℕ → ℕ

@@ -1,4 +1,4 @@
--- Slot starts that compute: the first one at or after a cycle, and the greatest gap between two.
+-- To be believed. Slot starts that compute: the first one at or after a cycle, and the greatest gap between two.
 use Rattle.std.specs.Prelude.{◌≡◌, ℕ, zero, suc, ◌+◌, ◌-◌, ◌<◌, Bool, true, false, max, List}
 use Rattle.slot_arbiter.specs.Table.{has_entry}
 use Rattle.slot_arbiter.specs.Slot.{is_slot_start, period}

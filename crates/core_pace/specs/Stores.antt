@@ -1,5 +1,5 @@
--- Who stores where: of the words that cores share, a task stores into its own communication memory and shared memory,
--- and its packets go to cores that it asked for.
+-- To be believed. Who stores where: of the words that cores share, a task stores into its own communication memory and
+-- shared memory, and its packets go to cores that it asked for.
 use Rattle.std.specs.Prelude.{◌≡◌, ℕ, ◌+◌, ◌<◌, ◌==◌, Bool, true, ◌⊎◌, List, length}
 use Rattle.std.specs.List.{list_any, AllByRecursion as Each}
 use Rattle.shared_order.specs.declared.operation.Operation.{Operation}

@@ -1,5 +1,5 @@
--- The task by itself: what it does where only its own loads of words of the board are told, and nothing of what its
--- interface reads for packets. Of the interface it sees the registers, and how many words are left to send.
+-- To be believed. The task by itself: what it does where only its own loads of words of the board are told, and nothing
+-- of what its interface reads for packets. Of the interface it sees the registers, and how many words are left to send.
 use Rattle.std.specs.Prelude.{ℕ, zero, suc, true, false, List, []}
 use Rattle.slot_arbiter.specs.Stamp.{stamp}
 use Rattle.shared_order.specs.Program.{fed, and_then}

@@ -1,4 +1,5 @@
--- The times of a task: its transactions and its end, told of the run in which nothing is put in and nothing is read.
+-- To be believed. The times of a task: its transactions and its end, told of the run in
+-- which nothing is put in and nothing is read.
 use Rattle.std.specs.Prelude.{ℕ, List, []}
 use Rattle.slot_arbiter.specs.declared.event.Access.{Access}
 use Rattle.slot_arbiter.specs.declared.place.Place.{Place}

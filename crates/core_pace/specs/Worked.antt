@@ -1,4 +1,4 @@
--- The only core of a platform by its bundles, for worked values.
+-- For worked rows. The only core of a platform by its bundles, for worked values.
 use Rattle.std.specs.Prelude.{ℕ, ◌-◌, List, [], ◌∷◌, map, length, replicate}
 use Rattle.method_cache.specs.declared.cache.Method.{Method}
 use Rattle.patmos_instr.specs.Bundles.{Slots}
@@ -56,7 +56,8 @@ fives count = record { st = STACK_END - count; ss = STACK_END; words = replicate
 -- the stack after a reserve, a free and an ensure, where all other words of private memory are 0
 abbrev pub brought_back : ℕ → Stack → Stack
 brought_back count s =
-    refilled (length s.words) (with_words (reserved count s).ss (spilled count s) (λ _. 0)) (freed count (reserved count s))
+    refilled (length s.words) (with_words (reserved count s).ss (spilled count s) (λ _. 0))
+    (freed count (reserved count s))
 
 -- a task that stores 5 into the first word that all cores share
 abbrev pub storing : List (List Slots)

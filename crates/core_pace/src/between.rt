@@ -3,8 +3,8 @@ ghost use Rattle.core_pace.specs.Moment.{Moment, core_in};
 ghost use Rattle.core_pace.specs.Next.{IsAboutTo, is_due_flow, bundled, waited, next_cycle, next};
 ghost use Rattle.core_pace.specs.Growth.{IsSameTask};
 
-/// Between two bundles, in the cycles in which the task does nothing, nothing changes but the interface: the core is the
-/// same task, and neither operations of its own nor bundles are added. A law: it does nothing.
+/// Between two bundles, in the cycles in which the task does nothing, nothing changes but the interface: the core is
+/// the same task, and neither operations of its own nor bundles are added. A law: it does nothing.
 pub fn interface_alone_goes_on()
     ensures core { (n core cycles : ℕ) (m : Moment) → IsSameTask (core_in m) (core_in (waited n core cycles m)) }
     ensures operations { (n core cycles : ℕ) (m : Moment) → (waited n core cycles m).told.own ≡ m.told.own }

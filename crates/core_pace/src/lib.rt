@@ -7,7 +7,8 @@
 //!
 //! 1. `Starts` (slot starts and gaps that compute) and `Spans` (a transfer in time: the cycles of its transactions and
 //!    its end, by arithmetic);
-//! 2. `Moment`: a point within a cycle of the run, after the interface's part of the cycle, and the bundles done so far;
+//! 2. `Moment`: a point within a cycle of the run, after the interface's part of the
+//!    cycle, and the bundles done so far;
 //! 3. `Next`: what a core that is about to do a bundle is, and the next such moment, in steps: the bundle, the words
 //!    that it moves, a flow that then takes effect, and what that fetches;
 //! 4. `Pace`: what of a core its times depend on, the events that change it, and the clock over events; `Bound`: how
@@ -17,18 +18,19 @@
 //!
 //! - [`slot_starts_compute`] and [`place_has_slots`]: what computes is what the slot arbiter's relations tell.
 //! - [`transfer_in_time`]: a transfer takes the transactions and comes to the end that are told of it.
-//! - [`bundle_by_bundle`]: the run passes from the moment of a bundle through the next one, where the core is about to
-//!   do a bundle, has ended or was stopped; [`quick_bundle_takes_a_cycle`] and [`interface_alone_goes_on`] say what is in
-//!   between.
+//! - [`bundle_by_bundle`]: the run passes from the moment of a bundle through the next one, where the core is
+//!   about to do a bundle, has ended or was stopped; [`quick_bundle_takes_a_cycle`] and
+//!   [`interface_alone_goes_on`] say what is in between.
 //! - [`run_by_bundles`] and [`run_cut_at_a_cycle`]: the run apart is the run by bundles, cut at a cycle;
 //!   [`ended_task_is_done`]: its outcome, once it has ended.
 //! - [`run_keeps_pace`], [`times_hang_on_events`] and [`ended_run_has_its_times`]: the run follows the clock of its
 //!   events, so that runs with the same events have the same transactions in the same cycles, and the same end.
 //! - [`run_grows`]: what a run has made stays, a task that ended or was stopped stays as it is, and values past those
 //!   that were read do not matter.
-//! - [`task_stands_apart`]: its own loads determine a task, whatever its interface reads; [`task_stores_its_own`] and
-//!   [`packets_go_where_asked`]: it stores into its own communication memory and shared memory alone, and packets go
-//!   only to cores to which it asked for a transfer; [`packets_are_all_besides`]: a core does nothing else to shared words.
+//! - [`task_stands_apart`]: its own loads determine a task, whatever its interface reads;
+//!   [`task_stores_its_own`] and [`packets_go_where_asked`]: it stores into its own communication memory and
+//!   shared memory alone, and packets go only to cores to which it asked for a transfer;
+//!   [`packets_are_all_besides`]: a core does nothing else to shared words.
 //! - [`presence_by_addresses`], [`stack_moves_by_pointers`], [`stack_words_come_back`] and [`run_keeps_a_stack`]: the
 //!   caches by addresses and pointers.
 //! - [`worked_starts`], [`worked_bundles`], [`worked_events`], [`worked_growth`], [`worked_stack`] and

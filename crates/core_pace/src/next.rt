@@ -5,9 +5,10 @@ ghost use Rattle.core_pace.specs.Next.{IsAtBundle, ComesTo, next};
 ghost use Rattle.core_pace.specs.Pace.{pace_of, clock, bundle_event, events_in};
 ghost use Rattle.core_pace.specs.Run.{done_with};
 
-/// From bundle to bundle: a run in which the core is about to do a bundle passes through the next moment that is told
-/// of it. There the core is about to do the next bundle, or has ended, or was stopped; the bundle was done, unless a check
-/// stopped it; and what the core's times depend on is what the bundle's events made of it. A law: it does nothing.
+/// From bundle to bundle: a run in which the core is about to do a bundle passes through the next
+/// moment that is told of it. There the core is about to do the next bundle, or has ended, or was
+/// stopped; the bundle was done, unless a check stopped it; and what the core's times depend on is what
+/// the bundle's events made of it. A law: it does nothing.
 pub fn bundle_by_bundle()
     ensures passes { (n core : ℕ) (x : Core) (values : List ℕ) (m : Moment) → IsAtBundle n core x values m
         → Passes n core x values (next n core m) }

@@ -23,8 +23,8 @@ pub fn place_has_slots(place: &Place)
 {}
 
 /// The run by bundles: it passes through the moment after each number of bundles. There the core is about to do the
-/// next bundle, or has ended, or was stopped; it goes on in that cycle; and as long as it runs, each of these moments is
-/// in a later cycle than the one before. A law: it does nothing.
+/// next bundle, or has ended, or was stopped; it goes on in that cycle; and as long as it runs, each of these moments
+/// is in a later cycle than the one before. A law: it does nothing.
 pub fn run_by_bundles()
     ensures passes { (n core : ℕ) (site : Site) (input values : List ℕ) (count : ℕ) → IsSlotted site
         → Passes n core (begun site input) values (after_bundles n core (begun site input) values count) }
@@ -39,9 +39,10 @@ pub fn run_by_bundles()
         < (after_bundles n core (begun site input) values (suc count)).cycle }
 {}
 
-/// The run apart is the run by bundles, cut at a cycle: its transactions and its bundles are those below the cycle of
-/// the moment after more bundles; and after a moment in which the core does not run, it is the task as it stands there,
-/// and of one that has ended so is it before that very cycle. The run whose bundles are listed is the run apart. A law: it does nothing.
+/// The run apart is the run by bundles, cut at a cycle: its transactions and its bundles are those below the
+/// cycle of the moment after more bundles; and after a moment in which the core does not run, it is the task
+/// as it stands there, and of one that has ended so is it before that very cycle. The run whose bundles are
+/// listed is the run apart. A law: it does nothing.
 pub fn run_cut_at_a_cycle()
     ensures run { (n core : ℕ) (x : Core) (values : List ℕ) (cycles : ℕ)
         → (before n core x values cycles).told ≡ followed n core x values cycles }
@@ -66,8 +67,8 @@ pub fn run_cut_at_a_cycle()
         (after_bundles n core (begun site input) values count).cycle).core }
 {}
 
-/// A task that has ended after so many bundles is done, at the cycle of that moment as a limit and at each later one: with
-/// what r1 and r2 hold there, after so many cycles. A law: it does nothing.
+/// A task that has ended after so many bundles is done, at the cycle of that moment as a limit and at each later one:
+/// with what r1 and r2 hold there, after so many cycles. A law: it does nothing.
 pub fn ended_task_is_done()
     ensures { (n core : ℕ) (site : Site) (input values : List ℕ) (count limit : ℕ) → IsSlotted site
         → (core_in (after_bundles n core (begun site input) values count)).plain.status ≡ Running

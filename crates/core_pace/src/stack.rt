@@ -30,8 +30,8 @@ pub fn stack_moves_by_pointers()
     ensures fills { (count : ℕ) (s : Stack) → IsStack s → missing count s ≡ count - (s.ss - s.st) }
 {}
 
-/// In each cycle of a run apart the stack is one: the words held stand between its pointers, no more than the cache has,
-/// in the stack's region of private memory. A law: it does nothing.
+/// In each cycle of a run apart the stack is one: the words held stand between its pointers, no more than the cache
+/// has, in the stack's region of private memory. A law: it does nothing.
 pub fn run_keeps_a_stack()
     ensures { (place : Place) (image : Parts) (input values : List ℕ) (cycles : ℕ)
         → IsStack (apart_at place image input values cycles).core.plain.stack }

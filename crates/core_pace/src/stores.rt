@@ -22,16 +22,17 @@ pub fn packets_go_where_asked()
         (sendings_at place image input values cycles) }
 {}
 
-/// A core's own loads and stores, and its packets, are all that it does to the words that cores share. Where its task stores
-/// in some words alone, and its packets come to these alone, so does the core; and where its packets come to no such word, the
-/// task's own loads of these see what they see among all that the core makes. A law: it does nothing.
+/// A core's own loads and stores, and its packets, are all that it does to the words that cores share. Where its task
+/// stores in some words alone, and its packets come to these alone, so does the core; and where its packets come to no
+/// such word, the task's own loads of these see what they see among all that the core makes. A law: it does nothing.
 pub fn packets_are_all_besides()
     ensures stores { (n core : ℕ) (x : Core) (values : List ℕ) (among : ℕ → Bool) (cycles : ℕ)
         → ((u : ℕ) → u < cycles → ComesAll (IsSome among) (followed n core x values u).run.core.plain.interface)
         → Each (StoresOnly (IsSome among)) (followed n core x values cycles).own
         → Each (StoresOnly (IsSome among)) (followed n core x values cycles).run.made }
     ensures sees { (n core : ℕ) (x : Core) (values : List ℕ) (among : ℕ → Bool) (words : ℕ → ℕ) (cycles : ℕ)
-        → ((u : ℕ) → u < cycles → ComesAll (Outside (IsSome among)) (followed n core x values u).run.core.plain.interface)
+        → ((u : ℕ) → u < cycles → ComesAll (Outside (IsSome among))
+        (followed n core x values u).run.core.plain.interface)
         → SeesOn (IsSome among) words (followed n core x values cycles).run.made
         → SeesOn (IsSome among) words (followed n core x values cycles).own }
 {}

@@ -4,9 +4,9 @@ ghost use Rattle.patmos_model.specs.State.{Core};
 ghost use Rattle.patmos_model.specs.Apart.{followed};
 ghost use Rattle.core_pace.specs.Task.{unsent, task_apart};
 
-/// The task apart from its interface: told no more than what its own loads gave, the task by itself does what it does in
-/// the run apart, whatever was read there for packets. So its own loads determine its operations and all of the core but
-/// the packets under way. A law: it does nothing.
+/// The task apart from its interface: told no more than what its own loads gave, the task by itself does what it does
+/// in the run apart, whatever was read there for packets. So its own loads determine its operations and all of the
+/// core but the packets under way. A law: it does nothing.
 pub fn task_stands_apart()
     ensures apart { (n core : ℕ) (x : Core) (values : List ℕ) (cycles : ℕ) (more : List ℕ)
         → task_apart n core x (loads (followed n core x values cycles).own ++ more) cycles ≡ record {

@@ -17,8 +17,8 @@ ghost use Rattle.patmos_model.specs.Outcome.{state_at};
 ghost use Rattle.patmos_model.specs.State.{is_running};
 ghost use Rattle.patmos_model.specs.Alone.{transactions};
 
-/// Slot starts in turn and by a table: core 2 of four cores, with slots of six cycles, has a slot each 24 cycles; a core
-/// with two of four slots waits 12 cycles at most.
+/// Slot starts in turn and by a table: core 2 of four cores, with slots of six cycles, has a slot each 24 cycles; a
+/// core with two of four slots waits 12 cycles at most.
 pub fn worked_starts()
     ensures at_start { start_from (in_turn 4) 6 2 0 ≡ 12 }
     ensures here { start_from (in_turn 4) 6 2 12 ≡ 12 }
@@ -41,8 +41,8 @@ pub fn worked_bundles()
     ensures spilling { cycles_of tasks.spilling 9 ≡ 18 ∷ 19 ∷ 72 ∷ 73 ∷ 74 ∷ 75 ∷ 76 ∷ 77 ∷ 78 ∷ [] }
 {}
 
-/// The events of tasks, and what the clock makes of events: a function that was fetched is a hit; a reserve of 160 words
-/// writes 32; a cached load of a line that is present moves nothing, and of one that is not four words.
+/// The events of tasks, and what the clock makes of events: a function that was fetched is a hit; a reserve of 160
+/// words writes 32; a cached load of a line that is present moves nothing, and of one that is not four words.
 pub fn worked_events()
     ensures calling { events_of tasks.calling 9
         ≡ came (method 1 9) ∷ quick ∷ quick ∷ quick ∷ quick ∷ came (method 11 5) ∷ quick ∷ quick ∷ quick ∷ quick ∷ quick
@@ -63,8 +63,8 @@ pub fn worked_events()
     ensures loads { (told (load ∷ quick ∷ store ∷ [])).free ≡ 18 }
 {}
 
-/// A task as its run grows: it has two transactions, one of which is below cycle 6; it is done at 17 with 7, and stays so;
-/// its times; and of the values that it is told it takes none.
+/// A task as its run grows: it has two transactions, one of which is below cycle 6; it is done at 17 with 7, and stays
+/// so; its times; and of the values that it is told it takes none.
 pub fn worked_growth()
     ensures whole { (run_of seven 20).seen.accesses
         ≡ record { cycle = 0; write = false; words = 4 } ∷ record { cycle = 6; write = false; words = 2 } ∷ [] }
@@ -84,8 +84,8 @@ pub fn worked_stack()
     ensures back { brought_back 2 (fives 128) ≡ fives 128 }
 {}
 
-/// What a task does besides: it stores 5 into a word that all cores share, in its slot at cycle 24; a line is present as
-/// long as no other took its place; and one transfer asks for packets to its target alone.
+/// What a task does besides: it stores 5 into a word that all cores share, in its slot at cycle 24; a line is present
+/// as long as no other took its place; and one transfer asks for packets to its target alone.
 pub fn worked_words()
     ensures stored { operations_of storing 40
         ≡ record { stamp = 49; act = record { word = 0; write = true; value = 5 } } ∷ [] }

@@ -1,11 +1,12 @@
 -- An event is made on the board, one access after another.
-use Rattle.std.proofs.Common.{◌≡◌, ℕ, suc, ◌+◌, ◌<◌, ◌≤◌, true, false, List, [], ◌∷◌, ◌++◌, length, take, drop, get_or, slice_set, refl, sym, ap, subst, ◌∙◌, append_assoc, append-nil, drop-cons, arith}
-use Rattle.std.proofs.lemmas.List.{take_more_set, take-append-drop, drop_all}
+use Rattle.std.proofs.Common.{◌≡◌, ℕ, ◌+◌, ◌<◌, ◌≤◌, true, false, List, [], ◌∷◌, ◌++◌, length, take, drop, get_or, slice_set, refl, sym, ap, subst, ◌∙◌, append_assoc, append-nil}
+use Rattle.std.proofs.lemmas.List.{take_more_set, take-append-drop, drop_all, drop_more}
 use Rattle.slot_arbiter.specs.declared.event.WordOp.{WordOp}
 use Rattle.shared_order.specs.declared.operation.Operation.{Operation}
 use Rattle.shared_order.specs.Operation.{load, store, loads}
 use Rattle.shared_order.specs.Program.{first, others}
 use Rattle.shared_order.specs.Event.{filled}
+use Rattle.shared_order.proofs.Events.{filled_store}
 use Rattle.clock_board.specs.declared.known.View.{View}
 use Rattle.clock_board.specs.Record.{with_operation}
 use Rattle.clock_board.specs.View.{own, given}
@@ -20,10 +21,6 @@ pub record IsPartlyMade (s : ℕ) (acts rest : List WordOp) (made left made' lef
   pub left_is : left ≡ prefix ++ left'
   pub later : List Operation
   pub next : left' ≡ filled s rest (loads left') ++ later
-
--- what accesses ask for that begin with a store
-filled_store : (s : ℕ) (a : WordOp) (rest : List WordOp) (more : List ℕ) → a.write ≡ true → filled s (a ∷ rest) more ≡ store s a.word a.value ∷ filled s rest more
-filled_store s a rest more e = rw e refl
 
 -- and with a load
 filled_load : (s : ℕ) (a : WordOp) (rest : List WordOp) (more : List ℕ) → a.write ≡ false → filled s (a ∷ rest) more ≡ load s a.word (first more) ∷ filled s rest (others more)
@@ -76,14 +73,10 @@ module _ (s : ℕ) (acts : List WordOp) (a : WordOp) (rest : List WordOp) (made 
 
 -- ---- by the index of the next access
 
--- the accesses from an index on
-dropped : (acts : List WordOp) (i : ℕ) (d : WordOp) → i < length acts → drop i acts ≡ get_or acts i d ∷ drop (i + 1) acts
-dropped acts i d below = let next : i + 1 ≡ suc i = omega arith in drop-cons acts i d below ∙ (λ k. get_or acts i d ∷ drop (sym next k) acts)
-
 module _ (s : ℕ) (acts : List WordOp) (i : ℕ) (d : WordOp) (made left made' left' : List Operation) (values : List ℕ) (below : i < length acts)
     (h : IsPartlyMade s acts (drop i acts) made left made' left' values) where
   there : IsPartlyMade s acts (get_or acts i d ∷ drop (i + 1) acts) made left made' left' values
-  there = subst (λ l. IsPartlyMade s acts l made left made' left' values) (dropped acts i d below) h
+  there = subst (λ l. IsPartlyMade s acts l made left made' left' values) (drop_more acts i d below) h
 
   pub store_done : (made'' left'' : List Operation) → (get_or acts i d).write ≡ true → made'' ≡ made' ++ store s (get_or acts i d).word (get_or acts i d).value ∷ []
       → left' ≡ store s (get_or acts i d).word (get_or acts i d).value ∷ left'' → IsPartlyMade s acts (drop (i + 1) acts) made left made'' left'' values

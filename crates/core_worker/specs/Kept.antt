@@ -1,4 +1,4 @@
--- What a worker keeps between its steps.
+-- To be believed. What a worker keeps between its steps.
 use Rattle.std.specs.Prelude.{◌≡◌, ℕ, ◌*◌, ◌%◌, ◌<◌, ◌≤◌, Bool, List, None, length, IfSome, IsTrue}
 use Rattle.std.specs.List.{AllByRecursion as Each, Contains}
 use Rattle.slot_arbiter.specs.declared.place.TheConstants.{MOST_CYCLES}

@@ -1,4 +1,4 @@
--- The looks that a worker makes at the clocks of the others, for one event.
+-- To be believed. The looks that a worker makes at the clocks of the others, for one event.
 use Rattle.std.specs.Prelude.{◌≡◌, ℕ, ◌<◌, ◌≤◌, ◌==◌, List, [], ◌∷◌, ◌++◌, count_by}
 use Rattle.std.specs.List.{AllByRecursion as Each}
 use Rattle.clock_board.specs.declared.known.Look.{Look}

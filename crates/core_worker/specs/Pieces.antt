@@ -1,5 +1,5 @@
--- The pieces in which a worker runs its core: each ends at a multiple of 1,024 cycles or at the limit, and
--- its end is published as a stamp.
+-- To be believed. The pieces in which a worker runs its core: each ends at a multiple of 1,024 cycles or
+-- at the limit, and its end is published as a stamp.
 use Rattle.std.specs.Prelude.{◌≡◌, ℕ, ◌+◌, ◌*◌, ◌<◌, min, List, [], ◌∷◌, ◌++◌}
 use Rattle.std.specs.List.{Contains}
 use Rattle.clock_board.specs.Record.{clock_of}

@@ -1,4 +1,4 @@
--- How the core of a worker and the course meet.
+-- To be believed. How the core of a worker and the course meet.
 use Rattle.std.specs.Prelude.{◌≡◌, ℕ, List, IfSome}
 use Rattle.slot_arbiter.specs.declared.event.Event.{Event}
 use Rattle.shared_order.specs.declared.operation.Operation.{Operation}

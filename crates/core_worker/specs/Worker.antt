@@ -1,4 +1,4 @@
--- What contracts see of a worker, and what a turn of it does.
+-- To be believed. What contracts see of a worker, and what a turn of it does.
 use Rattle.std.specs.Prelude.{◌≡◌, ℕ, List, ◌++◌, Some, IfSome, ◌<◌, length, slice_index_or}
 use Rattle.slot_arbiter.specs.declared.event.Event.{Event}
 use Rattle.shared_order.specs.Event.{asked_by}
@@ -78,7 +78,8 @@ pub record IsLater (w w' : WorkerFace) : Type 0 where
 -- the same workers later, each in its place
 pub record AreLater (workers workers' : List WorkerFace) : Type 0 where
   pub count : length workers' ≡ length workers
-  pub later : (k : ℕ) (d : WorkerFace) → k < length workers → IsLater (slice_index_or workers k d) (slice_index_or workers' k d)
+  pub later : (k : ℕ) (d : WorkerFace) → k < length workers
+      → IsLater (slice_index_or workers k d) (slice_index_or workers' k d)
 
 -- the worker's pass is of the board
 abbrev pub IsOn : BoardFace → WorkerFace → Type 0

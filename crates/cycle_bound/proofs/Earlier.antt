@@ -1,6 +1,6 @@
 -- Functions of a well-formed shape call those of lesser number.
-use Rattle.std.proofs.Common.{◌≡◌, ℕ, zero, suc, ◌<◌, ◌≤◌, true, true≢false, List, [], ◌∷◌, length, get_or, slice_index_or, ap, sym, subst, arith, inl, inr}
-use Rattle.std.proofs.lemmas.Bool.{cases_lt, and_parts, ltb-true, leb-true}
+use Rattle.std.proofs.Common.{◌≡◌, ℕ, zero, suc, ◌<◌, ◌≤◌, true, true≢false, List, [], ◌∷◌, length, get_or, slice_index_or, sym, subst, arith}
+use Rattle.std.proofs.lemmas.Bool.{and_parts, ltb-true, leb-true}
 use Rattle.std.specs.Prelude.{nat_lt, nat_le, ◌&&◌}
 use Rattle.patmos_instr.specs.Bundles.{Slots}
 use Rattle.sp_shape.specs.Formed.{are_calm, is_turn, is_way, is_call, part_formed, parts_formed, function_formed, functions_formed, is_formed}
@@ -10,6 +10,7 @@ use Rattle.sp_shape.specs.declared.parts.Part.{Part, CallTo}
 use Rattle.sp_shape.specs.declared.parts.Part.TheViews.{Repeat}
 use Rattle.cycle_bound.specs.Calls.{PartCallsBelow, CallsBelow}
 use Rattle.sp_shape.proofs.Plain.{repeat_said, call_said}
+use Rattle.sp_shape.proofs.Functions.{function_at, each_formed}
 
 -- ---- of what is well formed
 
@@ -27,7 +28,7 @@ mutual
       let both = and_parts (part_formed n p) (parts_formed n rest) h in
       (part_below n p both.0, parts_below n rest both.1)
 
--- the parts before a function's return, and those behind them
+-- the parts before a function's return, and those after them
 function_below : (n : ℕ) (ps : PlainParts) → function_formed n ps ≡ true → CallsBelow n ps
 function_below n no_part h = tt
 function_below n (part (leaves tail) no_part) h = (tt, tt)
@@ -41,24 +42,9 @@ function_below n (part (calls_to k tail) rest) h =
     let both = and_parts (part_formed n (calls_to k tail)) (function_formed n rest) h in
     (part_below n (calls_to k tail) both.0, function_below n rest both.1)
 
-earlier_one : (fs : List PlainParts) (k n : ℕ) → k < n → functions_formed fs n ≡ true → function_formed k (slice_index_or fs k no_part) ≡ true
-earlier_one fs k zero below h = absurd (omega arith)
-earlier_one fs k (suc n) below h =
-    let both = and_parts (functions_formed fs n) (function_formed n (slice_index_or fs n no_part)) h in
-    elim (cases_lt k n) [
-      | inl less ↦ earlier_one fs k n less both.0
-      | inr more ↦ let same : n ≡ k = omega arith in subst (λ j. function_formed j (slice_index_or fs j no_part) ≡ true) same both.1
-    ]
-
 -- all functions of a well-formed shape
 pub functions_below : (fs : List PlainParts) (n k : ℕ) → functions_formed fs n ≡ true → k < n → CallsBelow k (slice_index_or fs k no_part)
-functions_below fs n k h less = function_below k (slice_index_or fs k no_part) (earlier_one fs k n less h)
-
-pub function_at : (functions : List (List Part)) (n : ℕ) (f : List Part) → n < length functions → f ≡ get_or functions n f
-    → slice_index_or (functions_of functions) n no_part ≡ parts_of f
-function_at [] n f within is = absurd (omega arith)
-function_at (x ∷ functions) zero f within is = ap parts_of (sym is)
-function_at (x ∷ functions) (suc n) f within is = function_at functions n f (omega arith) is
+functions_below fs n k h less = function_below k (slice_index_or fs k no_part) (each_formed fs k n less h)
 
 pub known_below : (functions : List (List Part)) (n : ℕ) (f : List Part) → n < length functions → f ≡ get_or functions n f
     → functions_formed (functions_of functions) (length functions) ≡ true → CallsBelow n (parts_of f)

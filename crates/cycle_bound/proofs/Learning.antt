@@ -3,6 +3,7 @@ use Rattle.std.proofs.Common.{◌≡◌, ◌≢◌, ℕ, suc, ◌+◌, ◌*◌, 
 use Rattle.std.proofs.lemmas.Bool.{cases_lt, eq-eqb, ne_eqb}
 use Rattle.std.proofs.lemmas.Grind.{get_or-set_at}
 use Rattle.std.specs.Prelude.{if◌then◌else◌, true, ◌≤◌}
+use Rattle.tc_word.proofs.Items.{drop_item}
 use Rattle.sp_shape.specs.Parts.{PlainParts, no_part}
 use Rattle.sp_shape.specs.Formed.{is_formed}
 use Rattle.sp_shape.specs.Shown.{parts_of, functions_of, plain_shape}
@@ -16,7 +17,6 @@ use Rattle.cycle_bound.specs.Nodes.{parts_nodes, functions_nodes}
 use Rattle.cycle_bound.specs.declared.known.Known.{Known}
 use Rattle.cycle_bound.proofs.Earlier.{shape_parts}
 use Rattle.cycle_bound.proofs.Holding.{held_sum}
-use Rattle.cycle_bound.proofs.Sums.{drop_item}
 use Rattle.sp_shape.proofs.Plain.{functions_count}
 
 -- ---- bounds over one function more
@@ -33,7 +33,7 @@ bounds_other fs each fill n k other =
 bounds_now : (fs : List PlainParts) (each : ℕ) (fill : ℕ → ℕ) (n k : ℕ) → bounds fs each fill (n + 1) k ≡ bounds fs each fill (suc n) k
 bounds_now fs each fill n k = ap (λ m. bounds fs each fill m k) (add-one n)
 
--- ---- what is written behind what is known
+-- ---- what is written after what is known
 
 pub fewer : (cycles : ℕ → ℕ) (m n : ℕ) (numbers : List ℕ) → m ≤ n → AreHeld cycles n numbers → AreHeld cycles m numbers
 fewer cycles m n numbers less h k below = h k (omega (arith, below, less))

@@ -1,6 +1,7 @@
 -- Sums over bundles and over parts, item by item.
-use Rattle.std.proofs.Common.{◌≡◌, ℕ, zero, suc, ◌+◌, ◌^◌, ◌<◌, ◌≤◌, List, [], ◌∷◌, length, drop, get_or, refl, ap, sym, ◌∙◌, arith, add-one, drop-cons}
+use Rattle.std.proofs.Common.{◌≡◌, ℕ, zero, suc, ◌+◌, ◌^◌, ◌<◌, ◌≤◌, List, [], ◌∷◌, length, drop, get_or, refl, ap, sym, ◌∙◌, arith}
 use Rattle.std.proofs.lemmas.List.{at_drop_all}
+use Rattle.tc_word.proofs.Items.{drop_item}
 use Rattle.patmos_instr.specs.Bundles.{Slots}
 use Rattle.sp_shape.specs.Parts.{PlainParts}
 use Rattle.sp_shape.specs.Shown.{plain_part, parts_of}
@@ -12,9 +13,6 @@ use Rattle.cycle_bound.specs.Nodes.{part_nodes, parts_nodes}
 use Rattle.cycle_bound.proofs.Holding.{held_next, held_next_held, held_at_end}
 
 -- ---- any sum over a list
-
-pub drop_item : {A : Type 0} → (xs : List A) (i : ℕ) (x : A) → i < length xs → x ≡ get_or xs i x → drop i xs ≡ x ∷ drop (i + 1) xs
-drop_item xs i x within is = drop-cons xs i x within ∙ ap (λ y. y ∷ drop (suc i) xs) (sym is) ∙ ap (λ n. x ∷ drop n xs) (sym (add-one i))
 
 sum_next : {A : Type 0} → (sum : List A → ℕ) (xs : List A) (i : ℕ) (x : A) (s a n all : ℕ) → i < length xs → x ≡ get_or xs i x
     → sum (x ∷ drop (i + 1) xs) ≡ n + sum (drop (i + 1) xs) → s ≡ held (a + n) → held (a + sum (drop i xs)) ≡ all → held (s + sum (drop (i + 1) xs)) ≡ all

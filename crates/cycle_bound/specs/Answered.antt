@@ -1,4 +1,4 @@
--- What is answered of a number of cycles.
+-- To be believed. What is answered of a number of cycles.
 use Rattle.std.specs.Prelude.{ℕ, ◌^◌, ◌≤◌, OkIff, Result}
 
 -- the number, or an error exactly where it is more than a bound may be

@@ -1,6 +1,7 @@
--- The bound of a shape at a place: how many cycles a core needs at most for its bundles and for all transactions with
--- main memory that they may make, each of which waits for a slot of the core and takes one (after the timing of
--- Schoeberl et al., T-CREST, 2015; the numbers are our own profile TP1's). It is told over whole numbers without limit.
+-- To be believed. The bound of a shape at a place: how many cycles a core needs at most for its bundles
+-- and for all transactions with main memory that they may make, each of which waits for a slot of the
+-- core and takes one (after the timing of Schoeberl et al., T-CREST, 2015; the numbers are our own
+-- profile TP1's). It is told over whole numbers without limit.
 use Rattle.std.specs.Prelude.{ℕ, zero, suc, ◌+◌, ◌*◌, ◌/◌, ◌==◌, min, if◌then◌else◌, List, [], ◌∷◌, length, slice_index_or}
 use Rattle.patmos_instr.specs.Bundles.{Slots}
 use Rattle.patmos_instr.specs.declared.functions.StackFunc.{StackFunc}
@@ -53,13 +54,14 @@ abbrev pub bundles_bound : ℕ → List Slots → ℕ
 bundles_bound each [] = 0
 bundles_bound each (b ∷ bs) = bundle_bound each b + bundles_bound each bs
 
--- parts of the function of a number, over the bounds of the functions that it calls, and over what is counted for the
--- fetch of each: at a call the method cache may have to fetch the function that is called, and behind it the one that is
--- returned to
+-- parts of the function of a number, over the bounds of the functions that it calls, and over what is
+-- counted for the fetch of each: at a call the method cache may have to fetch the function that is
+-- called, and after it the one that is returned to
 abbrev mutual
   pub part_bound : ℕ → (ℕ → ℕ) → (ℕ → ℕ) → ℕ → PlainPart → ℕ
   part_bound each fill g own (straight bs) = bundles_bound each bs
-  part_bound each fill g own (repeats count body tail) = count * (parts_bound each fill g own body + bundles_bound each tail)
+  part_bound each fill g own (repeats count body tail) =
+      count * (parts_bound each fill g own body + bundles_bound each tail)
   part_bound each fill g own (calls_to k tail) = bundles_bound each tail + (fill k + fill own + g k)
   part_bound each fill g own (leaves tail) = bundles_bound each tail
 
@@ -70,7 +72,9 @@ abbrev mutual
 -- functions in order, each over the earlier ones
 abbrev pub bounds : List PlainParts → ℕ → (ℕ → ℕ) → ℕ → ℕ → ℕ
 bounds fs each fill zero k = 0
-bounds fs each fill (suc n) k = if k == n then parts_bound each fill (bounds fs each fill n) n (slice_index_or fs n no_part) else bounds fs each fill n k
+bounds fs each fill (suc n) k =
+    if k == n then parts_bound each fill (bounds fs each fill n) n (slice_index_or fs n no_part)
+    else bounds fs each fill n k
 
 -- what the fetch of a function takes
 abbrev pub fill_bound : ℕ → List PlainParts → ℕ → ℕ
@@ -78,4 +82,6 @@ fill_bound each fs k = each * fill_moves fs k
 
 -- the entry has to be fetched, and is run; at calls and returns each fetch is counted
 abbrev pub shape_bound : ℕ → PlainShape → ℕ
-shape_bound each s = fill_bound each s.functions s.entry + bounds s.functions each (fill_bound each s.functions) (length s.functions) s.entry
+shape_bound each s =
+    fill_bound each s.functions s.entry
+    + bounds s.functions each (fill_bound each s.functions) (length s.functions) s.entry

@@ -1,4 +1,4 @@
--- Which functions are called: of a function of a well-formed shape, those of lesser number.
+-- For proofs. Which functions are called: of a function of a well-formed shape, those of lesser number.
 use Rattle.std.specs.Prelude.{ℕ, ◌<◌}
 use Rattle.sp_shape.specs.Parts.{PlainPart, straight, repeats, calls_to, leaves, PlainParts, no_part, part}
 

@@ -1,4 +1,4 @@
--- Bundles and functions for worked examples.
+-- For worked rows. Bundles and functions for worked examples.
 use Rattle.std.specs.Prelude.{ℕ, [], ◌∷◌, Some}
 use Rattle.patmos_instr.specs.Bundles.{Slots}
 use Rattle.patmos_instr.specs.declared.functions.AluFunc.TheVariants as alu

@@ -1,5 +1,5 @@
--- The gap of a core's slots, worked out from the slot table: the greatest distance from one slot of the core's to its
--- next. That it is the gap of slot_arbiter's `IsGap` is a clause of `bound`.
+-- To be believed. The gap of a core's slots, worked out from the slot table: the greatest distance from one slot of the
+-- core's to its next. That it is the gap of slot_arbiter's `IsGap` is a clause of `bound`.
 use Rattle.std.specs.Prelude.{ℕ, zero, suc, ◌+◌, ◌-◌, ◌*◌, max, if◌then◌else◌, List, length}
 use Rattle.slot_arbiter.specs.Table.{is_owned}
 use Rattle.sp_shape.specs.Parts.{PlainShape}

@@ -1,4 +1,4 @@
--- What is known of functions while the bound is worked out.
+-- To be believed. What is known of functions while the bound is worked out.
 use Rattle.std.specs.Prelude.{◌≡◌, ℕ, ◌<◌, List, slice_index}
 use Rattle.sp_shape.specs.Parts.{PlainParts}
 use Rattle.cycle_bound.specs.Bound.{bounds}

@@ -1,4 +1,4 @@
--- The nodes of a shape: its functions, their parts, and the bundles of these.
+-- To be believed. The nodes of a shape: its functions, their parts, and the bundles of these.
 use Rattle.std.specs.Prelude.{ℕ, ◌+◌, List, [], ◌∷◌, length}
 use Rattle.sp_shape.specs.Parts.{PlainPart, straight, repeats, calls_to, leaves, PlainParts, no_part, part, PlainShape}
 

@@ -43,7 +43,7 @@ fn fill_of_function<L: Ledger>(parts: &[Part], each: u64, steps: &mut Steps<L>) 
 }
 
 /// The cycles that the fetch of each function takes at most, where a transaction takes `each` at most.
-#[tactic(auto, using(crate::proofs::Earlier::function_at, crate::proofs::Learning::fill_next, crate::proofs::Learning::functions_next))]
+#[tactic(auto, using(sp_shape::proofs::Functions::function_at, crate::proofs::Learning::fill_next, crate::proofs::Learning::functions_next))]
 pub fn fills_of_functions<L: Ledger>(
     functions: &[List<Part>],
     each: u64,
@@ -73,7 +73,8 @@ fn learn<L: Ledger>(
     requires earlier { CallsBelow number (parts_of parts.now) }
     requires number { number < MOST_FUNCTIONS }
     requires few { each ≤ MOST_EACH }
-    ensures known { (fs : List PlainParts) (fill : ℕ → ℕ) (count : ℕ) → number < count → slice_index_or fs number no_part ≡ parts_of parts.now
+    ensures known { (fs : List PlainParts) (fill : ℕ → ℕ) (count : ℕ) → number < count
+        → slice_index_or fs number no_part ≡ parts_of parts.now
         → Knows fs each fill count number known.old → Knows fs each fill count (number + 1) known.new }
     ensures steps { steps.new ≡ steps.old + (1 + parts_nodes (parts_of parts.now)) }
 {
@@ -81,9 +82,9 @@ fn learn<L: Ledger>(
     known.bounds[number] = cycles_of_parts(parts, number, known, each, steps);
 }
 
-/// The cycles of all functions, where a transaction takes `each` at most, and `fills` is counted for a fetch at each call
-/// and each return: nothing, where fetches are counted apart.
-#[tactic(auto, using(crate::proofs::Earlier::known_below, crate::proofs::Earlier::function_at, crate::proofs::Learning::functions_next))]
+/// The cycles of all functions, where a transaction takes `each` at most, and `fills` is counted for a fetch at each
+/// call and each return: nothing, where fetches are counted apart.
+#[tactic(auto, using(crate::proofs::Earlier::known_below, sp_shape::proofs::Functions::function_at, crate::proofs::Learning::functions_next))]
 pub fn cycles_of_functions<L: Ledger>(
     functions: &[List<Part>],
     fills: &[u64; MOST_FUNCTIONS],

@@ -8,9 +8,9 @@
 //! - [`bound`] is that number of a [`Shape`](sp_shape::Shape) at a [`Place`](slot_arbiter::Place): exactly the one of
 //!   `specs/Bound.antt`, or [`Long`] exactly where it is more than [`MOST_BOUND`]. It takes no memory.
 //!   [`bound_uncounted`] is the same for a caller that reads no count of steps.
-//! - [`cycles_of_functions`], [`cycles_of_fill`], [`words_of_parts`] and [`plus`] are what it is made of, for a bound that counts
-//!   the fetches of functions otherwise (`bound_persist`): what is counted for a fetch at each call and each return is an
-//!   argument.
+//! - [`cycles_of_functions`], [`cycles_of_fill`], [`words_of_parts`] and [`plus`] are what it is made of,
+//!   for a bound that counts the fetches of functions otherwise (`bound_persist`): what is counted for a
+//!   fetch at each call and each return is an argument.
 //! - [`Steps`] counts the nodes of the shape (`specs/Nodes.antt`) that it visits. Each is visited so many times as does
 //!   not depend on the shape: turns are multiplied and not run.
 //!

@@ -18,7 +18,7 @@ use sp_shape::Part;
 use std::sync::ledger::Ledger;
 
 // a call of a function from the one of a number: the method cache may have to fetch the function that is called, and
-// behind it the one that is returned to
+// after it the one that is returned to
 #[tactic(auto, using(crate::proofs::Holding::held_call))]
 fn cycles_of_call(function: usize, number: usize, known: &Known) -> u64
     requires earlier { function < number }

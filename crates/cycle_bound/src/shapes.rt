@@ -39,8 +39,10 @@ pub fn bound<L: Ledger>(shape: &Shape, place: &Place, steps: &mut Steps<L>) -> R
     requires formed { is_formed (plain_shape shape.now) ≡ true }
     ensures exact { (far : ℕ) → IsGap (is_slot_start place.now.table place.now.slot place.now.core) far
         → Answers result (shape_bound (far + place.now.slot - 1) (plain_shape shape.now)) }
-    ensures number { Answers result (place_bound place.now.table place.now.slot place.now.core (plain_shape shape.now)) }
-    ensures gap { IsGap (is_slot_start place.now.table place.now.slot place.now.core) (gap place.now.table place.now.slot place.now.core) }
+    ensures number { Answers result
+        (place_bound place.now.table place.now.slot place.now.core (plain_shape shape.now)) }
+    ensures gap { IsGap (is_slot_start place.now.table place.now.slot place.now.core)
+        (gap place.now.table place.now.slot place.now.core) }
     ensures steps { steps.new ≤ steps.old + 8 * nodes (plain_shape shape.now) }
     ensures forward { steps.old ≤ steps.new }
 {
@@ -57,7 +59,8 @@ pub fn bound_uncounted(shape: &Shape, place: &Place) -> Result<u64, Long>
     requires formed { is_formed (plain_shape shape.now) ≡ true }
     ensures exact { (far : ℕ) → IsGap (is_slot_start place.now.table place.now.slot place.now.core) far
         → Answers result (shape_bound (far + place.now.slot - 1) (plain_shape shape.now)) }
-    ensures number { Answers result (place_bound place.now.table place.now.slot place.now.core (plain_shape shape.now)) }
+    ensures number { Answers result
+        (place_bound place.now.table place.now.slot place.now.core (plain_shape shape.now)) }
 {
     bound_from::<Brand>(Blank::new(1), shape, place)
 }
@@ -70,7 +73,8 @@ fn bound_from<L: Ledger>(blank: Blank, shape: &Shape, place: &Place) -> Result<u
     requires formed { is_formed (plain_shape shape.now) ≡ true }
     ensures exact { (far : ℕ) → IsGap (is_slot_start place.now.table place.now.slot place.now.core) far
         → Answers result (shape_bound (far + place.now.slot - 1) (plain_shape shape.now)) }
-    ensures number { Answers result (place_bound place.now.table place.now.slot place.now.core (plain_shape shape.now)) }
+    ensures number { Answers result
+        (place_bound place.now.table place.now.slot place.now.core (plain_shape shape.now)) }
 {
     let mut steps = Steps::<L>::new(blank);
     bound(shape, place, &mut steps)

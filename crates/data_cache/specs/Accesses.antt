@@ -1,6 +1,6 @@
--- The data cache by the core's cached accesses (a direct-mapped data cache as in the Patmos Reference Handbook, written
--- through and filled by loads alone; its size is that of our own profile TP1). Addresses are in bytes, and name the word
--- that holds them.
+-- To be believed. The data cache by the core's cached accesses (a direct-mapped data cache as in the Patmos Reference
+-- Handbook, written through and filled by loads alone; its size is that of our own profile TP1). Addresses
+-- are in bytes, and name the word that holds them.
 use Rattle.std.specs.Prelude.{Bool, false, ℕ, ◌/◌, ◌%◌, ◌==◌, if◌then◌else◌, List, [], ◌∷◌, reverse, Option, Some, None, slice_index}
 
 -- a cached access: a load, with the four words of the line that it read if it missed, or the store of a word
@@ -24,13 +24,16 @@ place_of address = address / 4 % 4
 -- latest back
 abbrev pub is_present : ℕ → List Access → Bool
 is_present address [] = false
-is_present address (Load other missed ∷ before) = if index_of other == index_of address then line_of other == line_of address else is_present address before
+is_present address (Load other missed ∷ before) =
+    if index_of other == index_of address then line_of other == line_of address else is_present address before
 is_present address (Store other value ∷ before) = is_present address before
 
--- the word at an address as the last store to it left it, or the last missed load of its line found it, whichever is later
+-- the word at an address as the last store to it left it, or the last missed load
+-- of its line found it, whichever is later
 abbrev pub last_word : ℕ → List Access → ℕ
 last_word address [] = 0
-last_word address (Load other (Some words) ∷ before) = if line_of other == line_of address then slice_index words (place_of address) else last_word address before
+last_word address (Load other (Some words) ∷ before) =
+    if line_of other == line_of address then slice_index words (place_of address) else last_word address before
 last_word address (Load other None ∷ before) = last_word address before
 last_word address (Store other value ∷ before) = if other / 4 == address / 4 then value else last_word address before
 

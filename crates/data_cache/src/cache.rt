@@ -36,7 +36,8 @@ impl DataCache {
     /// The word at an address, or `None` exactly where its line is not present.
     pub fn probe(&self, address: u32) -> Option<u32>
         ensures word { result ≡ word_at self.now address }
-        ensures cached { (accesses : List Access) → StandsFor accesses self.now → result ≡ cached_word accesses address }
+        ensures cached { (accesses : List Access) → StandsFor accesses self.now
+            → result ≡ cached_word accesses address }
 
         // A load of a present line changes nothing.
         ensures hit { IsSome result → (accesses : List Access) → StandsFor accesses self.now

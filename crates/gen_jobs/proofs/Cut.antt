@@ -7,14 +7,14 @@ use Rattle.c_lex.specs.declared.pieces.Piece.{Piece}
 use Rattle.c_lex.specs.declared.pieces.Piece.TheVariants.{Between, Is, Bad, Wide}
 use Rattle.c_lex.specs.Texts.{piece_behind, tokens, preceded, behind_piece, lexed_from, lexed}
 
--- tokens, and the text that is left behind them
+-- tokens, and the text that is left after them
 abbrev pub Front : Type 0
 Front = Option (List Token × List ℕ)
 
 abbrev pub in_front : List Token → Front → Front
 in_front ts front = option_map (λ f. (ts ++ f.0, f.1)) front
 
--- a piece with a byte at least, and what comes behind it
+-- a piece with a byte at least, and what comes after it
 abbrev pub cut_piece : (List ℕ → Front) → List ℕ → Piece → Front
 cut_piece more bs (Between zero) = None
 cut_piece more bs (Between (suc count)) = more (drop (suc count) bs)
@@ -29,13 +29,13 @@ cut zero bs = Some ([], bs)
 cut (suc pieces) [] = None
 cut (suc pieces) (b ∷ bs) = if b == 35 then None else cut_piece (cut pieces) (b ∷ bs) (piece_behind [] (b ∷ bs))
 
--- ---- one part of a text behind another
+-- ---- one part of a text after another
 
 in_front_twice : (ts us : List Token) (front : Front) → in_front (ts ++ us) front ≡ in_front ts (in_front us front)
 in_front_twice ts us None = refl
 in_front_twice ts us (Some f) = ap (λ vs. Some (vs, f.1)) (append_assoc ts us f.0)
 
--- what is cut behind a front
+-- what is cut after a front
 abbrev pub cut_behind : ℕ → Front → Front
 cut_behind pieces None = None
 cut_behind pieces (Some f) = in_front f.0 (cut pieces f.1)
@@ -68,7 +68,7 @@ cut_more (suc n) m (b ∷ bs) = let same : suc n + m ≡ suc (n + m) = omega ari
     by_sign true more = refl
     by_sign false more = piece_by_piece m (cut (n + m)) (cut n) (b ∷ bs) (piece_behind [] (b ∷ bs)) more
 
--- A text that begins with these tokens, and what is left of it behind them.
+-- A text that begins with these tokens, and what is left of it after them.
 pub record Reads (bs : List ℕ) (ts : List Token) (rest : List ℕ) : Type 0 where
   pub pieces : ℕ
   pub cuts : cut pieces bs ≡ Some (ts, rest)
@@ -107,7 +107,7 @@ abbrev Lexes : ℕ → Type 0
 Lexes n =
     (bs : List ℕ) (ts : List Token) (text : List ℕ) (at pieces : ℕ) → cut n bs ≡ Some (ts, []) → drop at text ≡ bs → length bs ≤ pieces → lexed_from pieces text at ≡ tokens ts
 
--- behind a token
+-- after a token
 preceded_by : (n : ℕ) → Lexes n → (t : Token) (bs : List ℕ) (ts : List Token) (text : List ℕ) (at pieces : ℕ) (front : Front) → cut n bs ≡ front
     → in_front (t ∷ []) front ≡ Some (ts, []) → drop at text ≡ bs → length bs ≤ pieces → preceded t (lexed_from pieces text at) ≡ tokens ts
 preceded_by n lexes t bs ts text at pieces None is told left room = absurd (grind (arith, common_steps))

@@ -1,5 +1,5 @@
 -- A number and a name in a text, where a byte follows that does not go on with them.
-use Rattle.std.proofs.Common.{◌≡◌, ◌∙◌, ℕ, suc, ◌+◌, ◌*◌, ◌/◌, ◌%◌, ◌<◌, ◌≤◌, ◌==◌, ◌&&◌, ◌||◌, ◌^◌, nat_eq, nat_lt, Bool, true, false, refl, ap, not, if◌then◌else◌, List, [], ◌∷◌, ◌++◌, length, length-append, take, drop, arith, None, Some, bytes_eq, codes, slice_index}
+use Rattle.std.proofs.Common.{◌≡◌, ◌∙◌, ℕ, suc, ◌+◌, ◌*◌, ◌/◌, ◌%◌, ◌<◌, ◌≤◌, ◌==◌, ◌&&◌, ◌||◌, ◌^◌, nat_eq, nat_lt, Bool, true, false, refl, ap, not, if◌then◌else◌, List, [], ◌∷◌, ◌++◌, length, length-append, take, arith, None, Some, bytes_eq, codes, slice_index}
 use Rattle.std.specs.List.{list_all}
 use Rattle.std.specs.Fmt.{decimal}
 use Rattle.std.proofs.lemmas.Bool.{and_from}
@@ -7,6 +7,7 @@ use Rattle.std.proofs.lemmas.Bool.Decides.{nat_tests}
 use Rattle.std.proofs.lemmas.Grind.{common_steps}
 use Rattle.std.proofs.lemmas.Fmt.{decimal_by_steps}
 use Rattle.std.proofs.lemmas.List.Folds.{list_all-append}
+use Rattle.std.proofs.Math.Seq.{take-append_seam, drop-append_seam}
 use Rattle.c_tree.specs.declared.tokens.Token.{Token}
 use Rattle.c_tree.specs.declared.tokens.Token.TheVariants as token
 use Rattle.c_lex.specs.declared.classes.Class.{Class}
@@ -63,21 +64,13 @@ decimal_writes = decimal_by_steps Writes one more
 
 -- ---- runs
 
--- bytes of a class, and one behind them that is not
+-- bytes of a class, and one after them that is not
 run_over : (class : Class) (ds : List ℕ) (c : ℕ) (rest : List ℕ) → list_all (passes class) ds ≡ true → passes class c ≡ false → run class (ds ++ c ∷ rest) ≡ length ds
 run_over class [] c rest all other = rw other refl
 run_over class (d ∷ ds) c rest all other =
     let here : passes class d ≡ true = grind (arith, nat_tests) in
     let there : list_all (passes class) ds ≡ true = grind (arith, nat_tests) in
     rw here (ap suc (run_over class ds c rest there other))
-
-take_over : (ds rest : List ℕ) → take (length ds) (ds ++ rest) ≡ ds
-take_over [] rest = refl
-take_over (d ∷ ds) rest = ap (λ l. d ∷ l) (take_over ds rest)
-
-drop_over : (ds rest : List ℕ) → drop (length ds) (ds ++ rest) ≡ rest
-drop_over [] rest = refl
-drop_over (d ∷ ds) rest = drop_over ds rest
 
 -- ---- numbers
 
@@ -117,7 +110,7 @@ number_is : (n c : ℕ) (ds rest : List ℕ) → Writes n ds → n < 2 ^ 31 → 
 number_is n c ds rest w few other =
     let long = run_over Digit ds c rest w.all (not_of_number c other).0 in
     let first = no_zero_first ds (c ∷ rest) w.some w.first in
-    rw (decimal_only ds rest c w.some w.all other, long, first, take_over ds (c ∷ rest), drop_over ds (c ∷ rest), w.value)
+    rw (decimal_only ds rest c w.some w.all other, long, first, take-append_seam ds (c ∷ rest), drop-append_seam ds (c ∷ rest), w.value)
     (word_is n (length ds) c rest few other)
 
 -- ---- one piece
@@ -125,7 +118,7 @@ number_is n c ds rest w few other =
 -- a token that is cut from a text, which does not begin with `#`
 pub one_piece : (ds rest : List ℕ) (t : Token) → 0 < length ds → (slice_index ds 0 == 35) ≡ false → piece_behind [] (ds ++ rest) ≡ Is t (length ds) → cut 1 (ds ++ rest) ≡ Some (t ∷ [], rest)
 one_piece [] rest t some other is = absurd (omega (arith, some))
-one_piece (d ∷ ds) rest t some other is = rw (other, is) (ap (λ left. Some (t ∷ [], left)) (drop_over ds rest))
+one_piece (d ∷ ds) rest t some other is = rw (other, is) (ap (λ left. Some (t ∷ [], left)) (drop-append_seam ds rest))
 
 -- the third of four choices
 third : {X : Type 0} (s t u : Bool) (a b c d : X) → s ≡ false → t ≡ false → u ≡ true → (if s then a else (if t then b else (if u then c else d))) ≡ c
@@ -155,7 +148,7 @@ reads_number n (c ∷ text) rest few stop = record { pieces = 1; cuts = number_p
 
 -- ---- the names of functions
 
--- an `f` and digits behind it
+-- an `f` and digits after it
 digit_of_name : (ds : List ℕ) → list_all is_digit ds ≡ true → list_all is_of_name ds ≡ true
 digit_of_name [] all = refl
 digit_of_name (d ∷ ds) all =
@@ -190,7 +183,7 @@ name_is : (ds rest : List ℕ) (c : ℕ) → 0 < length ds → list_all is_digit
 name_is ds rest c some all other =
     let bs = 102 ∷ ds ++ c ∷ rest in
     let long : run Name bs ≡ suc (length ds) = run_over Name (102 ∷ ds) c rest (digit_of_name ds all) other in
-    at_f (ds ++ c ∷ rest) ∙ named bs (102 ∷ ds) (ap (λ k. take k bs) long ∙ take_over (102 ∷ ds) (c ∷ rest)) refl
+    at_f (ds ++ c ∷ rest) ∙ named bs (102 ∷ ds) (ap (λ k. take k bs) long ∙ take-append_seam (102 ∷ ds) (c ∷ rest)) refl
     ∙ ap (λ k. Is (word_of (102 ∷ ds)) k) long ∙ ap (λ t. Is t (suc (length ds))) (is_no_keyword ds some all)
 
 pub reads_name : (n : ℕ) (text rest : List ℕ) → n < 2 ^ 31 → stops text ≡ true → Reads (codes "f" ++ (decimal n ++ (text ++ rest))) (token.Word (codes "f" ++ decimal n) ∷ []) (text ++ rest)

@@ -33,7 +33,7 @@ number n few = record { all = digits (decimal n) ((decimal_is_IsNumeral n few).0
 words : (text : List ℕ) → list_all is_quiet text ≡ true → IsQuiet text
 words text all = record { all = all }
 
--- words and a number behind them
+-- words and a number after them
 pair : (text : List ℕ) (n : ℕ) → list_all is_quiet text ≡ true → n < 2 ^ 64 → IsQuiet (text ++ decimal n)
 pair text n plain few = both text (decimal n) (words text plain) (number n few)
 

@@ -45,7 +45,7 @@ no_code_fits : HasCode no_code
 no_code_fits = record { words = λ place. omega arith; starts = tt }
 
 -- stamps have 64 bits
-room_for : (limit cores : ℕ) → limit ≤ 20000000 → cores ≤ 16 → 2 * limit * cores ≤ 2 ^ 64
+pub room_for : (limit cores : ℕ) → limit ≤ 20000000 → cores ≤ 16 → 2 * limit * cores ≤ 2 ^ 64
 room_for limit cores most few =
     let most_of_all : 2 * limit * cores ≤ 40000000 * 16 = mul-le (2 * limit) cores 40000000 16 (omega (arith, most)) few in omega arith
 

@@ -1,7 +1,7 @@
 -- How an event is made, one access after another.
-use Rattle.std.proofs.Common.{◌≡◌, ℕ, zero, suc, ◌+◌, ◌<◌, ◌≤◌, ◌==◌, Bool, true, false, true≢false, List, [], ◌∷◌, ◌++◌, length, take, drop, get_or, slice_index, slice_set, refl, sym, ap, subst, ◌∙◌, append_assoc, append-nil, eq-eqb, eqb-true, drop-cons, arith}
+use Rattle.std.proofs.Common.{◌≡◌, ℕ, zero, ◌+◌, ◌<◌, ◌≤◌, ◌==◌, Bool, true, false, true≢false, List, [], ◌∷◌, ◌++◌, length, take, drop, get_or, slice_index, slice_set, refl, sym, ap, subst, ◌∙◌, append_assoc, append-nil, eq-eqb, eqb-true}
 use Rattle.std.specs.List.{AllByRecursion as Each}
-use Rattle.std.proofs.lemmas.List.{get_or-set_same, get_or-set_other, take_more_set, take-append-drop, drop_all}
+use Rattle.std.proofs.lemmas.List.{get_or-set_same, get_or-set_other, take_more_set, take-append-drop, drop_all, drop_more}
 use Rattle.slot_arbiter.specs.declared.event.WordOp.{WordOp}
 use Rattle.shared_order.specs.declared.operation.Operation.{Operation}
 use Rattle.shared_order.specs.Operation.{load, store}
@@ -9,6 +9,7 @@ use Rattle.shared_order.specs.Words.{put, after}
 use Rattle.shared_order.specs.Program.{played}
 use Rattle.shared_order.specs.Event.{filled}
 use Rattle.shared_order.proofs.Words.{after-append, words_put}
+use Rattle.shared_order.proofs.Events.{filled_store}
 use Rattle.global_step.specs.PlainEvent.{accesses}
 
 -- the accesses before `rest` are made: their loads gave the values, and the words are those after them
@@ -17,9 +18,6 @@ pub record IsPartlyMade (s : ℕ) (acts rest : List WordOp) (begun words : ℕ �
   pub asked : (more : List ℕ) → filled s acts (values ++ more) ≡ prefix ++ filled s rest more
   pub made : (played s (accesses acts) begun).ops ≡ prefix ++ (played s (accesses rest) words).ops
   pub after : words ≡ after prefix begun
-
-filled_store : (s : ℕ) (a : WordOp) (rest : List WordOp) (more : List ℕ) → a.write ≡ true → filled s (a ∷ rest) more ≡ store s a.word a.value ∷ filled s rest more
-filled_store s a rest more e = rw e refl
 
 filled_load : (s : ℕ) (a : WordOp) (rest : List WordOp) (v : ℕ) (more : List ℕ) → a.write ≡ false → filled s (a ∷ rest) (v ∷ more) ≡ load s a.word v ∷ filled s rest more
 filled_load s a rest v more e = rw e refl
@@ -64,16 +62,13 @@ all_made s acts begun words values more h =
 
 -- ---- by the index of the next access
 
-dropped : (acts : List WordOp) (i : ℕ) (d : WordOp) → i < length acts → drop i acts ≡ get_or acts i d ∷ drop (i + 1) acts
-dropped acts i d below = let next : i + 1 ≡ suc i = omega arith in drop-cons acts i d below ∙ (λ k. get_or acts i d ∷ drop (sym next k) acts)
-
 pub store_next : (s : ℕ) (acts : List WordOp) (begun : ℕ → ℕ) (i : ℕ) (d : WordOp) (ws ws' values : List ℕ) → i < length acts → (get_or acts i d).write ≡ true → (get_or acts i d).word < length ws
     → ws' ≡ slice_set ws (get_or acts i d).word (get_or acts i d).value → IsPartlyMade s acts (drop i acts) begun (slice_index ws) values → IsPartlyMade s acts (drop (i + 1) acts) begun (slice_index ws') values
 store_next s acts begun i d ws ws' values below store within set_is h =
     let a : WordOp = get_or acts i d in
     store_made s acts a (drop (i + 1) acts) begun (slice_index ws) (slice_index ws') values store
     (ap slice_index set_is ∙ words_put ws a.word a.value within)
-    (subst (λ l. IsPartlyMade s acts l begun (slice_index ws) values) (dropped acts i d below) h)
+    (subst (λ l. IsPartlyMade s acts l begun (slice_index ws) values) (drop_more acts i d below) h)
 
 pub load_next : (s : ℕ) (acts : List WordOp) (begun : ℕ → ℕ) (i : ℕ) (d : WordOp) (ws values values' : List ℕ) (j : ℕ) → i < length acts → (get_or acts i d).write ≡ false → j < length values
     → values' ≡ slice_set values j (slice_index ws (get_or acts i d).word) → IsPartlyMade s acts (drop i acts) begun (slice_index ws) (take j values) → IsPartlyMade s acts (drop (i + 1) acts) begun (slice_index ws) (take (j + 1) values')
@@ -81,7 +76,7 @@ load_next s acts begun i d ws values values' j below load within set_is h =
     let a : WordOp = get_or acts i d in
     subst (λ l. IsPartlyMade s acts (drop (i + 1) acts) begun (slice_index ws) l) (sym (ap (take (j + 1)) set_is ∙ take_more_set values j (slice_index ws a.word) within))
     (load_made s acts a (drop (i + 1) acts) begun (slice_index ws) (take j values) load
-    (subst (λ l. IsPartlyMade s acts l begun (slice_index ws) (take j values)) (dropped acts i d below) h))
+    (subst (λ l. IsPartlyMade s acts l begun (slice_index ws) (take j values)) (drop_more acts i d below) h))
 
 pub made_whole : (s : ℕ) (acts : List WordOp) (ws values : List ℕ) (begun : ℕ → ℕ) (i j : ℕ) → length acts ≤ i → IsPartlyMade s acts (drop i acts) begun (slice_index ws) (take j values)
     → (filled s acts values ≡ (played s (accesses acts) begun).ops) × ((w : ℕ) → slice_index ws w ≡ after (played s (accesses acts) begun).ops begun w)

@@ -1,4 +1,4 @@
--- What a machine is started with.
+-- To be believed. What a machine is started with.
 use Rattle.std.specs.Prelude.{◌≡◌, ℕ, ◌<◌, ◌≤◌, List, length, slice_get, IfSome}
 use Rattle.slot_arbiter.specs.declared.event.TheConstants.{MOST_TRACE}
 use Rattle.slot_arbiter.specs.declared.place.TheConstants.{MOST_CYCLES}

@@ -1,6 +1,6 @@
--- The machine of all cores, cycle by cycle (Schoeberl et al., T-CREST, 2015; the order within a cycle is
--- our own profile TP1's). What its cycles and the order of its operations are stands in shared_order,
--- and what a core does in a cycle in patmos_model.
+-- To be believed. The machine of all cores, cycle by cycle (Schoeberl et al., T-CREST, 2015; the order within
+-- a cycle is our own profile TP1's). What its cycles and the order of its operations are stands in
+-- shared_order, and what a core does in a cycle in patmos_model.
 use Rattle.std.specs.Prelude.{ℕ, List, [], length, None, Some, slice_get}
 use Rattle.shared_order.specs.declared.operation.Operation.{Operation}
 use Rattle.shared_order.specs.Operation.{operations_of as operations_among}

@@ -1,4 +1,4 @@
--- Small platforms whose cores meet, for worked values.
+-- For worked rows. Small platforms whose cores meet, for worked values.
 use Rattle.std.specs.Prelude.{ℕ, zero, suc, List, [], ◌∷◌, ◌++◌}
 use Rattle.shared_order.specs.Machine.{State, cycled}
 use Rattle.patmos_instr.specs.Bundles.{Slots}

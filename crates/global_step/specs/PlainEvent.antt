@@ -1,4 +1,4 @@
--- An event made on the words of the board.
+-- For proofs. An event made on the words of the board.
 use Rattle.std.specs.Prelude.{ℕ, true, false, List, [], ◌∷◌, take}
 use Rattle.slot_arbiter.specs.declared.event.WordOp.{WordOp}
 use Rattle.slot_arbiter.specs.declared.event.Event.{Event}

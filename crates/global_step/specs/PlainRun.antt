@@ -1,4 +1,4 @@
--- All cores of a platform on one thread, from event to event.
+-- To be believed. All cores of a platform on one thread, from event to event.
 use Rattle.std.specs.Prelude.{◌≡◌, ℕ, ◌*◌, ◌<◌, ◌≤◌, List, [], Option, None, Some, IsSome, IsNone, IfSome, option_map, slice_get}
 use Rattle.shared_order.specs.declared.operation.Operation.{Operation}
 use Rattle.patmos_core.specs.declared.cpu.Core.{Core as Cpu}

@@ -1,4 +1,4 @@
--- Ranges of a machine: what its cores are loaded with is words of 32 bits.
+-- To be believed. Ranges of a machine: what its cores are loaded with is words of 32 bits.
 use Rattle.std.specs.Prelude.{ℕ, ◌≤◌, length, IfSome, slice_get}
 use Rattle.std.specs.List.{AllByRecursion as Each}
 use Rattle.argo_ni.specs.Packet.{comm_word}

@@ -21,7 +21,8 @@ impl Course for Loaded {
     ghost all = { λ m. machines.all_operations m };
 
     ghost asked = { λ m core values.
-        (aparts.apart cycles.turn (prelude.length m.cores) core (machines.core_among m.cores core) values m.limit).made };
+        (aparts.apart cycles.turn (prelude.length m.cores) core
+        (machines.core_among m.cores core) values m.limit).made };
 }
 
 /// The list of all operations of a machine that is loaded with words is a course of its cores on the words

@@ -20,7 +20,8 @@ use slot_arbiter::{Event, MOST_CYCLES};
 fn perform(event: &Event, words: &mut [u32]) -> [u32; 8]
     requires within { Each (λ o. o.word < length words.old) (take event.now.count event.now.ops) }
     ensures asked { asked_by event.now result ≡ made_on event.now (slice_index words.old) }
-    ensures words { (w : ℕ) → slice_index words.new w ≡ after (made_on event.now (slice_index words.old)) (slice_index words.old) w }
+    ensures words { (w : ℕ) → slice_index words.new w
+        ≡ after (made_on event.now (slice_index words.old)) (slice_index words.old) w }
     ensures sized { length event.now.ops ≡ 8 }
 {
     let mut values = [0; 8];
@@ -56,7 +57,8 @@ fn ask(core: &mut Core, limit: u64)
     requires later { limit_of core.old ≤ limit }
     requires most { limit ≤ MOST_CYCLES }
     ensures ready { IsReady limit core.new }
-    ensures next { (x : state.Core) (made : List Operation) → StandsFor core.old x made → HasNext x made limit core.new }
+    ensures next { (x : state.Core) (made : List Operation) → StandsFor core.old x made
+        → HasNext x made limit core.new }
     ensures parts { phases_of core.old ≤ phases_of core.new }
     ensures place { place_of core.new ≡ place_of core.old }
     ensures room { room_of core.new ≡ room_of core.old }
@@ -72,7 +74,8 @@ fn make(core: &mut Core, words: &mut [u32], limit: u64)
     requires most { limit ≤ MOST_CYCLES }
     ensures ready { IsReady limit core.new }
     ensures sized { IfSome (waiting_of core.old) (λ e. length e.ops ≡ 8) }
-    ensures next { IfSome (waiting_of core.old) (λ e. (x : state.Core) (made : List Operation) → StandsFor core.old x made
+    ensures next { IfSome (waiting_of core.old) (λ e. (x : state.Core) (made : List Operation)
+        → StandsFor core.old x made
         → HasNext x (made ++ made_on e (slice_index words.old)) limit core.new) }
     ensures words { IfSome (waiting_of core.old) (λ e. (w : ℕ) → slice_index words.new w
         ≡ after (made_on e (slice_index words.old)) (slice_index words.old) w) }
@@ -91,7 +94,8 @@ fn make(core: &mut Core, words: &mut [u32], limit: u64)
 /// The core whose event has the least stamp, or `None` where no core waits to be told one.
 fn least(cores: &[Core]) -> Option<usize>
     requires some { 0 < length cores.now }
-    ensures none { IsNone result → (k : ℕ) (d : Cpu) → k < length cores.now → IsNone (waiting_of (slice_index_or cores.now k d)) }
+    ensures none { IsNone result → (k : ℕ) (d : Cpu) → k < length cores.now
+        → IsNone (waiting_of (slice_index_or cores.now k d)) }
     ensures within { IfSome result (λ k. k < length cores.now) }
     ensures waiting { IfSome result (λ k. (d : Cpu) → IsSome (waiting_of (slice_index_or cores.now k d))) }
     ensures least { IfSome result (λ k. (j : ℕ) (d : Cpu) → j < length cores.now

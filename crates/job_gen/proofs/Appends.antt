@@ -1,18 +1,15 @@
 -- Lines that a loop appends one after another, where so many are left.
-use Rattle.std.proofs.Common.{◌≡◌, ℕ, suc, ◌+◌, ◌-◌, ◌*◌, ◌<◌, ◌≤◌, List, [], ◌++◌, refl, sym, ap, ◌∙◌, append_assoc, append-nil, arith, codes}
+use Rattle.std.proofs.Common.{◌≡◌, ℕ, suc, ◌+◌, ◌-◌, ◌*◌, ◌<◌, ◌≤◌, List, [], ◌++◌, refl, sym, ap, ◌∙◌, append-nil, arith, codes}
 use Rattle.std.specs.Fmt.{decimal}
+use Rattle.tc_word.proofs.Items.{followed}
 use Rattle.job_gen.specs.Generator.{after, after_task, call_line, calls, draw, function_line, functions, more_draws, next, task, tasks}
 
--- what is left below an end is one more than what is left behind the next place
+-- what is left below an end is one more than what is left after the next place
 left_suc : (end i : ℕ) → i < end → end - i ≡ suc (end - (i + 1))
 left_suc end i below = omega arith
 
 none_left : (end i : ℕ) → end ≤ i → end - i ≡ 0
 none_left end i over = omega arith
-
--- one more line, and what follows it
-followed : (text more all line rest : List ℕ) → more ≡ text ++ line → text ++ (line ++ rest) ≡ all → more ++ rest ≡ all
-followed text more all line rest appended held = ap (λ t. t ++ rest) appended ∙ append_assoc text line rest ∙ held
 
 -- no line is left
 ended : (text rest all : List ℕ) → rest ≡ [] → text ++ rest ≡ all → text ≡ all

@@ -1,4 +1,4 @@
--- The text of a generated job, which a number decides.
+-- To be believed. The text of a generated job, which a number decides.
 use Rattle.std.specs.Prelude.{ℕ, zero, suc, ◌+◌, ◌-◌, ◌*◌, ◌/◌, ◌%◌, ◌^◌, List, [], ◌∷◌, ◌++◌, codes}
 use Rattle.std.specs.Fmt.{decimal}
 use Rattle.job_gen.specs.declared.task.TheConstants.{FUNCTIONS, MASKS, VALUES, WORDS}
@@ -22,11 +22,15 @@ line text = text ++ 10 ∷ []
 
 -- the lines above the tasks
 unfoldable pub platform_lines : List ℕ
-platform_lines = line (codes "version = 1") ++ line (codes "cores = 4") ++ line (codes "slot = 8") ++ line (codes "cycles = 20000000")
+platform_lines =
+    line (codes "version = 1") ++ line (codes "cores = 4") ++ line (codes "slot = 8")
+    ++ line (codes "cycles = 20000000")
 
 -- the lines of a core's task above its C text, and the arrays with which the C text begins
 unfoldable pub head_lines : ℕ → List ℕ
-head_lines core = line (codes "[[task]]") ++ line (codes "core = " ++ decimal core) ++ line (codes "lang = \"c\"") ++ line (codes "source = '''")
+head_lines core =
+    line (codes "[[task]]") ++ line (codes "core = " ++ decimal core) ++ line (codes "lang = \"c\"")
+    ++ line (codes "source = '''")
 
 unfoldable pub array_lines : List ℕ
 array_lines = line (codes "int in[16];") ++ line (codes "int out[1];")
@@ -46,7 +50,8 @@ unfoldable pub return_text : List ℕ
 return_text = line (codes "; } return y; }")
 
 unfoldable pub function_text : ℕ → ℕ → ℕ → ℕ → List ℕ
-function_text index mask factor term = test_text index mask ++ then_text factor term ++ else_text factor term ++ return_text
+function_text index mask factor term =
+    test_text index mask ++ then_text factor term ++ else_text factor term ++ return_text
 
 -- the function whose three draws begin at a state, in the order mask, factor and term
 unfoldable pub function_line : ℕ → ℕ → List ℕ
@@ -75,7 +80,7 @@ main_lines =
 unfoldable pub source : ℕ → List ℕ
 source x = array_lines ++ functions FUNCTIONS 0 x ++ main_lines
 
--- so many draws from a state on, each behind a comma and a space
+-- so many draws from a state on, each after a comma and a space
 unfoldable pub more_draws : ℕ → ℕ → List ℕ
 more_draws zero x = []
 more_draws (suc left) x = codes ", " ++ decimal (draw x) ++ more_draws left (next x)
@@ -84,7 +89,7 @@ more_draws (suc left) x = codes ", " ++ decimal (draw x) ++ more_draws left (nex
 unfoldable pub input_line : ℕ → List ℕ
 input_line x = line (codes "input = [" ++ decimal (draw x) ++ more_draws (WORDS - 1) (next x) ++ codes "]")
 
--- the state behind a task's functions, and behind the whole task
+-- the state after a task's functions, and after the whole task
 abbrev pub after_functions : ℕ → ℕ
 after_functions x = after (3 * FUNCTIONS) x
 

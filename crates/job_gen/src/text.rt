@@ -12,7 +12,7 @@ pub fn put(text: &mut Vec<u8>, words: &str) -> Result<(), OutOfMemory>
     text.extend_from_slice(words.as_bytes())
 }
 
-/// Appends words, and a number behind them.
+/// Appends words, and a number after them.
 pub fn put_with(text: &mut Vec<u8>, words: &str, number: u64) -> Result<(), OutOfMemory>
     ensures { OnOk result (text.new.items ≡ text.old.items ++ (words.now ++ decimal number)) }
 {
@@ -28,7 +28,7 @@ pub fn put_line(text: &mut Vec<u8>, words: &str) -> Result<(), OutOfMemory>
     put(text, "\n")
 }
 
-/// Appends a line of words and a number behind them.
+/// Appends a line of words and a number after them.
 pub fn put_line_with(text: &mut Vec<u8>, words: &str, number: u64) -> Result<(), OutOfMemory>
     ensures { OnOk result (text.new.items ≡ text.old.items ++ specs.line (words.now ++ decimal number)) }
 {
@@ -44,7 +44,8 @@ pub fn put_pair(
     more_words: &str,
     other: u64,
 ) -> Result<(), OutOfMemory>
-    ensures { OnOk result (text.new.items ≡ text.old.items ++ (words.now ++ decimal number ++ more_words.now ++ decimal other)) }
+    ensures { OnOk result (text.new.items
+        ≡ text.old.items ++ (words.now ++ decimal number ++ more_words.now ++ decimal other)) }
 {
     put_with(text, words, number)?;
     put_with(text, more_words, other)

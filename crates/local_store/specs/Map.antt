@@ -1,4 +1,5 @@
--- The memory map, in bytes (our own profile TP1, after the address spaces of the Patmos Reference Handbook).
+-- To be believed. The memory map, in bytes (our own profile TP1, after the address
+-- spaces of the Patmos Reference Handbook).
 use Rattle.std.specs.Prelude.{◌≡◌, ℕ, ◌<◌, ◌+◌, ◌-◌, ◌*◌, ◌/◌, ◌%◌, ◌&&◌, nat_le, nat_lt, if◌then◌else◌, List, [], ◌∷◌, Option, Some, None}
 use Rattle.local_store.specs.declared.map.Space.{Space}
 use Rattle.local_store.specs.declared.map.Space.TheVariants.{Local, Main}
@@ -30,7 +31,8 @@ regions Main =
 abbrev pub cell_among : List Region → ℕ → Option Cell
 cell_among [] address = None
 cell_among (region ∷ others) address =
-    if nat_le region.first address && nat_lt address (region.first + region.bytes) then Some (region.cell (address - region.first))
+    if nat_le region.first address
+    && nat_lt address (region.first + region.bytes) then Some (region.cell (address - region.first))
     else cell_among others address
 
 abbrev pub cell_at : Space → ℕ → Option Cell

@@ -1,4 +1,4 @@
--- The words that only their core can reach.
+-- To be believed. The words that only their core can reach.
 use Rattle.std.specs.Prelude.{ℕ, ◌<◌, List, ◌++◌, length, take, drop, replicate, slice_index, slice_set}
 use Rattle.local_store.specs.declared.map.Cell.{Cell}
 use Rattle.local_store.specs.declared.map.Cell.TheVariants.{Scratch, Comm, Port, Private, Shared}

@@ -15,8 +15,8 @@ pub const PRIVATE_WORDS: usize = 65_536;
 /// How many words of it lie below the stack's region: those of a task's data and of its input.
 pub const DATA_WORDS: usize = 49_152;
 
-/// The word of it from which a task's data and its input stand. Word 0 takes the accesses of compiled code that are off, and
-/// words 1 to 3 are unused.
+/// The word of it from which a task's data and its input stand. Word 0 takes the accesses of compiled
+/// code that are off, and words 1 to 3 are unused.
 pub const FIRST_DATA_WORD: u32 = 4;
 
 /// How many words a task's input has at most.

@@ -18,14 +18,14 @@ ring_wraps places at at' (suc count) same =
     let next : (at + 1) % 16 ≡ (at' + 1) % 16 = omega arith in
     ap₂ (λ (m : Method) (ms : List Method). m ∷ ms) (ap (λ k. slice_index_or places k vacant) same) (ring_wraps places (at + 1) (at' + 1) count next)
 
--- the oldest function and those behind it
+-- the oldest function and those after it
 pub ring_cons : (places : List Method) (at count : ℕ) → 0 < count
     → ring places at count ≡ slice_index_or places (at % 16) vacant ∷ ring places (at + 1) (count - 1)
 ring_cons places at count some =
     let more : count ≡ suc (count - 1) = omega arith in
     ap (ring places at) more
 
--- a function that is written behind the last one
+-- a function that is written after the last one
 pub ring_push : (places : List Method) (method : Method) (at count place : ℕ) → place ≡ (at + count) % 16 → count < 16 → length places ≡ 16
     → ring (slice_set places place method) at (count + 1) ≡ ring places at count ++ method ∷ []
 ring_push places method at zero place behind room all =
@@ -49,14 +49,14 @@ among_next places first at count function more other =
     let left : count - (at + 1) ≡ count - at - 1 = omega arith in
     rw (here, at_next, left) (grind (arith, nat_tests))
 
--- whether one more function fits behind those in the ring
+-- whether one more function fits after those in the ring
 pub fits_ring : (places : List Method) (method : Method) (first count total : ℕ) → IsRing places first count total
     → fits (ring places first count ++ method ∷ []) ≡ (nat_le (count + 1) 16 && nat_le (total + method.words) 4096)
 fits_ring places method first count total is =
     let many = length_ring places first count in
     rw (fits_push (ring places first count) method, many, ← is.words) refl
 
--- the ring with a function behind the last one
+-- the ring with a function after the last one
 pub put_behind : (places : List Method) (method : Method) (first count total place : ℕ) → IsRing places first count total
     → fits (ring places first count ++ method ∷ []) ≡ true → place ≡ (first + count) % 16 → length places ≡ 16
     → IsRing (slice_set places place method) first (count + 1) (total + method.words)

@@ -1,5 +1,5 @@
--- Which functions stand in the method cache (first in first out, as the method cache of the Patmos Reference
--- Handbook may be built; the two limits are those of our own profile TP1).
+-- To be believed. Which functions stand in the method cache (first in first out, as the method cache of the Patmos
+-- Reference Handbook may be built; the two limits are those of our own profile TP1).
 use Rattle.std.specs.Prelude.{◌≡◌, ℕ, ◌+◌, ◌/◌, Bool, ◌&&◌, ◌==◌, nat_le, if◌then◌else◌, List, [], ◌∷◌, ◌++◌, length, sum_by}
 use Rattle.std.specs.List.{list_any}
 use Rattle.method_cache.specs.declared.cache.Method.{Method}

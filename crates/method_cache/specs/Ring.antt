@@ -1,4 +1,4 @@
--- How the cache keeps its functions: a ring of as many places as there can be functions.
+-- To be believed. How the cache keeps its functions: a ring of as many places as there can be functions.
 use Rattle.std.specs.Prelude.{◌≡◌, ℕ, zero, suc, ◌+◌, ◌%◌, ◌<◌, ◌≤◌, List, [], ◌∷◌, slice_index_or}
 use Rattle.method_cache.specs.declared.cache.Method.{Method}
 use Rattle.method_cache.specs.declared.cache.TheConstants.{MOST_METHODS, METHOD_CACHE_WORDS}

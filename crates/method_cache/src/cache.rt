@@ -92,7 +92,7 @@ impl MethodCache {
         false
     }
 
-    /// Puts a function in behind the others, and before that the oldest ones out until it fits.
+    /// Puts a function in after the others, and before that the oldest ones out until it fits.
     #[tactic(auto, using(crate::proofs::Suffix::resident_keeps))]
     fn put_in(&mut self, method: Method)
         requires { method.words ≤ METHOD_CACHE_WORDS }
@@ -124,7 +124,7 @@ impl MethodCache {
         oldest
     }
 
-    /// Puts a function that fits behind the others.
+    /// Puts a function that fits after the others.
     fn append(&mut self, method: Method)
         requires { IsTrue (fits (self.old ++ method ∷ [])) }
         ensures { self.new ≡ self.old ++ method ∷ [] }

@@ -3,6 +3,7 @@ use Rattle.std.proofs.Common.{arith, ◌≡◌, ◌≢◌, ◌∙◌, ℕ, ◌+�
 use Rattle.std.specs.List.{list_all}
 use Rattle.std.specs.Fmt.{decimal}
 use Rattle.std.proofs.lemmas.Bool.Decides.{nat_tests}
+use Rattle.std.proofs.lemmas.Bool.{and_parts}
 use Rattle.patmos_instr.specs.Instructions.{is_long}
 use Rattle.patmos_instr.specs.declared.instructions.Op.{Op}
 use Rattle.patmos_instr.specs.declared.instructions.Op.TheVariants as op
@@ -12,7 +13,6 @@ use Rattle.patmos_syntax.specs.Drafts.{Draft, ready, to, DraftBundle, is_long_dr
 use Rattle.patmos_syntax.specs.Items.{Item, function, label, bundle, faulty}
 use Rattle.patmos_asm.specs.Assembly.{Lookup, size_from, place_of, labels_from, functions_from, names_from, placed_op, placed}
 use Rattle.patmos_asm.specs.Printed.{label_name, name_at, named_op, named}
-use Rattle.patmos_asm.proofs.Lines.{both}
 use Rattle.patmos_asm.proofs.Placed.{bytes_eq_same}
 use Rattle.patmos_asm.proofs.ReadWords.{IsNumeral, decimal_numeral}
 use Rattle.patmos_asm.proofs.Relabeled.{mark, branched_of, relabeled, starts_with_names}
@@ -125,7 +125,7 @@ digit_in_name b e = grind (arith, nat_tests)
 
 digits_in_name : (ds : List ℕ) → list_all is_digit ds ≡ true → list_all is_in_name ds ≡ true
 digits_in_name [] e = refl
-digits_in_name (b ∷ ds) e = let t = both (is_digit b) (list_all is_digit ds) e in rw (digit_in_name b t.0, digits_in_name ds t.1) refl
+digits_in_name (b ∷ ds) e = let t = and_parts (is_digit b) (list_all is_digit ds) e in rw (digit_in_name b t.0, digits_in_name ds t.1) refl
 
 -- the label of an offset is a name
 pub label_is_name : (n : ℕ) → n < 2 ^ 64 → is_name (label_name n) ≡ true

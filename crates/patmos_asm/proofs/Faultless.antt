@@ -82,7 +82,7 @@ pub record Faultless (functions labels : Lookup) (at : ℕ) (is : List Item) : T
   pub none : first_fault functions labels before is ≡ None
   pub within : InBounds functions labels at
 
--- so is the rest behind the first
+-- so is the rest after the first
 pub rest_faultless : (functions labels : Lookup) (at : ℕ) (i : Item) (is : List Item) → Faultless functions labels at (i ∷ is) →
     Faultless functions (labels_after labels i is) (offset_after at i) is
 rest_faultless functions labels at (function line n) is f =

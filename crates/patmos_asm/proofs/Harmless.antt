@@ -4,6 +4,7 @@ use Rattle.std.specs.Fmt.{decimal}
 use Rattle.std.specs.List.{list_all}
 use Rattle.std.proofs.lemmas.Bool.Decides.{nat_tests}
 use Rattle.std.proofs.lemmas.List.Folds.{list_all-append}
+use Rattle.std.proofs.lemmas.Bool.{and_parts}
 use Rattle.patmos_instr.specs.Specials.{special_number, writable_special_number}
 use Rattle.patmos_instr.specs.Instructions.{FitsOp}
 use Rattle.patmos_instr.specs.declared.specials.Special.{Special}
@@ -22,7 +23,7 @@ use Rattle.patmos_syntax.specs.Operands.{Token, register, predicate, negation, n
 use Rattle.patmos_syntax.specs.Forms.{mnemonic, flow_name, operands}
 use Rattle.patmos_syntax.specs.Drafts.{to, DraftInstr}
 use Rattle.patmos_asm.specs.Written.{sign_text, token_text, written, form_text, flag, op_text, draft_text, guard_text, is_nop, instr_text}
-use Rattle.patmos_asm.proofs.Lines.{is_harmless, both}
+use Rattle.patmos_asm.proofs.Lines.{is_harmless}
 use Rattle.patmos_asm.proofs.ReadWords.{IsNumeral, decimal_numeral}
 use Rattle.patmos_asm.proofs.ReadForms.{is_mnemonic}
 
@@ -37,7 +38,7 @@ digit_harmless b e = grind (arith, nat_tests)
 
 digits_harmless : (ds : List ℕ) → list_all is_digit ds ≡ true → AreHarmless ds
 digits_harmless [] e = refl
-digits_harmless (b ∷ ds) e = let t = both (is_digit b) (list_all is_digit ds) e in rw (digit_harmless b t.0, digits_harmless ds t.1) refl
+digits_harmless (b ∷ ds) e = let t = and_parts (is_digit b) (list_all is_digit ds) e in rw (digit_harmless b t.0, digits_harmless ds t.1) refl
 
 pub decimal_harmless : (n : ℕ) → n < 2 ^ 64 → AreHarmless (decimal n)
 decimal_harmless n h = let p : IsNumeral n (decimal n) = decimal_numeral n h in digits_harmless (decimal n) p.digits
@@ -50,11 +51,11 @@ next_harmless b e = grind (arith, nat_tests)
 
 rest_harmless : (bs : List ℕ) → list_all is_in_name bs ≡ true → AreHarmless bs
 rest_harmless [] e = refl
-rest_harmless (b ∷ bs) e = let t = both (is_in_name b) (list_all is_in_name bs) e in rw (next_harmless b t.0, rest_harmless bs t.1) refl
+rest_harmless (b ∷ bs) e = let t = and_parts (is_in_name b) (list_all is_in_name bs) e in rw (next_harmless b t.0, rest_harmless bs t.1) refl
 
 pub name_harmless : (name : List ℕ) → is_name name ≡ true → AreHarmless name
 name_harmless [] e = cc
-name_harmless (b ∷ bs) e = let t = both (begins_name b) (list_all is_in_name bs) e in rw (first_harmless b t.0, rest_harmless bs t.1) refl
+name_harmless (b ∷ bs) e = let t = and_parts (begins_name b) (list_all is_in_name bs) e in rw (first_harmless b t.0, rest_harmless bs t.1) refl
 
 -- the texts of the numbers of a row can be written
 abbrev AreWritable : List Token → List ℕ → Type 0

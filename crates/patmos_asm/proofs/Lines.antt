@@ -2,6 +2,7 @@
 use Rattle.std.proofs.Common.{arith, ◌≡◌, ◌∙◌, ℕ, ◌+◌, ◌==◌, ◌&&◌, ◌||◌, not, Bool, true, false, cond, zero, suc, List, [], ◌∷◌, ◌++◌, drop, refl, sym, ap, Option, Some, None, option_map}
 use Rattle.std.specs.List.{list_all}
 use Rattle.std.proofs.lemmas.Bool.Decides.{nat_tests}
+use Rattle.std.proofs.lemmas.Bool.{and_parts}
 use Rattle.patmos_syntax.specs.declared.statements.Where.{Where}
 use Rattle.patmos_syntax.specs.declared.statements.Where.TheVariants.{Plain, Braces, Comment}
 use Rattle.patmos_syntax.specs.Readers.{is_blank, without_blanks, word_len, word_at, is_name, sign_in_front, sign_at}
@@ -56,18 +57,14 @@ none_of false false false false false true g h = cc
 none_of false false false false false false true h = cc
 none_of false false false false false false false h = (refl, refl, refl, refl, refl, refl, refl)
 
-pub both : (a b : Bool) → a && b ≡ true → (a ≡ true) × (b ≡ true)
-both true b e = (refl, e)
-both false b e = cc
-
 pub harmless_stays : (at : Where) (text rest : List ℕ) → is_comment at ≡ false → list_all is_harmless text ≡ true → stays at (text ++ rest) ≡ stays at rest
 harmless_stays at [] rest plain e = refl
 harmless_stays Plain (b ∷ bs) rest plain e =
-    let t = both (is_harmless b) (list_all is_harmless bs) e in
+    let t = and_parts (is_harmless b) (list_all is_harmless bs) e in
     let n = none_of (b == 10) (b == 59) (b == 35) (b == 123) (b == 125) (b == 58) (b == 46) t.0 in
     rw (n.0, n.1, n.2, n.3) (harmless_stays Plain bs rest refl t.1)
 harmless_stays Braces (b ∷ bs) rest plain e =
-    let t = both (is_harmless b) (list_all is_harmless bs) e in
+    let t = and_parts (is_harmless b) (list_all is_harmless bs) e in
     let n = none_of (b == 10) (b == 59) (b == 35) (b == 123) (b == 125) (b == 58) (b == 46) t.0 in
     rw (n.0, n.2, n.4) (harmless_stays Braces bs rest refl t.1)
 harmless_stays Comment (b ∷ bs) rest plain e = cc
@@ -87,7 +84,7 @@ harmless_byte s b e f = by_test (b == s) refl
 pub harmless_lacks : (s : ℕ) (text : List ℕ) → is_harmless s ≡ false → list_all is_harmless text ≡ true → lacks s text ≡ true
 harmless_lacks s [] f e = refl
 harmless_lacks s (b ∷ bs) f e =
-    let t = both (is_harmless b) (list_all is_harmless bs) e in
+    let t = and_parts (is_harmless b) (list_all is_harmless bs) e in
     rw (harmless_byte s b t.0 f, harmless_lacks s bs f t.1) refl
 
 -- a sign that a text lacks is not read in it
@@ -105,13 +102,13 @@ blank_byte s b bs false h e rest = rw h (sign_byte s b bs e)
 pub lacks_sign : (s : ℕ) (text : List ℕ) → lacks s text ≡ true → sign_at s text ≡ None
 lacks_sign s [] e = refl
 lacks_sign s (b ∷ bs) e =
-    let t = both (not (b == s)) (lacks s bs) e in
+    let t = and_parts (not (b == s)) (lacks s bs) e in
     blank_byte s b bs (is_blank b) refl t.0 (lacks_sign s bs t.1)
 
 lacks_drop : (s k : ℕ) (text : List ℕ) → lacks s text ≡ true → lacks s (drop k text) ≡ true
 lacks_drop s zero text e = e
 lacks_drop s (suc k) [] e = refl
-lacks_drop s (suc k) (b ∷ bs) e = lacks_drop s k bs (both (not (b == s)) (lacks s bs) e).1
+lacks_drop s (suc k) (b ∷ bs) e = lacks_drop s k bs (and_parts (not (b == s)) (lacks s bs) e).1
 
 lacks_blank : (s b : ℕ) (bs : List ℕ) (t : Bool) → is_blank b ≡ t → lacks s (b ∷ bs) ≡ true → lacks s (without_blanks bs) ≡ true → lacks s (without_blanks (b ∷ bs)) ≡ true
 lacks_blank s b bs true h e rest = rw h rest
@@ -119,7 +116,7 @@ lacks_blank s b bs false h e rest = rw h e
 
 pub lacks_blanks : (s : ℕ) (text : List ℕ) → lacks s text ≡ true → lacks s (without_blanks text) ≡ true
 lacks_blanks s [] e = refl
-lacks_blanks s (b ∷ bs) e = lacks_blank s b bs (is_blank b) refl e (lacks_blanks s bs (both (not (b == s)) (lacks s bs) e).1)
+lacks_blanks s (b ∷ bs) e = lacks_blank s b bs (is_blank b) refl e (lacks_blanks s bs (and_parts (not (b == s)) (lacks s bs) e).1)
 
 chosen_none : (b : Bool) (name : List ℕ) (o : Option (List ℕ)) → o ≡ None → cond b (option_map {U = List ℕ × List ℕ} (λ (rest : List ℕ). (name, rest)) o) None ≡ None
 chosen_none true name o e = rw e refl

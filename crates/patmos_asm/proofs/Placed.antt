@@ -1,20 +1,10 @@
 -- Names that are set once.
-use Rattle.std.proofs.Common.{arith, ◌≡◌, ◌∙◌, ℕ, ◌==◌, cond, Bool, true, false, List, [], ◌∷◌, refl, ap, Option, Some, None}
+use Rattle.std.proofs.Common.{◌≡◌, ◌∙◌, ℕ, cond, Bool, true, false, List, refl, ap, Option, Some, None}
 use Rattle.std.specs.Str.{bytes_eq}
 use Rattle.std.specs.Option.{option_or}
 use Rattle.std.specs.Map.{update}
-use Rattle.std.proofs.lemmas.Bool.Decides.{nat_tests}
 use Rattle.std.proofs.lemmas.Slice.Eq.{bytes_eq-Decides}
-
-eq_sym : (a b : ℕ) → a == b ≡ b == a
-eq_sym a b = grind (arith, nat_tests)
-
--- names are compared either way
-pub bytes_eq_sym : (a b : List ℕ) → bytes_eq a b ≡ bytes_eq b a
-bytes_eq_sym [] [] = refl
-bytes_eq_sym [] (y ∷ ys) = refl
-bytes_eq_sym (x ∷ xs) [] = refl
-bytes_eq_sym (x ∷ xs) (y ∷ ys) = rw (eq_sym x y, bytes_eq_sym xs ys) refl
+use Rattle.tc_word.proofs.Items.{bytes_eq_sym}
 
 -- the same name is equal, and equal names are the same
 pub bytes_eq_same : (a b : List ℕ) → bytes_eq a b ≡ true → a ≡ b

@@ -3,6 +3,7 @@ use Rattle.std.proofs.Common.{arith, ◌≡◌, ◌∙◌, ℕ, ◌<◌, ◌==�
 use Rattle.std.proofs.lemmas.Bool.Decides.{nat_tests}
 use Rattle.std.proofs.lemmas.List.{append-nil}
 use Rattle.std.proofs.lemmas.List.Folds.{list_all-append}
+use Rattle.std.proofs.lemmas.Bool.{and_parts}
 use Rattle.patmos_instr.specs.Instructions.{FitsOp, is_second_kind}
 use Rattle.patmos_instr.specs.declared.instructions.Instr.{Instr}
 use Rattle.patmos_instr.specs.declared.instructions.Op.{Op}
@@ -10,7 +11,7 @@ use Rattle.patmos_instr.specs.declared.instructions.Op.TheVariants as op
 use Rattle.patmos_syntax.specs.Readers.{is_name, sign_at}
 use Rattle.patmos_syntax.specs.Drafts.{Draft, ready, to, DraftInstr, DraftBundle, instr_of, is_long_draft, pair_of, cut_at, parts_of, braces_of, bundle_of}
 use Rattle.patmos_asm.specs.Written.{draft_text, instr_text, plain_text, bundle_text}
-use Rattle.patmos_asm.proofs.Lines.{both, lacks, harmless_lacks, lacks_sign}
+use Rattle.patmos_asm.proofs.Lines.{lacks, harmless_lacks, lacks_sign}
 use Rattle.patmos_asm.proofs.Harmless.{AreHarmless, op_harmless, jump_harmless, instr_harmless}
 use Rattle.patmos_asm.proofs.ReadForms.{IsRead, Trails, is_flow, op_back, draft_back}
 use Rattle.patmos_asm.proofs.ReadInstrs.{instr_back, blank_same}
@@ -62,7 +63,7 @@ drafted i = record { guard = i.guard; draft = ready i.op }
 cut_prefix : (s : ℕ) (prefix rest : List ℕ) → lacks s prefix ≡ true → cut_at s (prefix ++ s ∷ rest) ≡ (prefix, Some rest)
 cut_prefix s [] rest e = let same : s == s ≡ true = grind (arith, nat_tests) in rw same refl
 cut_prefix s (b ∷ bs) rest e =
-    let t = both (not (b == s)) (lacks s bs) e in
+    let t = and_parts (not (b == s)) (lacks s bs) e in
     rw (not_true (b == s) t.0, cut_prefix s bs rest t.1) refl
   where
     not_true : (a : Bool) → not a ≡ true → a ≡ false
@@ -72,7 +73,7 @@ cut_prefix s (b ∷ bs) rest e =
 one_part_only : (part : List ℕ) → lacks 59 part ≡ true → parts_of part ≡ part ∷ []
 one_part_only [] e = refl
 one_part_only (b ∷ bs) e =
-    let t = both (not (b == 59)) (lacks 59 bs) e in
+    let t = and_parts (not (b == 59)) (lacks 59 bs) e in
     let n : b == 59 ≡ false = not_true (b == 59) t.0 in
     rw (n, one_part_only bs t.1) refl
   where
@@ -83,7 +84,7 @@ one_part_only (b ∷ bs) e =
 two_parts_only : (one two : List ℕ) → lacks 59 one ≡ true → lacks 59 two ≡ true → parts_of (one ++ 59 ∷ two) ≡ one ∷ two ∷ []
 two_parts_only [] two e f = ap (λ ps. [] ∷ ps) (one_part_only two f)
 two_parts_only (b ∷ bs) two e f =
-    let t = both (not (b == 59)) (lacks 59 bs) e in
+    let t = and_parts (not (b == 59)) (lacks 59 bs) e in
     let n : b == 59 ≡ false = not_true (b == 59) t.0 in
     rw (n, two_parts_only bs two t.1 f) refl
   where

@@ -3,6 +3,7 @@ use Rattle.std.proofs.Common.{arith, ◌≡◌, ◌∙◌, ℕ, ◌^◌, ◌<◌
 use Rattle.std.specs.List.{list_all}
 use Rattle.std.specs.Option.{ok_or}
 use Rattle.std.proofs.lemmas.Bool.Decides.{nat_tests}
+use Rattle.std.proofs.lemmas.Bool.{and_parts}
 use Rattle.patmos_instr.specs.Instructions.{FitsOp}
 use Rattle.patmos_instr.specs.Specials.{special_number, writable_special_number}
 use Rattle.patmos_instr.specs.declared.functions.ImmFunc.TheVariants as imm
@@ -28,7 +29,7 @@ use Rattle.patmos_syntax.specs.Operands.{Token, register, predicate, negation, n
 use Rattle.patmos_syntax.specs.Forms.{mnemonic, flow_name, flow_of, form_of, operands, below, guard_of, op_of, op_in}
 use Rattle.patmos_asm.specs.Written.{written, form_text, op_text, draft_text, flag}
 use Rattle.patmos_asm.proofs.Lines.{is_harmless}
-use Rattle.patmos_asm.proofs.ReadWords.{ends_word, both, some_word_read}
+use Rattle.patmos_asm.proofs.ReadWords.{ends_word, some_word_read}
 use Rattle.patmos_asm.proofs.ReadOperands.{is_row, AreValues, read_written}
 use Rattle.patmos_code.proofs.Numbers.{special_small, special_back, writable_special_small, writable_special_back}
 
@@ -86,7 +87,7 @@ flag_small false = omega arith
 pub guard_back : (g : Guard) → g.pred < 8 → guard_of (flag g.negated) g.pred ≡ Ok g
 guard_back g h = rw (below_fits 8 g.pred h, flag_back g.negated) refl
 
--- what stands behind a mnemonic, where nothing but blanks follows it
+-- what stands after a mnemonic, where nothing but blanks follows it
 pub record Trails (trail : List ℕ) : Type 0 where
   pub end : at_end trail ≡ true
   pub word : ends_word trail ≡ true
@@ -99,7 +100,7 @@ op_read trail form values o r e = ap (λ (x : Option (List ℕ)). ok_or x Operan
 wide : (n limit : ℕ) → limit ≤ 2 ^ 32 → n < limit → n < 2 ^ 32
 wide n limit l h = omega arith
 
--- an instruction's text is a word and what stands behind it, from which this is read
+-- an instruction's text is a word and what stands after it, from which this is read
 pub record IsRead (trail text : List ℕ) (d : Draft) : Type 0 where
   pub word : List ℕ
   pub tail : List ℕ
@@ -195,12 +196,12 @@ next_in_word b e = grind (arith, nat_tests)
 
 all_in_word : (bs : List ℕ) → list_all is_in_name bs ≡ true → list_all is_in_word bs ≡ true
 all_in_word [] e = refl
-all_in_word (b ∷ bs) e = let t = both (is_in_name b) (list_all is_in_name bs) e in rw (next_in_word b t.0, all_in_word bs t.1) refl
+all_in_word (b ∷ bs) e = let t = and_parts (is_in_name b) (list_all is_in_name bs) e in rw (next_in_word b t.0, all_in_word bs t.1) refl
 
 pub name_words : (name : List ℕ) → is_name name ≡ true → (list_all is_in_word name ≡ true) × (0 < length name)
 name_words [] e = cc
 name_words (b ∷ bs) e =
-    let t = both (begins_name b) (list_all is_in_name bs) e in
+    let t = and_parts (begins_name b) (list_all is_in_name bs) e in
     (rw (first_in_word b t.0, all_in_word bs t.1) refl, omega arith)
 
 jump_read : (trail : List ℕ) (flow : Flow) (name : List ℕ) → Trails trail → is_name name ≡ true → draft_in (flow_name flow) (32 ∷ (name ++ trail)) ≡ Ok (to flow name)

@@ -4,6 +4,7 @@ use Rattle.std.specs.Fmt.{decimal}
 use Rattle.std.specs.List.{list_all}
 use Rattle.std.specs.Option.{ok_or, option_and_then}
 use Rattle.std.proofs.lemmas.Bool.Decides.{nat_tests}
+use Rattle.std.proofs.lemmas.Bool.{and_parts}
 use Rattle.patmos_instr.specs.declared.functions.ImmFunc.TheVariants as imm
 use Rattle.patmos_instr.specs.declared.guards.Guard.{Guard}
 use Rattle.patmos_instr.specs.declared.instructions.Op.TheVariants as op
@@ -15,7 +16,7 @@ use Rattle.patmos_syntax.specs.Operands.{numbered_at}
 use Rattle.patmos_syntax.specs.Forms.{guard_at, guard_of}
 use Rattle.patmos_syntax.specs.Drafts.{Draft, ready, DraftInstr, draft_in, instr_of}
 use Rattle.patmos_asm.specs.Written.{draft_text, guard_text, is_nop, instr_text, flag}
-use Rattle.patmos_asm.proofs.ReadWords.{both, some_word_read, numbered_at-read}
+use Rattle.patmos_asm.proofs.ReadWords.{some_word_read, numbered_at-read}
 use Rattle.patmos_asm.proofs.ReadForms.{IsRead, Trails, guard_back}
 
 -- a word begins with no bracket
@@ -29,7 +30,7 @@ no_sign sign b e f = (grind (arith, nat_tests), by_test (b == sign) refl)
 pub word_no_sign : (sign : ℕ) (word tail : List ℕ) → is_in_word sign ≡ false → 0 < length word → list_all is_in_word word ≡ true → sign_at sign (word ++ tail) ≡ None
 word_no_sign sign [] tail f some all = absurd (omega arith)
 word_no_sign sign (b ∷ w) tail f some all =
-    let t = both (is_in_word b) (list_all is_in_word w) all in
+    let t = and_parts (is_in_word b) (list_all is_in_word w) all in
     let n = no_sign sign b t.0 f in
     rw (n.0, n.1) refl
 
@@ -39,7 +40,7 @@ in_brackets neg p text h =
     ap (λ t. option_and_then {U = ℕ × ℕ × List ℕ} (λ (x : ℕ × List ℕ). option_map {U = ℕ × ℕ × List ℕ} (λ r. (neg, x.0, r)) (sign_at 41 x.1)) (numbered_at 112 (112 ∷ t))) (append_assoc (decimal p) (41 ∷ 32 ∷ []) text)
     ∙ ap (option_and_then {U = ℕ × ℕ × List ℕ} (λ (x : ℕ × List ℕ). option_map {U = ℕ × ℕ × List ℕ} (λ r. (neg, x.0, r)) (sign_at 41 x.1))) (numbered_at-read 112 p (41 ∷ 32 ∷ text) refl (omega arith) refl)
 
--- the numbers of a printed guard, and the text behind it
+-- the numbers of a printed guard, and the text after it
 pub record ReadsGuard (g : Guard) (text : List ℕ) : Type 0 where
   pub rest : List ℕ
   pub guard : guard_at (guard_text g ++ text) ≡ Some (flag g.negated, g.pred, rest)

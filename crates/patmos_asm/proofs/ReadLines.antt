@@ -5,6 +5,7 @@ use Rattle.std.specs.List.{list_all}
 use Rattle.std.proofs.lemmas.Bool.Decides.{nat_tests}
 use Rattle.std.proofs.lemmas.List.{append-nil}
 use Rattle.std.proofs.lemmas.List.Folds.{list_all-append}
+use Rattle.std.proofs.lemmas.Bool.{and_parts}
 use Rattle.patmos_instr.specs.declared.guards.Guard.{Guard}
 use Rattle.patmos_instr.specs.declared.instructions.Instr.{Instr}
 use Rattle.patmos_syntax.specs.declared.statements.Where.TheVariants.{Plain, Braces}
@@ -14,7 +15,7 @@ use Rattle.patmos_syntax.specs.Drafts.{Draft, ready, DraftInstr, DraftBundle}
 use Rattle.patmos_syntax.specs.Items.{Item, function, label, bundle, faulty, label_at, function_item, statement_of, items_in, items_from}
 use Rattle.patmos_asm.specs.Written.{draft_text, guard_text, is_nop, instr_text, plain_text, bundle_text}
 use Rattle.patmos_syntax.proofs.Labels.{label_first, no_label}
-use Rattle.patmos_asm.proofs.Lines.{is_harmless, both, lacks, harmless_lacks, lacks_blanks, no_colon, stays, harmless_stays, line_stated}
+use Rattle.patmos_asm.proofs.Lines.{is_harmless, lacks, harmless_lacks, lacks_blanks, no_colon, stays, harmless_stays, line_stated}
 use Rattle.patmos_asm.proofs.Harmless.{AreHarmless, name_harmless}
 use Rattle.patmos_asm.proofs.ReadWords.{some_word_read, no_blank}
 use Rattle.patmos_asm.proofs.ReadForms.{IsRead, name_words}
@@ -27,7 +28,7 @@ pub record Begins (text : List ℕ) : Type 0 where
 
 begins_word : (word tail : List ℕ) → 0 < length word → list_all is_in_word word ≡ true → Begins (word ++ tail)
 begins_word [] tail s e = absurd (omega arith)
-begins_word (b ∷ w) tail s e = record { some = omega arith; blanks = no_blank b (w ++ tail) (both (is_in_word b) (list_all is_in_word w) e).0 }
+begins_word (b ∷ w) tail s e = record { some = omega arith; blanks = no_blank b (w ++ tail) (and_parts (is_in_word b) (list_all is_in_word w) e).0 }
 
 guard_begins : (t n : Bool) (p : List ℕ) (text : List ℕ) → Begins text → Begins (cond t [] (codes "(" ++ cond n (codes "!") [] ++ codes "p" ++ p ++ codes ") ") ++ text)
 guard_begins true n p text b = b
@@ -114,11 +115,11 @@ some_left text b = let e : length (without_blanks text) ≡ length text = ap len
 lacks_take : (s k : ℕ) (text : List ℕ) → lacks s text ≡ true → lacks s (take k text) ≡ true
 lacks_take s zero text e = refl
 lacks_take s (suc k) [] e = refl
-lacks_take s (suc k) (b ∷ bs) e = let t = both (not (b == s)) (lacks s bs) e in rw (t.0, lacks_take s k bs t.1) refl
+lacks_take s (suc k) (b ∷ bs) e = let t = and_parts (not (b == s)) (lacks s bs) e in rw (t.0, lacks_take s k bs t.1) refl
 
 no_dot_word : (word rest : List ℕ) → lacks 46 word ≡ true → bytes_eq word (46 ∷ rest) ≡ false
 no_dot_word [] rest e = refl
-no_dot_word (b ∷ bs) rest e = let n : b == 46 ≡ false = is_other (b == 46) (both (not (b == 46)) (lacks 46 bs) e).0 in rw n refl
+no_dot_word (b ∷ bs) rest e = let n : b == 46 ≡ false = is_other (b == 46) (and_parts (not (b == 46)) (lacks 46 bs) e).0 in rw n refl
   where
     is_other : (a : Bool) → not a ≡ true → a ≡ false
     is_other true h = cc

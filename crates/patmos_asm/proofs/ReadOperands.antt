@@ -3,10 +3,11 @@ use Rattle.std.proofs.Common.{arith, ◌≡◌, ◌∙◌, ℕ, zero, suc, ◌^�
 use Rattle.std.specs.List.{list_all}
 use Rattle.std.proofs.lemmas.Bool.Decides.{nat_tests}
 use Rattle.std.proofs.lemmas.List.{append-nil}
+use Rattle.std.proofs.lemmas.Bool.{and_parts}
 use Rattle.patmos_syntax.specs.Readers.{◌>>=◌, is_blank, is_in_word, without_blanks, sign_in_front, sign_at, at_end}
 use Rattle.patmos_syntax.specs.Operands.{Token, register, predicate, negation, number, offset, special, writable, sign, special_names, named_at, value_at, read_behind, read}
 use Rattle.patmos_asm.specs.Written.{sign_text, token_text, written}
-use Rattle.patmos_asm.proofs.ReadWords.{ends_word, both, not_false, some_word_read, number_at-read, numbered_at-read}
+use Rattle.patmos_asm.proofs.ReadWords.{ends_word, not_false, some_word_read, number_at-read, numbered_at-read}
 
 -- the text of the piece begins with a byte of a word
 abbrev pub begins_word : List Token → Bool
@@ -31,7 +32,7 @@ abbrev pub begins_predicate : List Token → Bool
 begins_predicate (predicate ∷ ts) = true
 begins_predicate _ = false
 
--- pieces that can be kept apart where they are written one behind another
+-- pieces that can be kept apart where they are written one after another
 abbrev pub is_row : List Token → Bool
 is_row [] = true
 is_row (sign s ∷ ts) = not (is_blank s) && (not (is_in_word s) && ((is_some_row ts || not (is_padded s)) && is_row ts))
@@ -49,7 +50,7 @@ AreValues (special ∷ ts) (v ∷ vs) = (v < 7) × AreValues ts vs
 AreValues (writable ∷ ts) (v ∷ vs) = (v < 5) × AreValues ts vs
 AreValues (t ∷ ts) (v ∷ vs) = (v < 2 ^ 32) × AreValues ts vs
 
--- pieces one behind another, and then this
+-- pieces one after another, and then this
 abbrev pub written_then : List ℕ → List Token → List ℕ → List ℕ
 written_then trail [] vs = trail
 written_then trail (sign s ∷ ts) vs = sign_text s ++ written_then trail ts vs
@@ -68,8 +69,8 @@ ends_written : (trail : List ℕ) (ts : List Token) (vs : List ℕ) → ends_wor
 ends_written trail [] [] e n r f = e
 ends_written trail [] (v ∷ vs) e n r f = absurd f
 ends_written trail (sign s ∷ ts) vs e n r f =
-    let a = both (not (is_blank s)) (not (is_in_word s) && ((is_some_row ts || not (is_padded s)) && is_row ts)) r in
-    let b = both (not (is_in_word s)) ((is_some_row ts || not (is_padded s)) && is_row ts) a.1 in
+    let a = and_parts (not (is_blank s)) (not (is_in_word s) && ((is_some_row ts || not (is_padded s)) && is_row ts)) r in
+    let b = and_parts (not (is_in_word s)) ((is_some_row ts || not (is_padded s)) && is_row ts) a.1 in
     sign_ends s (written_then trail ts vs) (not_false (is_in_word s) b.0)
 ends_written trail (offset ∷ ts) [] e n r f = absurd f
 ends_written trail (offset ∷ ts) (v ∷ vs) e n r f = refl
@@ -80,7 +81,7 @@ ends_written trail (number ∷ ts) vs e n r f = cc
 ends_written trail (special ∷ ts) vs e n r f = cc
 ends_written trail (writable ∷ ts) vs e n r f = cc
 
--- what stands behind a printed sign
+-- what stands after a printed sign
 abbrev pub behind_sign : ℕ → List ℕ → List ℕ
 behind_sign s rest = if is_padded s then 32 ∷ rest else rest
 
@@ -151,39 +152,39 @@ pub reads : (trail : List ℕ) (ts : List Token) (vs before : List ℕ) → ends
 reads trail [] [] before e r f = ap (λ b. Some (b, trail)) (sym (append-nil before))
 reads trail [] (v ∷ vs) before e r f = absurd f
 reads trail (sign s ∷ ts) vs before e r f =
-    let a = both (not (is_blank s)) (not (is_in_word s) && ((is_some_row ts || not (is_padded s)) && is_row ts)) r in
-    let b = both (not (is_in_word s)) ((is_some_row ts || not (is_padded s)) && is_row ts) a.1 in
-    let c = both (is_some_row ts || not (is_padded s)) (is_row ts) b.1 in
+    let a = and_parts (not (is_blank s)) (not (is_in_word s) && ((is_some_row ts || not (is_padded s)) && is_row ts)) r in
+    let b = and_parts (not (is_in_word s)) ((is_some_row ts || not (is_padded s)) && is_row ts) a.1 in
+    let c = and_parts (is_some_row ts || not (is_padded s)) (is_row ts) b.1 in
     ap (λ o. o >>= λ rest. read_behind before ts rest) (sign_read s (written_then trail ts vs) (not_false (is_blank s) a.0))
     ∙ padded trail (is_padded s) before ts vs f c.1 c.0 ∙ reads trail ts vs before e c.1 f
 reads trail (register ∷ ts) [] before e r f = absurd f
 reads trail (register ∷ ts) (v ∷ vs) before e r f =
-    let a = both (not (begins_word ts)) (is_row ts) r in
+    let a = and_parts (not (begins_word ts)) (is_row ts) r in
     step trail before ts v vs (written_then trail ts vs) (value_at register (token_text register v ++ written_then trail ts vs))
     (numbered_at-read 114 v (written_then trail ts vs) refl f.0 (ends_written trail ts vs e (not_false (begins_word ts) a.0) a.1 f.1)) (λ b. reads trail ts vs b e a.1 f.1)
 reads trail (predicate ∷ ts) [] before e r f = absurd f
 reads trail (predicate ∷ ts) (v ∷ vs) before e r f =
-    let a = both (not (begins_word ts)) (is_row ts) r in
+    let a = and_parts (not (begins_word ts)) (is_row ts) r in
     step trail before ts v vs (written_then trail ts vs) (value_at predicate (token_text predicate v ++ written_then trail ts vs))
     (numbered_at-read 112 v (written_then trail ts vs) refl f.0 (ends_written trail ts vs e (not_false (begins_word ts) a.0) a.1 f.1)) (λ b. reads trail ts vs b e a.1 f.1)
 reads trail (number ∷ ts) [] before e r f = absurd f
 reads trail (number ∷ ts) (v ∷ vs) before e r f =
-    let a = both (not (begins_word ts)) (is_row ts) r in
+    let a = and_parts (not (begins_word ts)) (is_row ts) r in
     step trail before ts v vs (written_then trail ts vs) (value_at number (token_text number v ++ written_then trail ts vs))
     (number_at-read v (written_then trail ts vs) f.0 (ends_written trail ts vs e (not_false (begins_word ts) a.0) a.1 f.1)) (λ b. reads trail ts vs b e a.1 f.1)
 reads trail (offset ∷ ts) [] before e r f = absurd f
 reads trail (offset ∷ ts) (v ∷ vs) before e r f =
-    let a = both (not (begins_word ts)) (is_row ts) r in
+    let a = and_parts (not (begins_word ts)) (is_row ts) r in
     step trail before ts v vs (written_then trail ts vs) (value_at offset (token_text offset v ++ written_then trail ts vs))
     (number_at-read v (written_then trail ts vs) f.0 (ends_written trail ts vs e (not_false (begins_word ts) a.0) a.1 f.1)) (λ b. reads trail ts vs b e a.1 f.1)
 reads trail (special ∷ ts) [] before e r f = absurd f
 reads trail (special ∷ ts) (v ∷ vs) before e r f =
-    let a = both (not (begins_word ts)) (is_row ts) r in
+    let a = and_parts (not (begins_word ts)) (is_row ts) r in
     step trail before ts v vs (written_then trail ts vs) (value_at special (token_text special v ++ written_then trail ts vs))
     (special_read v (written_then trail ts vs) f.0 (ends_written trail ts vs e (not_false (begins_word ts) a.0) a.1 f.1)) (λ b. reads trail ts vs b e a.1 f.1)
 reads trail (writable ∷ ts) [] before e r f = absurd f
 reads trail (writable ∷ ts) (v ∷ vs) before e r f =
-    let a = both (not (begins_word ts)) (is_row ts) r in
+    let a = and_parts (not (begins_word ts)) (is_row ts) r in
     step trail before ts v vs (written_then trail ts vs) (value_at writable (token_text writable v ++ written_then trail ts vs))
     (writable_read v (written_then trail ts vs) f.0 (ends_written trail ts vs e (not_false (begins_word ts) a.0) a.1 f.1)) (λ b. reads trail ts vs b e a.1 f.1)
 reads trail (negation ∷ ts) [] before e r f = absurd f
@@ -214,7 +215,7 @@ then_append trail (offset ∷ ts) (v ∷ vs) = append_assoc (token_text offset v
 then_append trail (special ∷ ts) (v ∷ vs) = append_assoc (token_text special v) (written ts vs) trail ∙ ap (λ t. token_text special v ++ t) (then_append trail ts vs)
 then_append trail (writable ∷ ts) (v ∷ vs) = append_assoc (token_text writable v) (written ts vs) trail ∙ ap (λ t. token_text writable v ++ t) (then_append trail ts vs)
 
--- so are printed operands behind their mnemonic and a blank, where nothing but blanks follows
+-- so are printed operands after their mnemonic and a blank, where nothing but blanks follows
 pub read_written : (trail : List ℕ) (t : Token) (ts : List Token) (vs : List ℕ) → at_end trail ≡ true → ends_word trail ≡ true → is_row (t ∷ ts) ≡ true → AreValues (t ∷ ts) vs →
     read (t ∷ ts) (32 ∷ (written (t ∷ ts) vs ++ trail)) ≡ Some vs
 read_written trail t ts vs end e r f =

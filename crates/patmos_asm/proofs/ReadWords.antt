@@ -5,6 +5,8 @@ use Rattle.std.specs.List.{list_all}
 use Rattle.std.specs.Fmt.{decimal}
 use Rattle.std.proofs.lemmas.Fmt.{decimal_by_steps}
 use Rattle.std.proofs.lemmas.Bool.Decides.{nat_tests}
+use Rattle.std.proofs.lemmas.Bool.{and_parts}
+use Rattle.std.proofs.Math.Seq.{take-append_seam, drop-append_seam}
 use Rattle.patmos_syntax.specs.declared.readers.Radix.TheVariants.{Decimal}
 use Rattle.patmos_syntax.specs.Readers.{◌>>=◌, is_blank, is_digit, without_blanks, is_in_word, word_len, word_at, digit_of, value_behind, written_number, numbered}
 use Rattle.patmos_syntax.specs.Operands.{number_at, numbered_at}
@@ -17,10 +19,6 @@ ends_word (b ∷ bs) = not (is_in_word b)
 word_byte : (b : ℕ) → is_in_word b ≡ true → is_blank b ≡ false
 word_byte b e = grind (arith, nat_tests)
 
-pub both : (a b : Bool) → a && b ≡ true → (a ≡ true) × (b ≡ true)
-both true b e = (refl, e)
-both false b e = cc
-
 pub not_false : (a : Bool) → not a ≡ true → a ≡ false
 not_false true e = cc
 not_false false e = refl
@@ -29,18 +27,8 @@ pub word_len-read : (w rest : List ℕ) → list_all is_in_word w ≡ true → e
 word_len-read [] [] e h = refl
 word_len-read [] (b ∷ bs) e h = rw (not_false (is_in_word b) h) refl
 word_len-read (b ∷ bs) rest e h =
-    let t = both (is_in_word b) (list_all is_in_word bs) e in
+    let t = and_parts (is_in_word b) (list_all is_in_word bs) e in
     rw (t.0, word_len-read bs rest t.1 h) (omega arith)
-
-take_prefix : (w rest : List ℕ) → take (length w) (w ++ rest) ≡ w
-take_prefix [] [] = refl
-take_prefix [] (b ∷ bs) = refl
-take_prefix (b ∷ bs) rest = ap (λ xs. b ∷ xs) (take_prefix bs rest)
-
-drop_prefix : (w rest : List ℕ) → drop (length w) (w ++ rest) ≡ rest
-drop_prefix [] [] = refl
-drop_prefix [] (b ∷ bs) = refl
-drop_prefix (b ∷ bs) rest = drop_prefix bs rest
 
 pub no_blank : (b : ℕ) (bs : List ℕ) → is_in_word b ≡ true → without_blanks (b ∷ bs) ≡ b ∷ bs
 no_blank b bs e = rw (word_byte b e) refl
@@ -48,11 +36,11 @@ no_blank b bs e = rw (word_byte b e) refl
 -- a word is read, where no byte of a word follows it
 pub word_read : (b : ℕ) (w rest : List ℕ) → list_all is_in_word (b ∷ w) ≡ true → ends_word rest ≡ true → word_at ((b ∷ w) ++ rest) ≡ (b ∷ w, rest)
 word_read b w rest e h =
-    let t = both (is_in_word b) (list_all is_in_word w) e in
+    let t = and_parts (is_in_word b) (list_all is_in_word w) e in
     let u : without_blanks (b ∷ (w ++ rest)) ≡ b ∷ (w ++ rest) = no_blank b (w ++ rest) t.0 in
     let n : word_len ((b ∷ w) ++ rest) ≡ length (b ∷ w) = word_len-read (b ∷ w) rest e h in
     ap (λ x. (take (word_len x) x, drop (word_len x) x)) u ∙ ap (λ k. (take k ((b ∷ w) ++ rest), drop k ((b ∷ w) ++ rest))) n
-    ∙ ap (λ x. (x, drop (length (b ∷ w)) ((b ∷ w) ++ rest))) (take_prefix (b ∷ w) rest) ∙ ap (λ x. (b ∷ w, x)) (drop_prefix (b ∷ w) rest)
+    ∙ ap (λ x. (x, drop (length (b ∷ w)) ((b ∷ w) ++ rest))) (take-append_seam (b ∷ w) rest) ∙ ap (λ x. (b ∷ w, x)) (drop-append_seam (b ∷ w) rest)
 
 -- what decimal digits are
 pub record IsNumeral (n : ℕ) (ds : List ℕ) : Type 0 where
@@ -105,8 +93,8 @@ numeral_read : (n : ℕ) (ds : List ℕ) → IsNumeral n ds → written_number d
 numeral_read n [] p = let some = p.some in absurd (omega arith)
 numeral_read n (b ∷ []) p = p.value
 numeral_read n (b ∷ c ∷ ds) p =
-    let t = both (is_digit b) (list_all is_digit (c ∷ ds)) p.digits in
-    let u = both (is_digit c) (list_all is_digit ds) t.1 in
+    let t = and_parts (is_digit b) (list_all is_digit (c ∷ ds)) p.digits in
+    let u = and_parts (is_digit c) (list_all is_digit ds) t.1 in
     rw (no_prefix c u.0, and_false (b == 48)) p.value
 
 pub number_read : (n : ℕ) → n < 2 ^ 32 → written_number (decimal n) ≡ Some n
@@ -118,14 +106,14 @@ digit_in_word b e = grind (arith, nat_tests)
 digits_in_word : (ds : List ℕ) → list_all is_digit ds ≡ true → list_all is_in_word ds ≡ true
 digits_in_word [] e = refl
 digits_in_word (b ∷ ds) e =
-    let t = both (is_digit b) (list_all is_digit ds) e in
+    let t = and_parts (is_digit b) (list_all is_digit ds) e in
     rw (digit_in_word b t.0, digits_in_word ds t.1) refl
 
 pub some_word_read : (w rest : List ℕ) → 0 < length w → list_all is_in_word w ≡ true → ends_word rest ≡ true → word_at (w ++ rest) ≡ (w, rest)
 some_word_read [] rest some e h = absurd (omega arith)
 some_word_read (b ∷ w) rest some e h = word_read b w rest e h
 
--- a number in decimal is read, and so is one behind a letter
+-- a number in decimal is read, and so is one after a letter
 pub number_at-read : (n : ℕ) (rest : List ℕ) → n < 2 ^ 32 → ends_word rest ≡ true → number_at (decimal n ++ rest) ≡ Some (n, rest)
 number_at-read n rest h e =
     let p : IsNumeral n (decimal n) = decimal_numeral n (omega arith) in

@@ -7,14 +7,14 @@ use Rattle.patmos_syntax.specs.Drafts.{DraftBundle, size_of}
 use Rattle.patmos_asm.specs.Assembly.{Lookup, Before, fault_of, labels_after, after, first_fault}
 use Rattle.patmos_syntax.specs.Shown.{shown_item, shown_items}
 
--- the statements from one on are that one and those behind it
+-- the statements from one on are that one and those after it
 pub item_first : (items : List code.Item) (item : code.Item) (i : ℕ) → i < length items → item ≡ get_or items i item →
     shown_items (drop i items) ≡ shown_item item ∷ shown_items (drop (i + 1) items)
 item_first items item i within is =
     let first : drop i items ≡ item ∷ drop (i + 1) items = rw (add-one, drop-cons items i item, ← is) refl in
     ap shown_items first
 
--- behind a statement without a fault the first fault is that of the rest
+-- after a statement without a fault the first fault is that of the rest
 pub fault_step : (functions labels labels' : Lookup) (before before' : Before) (items : List code.Item) (item : code.Item) (i : ℕ) →
     i < length items → item ≡ get_or items i item → fault_of functions labels before (shown_item item) ≡ None →
     ((q : List ℕ) → labels' q ≡ labels_after labels (shown_item item) (shown_items (drop (i + 1) items)) q) →

@@ -31,7 +31,7 @@ words_begin functions labels is done none none_set =
     let l : labels ≡ place_of [] = λ i q. none_set q i in
     rw (none, l) refl
 
--- what is known of the statement at this place and of those behind it
+-- what is known of the statement at this place and of those after it
 pub record Next (functions labels labels' : Lookup) (at at' : ℕ) (items : List code.Item) (item : code.Item) (i : ℕ) : Type 0 where
   pub within : i < length items
   pub is : item ≡ get_or items i item

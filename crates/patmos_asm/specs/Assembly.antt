@@ -1,4 +1,4 @@
--- The code of a text, or its fault.
+-- To be believed. The code of a text, or its fault.
 use Rattle.std.specs.Prelude.{ℕ, pos, ◌+◌, ◌-ℤ◌, ◌==◌, Bool, true, not, ◌||◌, nat_lt, if◌then◌else◌, List, [], ◌∷◌, ◌++◌, length, map, bytes_eq, Option, Some, None, is_some, unwrap_or, Result, Ok, Err}
 use Rattle.std.specs.List.{list_any}
 use Rattle.std.specs.Option.{option_or, option_map}
@@ -47,7 +47,7 @@ size_from (bundle _ b ∷ is) = size_of b + size_from is
 size_from (faulty _ _ ∷ is) = size_from is
 
 -- the functions, and the places of their first words in the image, in which each function's words stand
--- behind its size; the first statement stands at this place
+-- after its size; the first statement stands at this place
 abbrev pub functions_from : ℕ → List Item → Places
 functions_from at [] = []
 functions_from at (function _ name ∷ is) = (name, at + 1) ∷ functions_from (at + 1) is
@@ -134,7 +134,8 @@ reported item fault = option_map (λ f. record { fault = f; line = line_of item 
 abbrev pub first_fault : Lookup → Lookup → Before → List Item → Option AsmFault
 first_fault functions labels before [] = None
 first_fault functions labels before (i ∷ is) =
-    option_or (reported i (fault_of functions labels before i)) (first_fault functions (labels_after labels i is) (after before i) is)
+    option_or (reported i (fault_of functions labels before i))
+    (first_fault functions (labels_after labels i is) (after before i) is)
 
 -- ---- the code
 
@@ -156,7 +157,7 @@ item_words functions labels at (label _ _) is = []
 item_words functions labels at (bundle _ b) is = code (placed functions labels at b)
 item_words functions labels at (faulty _ _) is = []
 
--- the offset behind a statement in its function
+-- the offset after a statement in its function
 abbrev pub offset_after : ℕ → Item → ℕ
 offset_after at (function _ _) = 0
 offset_after at (label _ _) = at
@@ -178,7 +179,12 @@ pub record CodeParts : Type 0 where
 abbrev pub parts_in : List Item → CodeParts
 parts_in is =
     let functions = functions_from 0 is in
-    record { names = names_from is; starts = map (λ f. f.1) functions; words = words_from (place_of functions) (place_of []) 0 is }
+    record {
+      names = names_from is;
+      starts = map (λ f. f.1) functions;
+      words = words_from (place_of functions)
+          (place_of []) 0 is;
+    }
 
 abbrev pub code_or : Option AsmFault → CodeParts → Result CodeParts AsmFault
 code_or (Some fault) parts = Err fault
@@ -187,7 +193,8 @@ code_or None parts = Ok parts
 -- the code of statements. A text without statements has the fault that no function begins, on line 1
 unfoldable pub code_in : List Item → Result CodeParts AsmFault
 code_in [] = Err (record { fault = NoFunction; line = 1 })
-code_in (i ∷ is) = code_or (first_fault (place_of (functions_from 0 (i ∷ is))) (place_of []) nothing (i ∷ is)) (parts_in (i ∷ is))
+code_in (i ∷ is) =
+    code_or (first_fault (place_of (functions_from 0 (i ∷ is))) (place_of []) nothing (i ∷ is)) (parts_in (i ∷ is))
 
 -- the code of a text, or its fault: that of its first faulty statement
 unfoldable pub code_of : List ℕ → Result CodeParts AsmFault

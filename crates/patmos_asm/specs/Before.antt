@@ -1,4 +1,4 @@
--- What a contract sees of what stands before a statement.
+-- For proofs. What a contract sees of what stands before a statement.
 use Rattle.patmos_asm.specs.declared.checks.Before as code
 use Rattle.patmos_asm.specs.Assembly.{Before}
 use Rattle.patmos_asm.specs.Names.{names_in}

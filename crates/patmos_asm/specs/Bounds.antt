@@ -1,4 +1,4 @@
--- Places that fit the fields of jumps.
+-- For proofs. Places that fit the fields of jumps.
 use Rattle.std.specs.Prelude.{◌≡◌, ℕ, ◌≤◌, List, Some}
 use Rattle.patmos_code.specs.declared.images.TheConstants.{MOST_IN_FUNCTION, MOST_IN_IMAGE}
 use Rattle.patmos_asm.specs.Assembly.{Lookup}

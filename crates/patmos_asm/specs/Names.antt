@@ -1,4 +1,4 @@
--- Maps from names to places, as their look-ups, and sets of names, as lists of bytes.
+-- For proofs. Maps from names to places, as their look-ups, and sets of names, as lists of bytes.
 use Rattle.std.specs.Prelude.{ℕ, List, map, Option, bytes_eq}
 use Rattle.std.specs.HashMap.{HashMap, get_by}
 use Rattle.std.specs.HashSet.{HashSet}

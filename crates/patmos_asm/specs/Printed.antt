@@ -1,4 +1,5 @@
--- The text of a code: each function's name, and its bundles with labels at the places that are branched to.
+-- To be believed. The text of a code: each function's name, and its bundles with
+-- labels at the places that are branched to.
 use Rattle.std.specs.Prelude.{ℕ, ℤ, pos, negsuc, ◌+◌, ◌-◌, ◌+ℤ◌, ◌^◌, ◌==◌, Bool, nat_lt, if◌then◌else◌, List, [], ◌∷◌, ◌++◌, length, take, drop, slice_index, codes, Option, Some, None}
 use Rattle.std.specs.Fmt.{decimal}
 use Rattle.std.specs.List.{list_any, filter_map, zip}
@@ -24,7 +25,8 @@ abbrev pub bundles_from : ℕ → List ℕ → List Placed
 bundles_from at [] = []
 bundles_from at (w ∷ []) = before_rest at (bundle_at w 0) []
 bundles_from at (w ∷ v ∷ ws) =
-    before_rest at (bundle_at w v) (if nat_lt w (2 ^ 31) then bundles_from (at + 1) (v ∷ ws) else bundles_from (at + 2) ws)
+    before_rest at (bundle_at w v) (if nat_lt w (2 ^ 31) then bundles_from (at + 1) (v ∷ ws)
+    else bundles_from (at + 2) ws)
 
 -- the offset that a branch goes to
 abbrev pub natural : ℤ → ℕ
@@ -70,7 +72,8 @@ label_line branched at = if branched at then label_name at ++ codes ":" ++ 10 �
 abbrev pub lines_of : (ℕ → List ℕ) → (ℕ → Bool) → List Placed → List ℕ
 lines_of functions branched [] = []
 lines_of functions branched (b ∷ bs) =
-    label_line branched b.0 ++ codes "  " ++ bundle_text (named functions b.0 b.1) ++ 10 ∷ [] ++ lines_of functions branched bs
+    label_line branched b.0 ++ codes "  " ++ bundle_text (named functions b.0 b.1) ++ 10 ∷ []
+    ++ lines_of functions branched bs
 
 -- the line that begins a function
 abbrev pub head_line : List ℕ → List ℕ
@@ -89,7 +92,8 @@ body_at words start = take (slice_index words (start - 1)) (drop start words)
 
 abbrev pub functions_text : (ℕ → List ℕ) → List ℕ → List (ℕ × List ℕ) → List ℕ
 functions_text functions words [] = []
-functions_text functions words (f ∷ fs) = function_text functions f.1 (body_at words f.0) ++ functions_text functions words fs
+functions_text functions words (f ∷ fs) =
+    function_text functions f.1 (body_at words f.0) ++ functions_text functions words fs
 
 -- the text of a code
 unfoldable pub printed : CodeParts → List ℕ

@@ -1,4 +1,4 @@
--- What a refused text was refused for.
+-- To be believed. What a refused text was refused for.
 use Rattle.std.specs.Prelude.{◌≡◌, Result, Err}
 use Rattle.patmos_asm.specs.declared.faults.AsmFault.{AsmFault}
 use Rattle.patmos_asm.specs.declared.faults.AsmError.{AsmError}

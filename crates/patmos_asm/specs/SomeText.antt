@@ -1,4 +1,4 @@
--- What is the code of some text.
+-- To be believed. What is the code of some text.
 use Rattle.std.specs.Prelude.{◌≡◌, ℕ, List, Ok}
 use Rattle.patmos_asm.specs.Assembly.{CodeParts, code_of}
 

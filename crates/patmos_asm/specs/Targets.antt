@@ -1,4 +1,4 @@
--- A set of offsets as a test, and a map from places to names as its look-ups.
+-- For proofs. A set of offsets as a test, and a map from places to names as its look-ups.
 use Rattle.std.specs.Prelude.{ℕ, Bool, List, [], unwrap_or, nat_eq}
 use Rattle.std.specs.Option.{option_map}
 use Rattle.std.specs.HashMap.{HashMap, get}

@@ -1,5 +1,5 @@
--- How statements are written: a function or a label on a line of its own, and each bundle on a line of its
--- own behind two spaces, with numbers in decimal.
+-- To be believed. How statements are written: a function or a label on a line of its own, and each bundle on a line
+-- of its own after two spaces, with numbers in decimal.
 use Rattle.std.specs.Prelude.{ℕ, ◌==◌, Bool, false, not, ◌&&◌, if◌then◌else◌, List, [], ◌∷◌, ◌++◌, codes, slice_index_or, Option, Some, None}
 use Rattle.std.specs.Fmt.{decimal}
 use Rattle.patmos_instr.specs.Specials.{special_number, writable_special_number}
@@ -27,7 +27,7 @@ token_text special n = slice_index_or special_names n []
 token_text writable n = slice_index_or special_names n []
 token_text (sign s) n = sign_text s
 
--- pieces with these numbers, one behind another
+-- pieces with these numbers, one after another
 abbrev pub written : List Token → List ℕ → List ℕ
 written [] vs = []
 written (sign s ∷ ts) vs = sign_text s ++ written ts vs

@@ -47,7 +47,8 @@ fn has_place(name: &[u8], places: &Places<'_>) -> bool
 
 // whether a jump's name is set
 fn is_known(functions: &Places<'_>, labels: &Places<'_>, bundle: &DraftBundle) -> bool
-    ensures { result ≡ specs.is_known (place_in functions.now) (place_in labels.now) (shown_bundle bundle.now).first.draft }
+    ensures { result ≡ specs.is_known (place_in functions.now) (place_in labels.now)
+        (shown_bundle bundle.now).first.draft }
 {
     match bundle {
         DraftBundle::Ready { .. } => true,
@@ -76,7 +77,8 @@ impl<'a> Before<'a> {
     // the fault of the statement that stands next
     fn fault_of(&self, functions: &Places<'_>, labels: &Places<'_>, item: &Item) -> Option<AsmKind>
         requires { (self.now.size < 2 ^ 63) × (self.now.image < 2 ^ 63) }
-        ensures { result ≡ specs.fault_of (place_in functions.now) (place_in labels.now) (shown_before self.now) (shown_item item.now) }
+        ensures { result ≡ specs.fault_of (place_in functions.now) (place_in labels.now) (shown_before self.now)
+            (shown_item item.now) }
     {
         match item {
             Item::Function { name, .. } => {
@@ -119,7 +121,7 @@ impl<'a> Before<'a> {
         }
     }
 
-    // goes behind the statement
+    // goes after the statement
     fn add(&mut self, item: &'a Item) -> Result<(), AllocError>
         requires { (self.old.size < 2 ^ 63) × (self.old.image < 2 ^ 63) }
         ensures { OnOk result (shown_before self.new ≡ specs.after (shown_before self.old) (shown_item item.now)) }
@@ -149,9 +151,11 @@ pub fn first_fault(
     functions: &Places<'_>,
     items: &[Item],
 ) -> Result<Option<AsmFault>, AllocError>
-    requires places { (q : List ℕ) → place_in functions.now q ≡ specs.place_of (specs.functions_from 0 (shown_items items.now)) q }
+    requires places { (q : List ℕ)
+        → place_in functions.now q ≡ specs.place_of (specs.functions_from 0 (shown_items items.now)) q }
     ensures { IfOk result (λ reported. reported
-        ≡ specs.first_fault (specs.place_of (specs.functions_from 0 (shown_items items.now))) (specs.place_of []) specs.nothing (shown_items items.now)) }
+        ≡ specs.first_fault (specs.place_of (specs.functions_from 0 (shown_items items.now)))
+        (specs.place_of []) specs.nothing (shown_items items.now)) }
 {
     fault_among(alloc, functions, items)
 }

@@ -31,7 +31,8 @@ fn names_of(alloc: Global, items: &[Item]) -> Result<Vec<Text>, AllocError>
 
 // the places of their first words
 fn starts_of(alloc: Global, items: &[Item]) -> Result<Vec<u32>, AllocError>
-    requires { first_fault (place_of (functions_from 0 (shown_items items.now))) (place_of []) nothing (shown_items items.now) ≡ None }
+    requires { first_fault (place_of (functions_from 0 (shown_items items.now))) (place_of []) nothing
+        (shown_items items.now) ≡ None }
     ensures { IfOk result (λ starts. starts.items ≡ map (λ f. f.1) (functions_from 0 (shown_items items.now))) }
 {
     let mut starts = Vec::new(alloc);
@@ -76,8 +77,10 @@ fn parts_of(
     items: &[Item],
 ) -> Result<(Vec<Text>, Vec<u32>, Vec<u32>), AllocError>
     requires places { (q : List ℕ) → place_in functions.now q ≡ place_of (functions_from 0 (shown_items items.now)) q }
-    requires faultless { first_fault (place_of (functions_from 0 (shown_items items.now))) (place_of []) nothing (shown_items items.now) ≡ None }
-    ensures { IfOk result (λ p. record { names = p.0.items; starts = p.1.items; words = p.2.items } ≡ parts_in (shown_items items.now)) }
+    requires faultless { first_fault (place_of (functions_from 0 (shown_items items.now))) (place_of []) nothing
+        (shown_items items.now) ≡ None }
+    ensures { IfOk result (λ p. record { names = p.0.items; starts = p.1.items; words = p.2.items }
+        ≡ parts_in (shown_items items.now)) }
 {
     let words = words_of(alloc, functions, items)?;
     let names = names_of(alloc, items)?;

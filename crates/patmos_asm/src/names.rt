@@ -24,7 +24,8 @@ fn set_first<'a>(places: &mut Places<'a>, name: &'a [u8], place: usize) -> Resul
 
 /// The labels of the function that stands first, as offsets from its first word.
 pub fn labels_of(alloc: Global, items: &[Item]) -> Result<Places<'_>, AllocError>
-    ensures { IfOk result (λ places. (q : List ℕ) → place_in places q ≡ place_of (labels_from 0 (shown_items items.now)) q) }
+    ensures { IfOk result (λ places. (q : List ℕ)
+        → place_in places q ≡ place_of (labels_from 0 (shown_items items.now)) q) }
 {
     let mut places = IndexMap::new(alloc);
     let mut at = 0;
@@ -41,7 +42,8 @@ pub fn labels_of(alloc: Global, items: &[Item]) -> Result<Places<'_>, AllocError
 
 /// The functions, and the places of their first words in the image.
 pub fn functions_of(alloc: Global, items: &[Item]) -> Result<Places<'_>, AllocError>
-    ensures { IfOk result (λ places. (q : List ℕ) → place_in places q ≡ place_of (functions_from 0 (shown_items items.now)) q) }
+    ensures { IfOk result (λ places. (q : List ℕ)
+        → place_in places q ≡ place_of (functions_from 0 (shown_items items.now)) q) }
 {
     let mut places = IndexMap::new(alloc);
     let mut at = 0;

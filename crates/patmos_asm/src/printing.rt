@@ -18,7 +18,8 @@ use tc_word::{OutOfMemory, Text};
 // the bundle at the front of a function's words, and how many words it takes
 fn first_bundle(words: &[u32]) -> (Option<Bundle>, usize)
     requires { 0 < length words.now }
-    ensures bundle { (at : ℕ) → specs.bundles_from at words.now ≡ specs.before_rest at result.0 (specs.bundles_from (at + result.1) (drop result.1 words.now)) }
+    ensures bundle { (at : ℕ) → specs.bundles_from at words.now
+        ≡ specs.before_rest at result.0 (specs.bundles_from (at + result.1) (drop result.1 words.now)) }
     ensures size { (0 < result.1) × (result.1 ≤ length words.now) }
 {
     match words {
@@ -71,7 +72,8 @@ fn note_target(
 // the offsets that are branched to in a function
 fn targets_of(alloc: Global, body: &[u32]) -> Result<IndexSet<usize>, AllocError>
     requires { length body.now < 2 ^ 62 }
-    ensures { IfOk result (λ targets. (n : ℕ) → branched_in targets n ≡ specs.is_target n (specs.targets_of (specs.bundles_from 0 body.now))) }
+    ensures { IfOk result (λ targets. (n : ℕ)
+        → branched_in targets n ≡ specs.is_target n (specs.targets_of (specs.bundles_from 0 body.now))) }
 {
     let mut targets = IndexSet::new(alloc);
     let mut at = 0;
@@ -106,7 +108,11 @@ fn write_first(
 ) -> Result<(), AllocError>
     requires { at < 2 ^ 62 }
     ensures { OnOk result (string_bytes text.new ≡ string_bytes text.old
-        ++ instr_text (record { guard = instr.now.guard; draft = specs.named_op (name_in functions.now) at instr.now.op })) }
+        ++ instr_text (record {
+          guard = instr.now.guard;
+          draft = specs.named_op
+              (name_in functions.now) at instr.now.op;
+        })) }
 {
     match instr.op {
         Op::Branch { offset } => {
@@ -137,7 +143,8 @@ fn write_bundle(
     bundle: &Bundle,
 ) -> Result<(), AllocError>
     requires { at < 2 ^ 62 }
-    ensures { OnOk result (string_bytes text.new ≡ string_bytes text.old ++ bundle_text (specs.named (name_in functions.now) at bundle.now)) }
+    ensures { OnOk result (string_bytes text.new
+        ≡ string_bytes text.old ++ bundle_text (specs.named (name_in functions.now) at bundle.now)) }
 {
     let first = bundle.first();
     let Some(second) = bundle.second() else {
@@ -152,7 +159,8 @@ fn write_bundle(
 
 // adds the line of a label, where its offset is branched to
 fn write_label(text: &mut String, targets: &IndexSet<usize>, at: usize) -> Result<(), AllocError>
-    ensures { OnOk result (string_bytes text.new ≡ string_bytes text.old ++ specs.label_line (branched_in targets.now) at) }
+    ensures { OnOk result (string_bytes text.new
+        ≡ string_bytes text.old ++ specs.label_line (branched_in targets.now) at) }
 {
     if targets.contains(&at) {
         write!(text, "L{at}:\n")
@@ -212,7 +220,8 @@ fn write_function(
     body: &[u32],
 ) -> Result<(), AllocError>
     requires { length body.now < 2 ^ 62 }
-    ensures { OnOk result (string_bytes text.new ≡ string_bytes text.old ++ specs.function_text (name_in functions.now) name.now body.now) }
+    ensures { OnOk result (string_bytes text.new
+        ≡ string_bytes text.old ++ specs.function_text (name_in functions.now) name.now body.now) }
 {
     let targets = targets_of(alloc, body)?;
     write_head(text, name)?;
@@ -283,7 +292,8 @@ fn write_functions(
     starts: &[u32],
     names: &[Text],
 ) -> Result<String, AllocError>
-    ensures { IfOk result (λ text. string_bytes text ≡ specs.functions_text (name_in functions.now) words.now (zip starts.now names.now)) }
+    ensures { IfOk result (λ text. string_bytes text
+        ≡ specs.functions_text (name_in functions.now) words.now (zip starts.now names.now)) }
 {
     let mut text = String::new(alloc);
     let mut starts = starts;

@@ -50,7 +50,8 @@ fn distance(from: usize, to: usize) -> Off22
 // the operation of a jump with the place of its name
 fn placed_op(jump: &Jump, functions: &Places<'_>, labels: &Places<'_>, at: usize) -> Op
     requires { InBounds (place_in functions.now) (place_in labels.now) at }
-    ensures { result ≡ specs.placed_op (place_in functions.now) (place_in labels.now) at (shown_jump jump.now).first.draft }
+    ensures { result ≡ specs.placed_op (place_in functions.now) (place_in labels.now) at
+        (shown_jump jump.now).first.draft }
 {
     let name = jump.name.as_slice();
     match jump.flow {
@@ -101,7 +102,7 @@ fn push_code(words: &mut Vec<u32>, bundle: &Bundle) -> Result<(), AllocError>
     Ok(())
 }
 
-// adds the words of a statement that stands at this offset, with these behind it
+// adds the words of a statement that stands at this offset, with these after it
 fn push_item(
     words: &mut Vec<u32>,
     functions: &Places<'_>,
@@ -113,7 +114,8 @@ fn push_item(
     requires places { InBounds (place_in functions.now) (place_in labels.now) at }
     requires size { specs.size_from (shown_items rest.now) ≤ MOST_IN_FUNCTION }
     ensures { OnOk result (words.new.items
-        ≡ words.old.items ++ specs.item_words (place_in functions.now) (place_in labels.now) at (shown_item item.now) (shown_items rest.now)) }
+        ≡ words.old.items ++ specs.item_words (place_in functions.now) (place_in labels.now) at (shown_item item.now)
+        (shown_items rest.now)) }
 {
     match item {
         Item::Function { .. } => words.push(size_of_function(rest) as u32)?,
@@ -125,7 +127,7 @@ fn push_item(
     Ok(())
 }
 
-// the offset behind a statement in its function, where it stands at this one
+// the offset after a statement in its function, where it stands at this one
 fn offset_after(at: usize, item: &Item) -> usize
     requires { at < 2 ^ 63 }
     ensures { result ≡ specs.offset_after at (shown_item item.now) }
@@ -143,10 +145,13 @@ pub fn words_of(
     functions: &Places<'_>,
     items: &[Item],
 ) -> Result<Vec<u32>, AllocError>
-    requires places { (q : List ℕ) → place_in functions.now q ≡ specs.place_of (specs.functions_from 0 (shown_items items.now)) q }
-    requires faultless { specs.first_fault (specs.place_of (specs.functions_from 0 (shown_items items.now))) (specs.place_of []) specs.nothing (shown_items items.now) ≡ None }
+    requires places { (q : List ℕ)
+        → place_in functions.now q ≡ specs.place_of (specs.functions_from 0 (shown_items items.now)) q }
+    requires faultless { specs.first_fault (specs.place_of (specs.functions_from 0 (shown_items items.now)))
+        (specs.place_of []) specs.nothing (shown_items items.now) ≡ None }
     ensures { IfOk result (λ words. words.items
-        ≡ specs.words_from (specs.place_of (specs.functions_from 0 (shown_items items.now))) (specs.place_of []) 0 (shown_items items.now)) }
+        ≡ specs.words_from (specs.place_of (specs.functions_from 0 (shown_items items.now))) (specs.place_of []) 0
+        (shown_items items.now)) }
 {
     let mut words = Vec::new(alloc);
     let mut labels = labels_of(alloc, &[])?;

@@ -1,4 +1,4 @@
--- The words of a code.
+-- To be believed. The words of a code.
 use Rattle.std.specs.Prelude.{ℕ, List, [], ◌∷◌, if◌then◌else◌}
 use Rattle.patmos_code.specs.declared.coding.Coded.{Coded}
 

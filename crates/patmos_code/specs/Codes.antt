@@ -1,4 +1,4 @@
--- The words of a bundle: each field of an instruction times the power of two of its place (Patmos
+-- To be believed. The words of a bundle: each field of an instruction times the power of two of its place (Patmos
 -- Reference Handbook, instruction formats and opcodes; TP1, our profile, has no other instructions).
 use Rattle.std.specs.Prelude.{◌≡◌, ℕ, ◌+◌, ◌*◌, ◌^◌, List, [], ◌∷◌, Option, Some, None, if◌then◌else◌, nat_lt, MatchOption}
 use Rattle.patmos_instr.specs.Bundles.{Slots, FitsBundle}

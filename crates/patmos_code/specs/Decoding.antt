@@ -1,4 +1,4 @@
--- The bundle for which two words stand, as a definition that computes: the fields are taken apart, and
+-- To be believed. The bundle for which two words stand, as a definition that computes: the fields are taken apart, and
 -- an instruction is accepted only where its fields put together give the same word. That it is the
 -- inverse of a bundle's code is what `decode` ensures.
 use Rattle.std.specs.Prelude.{ℕ, ◌-◌, ◌/◌, ◌%◌, ◌^◌, ◌==◌, Option, Some, None, option_map, slice_get, if◌then◌else◌, nat_lt}

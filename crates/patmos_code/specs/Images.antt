@@ -1,4 +1,4 @@
--- An image of code: what a core is started with. The words are for each function its size in words and
+-- To be believed. An image of code: what a core is started with. The words are for each function its size in words and
 -- then its words; so the first function starts at word 1. The form and the limits are those of TP1, our
 -- profile of Patmos, with its method cache and its code store.
 use Rattle.std.specs.Prelude.{◌≡◌, ℕ, zero, suc, ◌+◌, ◌-◌, ◌<◌, ◌≤◌, List, [], ◌∷◌, length, slice_index}

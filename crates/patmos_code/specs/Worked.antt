@@ -1,4 +1,4 @@
--- Bundles whose words are known, which show that the definitions compute.
+-- For worked rows. Bundles whose words are known, which show that the definitions compute.
 use Rattle.std.specs.Prelude.{false, true, Some, None}
 use Rattle.patmos_instr.specs.Bundles.{Slots}
 use Rattle.patmos_instr.specs.Instructions.{nop}

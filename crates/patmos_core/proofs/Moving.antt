@@ -81,7 +81,7 @@ module _ (n core : ℕ) (x : Core) (cycle : ℕ) (among : core < n) where
       let here : (2 * cycle + 1) * n + n ≡ 2 * (cycle + 1) * n = omega arith in
       subst (λ s. Stands (act_at turn n) n core x made s y) here (ends_phase made 1 y midway)
 
-  -- a part that was told what its loads gave is behind it
+  -- a part that was told what its loads gave is after it
   resumed_whole : (made : List Operation) (s : ℕ) (p : Prog Core) (values : List ℕ) → Midway (act_at turn n) n core x made s p
       → Midway (act_at turn n) n core x (made ++ (fed s p values).ops) s (done (fed s p values).core)
   resumed_whole made s p values midway =

@@ -1,4 +1,4 @@
--- Events: what a core asks for at one stamp.
+-- To be believed. Events: what a core asks for at one stamp.
 use Rattle.std.specs.Prelude.{◌≡◌, ℕ, zero, suc, ◌+◌, ◌<◌, true, false, List, [], ◌∷◌, ◌++◌, take, Option, None, Some}
 use Rattle.std.specs.List.{AllByRecursion as Each}
 use Rattle.slot_arbiter.specs.declared.event.WordOp.{WordOp}

@@ -1,4 +1,5 @@
--- How far a core that is stepped by itself has come: which run apart it stands for, and what it asks for.
+-- To be believed. How far a core that is stepped by itself has come: which run
+-- apart it stands for, and what it asks for.
 use Rattle.std.specs.Prelude.{◌≡◌, ℕ, suc, ◌+◌, ◌*◌, ◌%◌, ◌≤◌, ◌<◌, List, [], ◌∷◌, ◌++◌, Option, None, Some}
 use Rattle.slot_arbiter.specs.Stamp.{stamp}
 use Rattle.slot_arbiter.specs.declared.place.Place.{Place}
@@ -54,7 +55,7 @@ pub record IsOn (t : Tasked) (x : Core) (made : List Operation) : Type 0 where
   pub core : x.plain.site.core ≡ t.body.place.core
   pub there : IsThere t.body.place.cores t.body.place.core t.cycle t.phase x made (core_of t.body seen)
 
--- the core goes on: it stands for the same, has kept its place, and has no fewer phases behind it
+-- the core goes on: it stands for the same, has kept its place, and has no fewer phases after it
 pub record GoesOnAs (t t' : Tasked) : Type 0 where
   pub stands : (x : Core) (made : List Operation) → IsOn t x made → IsOn t' x made
   pub frame : IsFramed t.body t'.body
@@ -70,7 +71,7 @@ pub record IsResting (place : Place) (x : Core) (made : List Operation) : Type 0
 abbrev pub StandsAt : Kind → Core → List Operation → Type 0
 StandsAt kind x made = elim kind [ Idle place ↦ IsResting place x made | WithTask t ↦ IsOn t x made ]
 
--- its place, how many transactions it keeps, and how many phases of cycles it has behind it, three a cycle
+-- its place, how many transactions it keeps, and how many phases of cycles it has after it, three a cycle
 abbrev pub place_at : Kind → Place
 place_at kind = elim kind [ Idle place ↦ place | WithTask t ↦ t.body.place ]
 

@@ -1,4 +1,4 @@
--- How far a core with a task has come in a cycle, and what its fields keep there.
+-- For proofs. How far a core with a task has come in a cycle, and what its fields keep there.
 use Rattle.std.specs.Prelude.{◌≡◌, ℕ, ◌+◌, ◌*◌, ◌≤◌, false, Option, None, Some, IfSome, IsNone}
 use Rattle.slot_arbiter.specs.declared.place.TheConstants.{MOST_CYCLES}
 use Rattle.argo_ni.specs.Interface.{Interface, Standing}

@@ -1,4 +1,4 @@
--- What a core waits to be told.
+-- For proofs. What a core waits to be told.
 use Rattle.std.specs.Prelude.{◌≡◌, ℕ, ◌*◌, ◌%◌, ◌≤◌, ◌<◌, List, Option, None, Some, IsSome}
 use Rattle.std.proofs.Props.{props}
 use Rattle.slot_arbiter.specs.declared.place.TheConstants.{MOST_CYCLES}

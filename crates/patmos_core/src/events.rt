@@ -48,8 +48,10 @@ fn store(word: u32, value: u32) -> WordOp
 fn push(event: &mut Event, op: WordOp)
     requires room { event.old.count < 8 }
     ensures asks { asked_of event.new ≡ asked_of event.old ++ op ∷ [] }
-    ensures below { (words : ℕ) → AllBelow words (asked_of event.old) → op.word < words → AllBelow words (asked_of event.new) }
-    ensures unread { AllUnread (asked_of event.old) → (op.write ≡ false → op.value ≡ 0) → AllUnread (asked_of event.new) }
+    ensures below { (words : ℕ) → AllBelow words (asked_of event.old) → op.word < words
+        → AllBelow words (asked_of event.new) }
+    ensures unread { AllUnread (asked_of event.old) → (op.write ≡ false → op.value ≡ 0)
+        → AllUnread (asked_of event.new) }
     ensures stamp { event.new.stamp ≡ event.old.stamp }
     ensures count { event.new.count ≡ event.old.count + 1 }
 {
@@ -64,7 +66,8 @@ pub fn ask_packet(event: &mut Event, first: u32, count: u32)
     requires most { count ≤ 2 }
     requires small { first < 65536 }
     ensures asks { asked_of event.new ≡ asked_of event.old ++ loads_from first count }
-    ensures below { (words : ℕ) → AllBelow words (asked_of event.old) → first + count ≤ words → AllBelow words (asked_of event.new) }
+    ensures below { (words : ℕ) → AllBelow words (asked_of event.old) → first + count ≤ words
+        → AllBelow words (asked_of event.new) }
     ensures unread { AllUnread (asked_of event.old) → AllUnread (asked_of event.new) }
     ensures stamp { event.new.stamp ≡ event.old.stamp }
     ensures count { event.new.count ≡ event.old.count + count }
@@ -82,7 +85,8 @@ pub fn ask_delivery(event: &mut Event, first: u32, count: u32, values: [u32; 2])
     requires most { count ≤ 2 }
     requires small { first < 65536 }
     ensures asks { asked_of event.new ≡ asked_of event.old ++ stores_from first (take count values) }
-    ensures below { (words : ℕ) → AllBelow words (asked_of event.old) → first + count ≤ words → AllBelow words (asked_of event.new) }
+    ensures below { (words : ℕ) → AllBelow words (asked_of event.old) → first + count ≤ words
+        → AllBelow words (asked_of event.new) }
     ensures unread { AllUnread (asked_of event.old) → AllUnread (asked_of event.new) }
     ensures stamp { event.new.stamp ≡ event.old.stamp }
     ensures count { event.new.count ≡ event.old.count + count }
@@ -97,7 +101,8 @@ pub fn ask_delivery(event: &mut Event, first: u32, count: u32, values: [u32; 2])
 pub fn ask_store(event: &mut Event, word: u32, value: u32)
     requires room { event.old.count < 8 }
     ensures asks { asked_of event.new ≡ asked_of event.old ++ storing word value ∷ [] }
-    ensures below { (words : ℕ) → AllBelow words (asked_of event.old) → word < words → AllBelow words (asked_of event.new) }
+    ensures below { (words : ℕ) → AllBelow words (asked_of event.old) → word < words
+        → AllBelow words (asked_of event.new) }
     ensures unread { AllUnread (asked_of event.old) → AllUnread (asked_of event.new) }
     ensures stamp { event.new.stamp ≡ event.old.stamp }
     ensures count { event.new.count ≡ event.old.count + 1 }
@@ -110,7 +115,8 @@ pub fn ask_own(event: &mut Event, ask: Ask)
     requires room { event.old.count + 4 ≤ 8 }
     requires fits { AskFits 65536 ask }
     ensures asks { asked_of event.new ≡ asked_of event.old ++ ops_of ask }
-    ensures below { (words : ℕ) → AllBelow words (asked_of event.old) → AskFits words ask → AllBelow words (asked_of event.new) }
+    ensures below { (words : ℕ) → AllBelow words (asked_of event.old) → AskFits words ask
+        → AllBelow words (asked_of event.new) }
     ensures unread { AllUnread (asked_of event.old) → AllUnread (asked_of event.new) }
     ensures stamp { event.new.stamp ≡ event.old.stamp }
     ensures count { event.old.count ≤ event.new.count }

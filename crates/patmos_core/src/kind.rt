@@ -30,13 +30,16 @@ impl Kind {
         ensures asked { WaitsAt self.new result }
         ensures place { place_at self.new ≡ place_at self.old }
         ensures room { room_at self.new ≡ room_at self.old }
-        ensures next { IfSome result (λ e. (x : Core) (made : List Operation) → StandsAt self.new x made → IsNextOf x made limit e) }
-        ensures whole { IfSome result (λ e. (x : Core) (made : List Operation) → StandsAt self.new x made → IsWholeOf x made limit e) }
+        ensures next { IfSome result (λ e. (x : Core) (made : List Operation) → StandsAt self.new x made
+            → IsNextOf x made limit e) }
+        ensures whole { IfSome result (λ e. (x : Core) (made : List Operation) → StandsAt self.new x made
+            → IsWholeOf x made limit e) }
         ensures fits { IfSome result (EventFits (place_at self.new) limit) }
         ensures phases { phases_at self.old ≤ phases_at self.new }
         ensures below { IsSome result → phases_at self.new < 3 * limit }
         ensures through { IsNone result → IsThroughTo limit self.new }
-        ensures all { IsNone result → (x : Core) (made : List Operation) → StandsAt self.new x made → HasMadeAll x made limit }
+        ensures all { IsNone result → (x : Core) (made : List Operation) → StandsAt self.new x made
+            → HasMadeAll x made limit }
     {
         match self {
             Kind::Idle(_) => None,
@@ -49,7 +52,8 @@ impl Kind {
         requires asked { (e : declared_event.Event) × WaitsAt self.old (Some e) }
         ensures stands { (e : declared_event.Event) → WaitsAt self.old (Some e) → (x : Core) (made : List Operation)
             → StandsAt self.old x made → StandsAt self.new x (made ++ asked_by e values) }
-        ensures kept { (e : declared_event.Event) (limit : ℕ) → KeepsLimit self.old limit (Some e) → KeepsLimit self.new limit None }
+        ensures kept { (e : declared_event.Event) (limit : ℕ) → KeepsLimit self.old limit (Some e)
+            → KeepsLimit self.new limit None }
         ensures place { place_at self.new ≡ place_at self.old }
         ensures room { room_at self.new ≡ room_at self.old }
         ensures phases { phases_at self.old < phases_at self.new }

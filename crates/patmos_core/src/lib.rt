@@ -1,9 +1,9 @@
 //! A core of Patmos (profile TP1) that is run by itself, from one use of the board's words to the next.
 //!
 //! [`Core::next`] gives the next event of the core's run apart, which is the words of the board that it loads and
-//! stores at one stamp, whatever its loads will give; or it says that none comes before a limit, and what the core
-//! then is. [`Core::resume`] hands back what the event's loads gave. A public relation (`Position`) says for which run
-//! apart a core stands. The model (the crate patmos_model) waits cycle by cycle; the code does private bundles one after
+//! stores at one stamp, whatever its loads will give; or it says that none comes before a limit, and what the core then
+//! is. [`Core::resume`] hands back what the event's loads gave. A public relation (`Position`) says for which run apart
+//! a core stands. The model (the crate patmos_model) waits cycle by cycle; the code does private bundles one after
 //! another (`turn`, `second_phase`) and goes over waiting by arithmetic on slots, windows and due cycles.
 //!
 //! - `begin`, `step`, `resume`, `report`: making a core, its next event, handing back values, what it then is.

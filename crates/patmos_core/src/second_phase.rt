@@ -38,7 +38,8 @@ impl Tasked {
         ensures goes_on { GoesOnAs self.old self.new }
         ensures asked { IfSome result (IsAskedAt self.new) }
         ensures fits { IfSome result (IsOfPlace self.new.body.place) }
-        ensures further { IsNone result → phases_done self.old.cycle self.old.phase < phases_done self.new.cycle self.new.phase }
+        ensures further { IsNone result
+            → phases_done self.old.cycle self.old.phase < phases_done self.new.cycle self.new.phase }
         ensures cycle { self.new.cycle ≤ self.old.cycle + 1 }
         ensures whole { self.new.cycle ≡ self.old.cycle + 1 → self.new.phase ≡ Delivery }
         ensures same { IsSome result → self.new.cycle ≡ self.old.cycle }
@@ -60,7 +61,8 @@ impl Tasked {
     fn settle(&mut self)
         requires act { self.old.phase ≡ Act }
         ensures goes_on { GoesOnAs self.old self.new }
-        ensures settled { is_running (plain_of self.new.body) ≡ true → IsSettled self.new.cycle (plain_of self.new.body) }
+        ensures settled { is_running (plain_of self.new.body) ≡ true
+            → IsSettled self.new.cycle (plain_of self.new.body) }
         ensures act { self.new.phase ≡ Act }
         ensures cycle { self.new.cycle ≡ self.old.cycle }
         ensures ni { self.new.body.ni ≡ self.old.body.ni }
@@ -71,8 +73,10 @@ impl Tasked {
     // what the core's own act in the cycle asks for
     fn ask(&self, plan: &Plan) -> Ask
         requires plan { plan.now ≡ planned self.now.cycle (plain_of self.now.body) }
-        requires settled { is_running (plain_of self.now.body) ≡ true → IsSettled self.now.cycle (plain_of self.now.body) }
-        ensures follows { (h : History) (i : Interface) → Shows self.now.body h → HasRegisters i self.now.body.ni.interface
+        requires settled { is_running (plain_of self.now.body) ≡ true
+            → IsSettled self.now.cycle (plain_of self.now.body) }
+        ensures follows { (h : History) (i : Interface) → Shows self.now.body h
+            → HasRegisters i self.now.body.ni.interface
             → FollowsAsk result (cycles.own self.now.cycle (cycles.with_interface (core_of self.now.body h) i)) }
         ensures within { AskFits (packets.comm_word self.now.body.place.cores 0) result }
     {
@@ -94,9 +98,11 @@ impl Tasked {
         requires early { self.old.cycle < MOST_CYCLES }
         requires plan { plan.now ≡ planned self.old.cycle (plain_of self.old.body) }
         requires within { PlanFits self.old.body.offset self.old.body.size plan.now }
-        requires settled { is_running (plain_of self.old.body) ≡ true → IsSettled self.old.cycle (plain_of self.old.body) }
+        requires settled { is_running (plain_of self.old.body) ≡ true
+            → IsSettled self.old.cycle (plain_of self.old.body) }
         requires sends { SendsIn self.old.body.ni.interface self.old.cycle None }
-        requires follows { (h : History) (i : Interface) → Shows self.old.body h → HasRegisters i self.old.body.ni.interface
+        requires follows { (h : History) (i : Interface) → Shows self.old.body h
+            → HasRegisters i self.old.body.ni.interface
             → FollowsAsk asks.Nothing (cycles.own self.old.cycle (cycles.with_interface (core_of self.old.body h) i)) }
         ensures goes_on { GoesOnAs self.old self.new }
         ensures further { phases_done self.old.cycle self.old.phase < phases_done self.new.cycle self.new.phase }
@@ -114,7 +120,8 @@ impl Tasked {
         requires act { self.now.phase ≡ Act }
         requires early { self.now.cycle < MOST_CYCLES }
         requires sends { SendsIn self.now.body.ni.interface self.now.cycle window }
-        requires follows { (h : History) (i : Interface) → Shows self.now.body h → HasRegisters i self.now.body.ni.interface
+        requires follows { (h : History) (i : Interface) → Shows self.now.body h
+            → HasRegisters i self.now.body.ni.interface
             → FollowsAsk ask (cycles.own self.now.cycle (cycles.with_interface (core_of self.now.body h) i)) }
         requires within { AskFits (packets.comm_word self.now.body.place.cores 0) ask }
         requires some { IsNone window → ask ≡ asks.Nothing → ⊥ }

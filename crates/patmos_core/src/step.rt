@@ -20,14 +20,17 @@ impl Core {
         requires free { waiting_of self.old ≡ None }
         requires most { limit ≤ MOST_CYCLES }
         requires later { limit_of self.old ≤ limit }
-        ensures stands { (x : state.Core) (made : List Operation) → StandsFor self.old x made → StandsFor self.new x made }
+        ensures stands { (x : state.Core) (made : List Operation) → StandsFor self.old x made
+            → StandsFor self.new x made }
         ensures waiting { waiting_of self.new ≡ event_of result }
         ensures limit { limit_of self.new ≡ limit }
         ensures place { place_of self.new ≡ place_of self.old }
         ensures room { room_of self.new ≡ room_of self.old }
-        ensures event { IfSome (event_of result) (λ e. (x : state.Core) (made : List Operation) → StandsFor self.old x made
+        ensures event { IfSome (event_of result) (λ e. (x : state.Core) (made : List Operation)
+            → StandsFor self.old x made
             → IsNextOf x made limit e) }
-        ensures whole { IfSome (event_of result) (λ e. (x : state.Core) (made : List Operation) → StandsFor self.old x made
+        ensures whole { IfSome (event_of result) (λ e. (x : state.Core) (made : List Operation)
+            → StandsFor self.old x made
             → IsWholeOf x made limit e) }
         ensures fits { IfSome (event_of result) (EventFits (place_of self.old) limit) }
         ensures phases { phases_of self.old ≤ phases_of self.new }
@@ -50,7 +53,8 @@ impl Core {
     // the answer where no event comes before the limit
     fn rest(&self) -> Next
         ensures rest { IsThrough self.now → (x : state.Core) (made : List Operation) → StandsFor self.now x made
-            → result ≡ rest_as (state_at (limit_of self.now) (apart_from x (loads made) (limit_of self.now)).core.plain) }
+            → result ≡ rest_as (state_at (limit_of self.now)
+            (apart_from x (loads made) (limit_of self.now)).core.plain) }
         ensures none { event_of result ≡ None }
     {
         match self.state() {

@@ -35,8 +35,10 @@ impl Tasked {
         requires most { limit ≤ MOST_CYCLES }
         ensures from { self.now.cycle ≤ result }
         ensures most { result ≤ limit }
-        ensures quiet { (h : History) (u : ℕ) → self.now.cycle ≤ u → u < result → IsQuietAt u (core_of self.now.body h) }
-        ensures nothing { (half : ℕ) → self.now.body.ni.from ≤ half → acts self.now.body.ni.interface half ≡ true → 2 * result ≤ half }
+        ensures quiet { (h : History) (u : ℕ) → self.now.cycle ≤ u → u < result
+            → IsQuietAt u (core_of self.now.body h) }
+        ensures nothing { (half : ℕ) → self.now.body.ni.from ≤ half → acts self.now.body.ni.interface half ≡ true
+            → 2 * result ≤ half }
     {
         let own = self.body.next_active(self.cycle, limit).min(limit);
         match next {
@@ -84,7 +86,8 @@ impl Tasked {
         ensures from { self.now.cycle ≤ result }
         ensures most { result ≤ limit }
         ensures still { (u : ℕ) → self.now.cycle ≤ u → u < result → IsStillIn self.now.body.ni.interface u }
-        ensures nothing { (half : ℕ) → self.now.body.ni.from ≤ half → acts self.now.body.ni.interface half ≡ true → 2 * result ≤ half }
+        ensures nothing { (half : ℕ) → self.now.body.ni.from ≤ half → acts self.now.body.ni.interface half ≡ true
+            → 2 * result ≤ half }
     {
         match next {
             Some(act) => limit.min(act.cycle),
@@ -181,7 +184,8 @@ impl Tasked {
         ensures below { IsSome result → self.new.cycle < limit }
         ensures within { self.new.cycle ≤ limit }
         ensures whole { self.new.cycle ≡ limit → self.new.phase ≡ Delivery }
-        ensures further { IsNone result → phases_done self.old.cycle self.old.phase < phases_done self.new.cycle self.new.phase }
+        ensures further { IsNone result
+            → phases_done self.old.cycle self.old.phase < phases_done self.new.cycle self.new.phase }
     {
         match self.phase {
             Phase::Delivery => self.begin(limit),
@@ -205,7 +209,8 @@ impl Tasked {
         ensures below { IsSome result → self.new.cycle < limit }
         ensures within { self.new.cycle ≤ limit }
         ensures whole { self.new.cycle ≡ limit → self.new.phase ≡ Delivery }
-        ensures further { IsNone result → phases_done self.old.cycle self.old.phase < phases_done self.new.cycle self.new.phase }
+        ensures further { IsNone result
+            → phases_done self.old.cycle self.old.phase < phases_done self.new.cycle self.new.phase }
     {
         let next = self.next_act();
         self.skip(next, limit);

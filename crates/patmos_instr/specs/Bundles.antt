@@ -1,4 +1,4 @@
--- A bundle: what the processor fetches and carries out at once (Patmos Reference Handbook, bundle
+-- To be believed. A bundle: what the processor fetches and carries out at once (Patmos Reference Handbook, bundle
 -- formats).
 use Rattle.std.specs.Prelude.{Bool, true, not, ◌&&◌, Option, Some, None, IfSome, IsTrue}
 use Rattle.patmos_instr.specs.Instructions.{is_long, is_second_kind, FitsInstr}

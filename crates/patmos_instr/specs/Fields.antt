@@ -1,4 +1,4 @@
--- The ranges of an instruction's fields (Patmos Reference Handbook, instruction formats). A field holds
+-- To be believed. The ranges of an instruction's fields (Patmos Reference Handbook, instruction formats). A field holds
 -- a plain number, and these say which numbers.
 use Rattle.std.specs.Prelude.{ℕ, ℤ, pos, negsuc, ◌-◌, ◌^◌, ◌<◌, nat_lt, if◌then◌else◌}
 

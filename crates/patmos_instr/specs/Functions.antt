@@ -1,4 +1,4 @@
--- The numbers that functions have in an instruction's word, and each list in the order of its numbers
+-- To be believed. The numbers that functions have in an instruction's word, and each list in the order of its numbers
 -- (Patmos Reference Handbook, instruction opcodes).
 use Rattle.std.specs.Prelude.{ℕ, List, [], ◌∷◌}
 use Rattle.patmos_instr.specs.declared.functions.ImmFunc.{ImmFunc}
@@ -41,7 +41,8 @@ alu_func_number alu.Shadd = 9
 alu_func_number alu.Shadd2 = 10
 
 abbrev pub alu_funcs : List AluFunc
-alu_funcs = alu.Add ∷ alu.Sub ∷ alu.Xor ∷ alu.Sl ∷ alu.Sr ∷ alu.Sra ∷ alu.Or ∷ alu.And ∷ alu.Nor ∷ alu.Shadd ∷ alu.Shadd2 ∷ []
+alu_funcs =
+    alu.Add ∷ alu.Sub ∷ alu.Xor ∷ alu.Sl ∷ alu.Sr ∷ alu.Sra ∷ alu.Or ∷ alu.And ∷ alu.Nor ∷ alu.Shadd ∷ alu.Shadd2 ∷ []
 
 -- a compare
 abbrev pub cmp_func_number : CmpFunc → ℕ

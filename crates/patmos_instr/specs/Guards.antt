@@ -1,4 +1,4 @@
--- The four bits of a guard: the negation, then the three bits of the predicate (Patmos Reference
+-- To be believed. The four bits of a guard: the negation, then the three bits of the predicate (Patmos Reference
 -- Handbook, instruction formats).
 use Rattle.std.specs.Prelude.{ℕ, ◌+◌, ◌/◌, ◌%◌, ◌==◌, if◌then◌else◌}
 use Rattle.patmos_instr.specs.Fields.{FitsPred}

@@ -1,4 +1,4 @@
--- The kinds of instruction: which one fills a bundle by itself, which ones the second slot takes, and
+-- To be believed. The kinds of instruction: which one fills a bundle by itself, which ones the second slot takes, and
 -- the ranges of their fields (Patmos Reference Handbook, bundle and instruction formats; TP1, our
 -- profile, says what the second slot takes).
 use Rattle.std.specs.Prelude.{Bool, true, false, ◌^◌, ◌<◌}

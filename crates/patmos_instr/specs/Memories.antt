@@ -1,4 +1,4 @@
--- The numbers of the memories and widths of loads and stores, and each list in the order of its
+-- To be believed. The numbers of the memories and widths of loads and stores, and each list in the order of its
 -- numbers (Patmos Reference Handbook, load and store types).
 use Rattle.std.specs.Prelude.{ℕ, ◌%◌, List, [], ◌∷◌, slice_index_or}
 use Rattle.patmos_instr.specs.declared.memories.Mem.{Mem}

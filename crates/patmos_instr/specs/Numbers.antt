@@ -1,4 +1,4 @@
--- The numbers by which an instruction's word names the things of a list.
+-- To be believed. The numbers by which an instruction's word names the things of a list.
 use Rattle.std.specs.Prelude.{◌≡◌, ◌≢◌, ℕ, Option, MatchOption}
 
 -- an answer is the thing that has a number, or None where nothing has it

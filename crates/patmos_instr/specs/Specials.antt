@@ -1,4 +1,4 @@
--- The numbers that special registers have in an instruction's word, and each list in the order of its
+-- To be believed. The numbers that special registers have in an instruction's word, and each list in the order of its
 -- numbers. TP1, our profile of Patmos, numbers them from 0 without gaps.
 use Rattle.std.specs.Prelude.{ℕ, List, [], ◌∷◌}
 use Rattle.patmos_instr.specs.declared.specials.Special.{Special}

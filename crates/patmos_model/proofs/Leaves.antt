@@ -20,16 +20,16 @@ fit_leaves P Q words (get word go_on) fit left =
     (fit.0, λ value small. fit_leaves P Q words (go_on value) (fit.1 value small) (left value))
 fit_leaves P Q words (set word value p) fit left = (fit.0, fit.1, fit_leaves P Q words p fit.2 left)
 
-leaves_sets : {X : Type 0} (P : X → Type 0) (word : ℕ) (values : List ℕ) (rest : Prog X) → Leaves P rest → Leaves P (sets word values rest)
+pub leaves_sets : {X : Type 0} (P : X → Type 0) (word : ℕ) (values : List ℕ) (rest : Prog X) → Leaves P rest → Leaves P (sets word values rest)
 leaves_sets P word [] rest h = h
 leaves_sets P word (value ∷ values) rest h = leaves_sets P (word + 1) values rest h
 
-leaves_written : {X : Type 0} (P : X → Type 0) (ps : List Packet) (rest : Prog X) → Leaves P rest → Leaves P (written ps rest)
+pub leaves_written : {X : Type 0} (P : X → Type 0) (ps : List Packet) (rest : Prog X) → Leaves P rest → Leaves P (written ps rest)
 leaves_written P [] rest h = h
 leaves_written P (p ∷ ps) rest h =
     leaves_sets P (comm_word p.target p.first) (carried p.payload) (written ps rest) (leaves_written P ps rest h)
 
-leaves_gets : {X : Type 0} (P : X → Type 0) (count word : ℕ) (go_on : List ℕ → Prog X) → ((values : List ℕ) → Leaves P (go_on values)) → Leaves P (gets count word go_on)
+pub leaves_gets : {X : Type 0} (P : X → Type 0) (count word : ℕ) (go_on : List ℕ → Prog X) → ((values : List ℕ) → Leaves P (go_on values)) → Leaves P (gets count word go_on)
 leaves_gets P zero word go_on h = h []
 leaves_gets P (suc count) word go_on h =
     λ value. leaves_gets P count (word + 1) (λ values. go_on (value ∷ values)) (λ values. h (value ∷ values))

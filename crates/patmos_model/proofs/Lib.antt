@@ -1,6 +1,7 @@
 pub mod Parts
 pub mod Idle
 pub mod Leaves
+pub mod Waits
 pub mod Constants
 pub mod HeldWords
 pub mod NarrowWords

@@ -11,7 +11,7 @@ use Rattle.patmos_model.specs.Cycle.{with_interface, own, settled, turn}
 use Rattle.patmos_model.specs.Apart.{Followed, followed, after_delivery, injected}
 
 -- one program after another, and then a third
-in_line : {X Y Z : Type 0} (p : Prog X) (f : X → Prog Y) (g : Y → Prog Z) → and_then (and_then p f) g ≡ and_then p (λ x. and_then (f x) g)
+pub in_line : {X Y Z : Type 0} (p : Prog X) (f : X → Prog Y) (g : Y → Prog Z) → and_then (and_then p f) g ≡ and_then p (λ x. and_then (f x) g)
 in_line (done x) f g = refl
 in_line (get word go_on) f g = λ i. get word (λ value. in_line (go_on value) f g i)
 in_line (set word value rest) f g = λ i. set word value (in_line rest f g i)
@@ -23,7 +23,7 @@ phase_in_parts cycle c =
     ∙ sym (in_line (injection cycle c.plain.interface) (λ i. done (with_interface c i)) (λ d. and_then (own cycle d) settled))
 
 -- two programs at one stamp go on one after the other
-gone_in_parts : {X Y : Type 0} (s : ℕ) (p : Prog X) (f : X → Prog Y) (values : List ℕ) (made : List Operation) →
+pub gone_in_parts : {X Y : Type 0} (s : ℕ) (p : Prog X) (f : X → Prog Y) (values : List ℕ) (made : List Operation) →
     gone_on (fed s (and_then p f) values) made
     ≡ gone_on (fed s (f (fed s p values).core) (fed s p values).left) (made ++ (fed s p values).ops)
 gone_in_parts s p f values made =

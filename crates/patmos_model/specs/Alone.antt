@@ -1,4 +1,4 @@
--- The only core of a platform, for worked values.
+-- For worked rows. The only core of a platform, for worked values.
 use Rattle.std.specs.Prelude.{ℕ, ◌+◌, Bool, List, [], ◌∷◌}
 use Rattle.slot_arbiter.specs.declared.event.Access.{Access}
 use Rattle.shared_order.specs.Machine.{cycled}

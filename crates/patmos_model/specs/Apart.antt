@@ -1,4 +1,4 @@
--- The run apart of a core: what it does by itself, with its interface, when its loads of words of the
+-- To be believed. The run apart of a core: what it does by itself, with its interface, when its loads of words of the
 -- board give the values of a list, and 0 where the list has ended. What others deliver is not seen but
 -- by these values. Times and meanings of tasks are told of this run.
 use Rattle.std.specs.Prelude.{ℕ, zero, suc, List, [], ◌++◌}

@@ -1,4 +1,4 @@
--- A core before the first cycle. All registers but p0 and all memories are 0, but for the image's
+-- To be believed. A core before the first cycle. All registers but p0 and all memories are 0, but for the image's
 -- initial words and the input. The words of its first function are to be fetched, from the task's
 -- start on.
 use Rattle.std.specs.Prelude.{ℕ, ◌+◌, ◌-◌, true, false, ◌&&◌, nat_le, nat_lt, List, [], ◌∷◌, take, length, None, slice_index}

@@ -1,4 +1,4 @@
--- A bundle: its checks, its effect on the registers, and what its first slot asks for (Patmos
+-- To be believed. A bundle: its checks, its effect on the registers, and what its first slot asks for (Patmos
 -- Reference Handbook, bundles, delays and typed loads and stores; times are our own profile TP1's).
 -- What main memory has to do with it, it leaves as a transfer.
 use Rattle.std.specs.Prelude.{ℕ, ◌+◌, ◌/◌, ◌≤◌, true, false, ◌==◌, List, [], ◌∷◌, ◌++◌, length, map, Option, None, Some, slice_index, slice_set}
@@ -72,7 +72,7 @@ abbrev pub with_words : ℕ → List ℕ → (ℕ → ℕ) → ℕ → ℕ
 with_words from [] memory = memory
 with_words from (word ∷ words) memory = with_words (from + 1) words (put from word memory)
 
--- the stack with the words behind those held brought back from memory, until it holds so many
+-- the stack with the words after those held brought back from memory, until it holds so many
 abbrev pub refilled : ℕ → (ℕ → ℕ) → Stack → Stack
 refilled count memory s = record s {
   ss = s.ss + missing count s;

@@ -1,4 +1,4 @@
--- The transactions of a transfer: its words move four a slot, and the last slot moves the rest.
+-- To be believed. The transactions of a transfer: its words move four a slot, and the last slot moves the rest.
 use Rattle.std.specs.Prelude.{ℕ, zero, suc, ◌+◌, ◌-◌, ◌/◌, min, Bool, List, [], ◌∷◌}
 use Rattle.slot_arbiter.specs.declared.event.Access.{Access}
 use Rattle.patmos_model.specs.declared.transfer.Transfer.{Transfer}

@@ -1,4 +1,4 @@
--- The cells of memory that an address names: reading and writing them. Words of shared memory and of
+-- To be believed. The cells of memory that an address names: reading and writing them. Words of shared memory and of
 -- the communication memories are on the board, where other cores reach them too; all else is the
 -- core's own.
 use Rattle.std.specs.Prelude.{ℕ, ◌+◌, ◌*◌, ◌/◌, true, false, ◌==◌, List, [], ◌∷◌, ◌++◌, Option, None, Some}

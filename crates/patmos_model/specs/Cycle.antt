@@ -1,4 +1,4 @@
--- A core cycle by cycle, as programs on the words of the board.
+-- To be believed. A core cycle by cycle, as programs on the words of the board.
 use Rattle.std.specs.Prelude.{ℕ, zero, suc, true, false, None, Some}
 use Rattle.shared_order.specs.Program.{Prog, done, set, and_then}
 use Rattle.argo_ni.specs.Interface.{Interface}
@@ -34,7 +34,12 @@ own cycle c = if_running
 
 -- a pending store is made
 abbrev pub settled : Acted → Prog Core
-settled a = elim a.pending_store [ None ↦ done a.core | Some pending_store ↦ set pending_store.word pending_store.value (done a.core) ]
+settled a =
+    elim a.pending_store [
+      | None ↦ done a.core
+      | Some pending_store ↦ set pending_store.word pending_store.value
+          (done a.core)
+    ]
 
 -- phase 0 of a cycle: the packets that are due come to their words
 abbrev pub delivered : ℕ → Core → Prog Core

@@ -1,4 +1,4 @@
--- Flows of control (Patmos Reference Handbook, control-flow instructions). A flow's guard, its target
+-- To be believed. Flows of control (Patmos Reference Handbook, control-flow instructions). A flow's guard, its target
 -- and what a return goes to are read in its own bundle, and it takes effect after its last delay slot:
 -- two for a branch in the function, three for the others. A call, a branch with cache fill and a
 -- return touch the method cache.
@@ -51,7 +51,7 @@ entered base offset c = record {
   seen = record c.seen { misses = touched c.seen.misses (method_at c.plain.site.image base) };
 }
 
--- what a return comes back to after a call: the offset behind the call's last delay slot
+-- what a return comes back to after a call: the offset after the call's last delay slot
 abbrev pub with_return : Plain → Plain
 with_return x = record x { regs = record x.regs { srb = x.base; sro = x.offset } }
 

@@ -1,4 +1,4 @@
--- How far a core has come at a cycle limit: what its state says once all cycles before the limit are
+-- To be believed. How far a core has come at a cycle limit: what its state says once all cycles before the limit are
 -- done.
 use Rattle.std.specs.Prelude.{ℕ, ◌-◌, true, false, ◌&&◌, nat_le, slice_index}
 use Rattle.local_store.specs.declared.map.Cell.{Cell}

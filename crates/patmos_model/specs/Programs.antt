@@ -1,4 +1,4 @@
--- Small programs for worked values, as lists of bundles, and the core that runs one.
+-- For worked rows. Small programs for worked values, as lists of bundles, and the core that runs one.
 use Rattle.std.specs.Prelude.{ℕ, false, List, [], ◌∷◌, ◌++◌, length, Some, None, replicate}
 use Rattle.slot_arbiter.specs.Table.{in_turn}
 use Rattle.patmos_instr.specs.Bundles.{Slots}
@@ -87,7 +87,7 @@ abbrev pub words_of : List Slots → List ℕ
 words_of [] = []
 words_of (b ∷ bs) = code b ++ words_of bs
 
--- the words of functions one after another, each behind its size
+-- the words of functions one after another, each after its size
 abbrev pub code_of : List (List Slots) → List ℕ
 code_of [] = []
 code_of (f ∷ fs) = length (words_of f) ∷ (words_of f ++ code_of fs)

@@ -1,4 +1,4 @@
--- Ranges of a core: what it holds are words of 32 bits, and its interface's transfers lie within the
+-- To be believed. Ranges of a core: what it holds are words of 32 bits, and its interface's transfers lie within the
 -- communication memories.
 use Rattle.std.specs.Prelude.{ℕ, ◌≡◌, ◌<◌, ◌≤◌, ◌^◌, Option, None, Some, slice_index, IfSome}
 use Rattle.std.specs.List.{AllByRecursion as Each}

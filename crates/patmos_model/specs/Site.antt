@@ -1,4 +1,4 @@
--- What of a core never changes: its place on the platform, and the code of its task. Places and
+-- To be believed. What of a core never changes: its place on the platform, and the code of its task. Places and
 -- offsets count words of code.
 use Rattle.std.specs.Prelude.{ℕ, ◌+◌, ◌-◌, ◌^◌, Bool, true, false, ◌&&◌, ◌==◌, nat_lt, nat_le, List, slice_index}
 use Rattle.std.specs.List.{list_any}

@@ -1,4 +1,4 @@
--- The state of a core: what it needs to go on, and what it has seen.
+-- To be believed. The state of a core: what it needs to go on, and what it has seen.
 use Rattle.std.specs.Prelude.{ℕ, Bool, false, not, ◌&&◌, ◌==◌, List, Option, None, Some}
 use Rattle.slot_arbiter.specs.declared.event.Access.{Access}
 use Rattle.method_cache.specs.declared.cache.Method.{Method}

@@ -1,4 +1,4 @@
--- Tasks whose outcome is known, each as its functions of bundles. In a comment stands what it shows.
+-- For worked rows. Tasks whose outcome is known, each as its functions of bundles. In a comment stands what it shows.
 use Rattle.std.specs.Prelude.{negsuc, true, false, List, [], ◌∷◌, ◌++◌}
 use Rattle.patmos_instr.specs.Bundles.{Slots}
 use Rattle.patmos_instr.specs.declared.memories.Mem.TheVariants.{S, L, C, M}
@@ -19,7 +19,7 @@ doubling = main (addi 1 0 3 ∷ addi 2 0 2
     ∷ subi 2 2 1 ∷ cmpineq 1 2 0 ∷ guarded (record { negated = false; pred = 1 }) (Branch (negsuc 1))
     ∷ add 1 1 1 ∷ nops 1 ++ ret (nops 3))
 
--- the bundle behind a load still reads the register's old value, and the next one the loaded one
+-- the bundle after a load still reads the register's old value, and the next one the loaded one
 abbrev pub load_delay : List (List Slots)
 load_delay = main (addi 1 0 5 ∷ sw L 0 0 1 ∷ lw L 2 0 0 ∷ add 1 2 2 ∷ add 1 1 2 ∷ ret (nops 3))
 
@@ -31,7 +31,7 @@ load_at_end = main (addi 1 0 5 ∷ sw L 0 0 1 ∷ addi 1 0 6 ∷ ret (nops 2 ++ 
 abbrev pub spilling : List (List Slots)
 spilling = main (sres 100 ∷ sres 60 ∷ addi 1 0 5 ∷ sw S 0 0 1 ∷ lw S 1 0 0 ∷ ret (nops 3))
 
--- two of four words are spilled, and they come back behind the two that are still held
+-- two of four words are spilled, and they come back after the two that are still held
 abbrev pub refilling : List (List Slots)
 refilling = main (sres 4 ∷ addi 1 0 5 ∷ sw S 0 3 1 ∷ sres 126 ∷ sfree 126 ∷ sens 4 ∷ lw S 1 0 3 ∷ ret (nops 3))
 

@@ -1,4 +1,4 @@
--- A transaction with main memory: up to four words in a slot of the core (Schoeberl et al., T-CREST,
+-- To be believed. A transaction with main memory: up to four words in a slot of the core (Schoeberl et al., T-CREST,
 -- 2015: time-division arbitration; lengths and costs are our own profile TP1's).
 use Rattle.std.specs.Prelude.{ℕ, ◌+◌, ◌-◌, ◌*◌, min, Bool, true, false, ◌&&◌, nat_le, nat_lt, List, [], ◌∷◌, ◌++◌, Some, slice_index, unwrap_or}
 use Rattle.shared_order.specs.Program.{Prog}

@@ -1,4 +1,4 @@
--- What is to be moved between a core and main memory.
+-- To be believed. What is to be moved between a core and main memory.
 use Rattle.std.specs.Prelude.{ℕ, true, false}
 use Rattle.patmos_model.specs.declared.transfer.Transfer.{Transfer}
 use Rattle.patmos_model.specs.declared.transfer.Then.{Then}

@@ -1,4 +1,4 @@
--- The numbers of traps (our own profile TP1).
+-- To be believed. The numbers of traps (our own profile TP1).
 use Rattle.std.specs.Prelude.{ℕ}
 use Rattle.patmos_model.specs.declared.trap.Trap.{Trap}
 use Rattle.patmos_model.specs.declared.trap.Trap.TheVariants as trap

@@ -17,7 +17,8 @@
 //! - [`worked_task`], [`worked_flows`], [`worked_memory`] and [`worked_traps`] show the definitions on small tasks,
 //!   computed by the checker.
 //! - [`run_apart_is_followed`]: keeping the task's operations apart from its interface's changes nothing.
-//! - [`transfer_is_its_bursts`]: a transfer moves its words in the transactions, four words a slot and the rest in the last.
+//! - [`transfer_is_its_bursts`]: a transfer moves its words in the transactions, four
+//!   words a slot and the rest in the last.
 //! - [`core_keeps_ranges`]: a core in range names only words of the board, stores only words of 32 bits, and stays
 //!   in range.
 //! - [`CoreState`], [`Status`], [`Trap`], [`Flow`], [`Goal`], [`Transfer`], [`Then`], [`Fetched`] and

@@ -30,7 +30,8 @@ pub fn worked_flows()
     ensures load_delay { outcome tasks.load_delay 50 ≡ Done 5 5 27 }
     ensures load_at_end { outcome tasks.load_at_end 50 ≡ Done 6 0 19 }
     ensures calling { outcome tasks.calling 50 ≡ Done 9 0 46 }
-    ensures fills { accesses tasks.calling 50 ≡ transactions false (4 ∷ 4 ∷ 2 ∷ []) 0 ++ transactions false (4 ∷ 2 ∷ []) 24 }
+    ensures fills { accesses tasks.calling 50
+        ≡ transactions false (4 ∷ 4 ∷ 2 ∷ []) 0 ++ transactions false (4 ∷ 2 ∷ []) 24 }
 {}
 
 /// The stack and parts of words: 32 words spilled in eight slots; a spilled word that comes back; a byte

@@ -1,4 +1,4 @@
--- The effect of a bundle (Patmos Reference Handbook, dual issue, delays and predication). Every operand
+-- To be believed. The effect of a bundle (Patmos Reference Handbook, dual issue, delays and predication). Every operand
 -- is read from the registers before the bundle.
 use Rattle.std.specs.Prelude.{ℕ, Option, Some, None, List, [], ◌∷◌, if◌then◌else◌}
 use Rattle.patmos_instr.specs.Bundles.{Slots}

@@ -1,4 +1,4 @@
--- What an instruction gives from the registers that it reads: one equation for each kind (Patmos
+-- To be believed. What an instruction gives from the registers that it reads: one equation for each kind (Patmos
 -- Reference Handbook, instruction set). An instruction writes a register, or begins a product that
 -- comes later, or asks for something outside the registers.
 use Rattle.std.specs.Prelude.{ℕ, ◌+◌, ◌*◌, ◌%◌, ◌^◌, if◌then◌else◌}
@@ -71,8 +71,10 @@ address_of base imm bytes = (base + imm * bytes) % 2 ^ 32
 -- what an instruction asks for
 abbrev pub asked : Registers → Op → Effect
 asked regs (Stack func count) = effect.StackOp func count
-asked regs (Load space width rd ra imm) = effect.Load space width rd (address_of (word_in regs ra) imm (width_bytes width))
-asked regs (Store space width ra rs imm) = effect.Store space width (address_of (word_in regs ra) imm (store_bytes width)) (word_in regs rs)
+asked regs (Load space width rd ra imm) =
+    effect.Load space width rd (address_of (word_in regs ra) imm (width_bytes width))
+asked regs (Store space width ra rs imm) =
+    effect.Store space width (address_of (word_in regs ra) imm (store_bytes width)) (word_in regs rs)
 asked regs (Branch offset) = effect.Flow (flow.Branch offset)
 asked regs (Call target) = effect.Flow (flow.Call target)
 asked regs (BranchFill target) = effect.Flow (flow.BranchFill target)

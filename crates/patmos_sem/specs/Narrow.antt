@@ -1,4 +1,4 @@
--- Bytes and halves of a word. A word's bytes count from the most significant, at an address that is a
+-- To be believed. Bytes and halves of a word. A word's bytes count from the most significant, at an address that is a
 -- multiple of 4 (Patmos Reference Handbook, load and store; Patmos is big-endian).
 use Rattle.std.specs.Prelude.{ℕ, ◌+◌, ◌-◌, ◌*◌, ◌/◌, ◌%◌, ◌^◌, nat_lt, if◌then◌else◌, slice_index, slice_set}
 use Rattle.std.specs.Int.{w32, to_be_bytes, from_be_bytes}
@@ -34,5 +34,6 @@ with_byte address byte word = from_be_bytes w32 (slice_set (to_be_bytes w32 word
 -- the word that a store leaves of one that held its address: the low bits of the value in their place
 abbrev pub merged : StoreWidth → ℕ → ℕ → ℕ → ℕ
 merged store.Word address word value = value
-merged store.Half address word value = with_byte (address + 1) (value % 2 ^ 8) (with_byte address (value / 2 ^ 8 % 2 ^ 8) word)
+merged store.Half address word value =
+    with_byte (address + 1) (value % 2 ^ 8) (with_byte address (value / 2 ^ 8 % 2 ^ 8) word)
 merged store.Byte address word value = with_byte address (value % 2 ^ 8) word

@@ -1,4 +1,4 @@
--- What the operations of an instruction make of words and predicates (Patmos Reference Handbook,
+-- To be believed. What the operations of an instruction make of words and predicates (Patmos Reference Handbook,
 -- instruction set). A word is a number below 2^32, and sums and differences are taken modulo 2^32.
 use Rattle.std.specs.Prelude.{ℕ, ◌+◌, ◌-◌, ◌*◌, ◌/◌, ◌%◌, ◌^◌, ◌==◌, Bool, not, ◌&&◌, ◌||◌, nat_lt, nat_le, if◌then◌else◌, bit_and, bit_or, bit_xor}
 use Rattle.tc_word.specs.Word.{moved_up, moved_down, moved_down_signed, is_less}

@@ -1,4 +1,4 @@
--- The registers of a core (Patmos Reference Handbook, register files), and what is read of them.
+-- To be believed. The registers of a core (Patmos Reference Handbook, register files), and what is read of them.
 use Rattle.std.specs.Prelude.{ℕ, ◌≡◌, ◌+◌, ◌*◌, Bool, true, false, not, if◌then◌else◌, List, length, slice_index, slice_index_or, ◌∷◌, replicate}
 use Rattle.patmos_instr.specs.declared.guards.Guard.{Guard}
 use Rattle.patmos_sem.specs.declared.pending.Pending.{Pending}
@@ -40,7 +40,9 @@ flag preds p = if slice_index_or preds p false then 1 else 0
 
 -- s0: the predicates as eight bits, p0 the lowest
 abbrev pub preds_number : List Bool → ℕ
-preds_number preds = flag preds 0 + flag preds 1 * 2 + flag preds 2 * 4 + flag preds 3 * 8 + flag preds 4 * 16 + flag preds 5 * 32 + flag preds 6 * 64 + flag preds 7 * 128
+preds_number preds =
+    flag preds 0 + flag preds 1 * 2 + flag preds 2 * 4 + flag preds 3 * 8 + flag preds 4 * 16 + flag preds 5 * 32
+    + flag preds 6 * 64 + flag preds 7 * 128
 
 -- the registers at the start of a task
 abbrev pub at_start : Registers

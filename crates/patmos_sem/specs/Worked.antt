@@ -1,4 +1,4 @@
--- Small bundles for worked values.
+-- For worked rows. Small bundles for worked values.
 use Rattle.std.specs.Prelude.{ℕ, false, Some}
 use Rattle.patmos_instr.specs.Bundles.{Slots}
 use Rattle.patmos_instr.specs.declared.functions.ImmFunc.TheVariants as imm

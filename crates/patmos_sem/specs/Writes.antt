@@ -1,4 +1,4 @@
--- Writes to registers, and which one stands (Patmos Reference Handbook, register files and dual issue).
+-- To be believed. Writes to registers, and which one stands (Patmos Reference Handbook, register files and dual issue).
 -- All of it is told register by register: a register holds what the last of the writes that name it
 -- gives, and else its old value.
 use Rattle.std.specs.Prelude.{ℕ, ◌+◌, ◌==◌, Bool, true, if◌then◌else◌, List, [], ◌∷◌}

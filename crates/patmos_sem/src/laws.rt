@@ -14,19 +14,28 @@ ghost use Rattle.patmos_sem.specs.Worked.{both, add_short, s0_from};
 /// and that before the second's. Register 0 stays 0, and predicate 0 true. Writes after writes are the
 /// writes of both, so a product or a load's value can as well be read as written at once.
 pub fn after_bundle_by_register()
-    ensures general { (st ss : ℕ) (b : Slots) (regs : Registers) (r : ℕ) → r < length regs.general → word_in (after_bundle st ss b regs) r ≡ register_after (all_writes st ss b regs) r (word_in regs r) }
-    ensures preds { (st ss : ℕ) (b : Slots) (regs : Registers) (p : ℕ) → p < length regs.preds → pred_in (after_bundle st ss b regs) p ≡ pred_after (all_writes st ss b regs) p (pred_in regs p) }
-    ensures joined { (us vs : List Write) (regs : Registers) → after_writes vs (after_writes us regs) ≡ after_writes (us ++ vs) regs }
-    ensures files { (st ss : ℕ) (b : Slots) (regs : Registers) → FitsRegisters regs → FitsRegisters (after_bundle st ss b regs) }
+    ensures general { (st ss : ℕ) (b : Slots) (regs : Registers) (r : ℕ) → r < length regs.general
+        → word_in (after_bundle st ss b regs) r ≡ register_after (all_writes st ss b regs) r (word_in regs r) }
+    ensures preds { (st ss : ℕ) (b : Slots) (regs : Registers) (p : ℕ) → p < length regs.preds
+        → pred_in (after_bundle st ss b regs) p ≡ pred_after (all_writes st ss b regs) p (pred_in regs p) }
+    ensures joined { (us vs : List Write) (regs : Registers)
+        → after_writes vs (after_writes us regs) ≡ after_writes (us ++ vs) regs }
+    ensures files { (st ss : ℕ) (b : Slots) (regs : Registers) → FitsRegisters regs
+        → FitsRegisters (after_bundle st ss b regs) }
 {}
 
 /// Worked values of the definitions.
 pub fn worked_values()
     ensures second_wins { word_in (after_bundle 0 0 (both (add_short 6 0 1) (add_short 6 0 2)) at_start) 6 ≡ 2 }
-    ensures own_write_wins { word_in (after_bundle 0 0 (both (add_short 6 0 1) (add_short 0 0 0)) (arrived 6 9 at_start)) 6 ≡ 1 }
-    ensures pending_comes { word_in (after_bundle 0 0 (both (add_short 7 6 1) (add_short 0 0 0)) (arrived 6 9 at_start)) 6 ≡ 9 }
-    ensures pending_is_late { word_in (after_bundle 0 0 (both (add_short 7 6 1) (add_short 0 0 0)) (arrived 6 9 at_start)) 7 ≡ 1 }
-    ensures always_true { preds_number (after_bundle 0 0 (both (s0_from 6) (add_short 0 0 0)) (record at_start { general = 0 ∷ 0 ∷ 0 ∷ 0 ∷ 0 ∷ 0 ∷ 388 ∷ [] })).preds ≡ 133 }
+    ensures own_write_wins { word_in
+        (after_bundle 0 0 (both (add_short 6 0 1) (add_short 0 0 0)) (arrived 6 9 at_start)) 6 ≡ 1 }
+    ensures pending_comes { word_in
+        (after_bundle 0 0 (both (add_short 7 6 1) (add_short 0 0 0)) (arrived 6 9 at_start)) 6 ≡ 9 }
+    ensures pending_is_late { word_in
+        (after_bundle 0 0 (both (add_short 7 6 1) (add_short 0 0 0)) (arrived 6 9 at_start)) 7 ≡ 1 }
+    ensures always_true { preds_number
+        (after_bundle 0 0 (both (s0_from 6) (add_short 0 0 0))
+        (record at_start { general = 0 ∷ 0 ∷ 0 ∷ 0 ∷ 0 ∷ 0 ∷ 388 ∷ [] })).preds ≡ 133 }
     ensures unsigned_half { picked load.HalfUnsigned 0 0x11ff_3344 ≡ 4607 }
     ensures signed_half { picked load.Half 2 0x11ff_3344 ≡ 13124 }
     ensures signed_byte { picked load.Byte 1 0x11ff_3344 ≡ 2 ^ 32 - 1 }

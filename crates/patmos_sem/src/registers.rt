@@ -142,7 +142,8 @@ impl Regs {
     // began becomes pending
     #[tactic(auto, using(crate::proofs::Told::in_turn))]
     pub(crate) fn end_bundle(&mut self, first: Write, second: Write, begun: Pending)
-        ensures { self.new ≡ record (after_writes (came self.old.pending ∷ first ∷ second ∷ []) self.old) { pending = begun } }
+        ensures { self.new ≡ record (after_writes (came self.old.pending ∷ first ∷ second
+            ∷ []) self.old) { pending = begun } }
     {
         self.come();
         self.write(first);
@@ -153,7 +154,8 @@ impl Regs {
     // the end of a bundle whose second slot is empty
     #[tactic(auto, using(crate::proofs::Told::one_alone))]
     pub(crate) fn end_single(&mut self, first: Write, begun: Pending)
-        ensures { self.new ≡ record (after_writes (came self.old.pending ∷ first ∷ Write.Nothing ∷ []) self.old) { pending = begun } }
+        ensures { self.new ≡ record (after_writes (came self.old.pending ∷ first ∷ Write.Nothing
+            ∷ []) self.old) { pending = begun } }
     {
         self.come();
         self.write(first);
@@ -164,7 +166,8 @@ impl Regs {
     #[inline(always)]
     pub(crate) fn end_alone(&mut self, first: Write, begun: Pending)
         requires nothing { self.old.pending ≡ pending.Nothing }
-        ensures { self.new ≡ record (after_writes (came self.old.pending ∷ first ∷ Write.Nothing ∷ []) self.old) { pending = begun } }
+        ensures { self.new ≡ record (after_writes (came self.old.pending ∷ first ∷ Write.Nothing
+            ∷ []) self.old) { pending = begun } }
     {
         self.write(first);
         self.set_pending(begun);

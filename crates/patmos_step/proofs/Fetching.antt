@@ -16,7 +16,7 @@ some_words : (small : Bool) → 1 ≤ elim small as (λ _. ℕ) [ true ↦ 1 | f
 some_words true = omega arith
 some_words false = omega arith
 
--- what begins behind a function's end, or ends there, does not lie inside it
+-- what begins after a function's end, or ends there, does not lie inside it
 pub ends_outside : (image : Parts) (base offset size : ℕ) → size ≡ size_at image base → size < offset + bundle_words (word_at image base offset) → is_inside image base offset ≡ false
 ends_outside image base offset size is past = grind (arith, nat_tests)
 

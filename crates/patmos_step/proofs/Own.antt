@@ -159,7 +159,7 @@ flowed_with : (cycle : ℕ) (c : Core) (i : Interface) → flowed cycle (with_in
 unfolding flowed
 flowed_with cycle c i = free_with cycle c i (is_free cycle c.plain) c.plain.flow
 
--- the core's own act in a cycle behind its flow
+-- the core's own act in a cycle after its flow
 abbrev after_flow : ℕ → Core → Prog Acted
 after_flow cycle d = and_then (if_running (bundle_step cycle) d) (slot_step cycle)
 

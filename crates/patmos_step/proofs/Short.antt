@@ -108,7 +108,7 @@ rests_then s cycle (done a) values all rests =
 rests_then s cycle (get word go_on) values all rests = rests_then s cycle (go_on (first values)) (others values) all (rests (first values))
 rests_then s cycle (set word value p) values all rests = rests_then s cycle p values all rests
 
--- the transaction behind such a program hears all the values
+-- the transaction after such a program hears all the values
 short_then : (s cycle : ℕ) (p : Prog Acted) (values : List ℕ) → IsShort p →
     (fed s (and_then p (slot_step cycle)) values).core ≡ (fed s (slot_step cycle (fed s p values).core) values).core
 short_then s cycle (done a) values short = refl

@@ -1,5 +1,5 @@
--- Bundles that a core does by itself, one in each cycle: they ask for nothing but words of the core's own
--- stack and scratchpad, or leave a word of main memory to move in a later cycle.
+-- To be believed. Bundles that a core does by itself, one in each cycle: they ask for nothing but words of the core's
+-- own stack and scratchpad, or leave a word of main memory to move in a later cycle.
 use Rattle.std.specs.Prelude.{◌≡◌, ℕ, zero, suc, ◌+◌, ◌/◌, ◌<◌, ◌≤◌, ◌==◌, Bool, true, false, Option, None, Some, slice_index}
 use Rattle.slot_arbiter.specs.Slot.{is_slot_start}
 use Rattle.shared_order.specs.Words.{put}

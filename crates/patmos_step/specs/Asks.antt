@@ -1,4 +1,4 @@
--- What a core's own act in a cycle asks of the board: the words that it loads or stores, known before
+-- To be believed. What a core's own act in a cycle asks of the board: the words that it loads or stores, known before
 -- its loads give their values.
 use Rattle.std.specs.Prelude.{◌≡◌, ℕ, ◌+◌, ◌<◌, true, false, List, [], ◌∷◌, Option, None, Some, Bool}
 use Rattle.slot_arbiter.specs.declared.event.WordOp.{WordOp}

@@ -1,4 +1,4 @@
--- The words of an image, each decoded once.
+-- To be believed. The words of an image, each decoded once.
 use Rattle.std.specs.Prelude.{◌≡◌, ℕ, ◌+◌, ◌<◌, true, List, length, slice_index, slice_index_or}
 use Rattle.patmos_code.specs.Decoding.{bundle_at}
 use Rattle.patmos_code.specs.Images.{Parts}

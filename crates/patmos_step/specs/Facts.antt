@@ -1,4 +1,4 @@
--- That some facts which go by cases hold in one way only.
+-- For proofs. That some facts which go by cases hold in one way only.
 use Rattle.std.proofs.Props.{props}
 use Rattle.patmos_sem.specs.Registers.{Registers}
 use Rattle.patmos_model.specs.declared.transfer.Then.{Then}

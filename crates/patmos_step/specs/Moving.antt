@@ -1,4 +1,4 @@
--- Words of a core's own memory that move in a slot: nothing of the board is asked for.
+-- To be believed. Words of a core's own memory that move in a slot: nothing of the board is asked for.
 use Rattle.std.specs.Prelude.{◌≡◌, ℕ, true, false, Option, None, Some}
 use Rattle.shared_order.specs.Words.{put}
 use Rattle.local_store.specs.declared.map.Space.TheVariants.{Main}

@@ -1,4 +1,4 @@
--- What a core does in its own act in a cycle once a flow that was due has taken effect, told before it
+-- To be believed. What a core does in its own act in a cycle once a flow that was due has taken effect, told before it
 -- does it.
 use Rattle.std.specs.Prelude.{◌≡◌, ℕ, ◌<◌, true, false, None, IfSome}
 use Rattle.shared_order.specs.Program.{Prog, and_then}

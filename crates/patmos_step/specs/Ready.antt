@@ -1,4 +1,4 @@
--- What the core may do at a point of its run.
+-- To be believed. What the core may do at a point of its run.
 use Rattle.std.specs.Prelude.{◌≡◌, ℕ, ◌+◌, ◌*◌, ◌%◌, ◌≤◌, ◌<◌, ◌≢◌, true, None, Option, IfSome}
 use Rattle.slot_arbiter.specs.declared.place.TheConstants.{MOST_CYCLES}
 use Rattle.slot_arbiter.specs.declared.place.Place.{Place}

@@ -1,4 +1,4 @@
--- What a core's fields mean: the plain part of its state, and the histories that they stand for.
+-- To be believed. What a core's fields mean: the plain part of its state, and the histories that they stand for.
 use Rattle.std.specs.Prelude.{◌≡◌, take, slice_index, Option}
 use Rattle.method_cache.specs.Residents as methods
 use Rattle.data_cache.specs.Lines as lines

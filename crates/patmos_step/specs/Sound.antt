@@ -1,4 +1,4 @@
--- What a core's fields keep, apart from what they mean.
+-- For proofs. What a core's fields keep, apart from what they mean.
 use Rattle.std.specs.Prelude.{◌≡◌, length}
 use Rattle.slot_arbiter.specs.declared.place.Place.{Place}
 use Rattle.local_store.specs.declared.store.TheConstants.{PRIVATE_WORDS, SCRATCH_WORDS}

@@ -120,7 +120,8 @@ impl Body {
     // what a load asks for
     fn ask_of_load(&self, space: Mem, width: Width, rd: Reg, address: u32, cycle: u64) -> Ask
         requires early { cycle ≤ MOST_CYCLES }
-        ensures { result ≡ specs.loaded_ask cycle (plain_of self.now).site (word_at self.now.cache) space width rd address }
+        ensures { result ≡ specs.loaded_ask cycle (plain_of self.now).site
+            (word_at self.now.cache) space width rd address }
     {
         match space {
             Mem::S => Ask::Nothing,

@@ -23,8 +23,10 @@ impl Body {
     /// The word in a cell: that of the board is the first of the values heard.
     pub fn read(&self, cell: Option<Cell>, values: &[u32]) -> u32
         requires { IfSome cell (IsReadable self.now.place) }
-        ensures { (s : ℕ) (go_on : ℕ → Prog Acted) → ((word : ℕ) (more more' : List ℕ) → (fed s (go_on word) more).core ≡ (fed s (go_on word) more').core)
-            → (fed s (cells.reading cell (plain_of self.now) go_on) values.now).core ≡ (fed s (go_on result) values.now).core }
+        ensures { (s : ℕ) (go_on : ℕ → Prog Acted)
+            → ((word : ℕ) (more more' : List ℕ) → (fed s (go_on word) more).core ≡ (fed s (go_on word) more').core)
+            → (fed s (cells.reading cell (plain_of self.now) go_on) values.now).core
+            ≡ (fed s (go_on result) values.now).core }
     {
         match cell {
             None => 0,
@@ -50,7 +52,8 @@ impl Body {
         requires cell { IfSome cell (IsReadable self.old.place) }
         requires ready { IsReady cycle self.old.ni }
         ensures stored { (s : ℕ) (h : History) → Shows self.old h
-            → IsActed self.new result (fed s (cells.writing cell width address value (core_of self.old h)) values.now).core }
+            → IsActed self.new result (fed s
+            (cells.writing cell width address value (core_of self.old h)) values.now).core }
         ensures ready { IsReady cycle self.new.ni }
         ensures rest { IsAtRest self.old → IsAtRest self.new }
         ensures frame { IsFramed self.old self.new }
@@ -84,7 +87,8 @@ impl Body {
     #[tactic(auto, using(shared_order::proofs::Words::words_put))]
     pub fn put_scratch(&mut self, word: u32, value: u32)
         requires { word < SCRATCH_WORDS }
-        ensures plain { plain_of self.new ≡ record (plain_of self.old) { scratch = put word value (slice_index self.old.store.scratch) } }
+        ensures plain { plain_of self.new
+            ≡ record (plain_of self.old) { scratch = put word value (slice_index self.old.store.scratch) } }
         ensures shows { (h : History) → Shows self.old h → Shows self.new h }
         ensures ni { self.new.ni ≡ self.old.ni }
         ensures rest { IsAtRest self.old → IsAtRest self.new }
@@ -97,7 +101,8 @@ impl Body {
     #[tactic(auto, using(shared_order::proofs::Words::words_put))]
     pub fn put_private(&mut self, word: u32, value: u32)
         requires { word < PRIVATE_WORDS }
-        ensures plain { plain_of self.new ≡ record (plain_of self.old) { private = put word value (slice_index self.old.store.private) } }
+        ensures plain { plain_of self.new
+            ≡ record (plain_of self.old) { private = put word value (slice_index self.old.store.private) } }
         ensures shows { (h : History) → Shows self.old h → Shows self.new h }
         ensures ni { self.new.ni ≡ self.old.ni }
         ensures rest { IsAtRest self.old → IsAtRest self.new }
@@ -110,7 +115,8 @@ impl Body {
     fn set_port(&mut self, core: u32, register: u32, value: u32, cycle: u64)
         requires other { IsOther self.old.place core }
         requires ready { IsReady cycle self.old.ni }
-        ensures set { (h : History) → Shows self.old h → IsAt self.new (cells.port_set core register value (core_of self.old h)) }
+        ensures set { (h : History) → Shows self.old h
+            → IsAt self.new (cells.port_set core register value (core_of self.old h)) }
         ensures ready { IsReady cycle self.new.ni }
         ensures rest { IsAtRest self.old → IsAtRest self.new }
         ensures frame { IsFramed self.old self.new }
@@ -143,7 +149,9 @@ fn pending_store(
     values: &[u32],
 ) -> Option<PendingStore>
     requires aligned { address % store_bytes width ≡ 0 }
-    ensures leaves { (s : ℕ) (c : Core) → (fed s (cells.storing word width address value c) values.now).core ≡ record { core = c; pending_store = result } }
+    ensures leaves { (s : ℕ) (c : Core)
+        → (fed s (cells.storing word width address value c) values.now).core
+        ≡ record { core = c; pending_store = result } }
     ensures within { IfSome result (λ o. o.word ≡ word) }
 {
     match width {

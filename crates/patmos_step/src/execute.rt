@@ -37,7 +37,8 @@ impl Body {
         requires unmoved { self.old.transfer.words ≡ 0 }
         requires can { CanGoOn self.old }
         ensures done { (s : ℕ) (h : History) → Shows self.old h
-            → IsActed self.new result (fed s (bundles.performed words bundle.now cycle (core_of self.old h)) values.now).core }
+            → IsActed self.new result (fed s
+            (bundles.performed words bundle.now cycle (core_of self.old h)) values.now).core }
         ensures ready { IsReady cycle self.new.ni }
         ensures can { CanGoOn self.new }
         ensures frame { IsFramed self.old self.new }
@@ -140,7 +141,8 @@ impl Body {
         requires ready { IsReady cycle self.old.ni }
         requires rest { IsAtRest self.old }
         ensures done { (s : ℕ) (h : History) → Shows self.old h
-            → IsActed self.new None (fed s (bundles.loaded space width rd address cycle (core_of self.old h)) values.now).core }
+            → IsActed self.new None (fed s
+            (bundles.loaded space width rd address cycle (core_of self.old h)) values.now).core }
         ensures ni { self.new.ni ≡ self.old.ni }
         ensures can { CanGoOn self.new }
         ensures frame { IsFramed self.old self.new }
@@ -215,7 +217,8 @@ impl Body {
         requires ready { IsReady cycle self.old.ni }
         requires rest { IsAtRest self.old }
         ensures done { (s : ℕ) (h : History) → Shows self.old h
-            → IsActed self.new result (fed s (bundles.stored space width address value cycle (core_of self.old h)) values.now).core }
+            → IsActed self.new result (fed s
+            (bundles.stored space width address value cycle (core_of self.old h)) values.now).core }
         ensures ready { IsReady cycle self.new.ni }
         ensures can { CanGoOn self.new }
         ensures frame { IsFramed self.old self.new }
@@ -248,7 +251,8 @@ impl Body {
         requires ready { IsReady cycle self.old.ni }
         requires aligned { address % store_bytes width ≡ 0 }
         requires rest { IsAtRest self.old }
-        ensures plain { plain_of self.new ≡ bundles.moves (writes 1 (then_on.Store cached width address value)) cycle (plain_of self.old) }
+        ensures plain { plain_of self.new
+            ≡ bundles.moves (writes 1 (then_on.Store cached width address value)) cycle (plain_of self.old) }
         ensures shows { (h : History) → Shows self.old h → Shows self.new h }
         ensures ni { self.new.ni ≡ self.old.ni }
         ensures can { CanGoOn self.new }
@@ -267,7 +271,8 @@ impl Body {
     pub fn store_stack(&mut self, width: StoreWidth, address: u32, value: u32)
         requires aligned { address % store_bytes width ≡ 0 }
         requires held { is_held self.old.stack address ≡ true }
-        ensures plain { plain_of self.new ≡ record (plain_of self.old) { stack = bundles.stack_set width address value self.old.stack } }
+        ensures plain { plain_of self.new
+            ≡ record (plain_of self.old) { stack = bundles.stack_set width address value self.old.stack } }
         ensures shows { (h : History) → Shows self.old h → Shows self.new h }
         ensures ni { self.new.ni ≡ self.old.ni }
         ensures rest { IsAtRest self.old → IsAtRest self.new }

@@ -59,7 +59,8 @@ impl Body {
     // goes to an offset of the same function
     fn branch(&mut self, offset: u32, cycle: u64)
         requires can { CanGoOn self.old }
-        ensures at { (h : History) → Shows self.old h → IsAt self.new (flows.taken cycle (Goal.Within offset) (core_of self.old h)) }
+        ensures at { (h : History) → Shows self.old h
+            → IsAt self.new (flows.taken cycle (Goal.Within offset) (core_of self.old h)) }
         ensures gone { is_running (plain_of self.new) ≡ true → self.new.flow ≡ None }
         ensures can { CanGoOn self.new }
         ensures ni { self.new.ni ≡ self.old.ni }
@@ -76,7 +77,8 @@ impl Body {
     // goes to an offset of the function that starts at the base
     fn go(&mut self, base: u32, offset: u32, cycle: u64)
         requires can { CanGoOn self.old }
-        ensures at { (h : History) → Shows self.old h → IsAt self.new (flows.taken cycle (Goal.Return base offset) (core_of self.old h)) }
+        ensures at { (h : History) → Shows self.old h
+            → IsAt self.new (flows.taken cycle (Goal.Return base offset) (core_of self.old h)) }
         ensures gone { is_running (plain_of self.new) ≡ true → self.new.flow ≡ None }
         ensures can { CanGoOn self.new }
         ensures ni { self.new.ni ≡ self.old.ni }

@@ -36,7 +36,8 @@ impl Body {
         requires moves { CanMoveIn cycle (plain_of self.old) }
         requires can { CanGoOn self.old }
         requires early { cycle ≤ MOST_CYCLES }
-        ensures alone { (h : History) → IsAlone cycle (core_of self.old h) (core_of self.new (accessed self.old.transfer cycle h)) }
+        ensures alone { (h : History) → IsAlone cycle (core_of self.old h)
+            (core_of self.new (accessed self.old.transfer cycle h)) }
         ensures shows { (h : History) → Shows self.old h → Shows self.new (accessed self.old.transfer cycle h) }
         ensures can { CanGoOn self.new }
         ensures ni { self.new.ni ≡ self.old.ni }

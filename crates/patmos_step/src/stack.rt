@@ -54,7 +54,9 @@ impl Body {
         requires room { has_room Sres count self.old.stack ≡ true }
         ensures moved { result ≡ length (spilled count self.old.stack) }
         ensures stack { self.new.stack ≡ reserved count self.old.stack }
-        ensures private { slice_index self.new.store.private ≡ with_words (reserved count self.old.stack).ss (spilled count self.old.stack) (slice_index self.old.store.private) }
+        ensures private { slice_index self.new.store.private
+            ≡ with_words (reserved count self.old.stack).ss (spilled count self.old.stack)
+            (slice_index self.old.store.private) }
         ensures same { SameBut self.old self.new }
         ensures rest { IsAtRest self.old → IsAtRest self.new }
         ensures frame { IsFramed self.old self.new }

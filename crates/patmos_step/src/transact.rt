@@ -48,7 +48,8 @@ impl Body {
         requires can { CanMove self.old.regs then.now }
         requires ready { IsReady cycle self.old.ni }
         ensures done { (s : ℕ) (h : History) → Shows self.old h
-            → IsActed self.new result (fed s (specs.transaction_then then.now cycle (core_of self.old h)) values.now).core }
+            → IsActed self.new result (fed s
+            (specs.transaction_then then.now cycle (core_of self.old h)) values.now).core }
         ensures ready { IsReady cycle self.new.ni }
         ensures rest { IsAtRest self.new }
         ensures frame { IsFramed self.old self.new }
@@ -122,8 +123,11 @@ impl Body {
     // the four words of the line of which this is the first cell: those of the board are heard
     fn read_line(&self, cell: Option<Cell>, values: &[u32]) -> [u32; 4]
         requires cell { IfSome cell IsLine }
-        ensures { (s : ℕ) (go_on : List ℕ → Prog Acted) → ((words : List ℕ) (more more' : List ℕ) → (fed s (go_on words) more).core ≡ (fed s (go_on words) more').core)
-            → (fed s (reading_line cell (plain_of self.now) go_on) values.now).core ≡ (fed s (go_on result) values.now).core }
+        ensures { (s : ℕ) (go_on : List ℕ → Prog Acted)
+            → ((words : List ℕ) (more more' : List ℕ)
+            → (fed s (go_on words) more).core ≡ (fed s (go_on words) more').core)
+            → (fed s (reading_line cell (plain_of self.now) go_on) values.now).core
+            ≡ (fed s (go_on result) values.now).core }
     {
         match cell {
             Some(Cell::Private(word)) => [
@@ -140,7 +144,8 @@ impl Body {
     // the line comes into the data cache, and with it a load's value
     fn fill_line(&mut self, rd: Reg, width: Width, address: u32, words: [u32; 4])
         requires awaited { IsAwaited self.old.regs (width_bytes width) address }
-        ensures plain { plain_of self.new ≡ with_value rd width address (slice_index words (place_of address)) (plain_of self.old) }
+        ensures plain { plain_of self.new
+            ≡ with_value rd width address (slice_index words (place_of address)) (plain_of self.old) }
         ensures shows { (h : History) → Shows self.old h → Shows self.new (specs.with_line address words h) }
         ensures ni { self.new.ni ≡ self.old.ni }
         ensures rest { IsAtRest self.old → IsAtRest self.new }
@@ -154,7 +159,8 @@ impl Body {
     fn take_line(&mut self, rd: Reg, width: Width, address: u32, words: [u32; 4], cycle: u64)
         requires awaited { IsAwaited self.old.regs (width_bytes width) address }
         requires ready { IsReady cycle self.old.ni }
-        ensures at { (h : History) → Shows self.old h → IsAt self.new (specs.line_taken rd width address words (specs.counted cycle (core_of self.old h))) }
+        ensures at { (h : History) → Shows self.old h
+            → IsAt self.new (specs.line_taken rd width address words (specs.counted cycle (core_of self.old h))) }
         ensures ni { self.new.ni ≡ self.old.ni }
         ensures rest { IsAtRest self.new }
         ensures frame { IsFramed self.old self.new }
@@ -167,7 +173,8 @@ impl Body {
     fn write_line(&mut self, cached: bool, width: StoreWidth, address: u32, value: u32)
         requires aligned { address % store_bytes width ≡ 0 }
         ensures plain { plain_of self.new ≡ plain_of self.old }
-        ensures shows { (h : History) → Shows self.old h → Shows self.new (specs.with_store cached width address value h) }
+        ensures shows { (h : History) → Shows self.old h
+            → Shows self.new (specs.with_store cached width address value h) }
         ensures ni { self.new.ni ≡ self.old.ni }
         ensures place { self.new.place ≡ self.old.place }
         ensures rest { IsAtRest self.old → IsAtRest self.new }
@@ -200,7 +207,8 @@ fn line_cell(address: u32) -> Option<Cell>
 
 // the values of the next four loads
 fn first_four(values: &[u32]) -> [u32; 4]
-    ensures { result ≡ first values.now ∷ first (others values.now) ∷ first (others (others values.now)) ∷ first (others (others (others values.now))) ∷ [] }
+    ensures { result ≡ first values.now ∷ first (others values.now) ∷ first (others (others values.now))
+        ∷ first (others (others (others values.now))) ∷ [] }
 {
     let second = others(values);
     let third = others(second);

@@ -30,7 +30,7 @@ behind_name true name (Some rest) l e = let k : (name, rest) ≡ l = cc in ap (�
 behind_name true name None l e = cc
 behind_name false name o l e = cc
 
--- what stands behind a label is shorter than the text
+-- what stands after a label is shorter than the text
 pub behind_shorter : (text rest : List ℕ) → sign_at 58 (word_at text).1 ≡ Some rest → length rest < length text
 behind_shorter text rest e = omega (arith, word_rest-shorter text, sign_shorter 58 (word_at text).1 rest e)
 

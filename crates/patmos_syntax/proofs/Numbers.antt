@@ -9,7 +9,7 @@ use Rattle.patmos_syntax.specs.Readers.{◌>>=◌, base_of, digit_of, value_behi
 use Rattle.patmos_syntax.specs.declared.faults.AsmKind.TheVariants.{Range}
 use Rattle.patmos_syntax.specs.Forms.{below}
 
--- one more digit behind a number cut at the limit is one more behind the number, cut
+-- one more digit after a number cut at the limit is one more after the number, cut
 min-step : (radix : Radix) (limit a d : ℕ) → min limit (min limit a * base_of radix + d) ≡ min limit (a * base_of radix + d)
 min-step Decimal limit a d = omega arith
 min-step Hexadecimal limit a d = omega arith
@@ -23,7 +23,7 @@ after_digit radix limit a bs (Some d) same =
     ∙ ap (λ n. option_map (min limit) (value_behind radix n bs)) (min-step radix limit a d)
     ∙ same (a * base_of radix + d)
 
--- digits behind a number cut at the limit write the same, cut, as behind the number
+-- digits after a number cut at the limit write the same, cut, as after the number
 pub value_behind-min : (radix : Radix) (limit a : ℕ) (bs : List ℕ)
     → option_map (min limit) (value_behind radix (min limit a) bs) ≡ option_map (min limit) (value_behind radix a bs)
 value_behind-min radix limit a [] = ap Some (omega arith)

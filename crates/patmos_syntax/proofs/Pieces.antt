@@ -11,7 +11,7 @@ put_before-put_before : (f g : List ℕ) (ps : List Piece) → put_before f (put
 put_before-put_before f g [] = refl
 put_before-put_before f g (p ∷ ps) = ap (λ t. (p.0, t) ∷ ps) (sym (append_assoc f g p.1))
 
--- a line goes on behind each byte that ends no statement
+-- a line goes on after each byte that ends no statement
 either_false : (line : ℕ) (newline other : Bool) → newline || other ≡ false → cond newline (line + 1) line ≡ line
 either_false line true other ends = cc
 either_false line false other ends = refl

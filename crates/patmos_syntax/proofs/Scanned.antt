@@ -5,7 +5,7 @@ use Rattle.patmos_syntax.specs.declared.statements.Where.TheVariants.{Plain, Bra
 use Rattle.patmos_syntax.specs.Statements.{Piece, in_comment, in_braces, line_after, put_before, before_next, pieces_of, not_blank, statements_of}
 use Rattle.patmos_syntax.specs.Where.{is_end, after_byte, is_comment}
 
--- where a byte stands behind these on its line
+-- where a byte stands after these on its line
 abbrev pub where_of : List ℕ → Where
 where_of before = cond (in_comment before) Comment (cond (in_braces before) Braces Plain)
 
@@ -61,7 +61,7 @@ comment_where b false false = by (b == 35) (b == 123)
 other_byte : (b c d : ℕ) → (c == d) ≡ false → (b == c) ≡ true → (b == d) ≡ false
 other_byte b c d differ e = subst (λ x. (x == d) ≡ false) (sym (eqb-true b c e)) differ
 
--- where the byte behind one that is no newline stands
+-- where the byte after one that is no newline stands
 byte_where : (b : ℕ) (comment braces : Bool) → (b == 10) ≡ false
     → cond (b == 35 || comment) Comment (cond (cond (b == 123) true (cond (b == 125) false braces)) Braces Plain)
     ≡ place_after (cond comment Comment (cond braces Braces Plain)) b

@@ -1,4 +1,4 @@
--- What may stand beside a jump.
+-- For proofs. What may stand beside a jump.
 use Rattle.std.specs.Prelude.{Bool, true, Option, Some, None}
 use Rattle.patmos_instr.specs.Instructions.{is_second_kind}
 use Rattle.patmos_instr.specs.declared.instructions.Instr.{Instr}

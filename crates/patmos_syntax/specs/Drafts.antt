@@ -1,4 +1,5 @@
--- Instructions and bundles as they are written, with names where the places of their targets will stand.
+-- To be believed. Instructions and bundles as they are written, with names where
+-- the places of their targets will stand.
 use Rattle.std.specs.Prelude.{ℕ, ◌==◌, Bool, false, ◌&&◌, ◌||◌, if◌then◌else◌, List, [], ◌∷◌, map, Option, Some, None, is_some, Result, Ok, Err}
 use Rattle.std.specs.Option.{ok_or}
 use Rattle.patmos_instr.specs.Instructions.{is_long, is_second_kind}
@@ -26,11 +27,11 @@ pub record DraftBundle : Type 0 where
   pub first : DraftInstr
   pub second : Option Instr
 
--- a name, behind which nothing is left
+-- a name, after which nothing is left
 abbrev pub name_in : List ℕ → Option (List ℕ)
 name_in text = if is_name (word_at text).0 && at_end (word_at text).1 then Some (word_at text).0 else None
 
--- what stands behind a mnemonic
+-- what stands after a mnemonic
 abbrev pub jump_in : Flow → List ℕ → Result Draft AsmKind
 jump_in flow text = ok_or (name_in text) Operand >>= λ name. Ok (to flow name)
 
@@ -79,7 +80,7 @@ pair_of first second = second_of second >>= λ i.
     if is_long_draft first.draft then Err Slot
     else if is_second_kind i.op then Ok (record { first = first; second = Some i }) else Err Slot
 
--- what stands before the first such byte, and what stands behind it, where there is one
+-- what stands before the first such byte, and what stands after it, where there is one
 abbrev pub cut_at : ℕ → List ℕ → List ℕ × Option (List ℕ)
 cut_at sign [] = ([], None)
 cut_at sign (b ∷ bs) = if b == sign then ([], Some bs) else (b ∷ (cut_at sign bs).0, (cut_at sign bs).1)
@@ -112,12 +113,12 @@ abbrev pub halves_of : List (List ℕ) → Option (List ℕ × List ℕ) → Res
 halves_of parts (Some two) = both_of (instr_of two.0) (instr_of two.1)
 halves_of parts None = Err (least_of Operand (map instr_of parts))
 
--- nothing stands behind the closing brace
+-- nothing stands after the closing brace
 abbrev pub is_closed : Option (List ℕ) → Bool
 is_closed None = false
 is_closed (Some rest) = at_end rest
 
--- what stands behind an opening brace: two instructions with a semicolon between them, and the closing
+-- what stands after an opening brace: two instructions with a semicolon between them, and the closing
 -- brace at the end
 unfoldable pub braces_of : List ℕ → Result DraftBundle AsmKind
 braces_of text =

@@ -1,4 +1,4 @@
--- The faults of a statement, and which of several is reported.
+-- To be believed. The faults of a statement, and which of several is reported.
 use Rattle.std.specs.Prelude.{ℕ, nat_lt, if◌then◌else◌, Result, Ok, Err}
 use Rattle.patmos_syntax.specs.declared.faults.AsmKind.{AsmKind}
 use Rattle.patmos_syntax.specs.declared.faults.AsmKind.TheVariants.{Mnemonic, Operand, Range, Slot, NoLabel, LabelTwice, TooLarge, NoFunction}

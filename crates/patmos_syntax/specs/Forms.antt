@@ -1,4 +1,4 @@
--- The forms of an instruction: its mnemonics, its operands, and the operation that they are.
+-- To be believed. The forms of an instruction: its mnemonics, its operands, and the operation that they are.
 use Rattle.std.specs.Prelude.{ℕ, ◌^◌, ◌==◌, nat_lt, false, true, if◌then◌else◌, List, [], ◌∷◌, ◌++◌, map, bytes_eq, codes, slice_get, Option, Some, None, Result, Ok, Err}
 use Rattle.std.specs.Option.{ok_or, option_map, option_and_then}
 use Rattle.patmos_syntax.specs.Readers.{sign_at}
@@ -132,7 +132,8 @@ abbrev pub forms : List Form
 forms =
     map AluReg alu_funcs ++ map AluImm imm_funcs ++ map AluLong alu_funcs ++ Mul false ∷ Mul true ∷ []
     ++ map Cmp cmp_funcs ++ map CmpImm cmp_funcs ++ map Comb pred_funcs ++ ToSpecial ∷ FromSpecial ∷ []
-    ++ map Stack stack_funcs ++ flat_map (λ w. map (Load w) mems) widths ++ flat_map (λ w. map (Store w) mems) store_widths
+    ++ map Stack stack_funcs ++ flat_map (λ w. map (Load w) mems) widths
+    ++ flat_map (λ w. map (Store w) mems) store_widths
     ++ Return ∷ Nop ∷ []
 
 -- the jump of a mnemonic, and the form
@@ -233,11 +234,12 @@ abbrev pub op_in : Form → List ℕ → Result Op AsmKind
 op_in form text = ok_or (read (operands form) text) Operand >>= op_of form
 
 -- a guard in front of an instruction: the numbers of its negation and its predicate, both 0 where none is
--- written, and what stands behind it
+-- written, and what stands after it
 abbrev pub guard_at : List ℕ → Option (ℕ × ℕ × List ℕ)
 guard_at text = behind text (sign_at 40 text)
   where
     behind : List ℕ → Option (List ℕ) → Option (ℕ × ℕ × List ℕ)
     behind text None = Some (0, 0, text)
     behind text (Some rest) =
-        option_and_then (λ p. option_map (λ r. ((negation_at rest).0, p.0, r)) (sign_at 41 p.1)) (numbered_at 112 (negation_at rest).1)
+        option_and_then (λ p. option_map (λ r. ((negation_at rest).0, p.0, r)) (sign_at 41 p.1))
+        (numbered_at 112 (negation_at rest).1)

@@ -1,4 +1,4 @@
--- What a function gives that may run out of memory, which is its one free answer.
+-- For proofs. What a function gives that may run out of memory, which is its one free answer.
 use Rattle.std.specs.Prelude.{◌≡◌, Result, Ok, Err}
 use Rattle.patmos_syntax.specs.declared.faults.AsmKind.{AsmKind}
 use Rattle.patmos_syntax.specs.declared.faults.Refused.{Refused}

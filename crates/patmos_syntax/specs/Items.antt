@@ -1,5 +1,5 @@
--- A text as the list of its statements: functions that begin, labels, bundles, and those that are faulty
--- by themselves.
+-- To be believed. A text as the list of its statements: functions that begin, labels,
+-- bundles, and those that are faulty by themselves.
 use Rattle.std.specs.Prelude.{ℕ, zero, suc, if◌then◌else◌, List, [], ◌∷◌, ◌++◌, length, bytes_eq, codes, Option, Some, None, Result, Ok, Err}
 use Rattle.std.specs.Option.{option_map}
 use Rattle.patmos_syntax.specs.declared.faults.AsmKind.{AsmKind}
@@ -22,10 +22,11 @@ line_of (label line _) = line
 line_of (bundle line _) = line
 line_of (faulty line _) = line
 
--- a label at the front, and what stands behind its colon
+-- a label at the front, and what stands after its colon
 abbrev pub label_at : List ℕ → Option (List ℕ × List ℕ)
 label_at text =
-    if is_name (word_at text).0 then option_map (λ rest. ((word_at text).0, rest)) (sign_at 58 (word_at text).1) else None
+    if is_name (word_at text).0 then option_map (λ rest. ((word_at text).0, rest)) (sign_at 58 (word_at text).1)
+    else None
 
 abbrev pub function_item : ℕ → Option (List ℕ) → Item
 function_item line (Some name) = function line name

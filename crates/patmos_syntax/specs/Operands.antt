@@ -1,4 +1,4 @@
--- The operands of an instruction: pieces that stand one behind another, with blanks between them as one
+-- To be believed. The operands of an instruction: pieces that stand one after another, with blanks between them as one
 -- likes.
 use Rattle.std.specs.Prelude.{ℕ, if◌then◌else◌, List, [], ◌∷◌, ◌++◌, take, bytes_eq, position, codes, Option, Some, None, option_map}
 use Rattle.patmos_syntax.specs.Readers.{◌>>=◌, written_number, numbered, word_at, sign_at, at_end}
@@ -25,7 +25,7 @@ pub data Token : Type 0 where
 abbrev pub special_names : List (List ℕ)
 special_names = codes "s0" ∷ codes "sl" ∷ codes "sh" ∷ codes "srb" ∷ codes "sro" ∷ codes "st" ∷ codes "ss" ∷ []
 
--- a number and what stands behind it: of a number, of a letter and a number, of one of these names
+-- a number and what stands after it: of a number, of a letter and a number, of one of these names
 abbrev pub number_at : List ℕ → Option (ℕ × List ℕ)
 number_at text = option_map (λ n. (n, (word_at text).1)) (written_number (word_at text).0)
 
@@ -51,7 +51,7 @@ offset_at text = behind text (sign_at 43 text)
     behind text (Some rest) = number_at rest
     behind text None = Some (0, text)
 
--- the number of a piece, and what stands behind it
+-- the number of a piece, and what stands after it
 abbrev pub value_at : Token → List ℕ → Option (ℕ × List ℕ)
 value_at register text = numbered_at 114 text
 value_at predicate text = numbered_at 112 text
@@ -62,12 +62,12 @@ value_at special text = named_at special_names text
 value_at writable text = named_at (take 5 special_names) text
 value_at (sign s) text = option_map (λ rest. (s, rest)) (sign_at s text)
 
--- the numbers of these pieces, behind those before them, and what stands behind the last piece
+-- the numbers of these pieces, after those before them, and what stands after the last piece
 abbrev pub read_behind : List ℕ → List Token → List ℕ → Option (List ℕ × List ℕ)
 read_behind before [] text = Some (before, text)
 read_behind before (sign s ∷ ts) text = sign_at s text >>= λ rest. read_behind before ts rest
 read_behind before (t ∷ ts) text = value_at t text >>= λ v. read_behind (before ++ v.0 ∷ []) ts v.1
 
--- the numbers of these pieces, behind which nothing is left
+-- the numbers of these pieces, after which nothing is left
 abbrev pub read : List Token → List ℕ → Option (List ℕ)
 read ts text = read_behind [] ts text >>= λ r. if at_end r.1 then Some r.0 else None

@@ -1,4 +1,4 @@
--- The pieces of a statement of assembly text. Bytes are ASCII codes. Source: our own assembly text,
+-- To be believed. The pieces of a statement of assembly text. Bytes are ASCII codes. Source: our own assembly text,
 -- which docs/ASSEMBLY.md states.
 use Rattle.std.specs.Prelude.{ℕ, ◌+◌, ◌-◌, ◌*◌, Bool, false, ◌&&◌, ◌||◌, ◌==◌, nat_le, if◌then◌else◌, List, [], ◌∷◌, length, take, drop, Option, Some, None}
 use Rattle.std.specs.List.{list_all}
@@ -58,7 +58,7 @@ abbrev pub base_of : Radix → ℕ
 base_of Decimal = 10
 base_of Hexadecimal = 16
 
--- the number that these digits write behind digits whose number is `before`
+-- the number that these digits write after digits whose number is `before`
 abbrev pub value_behind : Radix → ℕ → List ℕ → Option ℕ
 value_behind radix before [] = Some before
 value_behind radix before (b ∷ bs) = digit_of radix b >>= λ d. value_behind radix (before * base_of radix + d) bs
@@ -69,19 +69,20 @@ value_of radix (b ∷ bs) = value_behind radix 0 (b ∷ bs)
 
 -- the number that the word writes: decimal digits, or `0x` and hexadecimal ones
 abbrev pub written_number : List ℕ → Option ℕ
-written_number (b ∷ c ∷ digits) = if b == 48 && c == 120 then value_of Hexadecimal digits else value_of Decimal (b ∷ c ∷ digits)
+written_number (b ∷ c ∷ digits) =
+    if b == 48 && c == 120 then value_of Hexadecimal digits else value_of Decimal (b ∷ c ∷ digits)
 written_number digits = value_of Decimal digits
 
--- the number behind the letter of a register (r) or a predicate (p), which is written as numbers are
+-- the number after the letter of a register (r) or a predicate (p), which is written as numbers are
 abbrev pub numbered : ℕ → List ℕ → Option ℕ
 numbered letter [] = None
 numbered letter (b ∷ digits) = if b == letter then written_number digits else None
 
--- the word at the front and what stands behind it
+-- the word at the front and what stands after it
 abbrev pub word_at : List ℕ → List ℕ × List ℕ
 word_at text = let t = without_blanks text in (take (word_len t) t, drop (word_len t) t)
 
--- what stands behind this sign at the front, with no blank before it, and with some
+-- what stands after this sign at the front, with no blank before it, and with some
 abbrev pub sign_in_front : ℕ → List ℕ → Option (List ℕ)
 sign_in_front sign [] = None
 sign_in_front sign (b ∷ bs) = if b == sign then Some bs else None

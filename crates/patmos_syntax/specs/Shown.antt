@@ -1,4 +1,4 @@
--- What a contract sees of statements as they are read: names as their bytes.
+-- To be believed. What a contract sees of statements as they are read: names as their bytes.
 use Rattle.std.specs.Prelude.{List, map}
 use Rattle.patmos_instr.specs.Bundles.{Slots}
 use Rattle.patmos_syntax.specs.declared.draft_types.Draft as code

@@ -1,4 +1,4 @@
--- A text as a list of statements. A newline ends each, and so does a `;` outside braces; a `#` begins a
+-- To be believed. A text as a list of statements. A newline ends each, and so does a `;` outside braces; a `#` begins a
 -- comment, which goes to the end of its line. What holds nothing but blanks is no statement. The bytes
 -- that stand before a byte on its line are listed from the nearest on.
 use Rattle.std.specs.Prelude.{ℕ, ◌+◌, Bool, true, false, not, ◌&&◌, ◌||◌, ◌==◌, if◌then◌else◌, List, [], ◌∷◌, ◌++◌}
@@ -14,7 +14,7 @@ abbrev pub in_braces : List ℕ → Bool
 in_braces [] = false
 in_braces (b ∷ before) = if b == 123 then true else (if b == 125 then false else in_braces before)
 
--- the byte ends the statement that it stands behind: a newline, or a `;` in no braces and no comment
+-- the byte ends the statement that it stands after: a newline, or a `;` in no braces and no comment
 abbrev pub ends_statement : List ℕ → ℕ → Bool
 ends_statement before b = b == 10 || (b == 59 && not (in_comment before || in_braces before))
 
@@ -40,7 +40,7 @@ abbrev pub with_byte : ℕ → List ℕ → ℕ → List Piece → List Piece
 with_byte line before b rest = if ends_statement before b then (line, []) ∷ rest
     else (if in_comment (b ∷ before) then rest else put_before (b ∷ []) rest)
 
--- the pieces of a text that stands behind these bytes of this line, without comments
+-- the pieces of a text that stands after these bytes of this line, without comments
 abbrev pub pieces_of : ℕ → List ℕ → List ℕ → List Piece
 pieces_of line before [] = (line, []) ∷ []
 pieces_of line before (b ∷ bs) = with_byte line before b (pieces_of (line_after line b) (before_next b before) bs)

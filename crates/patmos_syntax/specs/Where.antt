@@ -1,5 +1,5 @@
--- What the reader of statements keeps of the bytes before the one that it looks at: whether that stands in a
--- comment, in braces, or in neither.
+-- For proofs. What the reader of statements keeps of the bytes before the one that it looks at: whether
+-- that stands in a comment, in braces, or in neither.
 use Rattle.std.specs.Prelude.{ℕ, Bool, true, false, ◌||◌, ◌==◌, if◌then◌else◌}
 use Rattle.patmos_syntax.specs.declared.statements.Where.{Where}
 use Rattle.patmos_syntax.specs.declared.statements.Where.TheVariants.{Plain, Braces, Comment}

@@ -15,7 +15,7 @@ use patmos_instr::{Bundle, Instr};
 use std::alloc::{AllocError, Global};
 use tc_word::OutOfMemory;
 
-// what stands before the first such byte, and what stands behind it, where there is one
+// what stands before the first such byte, and what stands after it, where there is one
 fn cut_at(sign: u8, text: &[u8]) -> (&[u8], Option<&[u8]>)
     ensures cut { (result.0.now, option_map (λ rest. rest.now) result.1) ≡ specs.cut_at sign text.now }
     ensures shorter { IfSome result.1 (λ rest. length rest.now < length text.now) }
@@ -30,7 +30,7 @@ fn cut_at(sign: u8, text: &[u8]) -> (&[u8], Option<&[u8]>)
     (text, None)
 }
 
-/// A name, behind which nothing is left.
+/// A name, after which nothing is left.
 pub fn name_in(text: &[u8]) -> Option<&[u8]>
     ensures value { option_map (λ name. name.now) result ≡ specs.name_in text.now }
     ensures name { IfSome result (λ name. IsTrue (is_name name.now)) }
@@ -43,7 +43,7 @@ pub fn name_in(text: &[u8]) -> Option<&[u8]>
     }
 }
 
-// what stands behind a mnemonic
+// what stands after a mnemonic
 #[tactic(auto, unfolding(crate::specs::Drafts::draft_in))]
 fn draft_in(alloc: Global, word: &[u8], text: &[u8]) -> Result<Draft, Refused>
     ensures { Gives shown_draft result (specs.draft_in word.now text.now) }
@@ -167,7 +167,7 @@ fn two_parts(text: &[u8]) -> Option<(&[u8], &[u8])>
     }
 }
 
-// what stands behind an opening brace: two instructions, and the closing brace
+// what stands after an opening brace: two instructions, and the closing brace
 #[tactic(auto, unfolding(crate::specs::Drafts::braces_of))]
 fn braces_of(alloc: Global, text: &[u8]) -> Result<DraftBundle, Refused>
     ensures { Gives shown_bundle result (specs.braces_of text.now) }
@@ -186,7 +186,7 @@ fn braces_of(alloc: Global, text: &[u8]) -> Result<DraftBundle, Refused>
     }
 }
 
-// whether nothing stands behind the closing brace
+// whether nothing stands after the closing brace
 fn is_closed(behind: Option<&[u8]>) -> bool
     ensures { result ≡ specs.is_closed (option_map (λ rest. rest.now) behind.entry) }
 {

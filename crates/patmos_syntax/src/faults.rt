@@ -10,7 +10,7 @@ use tc_word::OutOfMemory;
 pub enum AsmKind {
     /// It begins with nothing that begins a statement, or no mnemonic stands where one should.
     Mnemonic,
-    /// What stands behind the mnemonic has not its form.
+    /// What stands after the mnemonic has not its form.
     Operand,
     /// A number, a register or a predicate passes its field.
     Range,

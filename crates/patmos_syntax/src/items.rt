@@ -40,7 +40,7 @@ impl Item {
     }
 }
 
-// a label at the front, and what stands behind its colon
+// a label at the front, and what stands after its colon
 #[tactic(auto, using(crate::proofs::Labels::behind_shorter))]
 fn label_at(text: &[u8]) -> Option<(&[u8], &[u8])>
     ensures value { option_map (λ x. (x.0.now, x.1.now)) result ≡ specs.label_at text.now }

@@ -87,7 +87,7 @@ pub fn written_number(word: &[u8]) -> Option<Numeral<'_>>
     }
 }
 
-/// The number behind the letter of a register (`r`) or of a predicate (`p`).
+/// The number after the letter of a register (`r`) or of a predicate (`p`).
 pub fn numbered(letter: u8, word: &[u8]) -> Option<Numeral<'_>>
     ensures { result ≡ specs.numbered letter word.now }
 {

@@ -6,7 +6,7 @@ ghost use Rattle.patmos_syntax.specs.Forms as specs;
 use crate::numerals::{Numeral, numbered, written_number};
 use crate::readers::{at_end, sign_at, word_at};
 
-// a number and what stands behind it
+// a number and what stands after it
 fn number_at(text: &[u8]) -> Option<(Numeral<'_>, &[u8])>
     ensures { option_map (λ x. (x.0, x.1.now)) result ≡ number_at text.now }
 {
@@ -14,7 +14,7 @@ fn number_at(text: &[u8]) -> Option<(Numeral<'_>, &[u8])>
     Some((written_number(word)?, rest))
 }
 
-// the number behind a letter, and what stands behind it
+// the number after a letter, and what stands after it
 fn numbered_at(letter: u8, text: &[u8]) -> Option<(Numeral<'_>, &[u8])>
     ensures { option_map (λ x. (x.0, x.1.now)) result ≡ numbered_at letter text.now }
 {
@@ -34,7 +34,7 @@ fn predicate_at(text: &[u8]) -> Option<(Numeral<'_>, &[u8])>
     numbered_at(b'p', text)
 }
 
-// whether a `!` stands there, and what stands behind it
+// whether a `!` stands there, and what stands after it
 fn negation_at(text: &[u8]) -> (bool, &[u8])
     ensures { ((if result.0 then 1 else 0), result.1.now) ≡ negation_at text.now }
 {
@@ -54,7 +54,7 @@ fn offset_at(text: &[u8]) -> Option<(Numeral<'_>, &[u8])>
     }
 }
 
-/// A guard in front of an instruction: whether it is negated, its predicate, and what stands behind it.
+/// A guard in front of an instruction: whether it is negated, its predicate, and what stands after it.
 /// It is `p0` where none is written, and None where it has not its form.
 pub fn guard_at(text: &[u8]) -> Option<(bool, Numeral<'_>, &[u8])>
     ensures { option_map (λ x. ((if x.0 then 1 else 0), x.1, x.2.now)) result ≡ specs.guard_at text.now }

@@ -46,7 +46,7 @@ fn is_in_word(byte: u8) -> bool
     is_in_name(byte) || byte == b'.'
 }
 
-/// The word at the front, behind blanks, and what stands behind it.
+/// The word at the front, after blanks, and what stands after it.
 pub fn word_at(text: &[u8]) -> (&[u8], &[u8])
     ensures { (result.0.now, result.1.now) ≡ specs.word_at text.now }
 {
@@ -77,7 +77,7 @@ fn all_in_name(bytes: &[u8]) -> bool
     bytes.iter().all(|byte| is_in_name(*byte))
 }
 
-/// What stands behind the sign, where it is at the front, behind blanks.
+/// What stands after the sign, where it is at the front, after blanks.
 pub fn sign_at(text: &[u8], sign: u8) -> Option<&[u8]>
     ensures { option_map (λ rest. rest.now) result ≡ specs.sign_at sign text.now }
 {

@@ -9,9 +9,9 @@ use crate::readers::without_blanks;
 pub enum Where {
     /// In neither of these.
     Plain,
-    /// Behind an opening brace that is not closed.
+    /// After an opening brace that is not closed.
     Braces,
-    /// Behind a `#` on its line.
+    /// After a `#` on its line.
     Comment,
 }
 
@@ -65,7 +65,7 @@ fn line_after(line: u64, byte: u8) -> u64
     if byte == b'\n' { line + 1 } else { line }
 }
 
-/// The first piece of a text, without its comment, and what stands behind the byte that ends it.
+/// The first piece of a text, without its comment, and what stands after the byte that ends it.
 #[tactic(auto, using(crate::proofs::Pieces::piece_ends, crate::proofs::Pieces::piece_goes_on, crate::proofs::Pieces::comment_goes_on, crate::proofs::Pieces::text_ends))]
 fn first_piece(unread: Unread<'_>) -> (&[u8], Unread<'_>)
     requires { unread.line + length unread.text.now < 2 ^ 64 }
@@ -94,7 +94,7 @@ fn first_piece(unread: Unread<'_>) -> (&[u8], Unread<'_>)
     (piece, Unread { line, text: &[] })
 }
 
-/// The first statement of a text, and what stands behind it; none where only blanks and comments are left.
+/// The first statement of a text, and what stands after it; none where only blanks and comments are left.
 ///
 /// The text ends before line 2^64.
 pub fn next_statement(unread: Unread<'_>) -> Option<(Statement<'_>, Unread<'_>)>
@@ -104,7 +104,8 @@ pub fn next_statement(unread: Unread<'_>) -> Option<(Statement<'_>, Unread<'_>)>
         ≡ (x.0.line, x.0.text.now) ∷ specs.statements_of x.1.line x.1.text.now) }
     ensures shorter { IfSome result (λ x. length x.1.text.now < length unread.entry.text.now) }
     ensures within { IfSome result (λ x. x.0.line < unread.entry.line + length unread.entry.text.now) }
-    ensures lines { IfSome result (λ x. x.1.line + length x.1.text.now ≤ unread.entry.line + length unread.entry.text.now) }
+    ensures lines { IfSome result (λ x. x.1.line + length x.1.text.now
+        ≤ unread.entry.line + length unread.entry.text.now) }
 {
     let mut unread = unread;
     while !unread.text.is_empty() {

@@ -4,7 +4,8 @@ use Rattle.std.proofs.lemmas.Bool.{leb-true, ne_eqb}
 use Rattle.slot_arbiter.specs.Order.{IsNext}
 use Rattle.slot_arbiter.specs.Slot.{is_slot_start}
 use Rattle.patmos_model.specs.State.{Plain, is_running}
-use Rattle.core_pace.proofs.OwnActs.{none_right, idle_not_due, sleeps_early, sleeps_unslotted}
+use Rattle.patmos_model.proofs.Waits.{none_right}
+use Rattle.core_pace.proofs.OwnActs.{idle_not_due, sleeps_early, sleeps_unslotted}
 use Rattle.pipe_five.specs.Lone.{Sleeps}
 
 pub stopped : (x : Plain) (u : ℕ) → is_running x ≡ false → Sleeps u x

@@ -1,5 +1,6 @@
 -- A flow that takes effect, and where the core then is.
 use Rattle.std.proofs.Common.{◌≡◌, ℕ, ◌==◌, nat_lt, Bool, true, false, Option, None, Some, refl}
+use Rattle.std.proofs.lemmas.Bool.{and_parts}
 use Rattle.patmos_model.specs.declared.flow.Flow.{Flow}
 use Rattle.patmos_model.specs.declared.flow.Goal.{Goal}
 use Rattle.patmos_model.specs.declared.flow.Goal.TheVariants.{Within, Call, Fill, Return}
@@ -8,7 +9,6 @@ use Rattle.patmos_model.specs.Site.{size_at}
 use Rattle.patmos_model.specs.State.{Core, with_plain, stopped, is_running, is_free}
 use Rattle.patmos_model.specs.Flows.{flowed, taken, gone, is_placed}
 use Rattle.core_pace.specs.Moment.{landed}
-use Rattle.core_pace.proofs.OwnActs.{each}
 use Rattle.pipe_five.specs.Stages.{is_start}
 
 -- a function starts where the core's does
@@ -21,9 +21,9 @@ Goes c d = (Placed c → Placed d) × (d.plain.interface ≡ c.plain.interface)
 
 gone_placed : (goal : Goal) (c : Core) → is_placed goal c.plain ≡ true → Goes c (gone goal c)
 gone_placed (Within offset) c is = (λ h. h, refl)
-gone_placed (Call target) c is = (λ h. (each (is_start c.plain.site.image target) (nat_lt 0 (size_at c.plain.site.image target)) is).0, refl)
-gone_placed (Fill target) c is = (λ h. (each (is_start c.plain.site.image target) (nat_lt 0 (size_at c.plain.site.image target)) is).0, refl)
-gone_placed (Return base offset) c is = (λ h. (each (is_start c.plain.site.image base) (nat_lt offset (size_at c.plain.site.image base)) is).0, refl)
+gone_placed (Call target) c is = (λ h. (and_parts (is_start c.plain.site.image target) (nat_lt 0 (size_at c.plain.site.image target)) is).0, refl)
+gone_placed (Fill target) c is = (λ h. (and_parts (is_start c.plain.site.image target) (nat_lt 0 (size_at c.plain.site.image target)) is).0, refl)
+gone_placed (Return base offset) c is = (λ h. (and_parts (is_start c.plain.site.image base) (nat_lt offset (size_at c.plain.site.image base)) is).0, refl)
 
 pub landed_goes : (u : ℕ) (c : Core) → Goes c (landed u c)
 unfolding flowed

@@ -1,5 +1,4 @@
 pub mod Starts
-pub mod Words
 pub mod Asleep
 pub mod Cycles
 pub mod Answering
@@ -7,10 +6,8 @@ pub mod Kept
 pub mod Landing
 pub mod Told
 pub mod Lists
-pub mod Quiet
 pub mod Carried
 pub mod Skipped
 pub mod Acting
 pub mod Stepping
-pub mod Beginning
 pub mod Only

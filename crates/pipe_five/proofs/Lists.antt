@@ -1,6 +1,7 @@
 -- Bundles of a run, and what is held of them.
 use Rattle.std.proofs.Common.{◌≡◌, ℕ, zero, suc, ◌+◌, ◌-◌, ◌≤◌, List, [], ◌∷◌, ◌++◌, Some, option_map, length, drop, slice_index, replicate, ◌==◌, true, false, if◌then◌else◌, refl, sym, ap, ◌∙◌, subst, append_assoc, arith, length-append}
 use Rattle.std.proofs.Math.Seq.{drop-append_seam}
+use Rattle.tc_word.proofs.Items.{zero_at}
 use Rattle.patmos_sem.specs.Registers.{at_start}
 use Rattle.patmos_model.specs.State.{Core}
 use Rattle.core_pace.specs.Moment.{Done, done_in}
@@ -49,11 +50,6 @@ shifts x d [] = refl
 shifts x d (e ∷ []) = refl
 shifts x d (e ∷ f ∷ []) = refl
 shifts x d (e ∷ f ∷ g ∷ before) = refl
-
-zero_at : (n r : ℕ) → slice_index (replicate n 0) r ≡ 0
-zero_at zero r = refl
-zero_at (suc n) zero = refl
-zero_at (suc n) (suc r) = zero_at n r
 
 begins_with : (r : ℕ) → written_in at_start r ≡ 0
 begins_with r = elim (r == 0) as (λ b. (if b then 0 else slice_index (replicate 32 0) r) ≡ 0) [ true ↦ refl | false ↦ zero_at 32 r ]

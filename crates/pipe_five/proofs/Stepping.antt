@@ -9,7 +9,7 @@ use Rattle.pipe_five.specs.declared.lone.Lone.{Lone}
 use Rattle.pipe_five.specs.declared.pipe.PipeCore.{PipeCore}
 use Rattle.pipe_five.specs.Steps.{core_before, done_below, first_of, latest}
 use Rattle.pipe_five.specs.Stages.{fetch_place, decode_place, point_of, held, stages_of, left_by}
-use Rattle.pipe_five.specs.Latches.{empty, shifted, latched}
+use Rattle.pipe_five.specs.Latches.{shifted, latched}
 use Rattle.pipe_five.specs.Lone.{RunsAs, IsNextBundle}
 use Rattle.pipe_five.specs.Pipe.{StandsFor, IsStep, shown}
 use Rattle.pipe_five.proofs.Lists.{shifts, first_below, no_fewer, memory_held}
@@ -61,9 +61,3 @@ rested x k p q next stands runs none same held_still =
       count = ap length bundles ∙ stands.count;
       latches = held_still ∙ stands.latches ∙ ap (latched x) (sym bundles);
     }
-
--- before the first step
-pub unstepped : (x : Core) (p : PipeCore) → p.lone.cycle ≡ 0 → RunsAs p.lone x → p.latches ≡ empty → StandsFor p x 0
-unstepped x p first runs none =
-    let bundles : done_below x p.lone.cycle ≡ [] = ap (done_below x) first in
-    record { runs = runs; count = ap length bundles; latches = none ∙ ap (latched x) (sym bundles) }

@@ -1,4 +1,4 @@
--- The words of a board that one core alone loads from and stores in.
+-- For proofs. The words of a board that one core alone loads from and stores in.
 use Rattle.std.specs.Prelude.{◌≡◌, ℕ, ◌+◌, ◌<◌, List, Option, None, Some, IfSome}
 use Rattle.shared_order.specs.Words.{put}
 use Rattle.shared_order.specs.Program.{first, others}
@@ -12,7 +12,8 @@ Hears asked words values = elim asked [
   | asks.Nothing ↦ Unit {0}
   | asks.Load word ↦ first values ≡ words word
   | asks.Line word ↦ (first values ≡ words word) × (first (others values) ≡ words (word + 1))
-      × (first (others (others values)) ≡ words (word + 2)) × (first (others (others (others values))) ≡ words (word + 3))
+      × (first (others (others values)) ≡ words (word + 2))
+      × (first (others (others (others values))) ≡ words (word + 3))
   | asks.Store word value ↦ Unit {0}
   | asks.Change word ↦ first values ≡ words word
 ]

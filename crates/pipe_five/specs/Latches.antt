@@ -1,4 +1,4 @@
--- What is held in the stages from execute on, and how it goes on.
+-- To be believed. What is held in the stages from execute on, and how it goes on.
 use Rattle.std.specs.Prelude.{ℕ, List, [], ◌∷◌, Option, None, Some, option_map}
 use Rattle.patmos_sem.specs.Registers.{Registers, at_start}
 use Rattle.patmos_model.specs.State.{Core}

@@ -1,4 +1,4 @@
--- The only core of a platform, cycle by cycle.
+-- To be believed. The only core of a platform, cycle by cycle.
 use Rattle.std.specs.Prelude.{◌≡◌, ◌≢◌, ℕ, ◌+◌, ◌*◌, ◌<◌, ◌≤◌, true, false, ◌∷◌, ◌⊎◌, Option, None, Some, slice_index}
 use Rattle.shared_order.specs.Program.{done}
 use Rattle.argo_ni.specs.Interface.{Standing}
@@ -71,7 +71,8 @@ abbrev pub LeavesStatus : Plan → Plain → Plain → Type 0
 LeavesStatus plan before after = elim plan [
   | Nothing ↦ Unit {0}
   | Waits ↦ Unit {0}
-  | Does fetched ↦ (passes fetched before ≡ true → after.status ≡ Running) × (passes fetched before ≡ false → after.status ≢ Running)
+  | Does fetched ↦ (passes fetched before ≡ true → after.status ≡ Running)
+      × (passes fetched before ≡ false → after.status ≢ Running)
 ]
 
 -- what is told of the bundle after the cycle: it was done if the plan was to do one and the core runs on

@@ -1,4 +1,4 @@
--- The pipeline of a core, and which run it stands for.
+-- To be believed. The pipeline of a core, and which run it stands for.
 use Rattle.std.specs.Prelude.{◌≡◌, ℕ, ◌+◌, ◌<◌, List, [], ◌∷◌, Option, Some, option_map, length}
 use Rattle.patmos_model.specs.State.{Core}
 use Rattle.patmos_step.specs.Shown.{plain_of}

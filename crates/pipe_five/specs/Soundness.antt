@@ -1,4 +1,4 @@
--- What the fields of the only core of a platform keep, apart from what they mean.
+-- For proofs. What the fields of the only core of a platform keep, apart from what they mean.
 use Rattle.std.specs.Prelude.{◌≡◌, ℕ, ◌*◌, ◌≤◌, true}
 use Rattle.slot_arbiter.specs.declared.place.TheConstants.{MOST_CYCLES}
 use Rattle.argo_ni.specs.Turn.{acts}

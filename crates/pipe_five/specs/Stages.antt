@@ -1,6 +1,6 @@
--- The five stages (Patmos Reference Handbook, pipeline): fetch, decode, execute, memory and write-back. While a bundle is
--- executed, the one before it is in memory and the one before that writes its results back; the places that follow it in
--- the code stand in decode and fetch.
+-- To be believed. The five stages (Patmos Reference Handbook, pipeline): fetch, decode, execute, memory and write-back.
+-- While a bundle is executed, the one before it is in memory and the one before that writes its results back; the
+-- places that follow it in the code stand in decode and fetch.
 use Rattle.std.specs.Prelude.{ℕ, zero, suc, ◌+◌, ◌<◌, ◌^◌, Bool, true, false, ◌&&◌, ◌==◌, List, [], ◌∷◌, Option, None, Some, option_map}
 use Rattle.std.specs.List.{list_any}
 use Rattle.patmos_code.specs.Images.{Parts}
@@ -59,7 +59,7 @@ followed image p = standing image (turned p)
 abbrev pub words_at : Parts → Point → ℕ
 words_at image p = bundle_words (word_at image p.base p.offset)
 
--- behind that bundle: one delay slot less is left of a flow
+-- after that bundle: one delay slot less is left of a flow
 abbrev pub behind : Parts → Point → Point
 behind image p = record { base = p.base; offset = p.offset + words_at image p; flow = counted p.flow None }
 
@@ -75,7 +75,7 @@ point_of x = record { base = x.base; offset = x.offset; flow = x.flow }
 abbrev pub word_of : Point → ℕ
 word_of p = p.base + p.offset
 
--- the places in decode and fetch behind a bundle that has left a core so
+-- the places in decode and fetch after a bundle that has left a core so
 abbrev pub decode_place : Parts → Point → Option ℕ
 decode_place image p = option_map word_of (followed image p)
 
@@ -109,7 +109,8 @@ fetch_after x (d ∷ before) = fetch_place (left_by x d).site.image (point_of (l
 
 -- the places in the stages fetch, decode, execute, memory and write-back
 abbrev pub stages_of : Core → List Done → List (Option ℕ)
-stages_of x bundles = fetch_after x bundles ∷ decode_after x bundles ∷ held 0 bundles ∷ held 1 bundles ∷ held 2 bundles ∷ []
+stages_of x bundles =
+    fetch_after x bundles ∷ decode_after x bundles ∷ held 0 bundles ∷ held 1 bundles ∷ held 2 bundles ∷ []
 
 -- ---- the register file
 
@@ -117,8 +118,8 @@ stages_of x bundles = fetch_after x bundles ∷ decode_after x bundles ∷ held 
 abbrev pub written_in : Registers → ℕ → ℕ
 written_in regs r = register_after (came regs.pending ∷ []) r (word_in regs r)
 
--- a register of the file: as the bundle in write-back left it, which is as the bundle in memory found it, with the value
--- that is on its way written; all are 0 before the first write-back
+-- a register of the file: as the bundle in write-back left it, which is as the bundle in memory found it, with the
+-- value that is on its way written; all are 0 before the first write-back
 abbrev pub file_of : Core → List Done → ℕ → ℕ
 file_of x [] r = 0
 file_of x (latest ∷ []) r = 0

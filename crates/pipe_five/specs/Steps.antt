@@ -1,4 +1,5 @@
--- The bundles of a run: which of them the only core of a platform does, in which cycle, and in which order.
+-- To be believed. The bundles of a run: which of them the only core of a platform
+-- does, in which cycle, and in which order.
 use Rattle.std.specs.Prelude.{ℕ, zero, suc, ◌+◌, ◌-◌, List, [], ◌∷◌, ◌++◌, Option, None, Some, length, drop}
 use Rattle.shared_order.specs.Machine.{State, cycled}
 use Rattle.patmos_sem.specs.Registers.{Registers}
@@ -23,8 +24,8 @@ abbrev pub done_below : Core → ℕ → List Done
 done_below x zero = []
 done_below x (suc t) = done_in t (core_before x t) ++ done_below x t
 
--- Bundles have numbers from 0 in the order in which they are done. Of a list from the latest back, those with the numbers
--- below k, and the one with the number k.
+-- Bundles have numbers from 0 in the order in which they are done. Of a list from the latest back, those with
+-- the numbers below k, and the one with the number k.
 abbrev pub first_of : ℕ → List Done → List Done
 first_of k bundles = drop (length bundles - k) bundles
 

@@ -1,4 +1,4 @@
--- Small tasks on the only core of a platform, for worked values.
+-- For worked rows. Small tasks on the only core of a platform, for worked values.
 use Rattle.std.specs.Prelude.{ℕ, ◌+◌, pos, List, [], ◌∷◌, ◌++◌, Option, map}
 use Rattle.slot_arbiter.specs.Table.{in_turn}
 use Rattle.patmos_instr.specs.Bundles.{Slots}
@@ -25,7 +25,7 @@ step_of functions limit k = stages_of (begins functions) (first_of (k + 1) (done
 abbrev pub register_of : List (List Slots) → ℕ → ℕ → ℕ → ℕ
 register_of functions limit k r = file_of (begins functions) (first_of (k + 1) (done_below (begins functions) limit)) r
 
--- a branch over one bundle behind its two delay slots
+-- a branch over one bundle after its two delay slots
 abbrev pub branching : List (List Slots)
 branching = (alone (Branch (pos 4)) ∷ nops 2 ++ addi 1 0 5 ∷ ret (nops 3)) ∷ []
 

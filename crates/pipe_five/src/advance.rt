@@ -25,8 +25,8 @@ impl PipeCore {
     ghost use Rattle.pipe_five.specs.Latches.{shifted};
     ghost use Rattle.pipe_five.specs.Pipe.{StandsFor, IsStep, IfStep, IsStopped, IsThrough, limit_of, steps_after, shown};
 
-    /// The only core of a platform, at its place, with a task and its input, before the first cycle. It takes memory for
-    /// the core's memories, for the words of its board and for a copy of the image.
+    /// The only core of a platform, at its place, with a task and its input, before the first cycle. It takes memory
+    /// for the core's memories, for the words of its board and for a copy of the image.
     pub fn new(
         alloc: Global,
         place: Place,
@@ -45,15 +45,17 @@ impl PipeCore {
         })
     }
 
-    /// Goes on to the next bundle that is done below the limit, and tells its cycle and what then stands in the stages; or,
-    /// where no further one is done, to the limit. The limit is at most [`MOST_CYCLES`] and at least that of the call
-    /// before. It takes no memory.
+    /// Goes on to the next bundle that is done below the limit, and tells its cycle and what then stands in the
+    /// stages; or, where no further one is done, to the limit. The limit is at most [`MOST_CYCLES`] and at
+    /// least that of the call before. It takes no memory.
     pub fn advance(&mut self, limit: u64) -> Beat
         requires most { limit ≤ MOST_CYCLES }
         requires later { limit_of self.old ≤ limit }
         ensures stands { (x : Core) (k : ℕ) → StandsFor self.old x k → StandsFor self.new x (steps_after result k) }
-        ensures step { IfStep result (λ cycle stages. (x : Core) (k : ℕ) → StandsFor self.old x k → IsStep x limit k cycle stages) }
-        ensures stopped { IsStopped result → (x : Core) (k : ℕ) → StandsFor self.old x k → length (done_below x limit) ≡ k }
+        ensures step { IfStep result (λ cycle stages. (x : Core) (k : ℕ) → StandsFor self.old x k
+            → IsStep x limit k cycle stages) }
+        ensures stopped { IsStopped result → (x : Core) (k : ℕ) → StandsFor self.old x k
+            → length (done_below x limit) ≡ k }
         ensures through { IsStopped result → IsThrough self.new }
         ensures limit { limit_of self.new ≡ limit }
     {
@@ -108,8 +110,8 @@ impl PipeCore {
         self.latches.file(r)
     }
 
-    /// How far the task has come at the last limit. The last call of [`PipeCore::advance`] answered [`Beat::Stopped`]. It
-    /// takes no memory.
+    /// How far the task has come at the last limit. The last call of [`PipeCore::advance`]
+    /// answered [`Beat::Stopped`]. It takes no memory.
     pub fn state(&self) -> CoreState
         requires through { IsThrough self.now }
         ensures { (x : Core) (k : ℕ) → StandsFor self.now x k

@@ -36,7 +36,8 @@ pub fn values_of(words: &[u32], ask: &Ask) -> [u32; 4]
 pub fn complete(words: &mut Vec<u32>, ask: &Ask, pending_store: Option<PendingStore>)
     requires within { AskFits (length words.old.items) ask.now }
     requires completes { CompletesWithin (length words.old.items) pending_store }
-    ensures words { (w : ℕ) → slice_index words.new.items w ≡ completed pending_store (stored_by ask.now (slice_index words.old.items)) w }
+    ensures words { (w : ℕ) → slice_index words.new.items w
+        ≡ completed pending_store (stored_by ask.now (slice_index words.old.items)) w }
     ensures sized { length words.new.items ≡ length words.old.items }
 {
     store_asked(words, ask);
@@ -44,7 +45,7 @@ pub fn complete(words: &mut Vec<u32>, ask: &Ask, pending_store: Option<PendingSt
 }
 
 // makes the store that is asked for
-#[tactic(auto, using(crate::proofs::Words::words_put))]
+#[tactic(auto, using(shared_order::proofs::Words::word_put))]
 fn store_asked(words: &mut Vec<u32>, ask: &Ask)
     requires within { AskFits (length words.old.items) ask.now }
     ensures words { (w : ℕ) → slice_index words.new.items w ≡ stored_by ask.now (slice_index words.old.items) w }
@@ -57,7 +58,7 @@ fn store_asked(words: &mut Vec<u32>, ask: &Ask)
 }
 
 // makes a pending store
-#[tactic(auto, using(crate::proofs::Words::words_put))]
+#[tactic(auto, using(shared_order::proofs::Words::word_put))]
 fn store_pending(words: &mut Vec<u32>, pending_store: Option<PendingStore>)
     requires completes { CompletesWithin (length words.old.items) pending_store }
     ensures words { (w : ℕ) → slice_index words.new.items w ≡ completed pending_store (slice_index words.old.items) w }

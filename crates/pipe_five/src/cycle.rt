@@ -47,7 +47,8 @@ impl Lone {
     // a flow that is due takes effect
     fn settle(&mut self)
         ensures lands { (x : Core) → RunsAs self.old x → LandedAs self.new x }
-        ensures settled { is_running (plain_of self.new.body) ≡ true → IsSettled self.new.cycle (plain_of self.new.body) }
+        ensures settled { is_running (plain_of self.new.body) ≡ true
+            → IsSettled self.new.cycle (plain_of self.new.body) }
         ensures cycle { self.new.cycle ≡ self.old.cycle }
     {
         self.body.settle(self.cycle);
@@ -67,10 +68,12 @@ impl Lone {
     fn carry_out(&mut self, plan: &Plan)
         requires plan { plan.now ≡ planned self.old.cycle (plain_of self.old.body) }
         requires within { PlanFits self.old.body.offset self.old.body.size plan.now }
-        requires settled { is_running (plain_of self.old.body) ≡ true → IsSettled self.old.cycle (plain_of self.old.body) }
+        requires settled { is_running (plain_of self.old.body) ≡ true
+            → IsSettled self.old.cycle (plain_of self.old.body) }
         requires early { self.old.cycle < MOST_CYCLES }
         ensures runs { (x : Core) → LandedAs self.old x → RunsAs self.new x }
-        ensures leaves { (x : Core) → LandedAs self.old x → LeavesStatus plan.now (plain_of self.old.body) (plain_of self.new.body) }
+        ensures leaves { (x : Core) → LandedAs self.old x
+            → LeavesStatus plan.now (plain_of self.old.body) (plain_of self.new.body) }
         ensures cycle { self.new.cycle ≡ self.old.cycle + 1 }
     {
         self.still();

@@ -18,7 +18,7 @@ pub struct Ahead {
     pub decode: Option<u32>,
 }
 
-/// What stands in fetch and decode behind a bundle that left the core at a point.
+/// What stands in fetch and decode after a bundle that left the core at a point.
 pub fn look_ahead(image: &Image, point: &Point) -> Ahead
     ensures decode { result.decode ≡ specs.decode_place image.now point.now }
     ensures fetch { result.fetch ≡ specs.fetch_place image.now point.now }
@@ -46,8 +46,8 @@ fn place_of(point: Option<Point>) -> Option<u32>
     }
 }
 
-// where the code goes on from a point: there, or where a flow without a delay slot left goes to; nowhere if the task ends,
-// no function starts there, or the bundle is not wholly inside its function
+// where the code goes on from a point: there, or where a flow without a delay slot left goes to; nowhere if the task
+// ends, no function starts there, or the bundle is not wholly inside its function
 fn followed(image: &Image, point: &Point) -> Option<Point>
     ensures point { result ≡ specs.followed image.now point.now }
     ensures within { IfSome result (IsInCode image.now) }
@@ -147,7 +147,7 @@ fn word_at(image: &Image, point: &Point) -> u32
     image.words().get(at).copied().unwrap_or(0)
 }
 
-// behind the bundle at a point
+// after the bundle at a point
 fn behind(image: &Image, point: &Point) -> Point
     requires { IsInCode image.now point.now }
     ensures { result ≡ specs.behind image.now point.now }

@@ -13,8 +13,8 @@ pub struct Latch {
 
 /// What stands in the stages from execute on, and the register file.
 ///
-/// The results of the bundle in execute are not known before the next one is executed, which finds them forwarded. Those of
-/// the bundle in memory are held in its latch, and come into the file as it goes on to write-back.
+/// The results of the bundle in execute are not known before the next one is executed, which finds them forwarded.
+/// Those of the bundle in memory are held in its latch, and come into the file as it goes on to write-back.
 #[derive(Clone, Copy, Debug, PartialEq, Eq)]
 pub struct Latches {
     pub execute: Option<u32>,

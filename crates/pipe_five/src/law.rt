@@ -9,7 +9,10 @@ ghost use Rattle.pipe_five.specs.Steps.{core_before, words_before};
 /// included. A law: it does nothing.
 #[tactic(auto, using(crate::proofs::Only::only_core, crate::proofs::Only::only_words, crate::proofs::Only::only_outcome))]
 pub fn only_core_is_the_machine()
-    ensures core { (m : Machine) (c : LoadedCore) (t : ℕ) → m.cores ≡ c ∷ [] → (machine m t).cores 0 ≡ core_before (first_core c) t }
-    ensures words { (m : Machine) (c : LoadedCore) (t word : ℕ) → m.cores ≡ c ∷ [] → (machine m t).words word ≡ words_before (first_core c) t word }
-    ensures outcome { (m : Machine) (c : LoadedCore) → m.cores ≡ c ∷ [] → outcome_of m 0 ≡ state_at m.limit (core_before (first_core c) m.limit).plain }
+    ensures core { (m : Machine) (c : LoadedCore) (t : ℕ) → m.cores ≡ c ∷ []
+        → (machine m t).cores 0 ≡ core_before (first_core c) t }
+    ensures words { (m : Machine) (c : LoadedCore) (t word : ℕ) → m.cores ≡ c ∷ []
+        → (machine m t).words word ≡ words_before (first_core c) t word }
+    ensures outcome { (m : Machine) (c : LoadedCore) → m.cores ≡ c ∷ []
+        → outcome_of m 0 ≡ state_at m.limit (core_before (first_core c) m.limit).plain }
 {}

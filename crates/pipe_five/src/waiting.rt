@@ -9,8 +9,8 @@ impl Lone {
     ghost use Rattle.pipe_five.specs.Steps.{done_below};
     ghost use Rattle.pipe_five.specs.Lone.{RunsAs, Sleeps, TellsBundle};
 
-    /// Goes through the next cycle below a limit in which the core may do something, and tells the bundle that was done in
-    /// it; or else goes on to the limit.
+    /// Goes through the next cycle below a limit in which the core may do something, and tells the bundle
+    /// that was done in it; or else goes on to the limit.
     pub fn step(&mut self, limit: u64) -> Option<Executed>
         requires below { self.old.cycle < limit }
         requires most { limit ≤ MOST_CYCLES }

@@ -7,8 +7,8 @@ ghost use Rattle.pipe_five.specs.Steps.{done_below, first_of};
 ghost use Rattle.pipe_five.specs.Stages.{stages_of};
 ghost use Rattle.pipe_five.specs.Worked.{cycles_of, step_of, register_of, branching, loading, cut_short};
 
-/// A task of five bundles in one function: its words, behind the size in word 0, are the places 1 to 5. The fourth step
-/// finds the end behind the return's last delay slot, and r1 is in the file when its bundle is in write-back.
+/// A task of five bundles in one function: its words, after the size in word 0, are the places 1 to 5. The fourth step
+/// finds the end after the return's last delay slot, and r1 is in the file when its bundle is in write-back.
 pub fn worked_steps()
     ensures cycles { cycles_of seven 20 ≡ 16 ∷ 15 ∷ 14 ∷ 13 ∷ 12 ∷ [] }
     ensures first { step_of seven 20 0 ≡ Some 3 ∷ Some 2 ∷ Some 1 ∷ None ∷ None ∷ [] }
@@ -34,8 +34,8 @@ pub fn worked_flows()
     ensures cycles { cycles_of tasks.calling 38 ≡ 37 ∷ 36 ∷ 21 ∷ 20 ∷ 19 ∷ 18 ∷ [] }
 {}
 
-/// A load from main memory takes the slot at 24. The bundle behind it reads r1 before the load's value comes, and the file
-/// has the value when the load is in write-back.
+/// A load from main memory takes the slot at 24. The bundle after it reads r1 before the load's value comes, and
+/// the file has the value when the load is in write-back.
 pub fn worked_load()
     ensures cycles { cycles_of loading 33 ≡ 32 ∷ 31 ∷ 30 ∷ 19 ∷ 18 ∷ [] }
     ensures before { register_of loading 33 2 1 ≡ 5 }
@@ -50,5 +50,6 @@ pub fn worked_ends()
     ensures stopped { cycles_of tasks.no_return 12 ≡ 6 ∷ [] }
     ensures to_nowhere { step_of tasks.no_function 20 4 ≡ None ∷ Some 6 ∷ Some 5 ∷ Some 4 ∷ Some 3 ∷ [] }
     ensures nowhere { step_of tasks.no_function 20 5 ≡ None ∷ None ∷ Some 6 ∷ Some 5 ∷ Some 4 ∷ [] }
-    ensures cut_short { stages_of cut_short (first_of 1 (done_below cut_short 12)) ≡ None ∷ None ∷ Some 1 ∷ None ∷ None ∷ [] }
+    ensures cut_short { stages_of cut_short (first_of 1 (done_below cut_short 12))
+        ≡ None ∷ None ∷ Some 1 ∷ None ∷ None ∷ [] }
 {}

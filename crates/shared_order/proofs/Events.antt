@@ -15,6 +15,10 @@ use Rattle.shared_order.proofs.Determined.{operation}
 use Rattle.shared_order.proofs.Standing.{next_midway, next_part, left_begins, left_part, none_left}
 use Rattle.std.specs.List.{AllByRecursion as Each}
 
+-- a store of an event says nothing to what its loads give
+pub filled_store : (s : ℕ) (a : WordOp) (rest : List WordOp) (more : List ℕ) → a.write ≡ true → filled s (a ∷ rest) more ≡ store s a.word a.value ∷ filled s rest more
+filled_store s a rest more e = rw e refl
+
 -- ---- what an event asks for
 
 pub asks_filled : (s : ℕ) (acts : List WordOp) (values : List ℕ) → map asking (filled s acts values) ≡ asks_of s acts

@@ -25,9 +25,6 @@ module _ (W : ℕ → Type 0) where
   pub agree_trans : (f g h : ℕ → ℕ) → Agree W f g → Agree W g h → Agree W f h
   agree_trans f g h a b word here = a word here ∙ b word here
 
-  pub agree_sym : (f g : ℕ → ℕ) → Agree W f g → Agree W g f
-  agree_sym f g a word here = sym (a word here)
-
   pub on_all : (f : ℕ → ℕ) (os : List Operation) → Sees f os → SeesOn W f os
   on_all f [] h = tt
   on_all f (o ∷ os) h = (λ loaded here. h.0 loaded, on_all (written o f) os h.1)

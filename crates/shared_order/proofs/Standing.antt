@@ -22,7 +22,7 @@ module _ {X : Type 0} (act : ℕ → X → Prog X) (n : ℕ) where
   enters core x made s y own stands = λ more.
       ap (stepped_apart act n core s) (stands more) ∙ stepped_own act n core s (record { core = y; left = more; made = made }) (eq-eqb (s % n) core own)
 
-  -- what one part of an act was told is behind it, and the next part is still to do
+  -- what one part of an act was told is after it, and the next part is still to do
   pub goes_on : {Y : Type 0} (core : ℕ) (x : X) (made : List Operation) (s : ℕ) (prefix : Prog Y) (next : Y → Prog X) → Midway act n core x made s (and_then prefix next) → (values : List ℕ) → Midway act n core x (made ++ (fed s prefix values).ops) s (next (fed s prefix values).core)
   goes_on {Y} core x made s prefix next midway values = λ more.
       let f : Fed Y = fed s prefix values in

@@ -79,7 +79,7 @@ played_sees s (set word value rest) words = (λ e. absurd (true≢false e), play
 
 -- ---- words as a list
 
-word_put : (words : List ℕ) (at value : ℕ) → at < length words → (word : ℕ) → slice_index (slice_set words at value) word ≡ put at value (slice_index words) word
+pub word_put : (words : List ℕ) (at value : ℕ) → at < length words → (word : ℕ) → slice_index (slice_set words at value) word ≡ put at value (slice_index words) word
 word_put words at value below word = elim (cases_eq word at) [
   | inl here ↦ ap (slice_index (slice_set words at value)) here ∙ get_or-set_same words at value 0 below
       ∙ sym (ap (λ b. cond b value (slice_index words word)) (eq-eqb at word (sym here)))

@@ -1,4 +1,4 @@
--- A core run apart from the others: what it would do if its loads gave the values of a list, one
+-- To be believed. A core run apart from the others: what it would do if its loads gave the values of a list, one
 -- after another. Nothing of the other cores is seen but by these values.
 use Rattle.std.specs.Prelude.{ℕ, zero, suc, List, [], ◌++◌}
 use Rattle.slot_arbiter.specs.Stamp.{stamp}

@@ -1,4 +1,4 @@
--- A course: all operations of all cores in their order, and what each core asks for. A board that
+-- To be believed. A course: all operations of all cores in their order, and what each core asks for. A board that
 -- lets the cores act in the order of their stamps needs to know no more of them.
 use Rattle.std.specs.Prelude.{◌≡◌, ℕ, ◌<◌, Option, option_map, slice_get, List, [], ◌∷◌}
 use Rattle.std.specs.List.{AllByRecursion as Each}

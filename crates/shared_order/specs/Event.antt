@@ -1,4 +1,4 @@
--- What an event asks for: what a core does at one stamp, where all of it is known before its loads
+-- To be believed. What an event asks for: what a core does at one stamp, where all of it is known before its loads
 -- give their values.
 use Rattle.std.specs.Prelude.{◌≡◌, ℕ, true, false, List, [], ◌∷◌, map, take}
 use Rattle.slot_arbiter.specs.declared.event.WordOp.{WordOp}

@@ -1,4 +1,4 @@
--- Ranges: a program that names only words of the board and stores only words of 32 bits.
+-- To be believed. Ranges: a program that names only words of the board and stores only words of 32 bits.
 use Rattle.std.specs.Prelude.{ℕ, ◌<◌, ◌≤◌, ◌^◌, List}
 use Rattle.std.specs.List.{AllByRecursion as Each}
 use Rattle.shared_order.specs.declared.operation.Operation.{Operation}

@@ -1,4 +1,4 @@
--- The machine by cycles. In each cycle come first the deliveries of all packets, in the order of
+-- To be believed. The machine by cycles. In each cycle come first the deliveries of all packets, in the order of
 -- the cores that sent them (phase 0), and then each core in order: its injection of a packet and
 -- its own access to the words (phase 1). This is the order of the T-CREST platform (Schoeberl et
 -- al., 2015) that our own profile TP1 fixes.

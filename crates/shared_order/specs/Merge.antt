@@ -1,4 +1,4 @@
--- What makes a list of operations the machine's own: enough to know it without following the
+-- To be believed. What makes a list of operations the machine's own: enough to know it without following the
 -- machine from state to state.
 use Rattle.std.specs.Prelude.{◌≡◌, ℕ, ◌<◌, ◌≤◌, List, []}
 use Rattle.std.specs.List.{AllByRecursion as Each}

@@ -1,4 +1,4 @@
--- Operations of the cores on shared words. In the terms of conservative parallel discrete-event
+-- To be believed. Operations of the cores on shared words. In the terms of conservative parallel discrete-event
 -- simulation they are the events that one logical process has in common with the others; all else
 -- that a core does is its own affair. Every word that more than one core can reach counts as
 -- shared here, the communication memories of the network included.

@@ -1,4 +1,4 @@
--- The order of operations: by stamp, and operations of one stamp in the order in which the core
+-- To be believed. The order of operations: by stamp, and operations of one stamp in the order in which the core
 -- makes them.
 use Rattle.std.specs.Prelude.{◌≡◌, ℕ, ◌≤◌, List, [], ◌∷◌, ◌++◌}
 use Rattle.std.specs.List.{AllByRecursion as Each}

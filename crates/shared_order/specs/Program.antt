@@ -1,4 +1,4 @@
--- What a core does at one stamp, as a program: it loads and stores shared words one after another,
+-- To be believed. What a core does at one stamp, as a program: it loads and stores shared words one after another,
 -- each load's value decides how it goes on, and at the end it leaves the core's new state. The same
 -- program has two uses. Played on the words it is what the core does within the machine; fed from a
 -- list of values it is what the core does apart from the others, when its loads give these values.

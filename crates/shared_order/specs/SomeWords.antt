@@ -1,4 +1,4 @@
--- What operations do to some words.
+-- To be believed. What operations do to some words.
 use Rattle.std.specs.Prelude.{◌≡◌, ℕ, Bool, true, false, List, [], ◌∷◌}
 use Rattle.shared_order.specs.Words.{written}
 use Rattle.shared_order.specs.declared.operation.Operation.{Operation}
@@ -21,4 +21,5 @@ Outside W word = W word → ⊥
 -- each load of such a word has what its word has then, where the words are these at first
 abbrev pub SeesOn : (ℕ → Type 0) → (ℕ → ℕ) → List Operation → Type 0
 SeesOn W words [] = Unit {0}
-SeesOn W words (o ∷ os) = (o.act.write ≡ false → W o.act.word → o.act.value ≡ words o.act.word) × SeesOn W (written o words) os
+SeesOn W words (o ∷ os) =
+    (o.act.write ≡ false → W o.act.word → o.act.value ≡ words o.act.word) × SeesOn W (written o words) os

@@ -1,4 +1,4 @@
--- The machine by stamps: the core that a stamp names takes its turn, in the order of the stamps.
+-- To be believed. The machine by stamps: the core that a stamp names takes its turn, in the order of the stamps.
 -- It is the machine by cycles told one act at a time.
 use Rattle.std.specs.Prelude.{ℕ, zero, suc, true, false, ◌/◌, ◌%◌, ◌==◌, List}
 use Rattle.shared_order.specs.Program.{Prog, played, fed}

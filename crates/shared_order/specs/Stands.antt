@@ -1,4 +1,4 @@
--- Where a core stands: its state before a stamp, and what it made until then. A core that waits for
+-- To be believed. Where a core stands: its state before a stamp, and what it made until then. A core that waits for
 -- the others knows no more of the machine than this.
 use Rattle.std.specs.Prelude.{◌≡◌, ℕ, suc, List, ◌++◌}
 use Rattle.shared_order.specs.declared.operation.Operation.{Operation}

@@ -1,4 +1,4 @@
--- A small machine of two cores, for worked values. Each core follows a list of steps, one a cycle,
+-- For worked rows. A small machine of two cores, for worked values. Each core follows a list of steps, one a cycle,
 -- and sends one packet: the values of two words, which come to two other words three cycles later.
 use Rattle.std.specs.Prelude.{ℕ, zero, suc, true, false, ◌+◌, ◌*◌, ◌/◌, ◌==◌, List, [], ◌∷◌, slice_index_or}
 use Rattle.shared_order.specs.Program.{Prog, done, get, set, and_then, gets, sets}

@@ -1,4 +1,4 @@
--- Shared words and what operations make of them. A memory is a function from the numbers of its
+-- To be believed. Shared words and what operations make of them. A memory is a function from the numbers of its
 -- words to their values.
 use Rattle.std.specs.Prelude.{◌≡◌, ◌≢◌, ℕ, true, false, ◌&&◌, cond, List, [], ◌∷◌, ◌++◌, ◌==◌}
 use Rattle.shared_order.specs.declared.operation.Operation.{Operation}

@@ -13,7 +13,7 @@ ghost use Rattle.shared_order.specs.Stands.{Stands, Midway};
 
 /// How a core that is stepped by itself goes from stamp to stamp: it stands at the beginning; at
 /// its own stamp it enters its act; each part of the act that was told what its loads gave is
-/// behind it; and when nothing of the act is left, it stands at the next stamp. A law: it does
+/// after it; and when nothing of the act is left, it stands at the next stamp. A law: it does
 /// nothing.
 pub fn core_goes_on<X, Y>()
     ensures begins { (act : ℕ → X → Prog X) (n core : ℕ) (x : X) → Stands act n core x [] 0 x }

@@ -12,9 +12,9 @@ pub trait Ranged {
     ghost in_range: { Self → Type 0 };
 }
 
-/// Where each turn of a core in range names words of the board alone, stores words of 32 bits and
-/// leaves a core in range, so does the whole machine, and so does a core apart on values that are words, as those are that
-/// its loads gave in the machine. A law: it does nothing.
+/// Where each turn of a core in range names words of the board alone, stores words of 32 bits and leaves a core
+/// in range, so does the whole machine, and so does a core apart on values that are words, as those are that its
+/// loads gave in the machine. A law: it does nothing.
 pub fn ranges_are_kept<X: Ranged>()
     ensures good { (turn : ℕ → ℕ → X → Prog X) (n words : ℕ) (cores : ℕ → X) (t : ℕ)
         → KeepsRanges turn X.in_range words → ((core : ℕ) → X.in_range (cores core))

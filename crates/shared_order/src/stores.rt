@@ -17,9 +17,9 @@ pub fn words_after_operations()
         → Each (LeavesWord word) os → stored_last word os begun ≡ begun }
 {}
 
-/// What loads see. Where each load has what was stored last in its word, else 0, each sees its word from zeros on; and where
-/// no other core stores in some words, a core's own loads of these see among its own operations what they see among all. A
-/// law: it does nothing.
+/// What loads see. Where each load has what was stored last in its word, else 0, each sees its word from
+/// zeros on; and where no other core stores in some words, a core's own loads of these see among its own
+/// operations what they see among all. A law: it does nothing.
 pub fn own_loads_see_their_words()
     ensures zeros { (os : List Operation) → Reads [] os → Sees zeros os }
     ensures some { (among : ℕ → Bool) (words : ℕ → ℕ) (os : List Operation)

@@ -31,7 +31,7 @@ use Rattle.single_path.proofs.Looping.{loop_acted}
 nest_loop : (n : ℕ) (p : Place) → Order n p → Nest true (in_loop p)
 nest_loop n p o is = omega (arith, o.loop, o.own, o.free)
 
--- what stands behind the last `else`
+-- what stands after the last `else`
 record Otherwise (g : Serves) (n : ℕ) (inside : Bool) (nothing : Bool) (otherwise : Place → PlainStmts) (meant : values.State → Done) : Type 0 where
   acts : (q : Place) (t : State) (m : values.State) → Order n q → Nest inside q → Live q t → Agrees n t m → Went n q t (meant m) (stmts_done g (otherwise q) t)
   idles : (q : Place) (t : State) → Order n q → Dead q t → Still q.free t (stmts_done g (otherwise q) t)
@@ -46,7 +46,7 @@ nothing_done : (gc : resolved.Serves) (all : PlainActions) (m : values.State) �
 nothing_done gc no_action m is = refl
 nothing_done gc (action a rest) m is = absurd (cc)
 
--- behind one action the rest, where it goes on
+-- after one action the rest, where it goes on
 next_went : (g : Serves) → Quiet g → (gc : resolved.Serves) (n : ℕ) (p : Place) (a : PlainAction) (rest : PlainActions) (s t : State) → Order n p
     → ((m : values.State) → Live p t → Agrees n t m → Went n p t (resolved.actions_done gc rest m) (stmts_done g (made p rest) t))
     → (w : Way) (m : values.State) → Acted a n p s (record { way = w; state = m }) t

@@ -47,7 +47,7 @@ still_agrees n k s t l within h a = record { locals = λ x below. h.frame x (ome
 
 -- ---- what is set
 
--- a target has its word in both, and no word behind the variables is another
+-- a target has its word in both, and no word after the variables is another
 pub record Sets (n : ℕ) (s t : State) (l : values.State) : Type 0 where
   pub agrees : Agrees n t l
   pub others : (x : ℕ) → n ≤ x → t.frame x ≡ s.frame x

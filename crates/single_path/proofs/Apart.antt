@@ -40,7 +40,7 @@ declared_once names at text none = by (found text names) (not_so (is_declared te
     by None new = refl
     by (Some m) new = absurd (cc)
 
--- a name that is known is known behind each declaration
+-- a name that is known is known after each declaration
 still_found : (names : List Named) (name text : List ℕ) (m : Meaning) → is_some (found text names) ≡ true
     → is_some (found text (declared names name m)) ≡ true
 still_found names name text m known =
@@ -50,7 +50,7 @@ still_found names name text m known =
     by true = refl
     by false = known
 
--- a name that is not known behind a declaration is another, and was not known before
+-- a name that is not known after a declaration is another, and was not known before
 not_found : (names : List Named) (name text : List ℕ) (m : Meaning) → found text (declared names name m) ≡ None
     → (bytes_eq name text ≡ false) × (found text names ≡ None)
 not_found names name text m new = by (bytes_eq name text) refl
@@ -68,7 +68,7 @@ global_new names at g none =
     (where_so (g.scratch && nat_lt 0 (length g.initial)) name_at fault.WrongType
     ++ where_so (words_of g == 0 || nat_lt (words_of g) (length g.initial)) name_at fault.Data) none)
 
--- no later item has a name that is known: behind the known ones it stands only for what is given
+-- no later item has a name that is known: after the known ones it stands only for what is given
 given_last : (names : List Named) (text : List ℕ) → is_some (found text names) ≡ true → (private scratch cores own at : ℕ) (items : List PlainItem)
     → IsTrue (has_none (items_faults cores own names at items)) → among_slots text (slots_from private scratch items) ≡ among_slots text given_slots
 given_last names text known private scratch cores own at [] none = refl
@@ -111,7 +111,7 @@ same_behind all items private i same word past =
     let end = private + item_words false i in
     same word (omega (arith, past)) ∙ if_past word end (is_array i) (in_array end items word) past
 
--- ---- behind a variable or an array
+-- ---- after a variable or an array
 
 variable_means : (l : Option Length) → (elim l as (λ _. Meaning) [ None ↦ means.Scalar | Some n ↦ means.Array ]) ≡ means.Scalar → l ≡ None
 variable_means None is = refl
@@ -165,7 +165,7 @@ laid_global all names private scratch g items new laid = record {
         subst (Outside (ArrayRead (Kept all))) (sym (own text same)) (array_slot all items private scratch g n.0 laid.same n.1)
     array text is false other = (laid.keeps.arrays text (found_before names g.name text m (Some means.Array) is other)).0
 
--- ---- behind a function, which has no slot
+-- ---- after a function, which has no slot
 
 laid_function : (all : List PlainItem) (names : List Named) (private scratch : ℕ) (f : PlainItem) (items : List PlainItem) (name : List ℕ) (c : ℕ)
     (gives : Bool) → slots_from private scratch (f ∷ items) ≡ slots_from (private + item_words false f) (scratch + item_words true f) items

@@ -33,7 +33,7 @@ arm_went n p s t d u o live below h = record {
   others = λ x behind free r f q w. h.others x behind (omega (arith, free)) r f q (omega (arith, free)) ∙ below x free;
 }
 
--- behind an arm that was taken the mask of what stands behind `else` is 0
+-- after an arm that was taken the mask of what stands after `else` is 0
 not_taken : (w : Way) (own free : ℕ) → (w ≡ way.On → own ≡ 1) → (w ≡ way.On → free ≡ 1) → bit_and (bit_and (loop_of w) 1) (bit_xor own free) ≡ 0
 not_taken way.On own free own_on free_on = ap₂ (λ a f. bit_and 1 (bit_xor a f)) (own_on refl) (free_on refl)
 not_taken way.Broken own free own_on free_on = refl
@@ -46,7 +46,7 @@ idle_armed way.Broken = left
 idle_armed way.Continued = waits
 idle_armed (way.Returned v) = gone
 
--- what stands behind `else`, where the arm was taken
+-- what stands after `else`, where the arm was taken
 otherwise_idle : (g : Serves) (n : ℕ) (p : Place) (nothing : Bool) (rest : PlainStmts) (s : State) (d : Done) (u : State) → Order n p
     → ((t : State) → Dead (in_arm p) t → Still (p.free + 1) t (stmts_done g rest t)) → Went n p s d u → (d.way ≡ way.On → u.frame p.free ≡ 1)
     → Went n p s d (stmts_done g (made_otherwise p nothing rest) u)

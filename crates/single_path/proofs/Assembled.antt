@@ -3,17 +3,18 @@ use Rattle.std.proofs.Common.{◌≡◌, ℕ, zero, suc, ◌+◌, ◌^◌, ◌<�
 use Rattle.std.specs.Prelude.{Result, Ok, Err}
 use Rattle.std.proofs.lemmas.Bool.{cases_lt}
 use Rattle.std.proofs.lemmas.List.{drop_all, map-append}
+use Rattle.tc_word.proofs.Items.{drop_item}
 use Rattle.c_tree.specs.declared.units.Item.{Item}
 use Rattle.c_tree.specs.Plain.{PlainItem, plain_item}
 use Rattle.c_meaning.specs.Actions.{no_action}
 use Rattle.c_meaning.specs.declared.actions.Action.{Action}
 use Rattle.c_meaning.specs.declared.actions.Routine.{Routine}
 use Rattle.c_meaning.specs.Shown.{actions_of, bodies_of}
-use Rattle.c_meaning.proofs.Parts.{drop_item}
 use Rattle.sp_tree.specs.declared.statements.SpFunction.{SpFunction}
 use Rattle.sp_tree.specs.declared.statements.SpUnit.{SpUnit}
 use Rattle.sp_tree.specs.Shown.{plain_function, functions_of, plain_unit}
 use Rattle.sp_tree.specs.Statements.{PlainFunction, PlainUnit}
+use Rattle.c_meaning.proofs.Acted.{body_at}
 use Rattle.single_path.specs.Single.{parameters_in, made_function, made_functions, single}
 
 pub counts_next : (items : List Item) (i : ℕ) (x : Item) → i < length items → x ≡ get_or items i x
@@ -63,13 +64,6 @@ pub so_of_tree : {E : Type 0} (made : Result SpUnit E) (items : List PlainItem) 
     → IfOk made (λ u. plain_unit u ≡ single items) → Holds (single items) → IfOk made (λ u. Holds (plain_unit u))
 so_of_tree (Ok u) items Holds is holds = subst Holds (sym is) holds
 so_of_tree (Err e) items Holds is holds = tt
-
--- the actions of a function, by its number
-pub body_at : (routines : List Routine) (k : ℕ) (r : Routine) → k < length routines → r ≡ get_or routines k r
-    → slice_index_or (bodies_of routines) k no_action ≡ actions_of r.body
-body_at [] k r within is = absurd (omega (arith, within))
-body_at (x ∷ routines) zero r within is = ap (λ (y : Routine). actions_of y.body) (sym is)
-body_at (x ∷ routines) (suc k) r within is = body_at routines k r (omega (arith, within)) is
 
 pub bodies_length : (routines : List Routine) → length (bodies_of routines) ≡ length routines
 bodies_length [] = refl

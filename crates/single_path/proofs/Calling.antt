@@ -25,7 +25,7 @@ pub record Serving (Fit : ℕ → ℕ → Type 0) (gc : resolved.Serves) (g : Se
   pub value : (k : ℕ) (args : List ℕ) (w : World) → Fit k (length args) → (g k 1 args w).value ≡ (gc k args w).value
   pub world : (k : ℕ) (args : List ℕ) (w : World) → Fit k (length args) → (g k 1 args w).world ≡ (gc k args w).world
 
--- behind a call: the world, and the word that was given
+-- after a call: the world, and the word that was given
 record Called (n : ℕ) (mask k : ℕ) (args : List PlainSp) (result : Option ℕ) (g : Serves) (gc : resolved.Serves) (s : State) (l : values.State) : Type 0 where
   done : stmt_done g (tree.calls mask k args result) s
       ≡ with_result result (gc k (resolved.args_worth args l) l.world).value (in_world s (gc k (resolved.args_worth args l) l.world).world)

@@ -2,6 +2,7 @@
 use Rattle.std.proofs.Common.{◌≡◌, ℕ, zero, suc, ◌+◌, max, ◌<◌, ◌≤◌, Bool, true, false, if◌then◌else◌, List, [], ◌∷◌, length, take, drop, get_or, ◌-◌, ◌==◌, Option, refl, ap, ap₂, sym, ◌∙◌, arith, ne_eqb}
 use Rattle.std.specs.Prelude.{option_map, ◌&&◌}
 use Rattle.std.proofs.lemmas.List.{drop_all, take_all}
+use Rattle.tc_word.proofs.Items.{drop_item}
 use Rattle.c_meaning.specs.Actions.{PlainActions, chooses, turns, no_action, action, branch}
 use Rattle.c_meaning.specs.declared.actions.Action.{Action}
 use Rattle.c_meaning.specs.declared.actions.Action.TheViews.{Choose, Loop}
@@ -9,7 +10,6 @@ use Rattle.c_meaning.specs.declared.actions.Assignment.{Assignment}
 use Rattle.c_meaning.specs.declared.actions.Branch.{Branch}
 use Rattle.c_meaning.specs.Shown.{plain_action, plain_assignment, actions_of, branches_of}
 use Rattle.c_meaning.proofs.Acted.{plain_choose, plain_loop}
-use Rattle.c_meaning.proofs.Parts.{drop_item}
 use Rattle.sp_tree.specs.declared.expressions.SpExpr.{SpExpr}
 use Rattle.sp_tree.specs.Plain.{plain_sp}
 use Rattle.sp_tree.specs.Statements.{PlainStmts, no_stmt, masks, one, joined}
@@ -79,7 +79,7 @@ branches_split [] b some is = absurd (omega (arith, some))
 branches_split (x ∷ branches) b some is =
     ap₂ (λ y ys. branch (plain_sp y.condition) (actions_of y.body) (branches_of ys)) (sym is) (sym (take_all (length (x ∷ branches) - 1) branches (omega arith)))
 
--- one arm more, and what stands behind it
+-- one arm more, and what stands after it
 pub arm_added : (p arm : Place) (old first second : PlainStmts) (branches rest : List Branch) (b : Branch) (body : List Action) (nothing : Bool)
     (otherwise : Place → PlainStmts) → 1 ≤ length branches → b ≡ get_or branches 0 b → rest ≡ take (length branches - 1) (drop 1 branches) → body ≡ b.body
     → arm ≡ in_arm p → first ≡ joined old (one (masks p.free (where_so p.own (plain_sp b.condition)))) → second ≡ joined first (made arm (actions_of body))
@@ -99,7 +99,7 @@ arm_added p arm old first second branches rest b body nothing otherwise some is 
     mask : PlainStmts
     mask = one (masks p.free (where_so p.own (plain_sp b.condition)))
 
--- what stands behind an arm
+-- what stands after an arm
 pub nothing_added : (p : Place) (old behind : PlainStmts) (nothing : Bool) → nothing ≡ true → old ≡ joined old (made_otherwise p nothing behind)
 nothing_added p old behind nothing is =
     sym (joined_none old) ∙ ap (λ b. joined old (made_otherwise p b behind)) (sym is)

@@ -143,7 +143,7 @@ right_cost fs names fresh target (plain.call text args) p =
 
 -- ---- one action after another
 
--- what stands behind an action that always goes elsewhere is left out
+-- what stands after an action that always goes elsewhere is left out
 ended_cost : (ended : Bool) (ts : PlainStmts) → stmts_cost (if ended then no_stmt else ts) ≤ stmts_cost ts
 ended_cost true ts = omega arith
 ended_cost false ts = omega arith
@@ -222,7 +222,7 @@ head_cost names (plain.turns_for first from condition to_set to) p =
 
 -- ---- statements
 
--- the mask behind a whole `if`
+-- the mask after a whole `if`
 abbrev repair : PlainBranches → ℕ
 repair no_branch = 0
 repair (branch condition body rest) = 6

@@ -196,7 +196,7 @@ mutual
       (unless_formed fs number slots (ends a) (made p rest)
       (made_formed Fit fs number slots n each rest inside p order (omega (arith, within)) (omega (arith, free)) fits.1 sound.1))
 
-  -- before what stands behind the last `else`, which takes so many masks
+  -- before what stands after the last `else`, which takes so many masks
   branches_formed : (Fit : ℕ → ℕ → Type 0) (fs : List PlainFunction) (number slots n : ℕ)
       → MayCall Fit fs number → (bs : PlainBranches) (nothing : Bool) (otherwise : Place → PlainStmts) (last : ℕ)
       → ((q : Place) → Order n q → q.free + last ≤ slots → stmts_formed fs number slots (otherwise q) ≡ true)

@@ -12,7 +12,7 @@ put_here x y f = ap (λ b. cond b y (f x)) (eq-eqb x x refl)
 pub put_there : (x y u : ℕ) (f : ℕ → ℕ) → x ≢ u → put x y f u ≡ f u
 put_there x y u f other = ap (λ b. cond b y (f u)) (ne_eqb x u other)
 
--- behind the words of so many variables stand the result, the masks from outer to inner ones, and the words that are free
+-- after the words of so many variables stand the result, the masks from outer to inner ones, and the words that are free
 pub record Order (n : ℕ) (p : Place) : Type 0 where
   pub result : n ≤ p.result
   pub function : p.result < p.function
@@ -34,7 +34,7 @@ still_on n s t u h k = record { frame = λ x below. k.frame x below ∙ h.frame 
 pub fewer : (n k : ℕ) (s t : State) → k ≤ n → Still n s t → Still k s t
 fewer n k s t within h = record { frame = λ x below. h.frame x (omega (arith, below, within)); world = h.world }
 
--- a word that is set behind them
+-- a word that is set after them
 pub set_behind : (n slot v : ℕ) (s : State) → n ≤ slot → Still n s (with_slot slot v s)
 set_behind n slot v s behind = record { frame = λ x below. put_there slot v x s.frame (omega (arith, below, behind)); world = refl }
 

@@ -1,5 +1,5 @@
 -- The frame of what is made of a function has at most as many words as the checks count for the function.
-use Rattle.std.proofs.Common.{◌≡◌, ℕ, zero, suc, ◌+◌, ◌-◌, ◌≤◌, ◌==◌, max, Bool, true, false, if◌then◌else◌, List, [], ◌∷◌, length, Option, None, Some, refl, ap, arith, length-append}
+use Rattle.std.proofs.Common.{◌≡◌, ℕ, zero, suc, ◌+◌, ◌-◌, ◌≤◌, ◌==◌, max, Bool, true, false, if◌then◌else◌, List, [], ◌∷◌, length, Option, None, Some, arith, length-append}
 use Rattle.std.specs.Prelude.{◌&&◌}
 use Rattle.std.proofs.lemmas.List.Sums.{sum_by-cons}
 use Rattle.c_tree.specs.declared.layout.Slot.{Slot}
@@ -19,6 +19,7 @@ use Rattle.c_meaning.specs.Actions as actions
 use Rattle.c_meaning.specs.Meaning.{with_variable, names_after, most_turns, parameter_variables}
 use Rattle.c_meaning.specs.Resolve.{resolved, resolved_args, variable_target, element_target, assignment_to, maybe_sets, number_of, numbered_call, resolved_right, resolved_condition, resolved_begin, resolved_next, choice, resolved_stmt, resolved_block, resolved_arms, resolved_otherwise, resolved_body}
 use Rattle.c_meaning.specs.Values.{Names, named}
+use Rattle.c_meaning.proofs.Few.{parameters_open}
 use Rattle.single_path.specs.declared.places.Place.{Place}
 use Rattle.single_path.specs.Places.{in_arm, in_loop, outermost, where_not_taken, where_on, not_zero, returned_function, returned_loop}
 use Rattle.single_path.specs.Made.{is_zero, made_result, made_return, made_step, ends, is_no_action, is_no_branch, made_arm, made_otherwise, made_turn, made_loop, made_action, made, made_branches}
@@ -29,13 +30,13 @@ use Rattle.single_path.proofs.Words.{resolved_words, resolved_args_words, variab
 
 -- ---- what is counted
 
--- For actions that stand where so many variables are open, and for the place that they are made at: their words behind those
+-- For actions that stand where so many variables are open, and for the place that they are made at: their words after those
 -- variables, their masks but one, and their levels of turns are together so many at most. (The one mask may be that of what a
 -- function gives to a place outside of the frame, for which nothing is counted.)
 abbrev Within : ℕ → PlainActions → Place → ℕ → Type 0
 Within n xs p room = words xs - n + (width.masks xs - 1) + stmts_levels (made p xs) ≤ room
 
--- the same, where more variables are open behind the actions than before
+-- the same, where more variables are open after the actions than before
 abbrev Opens : ℕ → ℕ → PlainActions → Place → ℕ → Type 0
 Opens before after xs p room = after + (words xs - after + (width.masks xs - 1) + stmts_levels (made p xs)) ≤ before + room
 
@@ -78,7 +79,7 @@ choice_masks : (branches : PlainBranches) (otherwise : PlainActions)
 choice_masks no_branch otherwise = omega arith
 choice_masks (branch condition body rest) otherwise = omega arith
 
--- a choice has the levels of its arms and of what stands behind `else`
+-- a choice has the levels of its arms and of what stands after `else`
 choice_levels : (p : Place) (branches : PlainBranches) (otherwise : PlainActions)
     → stmts_levels (made p (choice branches otherwise)) ≤ stmts_levels (made_branches p branches (is_no_action otherwise) (λ q. made q otherwise))
 choice_levels p no_branch otherwise = omega arith
@@ -256,7 +257,7 @@ mutual
       joined_within (length names.variables) (length after.variables) (stmt_frame s) (block_frame rest) first more p (names_more names s)
       (stmt_within fs names s p) (block_within fs after rest p)
 
-  -- arms before actions that have so many masks, and behind which there is so much room
+  -- arms before actions that have so many masks, and after which there is so much room
   arms_within : (fs : List (List ℕ)) (names : Names) (arms : PlainArms) (nothing : Bool) (otherwise : Place → PlainStmts) (inside room : ℕ)
       → ((q : Place) → inside - 1 + stmts_levels (otherwise q) ≤ room) → (p : Place)
       → branches_words (resolved_arms fs names arms) - length names.variables + (branches_masks (resolved_arms fs names arms) inside - 1)
@@ -292,10 +293,6 @@ body_within fs names (s ∷ rest) p =
     let all = joined_within (length names.variables) (length after.variables) (stmt_frame s) (body_frame rest) first more p (names_more names s)
     (stmt_within fs names s p) (body_within fs after rest p) in
     omega (arith, all, sum_by-cons stmt_frame s rest)
-
-parameters_open : (parameters : List Parameter) → length (parameter_variables parameters) ≡ length parameters
-parameters_open [] = refl
-parameters_open (p ∷ parameters) = ap suc (parameters_open parameters)
 
 pub frame_within : (fs : List (List ℕ)) (slots : List Slot) (parameters : List Parameter) (body : List PlainStmt)
     → (made_function (length parameters) (resolved_body fs (record { slots = slots; variables = parameter_variables parameters }) body)).frame

@@ -1,6 +1,7 @@
 -- Functions that are made: under the mask 1 they give what their actions give, and under another they change no memory.
 use Rattle.std.proofs.Common.{◌≡◌, ◌≢◌, ℕ, zero, suc, ◌+◌, ◌<◌, ◌≤◌, ◌==◌, Bool, true, false, if◌then◌else◌, List, [], ◌∷◌, length, slice_index, slice_index_or, refl, ap, sym, ◌∙◌, arith, eq-eqb, ne_eqb, true≢false, ◌⊎◌, inl, inr}
 use Rattle.std.proofs.lemmas.Bool.{cases_lt}
+use Rattle.tc_word.proofs.Items.{past_all}
 use Rattle.c_world.specs.Numbers.{flag}
 use Rattle.c_world.specs.World.{World}
 use Rattle.sp_tree.specs.Statements.{PlainFunction, no_function}
@@ -24,11 +25,6 @@ Callable counts n k args = (k < n) × (args ≡ slice_index counts k)
 
 pub outermost_order : (n : ℕ) → Order n (outermost n)
 outermost_order n = record { result = omega arith; function = omega arith; loop = omega arith; own = omega arith; free = omega arith }
-
-no_argument : (args : List ℕ) (x : ℕ) → length args ≤ x → slice_index args x ≡ 0
-no_argument [] x past = refl
-no_argument (a ∷ args) zero past = absurd (omega (arith, past))
-no_argument (a ∷ args) (suc x) past = no_argument args x (omega (arith, past))
 
 -- ---- one function, as its body begins
 
@@ -110,7 +106,7 @@ function_serves Fit gc g serving parameters body args w fits count =
       own = word;
       loop = word;
       function = word;
-      result = other_word parameters body 1 args w p.result (omega arith) ∙ no_argument args p.result (omega (arith, count));
+      result = other_word parameters body 1 args w p.result (omega arith) ∙ past_all args p.result (omega (arith, count));
     })
     (record { locals = λ x below. other_word parameters body 1 args w x (omega (arith, below)); world = refl })
 

@@ -293,7 +293,7 @@ ended_still g n p step s o l =
     still_on (p.free + 1) s t (stmts_done g (made_step p.free step) t) again
     (step_still g (p.free + 1) p.free step t (left_off p t (left_on n p s t o again l)))
 
--- a turn behind its test
+-- a turn after its test
 pub behind_still : (g : Serves) (n : ℕ) (p : Place) (body : PlainStmts) (step : Option PlainAssignment) → Order n p
     → ((t : State) → Dead (in_loop p) t → Still (p.free + 1) t (stmts_done g body t)) → (s : State) → Left p s
     → Still (p.free + 1) s (stmts_done g (joined body (stmt (masks p.free (not_zero (frame_word p.free))) (made_step p.free step))) s)
@@ -319,7 +319,7 @@ turns_left g n p condition body step o each k s l =
     (λ t h. turn_still g n p condition body step o each t h)
     (λ t h. left_on n p t (stmts_done g (made_turn p condition body step) t) o (turn_still g n p condition body step o each t h) h) k s l
 
--- so many turns, and the flag behind them
+-- so many turns, and the flag after them
 pub flagged_still : (g : Serves) (n : ℕ) (p : Place) (condition : PlainSp) (body : PlainStmts) (step : Option PlainAssignment) → Order n p
     → ((t : State) → Dead (in_loop p) t → Still (p.free + 1) t (stmts_done g body t)) → (k : ℕ) (s : State) → Left p s
     → Still p.free s (stmt_done g (overruns p.free condition) (times k (stmts_done g (made_turn p condition body step)) s))
@@ -341,7 +341,7 @@ loop_left n p s o d =
     put_here p.free (worth (bit_of p.own) s) s.frame ∙ ap (λ x. bit_and x 1) d.own ∙ idle_bit d.own_word d.loop_word d.function_word d.idle in
     record { dead = dead_loop n p s t o (set_behind p.free p.free (worth (bit_of p.own) s) s (omega arith)) off_there d; off = off_there }
 
--- behind the turns the flag stands, and so do the masks
+-- after the turns the flag stands, and so do the masks
 loop_still : (g : Serves) (n : ℕ) (p : Place) (most : ℕ) (condition : PlainSp) (body : PlainStmts) (step : Option PlainAssignment) → Order n p
     → ((t : State) → Dead (in_loop p) t → Still (p.free + 1) t (stmts_done g body t))
     → (s : State) → Dead p s → Still p.free s (stmts_done g (made_loop p most condition (made_turn p condition body step)) s)
@@ -363,7 +363,7 @@ loop_still g n p (suc k) condition body step o each s d =
 
 -- ---- arms
 
--- the mask of an arm, as it begins and behind `else`
+-- the mask of an arm, as it begins and after `else`
 pub arm_off : (p : Place) (condition : PlainSp) (s : State) → Dead p s → (with_slot p.free (worth (where_so p.own condition) s) s).frame p.free ≡ 0
 arm_off p condition s d =
     put_here p.free (worth (where_so p.own condition) s) s.frame

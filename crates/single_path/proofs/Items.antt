@@ -24,7 +24,7 @@ use Rattle.single_path.proofs.Fits.{Fits}
 use Rattle.single_path.proofs.Functions.{Callable}
 use Rattle.single_path.proofs.Valid.{Callee, Knows, found_last, knows_more, scalar_hides, body_fits}
 
--- ---- names behind a declaration
+-- ---- names after a declaration
 
 pub array_hides : (c : ℕ) (gives : Bool) → means.Array ≢ means.Function c gives false
 array_hides c gives e = absurd (cc)

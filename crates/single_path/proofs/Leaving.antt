@@ -1,4 +1,4 @@
--- Ways on that are taken, and the masks that are repaired behind arms and loops.
+-- Ways on that are taken, and the masks that are repaired after arms and loops.
 use Rattle.std.proofs.Common.{◌≡◌, ◌≢◌, ℕ, ◌<◌, ◌≤◌, ◌==◌, Bool, true, false, if◌then◌else◌, refl, ap, sym, ◌∙◌, arith, eq-eqb, eqb-true, ap₂, subst, true≢false, ◌⊎◌, inl, inr}
 use Rattle.std.specs.Prelude.{bit_and}
 use Rattle.std.proofs.lemmas.Bool.{cases_eq}
@@ -162,7 +162,7 @@ returned_acted gc g n p e s l o live h within =
       idle = λ is. absurd (true≢false is);
     }
 
--- ---- behind arms and loops
+-- ---- after arms and loops
 
 -- the own mask is repaired from the loop's
 pub repaired : (w : Way) (own : ℕ) → (own ≡ 1) ⊎ ((own ≡ 0) × (w ≢ way.On)) → bit_and own (loop_of w) ≡ own_of w
@@ -181,7 +181,7 @@ loop_itself way.Broken = refl
 loop_itself way.Continued = refl
 loop_itself (way.Returned v) = refl
 
--- the masks of an idle part behind each way but on
+-- the masks of an idle part after each way but on
 idle_apart : (w : Way) → w ≢ way.On → Idle (own_of w) (loop_of w) (function_of w)
 idle_apart way.On other = absurd (other refl)
 idle_apart way.Broken other = left

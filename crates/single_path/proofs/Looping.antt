@@ -27,7 +27,7 @@ use Rattle.single_path.proofs.Ways.{Acted, Live, Went, function_of, loop_of, low
 use Rattle.single_path.proofs.Leaving.{on_acted}
 use Rattle.single_path.proofs.Arming.{tested}
 
--- behind the turns of a loop and its flag: the loop has ended, and its part goes on or the function has returned; the masks
+-- after the turns of a loop and its flag: the loop has ended, and its part goes on or the function has returned; the masks
 -- of the part stand
 record Turned (n : ℕ) (p : Place) (s : State) (d : Done) (u : State) : Type 0 where
   same : Agrees n u d.state
@@ -231,7 +231,7 @@ turned g n p condition body step meant o within step_within b (suc k) s l live h
           off = turned_by.frame p.free (omega arith) ∙ off_there.off;
         }))
 
--- behind a loop its part's masks are repaired
+-- after a loop its part's masks are repaired
 behind_loop : (n : ℕ) (p : Place) (s : State) (d : Done) (u : State) → Order n p → Live p s → Turned n p s d u
     → Went n p s d (with_slot p.turn (worth (where_not_returned p) u) u)
 behind_loop n p s d u o live h = by (cases_eq p.function p.turn)

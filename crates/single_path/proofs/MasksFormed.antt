@@ -95,7 +95,7 @@ not_taken_formed fs number slots p b free =
     mask_formed fs number slots p.free (where_not_taken p) free (record { ranged = ((tt, tt), (tt, tt)); few = omega arith })
     (omega (arith, b.own, b.loop, free))
 
--- ---- masks behind `return`: two ways to take from them, of which the place decides
+-- ---- masks after `return`: two ways to take from them, of which the place decides
 
 either_formed : (fs : List PlainFunction) (number slots slot : ℕ) (e : PlainSp → PlainSp) (first : Bool) (a b : PlainSp)
     → stmt_formed fs number slots (masks slot (e a)) ≡ true → stmt_formed fs number slots (masks slot (e b)) ≡ true

@@ -30,7 +30,7 @@ pub record Keeps (P : Use → Type 0) (names : List Named) (of : Names) : Type 0
       → Outside (ArrayRead P) (named of text) × Outside (ArrayWritten P) (named of text)
   pub sends : (core : ℕ) → P (sends_to core)
 
--- ---- names behind a declaration
+-- ---- names after a declaration
 
 -- the name that is declared is found, and another is found where it was before
 pub found_same : (names : List Named) (name text : List ℕ) (m : Meaning) → bytes_eq name text ≡ true → found text (declared names name m) ≡ Some m
@@ -42,7 +42,7 @@ pub found_before : (names : List Named) (name text : List ℕ) (m : Meaning) (f 
 found_before names name text m f is other =
     ap (λ b. if b then Some m else found text names) (sym other) ∙ sym (found_last text names (record { name = name; means = m })) ∙ is
 
--- ---- names behind a variable
+-- ---- names after a variable
 
 -- what a name stands for among variables, or else outside functions
 abbrev or_else : Option Stands → Stands → Stands
@@ -95,7 +95,7 @@ keeps_variable P names of kind name k = record {
         → found text names ≡ Some m
     before text m is other = found_before names name text means.Scalar (Some m) is other
 
--- behind a statement
+-- after a statement
 pub keeps_after : (P : Use → Type 0) (names : List Named) (of : Names) (s : PlainStmt) → Keeps P names of → Keeps P (after names s) (names_after of s)
 keeps_after P names of (plain.declared kind text r) k = keeps_variable P names of kind text k
 keeps_after P names of (plain.set text r) k = k
@@ -109,7 +109,7 @@ keeps_after P names of plain.continued k = k
 keeps_after P names of (plain.returned e) k = k
 keeps_after P names of (plain.inner body) k = k
 
--- ---- names behind a function's name, and behind its parameters
+-- ---- names after a function's name, and after its parameters
 
 -- the name of a function is no variable's and no array's
 pub keeps_function : (P : Use → Type 0) (names : List Named) (of : Names) (name : List ℕ) (c : ℕ) (gives inside : Bool) → Keeps P names of
@@ -128,7 +128,7 @@ keeps_function P names of name c gives inside k = record {
     before text m apart is true same = let some : Some f ≡ Some m = sym (found_same names name text f same) ∙ is in absurd (apart (cc))
     before text m apart is false other = found_before names name text f (Some m) is other
 
--- parameters are variables behind those that stand before them
+-- parameters are variables after those that stand before them
 pub keeps_parameters : (P : Use → Type 0) (names : List Named) (slots : List Slot) (vs : List Variable) (ps : List Parameter)
     → Keeps P names (record { slots = slots; variables = vs })
     → Keeps P (with_parameters names ps) (record { slots = slots; variables = vs ++ parameter_variables ps })

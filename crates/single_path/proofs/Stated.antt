@@ -1,4 +1,4 @@
--- Statements behind others, as they are added one by one.
+-- Statements after others, as they are added one by one.
 use Rattle.std.proofs.Common.{◌≡◌, List, [], ◌∷◌, ◌++◌, refl, ap, ◌∙◌}
 use Rattle.sp_tree.specs.declared.statements.SpStmt.{SpStmt}
 use Rattle.sp_tree.specs.Shown.{plain_stmt, stmts_of}

@@ -1,4 +1,4 @@
--- What a part leaves behind it, by its way on.
+-- What a part leaves after it, by its way on.
 use Rattle.std.proofs.Common.{◌≡◌, ◌≢◌, ℕ, ◌<◌, ◌≤◌, true, false, refl, ap, sym, ◌∙◌, arith, true≢false, ◌⊎◌, inl, inr}
 use Rattle.std.proofs.lemmas.Bool.{cases_eq}
 use Rattle.sp_tree.specs.Straight.{State}
@@ -42,7 +42,7 @@ pub record Went (n : ℕ) (p : Place) (s : State) (d : Done) (t : State) : Type 
   pub own : p.own ≢ p.turn → (t.frame p.own ≡ 1) ⊎ ((t.frame p.own ≡ 0) × (d.way ≢ way.On))
   pub others : (x : ℕ) → n ≤ x → x < p.free → x ≢ p.result → x ≢ p.function → x ≢ p.turn → x ≢ p.own → t.frame x ≡ s.frame x
 
--- an action that does not always go elsewhere leaves masks under which what stands behind it acts, or is idle
+-- an action that does not always go elsewhere leaves masks under which what stands after it acts, or is idle
 pub record Acted (a : PlainAction) (n : ℕ) (p : Place) (s : State) (d : Done) (t : State) : Type 0 where
   pub went : Went n p s d t
   pub ended : ends a ≡ true → d.way ≢ way.On

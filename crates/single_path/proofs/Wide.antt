@@ -21,7 +21,7 @@ pub some_masks : (most body : ℕ) → most ≢ 0 → capped (specs.loop_masks m
 some_masks zero body other = absurd (other refl)
 some_masks (suc n) body other = omega arith
 
--- so many masks behind the last `else`, as a word counts them
+-- so many masks after the last `else`, as a word counts them
 pub capped_arms : (bs : PlainBranches) (masks n : ℕ) → n ≡ capped masks → capped (specs.branches_masks bs n) ≡ capped (specs.branches_masks bs masks)
 capped_arms no_branch masks n is = omega (arith, is)
 capped_arms (branch condition body rest) masks n is = let behind = capped_arms rest masks n is in omega (arith, behind)

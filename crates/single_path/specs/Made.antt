@@ -1,5 +1,5 @@
--- The single-path statements that are made of actions (Puschner's single-path transformation): branches become masks,
--- and each loop makes all its turns.
+-- To be believed. The single-path statements that are made of actions (Puschner's single-path transformation):
+-- branches become masks, and each loop makes all its turns.
 use Rattle.std.specs.Prelude.{ℕ, zero, suc, ◌==◌, Bool, true, false, if◌then◌else◌, ◌&&◌, List, Option, None, Some}
 use Rattle.sp_tree.specs.Plain.{PlainSp, constant, frame_word}
 use Rattle.sp_tree.specs.Statements.{PlainPlace, to_slot, PlainStmt, masks, writes, overruns, PlainStmts, no_stmt, stmt, one, joined}
@@ -20,7 +20,7 @@ made_place (actions.to_array array index) = tree.to_array array index
 abbrev pub made_assignment : ℕ → PlainAssignment → PlainStmt
 made_assignment mask a = writes mask (made_place a.target) a.value
 
--- behind each turn
+-- after each turn
 abbrev pub made_step : ℕ → Option PlainAssignment → PlainStmts
 made_step mask None = no_stmt
 made_step mask (Some a) = one (made_assignment mask a)
@@ -29,7 +29,8 @@ made_step mask (Some a) = one (made_assignment mask a)
 abbrev pub made_call : Place → ℕ → List PlainSp → Option PlainTarget → PlainStmts
 made_call p k args None = one (tree.calls p.own k args None)
 made_call p k args (Some (to_level at)) = one (tree.calls p.own k args (Some at))
-made_call p k args (Some target) = stmt (tree.calls p.own k args (Some p.free)) (one (writes p.own (made_place target) (frame_word p.free)))
+made_call p k args (Some target) =
+    stmt (tree.calls p.own k args (Some p.free)) (one (writes p.own (made_place target) (frame_word p.free)))
 
 -- ---- ways on
 
@@ -46,7 +47,7 @@ abbrev pub made_return : Place → PlainSp → PlainStmts
 made_return p e = joined (made_result p e) (stmt (masks p.function (returned_function p))
     (if p.function == p.turn then no_stmt else one (masks p.turn (returned_loop p))))
 
--- nothing stands behind a statement that always goes elsewhere
+-- nothing stands after a statement that always goes elsewhere
 abbrev pub ends : PlainAction → Bool
 ends breaks = true
 ends continues = true
@@ -63,7 +64,7 @@ abbrev pub is_no_branch : PlainBranches → Bool
 is_no_branch no_branch = true
 is_no_branch (branch condition body rest) = false
 
--- an arm runs under a mask of its own, which serves what stands behind `else` then
+-- an arm runs under a mask of its own, which serves what stands after `else` then
 abbrev pub made_arm : Place → PlainSp → PlainStmts → PlainStmts → PlainStmts
 made_arm p condition arm otherwise = stmt (masks p.free (where_so p.own condition)) (joined arm otherwise)
 
@@ -72,10 +73,11 @@ made_otherwise p nothing otherwise = if nothing then no_stmt else stmt (masks p.
 
 -- ---- loops
 
--- a turn: where the condition doesn't hold, the loop is left; behind `continue` the mask is 1 again for the step
+-- a turn: where the condition doesn't hold, the loop is left; after `continue` the mask is 1 again for the step
 abbrev pub made_turn : Place → PlainSp → PlainStmts → Option PlainAssignment → PlainStmts
 made_turn p condition body step =
-    stmt (masks p.free (where_so p.free condition)) (joined body (stmt (masks p.free (not_zero (frame_word p.free))) (made_step p.free step)))
+    stmt (masks p.free (where_so p.free condition))
+    (joined body (stmt (masks p.free (not_zero (frame_word p.free))) (made_step p.free step)))
 
 -- a loop that may not turn at all sets the flag where its condition holds
 abbrev pub made_loop : Place → ℕ → PlainSp → PlainStmts → PlainStmts
@@ -92,8 +94,10 @@ abbrev mutual
   made_action p (calls k args result) = made_call p k args result
   made_action p (transfers core source target count) = one (tree.transfers p.own core source target count)
   made_action p (chooses branches otherwise) =
-      joined (made_branches p branches (is_no_action otherwise) (λ q. made q otherwise)) (one (masks p.own (where_on p)))
-  made_action p (turns most condition body step) = made_loop p most condition (made_turn p condition (made (in_loop p) body) step)
+      joined (made_branches p branches (is_no_action otherwise) (λ q. made q otherwise))
+      (one (masks p.own (where_on p)))
+  made_action p (turns most condition body step) =
+      made_loop p most condition (made_turn p condition (made (in_loop p) body) step)
   made_action p breaks = one (masks p.turn (broken p))
   made_action p continues = one (masks p.turn (continued p))
   made_action p (returns e) = made_return p e
@@ -102,7 +106,7 @@ abbrev mutual
   made p no_action = no_stmt
   made p (action a rest) = joined (made_action p a) (if ends a then no_stmt else made p rest)
 
-  -- `else if` is an `if` behind `else`; what stands behind the last `else` may be nothing
+  -- `else if` is an `if` after `else`; what stands after the last `else` may be nothing
   pub made_branches : Place → PlainBranches → Bool → (Place → PlainStmts) → PlainStmts
   made_branches p no_branch nothing otherwise = otherwise p
   made_branches p (branch condition body rest) nothing otherwise =

@@ -1,4 +1,4 @@
--- The words of a frame that masks are set in.
+-- To be believed. The words of a frame that masks are set in.
 use Rattle.std.specs.Prelude.{ℕ, ◌==◌, Bool, false, ◌||◌}
 use Rattle.sp_tree.specs.Statements.{PlainStmt, masks, turns, PlainStmts, no_stmt, stmt}
 

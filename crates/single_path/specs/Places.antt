@@ -1,5 +1,5 @@
--- The words of a function's frame that decide what has an effect, and what they are set to. Such a word is a mask: what
--- stands under it has an effect exactly where it is 1.
+-- To be believed. The words of a function's frame that decide what has an effect, and what they are set to. Such a word
+-- is a mask: what stands under it has an effect exactly where it is 1.
 use Rattle.std.specs.Prelude.{ℕ, ◌+◌, ◌==◌, if◌then◌else◌}
 use Rattle.sp_tree.specs.declared.operators.SpBinary.TheVariants as binary
 use Rattle.sp_tree.specs.declared.operators.SpUnary.TheVariants as unary
@@ -13,7 +13,7 @@ in_arm p = record p { own = p.free; free = p.free + 1 }
 abbrev pub in_loop : Place → Place
 in_loop p = record p { turn = p.free; own = p.free; free = p.free + 1 }
 
--- the place of a function's body, behind its first so many words
+-- the place of a function's body, after its first so many words
 abbrev pub outermost : ℕ → Place
 outermost words = record { result = words; function = words + 1; turn = words + 1; own = words + 1; free = words + 2 }
 
@@ -36,15 +36,15 @@ bit_of mask = both (frame_word mask) (constant 1)
 abbrev pub where_so : ℕ → PlainSp → PlainSp
 where_so mask condition = both (frame_word mask) (not_zero condition)
 
--- the mask of what stands behind `else`: its part goes on, and the arm was not taken
+-- the mask of what stands after `else`: its part goes on, and the arm was not taken
 abbrev pub where_not_taken : Place → PlainSp
 where_not_taken p = both (bit_of p.turn) (between_two binary.BitXor (frame_word p.own) (frame_word p.free))
 
--- the mask of a part, behind an arm or a loop in which the turn may have ended
+-- the mask of a part, after an arm or a loop in which the turn may have ended
 abbrev pub where_on : Place → PlainSp
 where_on p = both (frame_word p.own) (frame_word p.turn)
 
--- the mask of a loop, behind one inside it in which the function may have returned
+-- the mask of a loop, after one inside it in which the function may have returned
 abbrev pub where_not_returned : Place → PlainSp
 where_not_returned p = both (frame_word p.turn) (before_one unary.Minus (frame_word p.function))
 
@@ -61,4 +61,5 @@ abbrev pub returned_function : Place → PlainSp
 returned_function p = less_by (frame_word p.function) (if p.own == p.turn then bit_of p.own else frame_word p.own)
 
 abbrev pub returned_loop : Place → PlainSp
-returned_loop p = if p.own == p.turn then both (frame_word p.turn) (constant 2) else less_by (frame_word p.turn) (frame_word p.own)
+returned_loop p =
+    if p.own == p.turn then both (frame_word p.turn) (constant 2) else less_by (frame_word p.turn) (frame_word p.own)

@@ -1,4 +1,5 @@
--- The single-path tree of a program: its functions, each made of the actions of one, and the words that it begins with.
+-- To be believed. The single-path tree of a program: its functions, each made of the actions
+-- of one, and the words that it begins with.
 use Rattle.std.specs.Prelude.{ℕ, ◌+◌, max, List, [], ◌∷◌, length, Option, None, Some, codes}
 use Rattle.c_tree.specs.Frame.{function_frame}
 use Rattle.c_tree.specs.Layout.{initial_of, input_of, layout_of}
@@ -26,7 +27,7 @@ begun_mask p = between_two binary.Equal (frame_word p.function) (constant 1)
 abbrev pub made_body : Place → PlainActions → PlainStmts
 made_body p body = stmt (masks p.function (begun_mask p)) (made p body)
 
--- Behind its variables stand what it returns, its mask, and the masks of its arms and loops; then as many words as code
+-- After its variables stand what it returns, its mask, and the masks of its arms and loops; then as many words as code
 -- keeps for its turns and for its return
 abbrev pub made_function : ℕ → PlainActions → PlainFunction
 made_function parameters body =

@@ -1,5 +1,5 @@
--- What a tree does with memories, and what of its program that comes from: a name stands for a slot outside functions, and
--- the tree reads or writes the slot's words there.
+-- To be believed. What a tree does with memories, and what of its program that comes from: a name stands for a slot
+-- outside functions, and the tree reads or writes the slot's words there.
 use Rattle.std.specs.Prelude.{◌≡◌, ◌⊎◌, ℕ, ◌==◌, Bool, true, false, List, [], ◌∷◌}
 use Rattle.c_tree.specs.declared.layout.Slot.{Slot}
 use Rattle.c_world.specs.declared.region.Region.{Region}

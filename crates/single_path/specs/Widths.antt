@@ -1,4 +1,4 @@
--- How many words of a frame actions need.
+-- To be believed. How many words of a frame actions need.
 use Rattle.std.specs.Prelude.{ℕ, zero, suc, ◌+◌, ◌-◌, ◌^◌, min, max, List, [], ◌∷◌, Option, None, Some}
 use Rattle.sp_tree.specs.Plain.{PlainSp, constant, frame_word, cell_word, array_word, before_one, between_two}
 use Rattle.c_meaning.specs.Actions.{PlainTarget, to_level, to_cell, to_array, PlainAssignment, PlainAction, sets, calls, transfers, chooses, turns, breaks, continues, returns, PlainActions, no_action, action, PlainBranches, no_branch, branch}
@@ -37,7 +37,8 @@ abbrev mutual
   pub action_words : PlainAction → ℕ
   action_words (sets a) = assignment_words a
   action_words (calls k args result) = max (args_words args) (result_words result)
-  action_words (transfers core source target count) = max (expr_words source) (max (expr_words target) (expr_words count))
+  action_words (transfers core source target count) =
+      max (expr_words source) (max (expr_words target) (expr_words count))
   action_words (chooses branches otherwise) = max (branches_words branches) (words otherwise)
   action_words (turns most condition body step) = max (expr_words condition) (max (words body) (step_words step))
   action_words breaks = 0

@@ -1,8 +1,8 @@
-//! Single-path conversion of C tasks (Puschner's single-path transformation): branches become masks, and each loop makes
-//! all the turns of its bound.
+//! Single-path conversion of C tasks (Puschner's single-path transformation): branches become masks,
+//! and each loop makes all the turns of its bound.
 //!
-//! [`convert`] gives the single-path tree of a valid program. It is exactly `specs/Single.antt` of the program; and what
-//! the tree comes to is what the program means, for every input and all words that the shared memories begin with.
+//! [`convert`] gives the single-path tree of a valid program. It is exactly `specs/Single.antt` of the program; and
+//! what the tree comes to is what the program means, for every input and all words that the shared memories begin with.
 //!
 //! - `specs/Places.antt`: the words of a frame that decide what has an effect, and what they are set to.
 //! - `specs/Made.antt`: the statements that are made of actions.

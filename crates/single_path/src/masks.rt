@@ -53,7 +53,7 @@ pub fn begun_mask(alloc: Global, place: Place) -> Result<SpExpr, OutOfMemory>
     between_operands(alloc, SpBinary::Equal, word(place.function), number(1))
 }
 
-/// The mask of what stands behind `else`.
+/// The mask of what stands after `else`.
 pub fn where_not_taken(alloc: Global, place: Place) -> Result<SpExpr, OutOfMemory>
     ensures { IfOk result (λ m. plain_sp m ≡ specs.where_not_taken place) }
 {
@@ -62,14 +62,14 @@ pub fn where_not_taken(alloc: Global, place: Place) -> Result<SpExpr, OutOfMemor
     between_operands(alloc, SpBinary::BitAnd, goes_on, other)
 }
 
-/// The mask of a part, behind an arm or a loop in which the turn may have ended.
+/// The mask of a part, after an arm or a loop in which the turn may have ended.
 pub fn where_on(alloc: Global, place: Place) -> Result<SpExpr, OutOfMemory>
     ensures { IfOk result (λ m. plain_sp m ≡ specs.where_on place) }
 {
     between_operands(alloc, SpBinary::BitAnd, word(place.own), word(place.turn))
 }
 
-/// The mask of a loop, behind one inside it in which the function may have returned.
+/// The mask of a loop, after one inside it in which the function may have returned.
 pub fn where_not_returned(alloc: Global, place: Place) -> Result<SpExpr, OutOfMemory>
     ensures { IfOk result (λ m. plain_sp m ≡ specs.where_not_returned place) }
 {
@@ -77,7 +77,7 @@ pub fn where_not_returned(alloc: Global, place: Place) -> Result<SpExpr, OutOfMe
     between_operands(alloc, SpBinary::BitAnd, word(place.turn), all_bits)
 }
 
-/// The turn's mask behind `break`.
+/// The turn's mask after `break`.
 pub fn broken(alloc: Global, place: Place) -> Result<SpExpr, OutOfMemory>
     ensures { IfOk result (λ m. plain_sp m ≡ specs.broken place) }
 {
@@ -85,7 +85,7 @@ pub fn broken(alloc: Global, place: Place) -> Result<SpExpr, OutOfMemory>
     between_operands(alloc, SpBinary::Minus, word(place.turn), own)
 }
 
-/// The turn's mask behind `continue`.
+/// The turn's mask after `continue`.
 pub fn continued(alloc: Global, place: Place) -> Result<SpExpr, OutOfMemory>
     ensures { IfOk result (λ m. plain_sp m ≡ specs.continued place) }
 {
@@ -93,7 +93,7 @@ pub fn continued(alloc: Global, place: Place) -> Result<SpExpr, OutOfMemory>
     between_operands(alloc, SpBinary::Plus, word(place.turn), own)
 }
 
-/// The function's mask behind `return`.
+/// The function's mask after `return`.
 pub fn returned_function(alloc: Global, place: Place) -> Result<SpExpr, OutOfMemory>
     ensures { IfOk result (λ m. plain_sp m ≡ specs.returned_function place) }
 {
@@ -105,7 +105,7 @@ pub fn returned_function(alloc: Global, place: Place) -> Result<SpExpr, OutOfMem
     between_operands(alloc, SpBinary::Minus, word(place.function), own)
 }
 
-/// The turn's mask behind `return` in a loop.
+/// The turn's mask after `return` in a loop.
 pub fn returned_turn(alloc: Global, place: Place) -> Result<SpExpr, OutOfMemory>
     ensures { IfOk result (λ m. plain_sp m ≡ specs.returned_loop place) }
 {

@@ -9,7 +9,7 @@ pub struct Place {
     pub result: u32,
     /// The mask of the function: 1 until it returns, and then 0.
     pub function: u32,
-    /// The mask of the innermost loop's turn: 1 while it goes on, 2 behind a `continue`, and 0 where the loop was left.
+    /// The mask of the innermost loop's turn: 1 while it goes on, 2 after a `continue`, and 0 where the loop was left.
     /// Outside loops it is that of the function.
     pub turn: u32,
     /// The mask of the part itself: the turn's, or that of an arm.
@@ -19,7 +19,7 @@ pub struct Place {
 }
 
 impl Place {
-    /// The place of a function's body, behind its first so many words.
+    /// The place of a function's body, after its first so many words.
     pub fn outermost(words: u32) -> Place
         requires { words + 2 < 2 ^ 32 }
         ensures { result ≡ specs.outermost words }

@@ -29,10 +29,11 @@ fn add(out: &mut Vec<SpStmt>, statement: SpStmt) -> Result<(), OutOfMemory>
     Ok(())
 }
 
-/// A mask is set, behind others.
+/// A mask is set, after others.
 #[tactic(auto, unfolding(sp_tree::specs::Shown::plain_stmt))]
 pub fn add_mask(out: &mut Vec<SpStmt>, slot: u32, value: SpExpr) -> Result<(), OutOfMemory>
-    ensures { OnOk result (stmts_of out.new.items ≡ joined (stmts_of out.old.items) (one (masks slot (plain_sp value)))) }
+    ensures { OnOk result (stmts_of out.new.items
+        ≡ joined (stmts_of out.old.items) (one (masks slot (plain_sp value)))) }
 {
     add(out, SpStmt::Mask { slot, value })
 }
@@ -44,21 +45,24 @@ fn add_write(
     place: SpPlace,
     value: SpExpr,
 ) -> Result<(), OutOfMemory>
-    ensures { OnOk result (stmts_of out.new.items ≡ joined (stmts_of out.old.items) (one (writes mask (plain_place place) (plain_sp value)))) }
+    ensures { OnOk result (stmts_of out.new.items
+        ≡ joined (stmts_of out.old.items) (one (writes mask (plain_place place) (plain_sp value)))) }
 {
     add(out, SpStmt::Write { mask, place, value })
 }
 
 #[tactic(auto, unfolding(sp_tree::specs::Shown::plain_stmt))]
 fn add_overrun(out: &mut Vec<SpStmt>, mask: u32, value: SpExpr) -> Result<(), OutOfMemory>
-    ensures { OnOk result (stmts_of out.new.items ≡ joined (stmts_of out.old.items) (one (overruns mask (plain_sp value)))) }
+    ensures { OnOk result (stmts_of out.new.items
+        ≡ joined (stmts_of out.old.items) (one (overruns mask (plain_sp value)))) }
 {
     add(out, SpStmt::Overrun { mask, value })
 }
 
 #[tactic(auto, using(sp_tree::proofs::Forms::plain_turns))]
 fn add_turns(out: &mut Vec<SpStmt>, count: u32, body: List<SpStmt>) -> Result<(), OutOfMemory>
-    ensures { OnOk result (stmts_of out.new.items ≡ joined (stmts_of out.old.items) (one (tree.turns count (stmts_of body)))) }
+    ensures { OnOk result (stmts_of out.new.items
+        ≡ joined (stmts_of out.old.items) (one (tree.turns count (stmts_of body)))) }
 {
     add(out, SpStmt::Turns { count, body })
 }
@@ -95,14 +99,15 @@ fn add_assignment(
     mask: u32,
     assignment: &Assignment,
 ) -> Result<(), OutOfMemory>
-    ensures { OnOk result (stmts_of out.new.items ≡ joined (stmts_of out.old.items) (one (specs.made_assignment mask (plain_assignment assignment.now)))) }
+    ensures { OnOk result (stmts_of out.new.items
+        ≡ joined (stmts_of out.old.items) (one (specs.made_assignment mask (plain_assignment assignment.now)))) }
 {
     let place = place_of(alloc, &assignment.target)?;
     let value = copied(alloc, &assignment.value)?;
     add_write(out, mask, place, value)
 }
 
-// what is set behind each turn
+// what is set after each turn
 #[tactic(auto, using(crate::proofs::Stated::joined_none))]
 fn add_step(
     alloc: Global,
@@ -110,7 +115,8 @@ fn add_step(
     mask: u32,
     step: &Option<Assignment>,
 ) -> Result<(), OutOfMemory>
-    ensures { OnOk result (stmts_of out.new.items ≡ joined (stmts_of out.old.items) (specs.made_step mask (option_map plain_assignment step.now))) }
+    ensures { OnOk result (stmts_of out.new.items
+        ≡ joined (stmts_of out.old.items) (specs.made_step mask (option_map plain_assignment step.now))) }
 {
     match step {
         None => Ok(()),
@@ -141,7 +147,8 @@ fn add_call_to(
     args: &[SpExpr],
     given: Option<u32>,
 ) -> Result<(), OutOfMemory>
-    ensures { OnOk result (stmts_of out.new.items ≡ joined (stmts_of out.old.items) (one (calls mask function (map plain_sp args.now) given))) }
+    ensures { OnOk result (stmts_of out.new.items
+        ≡ joined (stmts_of out.old.items) (one (calls mask function (map plain_sp args.now) given))) }
 {
     let args = arguments(alloc, args)?;
     add(
@@ -165,7 +172,8 @@ fn add_call(
     target: &Option<Target>,
 ) -> Result<(), OutOfMemory>
     ensures { OnOk result (stmts_of out.new.items
-        ≡ joined (stmts_of out.old.items) (specs.made_call place function (map plain_sp args.now) (option_map plain_target target.now))) }
+        ≡ joined (stmts_of out.old.items)
+        (specs.made_call place function (map plain_sp args.now) (option_map plain_target target.now))) }
 {
     match target {
         None => add_call_to(alloc, out, place.own, function, args, None),
@@ -191,7 +199,8 @@ fn add_send(
     count: &SpExpr,
 ) -> Result<(), OutOfMemory>
     ensures { OnOk result (stmts_of out.new.items
-        ≡ joined (stmts_of out.old.items) (one (tree.transfers mask core (plain_sp source.now) (plain_sp target.now) (plain_sp count.now)))) }
+        ≡ joined (stmts_of out.old.items)
+        (one (tree.transfers mask core (plain_sp source.now) (plain_sp target.now) (plain_sp count.now)))) }
 {
     let source = copied(alloc, source)?;
     let target = copied(alloc, target)?;
@@ -228,7 +237,8 @@ fn add_result(
     out: &mut Vec<SpStmt>,
     e: &SpExpr,
 ) -> Result<(), OutOfMemory>
-    ensures { OnOk result (stmts_of out.new.items ≡ joined (stmts_of out.old.items) (specs.made_result place (plain_sp e.now))) }
+    ensures { OnOk result (stmts_of out.new.items
+        ≡ joined (stmts_of out.old.items) (specs.made_result place (plain_sp e.now))) }
 {
     if is_zero(e) {
         return Ok(());
@@ -244,7 +254,8 @@ fn add_return(
     out: &mut Vec<SpStmt>,
     e: &SpExpr,
 ) -> Result<(), OutOfMemory>
-    ensures { OnOk result (stmts_of out.new.items ≡ joined (stmts_of out.old.items) (specs.made_return place (plain_sp e.now))) }
+    ensures { OnOk result (stmts_of out.new.items
+        ≡ joined (stmts_of out.old.items) (specs.made_return place (plain_sp e.now))) }
 {
     add_result(alloc, place, out, e)?;
     let function = returned_function(alloc, place)?;
@@ -256,7 +267,7 @@ fn add_return(
     Ok(())
 }
 
-// nothing stands behind a statement that always goes elsewhere
+// nothing stands after a statement that always goes elsewhere
 #[tactic(auto, unfolding(c_meaning::specs::Shown::plain_action))]
 fn ends(action: &Action) -> bool
     ensures { result ≡ specs.ends (plain_action action.now) }
@@ -269,14 +280,16 @@ fn ends(action: &Action) -> bool
 
 #[tactic(auto)]
 fn add_break(alloc: Global, place: Place, out: &mut Vec<SpStmt>) -> Result<(), OutOfMemory>
-    ensures { OnOk result (stmts_of out.new.items ≡ joined (stmts_of out.old.items) (specs.made_action place plain.breaks)) }
+    ensures { OnOk result (stmts_of out.new.items
+        ≡ joined (stmts_of out.old.items) (specs.made_action place plain.breaks)) }
 {
     let turn = broken(alloc, place)?;
     add_mask(out, place.turn, turn)
 }
 
 fn add_continue(alloc: Global, place: Place, out: &mut Vec<SpStmt>) -> Result<(), OutOfMemory>
-    ensures { OnOk result (stmts_of out.new.items ≡ joined (stmts_of out.old.items) (specs.made_action place plain.continues)) }
+    ensures { OnOk result (stmts_of out.new.items
+        ≡ joined (stmts_of out.old.items) (specs.made_action place plain.continues)) }
 {
     let turn = continued(alloc, place)?;
     add_mask(out, place.turn, turn)
@@ -294,7 +307,8 @@ fn begin_arm(
     requires { place.free + 1 < 2 ^ 32 }
     ensures arm { IfOk result (λ p. p ≡ places.in_arm place) }
     ensures mask { OnOk result (stmts_of out.new.items
-        ≡ joined (stmts_of out.old.items) (one (masks place.free (places.where_so place.own (plain_sp condition.now))))) }
+        ≡ joined (stmts_of out.old.items)
+        (one (masks place.free (places.where_so place.own (plain_sp condition.now))))) }
 {
     let condition = copied(alloc, condition)?;
     let taken = where_so(alloc, place.own, condition)?;
@@ -302,15 +316,16 @@ fn begin_arm(
     Ok(place.in_arm())
 }
 
-// the mask of what stands behind `else`
+// the mask of what stands after `else`
 fn begin_otherwise(alloc: Global, place: Place, out: &mut Vec<SpStmt>) -> Result<(), OutOfMemory>
-    ensures { OnOk result (stmts_of out.new.items ≡ joined (stmts_of out.old.items) (one (masks place.free (places.where_not_taken place)))) }
+    ensures { OnOk result (stmts_of out.new.items
+        ≡ joined (stmts_of out.old.items) (one (masks place.free (places.where_not_taken place)))) }
 {
     let other = where_not_taken(alloc, place)?;
     add_mask(out, place.free, other)
 }
 
-// whether no arm is left, and nothing stands behind the last `else`
+// whether no arm is left, and nothing stands after the last `else`
 #[tactic(auto, using(crate::proofs::Converted::no_branches, crate::proofs::Converted::no_actions))]
 fn stands_nothing(rest: &[Branch], otherwise: &[Action]) -> bool
     ensures { result ≡ (specs.is_no_branch (branches_of rest.now) && specs.is_no_action (actions_of otherwise.now)) }
@@ -318,9 +333,10 @@ fn stands_nothing(rest: &[Branch], otherwise: &[Action]) -> bool
     rest.is_empty() && otherwise.is_empty()
 }
 
-// the mask of a part behind its arms
+// the mask of a part after its arms
 fn repair(alloc: Global, place: Place, out: &mut Vec<SpStmt>) -> Result<(), OutOfMemory>
-    ensures { OnOk result (stmts_of out.new.items ≡ joined (stmts_of out.old.items) (one (masks place.own (places.where_on place)))) }
+    ensures { OnOk result (stmts_of out.new.items
+        ≡ joined (stmts_of out.old.items) (one (masks place.own (places.where_on place)))) }
 {
     let own = where_on(alloc, place)?;
     add_mask(out, place.own, own)
@@ -330,7 +346,8 @@ fn repair(alloc: Global, place: Place, out: &mut Vec<SpStmt>) -> Result<(), OutO
 
 // the test of a turn
 fn begin_turn(alloc: Global, place: Place, condition: &SpExpr) -> Result<Vec<SpStmt>, OutOfMemory>
-    ensures { IfOk result (λ r. stmts_of r.items ≡ one (masks place.free (places.where_so place.free (plain_sp condition.now)))) }
+    ensures { IfOk result (λ r. stmts_of r.items
+        ≡ one (masks place.free (places.where_so place.free (plain_sp condition.now)))) }
 {
     let mut turn = Vec::new(alloc);
     let holds = copied(alloc, condition)?;
@@ -348,7 +365,8 @@ fn end_turn(
     step: &Option<Assignment>,
 ) -> Result<(), OutOfMemory>
     ensures { OnOk result (stmts_of turn.new.items ≡ joined (stmts_of turn.old.items)
-        (stmt (masks place.free (places.not_zero (frame_word place.free))) (specs.made_step place.free (option_map plain_assignment step.now)))) }
+        (stmt (masks place.free (places.not_zero (frame_word place.free)))
+        (specs.made_step place.free (option_map plain_assignment step.now)))) }
 {
     let again = not_zero(alloc, word(place.free))?;
     add_mask(turn, place.free, again)?;
@@ -362,7 +380,8 @@ fn add_flag(
     mask: u32,
     condition: &SpExpr,
 ) -> Result<(), OutOfMemory>
-    ensures { OnOk result (stmts_of out.new.items ≡ joined (stmts_of out.old.items) (one (overruns mask (plain_sp condition.now)))) }
+    ensures { OnOk result (stmts_of out.new.items
+        ≡ joined (stmts_of out.old.items) (one (overruns mask (plain_sp condition.now)))) }
 {
     let holds = copied(alloc, condition)?;
     add_overrun(out, mask, holds)
@@ -379,8 +398,10 @@ fn add_loop(
     turn: List<SpStmt>,
 ) -> Result<(), OutOfMemory>
     ensures { OnOk result (stmts_of out.new.items ≡ joined (stmts_of out.old.items)
-        (stmt (masks place.free (places.bit_of place.own)) (stmt (tree.turns max (stmts_of turn)) (stmt (overruns place.free (plain_sp condition.now))
-        (stmt (masks place.turn (places.where_not_returned place)) (one (masks place.own (places.where_on place)))))))) }
+        (stmt (masks place.free (places.bit_of place.own))
+        (stmt (tree.turns max (stmts_of turn)) (stmt (overruns place.free (plain_sp condition.now))
+        (stmt (masks place.turn (places.where_not_returned place))
+        (one (masks place.own (places.where_on place)))))))) }
 {
     let on = bit_of(alloc, place.own)?;
     add_mask(out, place.free, on)?;
@@ -402,7 +423,8 @@ fn add_action(
     action: &Action,
 ) -> Result<(), OutOfMemory>
     requires { place.free + widths.action_masks (plain_action action.now) < 2 ^ 32 }
-    ensures { OnOk result (stmts_of out.new.items ≡ joined (stmts_of out.old.items) (specs.made_action place (plain_action action.now))) }
+    ensures { OnOk result (stmts_of out.new.items
+        ≡ joined (stmts_of out.old.items) (specs.made_action place (plain_action action.now))) }
 {
     match action {
         Action::Set { assignment } => add_assignment(alloc, out, place.own, assignment),
@@ -433,7 +455,7 @@ fn add_action(
     }
 }
 
-/// Statements that do what these actions do, behind others.
+/// Statements that do what these actions do, after others.
 #[cycle(conversion)]
 #[tactic(auto, using(crate::proofs::Converted::next_action, crate::proofs::Converted::last_action, crate::proofs::Converted::no_action_left))]
 pub fn add_all(
@@ -443,7 +465,8 @@ pub fn add_all(
     actions: &[Action],
 ) -> Result<(), OutOfMemory>
     requires { place.free + widths.masks (actions_of actions.now) < 2 ^ 32 }
-    ensures { OnOk result (stmts_of out.new.items ≡ joined (stmts_of out.old.items) (specs.made place (actions_of actions.now))) }
+    ensures { OnOk result (stmts_of out.new.items
+        ≡ joined (stmts_of out.old.items) (specs.made place (actions_of actions.now))) }
 {
     for action in actions {
         add_action(alloc, place, out, action)?;
@@ -454,7 +477,7 @@ pub fn add_all(
     Ok(())
 }
 
-// arms, and what stands behind `else`, with the repair of the part's mask behind them
+// arms, and what stands after `else`, with the repair of the part's mask after them
 #[cycle(conversion)]
 #[tactic(auto, using(crate::proofs::Stated::joined_joined))]
 fn add_choice(
@@ -464,15 +487,17 @@ fn add_choice(
     branches: &[Branch],
     otherwise: &[Action],
 ) -> Result<(), OutOfMemory>
-    requires { place.free + widths.branches_masks (branches_of branches.now) (widths.masks (actions_of otherwise.now)) < 2 ^ 32 }
+    requires { place.free + widths.branches_masks (branches_of branches.now) (widths.masks (actions_of otherwise.now))
+        < 2 ^ 32 }
     ensures { OnOk result (stmts_of out.new.items
-        ≡ joined (stmts_of out.old.items) (specs.made_action place (plain.chooses (branches_of branches.now) (actions_of otherwise.now)))) }
+        ≡ joined (stmts_of out.old.items)
+        (specs.made_action place (plain.chooses (branches_of branches.now) (actions_of otherwise.now)))) }
 {
     add_arms(alloc, place, out, branches, otherwise)?;
     repair(alloc, place, out)
 }
 
-// arms, each with those that stand behind its `else`
+// arms, each with those that stand after its `else`
 #[cycle(conversion)]
 #[tactic(auto)]
 fn add_arms(
@@ -482,9 +507,12 @@ fn add_arms(
     branches: &[Branch],
     otherwise: &[Action],
 ) -> Result<(), OutOfMemory>
-    requires { place.free + widths.branches_masks (branches_of branches.now) (widths.masks (actions_of otherwise.now)) < 2 ^ 32 }
+    requires { place.free + widths.branches_masks (branches_of branches.now) (widths.masks (actions_of otherwise.now))
+        < 2 ^ 32 }
     ensures { OnOk result (stmts_of out.new.items
-        ≡ joined (stmts_of out.old.items) (specs.made_branches place (branches_of branches.now) (specs.is_no_action (actions_of otherwise.now)) (λ q. specs.made q (actions_of otherwise.now)))) }
+        ≡ joined (stmts_of out.old.items)
+        (specs.made_branches place (branches_of branches.now) (specs.is_no_action (actions_of otherwise.now))
+        (λ q. specs.made q (actions_of otherwise.now)))) }
 {
     match branches {
         [] => add_all(alloc, place, out, otherwise),
@@ -496,7 +524,7 @@ fn add_arms(
     }
 }
 
-// what stands behind an arm: nothing, or more arms under a mask of their own
+// what stands after an arm: nothing, or more arms under a mask of their own
 #[cycle(conversion)]
 #[tactic(auto)]
 fn add_otherwise(
@@ -507,10 +535,13 @@ fn add_otherwise(
     rest: &[Branch],
     otherwise: &[Action],
 ) -> Result<(), OutOfMemory>
-    requires { arm.free + widths.branches_masks (branches_of rest.now) (widths.masks (actions_of otherwise.now)) < 2 ^ 32 }
+    requires { arm.free + widths.branches_masks (branches_of rest.now) (widths.masks (actions_of otherwise.now))
+        < 2 ^ 32 }
     ensures { OnOk result (stmts_of out.new.items ≡ joined (stmts_of out.old.items)
-        (specs.made_otherwise place (specs.is_no_branch (branches_of rest.now) && specs.is_no_action (actions_of otherwise.now))
-        (specs.made_branches arm (branches_of rest.now) (specs.is_no_action (actions_of otherwise.now)) (λ q. specs.made q (actions_of otherwise.now))))) }
+        (specs.made_otherwise place (specs.is_no_branch (branches_of rest.now)
+        && specs.is_no_action (actions_of otherwise.now))
+        (specs.made_branches arm (branches_of rest.now) (specs.is_no_action (actions_of otherwise.now))
+        (λ q. specs.made q (actions_of otherwise.now))))) }
 {
     if stands_nothing(rest, otherwise) {
         return Ok(());
@@ -533,7 +564,8 @@ fn add_repeated(
 ) -> Result<(), OutOfMemory>
     requires { place.free + widths.loop_masks max (widths.masks (actions_of body.now)) < 2 ^ 32 }
     ensures { OnOk result (stmts_of out.new.items ≡ joined (stmts_of out.old.items)
-        (specs.made_action place (plain.turns max (plain_sp condition.now) (actions_of body.now) (option_map plain_assignment step.now)))) }
+        (specs.made_action place (plain.turns max (plain_sp condition.now) (actions_of body.now)
+        (option_map plain_assignment step.now)))) }
 {
     if max == 0 {
         return add_flag(alloc, out, place.own, condition);

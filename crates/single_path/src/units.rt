@@ -41,7 +41,7 @@ fn function(alloc: Global, parameters: usize, body: &[Action]) -> Result<SpFunct
     add_all(alloc, place, &mut made, body)?;
     let levels = exact_levels(made.as_slice());
     Ok(SpFunction {
-        // behind the words that are named stand those that code keeps for turns and the return
+        // after the words that are named stand those that code keeps for turns and the return
         frame: place.free + width.masks + (levels + 2),
         parameters,
         mask: place.function,
@@ -72,7 +72,8 @@ fn functions(
     routines: &[Routine],
 ) -> Result<List<SpFunction>, OutOfMemory>
     requires { (k : ℕ) → k < length (bodies_of routines.now)
-        → (specs.made_function (slice_index counts.now k) (slice_index_or (bodies_of routines.now) k no_action)).frame < 2 ^ 32 }
+        → (specs.made_function (slice_index counts.now k) (slice_index_or (bodies_of routines.now) k no_action)).frame
+        < 2 ^ 32 }
     ensures { IfOk result (λ fs. functions_of fs ≡ specs.made_functions counts.now (bodies_of routines.now)) }
 {
     let mut made = Vec::new(alloc);
@@ -126,23 +127,27 @@ fn tree_of(alloc: Global, program: &Checked) -> Result<SpUnit, OutOfMemory>
 
 /// The single-path tree of a valid program. It is `Err` where memory runs out.
 pub fn convert(alloc: Global, program: &Checked) -> Result<SpUnit, OutOfMemory>
-    ensures told { IfOk result (λ u. plain_unit u ≡ specs.single (plain program.now.unit)) }
+    ensures is { IfOk result (λ u. plain_unit u ≡ specs.single (plain program.now.unit)) }
     ensures formed { IfOk result (λ u. is_formed (plain_unit u) ≡ true) }
 
     // For every input, and all words that shared and communication memory begin with.
-    ensures meaning { IfOk result (λ u. (input : List ℕ) (shared comm : ℕ → ℕ)
+    ensures preserves { IfOk result (λ u. (input : List ℕ) (shared comm : ℕ → ℕ)
         → IsMeant (straight (plain_unit u) input shared comm) (meaning (plain program.now.unit) input shared comm)) }
 
     // Each function costs at most what it weighs, and has at most the frame that is counted.
     ensures cost { IfOk result (λ u. (k : ℕ) → k < length (plain_unit u).functions
-        → cost (slice_index_or (plain_unit u).functions k no_function) ≤ slice_index (specs.weights_in (plain program.now.unit)) k) }
+        → cost (slice_index_or (plain_unit u).functions k no_function)
+        ≤ slice_index (specs.weights_in (plain program.now.unit)) k) }
     ensures frame { IfOk result (λ u. (k : ℕ) → k < length (plain_unit u).functions
-        → (slice_index_or (plain_unit u).functions k no_function).frame ≤ slice_index (specs.frames_in (plain program.now.unit)) k) }
+        → (slice_index_or (plain_unit u).functions k no_function).frame
+        ≤ slice_index (specs.frames_in (plain program.now.unit)) k) }
 
     // What others see is used only where the text uses it.
-    ensures reads { IfOk result (λ u. (a : Array) → list_any (reads_region (memory_of a)) (uses_of (plain_unit u)) ≡ true
+    ensures reads { IfOk result (λ u. (a : Array)
+        → list_any (reads_region (memory_of a)) (uses_of (plain_unit u)) ≡ true
         → mentions a (plain program.now.unit) ≡ true) }
-    ensures writes { IfOk result (λ u. (a : Array) → list_any (writes_region (memory_of a)) (uses_of (plain_unit u)) ≡ true
+    ensures writes { IfOk result (λ u. (a : Array)
+        → list_any (writes_region (memory_of a)) (uses_of (plain_unit u)) ≡ true
         → assigns a (plain program.now.unit) ≡ true) }
     ensures sends { IfOk result (λ u. (core : ℕ) → list_any (is_send_to core) (uses_of (plain_unit u)) ≡ true
         → sends_to core (plain program.now.unit) ≡ true) }

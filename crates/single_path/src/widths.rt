@@ -79,7 +79,8 @@ fn step(step: &Option<Assignment>) -> u32
 
 fn call(args: &[SpExpr], given: &Option<Target>) -> Width
     ensures variables { result.variables
-        ≡ specs.capped (max (specs.args_words (map plain_sp args.now)) (specs.result_words (option_map plain_target given.now))) }
+        ≡ specs.capped (max (specs.args_words (map plain_sp args.now))
+        (specs.result_words (option_map plain_target given.now))) }
     ensures masks { result.masks ≡ specs.capped (specs.result_masks (option_map plain_target given.now)) }
 {
     let before = arguments(args);
@@ -96,7 +97,8 @@ fn call(args: &[SpExpr], given: &Option<Target>) -> Width
 
 fn send(source: &SpExpr, aim: &SpExpr, count: &SpExpr) -> Width
     ensures variables { result.variables
-        ≡ specs.capped (max (specs.expr_words (plain_sp source.now)) (max (specs.expr_words (plain_sp aim.now)) (specs.expr_words (plain_sp count.now)))) }
+        ≡ specs.capped (max (specs.expr_words (plain_sp source.now))
+        (max (specs.expr_words (plain_sp aim.now)) (specs.expr_words (plain_sp count.now)))) }
     ensures masks { result.masks ≡ 0 }
 {
     let first = expression(source);
@@ -120,9 +122,10 @@ fn wider(a: Width, b: Width) -> Width
     }
 }
 
-// an arm, before what stands behind it
+// an arm, before what stands after it
 fn arm(condition: &SpExpr, body: Width, rest: Width) -> Width
-    ensures variables { result.variables ≡ specs.capped (max (specs.expr_words (plain_sp condition.now)) (max body.variables rest.variables)) }
+    ensures variables { result.variables
+        ≡ specs.capped (max (specs.expr_words (plain_sp condition.now)) (max body.variables rest.variables)) }
     ensures masks { result.masks ≡ specs.capped (1 + max body.masks rest.masks) }
 {
     let tested = expression(condition);
@@ -137,7 +140,8 @@ fn arm(condition: &SpExpr, body: Width, rest: Width) -> Width
 #[tactic(auto, using(crate::proofs::Wide::no_masks, crate::proofs::Wide::some_masks))]
 fn repeated(most: u32, condition: &SpExpr, body: Width, next: &Option<Assignment>) -> Width
     ensures variables { result.variables
-        ≡ specs.capped (max (specs.expr_words (plain_sp condition.now)) (max body.variables (specs.step_words (option_map plain_assignment next.now)))) }
+        ≡ specs.capped (max (specs.expr_words (plain_sp condition.now))
+        (max body.variables (specs.step_words (option_map plain_assignment next.now)))) }
     ensures masks { result.masks ≡ specs.capped (specs.loop_masks most body.masks) }
 {
     let tested = expression(condition);
@@ -227,8 +231,10 @@ fn width_of(actions: &[Action]) -> Width
 #[cycle(width)]
 #[tactic(auto, using(crate::proofs::Wide::capped_arms))]
 fn choice(branches: &[Branch], otherwise: &[Action]) -> Width
-    ensures variables { result.variables ≡ specs.capped (specs.action_words (plain.chooses (branches_of branches.now) (actions_of otherwise.now))) }
-    ensures masks { result.masks ≡ specs.capped (specs.action_masks (plain.chooses (branches_of branches.now) (actions_of otherwise.now))) }
+    ensures variables { result.variables
+        ≡ specs.capped (specs.action_words (plain.chooses (branches_of branches.now) (actions_of otherwise.now))) }
+    ensures masks { result.masks ≡ specs.capped
+        (specs.action_masks (plain.chooses (branches_of branches.now) (actions_of otherwise.now))) }
 {
     let last = width_of(otherwise);
     arms(branches, last)
@@ -237,7 +243,8 @@ fn choice(branches: &[Branch], otherwise: &[Action]) -> Width
 #[cycle(width)]
 #[tactic(auto)]
 fn arms(branches: &[Branch], last: Width) -> Width
-    ensures variables { result.variables ≡ specs.capped (max (specs.branches_words (branches_of branches.now)) last.variables) }
+    ensures variables { result.variables
+        ≡ specs.capped (max (specs.branches_words (branches_of branches.now)) last.variables) }
     ensures masks { result.masks ≡ specs.capped (specs.branches_masks (branches_of branches.now) last.masks) }
 {
     match branches {
@@ -254,9 +261,11 @@ fn arms(branches: &[Branch], last: Width) -> Width
 #[tactic(auto, using(crate::proofs::Wide::capped_loop))]
 fn turns(most: u32, condition: &SpExpr, body: &[Action], next: &Option<Assignment>) -> Width
     ensures variables { result.variables
-        ≡ specs.capped (specs.action_words (plain.turns most (plain_sp condition.now) (actions_of body.now) (option_map plain_assignment next.now))) }
+        ≡ specs.capped (specs.action_words
+        (plain.turns most (plain_sp condition.now) (actions_of body.now) (option_map plain_assignment next.now))) }
     ensures masks { result.masks
-        ≡ specs.capped (specs.action_masks (plain.turns most (plain_sp condition.now) (actions_of body.now) (option_map plain_assignment next.now))) }
+        ≡ specs.capped (specs.action_masks
+        (plain.turns most (plain_sp condition.now) (actions_of body.now) (option_map plain_assignment next.now))) }
 {
     let inner = width_of(body);
     repeated(most, condition, inner, next)

@@ -1,20 +1,13 @@
 -- From slots to cycles: the k-th slot starts at cycle k * slot.
-use Rattle.std.proofs.Common.{◌≡◌, ℕ, ◌+◌, ◌*◌, ◌/◌, ◌%◌, ◌<◌, ◌≤◌, Bool, true, false, ◌&&◌, ◌==◌, min, List, ap, ◌∙◌, refl, subst, arith, inl, inr}
+use Rattle.std.proofs.Common.{◌≡◌, ℕ, ◌+◌, ◌*◌, ◌/◌, ◌%◌, ◌<◌, ◌≤◌, true, ◌==◌, min, List, ap, ◌∙◌, refl, subst, arith, inl, inr}
 use Rattle.std.proofs.Math.Nat.{mul-mod_left}
 use Rattle.std.proofs.lemmas.Nat.{div-mul-add, div-add-mod', mul-le}
-use Rattle.std.proofs.lemmas.Bool.{eqb-true, eq-eqb, cases_lt}
+use Rattle.std.proofs.lemmas.Bool.{eqb-true, eq-eqb, cases_lt, and_parts, and_from}
 use Rattle.std.proofs.lemmas.Grind.{div_ceil_times}
 use Rattle.std.specs.Int.{div_ceil}
 use Rattle.slot_arbiter.specs.Table.{is_owned}
 use Rattle.slot_arbiter.specs.Slot.{is_slot_start}
 use Rattle.slot_arbiter.specs.Order.{IsNext, IsGap, OutlastsWaits}
-
-pub both : (a b : Bool) → a ≡ true → b ≡ true → (a && b) ≡ true
-both a b p q = cc
-
-pub each : (a b : Bool) → (a && b) ≡ true → (a ≡ true) × (b ≡ true)
-each true b h = (refl, h)
-each false b h = cc
 
 div_whole : (k slot : ℕ) → 0 < slot → k * slot / slot ≡ k
 div_whole k slot some = ap (λ x. x / slot) (omega arith) ∙ div-mul-add k slot 0 some
@@ -22,19 +15,19 @@ div_whole k slot some = ap (λ x. x / slot) (omega arith) ∙ div-mul-add k slot
 -- a slot start is the start of an own slot
 starts_slot : (table : List ℕ) (slot core u : ℕ) → is_slot_start table slot core u ≡ true → (u ≡ u / slot * slot) × (is_owned table core (u / slot) ≡ true)
 starts_slot table slot core u h =
-    let parts = each (u % slot == 0) (is_owned table core (u / slot)) h in
+    let parts = and_parts (u % slot == 0) (is_owned table core (u / slot)) h in
     let even : u % slot ≡ 0 = eqb-true (u % slot) 0 parts.0 in
     (omega (arith, div-add-mod' u slot), parts.1)
 
 -- an own slot starts at a slot start
 slot_starts : (table : List ℕ) (slot core k : ℕ) → 0 < slot → is_owned table core k ≡ true → is_slot_start table slot core (k * slot) ≡ true
 slot_starts table slot core k some own =
-    both (k * slot % slot == 0) (is_owned table core (k * slot / slot))
+    and_from (k * slot % slot == 0) (is_owned table core (k * slot / slot))
     (eq-eqb (k * slot % slot) 0 (mul-mod_left k slot))
     (ap (is_owned table core) (div_whole k slot some) ∙ own)
 
 -- slots in the order of their starts
-slot_order : (a b slot : ℕ) → a * slot < (b + 1) * slot → a ≤ b
+pub slot_order : (a b slot : ℕ) → a * slot < (b + 1) * slot → a ≤ b
 slot_order a b slot h = elim (cases_lt b a) [
   | inl after ↦ let far : (b + 1) * slot ≤ a * slot = mul-le (b + 1) slot a slot (omega arith) (omega arith) in absurd (omega arith)
   | inr fine ↦ fine

@@ -3,10 +3,9 @@ use Rattle.std.proofs.Common.{◌≡◌, ℕ, ◌+◌, ◌*◌, ◌/◌, ◌%◌
 use Rattle.std.specs.List.{range_with_len}
 use Rattle.std.proofs.lemmas.List.FromFn.{length-range_with_len, get_or-range_with_len}
 use Rattle.std.proofs.lemmas.Nat.{mod-mul-add, mod_below, div-add-mod', mul-le, same_from_place}
-use Rattle.std.proofs.lemmas.Bool.{eqb-true, eq-eqb}
+use Rattle.std.proofs.lemmas.Bool.{eqb-true, eq-eqb, and_parts, and_from}
 use Rattle.slot_arbiter.specs.Table.{is_owned}
 use Rattle.slot_arbiter.specs.Slot.{is_slot_start}
-use Rattle.slot_arbiter.proofs.Cycles.{both, each}
 
 -- the k-th slot is the core's whose number is left of k
 owner_in_turn : (n k : ℕ) → 0 < n → slice_index (range_with_len 0 n) (k % length (range_with_len 0 n)) ≡ k % n
@@ -29,7 +28,7 @@ in_period n slot u some wide =
 -- so the core's slots start where the plain rule of turns has them
 pub start_in_turn : (n slot core u : ℕ) → core < n → 0 < slot → is_slot_start (range_with_len 0 n) slot core u ≡ true → u % (n * slot) ≡ core * slot
 start_in_turn n slot core u among wide h =
-    let parts = each (u % slot == 0) (is_owned (range_with_len 0 n) core (u / slot)) h in
+    let parts = and_parts (u % slot == 0) (is_owned (range_with_len 0 n) core (u / slot)) h in
     let even : u % slot ≡ 0 = eqb-true (u % slot) 0 parts.0 in
     let own : u / slot % n ≡ core = sym (owner_in_turn n (u / slot) (omega arith)) ∙ eqb-true _ core parts.1 in
     in_period n slot u (omega arith) wide ∙ omega (arith, even, ap (λ m. m * slot) own)
@@ -37,6 +36,6 @@ start_in_turn n slot core u among wide h =
 pub turn_starts : (n slot core u : ℕ) → core < n → 0 < slot → u % (n * slot) ≡ core * slot → is_slot_start (range_with_len 0 n) slot core u ≡ true
 turn_starts n slot core u among wide e =
     let same = same_from_place (u / slot % n) (u % slot) core 0 slot (mod_below u slot wide) wide (sym (in_period n slot u (omega arith) wide) ∙ omega (arith, e)) in
-    both (u % slot == 0) (is_owned (range_with_len 0 n) core (u / slot))
+    and_from (u % slot == 0) (is_owned (range_with_len 0 n) core (u / slot))
     (eq-eqb (u % slot) 0 same.1)
     (eq-eqb _ core (owner_in_turn n (u / slot) (omega arith) ∙ same.0))

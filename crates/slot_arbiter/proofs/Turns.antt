@@ -23,7 +23,7 @@ reach n first j h =
     (away % n, (mod_below away n (omega arith), add-mod-mod first away n ∙ ap (λ x. x % n) whole ∙ mod-mul-add (first / n + 1) n j h))
 
 -- from any slot on, a core that has an entry owns a slot within one round
-comes : (table : List ℕ) (core first : ℕ) → has_entry table core ≡ true → (k : ℕ) × ((k < length table) × (is_owned table core (first + k) ≡ true))
+pub comes : (table : List ℕ) (core first : ℕ) → has_entry table core ≡ true → (k : ℕ) × ((k < length table) × (is_owned table core (first + k) ≡ true))
 comes table core first h =
     let entry = Any-from_list_any (λ e. e == core) table h in
     let at = reach (length table) first entry.0 entry.2 in
@@ -156,7 +156,7 @@ gap_from_waits table core w some within at =
 -- ---- the longest of the waits, place by place
 
 -- a number has one next
-next_same : (test : ℕ → Bool) (t u v : ℕ) → IsNext test t u → IsNext test t v → u ≡ v
+pub next_same : (test : ℕ → Bool) (t u v : ℕ) → IsNext test t u → IsNext test t v → u ≡ v
 next_same test t u v a b = omega (arith, a.least v b.from b.passes, b.least u a.from a.passes)
 
 -- the longer of the longest wait so far and the wait from the next place

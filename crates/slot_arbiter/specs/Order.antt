@@ -1,4 +1,4 @@
--- What it is to be the next of the numbers that pass a test.
+-- To be believed. What it is to be the next of the numbers that pass a test.
 use Rattle.std.specs.Prelude.{ℕ, ◌+◌, ◌<◌, ◌≤◌, Bool, IsTrue}
 
 -- u is the least number at or after t that passes the test

@@ -1,4 +1,4 @@
--- A core's place on the platform.
+-- To be believed. A core's place on the platform.
 use Rattle.std.specs.Prelude.{ℕ, ◌<◌, ◌≤◌}
 use Rattle.slot_arbiter.specs.declared.place.TheConstants.{LATEST_START}
 pub mod HasNumbers

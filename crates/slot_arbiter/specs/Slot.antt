@@ -1,4 +1,4 @@
--- The slots of a core in cycles (Schoeberl et al., T-CREST, 2015; slot tables are our own profile
+-- To be believed. The slots of a core in cycles (Schoeberl et al., T-CREST, 2015; slot tables are our own profile
 -- TP1). A slot lasts the same number of cycles whoever owns it.
 use Rattle.std.specs.Prelude.{ℕ, ◌*◌, ◌/◌, ◌%◌, Bool, ◌&&◌, ◌==◌, List, length}
 use Rattle.slot_arbiter.specs.Table.{is_owned}

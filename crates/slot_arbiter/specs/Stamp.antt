@@ -1,4 +1,4 @@
--- Stamps put what all cores do to shared and communication words into one order. The rule is our
+-- To be believed. Stamps put what all cores do to shared and communication words into one order. The rule is our
 -- own profile TP1's: in each cycle all deliveries of packets come first, by core (phase 0), and
 -- then each core's own injection and access, by core (phase 1).
 use Rattle.std.specs.Prelude.{ℕ, ◌+◌, ◌*◌, ◌<◌, ◌≤◌}

@@ -1,4 +1,4 @@
--- A slot table gives each slot of the period to a core (time-division multiplexing of main memory:
+-- To be believed. A slot table gives each slot of the period to a core (time-division multiplexing of main memory:
 -- Schoeberl et al., T-CREST, 2015; the numbers are those of our own profile TP1).
 use Rattle.std.specs.Prelude.{◌≡◌, ℕ, ◌-◌, ◌%◌, ◌≤◌, Bool, ◌&&◌, ◌==◌, nat_lt, nat_le, List, ◌++◌, length, take, replicate, slice_index}
 use Rattle.std.specs.List.{list_all, list_any, range_with_len}

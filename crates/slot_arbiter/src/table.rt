@@ -30,7 +30,8 @@ impl Model for Table {
 
     ghost inverse_ok = { λ t h i. record {
       count = length-take-le t.count t.entries h.held i;
-      entries = (ap (λ n. take t.count t.entries ++ replicate (64 - n) 0) (length-take-le t.count t.entries h.held) ∙ sym h.rest) i;
+      entries = (ap (λ n. take t.count t.entries
+          ++ replicate (64 - n) 0) (length-take-le t.count t.entries h.held) ∙ sym h.rest) i;
     } };
 }
 

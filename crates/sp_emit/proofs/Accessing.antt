@@ -1,4 +1,4 @@
--- What code asks for, whatever its loads give: bundles that reach the stack alone; and code behind other code.
+-- What code asks for, whatever its loads give: bundles that reach the stack alone; and code after other code.
 use Rattle.std.proofs.Common.{◌≡◌, ℕ, zero, suc, ◌+◌, ◌*◌, ◌%◌, ◌^◌, ◌<◌, ◌==◌, arith, slice_index, Bool, true, false, ◌&&◌, if◌then◌else◌, List, [], ◌∷◌, ◌++◌, append-nil, nat_lt, refl, sym, ap, ◌∙◌, subst, true≢false}
 use Rattle.std.specs.List.{list_all}
 use Rattle.std.proofs.lemmas.Bool.{and_parts, and_from, ltb-true, eqb-true}

@@ -13,10 +13,11 @@ use Rattle.sp_tree.specs.declared.operators.SpBinary.{SpBinary}
 use Rattle.sp_tree.specs.declared.operators.SpUnary.{SpUnary}
 use Rattle.sp_shape.specs.Bundles.{parts_all}
 use Rattle.sp_shape.specs.Parts.{straight, PlainParts, one, joined}
+use Rattle.sp_shape.proofs.Lists.{all_append}
 use Rattle.sp_emit.specs.Expressions.{unary_code, binary_code, held_code, element_code, number_of, expr_code}
 use Rattle.sp_emit.specs.Functions.{argument_kept, first_counter, arguments_kept, state_kept, function_begin, function_rest, function_code}
 use Rattle.sp_emit.specs.Statements.{cell_write, element_write, place_write, args_code, call_code, send_code, overrun_code, slot_set, stmt_code, stmts_code}
-use Rattle.sp_emit.proofs.Quiet.{each_joined, each_append, each_lone}
+use Rattle.sp_emit.proofs.Quiet.{each_joined, each_lone}
 
 abbrev is_alone : Slots → Bool
 is_alone b = is_none b.second
@@ -102,10 +103,10 @@ mutual
 
 kept_alone : (n : ℕ) → AreAlone (arguments_kept n)
 kept_alone zero = refl
-kept_alone (suc n) = each_append is_alone (arguments_kept n) (argument_kept n) (kept_alone n) refl
+kept_alone (suc n) = all_append is_alone (arguments_kept n) (argument_kept n) (kept_alone n) refl
 
 pub function_alone : (f : PlainFunction) → parts_all (λ b. is_none b.second) (function_code f) ≡ true
 function_alone f =
     and_from (list_all is_alone (function_begin f)) (parts_all is_alone (joined (stmts_code f.frame (first_counter f) f.body) (function_rest f)))
-    (each_append is_alone (arguments_kept f.parameters) (state_kept f) (kept_alone f.parameters) refl)
+    (all_append is_alone (arguments_kept f.parameters) (state_kept f) (kept_alone f.parameters) refl)
     (both (stmts_code f.frame (first_counter f) f.body) (function_rest f) (stmts_alone f.frame (first_counter f) f.body) refl)

@@ -1,4 +1,4 @@
--- What the code of arguments leaves, one behind another; and what a stack instruction leaves.
+-- What the code of arguments leaves, one after another; and what a stack instruction leaves.
 use Rattle.std.proofs.Common.{◌≡◌, ℕ, zero, suc, ◌+◌, ◌<◌, ◌≤◌, true, if◌then◌else◌, List, [], ◌∷◌, ◌++◌, length, slice_index, refl, sym, ap, ◌∙◌, subst, arith}
 use Rattle.std.proofs.lemmas.Bool.{and_parts}
 use Rattle.patmos_instr.specs.declared.functions.StackFunc.{StackFunc}

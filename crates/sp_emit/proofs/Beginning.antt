@@ -1,13 +1,14 @@
 -- What the code leaves with which a function begins: its frame holds the arguments and the mask, and 0 in all other words.
-use Rattle.std.proofs.Common.{◌≡◌, ℕ, zero, suc, ◌+◌, ◌-◌, ◌<◌, ◌≤◌, ◌⊎◌, inl, inr, if◌then◌else◌, List, [], ◌∷◌, ◌++◌, length, slice_index, nat_lt, refl, sym, ap, ◌∙◌, subst, arith}
+use Rattle.std.proofs.Common.{◌≡◌, ℕ, zero, suc, ◌+◌, ◌-◌, ◌<◌, ◌≤◌, ◌⊎◌, inl, inr, if◌then◌else◌, List, length, slice_index, nat_lt, refl, sym, ap, ◌∙◌, subst, arith}
 use Rattle.std.proofs.lemmas.Bool.{cases_lt, cases_eq, lt-ltb, le-ltb, le-leb}
+use Rattle.tc_word.proofs.Items.{past_all}
 use Rattle.shared_order.specs.Words.{put}
-use Rattle.patmos_instr.specs.Bundles.{Slots}
 use Rattle.patmos_instr.specs.declared.functions.StackFunc.TheVariants.{Sres}
 use Rattle.patmos_sem.specs.Registers.{word_in}
 use Rattle.sp_shape.proofs.Whole.{run_append}
 use Rattle.sp_shape.specs.Run.{Run, Sources, by_words, once, run, reserved, IsWhole}
-use Rattle.sp_shape.specs.Trail.{does, all_done}
+use Rattle.sp_shape.specs.Trail.{all_done}
+use Rattle.sp_shape.proofs.Lists.{done_append}
 use Rattle.sp_emit.specs.Functions.{argument_kept, arguments_kept}
 use Rattle.sp_emit.specs.Holding.{held}
 use Rattle.sp_emit.specs.Instructions.{always, stack_op, store_slot}
@@ -16,11 +17,11 @@ use Rattle.sp_emit.proofs.Arguments.{did_stack}
 use Rattle.sp_emit.proofs.Frames.{put_same, put_other, put_behind}
 use Rattle.sp_emit.proofs.Storing.{did_store_slot}
 
--- the first so many of some words, and 0 behind them
+-- the first so many of some words, and 0 after them
 abbrev pub first_words : ℕ → List ℕ → ℕ → ℕ
 first_words count words x = if nat_lt x count then slice_index words x else 0
 
--- a frame was taken, and holds these words; all registers and memories are as they were, and so is the stack behind it
+-- a frame was taken, and holds these words; all registers and memories are as they were, and so is the stack after it
 pub record Taken (frame : ℕ) (words : ℕ → ℕ) (m t : Run) : Type 0 where
   pub whole : IsWhole t
   pub regs : t.regs ≡ m.regs
@@ -61,10 +62,6 @@ one_more j u args = by (cases_eq j u)
             past (inl less) = less
             past (inr same) = absurd (other (omega (arith, more, same)))
 
-pub all_done_append : (xs ys : List Slots) → all_done (xs ++ ys) ≡ all_done xs ++ all_done ys
-all_done_append [] ys = refl
-all_done_append (x ∷ xs) ys = ap (λ l. does x ∷ l) (all_done_append xs ys)
-
 -- the words of a frame with one of them stored
 stores_word : (frame slot rs v : ℕ) (words more : ℕ → ℕ) (m t : Run) → slot < frame → frame ≤ 128 → frame ≤ m.st → held rs t ≡ v → Taken frame words m t → ((u : ℕ) → put slot v words u ≡ more u)
     → Taken frame more m (once by_words (store_slot always slot rs) t)
@@ -87,14 +84,8 @@ stores_arguments frame (suc j) args m t few fits most enough given x =
     let n = run by_words (all_done (arguments_kept j)) t in
     let is : held (FIRST + j) n ≡ slice_index args j = ap (λ r. word_in r (FIRST + j)) y.regs ∙ given j few in
     subst (Taken frame (first_words (suc j) args) m)
-    (sym (ap (λ steps. run by_words steps t) (all_done_append (arguments_kept j) (argument_kept j)) ∙ run_append by_words (all_done (arguments_kept j)) (all_done (argument_kept j)) t))
+    (sym (ap (λ steps. run by_words steps t) (done_append (arguments_kept j) (argument_kept j)) ∙ run_append by_words (all_done (arguments_kept j)) (all_done (argument_kept j)) t))
     (stores_word frame j (FIRST + j) (slice_index args j) (first_words j args) (first_words (suc j) args) m n (omega (arith, few, fits)) most enough is y (λ u. one_more j u args))
-
--- behind the last of them all are 0
-past_all : (args : List ℕ) (u : ℕ) → length args ≤ u → slice_index args u ≡ 0
-past_all [] u more = refl
-past_all (x ∷ args) zero more = absurd (omega (arith, more))
-past_all (x ∷ args) (suc u) more = past_all args u (omega (arith, more))
 
 all_words : (args : List ℕ) (u : ℕ) → first_words (length args) args u ≡ slice_index args u
 all_words args u = by (cases_lt u (length args))

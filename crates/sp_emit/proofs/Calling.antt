@@ -44,7 +44,7 @@ did_call m whole =
 did_idle : (m : Run) → IsWhole m → once by_words idle m ≡ with_written (write.Register 0 ((held 0 m + 0) % 2 ^ 32)) m
 did_idle m whole = did_write by_words always (AluImm imm.Add 0 0 0) m whole whole.fits.always refl refl
 
--- behind a call and its delay slots the function begins, with all registers as they were
+-- after a call and its delay slots the function begins, with all registers as they were
 pub record Begins (m t : Run) : Type 0 where
   pub whole : IsWhole t
   pub regs : (x : ℕ) → x < 32 → held x t ≡ held x m
@@ -123,7 +123,7 @@ result_done slots count frame mask (Some slot) v s t most fits masked formed wor
 unfoldable pub ServedBy : (ℕ → List Step) → Serves → ℕ → ℕ → ℕ → Type 0
 ServedBy f g k arguments room = (mask : ℕ) (args : List ℕ) (w : World) (m : Run) → length args ≡ arguments → room ≤ m.st → CalledWith mask args w m → Answers (g k mask args w) m (run by_words (f k) m)
 
--- a frame's words behind a call, and the world that the function gave
+-- a frame's words after a call, and the world that the function gave
 follows_answer : (slots : ℕ) (s : State) (g : Given) (m c t : Run) → Follows slots s m → c.stack ≡ m.stack → c.st ≡ m.st → Answers g c t → Follows slots (in_world s g.world) t
 follows_answer slots s g m c t x same_stack same_st a = record {
   whole = a.carries.whole;

@@ -5,6 +5,7 @@ use Rattle.local_store.specs.Map.{cell_at}
 use Rattle.local_store.specs.declared.map.Cell.{Cell}
 use Rattle.local_store.specs.declared.map.Cell.TheVariants as cell
 use Rattle.local_store.specs.declared.map.Space.TheVariants.{Local, Main}
+use Rattle.local_store.proofs.Cells.{private_at}
 use Rattle.c_world.specs.Shown.{room_in}
 use Rattle.c_world.specs.World as world
 use Rattle.c_world.specs.declared.region.Region.{Region}
@@ -33,10 +34,6 @@ comm_at : (word at : ℕ) → at ≡ 0x10000 + 4 * word → word < 512 → cell_
 comm_at word at is few =
     rw (le-leb 0 at (omega arith), le-ltb at (0 + 4 * 2048) (omega (arith, is)), le-leb 0x10000 at (omega (arith, is)), lt-ltb at (0x10000 + 4 * 512) (omega (arith, is, few)))
     (ap (λ n. Some (cell.Comm n)) (let e : (at - 0x10000) / 4 ≡ word = omega (arith, is) in e))
-
-private_at : (word at : ℕ) → at ≡ 4 * word → word < 65536 → cell_at Main at ≡ Some (cell.Private word)
-private_at word at is few =
-    rw (le-leb 0 at (omega arith), lt-ltb at (0 + 4 * 65536) (omega (arith, is, few))) (ap (λ n. Some (cell.Private n)) (let e : (at - 0) / 4 ≡ word = omega (arith, is) in e))
 
 shared_at : (word at : ℕ) → at ≡ 0x1000000 + 4 * word → word < 4096 → cell_at Main at ≡ Some (cell.Shared word)
 shared_at word at is few =
@@ -69,7 +66,7 @@ first_small region.Comm word few = omega (arith, few)
 first_small region.Private word few = omega (arith, few)
 first_small region.Shared word few = omega (arith, few)
 
--- so many words behind the first
+-- so many words after the first
 pub element_address : (r : Region) (first index : ℕ) → first + index < room_in r all_rooms → address_by ((4 * index + address_of r first) % 2 ^ 32) 0 4 ≡ address_of r (first + index)
 element_address region.Scratch first index few = omega (arith, few)
 element_address region.Comm first index few = omega (arith, few)

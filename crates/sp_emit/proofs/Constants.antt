@@ -19,7 +19,7 @@ use Rattle.sp_emit.specs.Statements.{element_write, place_write, args_code, call
 abbrev Wordy : PlainParts → Type 0
 Wordy parts = parts_all has_word parts ≡ true
 
--- what holds of each bundle of parts behind others holds of each of both
+-- what holds of each bundle of parts after others holds of each of both
 split : (a b : PlainParts) → Wordy (joined a b) → Wordy a × Wordy b
 split no_part b h = (refl, h)
 split (part p rest) b h =

@@ -22,7 +22,7 @@ use Rattle.sp_emit.proofs.Low.{turns_tail_low}
 use Rattle.sp_emit.proofs.Passing.{Passes, passes_done, enough_still}
 use Rattle.sp_emit.proofs.Storing.{did_store_slot}
 
--- the counter's word behind a body that leaves it
+-- the counter's word after a body that leaves it
 still : {counter n : ℕ} {m t : Run} → Passes counter m t → m.stack (m.st + counter) ≡ n → t.stack (t.st + counter) ≡ n
 still {counter} {n} {m} {t} p is = ap (λ st. t.stack (st + counter)) p.keeps.st ∙ p.keeps.stack (m.st + counter) (omega arith) ∙ is
 

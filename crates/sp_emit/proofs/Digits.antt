@@ -8,7 +8,7 @@ use Rattle.patmos_sem.specs.Operations.{has_bit}
 
 -- ---- what a digit makes of them
 
--- what is left with the dividend's highest bit behind it, as far as a word holds it
+-- what is left with the dividend's highest bit after it, as far as a word holds it
 abbrev pub shifted : ℕ → ℕ → ℕ
 shifted dividend rest = (2 * rest + dividend / 2 ^ 31) % 2 ^ 32
 
@@ -95,7 +95,7 @@ bit_31 rest word = ((λ on. omega (arith, eqb-true (rest / 2 ^ 31 % 2) 1 on, wor
     by (inl less) off = less
     by (inr more) off = absurd (eqb-false (rest / 2 ^ 31 % 2) 1 off (omega (arith, more, word)))
 
--- what is left with a bit behind it is the divisor or more exactly where a word says so
+-- what is left with a bit after it is the divisor or more exactly where a word says so
 goes_on : (b bit rest : ℕ) → bit ≤ 1 → rest < b → b < 2 ^ 32 → (nat_le b ((2 * rest + bit) % 2 ^ 32) || has_bit rest 31) ≡ true
     → (b ≤ 2 * rest + bit) × (((2 * rest + bit) % 2 ^ 32 + (2 ^ 32 - b)) % 2 ^ 32 ≡ 2 * rest + bit - b)
 goes_on b bit rest small less word on = fits (by (or_cases (nat_le b ((2 * rest + bit) % 2 ^ 32)) (has_bit rest 31) on))

@@ -126,7 +126,7 @@ tests from dividend rest divisor m c =
           ∙ ap (λ x. x || so SECOND m1) test_1 ∙ ap (λ x. nat_le divisor (shifted dividend rest) || x) second_1;
     }
 
--- ---- behind the test
+-- ---- after the test
 
 -- a register that an instruction writes where a predicate is true
 written_where : (from : Sources) (p rd v : ℕ) (op : Op) (m : Run) → IsWhole m → 1 ≤ rd → rd < 32 → write_of m.st m.ss m.regs op ≡ write.Register rd v → asked m.regs op ≡ effect.Nothing

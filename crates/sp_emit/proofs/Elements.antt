@@ -25,7 +25,7 @@ use Rattle.sp_emit.proofs.Cells.{element_given, element_address, first_small, fe
 use Rattle.sp_emit.proofs.Leaving.{did_set_long, did_compare, did_compute, did_set_short}
 use Rattle.sp_emit.proofs.Once.{so, with_written, loaded, did_nothing, did_load, whole_written, whole_loaded, got, kept, kept_by_pred, so_got, so_by_register}
 
--- behind the test of the index and the address: what the register and the predicate hold
+-- after the test of the index and the address: what the register and the predicate hold
 pub record Reached (a : SpArray) (rd index : ℕ) (m t : Run) : Type 0 where
   pub whole : IsWhole t
   pub test : so TEST t ≡ nat_lt index a.length

@@ -44,7 +44,7 @@ written_enters slots top words w m t r v other x = record {
   behind = x.behind;
 }
 
--- a word of the frame is stored, one of the first or one behind them
+-- a word of the frame is stored, one of the first or one after them
 stored_enters : (slots top frame slot rs : ℕ) (words more : ℕ → ℕ) (w : World) (m t : Run) → slot < frame → frame ≤ 128 → top + frame ≤ m.st → Enters slots top words w m t
     → ((x : ℕ) → x < slots → put (t.st + slot) (held rs t) t.stack (t.st + x) ≡ more x) → Enters slots top more w m (once by_words (store_slot always slot rs) t)
 stored_enters slots top frame slot rs words more w m t named most below x each =
@@ -58,7 +58,7 @@ stored_enters slots top frame slot rs words more w m t named most below x each =
 beside : (slots slot v : ℕ) (words : ℕ → ℕ) (t : Run) → slots ≤ slot → ((x : ℕ) → x < slots → t.stack (t.st + x) ≡ words x) → (x : ℕ) → x < slots → put (t.st + slot) v t.stack (t.st + x) ≡ words x
 beside slots slot v words t past each x lt = put_other (t.st + slot) (t.st + x) v t.stack (λ same. absurd (omega (arith, same, past, lt))) ∙ each x lt
 
--- a special register is kept in a word behind the first
+-- a special register is kept in a word after the first
 special_enters : (slots top frame slot : ℕ) (s : Special) (words : ℕ → ℕ) (w : World) (m t : Run) → slots ≤ slot → slot < frame → frame ≤ 128 → top + frame ≤ m.st → Enters slots top words w m t
     → Enters slots top words w m (once by_words (store_slot always slot SPARE) (once by_words (from_special SPARE s) t))
 special_enters slots top frame slot s words w m t past named most below x =

@@ -15,7 +15,7 @@ use Rattle.sp_tree.specs.declared.statements.SpStmt.{SpStmt}
 use Rattle.sp_emit.specs.Functions.{first_counter}
 use Rattle.sp_emit.specs.Fits.{ExprFits, ArgsFit, PlaceFits, StmtFits, StmtsFit, FunctionFits}
 
-expr_fits : (slots rd : ℕ) (e : PlainSp) → slots ≤ 128 → rd ≤ 9 → expr_formed slots e ≡ true → ExprFits e rd
+pub expr_fits : (slots rd : ℕ) (e : PlainSp) → slots ≤ 128 → rd ≤ 9 → expr_formed slots e ≡ true → ExprFits e rd
 expr_fits slots rd e most low h =
     let b = and_parts (names_words slots e) (nat_le (need e) 12) h in
     record { slots = slots; most = most; names = b.0; registers = omega (arith, low, leb-true (need e) 12 b.1) }

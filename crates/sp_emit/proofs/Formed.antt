@@ -1,8 +1,8 @@
 -- The code of a well-formed unit is a well-formed shape.
-use Rattle.std.proofs.Common.{◌≡◌, ℕ, zero, suc, ◌+◌, ◌-◌, ◌≤◌, Bool, true, false, List, [], ◌∷◌, ◌++◌, length, map, slice_index_or, refl, ap, ◌∙◌, arith, if◌then◌else◌, Option, None, Some}
+use Rattle.std.proofs.Common.{◌≡◌, ℕ, zero, suc, ◌+◌, ◌-◌, ◌≤◌, Bool, true, false, List, [], ◌∷◌, length, map, slice_index_or, refl, ap, ◌∙◌, arith, if◌then◌else◌, Option, None, Some}
 use Rattle.std.proofs.lemmas.Bool.{and_parts, and_from}
 use Rattle.std.proofs.lemmas.List.{get_or-map, length-map}
-use Rattle.std.specs.Prelude.{nat_lt, nat_le, nat_eq, ◌&&◌, not}
+use Rattle.std.specs.Prelude.{nat_lt, nat_le, nat_eq, ◌&&◌}
 use Rattle.patmos_instr.specs.Bundles.{Slots}
 use Rattle.c_world.specs.declared.region.Region.{Region}
 use Rattle.c_world.specs.declared.region.Region.TheVariants as region
@@ -15,13 +15,14 @@ use Rattle.sp_tree.specs.declared.operators.SpBinary.{SpBinary}
 use Rattle.sp_tree.specs.declared.operators.SpBinary.TheVariants as binary
 use Rattle.sp_tree.specs.declared.operators.SpUnary.{SpUnary}
 use Rattle.sp_tree.specs.declared.operators.SpUnary.TheVariants as unary
-use Rattle.sp_shape.specs.Formed.{is_flow, are_calm, part_formed, parts_formed, function_formed, functions_formed, is_formed}
+use Rattle.sp_shape.specs.Formed.{are_calm, part_formed, parts_formed, function_formed, functions_formed, is_formed}
 use Rattle.sp_shape.specs.Parts.{straight, repeats, calls_to, leaves, PlainParts, no_part, part, one, joined, PlainShape}
+use Rattle.sp_shape.proofs.Lists.{calm_append}
 use Rattle.sp_emit.specs.Expressions.{unary_code, binary_code, held_code, element_code, number_of, expr_code}
 use Rattle.sp_emit.specs.Functions.{argument_kept, first_counter, arguments_kept, state_kept, function_begin, function_rest, function_code, emitted}
 use Rattle.sp_emit.specs.Statements.{cell_write, element_write, place_write, args_code, behind_call, call_code, send_code, overrun_code, slot_set, stmt_code, stmts_code}
 
--- ---- parts behind others
+-- ---- parts after others
 
 pub both : (n : ℕ) (a b : PlainParts) → parts_formed n a ≡ true → parts_formed n b ≡ true → parts_formed n (joined a b) ≡ true
 both n no_part b fa fb = fb
@@ -35,12 +36,6 @@ lone n bs calm = and_from (are_calm bs) true calm refl
 either : (n : ℕ) (c : Bool) (a b : PlainParts) → parts_formed n a ≡ true → parts_formed n b ≡ true → parts_formed n (if c then a else b) ≡ true
 either n true a b fa fb = fa
 either n false a b fa fb = fb
-
-calm_both : (xs ys : List Slots) → are_calm xs ≡ true → are_calm ys ≡ true → are_calm (xs ++ ys) ≡ true
-calm_both [] ys cx cy = cy
-calm_both (x ∷ xs) ys cx cy =
-    let parts = and_parts (not (is_flow x.first.op)) (are_calm xs) cx in
-    and_from (not (is_flow x.first.op)) (are_calm (xs ++ ys)) parts.0 (calm_both xs ys parts.1 cy)
 
 -- ---- expressions
 
@@ -180,12 +175,12 @@ mutual
 
 kept_calm : (n : ℕ) → are_calm (arguments_kept n) ≡ true
 kept_calm zero = refl
-kept_calm (suc n) = calm_both (arguments_kept n) (argument_kept n) (kept_calm n) refl
+kept_calm (suc n) = calm_append (arguments_kept n) (argument_kept n) (kept_calm n) refl
 
 begin_calm : (f : PlainFunction) → are_calm (function_begin f) ≡ true
-begin_calm f = calm_both (arguments_kept f.parameters) (state_kept f) (kept_calm f.parameters) refl
+begin_calm f = calm_append (arguments_kept f.parameters) (state_kept f) (kept_calm f.parameters) refl
 
--- a function ends as what stands behind parts does
+-- a function ends as what stands after parts does
 ends : (n : ℕ) (a b : PlainParts) → parts_formed n a ≡ true → function_formed n b ≡ true → function_formed n (joined a b) ≡ true
 ends n no_part b fa fb = fb
 ends n (part (straight bs) a) b fa fb =

@@ -9,7 +9,7 @@ put_same x y f = ap (λ b. cond b y (f x)) (eq-eqb x x refl)
 pub put_other : {Y : Type 0} (x u : ℕ) (y : Y) (f : ℕ → Y) → (x ≡ u → ⊥) → put x y f u ≡ f u
 put_other x u y f other = ap (λ b. cond b y (f u)) (ne_eqb x u other)
 
--- a word that is set behind some others is set among those behind them
+-- a word that is set after some others is set among those after them
 pub put_behind : (k x u y : ℕ) (f g : ℕ → ℕ) → f (k + u) ≡ g u → put (k + x) y f (k + u) ≡ put x y g u
 put_behind k x u y f g same = by (cases_eq x u)
   where

@@ -21,6 +21,7 @@ use Rattle.sp_shape.specs.Parts.{no_part, joined}
 use Rattle.sp_shape.specs.Run.{Run, Sources, Back, returns, once, run, at_begin, IsWhole}
 use Rattle.sp_shape.specs.Trail.{Step, all_done}
 use Rattle.sp_shape.specs.Turning.{Returns, PartsTurn, back_of, FunctionsTurn, ShapeTurns}
+use Rattle.sp_shape.proofs.Lists.{all_append, done_append}
 use Rattle.sp_emit.specs.Counts.{HasStmtsCounts, HasCounts}
 use Rattle.sp_emit.specs.Functions.{arguments_kept, state_kept, base_slot, offset_slot, first_counter, function_begin, function_end, function_rest, function_code, return_tail, emitted}
 use Rattle.sp_emit.specs.Holding.{held}
@@ -28,7 +29,6 @@ use Rattle.sp_emit.specs.Instructions.{always, idle, return, copy, with_short, f
 use Rattle.sp_emit.specs.Statements.{stmts_code}
 use Rattle.sp_emit.specs.declared.registers.TheConstants.{RESULT, MASK, SPARE, OVERRUN}
 use Rattle.sp_emit.proofs.Asking.{same_ways}
-use Rattle.sp_emit.proofs.Beginning.{all_done_append}
 use Rattle.sp_emit.proofs.Frames.{put_same, put_other}
 use Rattle.sp_emit.proofs.Homing.{back_then, keeps_place, done_back}
 use Rattle.sp_emit.proofs.Leaving.{slot_leaves}
@@ -36,7 +36,6 @@ use Rattle.sp_emit.proofs.LoopTurns.{Callees, turns_joined, stmts_turn}
 use Rattle.sp_emit.proofs.Once.{did_write, got}
 use Rattle.sp_emit.proofs.Passed.{taken, entered, worked, enters_frame, works_in_frame, all_pass}
 use Rattle.sp_emit.proofs.Passing.{AllPass, passes_done}
-use Rattle.sp_emit.proofs.Quiet.{each_append}
 use Rattle.sp_emit.proofs.Returning.{did_return}
 use Rattle.sp_emit.proofs.Serves.{Parts, parts_of_function, code_of}
 use Rattle.sp_emit.proofs.Storing.{did_store_slot}
@@ -62,7 +61,7 @@ special_stored from s slot m whole few =
 
 arguments_keep : (n : ℕ) → list_all keeps_place (arguments_kept n) ≡ true
 arguments_keep zero = refl
-arguments_keep (suc n) = each_append keeps_place (arguments_kept n) _ (arguments_keep n) refl
+arguments_keep (suc n) = all_append keeps_place (arguments_kept n) _ (arguments_keep n) refl
 
 entered_home : (from : Sources) (fs : List PlainFunction) (number : ℕ) (f : PlainFunction) (m : Run) → Parts fs number f → IsWhole m → Holds (base_slot f) (offset_slot f) (back_of m) (entered from f m)
 unfolding entered taken
@@ -148,7 +147,7 @@ begin_run : (from : Sources) (f : PlainFunction) (m : Run) → run from (all_don
 unfolding entered taken
 begin_run from f m =
     let t0 = once from (stack_op Sres f.frame) m in
-    ap (λ steps. run from steps t0) (all_done_append (arguments_kept f.parameters) (state_kept f)) ∙ run_append from (all_done (arguments_kept f.parameters)) (all_done (state_kept f)) t0
+    ap (λ steps. run from steps t0) (done_append (arguments_kept f.parameters) (state_kept f)) ∙ run_append from (all_done (arguments_kept f.parameters)) (all_done (state_kept f)) t0
 
 function_turns : (from : Sources) (code : ℕ → List Step) (Called : ℕ → Run → Type 0) (fs : List PlainFunction) (number low : ℕ) (f : PlainFunction) → from.stack ≡ true → function_formed fs number f ≡ true → HasStmtsCounts f.body → Callees from code Called number low
     → (m : Run) → IsWhole m → low + 128 ≤ m.st → PartsTurn (run from) code Called (back_of m) (function_code f) m

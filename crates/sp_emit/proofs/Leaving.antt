@@ -69,7 +69,7 @@ did_set_long from rd n m whole =
 
 -- ---- truths
 
--- behind a test its truth stands in the register
+-- after a test its truth stands in the register
 truth_leaves : (from : Sources) (rd : ℕ) (b : Bool) (m : Run) → IsWhole m → 1 ≤ rd → rd < 32 → so TEST m ≡ b → held rd (run from (all_done (truth_to rd)) m) ≡ flag b
 truth_leaves from rd b m whole some few test =
     let zero = with_written (write.Register rd 0) m in
@@ -186,7 +186,7 @@ held_leaves from binary.RemainderUnsigned rd n m whole some few small = absurd (
 
 -- ---- accesses
 
--- what is held behind a load, in its register and in others
+-- what is held after a load, in its register and in others
 loaded_got : (from : Sources) (space : Mem) (rd address : ℕ) (m : Run) → IsWhole m → 1 ≤ rd → rd < 32 → held rd (loaded from space rd address m) ≡ word_given from space address m
 loaded_got from space rd address m whole some few = got rd (word_given from space address m) m whole some few
 

@@ -30,7 +30,7 @@ use Rattle.sp_emit.proofs.Low.{Low, args_low, stmt_low, stmts_low, turns_begin_l
 use Rattle.sp_emit.proofs.Passing.{AllPass, passes_then, passes_done, passes_parts, passes_begun, enough_still}
 use Rattle.sp_emit.proofs.Storing.{did_store_slot}
 
--- ---- parts behind others
+-- ---- parts after others
 
 pub turns_joined : (from : Sources) (f : ℕ → List Step) (Called : ℕ → Run → Type 0) (back : Back) (xs ys : PlainParts) (m : Run) → PartsTurn (run from) f Called back xs m → PartsTurn (run from) f Called back ys (run from (parts_trail f xs) m)
     → PartsTurn (run from) f Called back (joined xs ys) m

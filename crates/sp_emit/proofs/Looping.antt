@@ -1,6 +1,7 @@
 -- One more statement, and one more argument.
-use Rattle.std.proofs.Common.{◌≡◌, ℕ, ◌+◌, ◌<◌, ◌≤◌, suc, List, ◌∷◌, length, drop, get_or, map, ap, sym, ◌∙◌, add-one, drop-cons, subst}
+use Rattle.std.proofs.Common.{◌≡◌, ℕ, ◌+◌, ◌<◌, ◌≤◌, List, length, drop, get_or, map, ap, sym, ◌∙◌, subst}
 use Rattle.std.proofs.lemmas.List.{drop_all}
+use Rattle.tc_word.proofs.Items.{drop_item}
 use Rattle.sp_tree.specs.Plain.{plain_sp}
 use Rattle.sp_tree.specs.Shown.{plain_stmt, stmts_of}
 use Rattle.sp_tree.specs.declared.expressions.SpExpr.{SpExpr}
@@ -11,9 +12,6 @@ use Rattle.sp_emit.specs.Expressions.{expr_code}
 use Rattle.sp_emit.specs.Fits.{ArgsFit}
 use Rattle.sp_emit.specs.Statements.{args_code, stmt_code, stmts_code}
 use Rattle.sp_emit.proofs.Fitting.{other_arguments}
-
-drop_item : {X : Type 0} (xs : List X) (i : ℕ) (x : X) → i < length xs → x ≡ get_or xs i x → drop i xs ≡ x ∷ drop (i + 1) xs
-drop_item xs i x within is = drop-cons xs i x within ∙ ap (λ y. y ∷ drop (suc i) xs) (sym is) ∙ ap (λ n. x ∷ drop n xs) (sym (add-one i))
 
 -- what was added goes over to what is there
 moved : (out next code rest whole : PlainParts) → joined out (joined code rest) ≡ whole → next ≡ joined out code → joined next rest ≡ whole

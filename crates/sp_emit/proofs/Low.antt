@@ -1,4 +1,4 @@
--- The code of statements stores no word of the stack behind the next counter of turns.
+-- The code of statements stores no word of the stack after the next counter of turns.
 use Rattle.std.proofs.Common.{◌≡◌, ℕ, ◌+◌, ◌-◌, ◌<◌, ◌≤◌, ◌==◌, true, ◌&&◌, List, Option, None, Some, length, nat_lt, refl, arith}
 use Rattle.std.specs.List.{list_all}
 use Rattle.std.proofs.lemmas.Bool.{and_parts, and_from, lt-ltb, ltb-true}

@@ -50,7 +50,7 @@ behind_slot w left regs nothing =
     ap at_rest (after_writes-append (came regs.pending ∷ w ∷ write.Nothing ∷ []) (came left ∷ []) regs)
     ∙ ap (λ p. at_rest (after_writes (came p ∷ w ∷ write.Nothing ∷ came left ∷ []) regs)) nothing
 
--- the registers behind a bundle of one slot, whose guard is true or false
+-- the registers after a bundle of one slot, whose guard is true or false
 unfoldable pub slot_behind : (on : Bool) → Op → Run → Registers
 slot_behind on op m = record (after_writes (came m.regs.pending ∷ (if on then write_of m.st m.ss m.regs op else write.Nothing) ∷ write.Nothing ∷ []) m.regs) { pending = if on then begun m.regs op else pending.Nothing }
 
@@ -87,7 +87,7 @@ did_nothing from g op m whole off =
     ∙ ap (λ h. with_regs m (settled (slot_behind h op m))) off
     ∙ ap (with_regs m) (behind_slot write.Nothing pending.Nothing m.regs whole.pending ∙ unchanged m.regs whole.fits whole.pending)
 
--- a product that a bundle begins is there behind it
+-- a product that a bundle begins is there after it
 pub did_multiply : (from : Sources) (g : Guard) (unsigned : Bool) (ra rb : ℕ) (m : Run) → IsWhole m → holds m.regs g ≡ true
     → once from (under g (Mul unsigned ra rb)) m ≡ with_written (came (begun m.regs (Mul unsigned ra rb))) m
 unfolding slot_behind with_regs
@@ -114,7 +114,7 @@ given_same from mem.L address m regs = refl
 given_same from mem.C address m regs = refl
 given_same from mem.M address m regs = refl
 
--- a word that is loaded is there behind its bundle
+-- a word that is loaded is there after its bundle
 pub did_load : (from : Sources) (g : Guard) (space : Mem) (rd ra imm : ℕ) (m : Run) → IsWhole m → holds m.regs g ≡ true
     → once from (under g (Load space load.Word rd ra imm)) m ≡ loaded from space rd (address_of (held ra m) imm 4) m
 unfolding slot_behind with_regs

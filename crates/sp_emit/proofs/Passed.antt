@@ -10,6 +10,7 @@ use Rattle.sp_tree.specs.Statements.{PlainFunction, no_function}
 use Rattle.sp_shape.specs.Parts.{no_part}
 use Rattle.sp_shape.specs.Run.{Run, Sources, once, run, IsWhole}
 use Rattle.sp_shape.specs.Trail.{Step, all_done, parts_trail}
+use Rattle.sp_shape.proofs.Lists.{all_append}
 use Rattle.sp_emit.specs.Functions.{argument_kept, arguments_kept, state_kept, base_slot, offset_slot, first_counter, function_code, return_tail}
 use Rattle.sp_emit.specs.Instructions.{copy, load_slot, to_special, stack_op}
 use Rattle.sp_emit.specs.Statements.{stmts_code}
@@ -19,14 +20,13 @@ use Rattle.sp_emit.proofs.Beginning.{takes_frame}
 use Rattle.sp_emit.proofs.Formed as formed
 use Rattle.sp_emit.proofs.Low.{AreLow, stmts_low}
 use Rattle.sp_emit.proofs.Passing.{AllPass, Passes, passes, passes_done, passes_parts}
-use Rattle.sp_emit.proofs.Quiet.{each_append}
 use Rattle.sp_emit.proofs.Serves.{Parts, parts_of_function, function_run, code_of}
 
--- ---- before and behind the body
+-- ---- before and after the body
 
 arguments_low : (count n : ℕ) → n ≤ count → AreLow count (arguments_kept n)
 arguments_low count zero le = refl
-arguments_low count (suc n) le = each_append (passes count) (arguments_kept n) (argument_kept n) (arguments_low count n (omega (arith, le))) (rw (lt-ltb n count le) refl)
+arguments_low count (suc n) le = all_append (passes count) (arguments_kept n) (argument_kept n) (arguments_low count n (omega (arith, le))) (rw (lt-ltb n count le) refl)
 
 state_low : (count : ℕ) (f : PlainFunction) → f.mask < count → base_slot f < count → offset_slot f < count → AreLow count (state_kept f)
 state_low count f mask base offset = rw (lt-ltb f.mask count mask, lt-ltb (base_slot f) count base, lt-ltb (offset_slot f) count offset) refl

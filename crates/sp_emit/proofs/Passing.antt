@@ -1,4 +1,4 @@
--- What code leaves of the stack behind the first words of a frame, whatever its loads give.
+-- What code leaves of the stack after the first words of a frame, whatever its loads give.
 use Rattle.std.proofs.Common.{◌≡◌, ℕ, zero, suc, ◌+◌, ◌*◌, ◌/◌, ◌%◌, ◌^◌, ◌<◌, ◌≤◌, ◌==◌, Bool, true, false, ◌&&◌, if◌then◌else◌, List, [], ◌∷◌, ◌++◌, nat_lt, refl, sym, ap, ◌∙◌, subst, arith, true≢false}
 use Rattle.std.specs.List.{list_all}
 use Rattle.std.proofs.lemmas.Bool.{and_parts, ltb-true, eqb-true}
@@ -37,7 +37,7 @@ is_low count _ = true
 abbrev pub passes : ℕ → Slots → Bool
 passes count b = is_low count b.first.op
 
--- nothing is pending, and the stack behind so many words is as it was
+-- nothing is pending, and the stack after so many words is as it was
 pub record Passes (count : ℕ) (m t : Run) : Type 0 where
   pub whole : IsWhole t
   pub keeps : KeepsBehind count m t

@@ -116,7 +116,7 @@ same_element true r first length index v s = by (nat_lt index length)
     by true = refl
     by false = refl
 
--- the bundles behind the test of the mask: the test of the index joins it, and the address is made
+-- the bundles after the test of the mask: the test of the index joins it, and the address is made
 unfoldable pub element_address_made : List Slots → ℕ → ℕ → List Slots
 element_address_made rest length address =
     set_long SPARE length ∷ compare cmp.Ult SECOND (FIRST + 1) SPARE ∷ combine comb.Pand TEST TEST SECOND ∷ set_long SPARE address ∷ compute always alu.Shadd2 (FIRST + 1) (FIRST + 1) SPARE ∷ rest

@@ -1,4 +1,4 @@
--- Code that stores in no register of the interface starts no transfer; and code behind other code.
+-- Code that stores in no register of the interface starts no transfer; and code after other code.
 use Rattle.std.proofs.Common.{◌≡◌, ℕ, ◌<◌, ◌^◌, true≢false, ◌&&◌, Bool, true, false, if◌then◌else◌, List, [], ◌∷◌, ◌++◌, sym}
 use Rattle.std.specs.List.{list_all}
 use Rattle.std.proofs.lemmas.Bool.{and_parts}

@@ -1,4 +1,4 @@
--- Parts that are pushed behind others.
+-- Parts that are pushed after others.
 use Rattle.std.proofs.Common.{◌≡◌, ℕ, ◌+◌, ◌-◌, Option, Bool, true, false, if◌then◌else◌, List, [], ◌∷◌, ◌++◌, ap, sym, ◌∙◌}
 use Rattle.std.specs.Prelude.{nat_lt}
 use Rattle.sp_tree.specs.Cost.{is_held}

@@ -1,10 +1,9 @@
 -- What is said of each bundle of code; and the code of values, which stores nothing, leaves the stack, and loads in any
 -- case.
-use Rattle.std.proofs.Common.{◌≡◌, ℕ, ◌+◌, Bool, true, false, List, [], ◌∷◌, ◌++◌, refl, ◌∙◌, arith, if◌then◌else◌}
+use Rattle.std.proofs.Common.{◌≡◌, ℕ, ◌+◌, Bool, true, false, List, [], ◌∷◌, refl, arith, if◌then◌else◌}
 use Rattle.std.specs.Prelude.{nat_lt}
 use Rattle.std.specs.List.{list_all}
 use Rattle.std.proofs.lemmas.Bool.{and_parts, and_from}
-use Rattle.std.proofs.lemmas.List.Folds.{list_all-append}
 use Rattle.patmos_instr.specs.Bundles.{Slots}
 use Rattle.patmos_instr.specs.declared.guards.Guard.{Guard}
 use Rattle.patmos_instr.specs.declared.instructions.Op.{Op}
@@ -17,6 +16,7 @@ use Rattle.sp_tree.specs.declared.operators.SpUnary.{SpUnary}
 use Rattle.sp_shape.specs.Bundles.{part_all, parts_all}
 use Rattle.sp_shape.specs.Formed.{is_always}
 use Rattle.sp_shape.specs.Parts.{PlainPart, straight, repeats, calls_to, leaves, PlainParts, no_part, part, one, joined}
+use Rattle.sp_shape.proofs.Lists.{all_weaker}
 use Rattle.sp_emit.specs.Expressions.{unary_code, binary_code, held_code, element_code, number_of, expr_code}
 use Rattle.sp_emit.specs.Statements.{args_code}
 
@@ -28,27 +28,17 @@ each_joined holds (part p a) b x y =
     let parts = and_parts (part_all holds p) (parts_all holds a) x in
     and_from (part_all holds p) (parts_all holds (joined a b)) parts.0 (each_joined holds a b parts.1 y)
 
-pub each_append : (holds : Slots → Bool) (xs ys : List Slots) → list_all holds xs ≡ true → list_all holds ys ≡ true → list_all holds (xs ++ ys) ≡ true
-each_append holds xs ys x y = list_all-append holds xs ys ∙ and_from (list_all holds xs) (list_all holds ys) x y
-
 pub each_lone : (holds : Slots → Bool) (bs : List Slots) → list_all holds bs ≡ true → parts_all holds (one (straight bs)) ≡ true
 each_lone holds bs x = and_from (list_all holds bs) true x refl
 
--- what each of them has that has another
-each_of : (p q : Slots → Bool) → ((b : Slots) → p b ≡ true → q b ≡ true) → (bs : List Slots) → list_all p bs ≡ true → list_all q bs ≡ true
-each_of p q so [] x = refl
-each_of p q so (b ∷ bs) x =
-    let parts = and_parts (p b) (list_all p bs) x in
-    and_from (q b) (list_all q bs) (so b parts.0) (each_of p q so bs parts.1)
-
 mutual
   part_so : (p q : Slots → Bool) → ((b : Slots) → p b ≡ true → q b ≡ true) → (a : PlainPart) → part_all p a ≡ true → part_all q a ≡ true
-  part_so p q so (straight bs) x = each_of p q so bs x
+  part_so p q so (straight bs) x = all_weaker p q so bs x
   part_so p q so (repeats count body tail) x =
       let parts = and_parts (parts_all p body) (list_all p tail) x in
-      and_from (parts_all q body) (list_all q tail) (each_so p q so body parts.0) (each_of p q so tail parts.1)
-  part_so p q so (calls_to k tail) x = each_of p q so tail x
-  part_so p q so (leaves tail) x = each_of p q so tail x
+      and_from (parts_all q body) (list_all q tail) (each_so p q so body parts.0) (all_weaker p q so tail parts.1)
+  part_so p q so (calls_to k tail) x = all_weaker p q so tail x
+  part_so p q so (leaves tail) x = all_weaker p q so tail x
 
   pub each_so : (p q : Slots → Bool) → ((b : Slots) → p b ≡ true → q b ≡ true) → (a : PlainParts) → parts_all p a ≡ true → parts_all q a ≡ true
   each_so p q so no_part x = refl

@@ -122,7 +122,7 @@ signs_go from signs a b m d =
       divisor_is = held_written w5 DIVISOR m4 n4.whole (omega arith) ∙ n4.value ∙ ap (signed (has_bit b 31)) (n3.others DIVISOR (omega arith) (λ same. absurd (omega (arith, same))) ∙ b2);
     })
 
--- ---- behind the digits
+-- ---- after the digits
 
 -- a result stands in its register, and the predicates of the signs are as they were
 record Given (signs : Signs) (rd v : ℕ) (t : Run) : Type 0 where

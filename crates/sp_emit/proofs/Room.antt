@@ -1,8 +1,7 @@
 -- The code of a function takes at most as many words as its trees cost.
-use Rattle.std.proofs.Common.{◌≡◌, ℕ, zero, suc, ◌+◌, ◌-◌, ◌≤◌, Bool, true, false, List, [], ◌∷◌, ◌++◌, refl, arith, if◌then◌else◌, Option, None, Some}
+use Rattle.std.proofs.Common.{◌≡◌, ℕ, zero, suc, ◌+◌, ◌-◌, ◌≤◌, Bool, true, false, List, [], ◌∷◌, refl, arith, if◌then◌else◌, Option, None, Some}
 use Rattle.std.specs.Prelude.{nat_lt, nat_le}
 use Rattle.std.proofs.lemmas.Bool.{and_parts, leb-true}
-use Rattle.patmos_instr.specs.Bundles.{Slots}
 use Rattle.c_world.specs.declared.region.Region.{Region}
 use Rattle.sp_tree.specs.Cost.{unary_cost, binary_cost, is_held, expr_cost, args_cost, place_cost, stmt_cost, stmts_cost, cost}
 use Rattle.sp_tree.specs.Formed as tree
@@ -13,6 +12,7 @@ use Rattle.sp_tree.specs.declared.operators.SpBinary.{SpBinary}
 use Rattle.sp_tree.specs.declared.operators.SpUnary.{SpUnary}
 use Rattle.sp_shape.specs.Words.{bundles_room, parts_room}
 use Rattle.sp_shape.specs.Parts.{straight, PlainParts, no_part, part, one, joined}
+use Rattle.sp_shape.proofs.Lists.{room_append}
 use Rattle.sp_emit.specs.Expressions.{unary_code, binary_code, held_code, element_code, number_of, expr_code}
 use Rattle.sp_emit.specs.Functions.{argument_kept, first_counter, arguments_kept, state_kept, function_rest, function_code}
 use Rattle.sp_emit.specs.Statements.{cell_write, element_write, place_write, args_code, call_code, send_code, overrun_code, slot_set, stmt_code, stmts_code}
@@ -20,10 +20,6 @@ use Rattle.sp_emit.specs.Statements.{cell_write, element_write, place_write, arg
 room_both : (a b : PlainParts) → parts_room (joined a b) ≡ parts_room a + parts_room b
 room_both no_part b = omega arith
 room_both (part p a) b = omega (arith, room_both a b)
-
-room_append : (xs ys : List Slots) → bundles_room (xs ++ ys) ≡ bundles_room xs + bundles_room ys
-room_append [] ys = omega arith
-room_append (x ∷ xs) ys = omega (arith, room_append xs ys)
 
 -- ---- expressions
 

@@ -76,7 +76,7 @@ port_at core register at is few low =
     rw (le-leb 0 at (omega arith), le-ltb at (0 + 4 * 2048) (omega (arith, is)), le-leb 0x10000 at (omega (arith, is)), le-ltb at (0x10000 + 4 * 512) (omega (arith, is)), le-leb 0x20000 at (omega (arith, is)), lt-ltb at (0x20000 + 16 * 16) (omega (arith, is, few, low)))
     (ap (λ n. Some (cell.Port n ((at - 0x20000) % 16))) (let e : (at - 0x20000) / 16 ≡ core = omega (arith, is, low) in e) ∙ ap (λ n. Some (cell.Port core n)) (let e : (at - 0x20000) % 16 ≡ register = omega (arith, is, low) in e))
 
--- the register, so many words behind the address of a core's
+-- the register, so many words after the address of a core's
 pub port_found : (core imm : ℕ) → core < 16 → imm < 3 → cell_of mem.L (address_by (0x20000 + 16 * core) imm 4) ≡ Some (cell.Port core (4 * imm))
 port_found core imm few low = port_at core (4 * imm) (address_by (0x20000 + 16 * core) imm 4 / 4 * 4) (omega (arith, few, low)) few (omega (arith, low))
 

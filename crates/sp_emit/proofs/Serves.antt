@@ -15,11 +15,12 @@ use Rattle.sp_shape.specs.Parts.{no_part, joined}
 use Rattle.sp_emit.specs.Instructions.{stack_op}
 use Rattle.sp_shape.specs.Run.{Run, Sources, by_words, once, run}
 use Rattle.sp_shape.specs.Trail.{Step, all_done, parts_trail, trails}
+use Rattle.sp_shape.proofs.Lists.{done_append}
 use Rattle.sp_emit.specs.Functions.{arguments_kept, state_kept, function_begin, function_end, function_rest, function_code, first_counter, return_tail}
 use Rattle.sp_emit.specs.Means.{Follows, HasStmtConstants, HasStmtsConstants, HasConstants}
 use Rattle.sp_emit.specs.Serving.{CalledWith, Answers}
 use Rattle.sp_emit.specs.Statements.{stmts_code}
-use Rattle.sp_emit.proofs.Beginning.{begins_frame, all_done_append}
+use Rattle.sp_emit.proofs.Beginning.{begins_frame}
 use Rattle.sp_emit.proofs.Calling.{ServedBy, call_is_done}
 use Rattle.sp_emit.proofs.Entering.{enters}
 use Rattle.sp_emit.proofs.Frames.{put_word}
@@ -65,7 +66,7 @@ function_run from code f m =
     let t0 = once from (stack_op Sres f.frame) m in
     let body = stmts_code f.frame (first_counter f) f.body in
     run_append from (all_done (function_begin f)) (parts_trail code (joined body (function_rest f))) m
-    ∙ ap (λ steps. run from (parts_trail code (joined body (function_rest f))) (run from steps t0)) (all_done_append (arguments_kept f.parameters) (state_kept f))
+    ∙ ap (λ steps. run from (parts_trail code (joined body (function_rest f))) (run from steps t0)) (done_append (arguments_kept f.parameters) (state_kept f))
     ∙ ap (run from (parts_trail code (joined body (function_rest f)))) (run_append from (all_done (arguments_kept f.parameters)) (all_done (state_kept f)) t0)
     ∙ run_joined from code body (function_rest f) (run from (all_done (state_kept f)) (run from (all_done (arguments_kept f.parameters)) t0))
 

@@ -9,10 +9,11 @@ use Rattle.sp_tree.specs.Plain.{PlainSp}
 use Rattle.sp_tree.specs.Statements.{PlainPlace, to_slot, to_cell, to_array, PlainStmt, masks, writes, calls, transfers, overruns, turns, PlainStmts, no_stmt, stmt, PlainFunction}
 use Rattle.sp_shape.specs.Bundles.{is_steady, parts_all}
 use Rattle.sp_shape.specs.Parts.{straight, PlainParts, one, joined}
+use Rattle.sp_shape.proofs.Lists.{all_append}
 use Rattle.sp_emit.specs.Expressions.{expr_code}
 use Rattle.sp_emit.specs.Functions.{argument_kept, first_counter, arguments_kept, state_kept, function_begin, function_rest, function_code}
 use Rattle.sp_emit.specs.Statements.{cell_write, element_write, place_write, args_code, call_code, send_code, overrun_code, slot_set, stmt_code, stmts_code}
-use Rattle.sp_emit.proofs.Quiet.{each_joined, each_append, each_lone, each_so, is_quiet, expr_quiet, args_quiet}
+use Rattle.sp_emit.proofs.Quiet.{each_joined, each_lone, each_so, is_quiet, expr_quiet, args_quiet}
 
 abbrev Steady : PlainParts → Type 0
 Steady parts = parts_all is_steady parts ≡ true
@@ -75,10 +76,10 @@ mutual
 
 kept_steady : (n : ℕ) → AreSteady (arguments_kept n)
 kept_steady zero = refl
-kept_steady (suc n) = each_append is_steady (arguments_kept n) (argument_kept n) (kept_steady n) refl
+kept_steady (suc n) = all_append is_steady (arguments_kept n) (argument_kept n) (kept_steady n) refl
 
 pub function_steady : (f : PlainFunction) → Steady (function_code f)
 function_steady f =
     and_from (list_all is_steady (function_begin f)) (parts_all is_steady (joined (stmts_code f.frame (first_counter f) f.body) (function_rest f)))
-    (each_append is_steady (arguments_kept f.parameters) (state_kept f) (kept_steady f.parameters) refl)
+    (all_append is_steady (arguments_kept f.parameters) (state_kept f) (kept_steady f.parameters) refl)
     (both (stmts_code f.frame (first_counter f) f.body) (function_rest f) (stmts_steady f.frame (first_counter f) f.body) refl)

@@ -2,41 +2,35 @@
 use Rattle.std.proofs.Common.{◌≡◌, ℕ, zero, suc, ◌+◌, ◌-◌, ◌<◌, ◌≤◌, ◌==◌, ◌⊎◌, inl, inr, Bool, true, false, ◌&&◌, if◌then◌else◌, Option, None, Some, List, [], ◌∷◌, ◌++◌, length, map, slice_index_or, nat_lt, refl, sym, subst, arith}
 use Rattle.std.specs.Prelude.{nat_le}
 use Rattle.std.specs.List.{All, list_all}
-use Rattle.std.proofs.lemmas.Bool.{cases_lt, and_parts, leb-true, ltb-true, eqb-true, eqb-false}
+use Rattle.std.proofs.lemmas.Bool.{cases_lt, and_parts, ltb-true, eqb-true, eqb-false}
 use Rattle.std.proofs.lemmas.List.{get_or-map, length-map}
 use Rattle.patmos_instr.specs.Bundles.{Slots}
 use Rattle.sp_tree.proofs.Forms.{earlier_one}
-use Rattle.sp_tree.specs.Formed.{names_words, send_formed, place_formed, array_formed, expr_formed, callee_formed, args_formed, result_formed, stmt_formed, stmts_formed, function_formed, functions_formed, entry_formed, is_formed, slots_of}
-use Rattle.sp_tree.specs.Need.{need}
+use Rattle.sp_tree.specs.Formed.{send_formed, place_formed, array_formed, expr_formed, callee_formed, args_formed, result_formed, stmt_formed, stmts_formed, function_formed, functions_formed, entry_formed, is_formed, slots_of}
 use Rattle.sp_tree.specs.Plain.{PlainSp}
 use Rattle.sp_tree.specs.Statements.{PlainPlace, to_slot, to_cell, to_array, PlainStmt, masks, writes, calls, transfers, overruns, turns, PlainStmts, no_stmt, stmt, PlainFunction, no_function, PlainUnit}
 use Rattle.sp_tree.specs.Uses.{Use, expr_uses, args_uses, place_uses, stmt_uses, stmts_uses, functions_uses, uses_of}
 use Rattle.sp_shape.specs.Bundles.{parts_all}
 use Rattle.sp_shape.specs.Parts.{straight, no_part, one, joined}
 use Rattle.sp_shape.specs.Trail.{Step, all_done, parts_trail, trails, trail}
+use Rattle.sp_shape.proofs.Lists.{all_append}
 use Rattle.sp_emit.specs.Accesses.{AsksOnly}
 use Rattle.sp_emit.specs.Expressions.{expr_code}
-use Rattle.sp_emit.specs.Fits.{ExprFits}
 use Rattle.sp_emit.specs.Functions.{arguments_kept, argument_kept, state_kept, first_counter, function_begin, function_end, function_rest, function_code, return_tail, emitted}
 use Rattle.sp_emit.specs.Statements.{slot_write, cell_write, element_write, place_write, args_code, call_code, send_code, overrun_code, slot_set, turns_begin, turns_tail, stmt_code, stmts_code}
 use Rattle.sp_emit.specs.Instructions.{always, store_slot}
 use Rattle.sp_emit.specs.declared.registers.TheConstants.{FIRST}
 use Rattle.sp_emit.proofs.Accessing.{asks_append, asks_nothing, asks_copies, is_near, near_asks, near_parts}
 use Rattle.sp_emit.proofs.Formed.{call_formed}
-use Rattle.sp_emit.proofs.Quiet.{each_append}
 use Rattle.sp_emit.proofs.Serves.{parts_of_function, code_of}
 use Rattle.sp_emit.proofs.StoreAsks.{cell_write_asks, element_write_asks, send_asks}
 use Rattle.sp_emit.proofs.ValueAsks.{AreNamed, are_named, named_left, named_right, asks_joined, asks_lone, expr_asks}
+use Rattle.sp_emit.proofs.Fitting.{expr_fits}
 
 -- ---- values
 
-fits : (slots rd : ℕ) (e : PlainSp) → slots ≤ 128 → rd ≤ 9 → expr_formed slots e ≡ true → ExprFits e rd
-fits slots rd e most few formed =
-    let parts = and_parts (names_words slots e) (nat_le (need e) 12) formed in
-    record { slots = slots; most = most; names = parts.0; registers = omega (arith, few, leb-true (need e) 12 parts.1) }
-
 value_asks : (Named : Use → Type 0) (f : ℕ → List Step) (slots rd : ℕ) (e : PlainSp) → slots ≤ 128 → 1 ≤ rd → rd ≤ 9 → expr_formed slots e ≡ true → AreNamed Named (expr_uses e) → AsksOnly Named (parts_trail f (expr_code e rd))
-value_asks Named f slots rd e most some few formed named = expr_asks Named f e rd some (fits slots rd e most few formed) named
+value_asks Named f slots rd e most some few formed named = expr_asks Named f e rd some (expr_fits slots rd e most few formed) named
 
 args_ask : (Named : Use → Type 0) (f : ℕ → List Step) (slots : ℕ) (args : List PlainSp) (rd : ℕ) → slots ≤ 128 → 1 ≤ rd → rd + length args ≤ 10 → args_formed slots args ≡ true → AreNamed Named (args_uses args) → AsksOnly Named (parts_trail f (args_code args rd))
 args_ask Named f slots [] rd most some few formed named = asks_nothing Named
@@ -116,13 +110,13 @@ mutual
 
 arguments_near : (n : ℕ) → list_all is_near (arguments_kept n) ≡ true
 arguments_near zero = refl
-arguments_near (suc n) = each_append is_near (arguments_kept n) (argument_kept n) (arguments_near n) refl
+arguments_near (suc n) = all_append is_near (arguments_kept n) (argument_kept n) (arguments_near n) refl
 
 function_asks : (Named : Use → Type 0) (code : ℕ → List Step) (fs : List PlainFunction) (number : ℕ) (f : PlainFunction) → ((k : ℕ) → k < number → AsksOnly Named (code k)) → functions_formed fs number ≡ true → function_formed fs number f ≡ true
     → AreNamed Named (stmts_uses f.body) → AsksOnly Named (parts_trail code (function_code f))
 function_asks Named code fs number f called earlier formed named =
     let p = parts_of_function fs number f formed in
-    asks_append (near_asks Named (function_begin f) (each_append is_near (arguments_kept f.parameters) (state_kept f) (arguments_near f.parameters) refl))
+    asks_append (near_asks Named (function_begin f) (all_append is_near (arguments_kept f.parameters) (state_kept f) (arguments_near f.parameters) refl))
     (asks_joined code (stmts_code f.frame (first_counter f) f.body) (function_rest f) (stmts_ask Named code fs number (slots_of f) f.frame (first_counter f) called earlier (omega (arith, p.room, p.frame)) f.body p.body named)
     (asks_append (near_asks Named (function_end f) refl) (asks_append (near_asks Named return_tail refl) (asks_nothing Named))))
 

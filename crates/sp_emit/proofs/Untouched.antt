@@ -55,7 +55,7 @@ leaves_op x _ = false
 abbrev pub leaves : Operand → Slots → Bool
 leaves x b = leaves_op x b.first.op && is_none b.second
 
--- ---- it holds the same behind such bundles
+-- ---- it holds the same after such bundles
 
 same_all : (x : Operand) (m : Run) → Same x m m
 same_all (register r) m = refl

@@ -87,7 +87,7 @@ few_of e r = omega (arith, r.registers, some_need e)
 pub value_small : {slots rd : ℕ} {s : State} {m : Run} (e : PlainSp) → IsReady slots e rd s m → sp_value s.frame s.world e < 2 ^ 32
 value_small {slots} {rd} {s} e r = value_word slots s e r.names r.constants r.words
 
--- the run behind the code of an expression, and what it leaves
+-- the run after the code of an expression, and what it leaves
 abbrev pub behind : (ℕ → List Step) → PlainSp → ℕ → Run → Run
 behind f e rd m = run by_words (parts_trail f (expr_code e rd)) m
 
@@ -126,7 +126,7 @@ operand_ready op of r = record {
 operands_named : {slots rd : ℕ} {s : State} {m : Run} (op : SpBinary) (a b : PlainSp) → IsReady slots (between_two op a b) rd s m → (names_words slots a ≡ true) × (names_words slots b ≡ true)
 operands_named {slots} op a b r = and_parts (names_words slots a) (names_words slots b) r.names
 
--- of two operands each is, in the run before or behind the other, from a register on that suffices
+-- of two operands each is, in the run before or after the other, from a register on that suffices
 first_ready : {slots rd : ℕ} {s : State} {m : Run} (op : SpBinary) (a b : PlainSp) → IsReady slots (between_two op a b) rd s m
     → (from : ℕ) (t : Run) → rd ≤ from → from + need a ≤ 21 → Keeps rd m t → IsReady slots a from s t
 first_ready op a b r from t above registers keeps = record {

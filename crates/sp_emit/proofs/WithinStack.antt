@@ -13,6 +13,7 @@ use Rattle.sp_shape.specs.Parts.{no_part}
 use Rattle.sp_shape.specs.Pointers.{pointers_of, AreWithinStack}
 use Rattle.sp_shape.specs.Run.{Run, IsWhole, Back, Sources, once, run, at_begin}
 use Rattle.sp_shape.specs.Trail.{Step, all_done, parts_trail, trails, trail}
+use Rattle.sp_shape.proofs.Lists.{all_append}
 use Rattle.sp_emit.specs.Chains.{stmts_chain, chains}
 use Rattle.sp_emit.specs.Functions.{arguments_kept, argument_kept, state_kept, base_slot, offset_slot, first_counter, function_code, return_tail, emitted}
 use Rattle.sp_emit.specs.Instructions.{stack_op}
@@ -20,15 +21,14 @@ use Rattle.sp_emit.specs.Statements.{stmts_code}
 use Rattle.sp_emit.proofs.Arguments.{did_stack}
 use Rattle.sp_emit.proofs.Passed.{given_back}
 use Rattle.sp_emit.proofs.Pointing.{Points, points_then, points_one, is_inside, Framed, Stays, inside_done}
-use Rattle.sp_emit.proofs.Quiet.{each_append}
 use Rattle.sp_emit.proofs.Serves.{parts_of_function, function_run, code_of}
 use Rattle.sp_emit.proofs.WithinFrames.{GivesBack, CalleesStay, stmts_stay}
 
--- ---- before and behind the body
+-- ---- before and after the body
 
 arguments_inside : (frame n : ℕ) → n ≤ frame → list_all (is_inside frame) (arguments_kept n) ≡ true
 arguments_inside frame zero le = refl
-arguments_inside frame (suc n) le = each_append (is_inside frame) (arguments_kept n) (argument_kept n) (arguments_inside frame n (omega (arith, le))) (rw (lt-ltb n frame le) refl)
+arguments_inside frame (suc n) le = all_append (is_inside frame) (arguments_kept n) (argument_kept n) (arguments_inside frame n (omega (arith, le))) (rw (lt-ltb n frame le) refl)
 
 state_inside : (frame : ℕ) (f : PlainFunction) → f.mask < frame → base_slot f < frame → offset_slot f < frame → list_all (is_inside frame) (state_kept f) ≡ true
 state_inside frame f mask base offset = rw (lt-ltb f.mask frame mask, lt-ltb (base_slot f) frame base, lt-ltb (offset_slot f) frame offset) refl
@@ -62,7 +62,7 @@ frees from frame m n x = subst (GivesBack m) (sym (did_stack from Sfree frame n 
   held = omega arith;
 })
 
--- bundles behind the frame that ask for nothing of the stack
+-- bundles after the frame that ask for nothing of the stack
 gives_then : (from : Sources) (m n : Run) → GivesBack m n → m.st ≤ 65536 → GivesBack m (run from (all_done return_tail) n)
 gives_then from m n b high =
     let s = inside_done from 0 return_tail n (record { whole = b.whole; few = omega arith; high = omega (arith, b.st, high); held = omega (arith, b.held) }) refl in

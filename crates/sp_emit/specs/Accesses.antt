@@ -1,6 +1,6 @@
--- What the code of a task may ask for: outside the stack it reads and stores whole words of the variables and arrays that
--- the tree names, word 0 of a memory in the place of an element past the end, word 0 of main memory in the place of what
--- is masked, and it sets the registers of the interface for cores that the tree sends to.
+-- To be believed. What the code of a task may ask for: outside the stack it reads and stores whole words of the
+-- variables and arrays that the tree names, word 0 of a memory in the place of an element past the end, word 0 of main
+-- memory in the place of what is masked, and it sets the registers of the interface for cores that the tree sends to.
 use Rattle.std.specs.Prelude.{◌≡◌, ℕ, true, ◌+◌, ◌*◌, ◌%◌, ◌<◌, ◌⊎◌, List, [], ◌∷◌, ◌++◌}
 use Rattle.std.specs.List.{All}
 use Rattle.patmos_instr.specs.declared.memories.Mem.{Mem}
@@ -58,12 +58,14 @@ pub record IsPort (core : ℕ) (space : Mem) (address : ℕ) : Type 0 where
 abbrev pub IsReadPlace : (Use → Type 0) → Mem → ℕ → Type 0
 IsReadPlace Named space address =
     ((c : SpCell) × Named (reads_cell c) × IsVariable c space address)
-    ⊎ (((a : SpArray) × Named (reads_array a) × IsElement a space address) ⊎ ((a : SpArray) × Named (reads_array a) × IsNoElement a space address))
+    ⊎ (((a : SpArray) × Named (reads_array a) × IsElement a space address)
+    ⊎ ((a : SpArray) × Named (reads_array a) × IsNoElement a space address))
 
 abbrev pub IsStoredPlace : (Use → Type 0) → Mem → ℕ → Type 0
 IsStoredPlace Named space address =
     ((c : SpCell) × Named (writes_cell c) × IsVariable c space address)
-    ⊎ (((a : SpArray) × Named (writes_array a) × IsElement a space address) ⊎ (IsSpare space address ⊎ ((core : ℕ) × Named (sends_to core) × IsPort core space address)))
+    ⊎ (((a : SpArray) × Named (writes_array a) × IsElement a space address)
+    ⊎ (IsSpare space address ⊎ ((core : ℕ) × Named (sends_to core) × IsPort core space address)))
 
 abbrev pub MayLoad : (Use → Type 0) → Mem → Width → ℕ → Type 0
 MayLoad Named mem.S width address = (width ≡ load.Word) × (address % 4 ≡ 0)
@@ -101,8 +103,8 @@ pub record Asks (Named : Use → Type 0) (cached : List ℕ) (m t : Run) : Type 
   pub may : All (MayAsk Named) news
   pub loads : cached_addresses news ≡ cached
 
--- steps that ask for no more than they may, and load by the data cache at the same addresses, from each state and whatever
--- loads give; and, where registers hold words, start a transfer only where its registers allow it
+-- steps that ask for no more than they may, and load by the data cache at the same addresses, from each state and
+-- whatever loads give; and, where registers hold words, start a transfer only where its registers allow it
 pub record AsksOnly (Named : Use → Type 0) (steps : List Step) : Type 0 where
   pub cached : List ℕ
   pub asks : (from : Sources) (m : Run) → IsWhole m → Asks Named cached m (run from steps m)

@@ -1,4 +1,4 @@
--- How many words the frames take on a chain of calls.
+-- To be believed. How many words the frames take on a chain of calls.
 use Rattle.std.specs.Prelude.{ℕ, zero, suc, ◌+◌, ◌==◌, max, List, slice_index_or, if◌then◌else◌}
 use Rattle.sp_tree.specs.Statements.{PlainStmt, calls, turns, PlainStmts, no_stmt, stmt, PlainFunction, no_function}
 
@@ -16,4 +16,6 @@ abbrev mutual
 -- functions in order, each over the earlier ones: the own frame, and what is called
 abbrev pub chains : List PlainFunction → ℕ → ℕ → ℕ
 chains fs zero k = 0
-chains fs (suc n) k = if k == n then (slice_index_or fs n no_function).frame + stmts_chain (chains fs n) (slice_index_or fs n no_function).body else chains fs n k
+chains fs (suc n) k =
+    if k == n then (slice_index_or fs n no_function).frame
+    + stmts_chain (chains fs n) (slice_index_or fs n no_function).body else chains fs n k

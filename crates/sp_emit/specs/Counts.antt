@@ -1,4 +1,4 @@
--- The counts of a tree's turns are words.
+-- To be believed. The counts of a tree's turns are words.
 use Rattle.std.specs.Prelude.{ℕ, ◌<◌, ◌^◌, List, slice_index_or}
 use Rattle.sp_tree.specs.Statements.{PlainStmt, turns, PlainStmts, no_stmt, stmt, PlainFunction, no_function}
 

@@ -1,5 +1,5 @@
--- The code of quotients and remainders: 32 turns of long division in base 2, which take the same bundles whatever the
--- words are (restoring division: Knuth, The Art of Computer Programming, volume 2, 4.3.1).
+-- To be believed. The code of quotients and remainders: 32 turns of long division in base 2, which take the same
+-- bundles whatever the words are (restoring division: Knuth, The Art of Computer Programming, volume 2, 4.3.1).
 use Rattle.std.specs.Prelude.{ℕ, List, [], ◌∷◌, ◌++◌}
 use Rattle.patmos_instr.specs.Bundles.{Slots}
 use Rattle.patmos_instr.specs.declared.functions.AluFunc.TheVariants as alu
@@ -24,10 +24,10 @@ without_signs =
     ∷ combine comb.Pxor QUOTIENT_NEGATIVE REST_NEGATIVE QUOTIENT_NEGATIVE
     ∷ []
 
--- a digit: the highest bit of the dividend goes to what is left; where the divisor then goes into that, it is taken off,
--- and the quotient's digit is 1. What is left may have 33 bits, of which the highest is the second predicate. The digits
--- still to be taken are counted in between: so the bundles stand in pairs, of which the second reads nothing that the
--- first writes, and a pair can be one bundle
+-- a digit: the highest bit of the dividend goes to what is left; where the divisor then goes into that, it is taken
+-- off, and the quotient's digit is 1. What is left may have 33 bits, of which the highest is the second predicate.
+-- The digits still to be taken are counted in between: so the bundles stand in pairs, of which the second reads
+-- nothing that the first writes, and a pair can be one bundle
 abbrev pub digit : List Slots
 digit =
     compare_short cmp.Btest SECOND REMAINDER 31
@@ -62,7 +62,7 @@ signed_quotient_to rd = quotient_to rd ++ compute (where_so QUOTIENT_NEGATIVE) a
 abbrev pub signed_rest_to : ℕ → List Slots
 signed_rest_to rd = rest_to rd ++ compute (where_so REST_NEGATIVE) alu.Sub rd 0 rd ∷ []
 
--- before and behind the digits
+-- before and after the digits
 abbrev pub around : List Slots → List Slots → PlainParts
 around before behind = part (straight before) (part digits (part (straight behind) no_part))
 

@@ -1,5 +1,5 @@
--- The code of expressions: it leaves a value in a register and uses only registers from that one on, and those that are
--- spare. Of two operands the one of the greater need is worked out first, so that registers suffice.
+-- To be believed. The code of expressions: it leaves a value in a register and uses only registers from that one on,
+-- and those that are spare. Of two operands the one of the greater need is worked out first, so that registers suffice.
 use Rattle.std.specs.Prelude.{ℕ, ◌+◌, ◌*◌, nat_lt, if◌then◌else◌, List, [], ◌∷◌}
 use Rattle.patmos_instr.specs.Bundles.{Slots}
 use Rattle.patmos_instr.specs.declared.functions.AluFunc.{AluFunc}
@@ -143,5 +143,6 @@ expr_code (array_word array index) rd = joined (expr_code index rd) (one (straig
 expr_code (before_one op of) rd = joined (expr_code of rd) (one (straight (unary_code op rd)))
 expr_code (between_two op a b) rd =
     if is_held op b then joined (expr_code a rd) (one (straight (held_code op rd (number_of b))))
-    else if nat_lt (need a) (need b) then joined (expr_code b rd) (joined (expr_code a (rd + 1)) (binary_code op rd (rd + 1) rd))
+    else if nat_lt (need a) (need b) then joined (expr_code b rd)
+    (joined (expr_code a (rd + 1)) (binary_code op rd (rd + 1) rd))
     else joined (expr_code a rd) (joined (expr_code b (rd + 1)) (binary_code op rd rd (rd + 1)))

@@ -1,5 +1,5 @@
--- What fits a frame: statements are well formed over its first words, and from behind these up to the next counter of
--- turns there is a word for each level of them.
+-- To be believed. What fits a frame: statements are well formed over its first words, and from after these up to the
+-- next counter of turns there is a word for each level of them.
 use Rattle.std.specs.Prelude.{◌≡◌, ℕ, ◌+◌, ◌≤◌, nat_lt, true, List, length}
 use Rattle.sp_tree.specs.Formed.{names_words, args_formed, place_formed, stmt_formed, stmts_formed, function_formed, functions_formed, stmt_levels, stmts_levels}
 use Rattle.sp_tree.specs.Need.{need}
@@ -13,7 +13,7 @@ pub record ExprFits (e : PlainSp) (rd : ℕ) : Type 0 where
   pub names : names_words slots e ≡ true
   pub registers : rd + need e ≤ 21
 
--- so do arguments one behind another, and a place that is set
+-- so do arguments one after another, and a place that is set
 pub record ArgsFit (args : List PlainSp) (rd : ℕ) : Type 0 where
   pub slots : ℕ
   pub most : slots ≤ 128

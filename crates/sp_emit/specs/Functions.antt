@@ -1,5 +1,6 @@
--- The code of functions and tasks. A function takes its frame from the stack: first the words that its tree names; last
--- the place to which it returns; and before that the counters of turns, those inside others before them.
+-- To be believed. The code of functions and tasks. A function takes its frame from the stack:
+-- first the words that its tree names; last the place to which it returns; and before that the
+-- counters of turns, those inside others before them.
 use Rattle.std.specs.Prelude.{ℕ, zero, suc, ◌+◌, ◌-◌, List, [], ◌∷◌, ◌++◌, map}
 use Rattle.patmos_instr.specs.Bundles.{Slots}
 use Rattle.patmos_instr.specs.declared.functions.ImmFunc.TheVariants as imm
@@ -66,7 +67,8 @@ abbrev pub function_rest : PlainFunction → PlainParts
 function_rest f = part (straight (function_end f)) (part leaving no_part)
 
 abbrev pub function_code : PlainFunction → PlainParts
-function_code f = part (straight (function_begin f)) (joined (stmts_code f.frame (first_counter f) f.body) (function_rest f))
+function_code f =
+    part (straight (function_begin f)) (joined (stmts_code f.frame (first_counter f) f.body) (function_rest f))
 
 abbrev pub emitted : PlainUnit → PlainShape
 emitted u = record {

@@ -1,4 +1,4 @@
--- What the registers of a run hold, and what one state of a run has of an earlier one.
+-- To be believed. What the registers of a run hold, and what one state of a run has of an earlier one.
 use Rattle.std.specs.Prelude.{ℕ, ◌≡◌, ◌<◌}
 use Rattle.patmos_sem.specs.Registers.{word_in}
 use Rattle.sp_shape.specs.Run.{Run, IsWhole}

@@ -1,4 +1,4 @@
--- Bundles of one instruction, as compiled code has them (Patmos Reference Handbook, instruction set).
+-- To be believed. Bundles of one instruction, as compiled code has them (Patmos Reference Handbook, instruction set).
 use Rattle.std.specs.Prelude.{ℕ, pos, true, false, None}
 use Rattle.patmos_instr.specs.Bundles.{Slots}
 use Rattle.patmos_instr.specs.Instructions.{nop}
@@ -85,7 +85,7 @@ load_from space rd ra = under always (Load space load.Word rd ra 0)
 abbrev pub load_slot : ℕ → ℕ → Slots
 load_slot rd slot = under always (Load mem.S load.Word rd 0 slot)
 
--- the word so many words behind the address in a register is set; or one of the stack
+-- the word so many words after the address in a register is set; or one of the stack
 abbrev pub store_to : Guard → Mem → ℕ → ℕ → ℕ → Slots
 store_to guard space ra rs words = under guard (Store space store.Word ra rs words)
 

@@ -1,5 +1,5 @@
--- When a run shows what a tree works on: the words of a function's frame stand at the top of the stack, and the memories
--- hold the words of the world, whose sends were started. Word 0 of private memory is no variable's.
+-- To be believed. When a run shows what a tree works on: the words of a function's frame stand at the top of the stack,
+-- and the memories hold the words of the world, whose sends were started. Word 0 of private memory is no variable's.
 use Rattle.std.specs.Prelude.{ℕ, ◌≡◌, ◌+◌, ◌<◌, ◌≤◌, ◌^◌, true, List, [], ◌∷◌, map, slice_index_or}
 use Rattle.c_world.specs.Numbers.{flag}
 use Rattle.c_world.specs.World.{World, Sending}
@@ -69,7 +69,7 @@ pub record Follows (slots : ℕ) (s : State) (m : Run) : Type 0 where
   pub words : HasWordFrame slots s
   pub flag : held OVERRUN m ≡ flag s.world.overrun
 
--- a later state has the words of the stack behind so many of the frame as they were
+-- a later state has the words of the stack after so many of the frame as they were
 pub record KeepsBehind (count : ℕ) (m t : Run) : Type 0 where
   pub st : t.st ≡ m.st
   pub stack : (a : ℕ) → m.st + count ≤ a → t.stack a ≡ m.stack a
@@ -89,7 +89,8 @@ abbrev mutual
   HasStmtConstants (masks slot e) = HasWordConstants e
   HasStmtConstants (writes mask place e) = HasPlaceConstants place × HasWordConstants e
   HasStmtConstants (calls mask k args result) = HasArgsConstants args
-  HasStmtConstants (transfers mask core source target count) = HasWordConstants source × HasWordConstants target × HasWordConstants count
+  HasStmtConstants (transfers mask core source target count) =
+      HasWordConstants source × HasWordConstants target × HasWordConstants count
   HasStmtConstants (overruns mask e) = HasWordConstants e
   HasStmtConstants (turns count body) = HasStmtsConstants body
 

@@ -1,4 +1,4 @@
--- What comes of the code of a task.
+-- To be believed. What comes of the code of a task.
 use Rattle.std.specs.Prelude.{ℕ, List, []}
 use Rattle.sp_tree.specs.Begun.{begun_private}
 use Rattle.sp_tree.specs.Statements.{PlainUnit}

@@ -1,4 +1,4 @@
--- What the code of a function, and of its statements, has where it begins, and what it leaves.
+-- To be believed. What the code of a function, and of its statements, has where it begins, and what it leaves.
 use Rattle.std.specs.Prelude.{ℕ, ◌≡◌, ◌+◌, ◌*◌, ◌<◌, ◌≤◌, ◌^◌, true, List, length, slice_index, bit_xor}
 use Rattle.c_world.specs.Numbers.{flag}
 use Rattle.c_world.specs.World.{World}
@@ -26,7 +26,7 @@ pub record CalledWith (mask : ℕ) (args : List ℕ) (w : World) (m : Run) : Typ
   pub given : (i : ℕ) → i < length args → held (FIRST + i) m ≡ slice_index args i
   pub arg_words : (i : ℕ) → slice_index args i < 2 ^ 32
 
--- it has given this, and the stack behind its top is as it was
+-- it has given this, and the stack after its top is as it was
 pub record Answers (g : Given) (m t : Run) : Type 0 where
   pub carries : Carries g.world t
   pub value : held RESULT t ≡ g.value
@@ -41,8 +41,9 @@ pub record AreFunctions (fs : List PlainFunction) (n : ℕ) : Type 0 where
   pub within : n ≤ length fs
   pub formed : functions_formed fs n ≡ true
 
--- statements of a function of number n, in a frame of so many words, of which the first are named and the counters of turns
--- stand from one on downward; the run is where the tree's state is, and there is room for the frames of what they call
+-- statements of a function of number n, in a frame of so many words, of which the first are named
+-- and the counters of turns stand from one on downward; the run is where the tree's state is, and
+-- there is room for the frames of what they call
 pub record AreStatements (fs : List PlainFunction) (n frame slots counter : ℕ) (ts : PlainStmts) (s : State) (m : Run) : Type 0 where
   pub functions : AreFunctions fs n
   pub named : slots ≤ MOST_FRAME

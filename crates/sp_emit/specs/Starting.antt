@@ -1,4 +1,4 @@
--- A transfer over the network is started only as the registers that were set for it allow.
+-- To be believed. A transfer over the network is started only as the registers that were set for it allow.
 use Rattle.std.specs.Prelude.{◌≡◌, ℕ, ◌<◌, ◌^◌, true, List, [], ◌∷◌, Option, Some}
 use Rattle.c_world.specs.World.{may_start}
 use Rattle.local_store.specs.declared.map.Cell.{Cell}

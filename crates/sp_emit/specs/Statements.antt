@@ -1,6 +1,6 @@
--- The code of statements. Where a mask is not 1, a word of the stack, the scratchpad, communication memory and the
--- interface is not stored; and a word of main memory is stored at word 0, which nothing else uses: so the bundles and
--- the transactions are the same.
+-- To be believed. The code of statements. Where a mask is not 1, a word of the stack, the scratchpad,
+-- communication memory and the interface is not stored; and a word of main memory is stored at word 0, which
+-- nothing else uses: so the bundles and the transactions are the same.
 use Rattle.std.specs.Prelude.{ℕ, ◌+◌, ◌-◌, ◌*◌, List, [], ◌∷◌, ◌++◌, Option, None, Some}
 use Rattle.patmos_instr.specs.Bundles.{Slots}
 use Rattle.patmos_instr.specs.declared.functions.AluFunc.TheVariants as alu
@@ -23,7 +23,7 @@ use Rattle.sp_emit.specs.declared.registers.TheConstants.{RESULT, MASK, FIRST, S
 abbrev pub mask_test : ℕ → List Slots
 mask_test mask = load_slot SPARE mask ∷ compare_short cmp.Eq TEST SPARE 1 ∷ []
 
--- ---- what is set: the value stands in the first register, an index in the one behind it
+-- ---- what is set: the value stands in the first register, an index in the one after it
 
 abbrev pub slot_write : ℕ → ℕ → List Slots
 slot_write mask slot = mask_test mask ++ store_slot (where_so TEST) slot FIRST ∷ []
@@ -36,7 +36,8 @@ masked_store mem.C at = set_short (where_not TEST) at 0 ∷ store_to always mem.
 masked_store mem.M at = set_short (where_not TEST) at 0 ∷ store_to always mem.M at FIRST 0 ∷ []
 
 abbrev pub cell_write : ℕ → SpCell → List Slots
-cell_write mask c = mask_test mask ++ set_long SPARE (address_of c.region c.word) ∷ masked_store (cell_space c.region) SPARE
+cell_write mask c =
+    mask_test mask ++ set_long SPARE (address_of c.region c.word) ∷ masked_store (cell_space c.region) SPARE
 
 abbrev pub element_write : ℕ → SpArray → List Slots
 element_write mask a =
@@ -51,11 +52,12 @@ element_write mask a =
 abbrev pub place_write : ℕ → PlainPlace → PlainParts
 place_write mask (to_slot slot) = one (straight (slot_write mask slot))
 place_write mask (to_cell cell) = one (straight (cell_write mask cell))
-place_write mask (to_array array index) = joined (expr_code index (FIRST + 1)) (one (straight (element_write mask array)))
+place_write mask (to_array array index) =
+    joined (expr_code index (FIRST + 1)) (one (straight (element_write mask array)))
 
 -- ---- calls
 
--- the arguments stand one behind another, from a register on
+-- the arguments stand one after another, from a register on
 abbrev pub args_code : List PlainSp → ℕ → PlainParts
 args_code [] rd = no_part
 args_code (e ∷ args) rd = joined (expr_code e rd) (args_code args (rd + 1))
@@ -66,7 +68,7 @@ mask_handed mask = load_slot MASK mask ∷ with_short always imm.Xor MASK MASK 1
 abbrev pub call_tail : List Slots
 call_tail = call ∷ idle ∷ idle ∷ idle ∷ []
 
--- behind the call the words of the own frame are brought back, and the result is set where the mask is 1
+-- after the call the words of the own frame are brought back, and the result is set where the mask is 1
 abbrev pub result_write : ℕ → Option ℕ → List Slots
 result_write mask None = []
 result_write mask (Some slot) = mask_test mask ++ store_slot (where_so TEST) slot RESULT ∷ []
@@ -78,11 +80,13 @@ abbrev pub way_to : ℕ → PlainPart
 way_to k = calls_to k call_tail
 
 abbrev pub call_code : ℕ → ℕ → ℕ → Option ℕ → PlainParts
-call_code frame mask k result = joined (one (straight (mask_handed mask))) (joined (one (way_to k)) (one (straight (behind_call frame mask result))))
+call_code frame mask k result =
+    joined (one (straight (mask_handed mask)))
+    (joined (one (way_to k)) (one (straight (behind_call frame mask result))))
 
 -- ---- sends
 
--- source, target and count stand one behind another. 512 words has a communication memory; a count of 0 less 1 is past
+-- source, target and count stand one after another. 512 words has a communication memory; a count of 0 less 1 is past
 -- all counts
 abbrev pub send_test : List Slots
 send_test =
@@ -146,10 +150,13 @@ abbrev mutual
   stmt_code frame counter (writes mask place e) = joined (expr_code e FIRST) (place_write mask place)
   stmt_code frame counter (calls mask k args result) = joined (args_code args FIRST) (call_code frame mask k result)
   stmt_code frame counter (transfers mask core source target count) =
-      joined (expr_code source FIRST) (joined (expr_code target (FIRST + 1)) (joined (expr_code count (FIRST + 2)) (one (straight (send_code mask core)))))
+      joined (expr_code source FIRST)
+      (joined (expr_code target (FIRST + 1))
+      (joined (expr_code count (FIRST + 2)) (one (straight (send_code mask core)))))
   stmt_code frame counter (overruns mask e) = joined (expr_code e FIRST) (one (straight (overrun_code mask)))
   stmt_code frame counter (turns count body) =
-      joined (one (straight (turns_begin counter count))) (one (repeats count (stmts_code frame (counter - 1) body) (turns_tail counter)))
+      joined (one (straight (turns_begin counter count)))
+      (one (repeats count (stmts_code frame (counter - 1) body) (turns_tail counter)))
 
   pub stmts_code : ℕ → ℕ → PlainStmts → PlainParts
   stmts_code frame counter no_stmt = no_part

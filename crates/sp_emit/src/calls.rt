@@ -18,7 +18,8 @@ use tc_word::{List, OutOfMemory};
 // the mask is handed to the function that is called
 fn hand_mask(out: &mut Vec<Part>, mask: u32) -> Result<(), OutOfMemory>
     requires { mask < 128 }
-    ensures { OnOk result (parts_of out.new.items ≡ joined (parts_of out.old.items) (one (straight (specs.mask_handed mask)))) }
+    ensures { OnOk result (parts_of out.new.items
+        ≡ joined (parts_of out.old.items) (one (straight (specs.mask_handed mask)))) }
 {
     let handed = reg(MASK);
     let bundles = [
@@ -47,7 +48,8 @@ fn come_back(
     requires frame { frame ≤ 128 }
     requires mask { mask < 128 }
     requires slot { IfSome slot (λ word. word < 128) }
-    ensures { OnOk result (parts_of out.new.items ≡ joined (parts_of out.old.items) (one (straight (specs.behind_call frame mask slot)))) }
+    ensures { OnOk result (parts_of out.new.items
+        ≡ joined (parts_of out.old.items) (one (straight (specs.behind_call frame mask slot)))) }
 {
     let back = stack_op(StackFunc::Sens, frame);
     match slot {
@@ -72,7 +74,8 @@ pub fn call_of(
     requires frame { frame ≤ 128 }
     requires mask { mask < 128 }
     requires slot { IfSome slot (λ word. word < 128) }
-    ensures { OnOk result (parts_of out.new.items ≡ joined (parts_of out.old.items) (specs.call_code frame mask function slot)) }
+    ensures { OnOk result (parts_of out.new.items
+        ≡ joined (parts_of out.old.items) (specs.call_code frame mask function slot)) }
 {
     hand_mask(out, mask)?;
     push_call(out, function)?;
@@ -122,7 +125,8 @@ fn send_start(core: u32) -> [Bundle; 4]
 pub fn send(out: &mut Vec<Part>, mask: u32, core: u32) -> Result<(), OutOfMemory>
     requires mask { mask < 128 }
     requires core { core < 16 }
-    ensures { OnOk result (parts_of out.new.items ≡ joined (parts_of out.old.items) (one (straight (specs.send_code mask core)))) }
+    ensures { OnOk result (parts_of out.new.items
+        ≡ joined (parts_of out.old.items) (one (straight (specs.send_code mask core)))) }
 {
     let mut bundles = Vec::new(*out.allocator());
     bundles.extend_from_slice(&mask_test(mask))?;
@@ -134,7 +138,8 @@ pub fn send(out: &mut Vec<Part>, mask: u32, core: u32) -> Result<(), OutOfMemory
 /// The flag is set where the first register's word is not 0. It is `Err` where memory runs out.
 pub fn overrun(out: &mut Vec<Part>, mask: u32) -> Result<(), OutOfMemory>
     requires { mask < 128 }
-    ensures { OnOk result (parts_of out.new.items ≡ joined (parts_of out.old.items) (one (straight (specs.overrun_code mask)))) }
+    ensures { OnOk result (parts_of out.new.items
+        ≡ joined (parts_of out.old.items) (one (straight (specs.overrun_code mask)))) }
 {
     let (test, second) = (pred(TEST), pred(SECOND));
     let [load, masked] = mask_test(mask);
@@ -151,7 +156,8 @@ pub fn overrun(out: &mut Vec<Part>, mask: u32) -> Result<(), OutOfMemory>
 /// The counter of turns begins. It is `Err` where memory runs out.
 pub fn begin_turns(out: &mut Vec<Part>, counter: u32, count: u32) -> Result<(), OutOfMemory>
     requires { counter < 128 }
-    ensures { OnOk result (parts_of out.new.items ≡ joined (parts_of out.old.items) (one (straight (specs.turns_begin counter count)))) }
+    ensures { OnOk result (parts_of out.new.items
+        ≡ joined (parts_of out.old.items) (one (straight (specs.turns_begin counter count)))) }
 {
     let begin = set_long(reg(SPARE), count);
     push_straight(out, &[begin, store_slot(always(), counter, reg(SPARE))])
@@ -183,7 +189,8 @@ pub fn repeat(
     turn: Vec<Part>,
 ) -> Result<(), OutOfMemory>
     requires { counter < 128 }
-    ensures { OnOk result (parts_of out.new.items ≡ joined (parts_of out.old.items) (one (repeats count (parts_of turn.items) (specs.turns_tail counter)))) }
+    ensures { OnOk result (parts_of out.new.items
+        ≡ joined (parts_of out.old.items) (one (repeats count (parts_of turn.items) (specs.turns_tail counter)))) }
 {
     let tail = listed(*out.allocator(), &turns_tail(counter))?;
     let body = List::of(turn);

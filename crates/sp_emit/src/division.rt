@@ -46,7 +46,7 @@ fn without_signs() -> [Bundle; 5]
     ]
 }
 
-// the bundles of one digit, with the branch behind them
+// the bundles of one digit, with the branch after them
 fn digit() -> [Bundle; 13]
     ensures { result ≡ specs.digit_tail }
 {
@@ -83,10 +83,11 @@ fn digits(alloc: Global) -> Result<Part, OutOfMemory>
     })
 }
 
-// the digits stand between what is before and what is behind them
+// the digits stand between what is before and what is after them
 #[tactic(auto, using(crate::proofs::Pushed::around_pushed))]
 fn around(out: &mut Vec<Part>, before: &[Bundle], behind: &[Bundle]) -> Result<(), OutOfMemory>
-    ensures { OnOk result (parts_of out.new.items ≡ joined (parts_of out.old.items) (specs.around before.now behind.now)) }
+    ensures { OnOk result (parts_of out.new.items
+        ≡ joined (parts_of out.old.items) (specs.around before.now behind.now)) }
 {
     push_straight(out, before)?;
     let digits = digits(*out.allocator())?;
@@ -94,26 +95,28 @@ fn around(out: &mut Vec<Part>, before: &[Bundle], behind: &[Bundle]) -> Result<(
     push_straight(out, behind)
 }
 
-/// A division of unsigned words behind the parts, with what makes its answer. It is `Err` where memory runs out.
+/// A division of unsigned words after the parts, with what makes its answer. It is `Err` where memory runs out.
 pub fn unsigned_division(
     out: &mut Vec<Part>,
     behind: &[Bundle],
     ra: Reg,
     rb: Reg,
 ) -> Result<(), OutOfMemory>
-    ensures { OnOk result (parts_of out.new.items ≡ joined (parts_of out.old.items) (specs.unsigned_division behind.now ra rb)) }
+    ensures { OnOk result (parts_of out.new.items
+        ≡ joined (parts_of out.old.items) (specs.unsigned_division behind.now ra rb)) }
 {
     around(out, &operands(ra, rb), behind)
 }
 
-/// A division of signed words behind the parts, with what makes its answer. It is `Err` where memory runs out.
+/// A division of signed words after the parts, with what makes its answer. It is `Err` where memory runs out.
 pub fn signed_division(
     out: &mut Vec<Part>,
     behind: &[Bundle],
     ra: Reg,
     rb: Reg,
 ) -> Result<(), OutOfMemory>
-    ensures { OnOk result (parts_of out.new.items ≡ joined (parts_of out.old.items) (specs.signed_division behind.now ra rb)) }
+    ensures { OnOk result (parts_of out.new.items
+        ≡ joined (parts_of out.old.items) (specs.signed_division behind.now ra rb)) }
 {
     let mut before = Vec::new(*out.allocator());
     before.extend_from_slice(&operands(ra, rb))?;

@@ -57,7 +57,8 @@ pub fn array_space(region: Region) -> Mem
 // the word of a variable goes to a register
 fn cell(out: &mut Vec<Part>, cell: SpCell, rd: Reg) -> Result<(), OutOfMemory>
     requires { cell_formed cell ≡ true }
-    ensures { OnOk result (parts_of out.new.items ≡ joined (parts_of out.old.items) (one (straight (specs.cell_code cell rd)))) }
+    ensures { OnOk result (parts_of out.new.items
+        ≡ joined (parts_of out.old.items) (one (straight (specs.cell_code cell rd)))) }
 {
     let bundles = [
         set_long(rd, address_of(cell.region, cell.word)),
@@ -69,7 +70,8 @@ fn cell(out: &mut Vec<Part>, cell: SpCell, rd: Reg) -> Result<(), OutOfMemory>
 // the element at the index in a register goes there
 fn element(out: &mut Vec<Part>, array: SpArray, rd: Reg) -> Result<(), OutOfMemory>
     requires { array_formed array ≡ true }
-    ensures { OnOk result (parts_of out.new.items ≡ joined (parts_of out.old.items) (one (straight (specs.element_code array rd)))) }
+    ensures { OnOk result (parts_of out.new.items
+        ≡ joined (parts_of out.old.items) (one (straight (specs.element_code array rd)))) }
 {
     let spare = reg(SPARE);
     let test = pred(TEST);
@@ -128,7 +130,8 @@ fn held_constant(op: SpBinary, b: &SpExpr) -> Option<u32>
 #[tactic(auto, using(crate::proofs::Pushed::two_pushed, crate::proofs::Needs::word_named, crate::proofs::Needs::cell_named, crate::proofs::Needs::array_named, crate::proofs::Needs::index_named, crate::proofs::Needs::operand_fits), unfolding(sp_tree::specs::Plain::plain_sp))]
 pub fn expression(out: &mut Vec<Part>, e: &SpExpr, rd: Reg) -> Result<(), OutOfMemory>
     requires { ExprFits (plain_sp e.now) rd }
-    ensures { OnOk result (parts_of out.new.items ≡ joined (parts_of out.old.items) (specs.expr_code (plain_sp e.now) rd)) }
+    ensures { OnOk result (parts_of out.new.items
+        ≡ joined (parts_of out.old.items) (specs.expr_code (plain_sp e.now) rd)) }
 {
     match e {
         SpExpr::Const { value } => push_straight(out, &[set_long(rd, *value)]),
@@ -157,7 +160,8 @@ fn operands(
     rd: Reg,
 ) -> Result<(), OutOfMemory>
     requires { ExprFits (between_two op (plain_sp a.now) (plain_sp b.now)) rd }
-    ensures { OnOk result (parts_of out.new.items ≡ joined (parts_of out.old.items) (specs.expr_code (between_two op (plain_sp a.now) (plain_sp b.now)) rd)) }
+    ensures { OnOk result (parts_of out.new.items
+        ≡ joined (parts_of out.old.items) (specs.expr_code (between_two op (plain_sp a.now) (plain_sp b.now)) rd)) }
 {
     if let Some(n) = held_constant(op, b) {
         expression(out, a, rd)?;
@@ -172,14 +176,16 @@ fn operands(
     }
 }
 
-// the values of two expressions go to a register and to the one behind it
+// the values of two expressions go to a register and to the one after it
 #[cycle(expression)]
 #[tactic(auto, using(crate::proofs::Pushed::two_pushed))]
 fn values(out: &mut Vec<Part>, first: &SpExpr, second: &SpExpr, rd: Reg) -> Result<(), OutOfMemory>
     requires first { ExprFits (plain_sp first.now) rd }
     requires second { ExprFits (plain_sp second.now) (rd + 1) }
     requires room { rd + 1 < 32 }
-    ensures { OnOk result (parts_of out.new.items ≡ joined (parts_of out.old.items) (joined (specs.expr_code (plain_sp first.now) rd) (specs.expr_code (plain_sp second.now) (rd + 1)))) }
+    ensures { OnOk result (parts_of out.new.items
+        ≡ joined (parts_of out.old.items)
+        (joined (specs.expr_code (plain_sp first.now) rd) (specs.expr_code (plain_sp second.now) (rd + 1)))) }
 {
     expression(out, first, rd)?;
     expression(out, second, behind(rd))

@@ -1,12 +1,18 @@
 //! Functions and tasks.
-ghost use Rattle.std.specs.Prelude.{◌≡◌, ◌+◌, ◌++◌, ◌<◌, ◌≤◌, ℕ, true, IfOk, OnOk, length, map, slice_index_or, is_none};
+ghost use Rattle.std.specs.Prelude.{◌≡◌, ◌+◌, ◌++◌, ◌<◌, ◌≤◌, ℕ, List, [], true, IfOk, OnOk, length, map, slice_index_or, is_none};
 ghost use Rattle.sp_emit.specs.Functions as specs;
 ghost use Rattle.sp_emit.specs.Fits.{FunctionFits};
+ghost use Rattle.sp_emit.specs.Means.{HasConstants, HoldsWords};
+ghost use Rattle.sp_emit.specs.Ran.{begun_memory};
+ghost use Rattle.sp_emit.specs.Serving.{Answers};
 ghost use Rattle.sp_shape.specs.Formed as shape;
 ghost use Rattle.sp_shape.specs.Bundles.{is_steady, parts_all, parts_idle};
 ghost use Rattle.sp_shape.specs.Parts.{no_part, straight, one, joined};
+ghost use Rattle.sp_shape.specs.Run.{Back, at_begin, by_words, run};
 ghost use Rattle.sp_shape.specs.Shown.{parts_of, functions_of, plain_shape};
+ghost use Rattle.sp_shape.specs.Trail.{trail};
 ghost use Rattle.sp_shape.specs.Words.{parts_room};
+ghost use Rattle.sp_tree.specs.Begun.{begun, straight as task_straight};
 ghost use Rattle.sp_tree.specs.Cost.{cost};
 ghost use Rattle.sp_tree.specs.Formed as tree;
 ghost use Rattle.sp_tree.specs.Statements.{no_function};
@@ -41,7 +47,8 @@ fn keep_arguments(bundles: &mut Vec<Bundle>, parameters: u32) -> Result<(), OutO
 #[tactic(auto, using(crate::proofs::Fitting::frame_most, crate::proofs::Fitting::frame_least, crate::proofs::Fitting::few_parameters, crate::proofs::Fitting::mask_fits))]
 fn begin(out: &mut Vec<Part>, f: &SpFunction) -> Result<(), OutOfMemory>
     requires fits { FunctionFits (plain_function f.now) }
-    ensures { OnOk result (parts_of out.new.items ≡ joined (parts_of out.old.items) (one (straight (specs.function_begin (plain_function f.now))))) }
+    ensures { OnOk result (parts_of out.new.items
+        ≡ joined (parts_of out.old.items) (one (straight (specs.function_begin (plain_function f.now))))) }
 {
     let (mask, spare) = (reg(MASK), reg(SPARE));
     let mut bundles = Vec::new(*out.allocator());
@@ -78,7 +85,8 @@ fn end_of(f: &SpFunction) -> [Bundle; 7]
 
 fn end(out: &mut Vec<Part>, f: &SpFunction) -> Result<(), OutOfMemory>
     requires fits { FunctionFits (plain_function f.now) }
-    ensures { OnOk result (parts_of out.new.items ≡ joined (parts_of out.old.items) (one (straight (specs.function_end (plain_function f.now))))) }
+    ensures { OnOk result (parts_of out.new.items
+        ≡ joined (parts_of out.old.items) (one (straight (specs.function_end (plain_function f.now))))) }
 {
     push_straight(out, &end_of(f))
 }
@@ -149,8 +157,17 @@ fn shape_of(alloc: Global, unit: &SpUnit) -> Result<Shape, OutOfMemory>
 /// memory runs out.
 pub fn emit(alloc: Global, unit: &SpUnit) -> Result<Shape, OutOfMemory>
     requires formed { tree.is_formed (plain_unit unit.now) ≡ true }
-    ensures told { IfOk result (λ s. plain_shape s ≡ specs.emitted (plain_unit unit.now)) }
+    ensures is { IfOk result (λ s. plain_shape s ≡ specs.emitted (plain_unit unit.now)) }
     ensures formed { IfOk result (λ s. shape.is_formed (plain_shape s) ≡ true) }
+
+    // For every input, all words that shared and communication memory begin with, and whatever places its calls are
+    // said to return to.
+    ensures preserves { IfOk result (λ s. (input : List ℕ) (shared comm : ℕ → ℕ) (backs : List Back)
+        → HasConstants (plain_unit unit.now).functions → HoldsWords (begun (plain_unit unit.now) input shared comm)
+        → Answers (task_straight (plain_unit unit.now) input shared comm)
+        (at_begin (begun_memory (plain_unit unit.now) input shared comm) [] backs)
+        (run by_words (trail (plain_shape s)) (at_begin (begun_memory (plain_unit unit.now) input shared comm) [] backs))) }
+
     ensures slots { IfOk result (λ s. (k : ℕ) → k < length (plain_unit unit.now).functions
         → parts_idle (slice_index_or (plain_shape s).functions k no_part) ≡ true) }
     ensures alone { IfOk result (λ s. (k : ℕ) → k < length (plain_unit unit.now).functions
@@ -158,7 +175,8 @@ pub fn emit(alloc: Global, unit: &SpUnit) -> Result<Shape, OutOfMemory>
     ensures steady { IfOk result (λ s. (k : ℕ) → k < length (plain_unit unit.now).functions
         → parts_all is_steady (slice_index_or (plain_shape s).functions k no_part) ≡ true) }
     ensures room { IfOk result (λ s. (k : ℕ) → k < length (plain_unit unit.now).functions
-        → 1 + parts_room (slice_index_or (plain_shape s).functions k no_part) ≤ cost (slice_index_or (plain_unit unit.now).functions k no_function)) }
+        → 1 + parts_room (slice_index_or (plain_shape s).functions k no_part)
+        ≤ cost (slice_index_or (plain_unit unit.now).functions k no_function)) }
 {
     let shape = shape_of(alloc, unit)?;
     Ok(shape)

@@ -40,68 +40,87 @@ ghost use Rattle.sp_emit.specs.declared.registers.TheConstants.{RESULT, MASK, FI
 pub fn expressions_are_worked_out()
     ensures keeps { (from : Sources) (f : ℕ → List Step) (e : PlainSp) (rd : ℕ) (m : Run) → ExprFits e rd → IsWhole m
         → Keeps rd m (run from (parts_trail f (expr_code e rd)) m) }
-    ensures value { (f : ℕ → List Step) (slots : ℕ) (e : PlainSp) (rd : ℕ) (s : State) (m : Run) → IsReady slots e rd s m
+    ensures value { (f : ℕ → List Step) (slots : ℕ) (e : PlainSp) (rd : ℕ) (s : State) (m : Run)
+        → IsReady slots e rd s m
         → held rd (run by_words (parts_trail f (expr_code e rd)) m) ≡ worth e s }
 {}
 
-/// What comes of a well-formed task's code, where each load gives what was stored last in its word: what the task's tree
-/// means, to whatever places its calls are said to return. Its result, the words of all memories but word 0, the transfers
-/// that it started and the flag are those of the tree, and the stack is as it was.
+/// What comes of a well-formed task's code, where each load gives what was stored last in its word: what the task's
+/// tree means, to whatever places its calls are said to return. Its result, the words of all memories but word 0, the
+/// transfers that it started and the flag are those of the tree, and the stack is as it was.
 pub fn tasks_do_what_they_mean()
-    ensures { (u : PlainUnit) (input : List ℕ) (shared comm : ℕ → ℕ) (backs : List Back) → is_formed u ≡ true → HasConstants u.functions → HoldsWords (begun u input shared comm)
-        → Answers (straight u input shared comm) (at_begin (begun_memory u input shared comm) [] backs) (ran u input shared comm backs) }
+    ensures { (u : PlainUnit) (input : List ℕ) (shared comm : ℕ → ℕ) (backs : List Back) → is_formed u ≡ true
+        → HasConstants u.functions → HoldsWords (begun u input shared comm)
+        → Answers (straight u input shared comm) (at_begin (begun_memory u input shared comm) [] backs)
+        (ran u input shared comm backs) }
 {}
 
-/// What comes of the code of a function and of its statements, under whatever mask they are run, where each load gives what
-/// was stored last in its word. A function gives what its tree gives, and the words of the stack from its caller's frame on
-/// are as they were, so that the frames of its callers stand. Statements leave the run where they leave the tree's state:
-/// the words of the frame that the tree names, all memories but word 0, the transfers and the flag; besides these they
-/// change registers, and of the frame the words up to a counter of turns alone.
+/// What comes of the code of a function and of its statements, under whatever mask they are run, where each load gives
+/// what was stored last in its word. A function gives what its tree gives, and the words of the stack from its caller's
+/// frame on are as they were, so that the frames of its callers stand. Statements leave the run where they leave the
+/// tree's state: the words of the frame that the tree names, all memories but word 0, the transfers and the flag;
+/// besides these they change registers, and of the frame the words up to a counter of turns alone.
 pub fn functions_do_what_they_give()
-    ensures function { (fs : List PlainFunction) (n k mask : ℕ) (args : List ℕ) (w : World) (m : Run) → AreFunctions fs n → k < n
-        → length args ≡ (slice_index_or fs k no_function).parameters → (k + 1) * MOST_FRAME ≤ m.st → CalledWith mask args w m
+    ensures function { (fs : List PlainFunction) (n k mask : ℕ) (args : List ℕ) (w : World) (m : Run)
+        → AreFunctions fs n → k < n
+        → length args ≡ (slice_index_or fs k no_function).parameters → (k + 1) * MOST_FRAME ≤ m.st
+        → CalledWith mask args w m
         → Answers (serves fs n k mask args w) m (run by_words (trails (map function_code fs) n k) m) }
-    ensures statements { (fs : List PlainFunction) (n frame slots counter : ℕ) (ts : PlainStmts) (s : State) (m : Run) → AreStatements fs n frame slots counter ts s m
-        → Follows slots (stmts_done (serves fs n) ts s) (run by_words (parts_trail (trails (map function_code fs) n) (stmts_code frame counter ts)) m) }
-    ensures frame { (fs : List PlainFunction) (n frame slots counter : ℕ) (ts : PlainStmts) (s : State) (m : Run) → AreStatements fs n frame slots counter ts s m
-        → KeepsBehind (counter + 1) m (run by_words (parts_trail (trails (map function_code fs) n) (stmts_code frame counter ts)) m) }
+    ensures statements { (fs : List PlainFunction) (n frame slots counter : ℕ) (ts : PlainStmts) (s : State) (m : Run)
+        → AreStatements fs n frame slots counter ts s m
+        → Follows slots (stmts_done (serves fs n) ts s)
+        (run by_words (parts_trail (trails (map function_code fs) n) (stmts_code frame counter ts)) m) }
+    ensures frame { (fs : List PlainFunction) (n frame slots counter : ℕ) (ts : PlainStmts) (s : State) (m : Run)
+        → AreStatements fs n frame slots counter ts s m
+        → KeepsBehind (counter + 1) m (run by_words
+        (parts_trail (trails (map function_code fs) n) (stmts_code frame counter ts)) m) }
 {}
 
 /// Where a load from the stack gives what was stored last in its word, whatever other loads give, all loops of a
 /// well-formed task's code make all their turns, and each function returns to the place that was set when it began. The
 /// counts of the tree's turns are words of 32 bits.
 pub fn loops_make_all_turns()
-    ensures { (u : PlainUnit) (from : Sources) (memory : Memory) (loads : List ℕ) (backs : List Back) → from.stack ≡ true → is_formed u ≡ true → HasCounts u.functions
+    ensures { (u : PlainUnit) (from : Sources) (memory : Memory) (loads : List ℕ) (backs : List Back)
+        → from.stack ≡ true → is_formed u ≡ true → HasCounts u.functions
         → ShapeTurns (run from) (emitted u) (at_begin memory loads backs) }
 {}
 
-/// Whatever loads give, outside the stack a well-formed task's code reads and stores only what its tree names, and word 0
-/// in the place of what is masked or past the end; and the loads by the data cache have the same addresses. What is
-/// loaded so is stored by no access past the cache.
+/// Whatever loads give, outside the stack a well-formed task's code reads and stores only what its tree names, and
+/// word 0 in the place of what is masked or past the end; and the loads by the data cache have the same addresses.
+/// What is loaded so is stored by no access past the cache.
 pub fn tasks_ask_for_what_they_name()
     ensures asks { (u : PlainUnit) → is_formed u ≡ true → AsksOnly (Contains (uses_of u)) (trail (emitted u)) }
-    ensures apart { (uses : List Use) (width : Width) (rd : ℕ) (wide : StoreWidth) (value address : ℕ) → are_apart uses ≡ true
-        → MayAsk (Contains uses) (effect.Load mem.C width rd address) → MayAsk (Contains uses) (effect.Store mem.M wide address value) → ⊥ }
+    ensures apart { (uses : List Use) (width : Width) (rd : ℕ) (wide : StoreWidth) (value address : ℕ)
+        → are_apart uses ≡ true
+        → MayAsk (Contains uses) (effect.Load mem.C width rd address)
+        → MayAsk (Contains uses) (effect.Store mem.M wide address value) → ⊥ }
 {}
 
-/// Whatever loads give, all that a well-formed task's code asks of the stack is within it: each access reaches a word that
-/// the stack cache holds, and the top stays in the stack's region, where that has room for the frames on each chain of
-/// calls.
+/// Whatever loads give, all that a well-formed task's code asks of the stack is within it: each
+/// access reaches a word that the stack cache holds, and the top stays in the stack's region, where
+/// that has room for the frames on each chain of calls.
 pub fn tasks_stay_within_the_stack()
-    ensures { (u : PlainUnit) (from : Sources) (memory : Memory) (loads : List ℕ) (backs : List Back) → is_formed u ≡ true
+    ensures { (u : PlainUnit) (from : Sources) (memory : Memory) (loads : List ℕ) (backs : List Back)
+        → is_formed u ≡ true
         → STACK_LOWEST + chains u.functions (length u.functions) u.entry ≤ STACK_END
-        → AreWithinStack (run from (trail (emitted u)) (at_begin memory loads backs)).asked (pointers_of (at_begin memory loads backs)) }
+        → AreWithinStack (run from (trail (emitted u)) (at_begin memory loads backs)).asked
+        (pointers_of (at_begin memory loads backs)) }
 {}
 
 /// Where the long constants of a task's code are words of 32 bits, as those of all bundles that words can tell are, the
 /// constants of its tree and the counts of its turns are.
 #[tactic(auto, using(crate::proofs::Constants::constants_are_words, crate::proofs::Constants::counts_are_words))]
 pub fn code_holds_the_constants()
-    ensures constants { (u : PlainUnit) → ((k : ℕ) → parts_all has_word (slice_index_or (emitted u).functions k no_part) ≡ true) → HasConstants u.functions }
-    ensures counts { (u : PlainUnit) → ((k : ℕ) → parts_all has_word (slice_index_or (emitted u).functions k no_part) ≡ true) → HasCounts u.functions }
+    ensures constants { (u : PlainUnit)
+        → ((k : ℕ) → parts_all has_word (slice_index_or (emitted u).functions k no_part) ≡ true)
+        → HasConstants u.functions }
+    ensures counts { (u : PlainUnit)
+        → ((k : ℕ) → parts_all has_word (slice_index_or (emitted u).functions k no_part) ≡ true)
+        → HasCounts u.functions }
 {}
 
-/// The registers and predicates of compiled code, in numbers: what a task gives stands in `r1`, and its flag in `r2`. A law: it does nothing.
+/// The registers and predicates of compiled code, in numbers: what a task gives stands in `r1`,
+/// and its flag in `r2`. A law: it does nothing.
 pub fn registers_numbered()
     ensures result { RESULT ≡ 1 }
     ensures mask { MASK ≡ 2 }

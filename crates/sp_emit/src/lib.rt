@@ -1,22 +1,22 @@
 //! Code for single-path trees.
 //!
-//! Each construct of a tree has its bundles, one instruction in each, whatever the masks and the values are: so a tree's
-//! code always runs the same bundles. What is off is kept off by a predicate where it is a word of the stack, of the
-//! scratchpad, of communication memory or of the interface; a word of main memory is then stored at word 0, which nothing
-//! else uses, so that the transactions are the same too.
+//! Each construct of a tree has its bundles, one instruction in each, whatever the masks and the values are: so a
+//! tree's code always runs the same bundles. What is off is kept off by a predicate where it is a word of the stack, of
+//! the scratchpad, of communication memory or of the interface; a word of main memory is then stored at word 0, which
+//! nothing else uses, so that the transactions are the same too.
 //!
-//! [`emit`] writes the code of a well-formed task, as the shape that `specs/Functions.antt` defines. It promises besides
-//! that the shape is well formed, that each of its bundles is one instruction, that its delay slots do nothing, that
-//! whatever may have a transaction with main memory is always done, and that a function takes at most as many words as
-//! its tree costs.
+//! [`emit`] writes the code of a well-formed task, as the shape that `specs/Functions.antt` defines. It
+//! promises besides that the shape is well formed, that each of its bundles is one instruction, that its
+//! delay slots do nothing, that whatever may have a transaction with main memory is always done, and that a
+//! function takes at most as many words as its tree costs.
 //!
-//! [`tasks_do_what_they_mean`] says that what comes of a task's code is what its tree means, where each load gives what
-//! was stored last in its word. [`expressions_are_worked_out`] says it of an expression, and what its code keeps whatever
-//! loads give. [`loops_make_all_turns`] says that the branches and returns of a task's code go where its trail goes on, and
-//! [`tasks_ask_for_what_they_name`] which words it may read and store, and [`tasks_stay_within_the_stack`] that it never leaves
-//! the stack: all three whatever is loaded from outside the stack.
-//! Where these want the constants and the counts of a tree to be words, [`code_holds_the_constants`] says that they are if
-//! the constants of its code are.
+//! [`tasks_do_what_they_mean`] says that what comes of a task's code is what its tree means, where each load
+//! gives what was stored last in its word. [`expressions_are_worked_out`] says it of an expression, and what
+//! its code keeps whatever loads give. [`loops_make_all_turns`] says that the branches and returns of a task's
+//! code go where its trail goes on, and [`tasks_ask_for_what_they_name`] which words it may read and store, and
+//! [`tasks_stay_within_the_stack`] that it never leaves the stack: all three whatever is loaded from outside
+//! the stack. Where these want the constants and the counts of a tree to be words, [`code_holds_the_constants`]
+//! says that they are if the constants of its code are.
 //!
 //! - `specs/Instructions.antt` has the bundles, `src/registers.rt` which registers they use for what.
 //! - `specs/Expressions.antt` and `specs/Division.antt` have the code of values, `specs/Statements.antt` that of what

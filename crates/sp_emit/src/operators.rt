@@ -31,7 +31,8 @@ fn truth_to(rd: Reg) -> [Bundle; 2]
 
 /// The value of an operator on a register's word goes there. It is `Err` where memory runs out.
 pub fn unary(out: &mut Vec<Part>, op: SpUnary, rd: Reg) -> Result<(), OutOfMemory>
-    ensures { OnOk result (parts_of out.new.items ≡ joined (parts_of out.old.items) (one (straight (specs.unary_code op rd)))) }
+    ensures { OnOk result (parts_of out.new.items
+        ≡ joined (parts_of out.old.items) (one (straight (specs.unary_code op rd)))) }
 {
     match op {
         SpUnary::Minus => push_straight(out, &[compute(always(), AluFunc::Sub, rd, reg(0), rd)]),
@@ -48,7 +49,8 @@ pub fn unary(out: &mut Vec<Part>, op: SpUnary, rd: Reg) -> Result<(), OutOfMemor
 
 // `||` and `&&`
 fn both(out: &mut Vec<Part>, func: PredFunc, rd: Reg, ra: Reg, rb: Reg) -> Result<(), OutOfMemory>
-    ensures { OnOk result (parts_of out.new.items ≡ joined (parts_of out.old.items) (one (straight (specs.both_code func rd ra rb)))) }
+    ensures { OnOk result (parts_of out.new.items
+        ≡ joined (parts_of out.old.items) (one (straight (specs.both_code func rd ra rb)))) }
 {
     let (test, second) = (pred(TEST), pred(SECOND));
     let [zero, one] = truth_to(rd);
@@ -70,7 +72,8 @@ fn compared(
     ra: Reg,
     rb: Reg,
 ) -> Result<(), OutOfMemory>
-    ensures { OnOk result (parts_of out.new.items ≡ joined (parts_of out.old.items) (one (straight (specs.compared_code func rd ra rb)))) }
+    ensures { OnOk result (parts_of out.new.items
+        ≡ joined (parts_of out.old.items) (one (straight (specs.compared_code func rd ra rb)))) }
 {
     let [zero, one] = truth_to(rd);
     push_straight(out, &[compare(func, pred(TEST), ra, rb), zero, one])
@@ -127,7 +130,8 @@ pub fn binary(
 // a comparison with a constant that an instruction holds
 fn held_compared(out: &mut Vec<Part>, func: CmpFunc, rd: Reg, n: u32) -> Result<(), OutOfMemory>
     requires { n < 32 }
-    ensures { OnOk result (parts_of out.new.items ≡ joined (parts_of out.old.items) (one (straight (specs.held_compared func rd n)))) }
+    ensures { OnOk result (parts_of out.new.items
+        ≡ joined (parts_of out.old.items) (one (straight (specs.held_compared func rd n)))) }
 {
     let [zero, one] = truth_to(rd);
     push_straight(out, &[compare_short(func, pred(TEST), rd, n), zero, one])
@@ -152,7 +156,8 @@ pub fn held_below(op: SpBinary) -> u32
 /// The value of an operator on a register's word and such a constant goes there. It is `Err` where memory runs out.
 pub fn held(out: &mut Vec<Part>, op: SpBinary, rd: Reg, n: u32) -> Result<(), OutOfMemory>
     requires { n < held_below op }
-    ensures { OnOk result (parts_of out.new.items ≡ joined (parts_of out.old.items) (one (straight (specs.held_code op rd n)))) }
+    ensures { OnOk result (parts_of out.new.items
+        ≡ joined (parts_of out.old.items) (one (straight (specs.held_code op rd n)))) }
 {
     match op {
         SpBinary::BitAnd => push_straight(out, &[with_short(always(), ImmFunc::And, rd, rd, n)]),

@@ -1,4 +1,4 @@
-//! Parts behind others.
+//! Parts after others.
 ghost use Rattle.std.specs.Prelude.{◌≡◌, IfOk, OnOk};
 ghost use Rattle.sp_shape.specs.Parts.{straight, one, joined};
 ghost use Rattle.sp_shape.specs.Shown.{plain_part, parts_of};
@@ -17,7 +17,7 @@ pub fn listed(alloc: Global, bundles: &[Bundle]) -> Result<List<Bundle>, OutOfMe
     Ok(List::of(list))
 }
 
-/// Straight code of these bundles stands behind the parts. It is `Err` where memory runs out.
+/// Straight code of these bundles stands after the parts. It is `Err` where memory runs out.
 #[tactic(auto, using(crate::proofs::Pushed::straight_push))]
 pub fn push_straight(out: &mut Vec<Part>, bundles: &[Bundle]) -> Result<(), OutOfMemory>
     ensures { OnOk result (parts_of out.new.items ≡ joined (parts_of out.old.items) (one (straight bundles.now))) }
@@ -27,7 +27,7 @@ pub fn push_straight(out: &mut Vec<Part>, bundles: &[Bundle]) -> Result<(), OutO
     Ok(())
 }
 
-/// A part stands behind the parts. It is `Err` where memory runs out.
+/// A part stands after the parts. It is `Err` where memory runs out.
 #[tactic(auto, using(crate::proofs::Pushed::part_push))]
 pub fn push(out: &mut Vec<Part>, part: Part) -> Result<(), OutOfMemory>
     ensures { OnOk result (parts_of out.new.items ≡ joined (parts_of out.old.items) (one (plain_part part))) }

@@ -1,5 +1,5 @@
-//! Which registers compiled code uses for what. Those from [`FIRST`] on hold the values of expressions, and a function's
-//! arguments, one behind another; those from [`SPARE`] on what an operator or a statement needs beside them.
+//! Which registers compiled code uses for what. Those from [`FIRST`] on hold the values of expressions, and a
+//! function's arguments, one after another; those from [`SPARE`] on what an operator or a statement needs beside them.
 ghost use Rattle.std.specs.Prelude.{◌≡◌, ◌+◌, ◌<◌, ◌%◌, ◌^◌};
 
 use patmos_instr::{Pred, Reg};
@@ -63,7 +63,7 @@ pub fn pred(number: u32) -> Pred
     Pred::low(number)
 }
 
-/// The register behind one.
+/// The register after one.
 pub fn behind(rd: Reg) -> Reg
     requires { rd + 1 < 32 }
     ensures { result ≡ rd + 1 }

@@ -25,7 +25,8 @@ use tc_word::OutOfMemory;
 #[tactic(auto, using(crate::proofs::Pushed::two_pushed, crate::proofs::Fitting::place_mask, crate::proofs::Fitting::slot_fits, crate::proofs::Fitting::index_fits, crate::proofs::Fitting::cell_fits, crate::proofs::Fitting::array_fits))]
 fn place(out: &mut Vec<Part>, mask: u32, to: &SpPlace) -> Result<(), OutOfMemory>
     requires fits { PlaceFits mask (plain_place to.now) }
-    ensures { OnOk result (parts_of out.new.items ≡ joined (parts_of out.old.items) (specs.place_write mask (plain_place to.now))) }
+    ensures { OnOk result (parts_of out.new.items
+        ≡ joined (parts_of out.old.items) (specs.place_write mask (plain_place to.now))) }
 {
     match to {
         SpPlace::Frame { slot } => slot_write(out, mask, *slot),
@@ -37,11 +38,12 @@ fn place(out: &mut Vec<Part>, mask: u32, to: &SpPlace) -> Result<(), OutOfMemory
     }
 }
 
-// the values of arguments go to registers, one behind another
+// the values of arguments go to registers, one after another
 #[tactic(auto, using(crate::proofs::Fitting::first_argument, crate::proofs::Fitting::room_behind))]
 fn arguments(out: &mut Vec<Part>, args: &[SpExpr], first: Reg) -> Result<(), OutOfMemory>
     requires fits { ArgsFit (map plain_sp args.now) first }
-    ensures { OnOk result (parts_of out.new.items ≡ joined (parts_of out.old.items) (specs.args_code (map plain_sp args.now) first)) }
+    ensures { OnOk result (parts_of out.new.items
+        ≡ joined (parts_of out.old.items) (specs.args_code (map plain_sp args.now) first)) }
 {
     let mut rd = first;
     for e in args {
@@ -63,7 +65,8 @@ fn send_values(
     requires target { ExprFits (plain_sp target.now) (FIRST + 1) }
     requires count { ExprFits (plain_sp count.now) (FIRST + 2) }
     ensures { OnOk result (parts_of out.new.items ≡ joined (parts_of out.old.items)
-        (joined (expr_code (plain_sp source.now) FIRST) (joined (expr_code (plain_sp target.now) (FIRST + 1)) (expr_code (plain_sp count.now) (FIRST + 2))))) }
+        (joined (expr_code (plain_sp source.now) FIRST)
+        (joined (expr_code (plain_sp target.now) (FIRST + 1)) (expr_code (plain_sp count.now) (FIRST + 2))))) }
 {
     let first = reg(FIRST);
     let second = behind(first);
@@ -88,7 +91,8 @@ fn send_of(
     requires target { ExprFits (plain_sp target.now) (FIRST + 1) }
     requires count { ExprFits (plain_sp count.now) (FIRST + 2) }
     ensures { OnOk result (parts_of out.new.items ≡ joined (parts_of out.old.items)
-        (specs.stmt_code 0 0 (plain.transfers mask core (plain_sp source.now) (plain_sp target.now) (plain_sp count.now)))) }
+        (specs.stmt_code 0 0 (plain.transfers mask core (plain_sp source.now) (plain_sp target.now)
+        (plain_sp count.now)))) }
 {
     send_values(out, source, target, count)?;
     send(out, mask, core)
@@ -102,7 +106,7 @@ fn set_slot(out: &mut Vec<Part>, slot: u32) -> Result<(), OutOfMemory>
     push_straight(out, &[store_slot(always(), slot, reg(FIRST))])
 }
 
-/// The code of a statement stands behind the parts. It is `Err` where memory runs out.
+/// The code of a statement stands after the parts. It is `Err` where memory runs out.
 #[cycle(statement)]
 #[tactic(auto, using(crate::proofs::Pushed::two_pushed, crate::proofs::Fitting::masks_value, crate::proofs::Fitting::masks_slot, crate::proofs::Fitting::writes_value, crate::proofs::Fitting::writes_place, crate::proofs::Fitting::calls_mask, crate::proofs::Fitting::calls_args, crate::proofs::Fitting::calls_result, crate::proofs::Fitting::sends_mask, crate::proofs::Fitting::sends_core, crate::proofs::Fitting::sends_source, crate::proofs::Fitting::sends_target, crate::proofs::Fitting::sends_count, crate::proofs::Fitting::overruns_mask, crate::proofs::Fitting::overruns_value), unfolding(sp_tree::specs::Shown::plain_stmt))]
 pub fn statement(
@@ -112,7 +116,8 @@ pub fn statement(
     counter: u32,
 ) -> Result<(), OutOfMemory>
     requires fits { StmtFits frame counter (plain_stmt t.now) }
-    ensures { OnOk result (parts_of out.new.items ≡ joined (parts_of out.old.items) (specs.stmt_code frame counter (plain_stmt t.now))) }
+    ensures { OnOk result (parts_of out.new.items
+        ≡ joined (parts_of out.old.items) (specs.stmt_code frame counter (plain_stmt t.now))) }
 {
     match t {
         SpStmt::Mask { slot, value } => {
@@ -162,7 +167,8 @@ fn turns(
     counter: u32,
 ) -> Result<(), OutOfMemory>
     requires fits { StmtFits frame counter (plain.turns count (stmts_of body.now)) }
-    ensures { OnOk result (parts_of out.new.items ≡ joined (parts_of out.old.items) (specs.stmt_code frame counter (plain.turns count (stmts_of body.now)))) }
+    ensures { OnOk result (parts_of out.new.items
+        ≡ joined (parts_of out.old.items) (specs.stmt_code frame counter (plain.turns count (stmts_of body.now)))) }
 {
     begin_turns(out, counter, count)?;
     let mut turn = Vec::new(*out.allocator());
@@ -170,7 +176,7 @@ fn turns(
     repeat(out, counter, count, turn)
 }
 
-/// The code of statements stands behind the parts. It is `Err` where memory runs out.
+/// The code of statements stands after the parts. It is `Err` where memory runs out.
 #[cycle(statement)]
 #[tactic(auto)]
 pub fn statements(
@@ -180,7 +186,8 @@ pub fn statements(
     counter: u32,
 ) -> Result<(), OutOfMemory>
     requires fits { StmtsFit frame counter (stmts_of body.now) }
-    ensures { OnOk result (parts_of out.new.items ≡ joined (parts_of out.old.items) (specs.stmts_code frame counter (stmts_of body.now))) }
+    ensures { OnOk result (parts_of out.new.items
+        ≡ joined (parts_of out.old.items) (specs.stmts_code frame counter (stmts_of body.now))) }
 {
     for t in body {
         statement(out, t, frame, counter)?;

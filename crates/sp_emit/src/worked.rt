@@ -16,37 +16,71 @@ pub fn worked_calls()
     ensures stored { (ran_alone small.difference_unit (9 ∷ 4 ∷ [])).memory.private 4 ≡ 5 }
     ensures input { (ran_alone small.difference_unit (9 ∷ 4 ∷ [])).memory.private 5 ≡ 9 }
     ensures freed { (ran_alone small.difference_unit (9 ∷ 4 ∷ [])).st ≡ 65536 }
-    ensures off { word_in (ran_alone (small.unit_of (stmt (masks 0 (constant 0)) (one small.difference_call))) (9 ∷ 4 ∷ [])).regs 1 ≡ 0 }
-    ensures off_stored { (ran_alone (small.unit_of (stmt (masks 0 (constant 0)) (one small.difference_call))) (9 ∷ 4 ∷ [])).memory.private 4 ≡ 1 }
-    ensures two_stored { (ran_alone (small.unit_of (stmt (masks 0 (constant 2)) (one small.difference_call))) (9 ∷ 4 ∷ [])).memory.private 4 ≡ 1 }
+    ensures off { word_in (ran_alone (small.unit_of (stmt (masks 0 (constant 0)) (one small.difference_call))) (9 ∷ 4
+        ∷ [])).regs 1 ≡ 0 }
+    ensures off_stored { (ran_alone (small.unit_of (stmt (masks 0 (constant 0)) (one small.difference_call))) (9 ∷ 4
+        ∷ [])).memory.private 4 ≡ 1 }
+    ensures two_stored { (ran_alone (small.unit_of (stmt (masks 0 (constant 2)) (one small.difference_call))) (9 ∷ 4
+        ∷ [])).memory.private 4 ≡ 1 }
 {}
 
 /// Quotients and what is left: signed words, by 0, the least word by -1, and unsigned words past 2^31.
 pub fn worked_divisions()
-    ensures quotient { word_in (ran_alone (small.unit_of (one (masks 1 (between_two binary.Divide (constant (2 ^ 32 - 7)) (constant 2))))) []).regs 1 ≡ 2 ^ 32 - 3 }
-    ensures rest { word_in (ran_alone (small.unit_of (one (masks 1 (between_two binary.Remainder (constant (2 ^ 32 - 7)) (constant 2))))) []).regs 1 ≡ 2 ^ 32 - 1 }
-    ensures by_negative { word_in (ran_alone (small.unit_of (one (masks 1 (between_two binary.Divide (constant 7) (constant (2 ^ 32 - 2)))))) []).regs 1 ≡ 2 ^ 32 - 3 }
-    ensures rest_by_negative { word_in (ran_alone (small.unit_of (one (masks 1 (between_two binary.Remainder (constant 7) (constant (2 ^ 32 - 2)))))) []).regs 1 ≡ 1 }
-    ensures by_zero { word_in (ran_alone (small.unit_of (one (masks 1 (between_two binary.Divide (constant 7) (constant 0))))) []).regs 1 ≡ 0 }
-    ensures rest_by_zero { word_in (ran_alone (small.unit_of (one (masks 1 (between_two binary.Remainder (constant (2 ^ 32 - 7)) (constant 0))))) []).regs 1 ≡ 2 ^ 32 - 7 }
-    ensures least { word_in (ran_alone (small.unit_of (one (masks 1 (between_two binary.Divide (constant (2 ^ 31)) (constant (2 ^ 32 - 1)))))) []).regs 1 ≡ 2 ^ 31 }
-    ensures unsigned { word_in (ran_alone (small.unit_of (one (masks 1 (between_two binary.DivideUnsigned (constant (2 ^ 32 - 7)) (constant 2))))) []).regs 1 ≡ 2147483644 }
-    ensures large { word_in (ran_alone (small.unit_of (one (masks 1 (between_two binary.RemainderUnsigned (constant (2 ^ 32 - 1)) (constant (2 ^ 31 + 1)))))) []).regs 1 ≡ 2147483646 }
+    ensures quotient { word_in (ran_alone
+        (small.unit_of (one (masks 1 (between_two binary.Divide (constant (2 ^ 32 - 7)) (constant 2))))) []).regs 1
+        ≡ 2 ^ 32 - 3 }
+    ensures rest { word_in (ran_alone
+        (small.unit_of (one (masks 1 (between_two binary.Remainder (constant (2 ^ 32 - 7)) (constant 2))))) []).regs 1
+        ≡ 2 ^ 32 - 1 }
+    ensures by_negative { word_in (ran_alone
+        (small.unit_of (one (masks 1 (between_two binary.Divide (constant 7) (constant (2 ^ 32 - 2)))))) []).regs 1
+        ≡ 2 ^ 32 - 3 }
+    ensures rest_by_negative { word_in
+        (ran_alone (small.unit_of (one
+        (masks 1 (between_two binary.Remainder (constant 7) (constant (2 ^ 32 - 2)))))) []).regs 1 ≡ 1 }
+    ensures by_zero { word_in (ran_alone
+        (small.unit_of (one (masks 1 (between_two binary.Divide (constant 7) (constant 0))))) []).regs 1 ≡ 0 }
+    ensures rest_by_zero { word_in
+        (ran_alone (small.unit_of (one
+        (masks 1 (between_two binary.Remainder (constant (2 ^ 32 - 7)) (constant 0))))) []).regs 1 ≡ 2 ^ 32 - 7 }
+    ensures least { word_in (ran_alone
+        (small.unit_of (one (masks 1 (between_two binary.Divide (constant (2 ^ 31))
+        (constant (2 ^ 32 - 1)))))) []).regs 1 ≡ 2 ^ 31 }
+    ensures unsigned { word_in (ran_alone
+        (small.unit_of (one (masks 1 (between_two binary.DivideUnsigned (constant (2 ^ 32 - 7))
+        (constant 2))))) []).regs 1 ≡ 2147483644 }
+    ensures large { word_in (ran_alone
+        (small.unit_of (one (masks 1 (between_two binary.RemainderUnsigned (constant (2 ^ 32 - 1))
+        (constant (2 ^ 31 + 1)))))) []).regs 1 ≡ 2147483646 }
 {}
 
 /// Turns, masks and what they keep off: a store at main memory goes to word 0. The flag, and a send.
 pub fn worked_effects()
     ensures turns { word_in (ran_alone (small.unit_of (one (small.adding 2))) []).regs 1 ≡ 4 }
-    ensures slot_off { word_in (ran_alone (small.unit_of (stmt (masks 0 (constant 2)) (one (small.writing 7)))) []).regs 1 ≡ 0 }
-    ensures cell_off { (ran_alone (small.unit_of (stmt (masks 0 (constant 0)) (one (writes 0 (to_cell (small.cell Region.Private 4)) (constant 7))))) []).memory.private 4 ≡ 1 }
-    ensures spare { (ran_alone (small.unit_of (stmt (masks 0 (constant 0)) (one (writes 0 (to_cell (small.cell Region.Private 4)) (constant 7))))) []).memory.private 0 ≡ 7 }
-    ensures element { (ran_alone (small.unit_of (one (writes 0 (to_array (small.array Region.Shared 8 3) (constant 2)) (constant 7)))) []).memory.shared 10 ≡ 7 }
-    ensures past { (ran_alone (small.unit_of (one (writes 0 (to_array (small.array Region.Shared 8 3) (constant 3)) (constant 7)))) []).memory.shared 11 ≡ 0 }
-    ensures scratch { (ran_alone (small.unit_of (one (writes 0 (to_array (small.array Region.Scratch 8 3) (constant 2)) (constant 7)))) []).memory.scratch 10 ≡ 7 }
-    ensures read_past { word_in (ran_alone (small.unit_of (one (masks 1 (array_word (small.array Region.Private 5 1) (constant 1))))) []).regs 1 ≡ 0 }
+    ensures slot_off { word_in (ran_alone
+        (small.unit_of (stmt (masks 0 (constant 2)) (one (small.writing 7)))) []).regs 1 ≡ 0 }
+    ensures cell_off { (ran_alone (small.unit_of
+        (stmt (masks 0 (constant 0)) (one
+        (writes 0 (to_cell (small.cell Region.Private 4)) (constant 7))))) []).memory.private 4 ≡ 1 }
+    ensures spare { (ran_alone (small.unit_of
+        (stmt (masks 0 (constant 0)) (one
+        (writes 0 (to_cell (small.cell Region.Private 4)) (constant 7))))) []).memory.private 0 ≡ 7 }
+    ensures element { (ran_alone (small.unit_of
+        (one (writes 0 (to_array (small.array Region.Shared 8 3) (constant 2)) (constant 7)))) []).memory.shared 10
+        ≡ 7 }
+    ensures past { (ran_alone (small.unit_of
+        (one (writes 0 (to_array (small.array Region.Shared 8 3) (constant 3)) (constant 7)))) []).memory.shared 11
+        ≡ 0 }
+    ensures scratch { (ran_alone (small.unit_of
+        (one (writes 0 (to_array (small.array Region.Scratch 8 3) (constant 2)) (constant 7)))) []).memory.scratch 10
+        ≡ 7 }
+    ensures read_past { word_in (ran_alone
+        (small.unit_of (one (masks 1 (array_word (small.array Region.Private 5 1) (constant 1))))) []).regs 1 ≡ 0 }
     ensures flag { word_in (ran_alone (small.unit_of (one (overruns 0 (constant 5)))) []).regs 2 ≡ 1 }
-    ensures no_flag { word_in (ran_alone (small.unit_of (stmt (masks 0 (constant 0)) (one (overruns 0 (constant 5))))) []).regs 2 ≡ 0 }
-    ensures sent { (ran_alone (small.unit_of (one (small.sending 2))) []).memory.starts ≡ record { core = 3; source = 10; target = 20; count = 2 } ∷ [] }
+    ensures no_flag { word_in (ran_alone
+        (small.unit_of (stmt (masks 0 (constant 0)) (one (overruns 0 (constant 5))))) []).regs 2 ≡ 0 }
+    ensures sent { (ran_alone (small.unit_of (one (small.sending 2))) []).memory.starts
+        ≡ record { core = 3; source = 10; target = 20; count = 2 } ∷ [] }
     ensures too_many { (ran_alone (small.unit_of (one (small.sending 503))) []).memory.starts ≡ [] }
     ensures none { (ran_alone (small.unit_of (one (small.sending 0))) []).memory.starts ≡ [] }
 {}

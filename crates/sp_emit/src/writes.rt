@@ -36,14 +36,15 @@ pub fn mask_test(mask: u32) -> [Bundle; 2]
 pub fn slot_write(out: &mut Vec<Part>, mask: u32, slot: u32) -> Result<(), OutOfMemory>
     requires mask { mask < 128 }
     requires slot { slot < 128 }
-    ensures { OnOk result (parts_of out.new.items ≡ joined (parts_of out.old.items) (one (straight (specs.slot_write mask slot)))) }
+    ensures { OnOk result (parts_of out.new.items
+        ≡ joined (parts_of out.old.items) (one (straight (specs.slot_write mask slot)))) }
 {
     let [load, test] = mask_test(mask);
     let set = store_slot(where_so(pred(TEST)), slot, reg(FIRST));
     push_straight(out, &[load, test, set])
 }
 
-// the store at an address behind other bundles; the space is none of the stack
+// the store at an address after other bundles; the space is none of the stack
 fn masked_store(bundles: &mut Vec<Bundle>, space: Mem, at: Reg) -> Result<(), OutOfMemory>
     ensures { OnOk result (bundles.new.items ≡ bundles.old.items ++ specs.masked_store space at) }
 {
@@ -63,7 +64,8 @@ fn masked_store(bundles: &mut Vec<Bundle>, space: Mem, at: Reg) -> Result<(), Ou
 pub fn cell_write(out: &mut Vec<Part>, mask: u32, cell: SpCell) -> Result<(), OutOfMemory>
     requires mask { mask < 128 }
     requires formed { cell_formed cell ≡ true }
-    ensures { OnOk result (parts_of out.new.items ≡ joined (parts_of out.old.items) (one (straight (specs.cell_write mask cell)))) }
+    ensures { OnOk result (parts_of out.new.items
+        ≡ joined (parts_of out.old.items) (one (straight (specs.cell_write mask cell)))) }
 {
     let mut bundles = Vec::new(*out.allocator());
     bundles.extend_from_slice(&mask_test(mask))?;
@@ -97,7 +99,8 @@ fn element_bundles(alloc: Global, mask: u32, array: SpArray) -> Result<Vec<Bundl
 pub fn element_write(out: &mut Vec<Part>, mask: u32, array: SpArray) -> Result<(), OutOfMemory>
     requires mask { mask < 128 }
     requires formed { array_formed array ≡ true }
-    ensures { OnOk result (parts_of out.new.items ≡ joined (parts_of out.old.items) (one (straight (specs.element_write mask array)))) }
+    ensures { OnOk result (parts_of out.new.items
+        ≡ joined (parts_of out.old.items) (one (straight (specs.element_write mask array)))) }
 {
     let bundles = element_bundles(*out.allocator(), mask, array)?;
     push_straight(out, &bundles)?;

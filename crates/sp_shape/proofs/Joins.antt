@@ -1,4 +1,4 @@
--- Parts behind others.
+-- Parts after others.
 use Rattle.std.proofs.Common.{◌≡◌, ℕ, List, [], ◌∷◌, ◌++◌, refl, ap, sym, ◌∙◌}
 use Rattle.std.proofs.lemmas.List.{append_assoc}
 use Rattle.sp_shape.specs.Parts.{PlainParts, no_part, part, joined}

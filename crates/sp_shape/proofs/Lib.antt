@@ -1,3 +1,5 @@
+pub mod Functions
 pub mod Joins
+pub mod Lists
 pub mod Plain
 pub mod Whole

@@ -1,4 +1,4 @@
--- Nothing is pending behind a bundle that is read at once, and all registers are there.
+-- Nothing is pending after a bundle that is read at once, and all registers are there.
 use Rattle.std.proofs.Common.{◌≡◌, ℕ, List, [], ◌∷◌, ◌++◌, false, refl, sym, ◌∙◌, subst, arith}
 use Rattle.patmos_instr.specs.Bundles.{Slots}
 use Rattle.patmos_instr.specs.declared.functions.StackFunc.{StackFunc}
@@ -53,7 +53,7 @@ effected_fits from (effect.Flow flow) m fits = fits
 
 -- ---- bundles and trails
 
--- the registers behind a bundle, before what it asks for
+-- the registers after a bundle, before what it asks for
 abbrev pub behind : Slots → Run → Run
 behind b m = record m { regs = after_bundle m.st m.ss b m.regs }
 

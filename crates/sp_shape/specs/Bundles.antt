@@ -1,4 +1,4 @@
--- What is said of each bundle of a shape, wherever it stands; and of delay slots.
+-- To be believed. What is said of each bundle of a shape, wherever it stands; and of delay slots.
 use Rattle.std.specs.Prelude.{◌^◌, nat_lt, Bool, true, false, ◌&&◌, ◌==◌, List, [], ◌∷◌, is_none, if◌then◌else◌}
 use Rattle.std.specs.List.{list_all}
 use Rattle.patmos_instr.specs.Bundles.{Slots}
@@ -63,7 +63,7 @@ is_idle_op _ = false
 abbrev pub is_idle : Slots → Bool
 is_idle b = is_always b.first.guard && (is_idle_op b.first.op && is_none b.second)
 
--- what stands behind the flow of a tail
+-- what stands after the flow of a tail
 abbrev pub turn_idles : List Slots → Bool
 turn_idles [] = true
 turn_idles (b ∷ bs) = if is_branch b.first.op then list_all is_idle bs else turn_idles bs

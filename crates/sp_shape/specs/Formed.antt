@@ -1,5 +1,6 @@
--- Well-formed shapes: flows stand where their parts say and nowhere else, loops have turns, and each function calls
--- earlier ones and ends with its return (our own profile TP1, after the delay slots of the Patmos Reference Handbook).
+-- To be believed. Well-formed shapes: flows stand where their parts say and nowhere else, loops have
+-- turns, and each function calls earlier ones and ends with its return (our own profile TP1, after the
+-- delay slots of the Patmos Reference Handbook).
 use Rattle.std.specs.Prelude.{ℕ, zero, suc, ◌==◌, nat_lt, nat_le, Bool, true, false, not, ◌&&◌, List, [], ◌∷◌, length, slice_index_or, if◌then◌else◌}
 use Rattle.patmos_instr.specs.Bundles.{Slots}
 use Rattle.patmos_instr.specs.declared.guards.Guard.{Guard}
@@ -81,4 +82,6 @@ functions_formed fs zero = true
 functions_formed fs (suc n) = functions_formed fs n && function_formed n (slice_index_or fs n no_part)
 
 abbrev pub is_formed : PlainShape → Bool
-is_formed s = nat_le (length s.functions) MOST_FUNCTIONS && (functions_formed s.functions (length s.functions) && nat_lt s.entry (length s.functions))
+is_formed s =
+    nat_le (length s.functions) MOST_FUNCTIONS
+    && (functions_formed s.functions (length s.functions) && nat_lt s.entry (length s.functions))

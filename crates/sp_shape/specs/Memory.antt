@@ -1,4 +1,4 @@
--- The words that a task reaches, and the transfers over the network that it starts.
+-- To be believed. The words that a task reaches, and the transfers over the network that it starts.
 use Rattle.std.specs.Prelude.{ℕ, ◌/◌, ◌*◌, ◌==◌, List, [], ◌∷◌, ◌++◌, Option, None, Some, if◌then◌else◌}
 use Rattle.shared_order.specs.Words.{put}
 use Rattle.local_store.specs.Map.{cell_at}
@@ -46,7 +46,10 @@ abbrev pub with_port : ℕ → ℕ → ℕ → Memory → Memory
 with_port core register value m =
     if register == 0 then record m { source = put core value m.source }
     else if register == 4 then record m { target = put core value m.target }
-    else record m { starts = m.starts ++ record { core = core; source = m.source core; target = m.target core; count = value } ∷ [] }
+    else record m {
+      starts = m.starts
+          ++ record { core = core; source = m.source core; target = m.target core; count = value } ∷ [];
+    }
 
 abbrev pub with_cell : Cell → ℕ → Memory → Memory
 with_cell (Scratch word) value m = record m { scratch = put word value m.scratch }

@@ -1,4 +1,4 @@
--- The parts of code, without places in memory: all that they say, and no more.
+-- To be believed. The parts of code, without places in memory: all that they say, and no more.
 use Rattle.std.specs.Prelude.{ℕ, List}
 use Rattle.patmos_instr.specs.Bundles.{Slots}
 
@@ -14,7 +14,7 @@ mutual
     no_part : PlainParts
     part : PlainPart → PlainParts → PlainParts
 
--- parts behind others
+-- parts after others
 abbrev pub joined : PlainParts → PlainParts → PlainParts
 joined no_part more = more
 joined (part p rest) more = part p (joined rest more)

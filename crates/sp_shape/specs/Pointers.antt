@@ -1,5 +1,6 @@
--- The stack's pointers along what a run asks for; and when all of it is within the stack: an access reaches a word that
--- the stack cache holds, and an instruction leaves the top in the stack's region (our own profile TP1).
+-- To be believed. The stack's pointers along what a run asks for; and when all of it is within
+-- the stack: an access reaches a word that the stack cache holds, and an instruction leaves the
+-- top in the stack's region (our own profile TP1).
 use Rattle.std.specs.Prelude.{ℕ, ◌+◌, ◌-◌, ◌/◌, ◌<◌, ◌≤◌, min, max, List, [], ◌∷◌}
 use Rattle.stack_cache.specs.declared.slots.TheConstants.{STACK_CACHE_WORDS}
 use Rattle.stack_cache.specs.declared.stack.TheConstants.{STACK_END, STACK_LOWEST}

@@ -1,4 +1,4 @@
--- What parts of code and shapes say, without places in memory.
+-- To be believed. What parts of code and shapes say, without places in memory.
 use Rattle.std.specs.Prelude.{List, [], ◌∷◌, map}
 use Rattle.sp_shape.specs.Parts.{PlainPart, straight, repeats, calls_to, leaves, PlainParts, no_part, part, PlainShape}
 use Rattle.sp_shape.specs.declared.parts.Part.{Part, Straight, Repeat', CallTo, Leave}

@@ -1,4 +1,4 @@
--- Small shapes for worked examples.
+-- To be believed. Small shapes for worked examples.
 use Rattle.std.specs.Prelude.{ℕ, pos, true, false, List, [], ◌∷◌, None}
 use Rattle.patmos_instr.specs.Bundles.{Slots}
 use Rattle.patmos_instr.specs.Instructions.{nop}
@@ -51,7 +51,8 @@ empty = one (leaves return)
 
 -- one that adds 1, does three turns in which it calls the one of a number, and adds 2
 abbrev pub caller : ℕ → PlainParts
-caller k = part (straight (add 1 ∷ [])) (part (repeats 3 (one (calls_to k call)) again) (part (straight (add 2 ∷ [])) empty))
+caller k =
+    part (straight (add 1 ∷ [])) (part (repeats 3 (one (calls_to k call)) again) (part (straight (add 2 ∷ [])) empty))
 
 abbrev pub shape_of : List PlainParts → ℕ → PlainShape
 shape_of functions entry = record { functions = functions; entry = entry; initial = []; input_at = 4; input_room = 0 }

@@ -1,9 +1,9 @@
--- The trail of a shape: what is run, in its order, which no input and no value changes.
+-- To be believed. The trail of a shape: what is run, in its order, which no input and no value changes.
 use Rattle.std.specs.Prelude.{ℕ, zero, suc, ◌==◌, List, [], ◌∷◌, ◌++◌, length, map, slice_index_or, if◌then◌else◌}
 use Rattle.patmos_instr.specs.Bundles.{Slots}
 use Rattle.sp_shape.specs.Parts.{PlainPart, straight, repeats, calls_to, leaves, PlainParts, no_part, part, PlainShape}
 
--- a bundle, or what a call does behind its last delay slot: the function that it calls begins
+-- a bundle, or what a call does after its last delay slot: the function that it calls begins
 pub data Step : Type 0 where
   does : Slots → Step
   begins : Step
@@ -16,7 +16,7 @@ abbrev pub copies : {A : Type 0} → ℕ → List A → List A
 copies zero xs = []
 copies (suc n) xs = xs ++ copies n xs
 
--- over the trails of functions by their number: behind a call and its delay slots comes the function that was called
+-- over the trails of functions by their number: after a call and its delay slots comes the function that was called
 abbrev mutual
   pub part_trail : (ℕ → List Step) → PlainPart → List Step
   part_trail f (straight bs) = all_done bs

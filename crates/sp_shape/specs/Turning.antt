@@ -1,6 +1,6 @@
--- A run that makes all turns of its loops and comes back from each call. Behind each turn but the last the branch back is
--- asked for, and behind the last no flow; and each function asks for the place that was set when it began. A trail runs
--- all turns and calls whatever its flows ask for, so this is said apart from it.
+-- To be believed. A run that makes all turns of its loops and comes back from each call. After each turn but the last
+-- the branch back is asked for, and after the last no flow; and each function asks for the place that was set when it
+-- began. A trail runs all turns and calls whatever its flows ask for, so this is said apart from it.
 use Rattle.std.specs.Bool.{MatchBool}
 use Rattle.std.specs.Prelude.{ℕ, zero, suc, ◌≡◌, ◌==◌, List, [], ◌∷◌, ◌++◌, length, slice_index_or}
 use Rattle.patmos_instr.specs.Bundles.{Slots}
@@ -26,7 +26,8 @@ Returns go tail back m = (go (all_done tail) m).ways ≡ m.ways ++ returns back.
 abbrev pub AllTurns : (List Step → Run → Run) → (Run → Type 0) → List Step → List Slots → ℕ → Run → Type 0
 AllTurns go Inside body tail zero m = Unit {0}
 AllTurns go Inside body tail (suc zero) m = Inside m × AsksNoMore go tail (go body m)
-AllTurns go Inside body tail (suc (suc n)) m = Inside m × AsksAgain go tail (go body m) × AllTurns go Inside body tail (suc n) (go (body ++ all_done tail) m)
+AllTurns go Inside body tail (suc (suc n)) m =
+    Inside m × AsksAgain go tail (go body m) × AllTurns go Inside body tail (suc n) (go (body ++ all_done tail) m)
 
 -- ---- parts
 
@@ -35,13 +36,15 @@ AllTurns go Inside body tail (suc (suc n)) m = Inside m × AsksAgain go tail (go
 abbrev mutual
   pub PartTurns : (List Step → Run → Run) → (ℕ → List Step) → (ℕ → Run → Type 0) → Back → PlainPart → Run → Type 0
   PartTurns go f Called back (straight bs) m = Unit {0}
-  PartTurns go f Called back (repeats count body tail) m = AllTurns go (λ t. PartsTurn go f Called back body t) (parts_trail f body) tail count m
+  PartTurns go f Called back (repeats count body tail) m =
+      AllTurns go (λ t. PartsTurn go f Called back body t) (parts_trail f body) tail count m
   PartTurns go f Called back (calls_to k tail) m = Called k (go (all_done tail ++ begins ∷ []) m)
   PartTurns go f Called back (leaves tail) m = Returns go tail back m
 
   pub PartsTurn : (List Step → Run → Run) → (ℕ → List Step) → (ℕ → Run → Type 0) → Back → PlainParts → Run → Type 0
   PartsTurn go f Called back no_part m = Unit {0}
-  PartsTurn go f Called back (part p rest) m = PartTurns go f Called back p m × PartsTurn go f Called back rest (go (part_trail f p) m)
+  PartsTurn go f Called back (part p rest) m =
+      PartTurns go f Called back p m × PartsTurn go f Called back rest (go (part_trail f p) m)
 
 -- ---- functions and shapes
 
@@ -53,7 +56,8 @@ back_of m = record { base = m.regs.srb; offset = m.regs.sro }
 abbrev pub FunctionsTurn : (List Step → Run → Run) → List PlainParts → ℕ → ℕ → Run → Type 0
 FunctionsTurn go fs zero k m = Unit {0}
 FunctionsTurn go fs (suc n) k m =
-    MatchBool (k == n) (PartsTurn go (trails fs n) (FunctionsTurn go fs n) (back_of m) (slice_index_or fs n no_part) m) (FunctionsTurn go fs n k m)
+    MatchBool (k == n) (PartsTurn go (trails fs n) (FunctionsTurn go fs n) (back_of m) (slice_index_or fs n no_part) m)
+    (FunctionsTurn go fs n k m)
 
 -- all of it where the shape's trail is run from here
 abbrev pub ShapeTurns : (List Step → Run → Run) → PlainShape → Run → Type 0

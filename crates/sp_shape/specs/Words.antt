@@ -1,4 +1,4 @@
--- How many words code takes.
+-- To be believed. How many words code takes.
 use Rattle.std.specs.Prelude.{ℕ, ◌+◌, ◌||◌, is_some, Bool, true, false, List, [], ◌∷◌, if◌then◌else◌}
 use Rattle.patmos_instr.specs.Bundles.{Slots}
 use Rattle.patmos_instr.specs.Instructions.{is_long}
@@ -27,9 +27,9 @@ abbrev mutual
   parts_words no_part = 0
   parts_words (part p rest) = part_words p + parts_words rest
 
--- ---- with a bundle more behind each whose value comes late
+-- ---- with a bundle more after each whose value comes late
 
--- a load's value and a product are there only behind the next bundle
+-- a load's value and a product are there only after the next bundle
 abbrev pub is_late : Op → Bool
 is_late (Load space width rd ra imm) = true
 is_late (Mul unsigned ra rb) = true

@@ -12,7 +12,8 @@
 //! - When its loops make all the turns that the order says, and its functions return to where they were called from:
 //!   `specs/Turning.antt`.
 //! - When all that is asked of the stack is within it: `specs/Pointers.antt`.
-//! - How many words it takes: `specs/Words.antt`, of a bundle [`words_of_bundle`]; what is said of each bundle: `specs/Bundles.antt`.
+//! - How many words it takes: `specs/Words.antt`, of a bundle [`words_of_bundle`]; what is
+//!   said of each bundle: `specs/Bundles.antt`.
 //!
 //! What its words mean stands in [the glossary](../../../docs/GLOSSARY.md).
 #![tactic(auto)]

@@ -21,18 +21,23 @@ pub fn worked_shapes()
     ensures return_in_turns { function_formed 1 (part (repeats 1 small.empty small.again) small.empty) ≡ false }
     ensures no_turns { part_formed 1 (repeats 0 no_part small.again) ≡ false }
     ensures turn_with_more { part_formed 1 (repeats 1 no_part (small.add 1 ∷ small.again)) ≡ true }
-    ensures turn_with_one_slot { part_formed 1 (repeats 1 no_part (small.under small.always small.branch ∷ small.idle ∷ [])) ≡ false }
-    ensures branch_in_slot { part_formed 1 (repeats 1 no_part (small.under small.always small.branch ∷ small.again)) ≡ false }
+    ensures turn_with_one_slot { part_formed 1
+        (repeats 1 no_part (small.under small.always small.branch ∷ small.idle ∷ [])) ≡ false }
+    ensures branch_in_slot { part_formed 1 (repeats 1 no_part (small.under small.always small.branch ∷ small.again))
+        ≡ false }
     ensures flow_in_straight { part_formed 1 (straight small.return) ≡ false }
-    ensures call_with_two_slots { part_formed 1 (calls_to 0 (small.under small.always small.call_op ∷ small.idle ∷ small.idle ∷ [])) ≡ false }
-    ensures call_under_a_guard { part_formed 1 (calls_to 0 (small.under small.p1 small.call_op ∷ small.idle ∷ small.idle ∷ small.idle ∷ [])) ≡ false }
+    ensures call_with_two_slots { part_formed 1
+        (calls_to 0 (small.under small.always small.call_op ∷ small.idle ∷ small.idle ∷ [])) ≡ false }
+    ensures call_under_a_guard { part_formed 1
+        (calls_to 0 (small.under small.p1 small.call_op ∷ small.idle ∷ small.idle ∷ small.idle ∷ [])) ≡ false }
     ensures call_by_return { part_formed 1 (calls_to 0 small.return) ≡ false }
 {}
 
 /// The trail of a function that does three turns with a call in each.
 pub fn worked_trails()
     ensures trail { trail (small.shape_of (small.empty ∷ small.caller 0 ∷ []) 1)
-        ≡ does (small.add 1) ∷ (copies 3 (all_done small.call ++ begins ∷ all_done (small.return ++ small.again)) ++ all_done (small.add 2 ∷ small.return)) }
+        ≡ does (small.add 1) ∷ (copies 3 (all_done small.call ++ begins ∷ all_done (small.return ++ small.again))
+        ++ all_done (small.add 2 ∷ small.return)) }
     ensures length { length (trail (small.shape_of (small.empty ∷ small.caller 0 ∷ []) 1)) ≡ 42 }
 {}
 
@@ -40,8 +45,10 @@ pub fn worked_trails()
 /// values of loads from the words, or as they are given; and the place to which a call's function returns.
 pub fn worked_runs()
     ensures at_once { word_in (run by_words (all_done (small.load ∷ small.add 1 ∷ [])) small.beginning).regs 1 ≡ 8 }
-    ensures late { word_in (settled (run_late by_words (all_done (small.load ∷ small.add 1 ∷ [])) small.beginning).regs) 1 ≡ 1 }
-    ensures late_behind { word_in (settled (run_late by_words (all_done (small.load ∷ small.idle ∷ small.add 1 ∷ [])) small.beginning).regs) 1 ≡ 8 }
+    ensures late { word_in (settled
+        (run_late by_words (all_done (small.load ∷ small.add 1 ∷ [])) small.beginning).regs) 1 ≡ 1 }
+    ensures late_behind { word_in (settled
+        (run_late by_words (all_done (small.load ∷ small.idle ∷ small.add 1 ∷ [])) small.beginning).regs) 1 ≡ 8 }
     ensures product { (run by_words (all_done (small.load ∷ small.square ∷ [])) small.beginning).regs.sl ≡ 49 }
     ensures given { word_in (run by_list (all_done (small.load ∷ small.add 1 ∷ [])) small.beginning).regs 1 ≡ 6 }
     ensures asked { length (run by_list (all_done (small.load ∷ small.add 1 ∷ [])) small.beginning).asked ≡ 1 }
@@ -49,15 +56,20 @@ pub fn worked_runs()
     ensures ways { (run by_words (all_done small.call ++ begins ∷ []) small.beginning).ways ≡ calls ∷ [] }
 {}
 
-/// A loop that counts its turns in r1, and goes back while p1 says that r1 is not 3: it makes all of three turns, read
-/// late or at once, and not two, since the second asks for one more. Where p1 is as a task begins, no turn asks for one.
+/// A loop that counts its turns in r1, and goes back while p1 says that r1 is not 3: it makes all
+/// of three turns, read late or at once, and not two, since the second asks for one more. Where
+/// p1 is as a task begins, no turn asks for one.
 pub fn worked_turns()
     ensures no_more { AsksNoMore (run by_words) small.again small.beginning }
     ensures three { let count = small.add 1 ∷ small.under small.always (Op.CmpImm CmpFunc.Neq 1 1 3) ∷ [] in
-        ShapeTurns (run by_words) (small.shape_of (part (repeats 3 (one (straight count)) small.again) small.empty ∷ []) 0) small.beginning }
+        ShapeTurns (run by_words) (small.shape_of (part (repeats 3 (one (straight count)) small.again) small.empty
+        ∷ []) 0) small.beginning }
     ensures three_late { let count = small.add 1 ∷ small.under small.always (Op.CmpImm CmpFunc.Neq 1 1 3) ∷ [] in
-        ShapeTurns (run_late by_words) (small.shape_of (part (repeats 3 (one (straight count)) small.again) small.empty ∷ []) 0) small.beginning }
+        ShapeTurns (run_late by_words)
+        (small.shape_of (part (repeats 3 (one (straight count)) small.again) small.empty ∷ []) 0) small.beginning }
     ensures two { let count = small.add 1 ∷ small.under small.always (Op.CmpImm CmpFunc.Neq 1 1 3) ∷ [] in
-        ShapeTurns (run by_words) (small.shape_of (part (repeats 2 (one (straight count)) small.again) small.empty ∷ []) 0) small.beginning → ⊥ }
-    ensures none { ShapeTurns (run by_words) (small.shape_of (small.empty ∷ small.caller 0 ∷ []) 1) small.beginning → ⊥ }
+        ShapeTurns (run by_words) (small.shape_of (part (repeats 2 (one (straight count)) small.again) small.empty
+        ∷ []) 0) small.beginning → ⊥ }
+    ensures none { ShapeTurns (run by_words) (small.shape_of (small.empty ∷ small.caller 0 ∷ []) 1) small.beginning
+        → ⊥ }
 {}

@@ -1,7 +1,8 @@
 -- How runs go on: from words in code to the next.
-use Rattle.std.proofs.Common.{◌≡◌, ℕ, zero, suc, ◌+◌, ◌<◌, ◌≤◌, ◌==◌, Bool, true, false, List, [], ◌∷◌, ◌++◌, length, drop, get_or, slice_index, slice_index_or, refl, ap, sym, ◌∙◌, arith, add-one, drop-cons, eq-eqb, ne_eqb, ◌≢◌, if◌then◌else◌, inl, inr}
+use Rattle.std.proofs.Common.{◌≡◌, ℕ, zero, suc, ◌+◌, ◌<◌, ◌≤◌, ◌==◌, Bool, true, false, List, [], ◌∷◌, ◌++◌, length, drop, get_or, slice_index, slice_index_or, refl, ap, sym, ◌∙◌, arith, eq-eqb, ne_eqb, ◌≢◌, if◌then◌else◌, inl, inr}
 use Rattle.std.proofs.lemmas.Bool.{cases_lt}
 use Rattle.std.proofs.lemmas.List.{drop_all}
+use Rattle.tc_word.proofs.Items.{drop_item}
 use Rattle.c_world.specs.Shown.{shown}
 use Rattle.c_world.specs.World.{World, Sending, may_start, with_send}
 use Rattle.c_world.specs.declared.memory.Memory.{Memory}
@@ -38,7 +39,7 @@ pub on : (mask : ℕ) (change : State → State) (s : State) → (s.frame mask =
 on mask change s is = ap (λ b. if b then change s else s) is
 
 -- a change that changes sends alone changes no word
-sent_shown : (core source target count : ℕ) (m : Memory) (sends : List Sending)
+pub sent_shown : (core source target count : ℕ) (m : Memory) (sends : List Sending)
     → with_send core source target count (shown m sends) ≡ shown m (with_send core source target count (shown m sends)).sends
 sent_shown core source target count m sends = by (may_start source target count)
   where
@@ -50,9 +51,6 @@ sent_shown core source target count m sends = by (may_start source target count)
     by false = refl
 
 -- ---- statements one after another
-
-drop_item : {A : Type 0} → (xs : List A) (i : ℕ) (x : A) → i < length xs → x ≡ get_or xs i x → drop i xs ≡ x ∷ drop (i + 1) xs
-drop_item xs i x within is = drop-cons xs i x within ∙ ap (λ y. y ∷ drop (suc i) xs) (sym is) ∙ ap (λ n. x ∷ drop n xs) (sym (add-one i))
 
 pub reach_item : (g : Serves) (d : State) (stmts : List SpStmt) (i : ℕ) (t : SpStmt) (f : List ℕ) (m : Memory) → i < length stmts → t ≡ get_or stmts i t
     → Reaches d (stmts_done g (stmts_of (drop i stmts))) f m

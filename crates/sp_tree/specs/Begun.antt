@@ -1,4 +1,4 @@
--- What a task begins with, and what it comes to.
+-- To be believed. What a task begins with, and what it comes to.
 use Rattle.std.specs.Prelude.{ℕ, ◌-◌, nat_lt, nat_le, false, ◌&&◌, if◌then◌else◌, List, [], length, slice_index}
 use Rattle.c_world.specs.World.{World}
 use Rattle.local_store.specs.declared.store.TheConstants.{FIRST_DATA_WORD}
@@ -30,7 +30,7 @@ begun u input shared comm = record {
   sends = [];
 }
 
--- what a task comes to on its input: what its entry gives under the mask 1, and the world behind it
+-- what a task comes to on its input: what its entry gives under the mask 1, and the world after it
 abbrev pub straight : PlainUnit → List ℕ → (ℕ → ℕ) → (ℕ → ℕ) → Given
 straight u input shared comm = serves u.functions (length u.functions) u.entry 1 [] (begun u input shared comm)
 

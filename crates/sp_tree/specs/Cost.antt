@@ -1,5 +1,5 @@
--- How many words the code of a function takes at most: its size word, its instructions, and one word more for each load
--- and each product, whose value is there only behind the next bundle.
+-- To be believed. How many words the code of a function takes at most: its size word, its instructions, and one word
+-- more for each load and each product, whose value is there only after the next bundle.
 use Rattle.std.specs.Prelude.{ℕ, ◌+◌, nat_lt, Bool, false, if◌then◌else◌, List, [], ◌∷◌}
 use Rattle.sp_tree.specs.declared.operators.SpBinary.{SpBinary}
 use Rattle.sp_tree.specs.declared.operators.SpBinary.TheVariants as binary

@@ -1,5 +1,5 @@
--- Well-formed units: each call names an earlier function and gives it as many arguments as it has parameters, and all
--- that is named is there.
+-- To be believed. Well-formed units: each call names an earlier function and gives it as many arguments as
+-- it has parameters, and all that is named is there.
 use Rattle.std.specs.Prelude.{ℕ, zero, suc, ◌+◌, ◌-◌, ◌==◌, nat_lt, nat_le, max, Bool, true, ◌&&◌, List, [], ◌∷◌, length, Option, None, Some, slice_index_or}
 use Rattle.c_world.specs.Shown.{Rooms, fresh_rooms, room_in}
 use Rattle.c_world.specs.declared.region.Region.{Region}
@@ -71,10 +71,13 @@ send_formed slots core source target count =
 abbrev mutual
   pub stmt_formed : List PlainFunction → ℕ → ℕ → PlainStmt → Bool
   stmt_formed fs number slots (masks slot e) = nat_lt slot slots && expr_formed slots e
-  stmt_formed fs number slots (writes mask place e) = nat_lt mask slots && (place_formed slots place && expr_formed slots e)
+  stmt_formed fs number slots (writes mask place e) =
+      nat_lt mask slots && (place_formed slots place && expr_formed slots e)
   stmt_formed fs number slots (calls mask k args result) =
-      nat_lt mask slots && (callee_formed fs number k (length args) && (args_formed slots args && result_formed slots result))
-  stmt_formed fs number slots (transfers mask core source target count) = nat_lt mask slots && send_formed slots core source target count
+      nat_lt mask slots && (callee_formed fs number k (length args)
+      && (args_formed slots args && result_formed slots result))
+  stmt_formed fs number slots (transfers mask core source target count) =
+      nat_lt mask slots && send_formed slots core source target count
   stmt_formed fs number slots (overruns mask e) = nat_lt mask slots && expr_formed slots e
   stmt_formed fs number slots (turns count body) = nat_lt 0 count && stmts_formed fs number slots body
 
@@ -102,7 +105,8 @@ slots_of f = f.frame - (stmts_levels f.body + 2)
 -- its mask and its result are no parameters
 abbrev pub function_formed : List PlainFunction → ℕ → PlainFunction → Bool
 function_formed fs number f =
-    nat_le f.frame MOST_FRAME && (nat_le f.parameters MOST_PARAMETERS && (nat_le f.parameters f.mask && (nat_lt f.mask (slots_of f)
+    nat_le f.frame MOST_FRAME && (nat_le f.parameters MOST_PARAMETERS
+    && (nat_le f.parameters f.mask && (nat_lt f.mask (slots_of f)
     && (nat_le f.parameters f.result && (nat_lt f.result (slots_of f) && stmts_formed fs number (slots_of f) f.body)))))
 
 -- the first so many of them
@@ -114,12 +118,14 @@ functions_formed fs (suc n) = functions_formed fs n && function_formed fs n (sli
 
 -- the entry is there and has no parameters
 abbrev pub entry_formed : PlainUnit → Bool
-entry_formed u = nat_lt u.entry (length u.functions) && ((slice_index_or u.functions u.entry no_function).parameters == 0)
+entry_formed u =
+    nat_lt u.entry (length u.functions) && ((slice_index_or u.functions u.entry no_function).parameters == 0)
 
 -- the first words and the input lie where variables and arrays stand
 abbrev pub data_formed : PlainUnit → Bool
 data_formed u =
-    nat_le (FIRST_DATA_WORD + length u.initial) DATA_WORDS && (nat_le FIRST_DATA_WORD u.input_at && nat_le (u.input_at + u.input_room) DATA_WORDS)
+    nat_le (FIRST_DATA_WORD + length u.initial) DATA_WORDS
+    && (nat_le FIRST_DATA_WORD u.input_at && nat_le (u.input_at + u.input_room) DATA_WORDS)
 
 abbrev pub is_formed : PlainUnit → Bool
 is_formed u =

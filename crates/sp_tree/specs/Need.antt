@@ -1,4 +1,5 @@
--- How many registers an expression takes where of two operands the one of the greater need is worked out first.
+-- To be believed. How many registers an expression takes where of two operands the one
+-- of the greater need is worked out first.
 use Rattle.std.specs.Prelude.{ℕ, ◌+◌, nat_lt, max, if◌then◌else◌}
 use Rattle.sp_tree.specs.Plain.{PlainSp, constant, frame_word, cell_word, array_word, before_one, between_two}
 

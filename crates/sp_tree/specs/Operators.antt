@@ -1,4 +1,4 @@
--- What the operators of single-path trees make of words: what C's operators do, each in one type.
+-- To be believed. What the operators of single-path trees make of words: what C's operators do, each in one type.
 use Rattle.std.specs.Prelude.{ℕ, ◌==◌, nat_lt, bit_and, bit_or, bit_xor, not, ◌&&◌, ◌||◌}
 use Rattle.tc_word.specs.Word.{quotient, rest, quotient_unsigned, rest_unsigned, moved_up, moved_down, moved_down_signed, is_less}
 use Rattle.c_world.specs.Numbers.{flag, is_true, sum_of, difference_of, product_of, complement_of}

@@ -1,4 +1,4 @@
--- Single-path trees without the places of their boxes in memory: all that they say, and no more.
+-- To be believed. Single-path trees without the places of their boxes in memory: all that they say, and no more.
 use Rattle.std.specs.Prelude.{ℕ}
 use Rattle.sp_tree.specs.declared.expressions.SpArray.{SpArray}
 use Rattle.sp_tree.specs.declared.expressions.SpCell.{SpCell}
@@ -14,7 +14,7 @@ pub data PlainSp : Type 0 where
   before_one : SpUnary → PlainSp → PlainSp
   between_two : SpBinary → PlainSp → PlainSp → PlainSp
 
--- Behind each box its place in memory comes first.
+-- After each box its place in memory comes first.
 unfoldable pub plain_sp : SpExpr → PlainSp
 plain_sp (Const value) = constant value
 plain_sp (Frame slot) = frame_word slot

@@ -1,4 +1,4 @@
--- What a run has done. The sends that were started are not kept in memories.
+-- For proofs. What a run has done. The sends that were started are not kept in memories.
 use Rattle.std.specs.Prelude.{◌≡◌, ℕ, List, slice_index}
 use Rattle.c_world.specs.World.{Sending}
 use Rattle.c_world.specs.Shown.{shown}

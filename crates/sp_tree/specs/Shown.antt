@@ -1,4 +1,4 @@
--- What statements, functions and units say, without the places of their boxes in memory.
+-- To be believed. What statements, functions and units say, without the places of their boxes in memory.
 use Rattle.std.specs.Prelude.{List, [], ◌∷◌, map}
 use Rattle.sp_tree.specs.Plain.{plain_sp}
 use Rattle.sp_tree.specs.Statements.{PlainPlace, to_slot, to_cell, to_array, PlainStmt, masks, writes, calls, transfers, overruns, turns, PlainStmts, no_stmt, stmt, PlainFunction, PlainUnit}
@@ -33,7 +33,8 @@ stmts_of [] = no_stmt
 stmts_of (t ∷ rest) = stmt (plain_stmt t) (stmts_of rest)
 
 abbrev pub plain_function : SpFunction → PlainFunction
-plain_function f = record { frame = f.frame; parameters = f.parameters; mask = f.mask; result = f.result; body = stmts_of f.body }
+plain_function f =
+    record { frame = f.frame; parameters = f.parameters; mask = f.mask; result = f.result; body = stmts_of f.body }
 
 abbrev pub functions_of : List SpFunction → List PlainFunction
 functions_of functions = map plain_function functions

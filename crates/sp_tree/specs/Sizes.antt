@@ -1,4 +1,4 @@
--- How large statements are: a run goes from larger to smaller ones.
+-- For proofs. How large statements are: a run goes from larger to smaller ones.
 use Rattle.std.specs.Prelude.{ℕ, zero, suc, ◌+◌, List, slice_index_or}
 use Rattle.sp_tree.specs.Statements.{PlainStmt, masks, writes, calls, transfers, overruns, turns, PlainStmts, no_stmt, stmt, PlainFunction, no_function}
 

@@ -1,4 +1,4 @@
--- Small statements and units, for worked examples.
+-- For worked rows. Small statements and units, for worked examples.
 use Rattle.std.specs.Prelude.{ℕ, zero, suc, [], ◌∷◌, Some}
 use Rattle.shared_order.specs.Words.{put}
 use Rattle.c_world.specs.World.{fresh}
@@ -76,19 +76,21 @@ calling = calls 0 0 (constant 7 ∷ constant 5 ∷ []) (Some 1)
 -- ---- what ways through a program become: word 1 of the frame is the function's mask, word 2 that of the innermost loop,
 -- word 3 the own mask, and word 4 that of what stands inside
 
--- `if (c) { } else { }`: the mask of the arm, that under `else`, and the own mask behind both
+-- `if (c) { } else { }`: the mask of the arm, that under `else`, and the own mask after both
 abbrev pub arm : PlainSp → PlainStmts
 arm c =
     stmt (masks 4 (between_two binary.BitAnd (frame_word 3) (between_two binary.NotEqual c (constant 0))))
-    (stmt (masks 4 (between_two binary.BitAnd (between_two binary.BitAnd (frame_word 2) (constant 1)) (between_two binary.BitXor (frame_word 3) (frame_word 4))))
+    (stmt (masks 4 (between_two binary.BitAnd (between_two binary.BitAnd (frame_word 2) (constant 1))
+    (between_two binary.BitXor (frame_word 3) (frame_word 4))))
     (one (masks 3 (between_two binary.BitAnd (frame_word 3) (frame_word 2)))))
 
--- `while (c) { }`: the mask of the loop, in each turn where the condition holds and behind it; whether the bound was
--- passed; and the masks behind the loop
+-- `while (c) { }`: the mask of the loop, in each turn where the condition holds and after it; whether the bound was
+-- passed; and the masks after the loop
 abbrev pub while_loop : ℕ → PlainSp → PlainStmts
 while_loop count c =
     stmt (masks 4 (between_two binary.BitAnd (frame_word 3) (constant 1)))
-    (stmt (turns count (stmt (masks 4 (between_two binary.BitAnd (frame_word 4) (between_two binary.NotEqual c (constant 0))))
+    (stmt (turns count (stmt (masks 4
+    (between_two binary.BitAnd (frame_word 4) (between_two binary.NotEqual c (constant 0))))
     (one (masks 4 (between_two binary.NotEqual (frame_word 4) (constant 0))))))
     (stmt (overruns 4 c)
     (stmt (masks 2 (between_two binary.BitAnd (frame_word 2) (before_one unary.Minus (frame_word 1))))
@@ -121,7 +123,8 @@ unit_of body = record {
 -- `return f(in[0], in[1]);`
 abbrev pub difference_call : PlainStmt
 difference_call =
-    calls 0 0 (array_word (array region.Private 5 2) (constant 0) ∷ array_word (array region.Private 5 2) (constant 1) ∷ []) (Some 1)
+    calls 0 0 (array_word (array region.Private 5 2) (constant 0) ∷ array_word (array region.Private 5 2) (constant 1)
+    ∷ []) (Some 1)
 
 abbrev pub difference_unit : PlainUnit
 difference_unit = unit_of (one difference_call)

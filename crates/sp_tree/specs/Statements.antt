@@ -1,5 +1,5 @@
--- Single-path statements, functions and units without the places of their boxes in memory: all that they say, and no
--- more.
+-- To be believed. Single-path statements, functions and units without the places of their boxes
+-- in memory: all that they say, and no more.
 use Rattle.std.specs.Prelude.{ℕ, List, Option}
 use Rattle.sp_tree.specs.Plain.{PlainSp}
 use Rattle.sp_tree.specs.declared.expressions.SpArray.{SpArray}
@@ -28,7 +28,7 @@ mutual
 abbrev pub one : PlainStmt → PlainStmts
 one t = stmt t no_stmt
 
--- statements behind others
+-- statements after others
 abbrev pub joined : PlainStmts → PlainStmts → PlainStmts
 joined no_stmt more = more
 joined (stmt t rest) more = stmt t (joined rest more)

@@ -1,4 +1,5 @@
--- What single-path statements mean: each changes the words of the frame and the world, one after another, without jumps.
+-- To be believed. What single-path statements mean: each changes the words of the frame and the
+-- world, one after another, without jumps.
 use Rattle.std.specs.Prelude.{ℕ, zero, suc, ◌==◌, if◌then◌else◌, List, [], ◌∷◌, Option, None, Some, slice_index, slice_index_or}
 use Rattle.shared_order.specs.Words.{put}
 use Rattle.c_world.specs.Numbers.{is_true}
@@ -12,7 +13,7 @@ pub record State : Type 0 where
   pub frame : ℕ → ℕ
   pub world : World
 
--- what a function gives, and the world behind it
+-- what a function gives, and the world after it
 pub record Given : Type 0 where
   pub value : ℕ
   pub world : World
@@ -39,7 +40,8 @@ in_world s world = record s { world = world }
 abbrev pub with_place : PlainPlace → ℕ → State → State
 with_place (to_slot slot) given s = with_slot slot given s
 with_place (to_cell cell) given s = in_world s (with_word cell.region cell.word given s.world)
-with_place (to_array array index) given s = in_world s (with_element array.region array.first array.length (worth index s) given s.world)
+with_place (to_array array index) given s =
+    in_world s (with_element array.region array.first array.length (worth index s) given s.world)
 
 -- a result may be set nowhere
 abbrev pub with_result : Option ℕ → ℕ → State → State
@@ -56,12 +58,13 @@ abbrev pub write_done : PlainPlace → PlainSp → State → State
 write_done place e s = with_place place (worth e s) s
 
 abbrev pub transfer_done : ℕ → PlainSp → PlainSp → PlainSp → State → State
-transfer_done core source target count s = in_world s (with_send core (worth source s) (worth target s) (worth count s) s.world)
+transfer_done core source target count s =
+    in_world s (with_send core (worth source s) (worth target s) (worth count s) s.world)
 
 abbrev pub overrun_done : PlainSp → State → State
 overrun_done e s = in_world s (with_overrun (is_true (worth e s)) s.world)
 
--- behind a call, which is made in either case: what the function gave is set where the mask is 1
+-- after a call, which is made in either case: what the function gave is set where the mask is 1
 abbrev pub call_done : ℕ → Option ℕ → State → Given → State
 call_done mask result s given = where_on mask (with_result result given.value) (in_world s given.world)
 
@@ -101,4 +104,5 @@ function_given g f mask args world =
 abbrev pub serves : List PlainFunction → ℕ → Serves
 serves fs zero k mask args world = record { value = 0; world = world }
 serves fs (suc n) k mask args world =
-    if k == n then function_given (serves fs n) (slice_index_or fs n no_function) mask args world else serves fs n k mask args world
+    if k == n then function_given (serves fs n) (slice_index_or fs n no_function) mask args world
+    else serves fs n k mask args world

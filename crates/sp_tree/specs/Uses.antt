@@ -1,4 +1,5 @@
--- What a unit does with memories: the words and arrays that it reads and writes, and the cores that it sends to.
+-- To be believed. What a unit does with memories: the words and arrays that it reads
+-- and writes, and the cores that it sends to.
 use Rattle.std.specs.Prelude.{ℕ, ◌+◌, nat_lt, nat_le, Bool, true, false, not, ◌&&◌, List, [], ◌∷◌, ◌++◌}
 use Rattle.std.specs.List.{list_all}
 use Rattle.c_world.specs.declared.region.Region.{Region}
@@ -37,7 +38,8 @@ abbrev mutual
   stmt_uses (masks slot e) = expr_uses e
   stmt_uses (writes mask place e) = place_uses place ++ expr_uses e
   stmt_uses (calls mask k args result) = args_uses args
-  stmt_uses (transfers mask core source target count) = sends_to core ∷ (expr_uses source ++ (expr_uses target ++ expr_uses count))
+  stmt_uses (transfers mask core source target count) =
+      sends_to core ∷ (expr_uses source ++ (expr_uses target ++ expr_uses count))
   stmt_uses (overruns mask e) = expr_uses e
   stmt_uses (turns count body) = stmts_uses body
 
@@ -60,7 +62,8 @@ is_private _ = false
 
 -- a private variable that stands inside a private array
 abbrev pub stands_inside : SpCell → SpArray → Bool
-stands_inside c a = is_private c.region && (is_private a.region && (nat_le a.first c.word && nat_lt c.word (a.first + a.length)))
+stands_inside c a =
+    is_private c.region && (is_private a.region && (nat_le a.first c.word && nat_lt c.word (a.first + a.length)))
 
 abbrev pub cell_apart : SpCell → Use → Bool
 cell_apart c (reads_array array) = not (stands_inside c array)

@@ -1,4 +1,4 @@
--- What an expression is worth, over the words of a frame and a world. It changes neither.
+-- To be believed. What an expression is worth, over the words of a frame and a world. It changes neither.
 use Rattle.std.specs.Prelude.{ℕ}
 use Rattle.c_world.specs.World.{World, word_at, element}
 use Rattle.sp_tree.specs.Operators.{unary_value, binary_value}

@@ -11,7 +11,8 @@ use c_world::Memory;
 /// What an expression is worth over these words of the frame and these memories. A word that is not there is 0.
 #[tactic(auto, using(crate::proofs::Parts::const_worth, crate::proofs::Parts::slot_worth, crate::proofs::Parts::cell_worth, crate::proofs::Parts::element_worth, crate::proofs::Parts::unary_worth, crate::proofs::Parts::binary_worth))]
 pub fn value(e: &SpExpr, frame: &[u32], memory: &Memory) -> u32
-    ensures { (sends : List Sending) → result ≡ sp_value (slice_index frame.now) (shown memory.now sends) (plain_sp e.now) }
+    ensures { (sends : List Sending)
+        → result ≡ sp_value (slice_index frame.now) (shown memory.now sends) (plain_sp e.now) }
 {
     match e {
         SpExpr::Const { value } => *value,
@@ -27,7 +28,7 @@ pub fn value(e: &SpExpr, frame: &[u32], memory: &Memory) -> u32
 }
 
 /// A word of the frame; 0 where there is none.
-#[tactic(auto, using(c_world::proofs::Words::past_zero))]
+#[tactic(auto, using(tc_word::proofs::Items::past_all))]
 pub fn slot_word(frame: &[u32], slot: usize) -> u32
     ensures { result ≡ slice_index frame.now slot }
 {

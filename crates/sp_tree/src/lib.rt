@@ -8,10 +8,10 @@
 //!   tasks ([`SpUnit`]). `specs/Plain.antt` and `specs/Statements.antt` are the same without the places of their boxes
 //!   in memory, `specs/Shown.antt` what a tree in code says.
 //! - What it means: `specs/Values.antt` is what an expression is worth, `specs/Straight.antt` what statements and
-//!   functions do, `specs/Begun.antt` what a task begins with and comes to. [`value`] and [`plain_straight`] work it out:
-//!   exactly that. They go only as deep as the tree and its chain of calls.
-//! - What is well formed: `specs/Formed.antt`, with the registers that an expression takes (`specs/Need.antt`) and what a
-//!   unit does with memories (`specs/Uses.antt`). Code can be written for each unit that is well formed.
+//!   functions do, `specs/Begun.antt` what a task begins with and comes to. [`value`] and [`plain_straight`] work it
+//!   out: exactly that. They go only as deep as the tree and its chain of calls.
+//! - What is well formed: `specs/Formed.antt`, with the registers that an expression takes (`specs/Need.antt`) and what
+//!   a unit does with memories (`specs/Uses.antt`). Code can be written for each unit that is well formed.
 //! - How many words the code of a function takes at most: `specs/Cost.antt`.
 //!
 //! What its words mean stands in [the glossary](../../../docs/GLOSSARY.md).

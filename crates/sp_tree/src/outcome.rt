@@ -32,10 +32,13 @@ pub fn plain_straight(alloc: Global, unit: &SpUnit, input: &[u32]) -> Result<SpO
     requires formed { is_formed (plain_unit unit.now) ≡ true }
     ensures value { IfOk result (λ o. o.value ≡ (straight_alone (plain_unit unit.now) input.now).value) }
     ensures overrun { IfOk result (λ o. o.overrun ≡ (straight_alone (plain_unit unit.now) input.now).world.overrun) }
-    ensures scratch { IfOk result (λ o. slice_index o.scratch ≡ (straight_alone (plain_unit unit.now) input.now).world.scratch) }
+    ensures scratch { IfOk result (λ o. slice_index o.scratch
+        ≡ (straight_alone (plain_unit unit.now) input.now).world.scratch) }
     ensures comm { IfOk result (λ o. slice_index o.comm ≡ (straight_alone (plain_unit unit.now) input.now).world.comm) }
-    ensures private { IfOk result (λ o. slice_index o.private ≡ (straight_alone (plain_unit unit.now) input.now).world.private) }
-    ensures shared { IfOk result (λ o. slice_index o.shared ≡ (straight_alone (plain_unit unit.now) input.now).world.shared) }
+    ensures private { IfOk result (λ o. slice_index o.private
+        ≡ (straight_alone (plain_unit unit.now) input.now).world.private) }
+    ensures shared { IfOk result (λ o. slice_index o.shared
+        ≡ (straight_alone (plain_unit unit.now) input.now).world.shared) }
     ensures lengths { IfOk result (λ o. record { scratch = length o.scratch; comm = length o.comm; private = length o.private; shared = length o.shared } ≡ all_rooms) }
 {
     let functions = unit.functions.as_slice();

@@ -33,7 +33,8 @@ fn act(
     requires functions { functions_formed (functions_of functions.now) known ≡ true }
     requires formed { stmt_formed (functions_of functions.now) known MOST_FRAME (plain_stmt t.now) ≡ true }
     ensures done { (sends : List Sending) → HasDone
-        (stmt_done (serves (functions_of functions.now) known) (plain_stmt t.now) (state_of frame.old memory.old sends)) frame.new memory.new }
+        (stmt_done (serves (functions_of functions.now) known) (plain_stmt t.now)
+        (state_of frame.old memory.old sends)) frame.new memory.new }
     ensures rooms { rooms memory.new ≡ all_rooms }
 {
     match t {
@@ -96,7 +97,8 @@ fn all(
     requires functions { functions_formed (functions_of functions.now) known ≡ true }
     requires formed { stmts_formed (functions_of functions.now) known MOST_FRAME (stmts_of stmts.now) ≡ true }
     ensures done { (sends : List Sending) → HasDone
-        (stmts_done (serves (functions_of functions.now) known) (stmts_of stmts.now) (state_of frame.old memory.old sends)) frame.new memory.new }
+        (stmts_done (serves (functions_of functions.now) known) (stmts_of stmts.now)
+        (state_of frame.old memory.old sends)) frame.new memory.new }
     ensures rooms { rooms memory.new ≡ all_rooms }
 {
     for t in stmts {
@@ -122,7 +124,8 @@ fn turns(
     requires functions { functions_formed (functions_of functions.now) known ≡ true }
     requires formed { stmts_formed (functions_of functions.now) known MOST_FRAME (stmts_of body.now) ≡ true }
     ensures done { (sends : List Sending) → HasDone
-        (times count (stmts_done (serves (functions_of functions.now) known) (stmts_of body.now)) (state_of frame.old memory.old sends)) frame.new memory.new }
+        (times count (stmts_done (serves (functions_of functions.now) known) (stmts_of body.now))
+        (state_of frame.old memory.old sends)) frame.new memory.new }
     ensures rooms { rooms memory.new ≡ all_rooms }
 {
     for turned in 0..count {
@@ -149,7 +152,8 @@ pub fn called(
     requires earlier { function < known }
     requires args { length args.now ≤ MOST_FRAME }
     ensures given { (sends : List Sending) → HasGiven
-        (serves (functions_of functions.now) known function under (args_worth (map plain_sp args.now) (state_of frame.now memory.old sends)) (shown memory.old sends))
+        (serves (functions_of functions.now) known function under
+        (args_worth (map plain_sp args.now) (state_of frame.now memory.old sends)) (shown memory.old sends))
         result memory.new }
     ensures rooms { rooms memory.new ≡ all_rooms }
 {

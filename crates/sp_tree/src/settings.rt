@@ -14,11 +14,12 @@ use crate::statements::SpFunction;
 use c_world::Memory;
 
 // a word of the frame, a word of a memory, or an element
-#[tactic(auto, using(c_world::proofs::Words::word_set))]
+#[tactic(auto, using(shared_order::proofs::Words::words_put))]
 fn set(place: &SpPlace, given: u32, frame: &mut [u32], memory: &mut Memory)
     requires rooms { rooms memory.old ≡ all_rooms }
     requires formed { place_formed (length frame.old) (plain_place place.now) ≡ true }
-    ensures done { (sends : List Sending) → with_place (plain_place place.now) given (state_of frame.old memory.old sends)
+    ensures done { (sends : List Sending)
+        → with_place (plain_place place.now) given (state_of frame.old memory.old sends)
         ≡ state_of frame.new memory.new sends }
     ensures rooms { rooms memory.new ≡ all_rooms }
 {
@@ -43,7 +44,8 @@ fn is_on(mask: u32, frame: &[u32]) -> bool
 pub fn write(mask: u32, place: &SpPlace, e: &SpExpr, frame: &mut [u32], memory: &mut Memory)
     requires rooms { rooms memory.old ≡ all_rooms }
     requires formed { place_formed (length frame.old) (plain_place place.now) ≡ true }
-    ensures done { (sends : List Sending) → where_on mask (write_done (plain_place place.now) (plain_sp e.now)) (state_of frame.old memory.old sends)
+    ensures done { (sends : List Sending)
+        → where_on mask (write_done (plain_place place.now) (plain_sp e.now)) (state_of frame.old memory.old sends)
         ≡ state_of frame.new memory.new sends }
     ensures rooms { rooms memory.new ≡ all_rooms }
 {
@@ -56,7 +58,8 @@ pub fn write(mask: u32, place: &SpPlace, e: &SpExpr, frame: &mut [u32], memory: 
 /// The flag is set where the mask is 1 and the value is not 0.
 pub fn overrun(mask: u32, e: &SpExpr, frame: &[u32], memory: &mut Memory)
     requires rooms { rooms memory.old ≡ all_rooms }
-    ensures done { (sends : List Sending) → where_on mask (overrun_done (plain_sp e.now)) (state_of frame.now memory.old sends)
+    ensures done { (sends : List Sending)
+        → where_on mask (overrun_done (plain_sp e.now)) (state_of frame.now memory.old sends)
         ≡ state_of frame.now memory.new sends }
     ensures rooms { rooms memory.new ≡ all_rooms }
 {
@@ -68,10 +71,11 @@ pub fn overrun(mask: u32, e: &SpExpr, frame: &[u32], memory: &mut Memory)
 }
 
 /// What a function gave is set, if anything is, where the mask is 1.
-#[tactic(auto, using(c_world::proofs::Words::word_set))]
+#[tactic(auto, using(shared_order::proofs::Words::words_put))]
 pub fn set_result(mask: u32, result_slot: &Option<u32>, given: u32, frame: &mut [u32])
     requires formed { result_formed (length frame.old) result_slot.now ≡ true }
-    ensures { (w : World) → where_on mask (with_result result_slot.now given) (record { frame = slice_index frame.old; world = w })
+    ensures { (w : World) → where_on mask (with_result result_slot.now given)
+        (record { frame = slice_index frame.old; world = w })
         ≡ record { frame = slice_index frame.new; world = w } }
 {
     match result_slot {
@@ -88,7 +92,8 @@ pub fn set_result(mask: u32, result_slot: &Option<u32>, given: u32, frame: &mut 
 // the word of an argument; 0 where there is none
 #[tactic(auto, using(crate::proofs::Arguments::worth_at, crate::proofs::Arguments::worth_past))]
 fn argument(args: &[SpExpr], number: usize, frame: &[u32], memory: &Memory) -> u32
-    ensures { (sends : List Sending) → result ≡ slice_index (args_worth (map plain_sp args.now) (state_of frame.now memory.now sends)) number }
+    ensures { (sends : List Sending)
+        → result ≡ slice_index (args_worth (map plain_sp args.now) (state_of frame.now memory.now sends)) number }
 {
     if number < args.len() {
         value(&args[number], frame, memory)
@@ -97,10 +102,11 @@ fn argument(args: &[SpExpr], number: usize, frame: &[u32], memory: &Memory) -> u
     }
 }
 
-// the words of arguments, and 0 behind them
+// the words of arguments, and 0 after them
 fn pass(args: &[SpExpr], frame: &[u32], own: &mut [u32], memory: &Memory)
     requires { length args.now ≤ length own.old }
-    ensures { (sends : List Sending) → slice_index own.new ≡ slice_index (args_worth (map plain_sp args.now) (state_of frame.now memory.now sends)) }
+    ensures { (sends : List Sending)
+        → slice_index own.new ≡ slice_index (args_worth (map plain_sp args.now) (state_of frame.now memory.now sends)) }
 {
     for number in 0..own.len() {
         own[number] = argument(args, number, frame, memory);
@@ -108,7 +114,7 @@ fn pass(args: &[SpExpr], frame: &[u32], own: &mut [u32], memory: &Memory)
 }
 
 /// The words that a function's frame begins with.
-#[tactic(auto, using(c_world::proofs::Words::word_set))]
+#[tactic(auto, using(shared_order::proofs::Words::words_put))]
 pub fn begin_frame(
     function: &SpFunction,
     mask: u32,
@@ -120,7 +126,8 @@ pub fn begin_frame(
     requires args { length args.now ≤ length own.old }
     requires mask { function.now.mask < length own.old }
     ensures { (sends : List Sending) → slice_index own.new
-        ≡ begun_frame (plain_function function.now) mask (args_worth (map plain_sp args.now) (state_of frame.now memory.now sends)) }
+        ≡ begun_frame (plain_function function.now) mask
+        (args_worth (map plain_sp args.now) (state_of frame.now memory.now sends)) }
 {
     pass(args, frame, own, memory);
     own[function.mask as usize] = mask;

@@ -30,9 +30,11 @@ pub fn worked_operators()
 pub fn worked_values()
     ensures number { (frame : ℕ → ℕ) (w : World) → sp_value frame w (constant 7) ≡ 7 }
     ensures slot { (frame : ℕ → ℕ) (w : World) → sp_value frame w (frame_word 3) ≡ frame 3 }
-    ensures cell { (frame : ℕ → ℕ) (w : World) → sp_value frame w (cell_word (record { region = Region.Private; word = 4 }))
+    ensures cell { (frame : ℕ → ℕ) (w : World)
+        → sp_value frame w (cell_word (record { region = Region.Private; word = 4 }))
         ≡ word_at Region.Private 4 w }
     ensures past { (frame : ℕ → ℕ) (w : World) → sp_value frame w (before_one SpUnary.Not
         (array_word (record { region = Region.Shared; first = 0; length = 3 }) (constant 3))) ≡ 1 }
-    ensures difference { (frame : ℕ → ℕ) (w : World) → sp_value frame w (between_two SpBinary.Minus (constant 3) (constant 4)) ≡ 2 ^ 32 - 1 }
+    ensures difference { (frame : ℕ → ℕ) (w : World)
+        → sp_value frame w (between_two SpBinary.Minus (constant 3) (constant 4)) ≡ 2 ^ 32 - 1 }
 {}

@@ -16,9 +16,12 @@ pub fn worked_formed()
     ensures call { is_formed small.difference_unit ≡ true }
     ensures last_slot { is_formed (small.unit_of (one (masks 3 (constant 0)))) ≡ true }
     ensures last_slot_in_turns { is_formed (small.unit_of (one (turns 1 (one (masks 2 (constant 0)))))) ≡ true }
-    ensures last_private { is_formed (small.unit_of (one (writes 0 (to_cell (small.cell Region.Private 49151)) (constant 0)))) ≡ true }
-    ensures first_private { is_formed (small.unit_of (one (writes 0 (to_cell (small.cell Region.Private 4)) (constant 0)))) ≡ true }
-    ensures all_shared { is_formed (small.unit_of (one (masks 1 (array_word (small.array Region.Shared 0 4096) (constant 9))))) ≡ true }
+    ensures last_private { is_formed
+        (small.unit_of (one (writes 0 (to_cell (small.cell Region.Private 49151)) (constant 0)))) ≡ true }
+    ensures first_private { is_formed
+        (small.unit_of (one (writes 0 (to_cell (small.cell Region.Private 4)) (constant 0)))) ≡ true }
+    ensures all_shared { is_formed
+        (small.unit_of (one (masks 1 (array_word (small.array Region.Shared 0 4096) (constant 9))))) ≡ true }
     ensures last_core { is_formed (small.unit_of (one (transfers 0 15 (constant 0) (constant 0) (constant 1)))) ≡ true }
     ensures registers { is_formed (small.unit_of (one (masks 1 (small.levels 11)))) ≡ true }
 {}
@@ -33,11 +36,16 @@ pub fn worked_unformed()
     ensures read_past { is_formed (small.unit_of (one (masks 1 (frame_word 4)))) ≡ false }
     ensures counter_named { is_formed (small.unit_of (one (turns 1 (one (masks 3 (constant 0)))))) ≡ false }
     ensures no_turn { is_formed (small.unit_of (one (turns 0 no_stmt))) ≡ false }
-    ensures private_past { is_formed (small.unit_of (one (masks 1 (cell_word (small.cell Region.Private 49152))))) ≡ false }
+    ensures private_past { is_formed (small.unit_of (one (masks 1 (cell_word (small.cell Region.Private 49152)))))
+        ≡ false }
     ensures spare_word { is_formed (small.unit_of (one (masks 1 (cell_word (small.cell Region.Private 3))))) ≡ false }
-    ensures scratch_past { is_formed (small.unit_of (one (masks 1 (array_word (small.array Region.Scratch 2047 2) (constant 0))))) ≡ false }
-    ensures comm_past { is_formed (small.unit_of (one (writes 0 (to_cell (small.cell Region.Comm 512)) (constant 0)))) ≡ false }
-    ensures shared_past { is_formed (small.unit_of (one (writes 0 (to_array (small.array Region.Shared 1 4096) (constant 0)) (constant 0)))) ≡ false }
+    ensures scratch_past { is_formed
+        (small.unit_of (one (masks 1 (array_word (small.array Region.Scratch 2047 2) (constant 0))))) ≡ false }
+    ensures comm_past { is_formed (small.unit_of (one (writes 0 (to_cell (small.cell Region.Comm 512)) (constant 0))))
+        ≡ false }
+    ensures shared_past { is_formed
+        (small.unit_of (one (writes 0 (to_array (small.array Region.Shared 1 4096) (constant 0)) (constant 0))))
+        ≡ false }
     ensures no_core { is_formed (small.unit_of (one (transfers 0 16 (constant 0) (constant 0) (constant 1)))) ≡ false }
     ensures no_register { is_formed (small.unit_of (one (overruns 0 (small.levels 12)))) ≡ false }
     ensures inside { is_formed (small.unit_of (stmt (masks 1 (cell_word (small.cell Region.Private 6)))
@@ -46,16 +54,39 @@ pub fn worked_unformed()
 
 /// One row for each cause for which a function or a unit is not well formed.
 pub fn worked_unformed_units()
-    ensures no_return { function_formed [] 0 (record { frame = 3; parameters = 0; mask = 0; result = 1; body = no_stmt }) ≡ false }
-    ensures large_frame { function_formed [] 0 (record { frame = 129; parameters = 0; mask = 0; result = 1; body = no_stmt }) ≡ false }
-    ensures seven { function_formed [] 0 (record { frame = 12; parameters = 7; mask = 7; result = 8; body = no_stmt }) ≡ false }
-    ensures mask_passed { function_formed [] 0 (record { frame = 12; parameters = 2; mask = 1; result = 2; body = no_stmt }) ≡ false }
-    ensures result_passed { function_formed [] 0 (record { frame = 12; parameters = 2; mask = 2; result = 1; body = no_stmt }) ≡ false }
-    ensures largest { function_formed [] 0 (record { frame = 128; parameters = 6; mask = 124; result = 125; body = no_stmt }) ≡ true }
-    ensures no_entry { is_formed (record { functions = small.difference ∷ []; entry = 1; initial = []; input_at = 4; input_room = 0 }) ≡ false }
-    ensures entry_passed { is_formed (record { functions = small.difference ∷ []; entry = 0; initial = []; input_at = 4; input_room = 0 }) ≡ false }
-    ensures many_words { is_formed (record { functions = small.entry_of no_stmt ∷ []; entry = 0; initial = []; input_at = 49150; input_room = 3 }) ≡ false }
-    ensures low_input { is_formed (record { functions = small.entry_of no_stmt ∷ []; entry = 0; initial = []; input_at = 3; input_room = 1 }) ≡ false }
+    ensures no_return { function_formed [] 0
+        (record { frame = 3; parameters = 0; mask = 0; result = 1; body = no_stmt }) ≡ false }
+    ensures large_frame { function_formed [] 0
+        (record { frame = 129; parameters = 0; mask = 0; result = 1; body = no_stmt }) ≡ false }
+    ensures seven { function_formed [] 0 (record { frame = 12; parameters = 7; mask = 7; result = 8; body = no_stmt })
+        ≡ false }
+    ensures mask_passed { function_formed [] 0
+        (record { frame = 12; parameters = 2; mask = 1; result = 2; body = no_stmt }) ≡ false }
+    ensures result_passed { function_formed [] 0
+        (record { frame = 12; parameters = 2; mask = 2; result = 1; body = no_stmt }) ≡ false }
+    ensures largest { function_formed [] 0
+        (record { frame = 128; parameters = 6; mask = 124; result = 125; body = no_stmt }) ≡ true }
+    ensures no_entry { is_formed (record {
+      functions = small.difference
+          ∷ [];
+      entry = 1;
+      initial = [];
+      input_at = 4;
+      input_room = 0;
+    }) ≡ false }
+    ensures entry_passed { is_formed
+        (record { functions = small.difference ∷ []; entry = 0; initial = []; input_at = 4; input_room = 0 }) ≡ false }
+    ensures many_words { is_formed
+        (record { functions = small.entry_of no_stmt ∷ []; entry = 0; initial = []; input_at = 49150; input_room = 3 })
+        ≡ false }
+    ensures low_input { is_formed (record {
+      functions = small.entry_of no_stmt
+          ∷ [];
+      entry = 0;
+      initial = [];
+      input_at = 3;
+      input_room = 1;
+    }) ≡ false }
 {}
 
 /// How many registers expressions take: sums of sums one more for each level, and a chain to the right two.
@@ -68,8 +99,9 @@ pub fn worked_needs()
     ensures before { need (before_one SpUnary.Not (small.levels 2)) ≡ 3 }
 {}
 
-/// How many words the code of expressions and statements takes at most: a word that is masked by a small constant, and
-/// by a large one; a comparison with a small constant, and with a large one; what an arm, a loop and a return are made of.
+/// How many words the code of expressions and statements takes at most: a word that is masked by a
+/// small constant, and by a large one; a comparison with a small constant, and with a large one;
+/// what an arm, a loop and a return are made of.
 pub fn worked_costs()
     ensures small_mask { expr_cost (between_two SpBinary.BitAnd (frame_word 0) (constant 4095)) ≡ 3 }
     ensures large_mask { expr_cost (between_two SpBinary.BitAnd (frame_word 0) (constant 4096)) ≡ 5 }
@@ -81,6 +113,7 @@ pub fn worked_costs()
     ensures arm { (c : PlainSp) → stmts_cost (small.arm c) ≡ 23 + expr_cost c }
     ensures while_loop { (c : PlainSp) → stmts_cost (small.while_loop 10 c) ≡ 47 + 2 * expr_cost c }
     ensures leaving { (e : PlainSp) → stmts_cost (small.leaving e) ≡ 16 + expr_cost e }
-    ensures set_variable { stmt_cost (writes 0 (to_cell (small.cell Region.Private 4)) (constant 5)) ≡ 7 + expr_cost (constant 5) }
+    ensures set_variable { stmt_cost (writes 0 (to_cell (small.cell Region.Private 4)) (constant 5))
+        ≡ 7 + expr_cost (constant 5) }
     ensures function { cost (small.entry_of no_stmt) ≡ 36 }
 {}

@@ -16,8 +16,12 @@ pub fn worked_masks()
     ensures off { (g : Serves) → stmt_done g (small.writing 7) (small.under 0) ≡ small.under 0 }
     ensures two { (g : Serves) → stmt_done g (small.writing 7) (small.under 2) ≡ small.under 2 }
     ensures always { (g : Serves) → (stmt_done g (small.masking 7) (small.under 0)).frame 1 ≡ 7 }
-    ensures element { (g : Serves) → (stmt_done g (writes 0 (to_array (small.array Region.Shared 8 3) (constant 2)) (constant 7)) (small.under 1)).world.shared 10 ≡ 7 }
-    ensures past { (g : Serves) → stmt_done g (writes 0 (to_array (small.array Region.Shared 8 3) (constant 3)) (constant 7)) (small.under 1) ≡ small.under 1 }
+    ensures element { (g : Serves)
+        → (stmt_done g (writes 0 (to_array (small.array Region.Shared 8 3) (constant 2)) (constant 7))
+        (small.under 1)).world.shared 10 ≡ 7 }
+    ensures past { (g : Serves) → stmt_done g
+        (writes 0 (to_array (small.array Region.Shared 8 3) (constant 3)) (constant 7)) (small.under 1)
+        ≡ small.under 1 }
     ensures three_turns { (g : Serves) → (stmt_done g (small.adding 3) (small.under 1)).frame 1 ≡ 6 }
     ensures turns_off { (g : Serves) → (stmt_done g (small.adding 3) (small.under 0)).frame 1 ≡ 6 }
     ensures no_turn { (g : Serves) → stmt_done g (small.adding 0) (small.under 1) ≡ small.under 1 }
@@ -29,7 +33,8 @@ pub fn worked_effects()
     ensures held { (g : Serves) → stmt_done g (overruns 0 (constant 0)) (small.under 1) ≡ small.under 1 }
     ensures overrun_off { (g : Serves) → stmt_done g (overruns 0 (constant 5)) (small.under 0) ≡ small.under 0 }
     ensures overrun_two { (g : Serves) → stmt_done g (overruns 0 (constant 5)) (small.under 2) ≡ small.under 2 }
-    ensures sent { (g : Serves) → (stmt_done g (small.sending 2) (small.under 1)).world.sends ≡ record { core = 3; source = 10; target = 20; count = 2 } ∷ [] }
+    ensures sent { (g : Serves) → (stmt_done g (small.sending 2) (small.under 1)).world.sends
+        ≡ record { core = 3; source = 10; target = 20; count = 2 } ∷ [] }
     ensures too_many { (g : Serves) → stmt_done g (small.sending 503) (small.under 1) ≡ small.under 1 }
     ensures send_off { (g : Serves) → stmt_done g (small.sending 2) (small.under 0) ≡ small.under 0 }
     ensures send_two { (g : Serves) → stmt_done g (small.sending 2) (small.under 2) ≡ small.under 2 }
@@ -40,7 +45,8 @@ pub fn worked_effects()
 pub fn worked_calls()
     ensures given { (stmt_done (small.served small.difference) small.calling (small.under 1)).frame 1 ≡ 2 }
     ensures stored { (stmt_done (small.served small.difference) small.calling (small.under 1)).world.private 4 ≡ 2 }
-    ensures nowhere { (stmt_done (small.served small.difference) (calls 0 0 (constant 7 ∷ constant 5 ∷ []) None) (small.under 1)).frame 1 ≡ 0 }
+    ensures nowhere { (stmt_done (small.served small.difference) (calls 0 0 (constant 7 ∷ constant 5 ∷ []) None)
+        (small.under 1)).frame 1 ≡ 0 }
     ensures off { stmt_done (small.served small.difference) small.calling (small.under 0) ≡ small.under 0 }
     ensures two { stmt_done (small.served small.difference) small.calling (small.under 2) ≡ small.under 2 }
     ensures gives_nine { (w : World) → (small.served small.always_nine 0 0 [] w).value ≡ 9 }
@@ -60,5 +66,7 @@ pub fn worked_tasks()
     ensures kept { (straight_alone small.difference_unit (9 ∷ 4 ∷ [])).world.private 5 ≡ 9 }
     ensures own_mask { (straight_alone (small.unit_of (one (masks 1 (frame_word 0)))) []).value ≡ 1 }
     ensures no_overrun { (straight_alone small.difference_unit (9 ∷ 4 ∷ [])).world.overrun ≡ false }
-    ensures overrun { (straight_alone (small.unit_of (one (overruns 0 (array_word (small.array Region.Private 5 2) (constant 0))))) (9 ∷ [])).world.overrun ≡ true }
+    ensures overrun { (straight_alone
+        (small.unit_of (one (overruns 0 (array_word (small.array Region.Private 5 2) (constant 0))))) (9
+        ∷ [])).world.overrun ≡ true }
 {}

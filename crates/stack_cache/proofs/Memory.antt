@@ -16,7 +16,7 @@ module _ (memory words : List ℕ) (at i d : ℕ) (fits : at + length words ≤ 
   pub get_above : at + length words ≤ i → get_or (with_words memory at words) i d ≡ get_or memory i d
   get_above above = grind (arith, places)
 
--- one word more, written behind the others
+-- one word more, written after the others
 written_behind : (memory words : List ℕ) (at v : ℕ) → at + length words < length memory
     → set (with_words memory at words) (at + length words) v ≡ with_words memory at (words ++ v ∷ [])
 written_behind memory words at v room =

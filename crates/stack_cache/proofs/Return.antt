@@ -3,7 +3,7 @@ use Rattle.std.proofs.Common.{◌≡◌, ℕ, ◌+◌, ◌-◌, ◌≤◌, max, 
 use Rattle.std.proofs.lemmas.List.{length-replicate, take-append-drop, take_at, drop_at, drop-drop, drop-take}
 use Rattle.stack_cache.specs.Stack.{IsStack, Stack, filled, freed, grown, reserved, with_spilled, with_words}
 
--- of the words behind n zeros, those that the cache keeps and those that it spills
+-- of the words after n zeros, those that the cache keeps and those that it spills
 module _ (n : ℕ) (words : List ℕ) (few : n ≤ 128) where
   with_rest : 128 ≡ n + (128 - n)
   with_rest = omega arith

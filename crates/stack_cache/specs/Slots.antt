@@ -1,4 +1,4 @@
--- Where the cache keeps a word: the words of private memory take the slots in turn.
+-- To be believed. Where the cache keeps a word: the words of private memory take the slots in turn.
 use Rattle.std.specs.Prelude.{ℕ, ◌+◌, ◌-◌, ◌%◌, ◌≤◌, List, map, slice_index}
 use Rattle.std.specs.List.{range_with_len}
 use Rattle.stack_cache.specs.declared.slots.TheConstants.{STACK_CACHE_WORDS}

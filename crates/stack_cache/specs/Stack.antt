@@ -1,5 +1,5 @@
--- A task's stack, as its instructions see it (after the stack cache of the Patmos Reference Handbook; the numbers
--- are of our own profile TP1). Words are numbers of private memory, and the stack grows down.
+-- To be believed. A task's stack, as its instructions see it (after the stack cache of the Patmos Reference Handbook;
+-- the numbers are of our own profile TP1). Words are numbers of private memory, and the stack grows down.
 use Rattle.std.specs.Prelude.{◌≡◌, ℕ, ◌+◌, ◌-◌, ◌≤◌, max, min, List, [], ◌++◌, length, take, drop, replicate}
 use Rattle.stack_cache.specs.declared.slots.TheConstants.{STACK_CACHE_WORDS}
 use Rattle.stack_cache.specs.declared.stack.TheConstants.{STACK_END, STACK_LOWEST}
@@ -46,7 +46,7 @@ with_spilled n s private = with_words private (reserved n s).ss (spilled n s)
 abbrev pub missing : ℕ → Stack → ℕ
 missing n s = n - length s.words
 
--- the missing words appended from private memory, and ss moved behind them
+-- the missing words appended from private memory, and ss moved after them
 abbrev pub filled : ℕ → List ℕ → Stack → Stack
 filled n private s = record s { ss = s.ss + missing n s; words = s.words ++ take (missing n s) (drop s.ss private) }
 

@@ -9,7 +9,7 @@ use std::marker::Model;
 /// The lowest word of private memory that a task's stack may use.
 pub const STACK_LOWEST: u32 = DATA_WORDS as u32;
 
-/// The word of private memory behind a task's stack, where the stack begins.
+/// The word of private memory after a task's stack, where the stack begins.
 pub const STACK_END: u32 = PRIVATE_WORDS as u32;
 
 /// The words of the stack that stand in the cache, and its two pointers.

@@ -38,8 +38,7 @@ use Rattle.sp_emit.specs.Starting.{AllWords}
 use Rattle.sp_emit.proofs.Constants.{constants_are_words, counts_are_words}
 use Rattle.sp_emit.proofs.Kept as emit
 use Rattle.bundle_sched.proofs.Kept as sched
-use Rattle.bundle_sched.specs.Packed.{can_pair}
-use Rattle.bundle_sched.specs.Packing.{pair}
+use Rattle.bundle_sched.specs.Packed.{can_pair, pair}
 use Rattle.bundle_sched.proofs.Commute.{idle_is}
 use Rattle.bundle_sched.proofs.TwoInOne.{pairs}
 use Rattle.tc_link.proofs.Constants.{function_words_fit}

@@ -1,7 +1,6 @@
 -- What is wanted of tasks can be met.
-use Rattle.std.proofs.Common.{◌≡◌, ℕ, zero, suc, ◌<◌, ◌≤◌, [], ◌∷◌, refl, ap, arith, rules}
+use Rattle.std.proofs.Common.{◌≡◌, ℕ, zero, suc, ◌<◌, ◌≤◌, [], ◌∷◌, refl, ap, arith}
 use Rattle.std.specs.List.{All, Contains}
-use Rattle.std.proofs.lemmas.List.Elements.{All-from_recursion}
 use Rattle.slot_arbiter.specs.declared.place.Place.{Place}
 use Rattle.patmos_instr.specs.Bundles.{FitsBundle}
 use Rattle.patmos_code.specs.declared.images.TheConstants.{MOST_IN_FUNCTION}
@@ -9,13 +8,14 @@ use Rattle.sp_tree.specs.Uses.{Use, sends_to}
 use Rattle.tc_link.specs.Placed.{size_of, flat}
 use Rattle.task_core.specs.Tasks.{code_of, IsRunnable, IsCode}
 use Rattle.task_core.specs.Worked.{sender}
+use Rattle.task_core.proofs.Ranges.{all_fit}
 
 small : (k : ℕ) → k < 1 → size_of (code_of sender) k ≤ MOST_IN_FUNCTION
 small zero within = omega arith
 small (suc k) within = absurd (omega (arith, within))
 
 fit : (k : ℕ) → k < 1 → All FitsBundle (flat (code_of sender) k)
-fit zero within = All-from_recursion FitsBundle (flat (code_of sender) 0) (search rules)
+fit zero within = all_fit (flat (code_of sender) 0) refl
 fit (suc k) within = absurd (omega (arith, within))
 
 pub sender_code : IsCode sender

@@ -1,4 +1,5 @@
 pub mod Places
+pub mod Ranges
 pub mod RunWords
 pub mod Sending
 pub mod Behaving

@@ -1,7 +1,6 @@
 -- A run that is given words, of bundles whose constants are words, holds words before each bundle.
-use Rattle.std.proofs.Common.{◌≡◌, ℕ, ◌+◌, ◌-◌, ◌/◌, ◌&&◌, ◌==◌, nat_le, nat_lt, true, false, if◌then◌else◌, List, [], ◌∷◌, refl, arith}
+use Rattle.std.proofs.Common.{◌≡◌, ℕ, ◌+◌, ◌-◌, ◌/◌, ◌&&◌, nat_le, nat_lt, true, false, if◌then◌else◌, List, [], ◌∷◌, refl, arith}
 use Rattle.std.specs.List.{AllByRecursion as Each}
-use Rattle.shared_order.specs.Words.{put}
 use Rattle.patmos_instr.specs.Bundles.{Slots}
 use Rattle.patmos_instr.specs.declared.functions.StackFunc.TheVariants.{Sres, Sens, Sfree}
 use Rattle.patmos_instr.specs.declared.memories.Mem.{Mem}
@@ -14,6 +13,7 @@ use Rattle.patmos_sem.specs.declared.effects.Effect.TheVariants as effect
 use Rattle.patmos_model.specs.Range.{IsWord, ConstantsFit}
 use Rattle.patmos_model.proofs.NarrowWords.{picked_word, merged_word}
 use Rattle.patmos_model.proofs.RegisterWords.{at_start_words, after_bundle_words, settled_words, stored_word, arrived_words, with_return_words}
+use Rattle.patmos_model.proofs.HeldWords.{put_fits}
 use Rattle.sp_shape.specs.Memory.{Memory}
 use Rattle.sp_shape.specs.Run.{Run, Back, first_load, other_loads, first_back, other_backs, reserved, effected, late, once, begun, at_begin}
 use Rattle.sp_shape.specs.Trail.{Step, does, begins}
@@ -40,9 +40,6 @@ other_fit [] h = tt
 other_fit (b ∷ bs) h = h.1
 
 -- ---- what a bundle asks for
-
-put_word : (at value : ℕ) (words : ℕ → ℕ) → IsWord value → ((a : ℕ) → IsWord (words a)) → (a : ℕ) → IsWord (put at value words a)
-put_word at value words small before a = elim (at == a) as (λ b. IsWord (if b then value else words a)) [ true ↦ small | false ↦ before a ]
 
 reserved_word : (st count : ℕ) (words : ℕ → ℕ) → ((a : ℕ) → IsWord (words a)) → (a : ℕ) → IsWord (reserved st count words a)
 reserved_word st count words before a = elim (nat_le (st - count) a && nat_lt a st) as (λ b. IsWord (if b then 0 else words a)) [ true ↦ omega arith | false ↦ before a ]
@@ -76,7 +73,7 @@ effected_words (effect.Load mem.M width rd address) m h stores = record {
 }
 effected_words (effect.Store mem.S width address value) m h stores = record {
   regs = h.regs;
-  stack = put_word (m.st + address / 4) (merged width address (m.stack (m.st + address / 4)) value) m.stack
+  stack = put_fits (m.st + address / 4) (merged width address (m.stack (m.st + address / 4)) value) m.stack
       (merged_word width address (m.stack (m.st + address / 4)) value (h.stack (m.st + address / 4)) (stores mem.S width address value refl)) h.stack;
   loads = h.loads;
   backs = h.backs;

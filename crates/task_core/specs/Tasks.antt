@@ -1,4 +1,5 @@
--- The code of a task, and what is wanted of its tree, of its code and of the platform so that no check of a core stops it.
+-- To be believed. The code of a task, and what is wanted of its tree, of its code and of the
+-- platform so that no check of a core stops it.
 use Rattle.std.specs.Prelude.{◌≡◌, ℕ, ◌+◌, ◌<◌, ◌≤◌, true, length}
 use Rattle.std.specs.List.{All, Contains, AllByRecursion as Each}
 use Rattle.slot_arbiter.specs.declared.place.Place.{Place}

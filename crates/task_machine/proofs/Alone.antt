@@ -37,10 +37,11 @@ use Rattle.task_words.proofs.Names.{names}
 use Rattle.task_machine.specs.Machines.{HasTask, Task, none, unknown, compiled, BeginsCompiled, BeginsAs, MayChange, IsAlone}
 use Rattle.task_machine.specs.Told.{read_by, task_operations}
 use Rattle.task_machine.proofs.Cores.{is_apart, with_image, values_fit}
-use Rattle.core_pace.proofs.Packets.{followed_run, comes_bound, Coming, made_so, OwnSees, own_sees}
+use Rattle.core_pace.proofs.Packets.{comes_bound, Coming, made_so, OwnSees, own_sees}
 use Rattle.shared_order.proofs.RangesApart.{Kept, apart_keeps}
 use Rattle.shared_order.specs.SomeWords.{LoadsOnly, StoresOnly, Outside, SeesOn}
 use Rattle.shared_order.proofs.SomeWords.{on_all, all_on, part_sees, by_cores}
+use Rattle.patmos_model.proofs.Parts.{followed-run}
 
 pub slotted : (place : Place) (image : Parts) → IsSlotted (site_of place image)
 slotted place image = record {
@@ -67,14 +68,14 @@ module _ (u : PlainUnit) (place : Place) (h : IsRunnable u place) (code : IsCode
   in_range t =
       let a : Alone Core = apart turn place.cores place.core x values t in
       let kept : Kept (InRange words) a.core a.left = apart_keeps turn place.cores place.core words (InRange words) x values t (core_keeps words) fits given.1 in
-      subst (λ (z : Alone Core). InRange words z.core) (sym (followed_run place.cores place.core x values t)) kept.good
+      subst (λ (z : Alone Core). InRange words z.core) (sym (followed-run place.cores place.core x values t)) kept.good
 
   -- its packets come to the communication memories of cores that the tree sends to
   pub packets_come : (W : ℕ → Type 0) → ((d : ℕ) → Named (sends_to d) → (k : ℕ) → k < 512 → W (comm_word d k)) → (t : ℕ) → Coming place.cores place.core x values W t
   packets_come W there t =
       let c : Core = (followed place.cores place.core x values t).run.core in
       let asked : Each (λ (p : Packet). Named (sends_to p.target)) c.plain.interface.under_way =
-      subst (λ (z : Alone Core). Each (λ (p : Packet). Named (sends_to p.target)) z.core.plain.interface.under_way) (sym (followed_run place.cores place.core x values t)) (names_at t).packets in
+      subst (λ (z : Alone Core). Each (λ (p : Packet). Named (sends_to p.target)) z.core.plain.interface.under_way) (sym (followed-run place.cores place.core x values t)) (names_at t).packets in
       each_zip (ni.IsBound c.plain.interface.cores) (λ (p : Packet). Named (sends_to p.target)) (Comes W)
       (λ p bound is. comes_bound W c.plain.interface.cores p bound (there p.target is))
       c.plain.interface.under_way (in_range t).plain.interface.packets asked
@@ -86,7 +87,7 @@ module _ (u : PlainUnit) (place : Place) (h : IsRunnable u place) (code : IsCode
   -- all that it stores, by itself or by packets
   pub stores_named : (t : ℕ) → Each (StoresOnly (MayChange (compiled u) place.core)) (apart_at place image input values t).made
   stores_named t =
-      subst (λ (z : Alone Core). Each (StoresOnly (MayChange (compiled u) place.core)) z.made) (followed_run place.cores place.core x values t)
+      subst (λ (z : Alone Core). Each (StoresOnly (MayChange (compiled u) place.core)) z.made) (followed-run place.cores place.core x values t)
       (made_so place.cores place.core x values (MayChange (compiled u) place.core) t
       (λ v below. packets_come (MayChange (compiled u) place.core) (λ d is k few. inr (d, (is, (k, (few, refl))))) v)
       (each_map (MayMake (MayLoadWord Named place.core) (MayStoreWord Named place.core) (MaySendTo Named)) (StoresOnly (MayChange (compiled u) place.core)) (λ o m is. inl (m.1 is)) (own_operations place image input values t) (names_at t).operations))
@@ -159,7 +160,7 @@ module _ (u : PlainUnit) (place : Place) (input : List ℕ) (words : ℕ) (cores
       (λ other below away. others_leave words cores limit t.fits u place.cores place.core tasks t.room alone other below away (begin other below)) in
       let part : SeesOn Read zeros (operations_of place.cores place.core m.made) = part_sees Read place.cores place.core zeros zeros m.made (λ word here. refl) leave all_sees in
       let made : operations_of place.cores place.core m.made ≡ (followed place.cores place.core c values limit).run.made =
-      sym (ap (λ (a : Alone Core). a.made) (with_image place cores limit place.in_range.among (linked (code_of u)) input t.begins)) ∙ sym (ap (λ (a : Alone Core). a.made) (followed_run place.cores place.core c values limit)) in
+      sym (ap (λ (a : Alone Core). a.made) (with_image place cores limit place.in_range.among (linked (code_of u)) input t.begins)) ∙ sym (ap (λ (a : Alone Core). a.made) (followed-run place.cores place.core c values limit)) in
       let seen : OwnSees place.cores place.core c values Read zeros limit =
       own_sees place.cores place.core c values Read zeros limit
       (λ v below. packets_come u place t.runs t.code input values given words there (Outside Read) unread v)

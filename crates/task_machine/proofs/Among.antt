@@ -9,12 +9,13 @@ use Rattle.patmos_model.specs.Apart.{Followed, site_of, followed}
 use Rattle.patmos_model.specs.Begin.{begun}
 use Rattle.patmos_model.specs.Cycle.{turn}
 use Rattle.patmos_model.specs.State.{Core}
+use Rattle.patmos_model.proofs.Parts.{followed-run}
 use Rattle.sp_tree.specs.Statements.{PlainUnit}
 use Rattle.tc_link.specs.Placed.{linked}
 use Rattle.task_core.specs.Tasks.{code_of}
 use Rattle.task_machine.specs.Told.{read_by, task_operations, IsAmong}
 use Rattle.task_machine.proofs.Cores.{with_image}
-use Rattle.core_pace.proofs.Packets.{followed_run, came, sent, acted}
+use Rattle.core_pace.proofs.Packets.{came, sent, acted}
 
 among_more : (os all : List Operation) (a : Operation) → IsAmong os all → IsAmong os (a ∷ all)
 among_more [] all a h = tt
@@ -64,6 +65,6 @@ task_among u place input cores limit among begins =
     let values : List ℕ = read_by place.cores place.core m in
     let x : Core = begun (site_of place (linked (code_of u))) input in
     let made : (followed place.cores place.core x values limit).run.made ≡ operations_of place.cores place.core m.made =
-    ap (λ (a : Alone Core). a.made) (followed_run place.cores place.core x values limit) ∙ ap (λ (a : Alone Core). a.made) (with_image place cores limit among (linked (code_of u)) input begins) in
+    ap (λ (a : Alone Core). a.made) (followed-run place.cores place.core x values limit) ∙ ap (λ (a : Alone Core). a.made) (with_image place cores limit among (linked (code_of u)) input begins) in
     part_among place.cores place.core (task_operations u place input m limit) m.made
     (subst (IsAmong (task_operations u place input m limit)) made (own_among place.cores place.core x values limit))

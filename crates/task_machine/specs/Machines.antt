@@ -1,4 +1,4 @@
--- Machines in which a core has a compiled task, and what the tasks of its other cores may change.
+-- To be believed. Machines in which a core has a compiled task, and what the tasks of its other cores may change.
 use Rattle.std.specs.Prelude.{◌≡◌, ◌≢◌, ℕ, ◌*◌, ◌^◌, ◌<◌, ◌≤◌, ◌⊎◌, List}
 use Rattle.std.specs.List.{AllByRecursion as Each, Contains}
 use Rattle.slot_arbiter.specs.declared.place.Place.{Place}
@@ -21,9 +21,10 @@ use Rattle.task_words.specs.Reach.{MayLoadWord, MayStoreWord}
 abbrev pub machine_after : ℕ → (ℕ → Core) → ℕ → State Core
 machine_after n cores cycles = cycled turn n cores cycles
 
--- the core of the place has the compiled task of a tree with its input; all cores begin in range, and the stamps of so many
--- cycles have room
-pub record HasTask (u : PlainUnit) (place : Place) (input : List ℕ) (words : ℕ) (cores : ℕ → Core) (cycles : ℕ) : Type 0 where
+-- the core of the place has the compiled task of a tree with its input; all cores begin in
+-- range, and the stamps of so many cycles have room
+pub record HasTask (u : PlainUnit) (place : Place) (input : List ℕ) (words : ℕ) (cores : ℕ
+    → Core) (cycles : ℕ) : Type 0 where
   pub runs : IsRunnable u place
   pub code : IsCode u
   pub given : Each IsWord input
@@ -62,8 +63,12 @@ IsCommOf core word = (k : ℕ) × ((k < COMM_WORDS) × (word ≡ comm_word core 
 abbrev pub MayChange : Task → ℕ → ℕ → Type 0
 MayChange none core word = ⊥
 MayChange unknown core word = Unit {0}
-MayChange (compiled u) core word = MayStoreWord (Contains (uses_of u)) core word ⊎ ((target : ℕ) × (Contains (uses_of u) (sends_to target) × IsCommOf target word))
+MayChange (compiled u) core word =
+    MayStoreWord (Contains (uses_of u)) core word
+    ⊎ ((target : ℕ) × (Contains (uses_of u) (sends_to target) × IsCommOf target word))
 
 -- the task of no other core may change a word that the tree reads
 abbrev pub IsAlone : PlainUnit → ℕ → ℕ → (ℕ → Task) → Type 0
-IsAlone u n core tasks = (other : ℕ) → other < n → other ≢ core → (word : ℕ) → MayLoadWord (Contains (uses_of u)) core word → MayChange (tasks other) other word → ⊥
+IsAlone u n core tasks =
+    (other : ℕ) → other < n → other ≢ core → (word : ℕ) → MayLoadWord (Contains (uses_of u)) core word
+    → MayChange (tasks other) other word → ⊥

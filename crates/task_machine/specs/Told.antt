@@ -1,4 +1,4 @@
--- What is told of a compiled task in a machine.
+-- To be believed. What is told of a compiled task in a machine.
 use Rattle.std.specs.Prelude.{◌≡◌, ◌⊎◌, ℕ, ◌-◌, ◌<◌, ◌≤◌, List, [], ◌∷◌}
 use Rattle.slot_arbiter.specs.declared.place.Place.{Place}
 use Rattle.shared_order.specs.declared.operation.Operation.{Operation}
@@ -19,12 +19,14 @@ read_by n core m = loads (operations_of n core m.made)
 
 -- the operations of the task itself
 abbrev pub task_operations : PlainUnit → Place → List ℕ → State Core → ℕ → List Operation
-task_operations u place input m cycles = own_operations place (linked (code_of u)) input (read_by place.cores place.core m) cycles
+task_operations u place input m cycles =
+    own_operations place (linked (code_of u)) input (read_by place.cores place.core m) cycles
 
 -- a core after so many cycles has the times of its task: its accesses below that number, done exactly from its end on
 pub record HasTimes (u : PlainUnit) (place : Place) (cycles : ℕ) (c : Core) : Type 0 where
   pub accesses : c.seen.accesses ≡ below cycles (times_of u place).accesses
-  pub done : (times_of u place).end ≤ cycles → (value : ℕ) × ((flag : ℕ) × (state_at cycles c.plain ≡ Done value flag ((times_of u place).end - place.start)))
+  pub done : (times_of u place).end ≤ cycles
+      → (value : ℕ) × ((flag : ℕ) × (state_at cycles c.plain ≡ Done value flag ((times_of u place).end - place.start)))
   pub running : cycles < (times_of u place).end → state_at cycles c.plain ≡ Running
 
 -- the one list stands in the other, in the same order

@@ -76,7 +76,7 @@ module _ (u : PlainUnit) (place : Place) (h : IsRunnable u place) (code : IsCode
   abbrev last : Moment
   last = after_bundles place.cores place.core (begun site input) values (bundles_in (trail s))
 
-  -- behind its last bundle
+  -- after its last bundle
   well_ended : MadeWell (MayLoadWord Use_named place.core) (MayStoreWord Use_named place.core) (MaySendTo Use_named) (core_in last) last.told.own
   well_ended =
       let k : IsLinkable s = link u code in

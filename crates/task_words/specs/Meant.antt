@@ -1,4 +1,4 @@
--- What a task's core comes to, and what it asks of the others.
+-- To be believed. What a task's core comes to, and what it asks of the others.
 use Rattle.std.specs.Prelude.{◌≡◌, ℕ, ◌-◌, ◌<◌, ◌≤◌, List, map}
 use Rattle.std.specs.List.{Contains, AllByRecursion as Each}
 use Rattle.c_world.specs.Numbers.{flag}
@@ -38,9 +38,10 @@ meant u place input world = tree.straight u input world (comm_in place world)
 abbrev pub HasWorld : PlainUnit → Place → List ℕ → (ℕ → ℕ) → Type 0
 HasWorld u place input world = HoldsWords (tree.begun u input world (comm_in place world))
 
--- a core after so many cycles, whose task itself made these operations and ends in a cycle, is done with a value and the flag
--- of a world, has the words of that world, and has asked for its sends
-pub record Leaves (place : Place) (world : ℕ → ℕ) (cycles end value : ℕ) (w : World) (own : List Operation) (c : Core) : Type 0 where
+-- a core after so many cycles, whose task itself made these operations and ends in a cycle, is done with a value and
+-- the flag of a world, has the words of that world, and has asked for its sends
+pub record Leaves (place : Place) (world : ℕ
+    → ℕ) (cycles end value : ℕ) (w : World) (own : List Operation) (c : Core) : Type 0 where
   pub state : state_at cycles c.plain ≡ Done value (flag w.overrun) (end - place.start)
   pub sendings : c.seen.sendings ≡ map sending_of (map start_of w.sends)
   pub scratch : (word : ℕ) → c.plain.scratch word ≡ w.scratch word
@@ -50,17 +51,26 @@ pub record Leaves (place : Place) (world : ℕ → ℕ) (cycles end value : ℕ)
 
 -- it has what the tree means
 abbrev pub HasMeaning : PlainUnit → Place → List ℕ → (ℕ → ℕ) → ℕ → List Operation → Core → Type 0
-HasMeaning u place input world cycles own c = Leaves place world cycles (times_of u place).end (meant u place input world).value (meant u place input world).world own c
+HasMeaning u place input world cycles own c =
+    Leaves place world cycles (times_of u place).end (meant u place input world).value
+    (meant u place input world).world own c
 
 -- the run apart has so
 abbrev pub ComesAt : PlainUnit → Place → List ℕ → (ℕ → ℕ) → List ℕ → ℕ → Type 0
 ComesAt u place input world values limit =
-    HasMeaning u place input world limit (own_operations place (linked (code_of u)) input values limit) (apart_at place (linked (code_of u)) input values limit).core
+    HasMeaning u place input world limit (own_operations place (linked (code_of u)) input values limit)
+    (apart_at place (linked (code_of u)) input values limit).core
 
--- after so many cycles the task itself has loaded and stored, of the words that others reach, only where its tree names them;
--- it has asked for transfers, and packets go, only to cores that it names
+-- after so many cycles the task itself has loaded and stored, of the words that others reach, only where its tree names
+-- them; it has asked for transfers, and packets go, only to cores that it names
 pub record Names (u : PlainUnit) (place : Place) (input values : List ℕ) (cycles : ℕ) : Type 0 where
-  pub operations : Each (MayMake (MayLoadWord (Contains (uses_of u)) place.core) (MayStoreWord (Contains (uses_of u)) place.core) (MaySendTo (Contains (uses_of u)))) (own_operations place (linked (code_of u)) input values cycles)
-  pub sendings : Each (λ (s : Sending). Contains (uses_of u) (sends_to s.target)) (sendings_at place (linked (code_of u)) input values cycles)
-  pub channels : (d : ℕ) → 0 < (port_to (apart_at place (linked (code_of u)) input values cycles).core.plain.interface d).channel.left → Contains (uses_of u) (sends_to d)
-  pub packets : Each (λ (p : Packet). Contains (uses_of u) (sends_to p.target)) (apart_at place (linked (code_of u)) input values cycles).core.plain.interface.under_way
+  pub operations : Each (MayMake (MayLoadWord (Contains (uses_of u)) place.core)
+      (MayStoreWord (Contains (uses_of u)) place.core) (MaySendTo (Contains (uses_of u))))
+      (own_operations place (linked (code_of u)) input values cycles)
+  pub sendings : Each (λ (s : Sending). Contains (uses_of u) (sends_to s.target))
+      (sendings_at place (linked (code_of u)) input values cycles)
+  pub channels : (d : ℕ) → 0 < (port_to
+      (apart_at place (linked (code_of u)) input values cycles).core.plain.interface d).channel.left
+      → Contains (uses_of u) (sends_to d)
+  pub packets : Each (λ (p : Packet). Contains (uses_of u) (sends_to p.target))
+      (apart_at place (linked (code_of u)) input values cycles).core.plain.interface.under_way

@@ -1,4 +1,4 @@
--- A reader or a writer of std behind a source or a sink.
+-- To be believed. A reader or a writer of std after a source or a sink.
 use Rattle.std.specs.Prelude.{ℕ}
 
 -- the reader or the writer itself, and how many of its calls failed, up to 2^64 - 1

@@ -1,4 +1,4 @@
--- Which calls of a source or a sink in memory fail.
+-- To be believed. Which calls of a source or a sink in memory fail.
 use Rattle.std.specs.Prelude.{ℕ, List, Bool, if◌then◌else◌}
 use Rattle.tc_io.specs.Faults.{one_more}
 
@@ -14,7 +14,8 @@ fresh failing = record { failing = failing; calls = 0; faults = 0 }
 
 -- the plan one call later, which failed or did not
 abbrev pub counted : Plan → Bool → Plan
-counted plan failed = record plan { calls = one_more plan.calls; faults = if failed then one_more plan.faults else plan.faults }
+counted plan failed =
+    record plan { calls = one_more plan.calls; faults = if failed then one_more plan.faults else plan.faults }
 
 -- bytes to be read under a plan
 pub record Planned : Type 0 where

@@ -1,4 +1,4 @@
--- Counts of faults, which a source and a sink keep (our own profile TP1).
+-- To be believed. Counts of faults, which a source and a sink keep (our own profile TP1).
 use Rattle.std.specs.Prelude.{ℕ, ◌+◌, ◌-◌, ◌^◌, ◌≤◌, min}
 
 -- a count, one more fault later: it stands still at its last value, 2^64 - 1

@@ -1,4 +1,4 @@
--- What a sink in memory holds.
+-- To be believed. What a sink in memory holds.
 use Rattle.std.specs.Prelude.{◌==◌, ℕ, ◌+◌, ◌-◌, ◌^◌, List, [], ◌++◌, length, take, min, Option, Some, None, if◌then◌else◌}
 use Rattle.tc_io.specs.FaultPlan.{Plan}
 

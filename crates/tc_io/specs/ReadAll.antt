@@ -1,4 +1,4 @@
--- What the refusals of `read_all` say.
+-- To be believed. What the refusals of `read_all` say.
 use Rattle.std.specs.Prelude.{ℕ, ◌<◌, ◌≤◌, List, length}
 use Rattle.tc_io.specs.declared.read_all_bytes.ReadError.{ReadError}
 use Rattle.tc_io.specs.declared.read_all_bytes.ReadError.TheVariants.{ReadFault, TooLong, Memory}

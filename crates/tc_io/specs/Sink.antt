@@ -1,4 +1,5 @@
--- What writing does to the bytes that a sink has taken, where it tells them, and to its count of faults.
+-- To be believed. What writing does to the bytes that a sink has taken, where it
+-- tells them, and to its count of faults.
 use Rattle.std.specs.Prelude.{◌≡◌, ℕ, ◌<◌, ◌≤◌, List, [], ◌++◌, length, take, Option, Some, None, Result, IfOk, OnErr}
 use Rattle.tc_io.specs.Faults.{Rose}
 

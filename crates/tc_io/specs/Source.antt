@@ -1,4 +1,5 @@
--- What reading does to the bytes that a source has left, where it tells them, and to its count of faults.
+-- To be believed. What reading does to the bytes that a source has left, where it
+-- tells them, and to its count of faults.
 use Rattle.std.specs.Prelude.{◌≡◌, ℕ, ◌<◌, ◌≤◌, List, [], ◌++◌, length, take, Option, Some, None, Result, IfOk, OnErr}
 use Rattle.tc_io.specs.Faults.{Rose}
 

@@ -103,7 +103,8 @@ impl<T: Write> Sink for StdSink<T> {
         ensures uncounted { OnOk result (self.new.faults ≡ self.old.faults) }
 
         // What was taken the writer got, where std tells.
-        ensures passed { IfOk result (λ n. Appends (T.contents self.old.inner) (T.contents self.new.inner) (take n bytes.now)) }
+        ensures passed { IfOk result (λ n. Appends (T.contents self.old.inner) (T.contents self.new.inner)
+            (take n bytes.now)) }
     {
         let result = write_uninterrupted(&mut self.writer, bytes);
         if result.is_err() {

@@ -42,7 +42,8 @@ impl Source for Bytes {
 
     #[tactic(auto, using(crate::proofs::Reading::gave_nothing))]
     fn read(&mut self, buf: &mut [u8]) -> Result<usize, Failed>
-        ensures read { IsRead self.old.plan.faults self.new.plan.faults (Some self.old.left) (Some self.new.left) buf.new result }
+        ensures read { IsRead self.old.plan.faults self.new.plan.faults (Some self.old.left)
+            (Some self.new.left) buf.new result }
         ensures fails { IsErr result ↔ Contains self.old.plan.failing self.old.plan.calls }
         ensures counted { self.new.plan ≡ counted self.old.plan (not (is_ok result)) }
         ensures count { IfOk result (λ n. n ≡ min (length buf.old) (length self.old.left)) }

@@ -73,7 +73,8 @@ impl Sink for Gather {
 
     #[tactic(auto, using(crate::proofs::Writing::took_nothing))]
     fn write(&mut self, bytes: &[u8]) -> Result<usize, Failed>
-        ensures written { IsWritten self.old.plan.faults self.new.plan.faults (known self.old.gathered) (known self.new.gathered) bytes.now result }
+        ensures written { IsWritten self.old.plan.faults self.new.plan.faults (known self.old.gathered)
+            (known self.new.gathered) bytes.now result }
         ensures fails { IsErr result ↔ Contains self.old.plan.failing self.old.plan.calls }
         ensures counted { self.new.plan ≡ counted self.old.plan (not (is_ok result)) }
         ensures count { IfOk result (λ n. n ≡ min self.old.most (length bytes.now)) }

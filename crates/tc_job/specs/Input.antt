@@ -1,4 +1,4 @@
--- The input of a task: words, which the text may write as signed or as unsigned numbers.
+-- To be believed. The input of a task: words, which the text may write as signed or as unsigned numbers.
 use Rattle.std.specs.Prelude.{ℕ, ℤ, pos, negsuc, ◌-◌, ◌^◌, nat_lt, nat_le, if◌then◌else◌, List, [], length, Option, Some, None, Result, Ok, Err}
 use Rattle.toml.specs.Data.{Data}
 use Rattle.local_store.specs.declared.store.TheConstants.{INPUT_WORDS}

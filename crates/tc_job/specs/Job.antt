@@ -1,4 +1,4 @@
--- The job that bytes stand for, or the first of their faults. The tree of the bytes is the meaning that
+-- To be believed. The job that bytes stand for, or the first of their faults. The tree of the bytes is the meaning that
 -- `toml` gives them. The form is our own; docs/JOBS_AND_REPORTS.md explains it to users.
 use Rattle.std.specs.Prelude.{ℕ, ◌==◌, if◌then◌else◌, List, [], codes, Option, None, Result, Ok}
 use Rattle.slot_arbiter.specs.declared.event.TheConstants.{MOST_TRACE}

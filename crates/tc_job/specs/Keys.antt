@@ -1,4 +1,4 @@
--- The keys of a job.
+-- To be believed. The keys of a job.
 use Rattle.std.specs.Prelude.{ℕ, pos, ℤ, Bool, false, ◌||◌, ◌==◌, if◌then◌else◌, List, codes, bytes_eq, Option, Some, Result, Ok, Err}
 use Rattle.toml.specs.Data.{Data, Members, no_members, member, as_integer}
 use Rattle.std.specs.Option.{option_and_then}
@@ -10,7 +10,8 @@ use Rattle.tc_toml.specs.Fault.{Fault}
 -- the keys of a job without a slot table
 abbrev pub is_job_key : List ℕ → Bool
 is_job_key key = bytes_eq key (codes "version") || bytes_eq key (codes "cores") || bytes_eq key (codes "slot")
-    || bytes_eq key (codes "cycles") || bytes_eq key (codes "trace") || bytes_eq key (codes "workers") || bytes_eq key (codes "task")
+    || bytes_eq key (codes "cycles") || bytes_eq key (codes "trace") || bytes_eq key (codes "workers")
+    || bytes_eq key (codes "task")
 
 -- the keys of a task
 abbrev pub is_task_key : List ℕ → Bool

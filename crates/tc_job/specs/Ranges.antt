@@ -1,4 +1,4 @@
--- What holds of every job that is read, so that each of its tasks has a place on the platform.
+-- To be believed. What holds of every job that is read, so that each of its tasks has a place on the platform.
 use Rattle.std.specs.Prelude.{◌≢◌, ℕ, ◌<◌, ◌≤◌, List, length, IsTrue, All, AllPairs}
 use Rattle.slot_arbiter.specs.declared.event.TheConstants.{MOST_TRACE}
 use Rattle.slot_arbiter.specs.declared.place.TheConstants.{LATEST_START, MOST_CYCLES}

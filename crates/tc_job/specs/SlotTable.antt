@@ -1,4 +1,4 @@
--- The slot table that a job states.
+-- To be believed. The slot table that a job states.
 use Rattle.std.specs.Prelude.{ℕ, ℤ, pos, negsuc, nat_lt, if◌then◌else◌, List, Option, Some, None, Result, Ok, Err}
 use Rattle.slot_arbiter.specs.Table.{is_table}
 use Rattle.toml.specs.Data.{Data}

@@ -1,4 +1,4 @@
--- The tasks of a job.
+-- To be believed. The tasks of a job.
 use Rattle.std.specs.Prelude.{ℕ, ◌-◌, nat_eq, if◌then◌else◌, List, [], ◌∷◌, ◌++◌, length, map, codes, bytes_eq, Option, Some, Result, Ok, Err}
 use Rattle.std.specs.List.{list_any}
 use Rattle.slot_arbiter.specs.declared.place.TheConstants.{LATEST_START}
@@ -16,7 +16,8 @@ use Rattle.tc_toml.specs.Values.{number_of, number_or, text_of}
 
 -- the language of that name
 abbrev pub lang_named : List ℕ → Result Lang JobFault
-lang_named name = if bytes_eq name (codes "asm") then Ok Asm else if bytes_eq name (codes "c") then Ok C else Err faults.Range
+lang_named name =
+    if bytes_eq name (codes "asm") then Ok Asm else if bytes_eq name (codes "c") then Ok C else Err faults.Range
 
 -- the language at a key that must be there
 abbrev pub lang_of : Option Data → Result Lang JobFault
@@ -47,7 +48,9 @@ task_in cores taken place ms = do
   start ← at_key place (codes "start") (number_or 0 0 LATEST_START (get_member (codes "start") ms))
   Ok (record { core = core; lang = lang; source = source; input = input; start = start })
 
--- the tasks of these tables, behind the earlier ones, which number them and have taken their cores
+-- the tasks of these tables, after the earlier ones, which number them and have taken their cores
 unfoldable pub tasks_from : ℕ → List Task → List Members → Result (List Task) Fault
 tasks_from cores earlier [] = Ok earlier
-tasks_from cores earlier (ms ∷ others) = task_in cores (cores_of earlier) (Some (length earlier)) ms >>= λ task. tasks_from cores (earlier ++ task ∷ []) others
+tasks_from cores earlier (ms ∷ others) =
+    task_in cores (cores_of earlier) (Some (length earlier)) ms >>= λ task. tasks_from cores (earlier
+    ++ task ∷ []) others

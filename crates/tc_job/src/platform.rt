@@ -53,7 +53,8 @@ fn table_in(top: &Section<'_>, version: u32, cores: u32, slot: u32) -> Result<Li
     requires most { cores ≤ 16 }
     requires slot_least { 6 ≤ slot }
     requires slot_most { slot ≤ 64 }
-    ensures table { Reads (λ entries. entries) result (specs.table_in version cores (get_member (codes "table") (table_view top.now.table.now))) }
+    ensures table { Reads (λ entries. entries) result
+        (specs.table_in version cores (get_member (codes "table") (table_view top.now.table.now))) }
     ensures fits { IfOk result (λ entries. IsTrue (is_table cores entries)) }
 {
     if version == 2 {

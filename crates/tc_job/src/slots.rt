@@ -14,7 +14,8 @@ const RANGE: Refusal = Refusal::Fault(JobFault::Range);
 
 /// The slot table of a value that must be there.
 pub fn slot_table(alloc: Global, value: Option<&Value>, cores: u32) -> Result<List<u32>, Refusal>
-    ensures table { Reads (λ entries. entries) result (specs.slot_table cores (option_map (λ v. view v.now) value.entry)) }
+    ensures table { Reads (λ entries. entries) result
+        (specs.slot_table cores (option_map (λ v. view v.now) value.entry)) }
     ensures fits { IfOk result (λ entries. IsTrue (is_table cores entries)) }
 {
     let Some(value) = value else {

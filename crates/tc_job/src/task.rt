@@ -63,7 +63,8 @@ pub fn tasks_of(alloc: Global, tables: &[&Table], cores: u32) -> Result<List<Tas
 #[tactic(auto, unfolding(crate::specs::Task::task_in))]
 fn task_in(section: &Section<'_>, cores: u32, taken: &mut IndexSet<u32>) -> Result<Task, JobError>
     requires { 1 ≤ cores }
-    ensures task { Gives (λ task. task) result (specs.task_in cores taken.old.keys section.now.task (table_view section.now.table.now)) }
+    ensures task { Gives (λ task. task) result
+        (specs.task_in cores taken.old.keys section.now.task (table_view section.now.table.now)) }
     ensures taken { IfOk result (λ task. taken.new.keys ≡ taken.old.keys ++ task.core ∷ []) }
     ensures apart { OnOk result (IsDistinct nat_eq taken.new.keys) }
     ensures among { IfOk result (IsTaskAmong cores) }
@@ -86,7 +87,8 @@ fn task_in(section: &Section<'_>, cores: u32, taken: &mut IndexSet<u32>) -> Resu
 #[tactic(auto, unfolding(crate::specs::Task::core_in))]
 fn new_core(section: &Section<'_>, cores: u32, taken: &mut IndexSet<u32>) -> Result<u32, JobError>
     requires { 1 ≤ cores }
-    ensures core { Gives (λ core. core) result (specs.core_in cores taken.old.keys section.now.task (table_view section.now.table.now)) }
+    ensures core { Gives (λ core. core) result
+        (specs.core_in cores taken.old.keys section.now.task (table_view section.now.table.now)) }
     ensures taken { IfOk result (λ core. taken.new.keys ≡ taken.old.keys ++ core ∷ []) }
     ensures apart { OnOk result (IsDistinct nat_eq taken.new.keys) }
     ensures among { IfOk result (λ core. core < cores) }

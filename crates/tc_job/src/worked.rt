@@ -21,7 +21,11 @@ pub fn jobs_worked()
     ensures negative_core { table_of 1 (negsuc 0 ∷ []) ≡ Err JobFault.Range }
 
     ensures empty { job_in no_members ≡ Err (record { kind = JobFault.Missing; task = None; key = codes "version" }) }
-    ensures unknown_first { job_in (member (codes "zeta") (integer (pos 1)) no_members) ≡ Err (record { kind = JobFault.Key; task = None; key = codes "zeta" }) }
-    ensures table_of_no_version { job_in (member (codes "table") (integer (pos 0)) (member (codes "version") (integer (pos 3)) no_members)) ≡ Err (record { kind = JobFault.Key; task = None; key = codes "table" }) }
-    ensures version_of_no_job { job_in (member (codes "version") (integer (pos 3)) no_members) ≡ Err (record { kind = JobFault.Range; task = None; key = codes "version" }) }
+    ensures unknown_first { job_in (member (codes "zeta") (integer (pos 1)) no_members)
+        ≡ Err (record { kind = JobFault.Key; task = None; key = codes "zeta" }) }
+    ensures table_of_no_version { job_in
+        (member (codes "table") (integer (pos 0)) (member (codes "version") (integer (pos 3)) no_members))
+        ≡ Err (record { kind = JobFault.Key; task = None; key = codes "table" }) }
+    ensures version_of_no_job { job_in (member (codes "version") (integer (pos 3)) no_members)
+        ≡ Err (record { kind = JobFault.Range; task = None; key = codes "version" }) }
 {}

@@ -6,10 +6,10 @@ use Rattle.patmos_instr.specs.Bundles.{Slots, FitsBundle}
 use Rattle.sp_shape.specs.Parts.{no_part}
 use Rattle.sp_shape.specs.Shown.{parts_of, functions_of}
 use Rattle.sp_shape.specs.declared.parts.Part.{Part}
+use Rattle.sp_shape.proofs.Functions.{function_at}
 use Rattle.tc_link.specs.Flat.{flat_parts}
-use Rattle.tc_link.proofs.Functions.{function_at}
 
--- what fits of one item and of those behind it fits of those from it on
+-- what fits of one item and of those after it fits of those from it on
 pub fit_from : {X : Type 0} (made : List X → List Slots) (xs : List X) (i : ℕ) (x : X) → i < length xs → x ≡ get_or xs i x
     → All FitsBundle (made (x ∷ drop (i + 1) xs)) → All FitsBundle (made (drop i xs))
 fit_from made xs i x within is fits =

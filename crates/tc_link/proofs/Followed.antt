@@ -5,7 +5,7 @@ use Rattle.std.specs.Prelude.{◌||◌}
 use Rattle.std.specs.List.{All}
 use Rattle.std.specs.Cmp.{nat_eq_equiv}
 use Rattle.std.proofs.lemmas.Map.Views.{list_any-from_Contains}
-use Rattle.std.proofs.lemmas.Bool.{and_parts, cases_lt, cases_eq, ltb-true, eqb-true, eqb-false}
+use Rattle.std.proofs.lemmas.Bool.{and_parts, cases_lt, ltb-true, eqb-true, eqb-false}
 use Rattle.patmos_code.specs.Images.{Parts}
 use Rattle.patmos_instr.specs.Bundles.{Slots}
 use Rattle.patmos_instr.specs.Instructions.{is_long}
@@ -20,6 +20,7 @@ use Rattle.sp_shape.specs.Run.{Run, Back, Sources, run_late}
 use Rattle.sp_shape.specs.Trail.{Step, all_done, part_trail, parts_trail, trails, trail}
 use Rattle.sp_shape.specs.Turning.{PartsTurn, back_of, FunctionsTurn, ShapeTurns}
 use Rattle.sp_shape.specs.Words.{bundle_words, part_words, parts_words}
+use Rattle.sp_shape.proofs.Functions.{each_formed}
 use Rattle.tc_link.specs.Backs.{part_backs, parts_backs, backs, backs_of}
 use Rattle.tc_link.specs.Fits.{FitsImage}
 use Rattle.tc_link.specs.Placed.{function, start_of, flat, linked}
@@ -97,15 +98,6 @@ record Stand (image : Parts) (start : ℕ → ℕ) (fs : List PlainParts) : Type
   pub size : (k : ℕ) → k < length fs → size_at image (start k) ≡ parts_words (slice_index_or fs k no_part)
   pub bundles : (k : ℕ) → k < length fs → FetchAt image (start k) 0 (flat_parts start (slice_index_or fs k no_part))
 
-formed_at : (fs : List PlainParts) (n k : ℕ) → k < n → functions_formed fs n ≡ true → function_formed k (slice_index_or fs k no_part) ≡ true
-formed_at fs zero k less formed = absurd (omega (arith, less))
-formed_at fs (suc n) k less formed =
-    let a = and_parts (functions_formed fs n) (function_formed n (slice_index_or fs n no_part)) formed in
-    elim (cases_eq k n) [
-      | inl is ↦ subst (λ j. function_formed j (slice_index_or fs j no_part) ≡ true) (sym is) a.1
-      | inr ne ↦ formed_at fs n k (omega (arith, ne, less)) a.0
-    ]
-
 functions_go : (image : Parts) (from : Sources) (start : ℕ → ℕ) (fs : List PlainParts) → Stand image start fs → (n : ℕ) → n ≤ length fs → functions_formed fs n ≡ true → (k : ℕ) → k < n → (rest : List Back) (m : Run) (w : Walk)
     → Comes image (start k) 0 (backs start fs n k ++ rest) m w → FunctionsTurn (run_late from) fs n k m → Left image from (trails fs n k) (dues start fs n k (back_of m)) (back_of m) rest w (run_late from (trails fs n k) m)
 functions_go image from start fs stand zero within formed k less rest m w c turns = absurd (omega (arith, less))
@@ -114,7 +106,7 @@ functions_go image from start fs stand (suc n) within formed k less rest m w c t
     by a.1 (record {
       placed = λ j earlier.
           let there : j < length fs = omega (arith, earlier, within) in
-          place_in image from (start j) 0 (stand.starts j there) (omega (arith, stand.size j there, function_some j (slice_index_or fs j no_part) (formed_at fs n j earlier a.0)));
+          place_in image from (start j) 0 (stand.starts j there) (omega (arith, stand.size j there, function_some j (slice_index_or fs j no_part) (each_formed fs j n earlier a.0)));
       follows = functions_go image from start fs stand n (omega (arith, within)) a.0;
     }) (k == n) refl c turns
   where

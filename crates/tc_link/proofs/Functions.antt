@@ -1,15 +1,10 @@
 -- The functions of a shape, by their numbers.
-use Rattle.std.proofs.Common.{◌≡◌, ℕ, zero, suc, ◌<◌, List, [], ◌∷◌, length, map, get_or, slice_index, slice_index_or, refl, ap, sym, ◌∙◌, arith}
+use Rattle.std.proofs.Common.{◌≡◌, ℕ, zero, suc, ◌<◌, List, [], ◌∷◌, length, map, get_or, slice_index, slice_index_or, refl, ap, ◌∙◌}
 use Rattle.sp_shape.specs.Parts.{PlainParts, no_part}
 use Rattle.sp_shape.specs.Shown.{parts_of, functions_of}
 use Rattle.sp_shape.specs.Words.{parts_words}
 use Rattle.sp_shape.specs.declared.parts.Part.{Part}
-
-pub function_at : (functions : List (List Part)) (n : ℕ) (f : List Part) → n < length functions → f ≡ get_or functions n f
-    → slice_index_or (functions_of functions) n no_part ≡ parts_of f
-function_at [] n f within is = absurd (omega arith)
-function_at (x ∷ functions) zero f within is = ap parts_of (sym is)
-function_at (x ∷ functions) (suc n) f within is = function_at functions n f (omega arith) is
+use Rattle.sp_shape.proofs.Functions.{function_at}
 
 size_at : (fs : List PlainParts) (k : ℕ) → slice_index (map parts_words fs) k ≡ parts_words (slice_index_or fs k no_part)
 size_at [] k = refl

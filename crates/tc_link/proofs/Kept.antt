@@ -33,7 +33,7 @@ skip_lacking [] rest n is = ap (λ k. images.lacking_from k rest) (sym is)
 skip_lacking (w ∷ body) rest zero is = absurd (omega (arith, is))
 skip_lacking (w ∷ body) rest (suc n) is = skip_lacking body rest n (omega (arith, is))
 
--- ---- functions one behind another
+-- ---- functions one after another
 
 -- the words from which they start, where the first one's size stands at a word
 abbrev places_from : (ℕ → ℕ) → ℕ → List ℕ → List ℕ

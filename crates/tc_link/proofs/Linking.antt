@@ -1,5 +1,5 @@
 -- The bundles of functions are the same wherever their calls find the same places.
-use Rattle.std.proofs.Common.{◌≡◌, ℕ, zero, suc, ◌<◌, ◌==◌, true, false, if◌then◌else◌, List, [], ◌∷◌, ◌++◌, length, map, slice_index, slice_index_or, refl, sym, ap, ◌∙◌, subst, arith, inl, inr}
+use Rattle.std.proofs.Common.{◌≡◌, ℕ, zero, suc, ◌<◌, ◌==◌, true, false, if◌then◌else◌, List, [], ◌∷◌, ◌++◌, length, map, slice_index, refl, sym, ap, ◌∙◌, arith, inl, inr}
 use Rattle.std.specs.Prelude.{nat_lt, nat_le, ◌&&◌}
 use Rattle.std.specs.List.{flat_map}
 use Rattle.std.proofs.lemmas.Bool.{and_parts, ltb-true, cases_lt}
@@ -8,20 +8,12 @@ use Rattle.sp_shape.specs.Formed.{is_turn, is_way, is_call, part_formed, parts_f
 use Rattle.sp_shape.specs.Parts.{PlainPart, straight, repeats, calls_to, leaves, PlainParts, no_part, part, PlainShape}
 use Rattle.sp_shape.specs.Words.{parts_words}
 use Rattle.sp_tree.specs.declared.limits.TheConstants.{MOST_FUNCTIONS}
+use Rattle.sp_shape.proofs.Functions.{each_formed}
 use Rattle.tc_link.specs.Flat.{called, turned, flat_part, flat_parts}
 use Rattle.tc_link.specs.Placed.{others, place, function, start_of, order, flat, codes, function_words, linked}
 use Rattle.tc_link.proofs.Functions.{sizes_are}
 
 -- ---- well-formed shapes
-
-each_formed : (fs : List PlainParts) (k n : ℕ) → k < n → functions_formed fs n ≡ true → function_formed k (slice_index_or fs k no_part) ≡ true
-each_formed fs k zero below h = absurd (omega arith)
-each_formed fs k (suc n) below h =
-    let both = and_parts (functions_formed fs n) (function_formed n (slice_index_or fs n no_part)) h in
-    elim (cases_lt k n) [
-      | inl less ↦ each_formed fs k n less both.0
-      | inr more ↦ let same : n ≡ k = omega arith in subst (λ j. function_formed j (slice_index_or fs j no_part) ≡ true) same both.1
-    ]
 
 formed_and : (s : PlainShape) → is_formed s ≡ true → (functions_formed s.functions (length s.functions) ≡ true) × (nat_lt s.entry (length s.functions) ≡ true)
 formed_and s h =

@@ -92,7 +92,7 @@ place_of (returns base offset) = back base offset
 
 -- ---- what comes of tails
 
--- of a loop's: another turn, or what stands behind the loop
+-- of a loop's: another turn, or what stands after the loop
 pub record Turns (image : Parts) (from : Sources) (tail : List Slots) (base top next : ℕ) (rest : List Back) (w : Walk) (m : Run) : Type 0 where
   pub again : (run_late from (all_done tail) m).ways ≡ m.ways ++ branches ∷ [] → Goes image from (all_done tail) (turn_dues (goal.Within top) tail) base top rest w (run_late from (all_done tail) m)
   pub no_more : (run_late from (all_done tail) m).ways ≡ m.ways → Goes image from (all_done tail) (undue tail) base next rest w (run_late from (all_done tail) m)

@@ -77,7 +77,7 @@ module _ (image : Parts) (from : Sources) where
 
   -- ---- without a flow
 
-  -- a bundle, and what is done behind it
+  -- a bundle, and what is done after it
   pub calm_then : (b : Slots) (steps : List Step) (ds : List (Option Goal)) (base at other offset : ℕ) (rest later : List Back) (m n : Run) (w : Walk) → is_flow b.first.op ≡ false
       → fetched_at image base at ≡ Found b (bundle_words b) → Comes image base at rest m w
       → (Comes image base (at + bundle_words b) rest (late from b m) (free base (at + bundle_words b) (late from b m)) → Goes image from steps ds other offset later (free base (at + bundle_words b) (late from b m)) n)

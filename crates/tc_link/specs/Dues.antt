@@ -1,5 +1,5 @@
--- What takes effect behind the bundles of a trail, and where it goes: no register says so.
-use Rattle.std.specs.Prelude.{ℕ, zero, suc, ◌+◌, ◌==◌, List, [], ◌∷◌, ◌++◌, Option, None, Some, length, slice_index_or, if◌then◌else◌}
+-- To be believed. What takes effect after the bundles of a trail, and where it goes: no register says so.
+use Rattle.std.specs.Prelude.{ℕ, zero, suc, ◌+◌, ◌==◌, List, [], ◌∷◌, ◌++◌, Option, None, length, slice_index_or, if◌then◌else◌}
 use Rattle.patmos_instr.specs.Bundles.{Slots}
 use Rattle.patmos_model.specs.declared.flow.Goal.{Goal}
 use Rattle.patmos_model.specs.declared.flow.Goal.TheVariants as goal
@@ -16,12 +16,12 @@ abbrev pub undue : List Slots → List (Option Goal)
 undue [] = []
 undue (b ∷ bs) = None ∷ undue bs
 
--- a flow and its delay slots: it is due behind the last of them
+-- a flow and its delay slots: it is due after the last of them
 abbrev pub way_dues : Goal → List Slots → List (Option Goal)
 way_dues goal [] = []
 way_dues goal (b ∷ bs) = due_in (length bs) goal ∷ way_dues goal bs
 
--- the tail of a turn behind which comes another
+-- the tail of a turn after which comes another
 abbrev pub turn_dues : Goal → List Slots → List (Option Goal)
 turn_dues goal [] = []
 turn_dues goal (b ∷ bs) = if is_branch b.first.op then way_dues goal (b ∷ bs) else None ∷ turn_dues goal bs
@@ -32,23 +32,28 @@ turns_dues body again last zero = []
 turns_dues body again last (suc zero) = body ++ last
 turns_dues body again last (suc (suc n)) = (body ++ again) ++ turns_dues body again last (suc n)
 
--- parts that stand at an offset of the function that starts at a place and returns to another, over those of functions by
--- their number and the place to which they return
+-- parts that stand at an offset of the function that starts at a place and returns to another, over those of
+-- functions by their number and the place to which they return
 abbrev mutual
   pub part_dues : (ℕ → ℕ) → (ℕ → Back → List (Option Goal)) → Back → ℕ → ℕ → PlainPart → List (Option Goal)
   part_dues start f home base at (straight bs) = undue bs
-  part_dues start f home base at (repeats count body tail) = turns_dues (parts_dues start f home base at body) (turn_dues (goal.Within at) tail) (undue tail) count
-  part_dues start f home base at (calls_to k tail) = way_dues (goal.Call (start k)) tail ++ f k (back base (at + bundles_words tail))
+  part_dues start f home base at (repeats count body tail) =
+      turns_dues (parts_dues start f home base at body) (turn_dues (goal.Within at) tail) (undue tail) count
+  part_dues start f home base at (calls_to k tail) =
+      way_dues (goal.Call (start k)) tail ++ f k (back base (at + bundles_words tail))
   part_dues start f home base at (leaves tail) = way_dues (goal.Return home.base home.offset) tail
 
   pub parts_dues : (ℕ → ℕ) → (ℕ → Back → List (Option Goal)) → Back → ℕ → ℕ → PlainParts → List (Option Goal)
   parts_dues start f home base at no_part = []
-  parts_dues start f home base at (part p rest) = part_dues start f home base at p ++ parts_dues start f home base (at + part_words p) rest
+  parts_dues start f home base at (part p rest) =
+      part_dues start f home base at p ++ parts_dues start f home base (at + part_words p) rest
 
 -- functions in order, each over the earlier ones
 abbrev pub dues : (ℕ → ℕ) → List PlainParts → ℕ → ℕ → Back → List (Option Goal)
 dues start fs zero k home = []
-dues start fs (suc n) k home = if k == n then parts_dues start (dues start fs n) home (start n) 0 (slice_index_or fs n no_part) else dues start fs n k home
+dues start fs (suc n) k home =
+    if k == n then parts_dues start (dues start fs n) home (start n) 0 (slice_index_or fs n no_part)
+    else dues start fs n k home
 
 abbrev pub dues_of : PlainShape → Back → List (Option Goal)
 dues_of s home = dues (start_of s) s.functions (length s.functions) s.entry home

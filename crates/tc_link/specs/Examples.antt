@@ -1,4 +1,4 @@
--- A bundle, shapes and walks for worked examples.
+-- For worked rows. A bundle, shapes and walks for worked examples.
 use Rattle.std.specs.Prelude.{ℕ, List, [], ◌∷◌, Some}
 use Rattle.patmos_instr.specs.Bundles.{Slots}
 use Rattle.patmos_instr.specs.declared.functions.AluFunc.TheVariants as alu
@@ -25,19 +25,23 @@ first_run = small.shape_of (small.empty ∷ small.caller 0 ∷ []) 0
 
 -- a walk at offset 5 of the function at 1, with a flow that has so many delay slots left
 abbrev pub asking : Goal → ℕ → Walk
-asking to slots = record { run = small.beginning; base = 1; offset = 5; flow = Some (record { goal = to; slots = slots }) }
+asking to slots =
+    record { run = small.beginning; base = 1; offset = 5; flow = Some (record { goal = to; slots = slots }) }
 
 -- a function that keeps the place to which it returns in r2 and r3, calls the one of number 0 in a single turn, and
 -- returns
 abbrev pub keeps_place : List Slots
-keeps_place = small.under small.always (FromSpecial 2 special.Srb) ∷ small.under small.always (FromSpecial 3 special.Sro) ∷ []
+keeps_place =
+    small.under small.always (FromSpecial 2 special.Srb) ∷ small.under small.always (FromSpecial 3 special.Sro) ∷ []
 
 abbrev pub sets_place : List Slots
-sets_place = small.under small.always (ToSpecial writable.Srb 2) ∷ small.under small.always (ToSpecial writable.Sro 3) ∷ []
+sets_place =
+    small.under small.always (ToSpecial writable.Srb 2) ∷ small.under small.always (ToSpecial writable.Sro 3) ∷ []
 
 abbrev pub one_call : PlainShape
 one_call = small.shape_of
-    (small.empty ∷ part (straight keeps_place) (part (repeats 1 (one (calls_to 0 small.call)) small.again) (part (straight sets_place) small.empty)) ∷ []) 1
+    (small.empty ∷ part (straight keeps_place)
+    (part (repeats 1 (one (calls_to 0 small.call)) small.again) (part (straight sets_place) small.empty)) ∷ []) 1
 
 -- a task that begins, and is told to where the calls of a shape return
 abbrev pub task_of : PlainShape → Run

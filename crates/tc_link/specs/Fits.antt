@@ -1,4 +1,4 @@
--- What a shape may have so that it can be an image (our own profile TP1).
+-- To be believed. What a shape may have so that it can be an image (our own profile TP1).
 use Rattle.std.specs.Prelude.{ℕ, ◌+◌, ◌-◌, ◌<◌, ◌≤◌, length}
 use Rattle.local_store.specs.declared.store.TheConstants.{DATA_WORDS, FIRST_DATA_WORD}
 use Rattle.patmos_code.specs.declared.images.TheConstants.{MOST_IN_FUNCTION, MOST_IN_IMAGE}

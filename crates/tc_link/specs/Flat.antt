@@ -1,6 +1,6 @@
--- The bundles of a function in their order, with the targets of their flows (Patmos Reference Handbook, control-flow
--- instructions): a call names the word at which its function starts, and a branch counts words from its own bundle's
--- first.
+-- To be believed. The bundles of a function in their order, with the targets of their flows (Patmos
+-- Reference Handbook, control-flow instructions): a call names the word at which its function starts, and a
+-- branch counts words from its own bundle's first.
 use Rattle.std.specs.Prelude.{ℕ, pos, ◌+◌, ◌-ℤ◌, List, [], ◌∷◌, ◌++◌, if◌then◌else◌}
 use Rattle.patmos_instr.specs.Bundles.{Slots}
 use Rattle.patmos_instr.specs.declared.instructions.Op.{Op}
@@ -30,7 +30,7 @@ abbrev pub called : ℕ → List Slots → List Slots
 called start [] = []
 called start (b ∷ bs) = call_to start b ∷ bs
 
--- that of a loop, which begins so many words behind the first word of the loop's body
+-- that of a loop, which begins so many words after the first word of the loop's body
 abbrev pub turned : ℕ → List Slots → List Slots
 turned behind [] = []
 turned behind (b ∷ bs) = branch_back behind b ∷ turned (behind + bundle_words b) bs

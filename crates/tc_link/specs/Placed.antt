@@ -1,5 +1,5 @@
--- Where the functions of a shape stand: the one that is run first, and the others behind it in the order of their
--- numbers. Each has its size in words before its first word.
+-- To be believed. Where the functions of a shape stand: the one that is run first, and the others after it in the order
+-- of their numbers. Each has its size in words before its first word.
 use Rattle.std.specs.Prelude.{ℕ, zero, suc, ◌+◌, ◌==◌, List, [], ◌∷◌, ◌++◌, length, map, slice_index_or, if◌then◌else◌}
 use Rattle.std.specs.List.{flat_map}
 use Rattle.patmos_instr.specs.Bundles.{Slots}
@@ -26,8 +26,8 @@ abbrev pub others_below : (ℕ → ℕ) → ℕ → ℕ → ℕ
 others_below size entry zero = 0
 others_below size entry (suc n) = others_below size entry n + (if n == entry then 0 else 1 + size n)
 
--- the first word of a function, behind its size: the entry's size is word 0, and the others come behind the entry's last
--- word
+-- the first word of a function, after its size: the entry's size is word 0, and the
+-- others come after the entry's last word
 abbrev pub place : (ℕ → ℕ) → ℕ → ℕ → ℕ
 place size entry k = if k == entry then 1 else 1 + size entry + others_below size entry k + 1
 
@@ -66,4 +66,6 @@ function_words start ps = parts_words ps ∷ codes (flat_parts start ps)
 
 -- the image: its functions' words and starts, and the first memory as the shape tells it
 abbrev pub linked : PlainShape → Parts
-linked s = parts (flat_map (λ k. function_words (start_of s) (function s k)) (order s)) (map (start_of s) (order s)) s.initial s.input_at s.input_room
+linked s =
+    parts (flat_map (λ k. function_words (start_of s) (function s k)) (order s))
+    (map (start_of s) (order s)) s.initial s.input_at s.input_room

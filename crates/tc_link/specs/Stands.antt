@@ -1,4 +1,4 @@
--- What stands in a list of words from a place on.
+-- To be believed. What stands in a list of words from a place on.
 use Rattle.std.specs.Prelude.{◌≡◌, ℕ, ◌+◌, List, [], ◌∷◌, length, take, drop}
 use Rattle.patmos_instr.specs.Bundles.{Slots}
 use Rattle.patmos_code.specs.Codes.{code}
@@ -10,7 +10,7 @@ use Rattle.tc_link.specs.Flat.{called, turned}
 abbrev pub StandAt : List ℕ → ℕ → List ℕ → Type 0
 StandAt words at piece = take (length piece) (drop at words) ≡ piece
 
--- these bundles, one behind another
+-- these bundles, one after another
 abbrev pub HasAt : List ℕ → ℕ → List Slots → Type 0
 HasAt words at [] = Unit {0}
 HasAt words at (b ∷ bs) = StandAt words at (code b) × HasAt words (at + bundle_words b) bs

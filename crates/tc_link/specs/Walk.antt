@@ -1,6 +1,6 @@
--- A core over the words of an image, without time: it fetches the bundle where it is and does it, and a flow that was
--- asked for takes effect behind its last delay slot (Patmos Reference Handbook, control-flow instructions). Registers and
--- words are those of a run that is read late.
+-- To be believed. A core over the words of an image, without time: it fetches the bundle where it is and does it, and a
+-- flow that was asked for takes effect after its last delay slot (Patmos Reference Handbook, control-flow
+-- instructions). Registers and words are those of a run that is read late.
 use Rattle.std.specs.Prelude.{◌≡◌, ℕ, pos, zero, suc, ◌+◌, nat_lt, Bool, true, List, [], ◌∷◌, Option, None, Some}
 use Rattle.patmos_code.specs.Images.{Parts}
 use Rattle.patmos_instr.specs.Bundles.{Slots}
@@ -113,8 +113,9 @@ abbrev pub IsCall : Option Goal → Type 0
 IsCall (Some (goal.Call target)) = Unit {0}
 IsCall _ = ⊥
 
--- a bundle is fetched and done, the flow that was due before it being none of a call; behind it this is due
-pub record DoesOne (image : Parts) (from : Sources) (b : Slots) (d : Option Goal) (Rest : Walk → Type 0) (w : Walk) : Type 0 where
+-- a bundle is fetched and done, the flow that was due before it being none of a call; after it this is due
+pub record DoesOne (image : Parts) (from : Sources) (b : Slots) (d : Option Goal) (Rest : Walk
+    → Type 0) (w : Walk) : Type 0 where
   pub placed : IsPlaced image w
   pub run_is : (flowed w).run ≡ w.run
   pub fetches : Fetches image b (flowed w)
@@ -128,9 +129,9 @@ pub record Enters (image : Parts) (Rest : Walk → Type 0) (w : Walk) : Type 0 w
   pub run_is : (flowed w).run ≡ begun w.run
   pub rest : Rest (flowed w)
 
--- from the first walk on, the bundles of the image are those of the steps, one after another, each flow that takes effect
--- goes to a place, and a call does where a function begins; these goals are due behind the bundles; the last walk is where
--- it then is
+-- from the first walk on, the bundles of the image are those of the steps, one after another, each flow
+-- that takes effect goes to a place, and a call does where a function begins; these goals are due
+-- after the bundles; the last walk is where it then is
 abbrev pub Does : Parts → Sources → List Step → List (Option Goal) → Walk → Walk → Type 0
 Does image from [] ds w e = (ds ≡ []) × (w ≡ e)
 Does image from (does b ∷ steps) [] w e = ⊥
@@ -141,8 +142,8 @@ Does image from (begins ∷ steps) ds w e = Enters image (λ x. Does image from 
 abbrev pub walk_from : ℕ → Run → Walk
 walk_from base m = record { run = m; base = base; offset = 0; flow = None }
 
--- steps are done one after another from there on, and leave what they leave when they are read late; and a return is due
--- to the place that was set when they began
+-- steps are done one after another from there on, and leave what they leave when they are read late; and a
+-- return is due to the place that was set when they began
 pub record Follows (image : Parts) (from : Sources) (steps : List Step) (ds : List (Option Goal)) (w : Walk) : Type 0 where
   pub last : Walk
   pub does_so : Does image from steps ds w last

@@ -38,12 +38,14 @@ pub fn images_are_kept()
 {}
 
 /// Each function starts at one of the starts, has its size in the word before, and from there on its bundles, one after
-/// another: behind any first ones come the words of the next.
+/// another: after any first ones come the words of the next.
 #[tactic(auto, using(crate::proofs::Standing::size_stands, crate::proofs::Standing::bundles_stand, crate::proofs::Started::started))]
 pub fn bundles_stand_in_order()
     ensures start { (s : PlainShape) (k : ℕ) → k < length s.functions → Contains (linked s).starts (start_of s k) }
-    ensures size { (s : PlainShape) (k : ℕ) → k < length s.functions → slice_index (linked s).words (start_of s k - 1) ≡ size_of s k }
-    ensures bundles { (s : PlainShape) (k : ℕ) → k < length s.functions → (us vs : List Slots) (b : Slots) → us ++ b ∷ vs ≡ flat s k
+    ensures size { (s : PlainShape) (k : ℕ) → k < length s.functions
+        → slice_index (linked s).words (start_of s k - 1) ≡ size_of s k }
+    ensures bundles { (s : PlainShape) (k : ℕ) → k < length s.functions → (us vs : List Slots) (b : Slots)
+        → us ++ b ∷ vs ≡ flat s k
         → StandAt (linked s).words (start_of s k + bundles_words us) (code b) }
 {}
 
@@ -51,8 +53,10 @@ pub fn bundles_stand_in_order()
 /// parts.
 #[tactic(auto, using(crate::proofs::Standing::function_parts_stand, crate::proofs::Standing::parts_at))]
 pub fn parts_stand()
-    ensures functions { (s : PlainShape) (k : ℕ) → k < length s.functions → PartsAt (linked s).words (start_of s) (start_of s k) (function s k) }
-    ensures parts { (words : List ℕ) (start : ℕ → ℕ) (at : ℕ) (ps : PlainParts) → HasAt words at (flat_parts start ps) → PartsAt words start at ps }
+    ensures functions { (s : PlainShape) (k : ℕ) → k < length s.functions
+        → PartsAt (linked s).words (start_of s) (start_of s k) (function s k) }
+    ensures parts { (words : List ℕ) (start : ℕ → ℕ) (at : ℕ) (ps : PlainParts) → HasAt words at (flat_parts start ps)
+        → PartsAt words start at ps }
 {}
 
 /// A bundle whose words stand in others is what is decoded there.
@@ -76,9 +80,9 @@ pub fn targets_change_nothing()
 {}
 
 /// A core that is put where the entry starts, and that fetches the words of the image and obeys its flows, does the
-/// bundles of the shape's trail one after another: where its loops make all their turns and its functions come back, and
-/// where the places to which its calls return are told as they are. Each flow goes to a place, and none stands in a delay
-/// slot of another. Behind the last bundle the entry's return is due.
+/// bundles of the shape's trail one after another: where its loops make all their turns and its functions come back,
+/// and where the places to which its calls return are told as they are. Each flow goes to a place, and none stands in a
+/// delay slot of another. After the last bundle the entry's return is due.
 pub fn code_follows_the_trail()
     ensures { (s : PlainShape) (from : Sources) (m : Run) → is_formed s ≡ true → FitsImage s
         → ((k : ℕ) → k < length s.functions → All FitsBundle (flat s k))
@@ -86,15 +90,18 @@ pub fn code_follows_the_trail()
         → Follows (linked s) from (trail s) (dues_of s (back_of m)) (walk_from (entry (linked s)) m) }
 {}
 
-/// Flows take effect in a walk as they do in a core: the same goals are places, the core goes on where the walk does, and
-/// behind a bundle both are at the same offset with the same flow pending. A flow that stands in no delay slot passes the
-/// core's check.
+/// Flows take effect in a walk as they do in a core: the same goals are places, the core goes on where the
+/// walk does, and after a bundle both are at the same offset with the same flow pending. A flow that
+/// stands in no delay slot passes the core's check.
 #[tactic(auto, using(crate::proofs::Cores::placed_alike, crate::proofs::Cores::gone_alike, crate::proofs::Cores::offset_alike, crate::proofs::Cores::flow_alike, crate::proofs::Cores::no_fault))]
 pub fn walks_go_as_cores()
     ensures placed { (to : Goal) (x : Plain) → is_placed to x ≡ is_place x.site.image x.base to }
     ensures gone { (to : Goal) (c : Core) (w : Walk) → IsAs w c.plain → IsAs (gone to w) (model.gone to c).plain }
-    ensures offset { (from : Sources) (b : Slots) (words : ℕ) (w : Walk) (x : Plain) → IsAs w x → (bundle_done from b words w).offset ≡ (advanced words b x).offset }
-    ensures flow { (from : Sources) (b : Slots) (words : ℕ) (w : Walk) (x : Plain) → IsAs w x → (bundle_done from b words w).flow ≡ (advanced words b x).flow }
-    ensures check { (b : Slots) (flow : FlowKind) (w : Walk) (x : Plain) → IsAs w x → IsAlone w.flow (asked_flow w.offset (effect_of b w.run.regs))
+    ensures offset { (from : Sources) (b : Slots) (words : ℕ) (w : Walk) (x : Plain) → IsAs w x
+        → (bundle_done from b words w).offset ≡ (advanced words b x).offset }
+    ensures flow { (from : Sources) (b : Slots) (words : ℕ) (w : Walk) (x : Plain) → IsAs w x
+        → (bundle_done from b words w).flow ≡ (advanced words b x).flow }
+    ensures check { (b : Slots) (flow : FlowKind) (w : Walk) (x : Plain) → IsAs w x
+        → IsAlone w.flow (asked_flow w.offset (effect_of b w.run.regs))
         → effect_of b x.regs ≡ effect.Flow flow → fault_of x (effect.Flow flow) ≡ None }
 {}

@@ -1,9 +1,9 @@
 //! Compiled code as the words of an image.
 //!
 //! A [`Shape`](sp_shape::Shape) tells the bundles of each function, but not where they stand, so its flows have no
-//! targets yet. This crate puts the functions one after another, the one that is run first and the others behind it in
+//! targets yet. This crate puts the functions one after another, the one that is run first and the others after it in
 //! their order, each with its size in words before it. A call gets the word at which its function starts, and the
-//! branch of a loop gets how many words it lies behind the first word of the loop's body. All else stands as it is.
+//! branch of a loop gets how many words it lies after the first word of the loop's body. All else stands as it is.
 //!
 //! [`link`] gives exactly the image that `specs/Placed.antt` defines, over the bundles of `specs/Flat.antt`, of a shape
 //! that is well formed and as small as `specs/Fits.antt` wants it; and it tells that each of these bundles has its
@@ -14,7 +14,8 @@
 //!   there on its bundles, one after another.
 //! - [`parts_stand`]: so each function has its parts there, with the targets of their flows.
 //! - [`standing_bundles_are_decoded`]: a bundle that stands in words is what is decoded there.
-//! - [`linked_constants_are_words`]: where bundles have their fields in range, the long constants of the shape are words.
+//! - [`linked_constants_are_words`]: where bundles have their fields in range, the
+//!   long constants of the shape are words.
 //! - [`targets_change_nothing`]: what a bundle does to registers and words is the same whatever its target.
 //! - [`code_follows_the_trail`]: a core that fetches the words of the image and obeys its flows does the bundles of the
 //!   shape's trail, one after another. `specs/Walk.antt` says what such a core does, without time, and

@@ -12,7 +12,8 @@ pub fn places_of(alloc: Global, sizes: &[u32], entry: usize) -> Result<Vec<Addr2
     requires entry { entry < length sizes.now }
     requires within { words_below (slice_index sizes.now) (length sizes.now) ≤ MOST_IN_IMAGE }
     ensures count { IfOk result (λ places. length places.items ≡ length sizes.now) }
-    ensures places { IfOk result (λ places. (k : ℕ) → k < length sizes.now → slice_index places.items k ≡ place (slice_index sizes.now) entry k) }
+    ensures places { IfOk result (λ places. (k : ℕ) → k < length sizes.now
+        → slice_index places.items k ≡ place (slice_index sizes.now) entry k) }
 {
     let mut places = Vec::new(alloc);
     let mut next = sizes[entry] + 2;
@@ -30,7 +31,8 @@ pub fn places_of(alloc: Global, sizes: &[u32], entry: usize) -> Result<Vec<Addr2
 /// The same in the order of the image.
 pub fn in_order(alloc: Global, places: &[Addr22], entry: usize) -> Result<Vec<u32>, OutOfMemory>
     requires { entry < length places.now }
-    ensures { IfOk result (λ starts. starts.items ≡ map (slice_index places.now) (entry ∷ others entry (length places.now))) }
+    ensures { IfOk result (λ starts. starts.items
+        ≡ map (slice_index places.now) (entry ∷ others entry (length places.now))) }
 {
     let mut starts = Vec::new(alloc);
     starts.push(places[entry].number())?;

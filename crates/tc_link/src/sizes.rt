@@ -52,7 +52,7 @@ fn words_of_parts(parts: &[Part]) -> u32
 }
 
 /// How many words each function has.
-#[tactic(auto, using(crate::proofs::Functions::function_at))]
+#[tactic(auto, using(sp_shape::proofs::Functions::function_at))]
 pub fn sizes_of(alloc: Global, functions: &[List<Part>]) -> Result<Vec<u32>, OutOfMemory>
     requires small { (k : ℕ) → k < length functions.now
         → parts_words (slice_index_or (functions_of functions.now) k no_part) ≤ MOST_IN_FUNCTION }

@@ -53,7 +53,7 @@ fn push_call(words: &mut Vec<u32>, start: Addr22, tail: &[Bundle]) -> Result<(),
     push_bundles(words, slots)
 }
 
-// adds those of the tail of a loop, which begins so many words behind the body's first
+// adds those of the tail of a loop, which begins so many words after the body's first
 fn push_turn(words: &mut Vec<u32>, body: u32, tail: &[Bundle]) -> Result<(), OutOfMemory>
     requires { body + bundles_words tail.now ≤ MOST_IN_FUNCTION }
     ensures words { OnOk result (words.new.items ≡ words.old.items ++ codes (flat.turned body tail.now)) }
@@ -82,7 +82,8 @@ fn start_of(places: &[Addr22], function: u32) -> Addr22
 #[tactic(auto, unfolding(sp_shape::specs::Shown::plain_part))]
 fn push_part(words: &mut Vec<u32>, part: &Part, places: &[Addr22]) -> Result<(), OutOfMemory>
     requires { part_words (plain_part part.now) ≤ MOST_IN_FUNCTION }
-    ensures words { OnOk result (words.new.items ≡ words.old.items ++ codes (flat.flat_part (slice_index places.now) (plain_part part.now))) }
+    ensures words { OnOk result (words.new.items
+        ≡ words.old.items ++ codes (flat.flat_part (slice_index places.now) (plain_part part.now))) }
     ensures fit { OnOk result (All FitsBundle (flat.flat_part (slice_index places.now) (plain_part part.now))) }
 {
     match part {
@@ -104,7 +105,8 @@ fn push_part(words: &mut Vec<u32>, part: &Part, places: &[Addr22]) -> Result<(),
 #[cycle(push)]
 fn push_parts(words: &mut Vec<u32>, parts: &[Part], places: &[Addr22]) -> Result<(), OutOfMemory>
     requires { parts_words (parts_of parts.now) ≤ MOST_IN_FUNCTION }
-    ensures words { OnOk result (words.new.items ≡ words.old.items ++ codes (flat.flat_parts (slice_index places.now) (parts_of parts.now))) }
+    ensures words { OnOk result (words.new.items
+        ≡ words.old.items ++ codes (flat.flat_parts (slice_index places.now) (parts_of parts.now))) }
     ensures fit { OnOk result (All FitsBundle (flat.flat_parts (slice_index places.now) (parts_of parts.now))) }
 {
     for part in parts {
@@ -122,7 +124,8 @@ fn push_function(
 ) -> Result<(), OutOfMemory>
     requires size { size ≡ parts_words (parts_of parts.now) }
     requires small { size ≤ MOST_IN_FUNCTION }
-    ensures words { OnOk result (words.new.items ≡ words.old.items ++ function_words (slice_index places.now) (parts_of parts.now)) }
+    ensures words { OnOk result (words.new.items
+        ≡ words.old.items ++ function_words (slice_index places.now) (parts_of parts.now)) }
     ensures fit { OnOk result (All FitsBundle (flat.flat_parts (slice_index places.now) (parts_of parts.now))) }
 {
     words.push(size)?;
@@ -141,10 +144,12 @@ pub fn words_of(
     requires sizes { sizes.now ≡ map parts_words (functions_of functions.now) }
     requires small { (k : ℕ) → k < length functions.now → slice_index sizes.now k ≤ MOST_IN_FUNCTION }
     ensures words { IfOk result (λ words. words.items
-        ≡ flat_map (λ k. function_words (slice_index places.now) (slice_index_or (functions_of functions.now) k no_part))
+        ≡ flat_map (λ k. function_words (slice_index places.now)
+        (slice_index_or (functions_of functions.now) k no_part))
         (entry ∷ others entry (length functions.now))) }
     ensures fit { IfOk result (λ _. (k : ℕ) → k < length functions.now
-        → All FitsBundle (flat.flat_parts (slice_index places.now) (slice_index_or (functions_of functions.now) k no_part))) }
+        → All FitsBundle (flat.flat_parts (slice_index places.now)
+        (slice_index_or (functions_of functions.now) k no_part))) }
 {
     let mut words = Vec::new(alloc);
     push_function(

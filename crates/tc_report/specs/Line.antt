@@ -1,4 +1,4 @@
--- The pieces of a report's lines.
+-- To be believed. The pieces of a report's lines.
 use Rattle.std.specs.Prelude.{ℕ, ◌+◌, ◌==◌, Bool, true, false, if◌then◌else◌, List, [], ◌∷◌, ◌++◌, codes, Option, Some, None, slice_index_or}
 use Rattle.std.specs.Fmt.{decimal, signed_decimal}
 use Rattle.std.specs.Int.{w32, cast_signed}
@@ -43,15 +43,18 @@ where_so holds words = if holds then words else []
 -- its shared data, and whether a loop of it, now done, ran past its count.
 abbrev pub bound_text : Option ℕ → Bool → Bool → List ℕ
 bound_text None alone overrun = []
-bound_text (Some bound) alone overrun = codes " bound " ++ decimal bound ++ where_so alone (codes " alone") ++ where_so overrun (codes " overrun")
+bound_text (Some bound) alone overrun =
+    codes " bound " ++ decimal bound ++ where_so alone (codes " alone") ++ where_so overrun (codes " overrun")
 
 -- a word of a done task's array `out`, and all of them from an index on
 abbrev pub out_line : ℕ → Bool → ℕ → ℕ → List ℕ
-out_line core unsigned index word = line (about core ++ codes "out " ++ decimal index ++ codes " " ++ word_text unsigned word)
+out_line core unsigned index word =
+    line (about core ++ codes "out " ++ decimal index ++ codes " " ++ word_text unsigned word)
 
 abbrev pub outs_from : ℕ → Bool → ℕ → List ℕ → List ℕ
 outs_from core unsigned index [] = []
-outs_from core unsigned index (word ∷ words) = out_line core unsigned index word ++ outs_from core unsigned (index + 1) words
+outs_from core unsigned index (word ∷ words) =
+    out_line core unsigned index word ++ outs_from core unsigned (index + 1) words
 
 -- how many starts of transfers were dropped, where any was
 abbrev pub dropped_lines : ℕ → ℕ → List ℕ
@@ -60,7 +63,8 @@ dropped_lines core dropped = if dropped == 0 then [] else line (about core ++ co
 -- the cycle at which a transaction's data moved, which way, and how many words
 abbrev pub access_line : ℕ → Access → List ℕ
 access_line core access =
-    line (about core ++ codes "access " ++ decimal access.cycle ++ (if access.write then codes " write " else codes " read ") ++ decimal access.words)
+    line (about core ++ codes "access " ++ decimal access.cycle
+    ++ (if access.write then codes " write " else codes " read ") ++ decimal access.words)
 
 -- what a stage of a pipeline holds: a place in the code, or nothing
 abbrev pub stage_text : Option ℕ → List ℕ
@@ -73,9 +77,11 @@ stage_at stages number = stage_text (slice_index_or stages number None)
 
 abbrev pub step_line : ℕ → List (Option ℕ) → List ℕ
 step_line cycle stages =
-    line (codes "step " ++ decimal cycle ++ codes " F " ++ stage_at stages 0 ++ codes " D " ++ stage_at stages 1 ++ codes " E " ++ stage_at stages 2
+    line (codes "step " ++ decimal cycle ++ codes " F " ++ stage_at stages 0 ++ codes " D " ++ stage_at stages 1
+    ++ codes " E " ++ stage_at stages 2
     ++ codes " M " ++ stage_at stages 3 ++ codes " W " ++ stage_at stages 4)
 
 -- what a C task means: the value of its `main`, and whether a loop of it ran past its count
 abbrev pub mean_line : ℕ → ℕ → Bool → List ℕ
-mean_line core value overrun = line (about core ++ codes "mean " ++ signed_word value ++ where_so overrun (codes " overrun"))
+mean_line core value overrun =
+    line (about core ++ codes "mean " ++ signed_word value ++ where_so overrun (codes " overrun"))

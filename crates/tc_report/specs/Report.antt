@@ -1,4 +1,4 @@
--- The text of a report, whole. The form is our own; docs/JOBS_AND_REPORTS.md explains it to users.
+-- To be believed. The text of a report, whole. The form is our own; docs/JOBS_AND_REPORTS.md explains it to users.
 use Rattle.std.specs.Prelude.{ℕ, ◌+◌, ◌&&◌, if◌then◌else◌, List, [], ◌∷◌, ◌++◌, codes}
 use Rattle.std.specs.Fmt.{decimal}
 use Rattle.std.specs.List.{flat_map}
@@ -9,11 +9,13 @@ use Rattle.tc_report.specs.Line.{about, access_line, bound_text, dropped_lines, 
 -- the platform
 unfoldable pub platform_line : ℕ → ℕ → ℕ → List ℕ
 platform_line cores slot period =
-    line (codes "platform cores " ++ decimal cores ++ codes " slot " ++ decimal slot ++ codes " period " ++ decimal period)
+    line (codes "platform cores " ++ decimal cores ++ codes " slot " ++ decimal slot ++ codes " period "
+    ++ decimal period)
 
 -- what became of a core's task; an overrun is told of a done task alone
 unfoldable pub state_line : ℕ → Row → List ℕ
-state_line core row = line (about core ++ state_text row.state ++ bound_text row.bound row.alone (is_done row.state && row.overrun))
+state_line core row =
+    line (about core ++ state_text row.state ++ bound_text row.bound row.alone (is_done row.state && row.overrun))
 
 -- the words of `out`, which only a done task has given
 unfoldable pub out_lines : ℕ → Row → List ℕ
@@ -21,7 +23,9 @@ out_lines core row = if is_done row.state then outs_from core row.outs_unsigned 
 
 -- all that is told of a core
 unfoldable pub core_lines : ℕ → Row → List ℕ
-core_lines core row = state_line core row ++ out_lines core row ++ dropped_lines core row.dropped ++ flat_map (access_line core) row.accesses
+core_lines core row =
+    state_line core row ++ out_lines core row ++ dropped_lines core row.dropped
+    ++ flat_map (access_line core) row.accesses
 
 -- the cores in order, from a core on
 abbrev pub cores_from : ℕ → List Row → List ℕ

@@ -80,7 +80,7 @@ pub fn add_step_line(
     put(text, "\n")
 }
 
-// what a stage holds, behind its name
+// what a stage holds, after its name
 fn put_stage(text: &mut Vec<u8>, name: &str, place: Option<u32>) -> Result<(), OutOfMemory>
     ensures { OnOk result (text.new.items ≡ text.old.items ++ (name.now ++ specs.stage_text place)) }
 {
@@ -93,8 +93,8 @@ fn put_stage(text: &mut Vec<u8>, name: &str, place: Option<u32>) -> Result<(), O
     }
 }
 
-/// Appends the line that tells what a C task means: the value of its `main`, which is told as signed, and whether a loop
-/// of it ran past its count.
+/// Appends the line that tells what a C task means: the value of its `main`, which is told as
+/// signed, and whether a loop of it ran past its count.
 pub fn add_mean_line(
     text: &mut Vec<u8>,
     core: u64,

@@ -62,8 +62,8 @@ pub fn put_step_line(
     text.extend_from_slice(line.as_slice())
 }
 
-/// Appends the line that tells what a C task means: the value of its `main`, which is told as signed, and whether a loop
-/// of it ran past its count.
+/// Appends the line that tells what a C task means: the value of its `main`, which is told as
+/// signed, and whether a loop of it ran past its count.
 pub fn put_mean_line(
     text: &mut Vec<u8>,
     core: u64,

@@ -12,7 +12,7 @@ pub fn put(text: &mut Vec<u8>, words: &str) -> Result<(), OutOfMemory>
     text.extend_from_slice(words.as_bytes())
 }
 
-/// Appends words, and a number behind them.
+/// Appends words, and a number after them.
 pub fn put_with(text: &mut Vec<u8>, words: &str, number: u64) -> Result<(), OutOfMemory>
     ensures { OnOk result (text.new.items ≡ text.old.items ++ (words.now ++ decimal number)) }
 {

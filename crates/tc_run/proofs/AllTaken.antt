@@ -1,7 +1,8 @@
 -- The words of a board on which all of a machine was made, and its cores one after another.
-use Rattle.std.proofs.Common.{◌≡◌, ℕ, zero, suc, ◌*◌, ◌<◌, ◌≤◌, List, [], ◌∷◌, length, slice_index, refl, sym, ap, ◌∙◌, subst, arith, Any, inl, inr}
+use Rattle.std.proofs.Common.{◌≡◌, ℕ, ◌*◌, ◌<◌, ◌≤◌, List, [], ◌∷◌, length, slice_index, sym, ap, ◌∙◌, subst, arith, Any, inl, inr}
 use Rattle.std.specs.List.{AllByRecursion as Each}
 use Rattle.std.proofs.lemmas.Bool.{cases_lt}
+use Rattle.tc_word.proofs.Items.{past_all}
 use Rattle.shared_order.specs.declared.operation.Operation.{Operation}
 use Rattle.shared_order.specs.Fit.{Fits}
 use Rattle.shared_order.specs.Words.{stored_last, LeavesWord}
@@ -16,12 +17,6 @@ use Rattle.global_step.specs.Machine.{core_among, machine, at_limit, all_operati
 use Rattle.global_step.specs.Range.{IsOfWords, board_words}
 use Rattle.global_step.proofs.MachineRanges.{operations_keep}
 use Rattle.tc_run.specs.Worked.{IsBoardOf, IsPast}
-
--- a list has nothing past its end
-nothing_past : (xs : List ℕ) (w : ℕ) → length xs ≤ w → slice_index xs w ≡ 0
-nothing_past [] w h = refl
-nothing_past (x ∷ xs) zero h = absurd (omega (arith, h))
-nothing_past (x ∷ xs) (suc w) h = nothing_past xs w (omega (arith, h))
 
 -- operations on so many words leave those past them
 left_alone : (words w : ℕ) (os : List Operation) → words ≤ w → Each (Fits words) os → Each (LeavesWord w) os
@@ -50,7 +45,7 @@ module _ (m : Machine) (b : BoardFace) (of : IsBoardOf m b) where
   all_words fits answer len within w = elim (cases_lt w b.words) [
     | inl below ↦ within w below ∙ ap (λ l. stored_last w l 0) of.course ∙ sym (machine_word m w)
     | inr past ↦
-        nothing_past answer w (subst (λ n. n ≤ w) (sym len) past)
+        past_all answer w (subst (λ n. n ≤ w) (sym len) past)
         ∙ sym (stored_last-others w (all_operations m) 0 (left_alone (board_words m) w (all_operations m) (subst (λ n. n ≤ w) of.words past) (operations_keep m fits)))
         ∙ sym (machine_word m w)
   ]

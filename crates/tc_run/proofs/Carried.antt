@@ -43,7 +43,7 @@ module _ (b : BoardFace) where
     all_beside : (P : WorkerFace → Type 0) → (All P xs → All P xs') → (All P ys → All P ys') → All P (xs ++ ys) → All P (xs' ++ ys')
     all_beside P f g h = All-append P xs' ys' (f (all_prefix P xs ys h)) (g (all_back P xs ys h))
 
-    -- two lists, one behind the other
+    -- two lists, one after the other
     pub carried_beside : Carries b (xs ++ ys) (xs' ++ ys')
     carried_beside = record {
       count = length-append xs' ys' ∙ ap (λ n. n + length ys') c.count ∙ ap (λ n. length xs + n) d.count ∙ sym (length-append xs ys);

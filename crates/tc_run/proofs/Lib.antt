@@ -6,5 +6,4 @@ pub mod Groups
 pub mod Lists
 pub mod Plain
 pub mod Taking
-pub mod Words
 pub mod Workers

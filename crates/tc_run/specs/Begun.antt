@@ -1,4 +1,4 @@
--- The cores of a machine before the first cycle.
+-- For proofs. The cores of a machine before the first cycle.
 use Rattle.std.specs.Prelude.{◌≡◌, ℕ, List, [], length, None, IfSome, slice_get}
 use Rattle.patmos_core.specs.declared.cpu.Core.{Core as Cpu}
 use Rattle.patmos_core.specs.Position.{StandsFor, waiting_of, limit_of, place_of, room_of}

@@ -1,4 +1,4 @@
--- Workers that are handed on: from one list to another, and to threads and back.
+-- For proofs. Workers that are handed on: from one list to another, and to threads and back.
 use Rattle.std.specs.Prelude.{◌≡◌, ℕ, ◌+◌, ◌≤◌, List, ◌++◌, length, Vec, vec_len, vec_capacity}
 use Rattle.std.specs.Global.{Global}
 use Rattle.std.specs.List.{All, flat_map}
@@ -18,7 +18,7 @@ pub record Carries (board : BoardFace) (ws ws' : List WorkerFace) : Type 0 where
   pub work : (m : Machine) → All (IsAtWork m board) ws → All (IsAtWork m board) ws'
   pub have : (k : ℕ) → HasWorker ws k → HasWorker ws' k
 
--- the workers of groups, one group behind the other
+-- the workers of groups, one group after the other
 abbrev pub workers_in : List (Vec (Worker Loaded) Global) → List WorkerFace
 workers_in groups = flat_map (λ ws. ws.items) groups
 

@@ -1,4 +1,4 @@
--- The cores of a machine at its limit.
+-- To be believed. The cores of a machine at its limit.
 use Rattle.std.specs.Prelude.{◌≡◌, ℕ, ◌<◌, List, length, IfSome, slice_get}
 use Rattle.patmos_core.specs.declared.cpu.Core.{Core as Cpu}
 use Rattle.patmos_core.specs.Position.{StandsFor, limit_of, place_of, room_of, IsThrough}

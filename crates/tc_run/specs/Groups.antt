@@ -1,4 +1,4 @@
--- How the cores of a machine are divided among its workers.
+-- For proofs. How the cores of a machine are divided among its workers.
 use Rattle.std.specs.Prelude.{◌≡◌, ℕ, zero, suc, ◌+◌, ◌%◌, ◌<◌, List, [], ◌∷◌, None, Some, Vec, slice_get, slice_index_or}
 use Rattle.std.specs.Global.{Global}
 use Rattle.core_worker.specs.declared.worker.Worker.{Worker}
@@ -18,7 +18,7 @@ tasks_before [] (suc k) = 0
 tasks_before (l ∷ ls) (suc k) = tasks_of l + tasks_before ls k
 
 -- The number of the group of a core before which there are so many with a task: the k-th core with a task is
--- in group k mod w, and the cores without one are in the group behind these.
+-- in group k mod w, and the cores without one are in the group after these.
 abbrev pub group_of : LoadedCore → ℕ → ℕ → ℕ
 group_of l tasks w = elim l.image [ None ↦ w | Some image ↦ tasks % w ]
 

@@ -1,4 +1,4 @@
--- The workers of a machine's cores.
+-- For proofs. The workers of a machine's cores.
 use Rattle.std.specs.Prelude.{◌≡◌, ℕ, ◌*◌, ◌<◌, ◌≤◌, List, length, Some, IfSome, slice_get}
 use Rattle.std.specs.List.{Any}
 use Rattle.argo_ni.specs.Packet.{comm_word}

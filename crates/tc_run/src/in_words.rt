@@ -28,7 +28,7 @@ fn core_of_words(core: &LoadedCore)
 }
 
 // the code and the first words of an image are words of 32 bits
-#[tactic(auto, using(crate::proofs::Words::word_at))]
+#[tactic(auto, using(patmos_model::proofs::HeldWords::each_index))]
 fn image_of_words(image: &Image)
     ensures code { HasCode image.now }
     ensures initial { Each IsWord image.now.initial }

@@ -78,7 +78,7 @@ pub(crate) fn start_group<'s, E, R: Threads + Wait + Sync, G: Gate + Sync>(
     }
 }
 
-/// Puts a group's workers behind others, for which there is room.
+/// Puts a group's workers after others, for which there is room.
 pub(crate) fn gather(all: &mut Vec<Worker<Loaded>>, mut group: Vec<Worker<Loaded>>)
     requires room { vec_len all.old + vec_len group ≤ vec_capacity all.old }
     ensures items { all.new.items ≡ all.old.items ++ group.items }

@@ -1,4 +1,4 @@
--- Why a text is no job, and what is read where it is one.
+-- To be believed. Why a text is no job, and what is read where it is one.
 use Rattle.std.specs.Prelude.{◌≡◌, ℕ, List, [], ◌++◌, codes, pos, Option, Some, None, Result, Ok, Err, IsErrAnd}
 use Rattle.std.specs.Fmt.{signed_decimal}
 use Rattle.tc_toml.specs.declared.fault.JobFault.{JobFault}
@@ -60,7 +60,7 @@ name_of faults.Range = codes "Range"
 name_of faults.CoreTwice = codes "CoreTwice"
 name_of faults.Input = codes "Input"
 
--- the fault's number, behind that of a text that is too long to be read
+-- the fault's number, after that of a text that is too long to be read
 abbrev pub number_of : JobFault → ℕ
 number_of faults.Toml = 2
 number_of faults.Key = 3

@@ -1,4 +1,4 @@
--- The tree of a text: the meaning that `toml` gives to its bytes.
+-- To be believed. The tree of a text: the meaning that `toml` gives to its bytes.
 use Rattle.std.specs.Prelude.{ℕ, if◌then◌else◌, List, Option, None}
 use Rattle.std.specs.Str.{is_utf8}
 use Rattle.toml.specs.Data.{Members}

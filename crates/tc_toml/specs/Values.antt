@@ -1,4 +1,4 @@
--- What a value of a TOML tree stands for, or what is wrong with it.
+-- To be believed. What a value of a TOML tree stands for, or what is wrong with it.
 use Rattle.std.specs.Prelude.{◌≡◌, ℕ, ℤ, pos, negsuc, ◌&&◌, nat_le, if◌then◌else◌, List, [], ◌∷◌, Option, Some, None, Result, Ok, Err}
 use Rattle.toml.specs.Data.{Data, as_str, as_integer, as_array, as_table, Items, no_items, item, Members}
 use Rattle.tc_toml.specs.declared.fault.JobFault.{JobFault}

@@ -29,7 +29,9 @@ impl<'a> Section<'a> {
 
     /// The integer at a key, from `low` to `high`.
     pub fn number(&self, key: &str, low: u32, high: u32) -> Result<u32, JobError>
-        ensures number { Gives (λ n. n) result (at_key self.now.task key.now (specs.number_of low high (get_member key.now (table_view self.now.table.now)))) }
+        ensures number { Gives (λ n. n) result
+            (at_key self.now.task key.now (specs.number_of low high
+            (get_member key.now (table_view self.now.table.now)))) }
         ensures least { IfOk result (λ n. low ≤ n) }
         ensures most { IfOk result (λ n. n ≤ high) }
     {
@@ -40,7 +42,9 @@ impl<'a> Section<'a> {
     pub fn number_or(&self, key: &str, left_out: u32, low: u32, high: u32) -> Result<u32, JobError>
         requires least { low ≤ left_out }
         requires most { left_out ≤ high }
-        ensures number { Gives (λ n. n) result (at_key self.now.task key.now (specs.number_or left_out low high (get_member key.now (table_view self.now.table.now)))) }
+        ensures number { Gives (λ n. n) result
+            (at_key self.now.task key.now (specs.number_or left_out low high
+            (get_member key.now (table_view self.now.table.now)))) }
         ensures least { IfOk result (λ n. low ≤ n) }
         ensures most { IfOk result (λ n. n ≤ high) }
     {
@@ -49,7 +53,8 @@ impl<'a> Section<'a> {
 
     /// The string at a key.
     pub fn text(&self, key: &str) -> Result<&'a str, JobError>
-        ensures { Gives (λ s. s.now) result (at_key self.now.task key.now (specs.text_of (get_member key.now (table_view self.now.table.now)))) }
+        ensures { Gives (λ s. s.now) result
+            (at_key self.now.task key.now (specs.text_of (get_member key.now (table_view self.now.table.now)))) }
     {
         self.reported(key, text_of(self.value(key)))
     }

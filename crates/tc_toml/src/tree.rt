@@ -12,7 +12,8 @@ use toml::Table;
 /// The tree of the bytes.
 #[tactic(auto, using(crate::proofs::Trees::tree_of_text, crate::proofs::Trees::tree_of_no_text))]
 pub fn tree_of(alloc: Global, bytes: &[u8]) -> Result<Table, JobError>
-    ensures { Gives (λ table. table_view table) result (at_key None [] (given JobFault.Toml (specs.tree_of bytes.now))) }
+    ensures { Gives (λ table. table_view table) result
+        (at_key None [] (given JobFault.Toml (specs.tree_of bytes.now))) }
 {
     match toml::table_from_slice(alloc, bytes) {
         Ok(table) => Ok(table),

@@ -43,7 +43,8 @@ pub fn number_of(value: Option<&Value>, low: u32, high: u32) -> Result<u32, Refu
 pub fn number_or(value: Option<&Value>, left_out: u32, low: u32, high: u32) -> Result<u32, Refusal>
     requires least { low ≤ left_out }
     requires most { left_out ≤ high }
-    ensures number { specs.Reads (λ n. n) result (specs.number_or left_out low high (option_map (λ v. view v.now) value.entry)) }
+    ensures number { specs.Reads (λ n. n) result
+        (specs.number_or left_out low high (option_map (λ v. view v.now) value.entry)) }
     ensures least { IfOk result (λ n. low ≤ n) }
     ensures most { IfOk result (λ n. n ≤ high) }
 {
@@ -75,7 +76,8 @@ pub fn integers_in(alloc: Global, value: &Value) -> Result<Vec<i64>, Refusal>
 
 #[tactic(auto, using(crate::proofs::Items::more_items, crate::proofs::Items::no_item))]
 fn integers_of(alloc: Global, items: &[Value]) -> Result<Vec<i64>, Refusal>
-    ensures { specs.Reads (λ v. v.items) result (specs.given JobFault.Kind (specs.each_item as_integer (items_view items.now))) }
+    ensures { specs.Reads (λ v. v.items) result
+        (specs.given JobFault.Kind (specs.each_item as_integer (items_view items.now))) }
 {
     let mut integers = Vec::new(alloc);
     for item in items {
@@ -89,7 +91,8 @@ fn integers_of(alloc: Global, items: &[Value]) -> Result<Vec<i64>, Refusal>
 
 /// The tables of a value that must be an array of tables, where it is there.
 pub fn tables_of<'a>(alloc: Global, value: Option<&'a Value>) -> Result<Vec<&'a Table>, Refusal>
-    ensures { specs.Reads (λ v. map (λ t. table_view t.now) v.items) result (specs.tables_of (option_map (λ v. view v.now) value.entry)) }
+    ensures { specs.Reads (λ v. map (λ t. table_view t.now) v.items) result
+        (specs.tables_of (option_map (λ v. view v.now) value.entry)) }
 {
     let Some(value) = value else {
         return Ok(Vec::new(alloc));
@@ -102,7 +105,8 @@ pub fn tables_of<'a>(alloc: Global, value: Option<&'a Value>) -> Result<Vec<&'a 
 
 #[tactic(auto, using(crate::proofs::Items::more_items, crate::proofs::Items::no_item))]
 fn tables_in<'a>(alloc: Global, items: &'a [Value]) -> Result<Vec<&'a Table>, Refusal>
-    ensures { specs.Reads (λ v. map (λ t. table_view t.now) v.items) result (specs.given JobFault.Kind (specs.each_item as_table (items_view items.now))) }
+    ensures { specs.Reads (λ v. map (λ t. table_view t.now) v.items) result
+        (specs.given JobFault.Kind (specs.each_item as_table (items_view items.now))) }
 {
     let mut tables = Vec::new(alloc);
     for item in items {

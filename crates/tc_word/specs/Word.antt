@@ -1,4 +1,4 @@
--- Operations on words. A word is a number below 2^32. As a signed number it is itself below 2^31,
+-- To be believed. Operations on words. A word is a number below 2^32. As a signed number it is itself below 2^31,
 -- and itself less 2^32 from there on (two's complement). Sources: the arithmetic of the Patmos
 -- Reference Handbook, and C's integer arithmetic where C decides; the quotients by 0 and of the least
 -- number by -1, which C leaves undefined, are decided here once for the whole product.

@@ -104,7 +104,8 @@ pub fn worked_words()
     ensures by_zero { (quotient 7 0 ≡ 0) × (rest 7 0 ≡ 7) }
     ensures least_by_minus_one { (quotient (2 ^ 31) (2 ^ 32 - 1) ≡ 2 ^ 31) × (rest (2 ^ 31) (2 ^ 32 - 1) ≡ 0) }
     ensures towards_zero { (quotient (2 ^ 32 - 7) 2 ≡ 2 ^ 32 - 3) × (rest (2 ^ 32 - 7) 2 ≡ 2 ^ 32 - 1) }
-    ensures minus_one_squared { (low_word (product (2 ^ 32 - 1) (2 ^ 32 - 1)) ≡ 1) × (high_word (product (2 ^ 32 - 1) (2 ^ 32 - 1)) ≡ 0) }
+    ensures minus_one_squared { (low_word (product (2 ^ 32 - 1) (2 ^ 32 - 1)) ≡ 1)
+        × (high_word (product (2 ^ 32 - 1) (2 ^ 32 - 1)) ≡ 0) }
     ensures by_33 { (moved_up 1 33 ≡ 2) × (moved_down 4 33 ≡ 2) × (moved_down_signed (2 ^ 32 - 4) 33 ≡ 2 ^ 32 - 2) }
     ensures order { (is_less (2 ^ 32 - 1) 0 ≡ true) × (is_less 0 (2 ^ 32 - 1) ≡ false) }
 {}

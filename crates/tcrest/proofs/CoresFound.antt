@@ -6,7 +6,6 @@ use Rattle.slot_arbiter.specs.Place.HasNumbers.{HasNumbers}
 use Rattle.patmos_code.specs.Images.{Parts}
 use Rattle.patmos_model.specs.Apart.{site_of}
 use Rattle.global_step.specs.declared.loaded.LoadedCore.{LoadedCore}
-use Rattle.global_step.specs.Loaded.{IsBeside}
 use Rattle.global_step.specs.Machine.{first_core}
 use Rattle.tc_job.specs.declared.job.Job.{Job}
 use Rattle.tcrest.specs.declared.tasks.CodedTask.{CodedTask}
@@ -16,7 +15,7 @@ use Rattle.tcrest.specs.Coding.{runs, shown, all_shown}
 use Rattle.tcrest.specs.Machine.{core_with, cores_from, site_on}
 use Rattle.tcrest.specs.Loading.{IsPlaced}
 
--- one more core stands behind the others
+-- one more core stands after the others
 cores_from-push : (job : Job) (core : ℕ) (cs : List (Option Coded)) (c : Option Coded) → cores_from job core (cs ++ c ∷ []) ≡ cores_from job core cs ++ core_with job (core + length cs) c ∷ []
 cores_from-push job core [] c = let here : core ≡ core + 0 = omega arith in ap (λ n. core_with job n c ∷ []) here
 cores_from-push job core (b ∷ cs) c =
@@ -34,7 +33,7 @@ next_loaded job core prefix pushed l coded more one count push grown is so_far =
     ∙ sym (cores_from-push job 0 (all_shown coded) (shown one))
     ∙ ap (cores_from job 0) (sym (map-append shown coded (one ∷ [])) ∙ sym (ap all_shown grown))
 
--- what one more core runs stands behind what the others run
+-- what one more core runs stands after what the others run
 pub next_run : (tasks pushed : List CoreTask) (t : CoreTask) (coded : List (Option CodedTask)) (one : Option CodedTask) → pushed ≡ tasks ++ t ∷ [] → runs t ≡ runs_on (shown one)
     → map runs tasks ≡ map runs_on (all_shown coded) → map runs pushed ≡ map runs_on (all_shown (coded ++ one ∷ []))
 next_run tasks pushed t coded one push is so_far =
@@ -55,14 +54,6 @@ get_push (d ∷ ls) l (suc k) P each last = get_push ls l k (λ j. P (suc j)) (�
 pub next_placed : (job : Job) (core : ℕ) (prefix pushed : List LoadedCore) (l : LoadedCore) → length prefix ≡ core → pushed ≡ prefix ++ l ∷ [] → IsPlaced job core l → ArePlaced job prefix → ArePlaced job pushed
 next_placed job core prefix pushed l count push is so_far = λ k.
     subst (λ ls. IfSome (slice_get ls k) (IsPlaced job k)) (sym push) (get_push prefix l k (IsPlaced job) so_far (subst (λ n. IsPlaced job n l) (sym count) is))
-
-beside : (job : Job) (n k : ℕ) (first l : LoadedCore) → n ≡ job.cores → IsPlaced job 0 first → IsPlaced job k l → IsBeside n k first.place l.place
-beside job n k first l count one other = record {
-  cores = other.cores ∙ sym count;
-  core = other.core;
-  slot = other.slot ∙ sym one.slot;
-  table = other.table ∙ sym one.table;
-}
 
 -- the place with the job's numbers is where the job's core stands
 pub same_site : (job : Job) (core start : ℕ) (place : Place) (image : Parts) → HasNumbers place job.cores core job.slot start → place.table ≡ job.table

@@ -35,7 +35,7 @@ use Rattle.tcrest.specs.Meanings.{meanings}
 use Rattle.tcrest.specs.Pipe.{end_row, pipe_of}
 use Rattle.tcrest.specs.Rows.{rows_of, is_early, status_of}
 use Rattle.tcrest.specs.Tasks.{Coded, Runs, coded_from, runs_made, runs_on}
-use Rattle.tcrest.specs.Answer.{read_fault, too_long, no_job, no_task, whole, report_of, answer_with, answer_or, is_taken, one_core, pipe_with, answer_by, job_answer, of_grid, text_answer, bytes_answer, command_answer, answer, unread_answer}
+use Rattle.tcrest.specs.Answer.{read_fault, too_long, no_job, no_task, whole, report_of, answer_with, answer_or, is_taken, one_core, pipe_with, answer_by, job_answer, of_grid, text_answer, bytes_answer, command_answer, answer}
 use Rattle.tcrest.specs.Outcome.{IsSent, Ends, HasWritten}
 
 -- the answer to a job has the status of a whole text or of a refused task
@@ -205,22 +205,6 @@ command_answer-is_usage (Gen number) bytes = (λ one. absurd (omega (arith, one)
 command_answer-is_usage (Bench number) bytes = (λ one. absurd ((job_answer-is Run (job_of (generated number))).not_usage one), λ is. absurd (cc))
 command_answer-is_usage Usage bytes = (λ _. refl, λ _. refl)
 
--- of a command that reads the answer is that to its bytes
-pub reads_bytes : (command : Command) (bytes : List ℕ) → (ReadsNothing command → ⊥) → command_answer command bytes ≡ bytes_answer command bytes
-reads_bytes (OfJob command) bytes reads = refl
-reads_bytes Grid bytes reads = refl
-reads_bytes (Gen number) bytes reads = absurd (reads tt)
-reads_bytes (Bench number) bytes reads = absurd (reads tt)
-reads_bytes Usage bytes reads = absurd (reads tt)
-
--- of one that reads nothing it is the same whatever the bytes are
-pub unread_bytes : (command : Command) (bytes : List ℕ) → ReadsNothing command → command_answer command bytes ≡ unread_answer command
-unread_bytes (OfJob command) bytes none = absurd none
-unread_bytes Grid bytes none = absurd none
-unread_bytes (Gen number) bytes none = refl
-unread_bytes (Bench number) bytes none = refl
-unread_bytes Usage bytes none = refl
-
 module _ (failed : Type 0) (status faults faults' : ℕ) (taken taken' : Option (List ℕ)) where
   pub sent_too_long : (command : Command) (left : Option (List ℕ)) → IfSome left (λ bytes. MOST_BYTES < length bytes) → IsSent too_long status faults faults' taken taken'
       → IfSome left (λ bytes. Ends (bytes_answer command bytes) failed status faults faults' taken taken')
@@ -231,16 +215,6 @@ module _ (failed : Type 0) (status faults faults' : ℕ) (taken taken' : Option 
       → IfSome left (λ bytes. Ends (bytes_answer command bytes) failed status faults faults' taken taken')
   sent_within command None came all within sent = tt
   sent_within command (Some bytes) came all within sent = rw (← all, bytes_answer-within command came within) (inr (inl sent))
-
-  pub unread_ends : (command : Command) (left : Option (List ℕ)) → ReadsNothing command → Ends (unread_answer command) ⊥ status faults faults' taken taken'
-      → IfSome left (λ bytes. Ends (command_answer command bytes) failed status faults faults' taken taken')
-  unread_ends command None reads ends = tt
-  unread_ends command (Some bytes) reads ends = rw (unread_bytes command bytes reads) (by ends)
-    where
-      by : Ends (unread_answer command) ⊥ status faults faults' taken taken' → Ends (unread_answer command) failed status faults faults' taken taken'
-      by (inl nothing) = inl nothing
-      by (inr (inl sent)) = inr (inl sent)
-      by (inr (inr line)) = absurd line.1
 
 -- a sink that tells its bytes was handed a text
 HasWritten-Ends : (a : Answer) (failed : Type 0) (status faults faults' : ℕ) (taken taken' : Option (List ℕ)) → a.status < 5

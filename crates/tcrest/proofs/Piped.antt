@@ -57,7 +57,7 @@ untold_step x limit k trace first text enough so_far =
     let same : min trace k ≡ min trace (k + 1) = omega (arith, enough) in
     so_far ∙ ap (λ n. first ++ steps_text x limit n) same
 
--- the platform and the steps, with the line of the core's state behind them, are all that is told
+-- the platform and the steps, with the line of the core's state after them, are all that is told
 pub told_whole : {E : Type 0} (job : Job) (r : Runs) (x : Core) (row : Row) (text : List ℕ) (result : Result Answer E) → row ≡ end_row job.cycles r x
     → text ≡ platform_line job.cores job.slot (period job.table job.slot) ++ steps_text x job.cycles (min job.trace (length (done_below x job.cycles)))
     → IfOk result (λ a. a ≡ record { status = status_of (row ∷ []); text = text ++ state_line 0 row }) → IfOk result (λ a. a ≡ pipe_of job r x)

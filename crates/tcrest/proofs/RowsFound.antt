@@ -24,7 +24,7 @@ use Rattle.tcrest.specs.Rows.{row_of, rows_from, rows_of, running}
 use Rattle.tcrest.specs.Loading.{IsLoadedFor}
 use Rattle.tcrest.specs.Tasks.{Coded, Runs, runs_on}
 
--- one more row stands behind the others
+-- one more row stands after the others
 rows_from-push : (limit trace : ℕ) (all : List Running) (core : ℕ) (rs : List Runs) (r : Runs) (m : State Core)
     → rows_from limit trace all core (rs ++ r ∷ []) m ≡ rows_from limit trace all core rs m ++ row_of limit trace all (core + length rs) r (m.cores (core + length rs)) ∷ []
 rows_from-push limit trace all core [] r m = let here : core ≡ core + 0 = omega arith in ap (λ n. row_of limit trace all n r (m.cores n) ∷ []) here
@@ -57,7 +57,7 @@ next_row cores all tasks i c t rows pushed row below count item task push so_far
     ∙ ap (λ l. rows_from m.limit m.trace all 0 l (at_limit m)) (sym (map-append runs (take i tasks) (t ∷ [])) ∙ ap (map runs) (sym (take_more tasks i t (omega (arith, below, count)) task)))
     ∙ (let more : suc i ≡ i + 1 = omega arith in ap (λ n. rows_below all tasks n m) more)
 
--- behind the last the rows are those of all cores
+-- after the last the rows are those of all cores
 pub all_rows : (cores : List Cpu) (all : List Running) (tasks : List CoreTask) (rows : List Row) → length tasks ≡ length cores → all ≡ map running (map runs tasks)
     → ((m : Machine) → AreFinal m cores → rows ≡ rows_below all tasks (length cores) m)
     → (m : Machine) → AreFinal m cores → rows ≡ rows_of m.limit m.trace (map runs tasks) (at_limit m)

@@ -1,7 +1,6 @@
 -- What the report of a job tells of its C tasks, from what the machine tells of them.
-use Rattle.std.proofs.Common.{◌≡◌, ℕ, zero, suc, ◌+◌, ◌*◌, ◌^◌, ◌<◌, ◌≤◌, ◌==◌, Bool, true, false, List, [], ◌∷◌, map, take, Option, None, Some, IfSome, slice_get, refl, sym, ap, ◌∙◌, subst, arith}
+use Rattle.std.proofs.Common.{◌≡◌, ℕ, zero, suc, ◌+◌, ◌<◌, ◌≤◌, ◌==◌, Bool, true, false, List, [], ◌∷◌, map, take, Option, None, Some, IfSome, slice_get, refl, sym, ap, ◌∙◌, subst, arith}
 use Rattle.std.specs.Prelude.{not, Result, IfOk, Ok, Err}
-use Rattle.std.proofs.lemmas.Nat.{mul-le}
 use Rattle.std.specs.List.{AllByRecursion as Each}
 use Rattle.slot_arbiter.specs.declared.place.Place.{Place}
 use Rattle.slot_arbiter.specs.declared.place.TheConstants.{LATEST_START}
@@ -16,6 +15,7 @@ use Rattle.patmos_model.specs.Begin.{begun}
 use Rattle.patmos_model.specs.Cycle.{turn}
 use Rattle.patmos_model.specs.Range.{InRange, IsWord}
 use Rattle.patmos_model.specs.State.{Core}
+use Rattle.global_step.proofs.MachineRanges.{room_for}
 use Rattle.task_machine.specs.Machines.{BeginsAs}
 use Rattle.task_words.specs.Meant.{Leaves}
 use Rattle.c_task.specs.Programs.{said, task_of, task_on}
@@ -29,10 +29,8 @@ use Rattle.tc_job.specs.Job.{job_of}
 use Rattle.tc_job.specs.declared.job.Job.{Job}
 use Rattle.tc_report.specs.declared.rows.Row.{Row}
 use Rattle.tcrest.specs.declared.command.Command.{Command}
-use Rattle.tcrest.specs.declared.command.Command.TheVariants.{OfJob, Grid, Gen, Bench, Usage}
 use Rattle.tcrest.specs.declared.command.JobCommand.{JobCommand}
 use Rattle.tcrest.specs.declared.command.JobCommand.TheVariants.{Run, Bound, Asm, Mean, Pipe}
-use Rattle.tcrest.specs.Command.{ReadsNothing}
 use Rattle.tcrest.specs.Machine.{core_with, core_in, cores_from, machine_of, site_on}
 use Rattle.tcrest.specs.Rows.{is_flagged, program_row, row_of, row_state, rows_from, running}
 use Rattle.tcrest.specs.Tasks.{Bounded, Coded, coded_from, runs_by, runs_on}
@@ -134,10 +132,6 @@ bounds_tell job coded made place c p at is some =
     }
 
 -- ---- the machine of a job
-
-room_for : (limit cores : ℕ) → limit ≤ 20000000 → cores ≤ 16 → 2 * limit * cores ≤ 2 ^ 64
-room_for limit cores most few =
-    let most_of_all : 2 * limit * cores ≤ 40000000 * 16 = mul-le (2 * limit) cores 40000000 16 (omega (arith, most)) few in omega arith
 
 module _ (job : Job) (ranges : KeepsRanges job) (coded : List (Option Coded)) (made : AreMade job coded) (words : ℕ) (fits : (core : ℕ) → InRange words (core_in (cores_from job 0 coded) core)) where
   abbrev cores : ℕ → Core
@@ -252,18 +246,6 @@ told_job command bytes job (Ok x) is told = λ other cs read.
     let same : job ≡ other = ok_is job other (sym is ∙ read) in
     subst (λ j. coded_from j 0 j.cores ≡ Ok cs → TellsOf command j cs) same (told cs)
 told_job command bytes job (Err e) is told = tt
-
--- what a command tells that reads nothing is the same whatever the bytes are
-tells_unread : (command : Command) (bytes : List ℕ) → ReadsNothing command → TellsTasksOf command [] → TellsTasksOf command bytes
-tells_unread (OfJob command) bytes none told = absurd none
-tells_unread Grid bytes none told = absurd none
-tells_unread (Gen number) bytes none told = tt
-tells_unread (Bench number) bytes none told = told
-tells_unread Usage bytes none told = tt
-
-pub told_unread : (command : Command) (left : Option (List ℕ)) (report : Type 0) → ReadsNothing command → (report → TellsTasksOf command []) → IfSome left (λ bytes. report → TellsTasksOf command bytes)
-told_unread command None report reads told = tt
-told_unread command (Some bytes) report reads told = λ made. tells_unread command bytes reads (told made)
 
 pub told_bytes : (command : Command) (left : Option (List ℕ)) (came : List ℕ) (report : Type 0) → IfSome left (λ bytes. came ≡ bytes) → TellsTasksOf command came
     → IfSome left (λ bytes. report → TellsTasksOf command bytes)

@@ -1,4 +1,4 @@
--- What is written for the words of a command line and the bytes of the input: a status and a text.
+-- To be believed. What is written for the words of a command line and the bytes of the input: a status and a text.
 use Rattle.std.specs.Prelude.{ℕ, nat_lt, Bool, true, if◌then◌else◌, List, [], ◌∷◌, Option, None, Some, ◌++◌, length, map, codes, Result, Ok, Err}
 use Rattle.argo_grid.specs.declared.report.GridReport.{GridReport}
 use Rattle.argo_grid.specs.Report as grid
@@ -66,7 +66,8 @@ reported job rows = record { status = status_of rows; text = report_text (report
 
 -- the report of the machine of these tasks, at its limit alone
 abbrev pub report_of : Job → List (Option Coded) → Answer
-report_of job coded = reported job (rows_of job.cycles job.trace (map runs_on coded) (machine_of job (cores_from job 0 coded)))
+report_of job coded =
+    reported job (rows_of job.cycles job.trace (map runs_on coded) (machine_of job (cores_from job 0 coded)))
 
 -- a job that `pipe` alone refuses
 abbrev pub no_pipe : PipeFault → Answer

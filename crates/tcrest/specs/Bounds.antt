@@ -1,4 +1,4 @@
--- What `bound` and `persist` write: the platform, and how many cycles each C task takes at most.
+-- To be believed. What `bound` and `persist` write: the platform, and how many cycles each C task takes at most.
 use Rattle.std.specs.Prelude.{ℕ, List, [], ◌++◌, codes, Option}
 use Rattle.std.specs.Fmt.{decimal}
 use Rattle.slot_arbiter.specs.Slot.{period}
@@ -27,4 +27,5 @@ abbrev pub bound_line_on : Bounds → ℕ → Option Coded → List ℕ
 bound_line_on bounds core c = bound_line_of bounds core (runs_on c)
 
 abbrev pub bounds_text : Bounds → Job → List (Option Coded) → List ℕ
-bounds_text bounds job coded = platform_line job.cores job.slot (period job.table job.slot) ++ told_from (bound_line_on bounds) 0 coded
+bounds_text bounds job coded =
+    platform_line job.cores job.slot (period job.table job.slot) ++ told_from (bound_line_on bounds) 0 coded

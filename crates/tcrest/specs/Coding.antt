@@ -1,4 +1,4 @@
--- What contracts see of tasks that are made.
+-- For proofs. What contracts see of tasks that are made.
 use Rattle.std.specs.Prelude.{ℕ, List, map, Option, IfSome}
 use Rattle.std.specs.Option.{option_map}
 use Rattle.c_tree.specs.Plain.{plain}

@@ -1,4 +1,4 @@
--- The commands, as the words of the command line behind the program's name call them.
+-- To be believed. The commands, as the words of the command line after the program's name call them.
 use Rattle.std.specs.Prelude.{ℕ, ◌^◌, List, [], ◌∷◌, Option, None, Some, codes, bytes_eq, length, nat_le, nat_lt, if◌then◌else◌}
 use Rattle.patmos_syntax.specs.Readers.{value_of}
 use Rattle.patmos_syntax.specs.declared.readers.Radix.TheVariants.{Decimal}

@@ -1,4 +1,4 @@
--- When a job is reported, whole.
+-- To be believed. When a job is reported, whole.
 use Rattle.std.specs.Prelude.{◌≡◌, ◌≤◌, List, Option, Ok}
 use Rattle.c_compile.specs.Texts.{program_on}
 use Rattle.c_lex.specs.Texts.{lexed}

@@ -1,4 +1,4 @@
--- What a call that may run out of memory answered, against what is defined.
+-- For proofs. What a call that may run out of memory answered, against what is defined.
 use Rattle.std.specs.Prelude.{◌≡◌, Result, Ok, Err}
 use Rattle.c_check.specs.declared.checks.CheckError.TheVariants as checks
 use Rattle.c_compile.specs.declared.faults.CompileFault.{CompileFault}

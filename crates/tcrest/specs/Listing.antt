@@ -1,4 +1,4 @@
--- What `asm` writes: the words of each assembly task's code.
+-- To be believed. What `asm` writes: the words of each assembly task's code.
 use Rattle.std.specs.Prelude.{ℕ, List, [], ◌++◌, length, codes, Option, Some, None}
 use Rattle.std.specs.List.{flat_map}
 use Rattle.std.specs.Fmt.{decimal}

@@ -1,4 +1,4 @@
--- A machine that is loaded, against the one that a job asks for.
+-- To be believed. A machine that is loaded, against the one that a job asks for.
 use Rattle.std.specs.Prelude.{◌≡◌, ℕ, List, length, map}
 use Rattle.patmos_model.specs.State.{Core}
 use Rattle.global_step.specs.declared.loaded.LoadedCore.{LoadedCore}

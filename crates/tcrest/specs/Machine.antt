@@ -1,4 +1,4 @@
--- The machine that a job asks for: the job's platform, and on each core its task, if it has one.
+-- To be believed. The machine that a job asks for: the job's platform, and on each core its task, if it has one.
 use Rattle.std.specs.Prelude.{ℕ, ◌+◌, List, [], ◌∷◌, Option, None, Some, slice_get}
 use Rattle.shared_order.specs.Machine.{State, cycled}
 use Rattle.patmos_code.specs.Images.{Parts}

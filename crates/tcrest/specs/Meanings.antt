@@ -1,4 +1,4 @@
--- What `mean` writes: of each C task what its program means on its input.
+-- To be believed. What `mean` writes: of each C task what its program means on its input.
 use Rattle.std.specs.Prelude.{ℕ, nat_lt, if◌then◌else◌, List, [], ◌++◌, codes, Option, Some, None, slice_get}
 use Rattle.c_tree.specs.declared.layout.Slot.{Slot}
 use Rattle.c_tree.specs.Layout.{layout_of}
@@ -20,7 +20,8 @@ output_slot items = elim (output_number items) [ None ↦ None | Some number ↦
 
 -- what a program gave
 abbrev pub given_lines : ℕ → List PlainItem → Given → List ℕ
-given_lines core items given = mean_line core given.value given.world.overrun ++ outs_of core given.world (output_slot items)
+given_lines core items given =
+    mean_line core given.value given.world.overrun ++ outs_of core given.world (output_slot items)
 
 -- what a program means on its input, where `shared` and `comm` begin with 0
 abbrev pub program_lines : ℕ → List ℕ → List PlainItem → List ℕ

@@ -1,4 +1,4 @@
--- What a call of the program did, against the answer that it owes: its status, and the bytes that its
+-- To be believed. What a call of the program did, against the answer that it owes: its status, and the bytes that its
 -- sink took.
 use Rattle.std.specs.Prelude.{◌≡◌, ℕ, ◌<◌, ◌⊎◌, List, [], ◌++◌, length, take, Option, Some, None}
 use Rattle.tc_io.specs.Faults.{Rose}
@@ -12,7 +12,8 @@ memory = 7
 
 -- the answer was written whole, or memory was refused and nothing was
 abbrev pub IsAnswered : Answer → ℕ → Option (List ℕ) → Option (List ℕ) → Type 0
-IsAnswered a status taken taken' = ((status ≡ a.status) × Took taken taken' a.text) ⊎ ((status ≡ memory) × Took taken taken' [])
+IsAnswered a status taken taken' =
+    ((status ≡ a.status) × Took taken taken' a.text) ⊎ ((status ≡ memory) × Took taken taken' [])
 
 -- a prefix of the text, and not all of it
 abbrev pub IsCutOff : List ℕ → List ℕ → Type 0
@@ -32,7 +33,8 @@ pub record HasWrittenBy (a : Answer) (read_failed : Type 0) (status : ℕ) (appe
 abbrev pub HasWritten : Answer → Type 0 → ℕ → Option (List ℕ) → Option (List ℕ) → Type 0
 HasWritten a read_failed status None taken' = Unit {0}
 HasWritten a read_failed status (Some taken) None = Unit {0}
-HasWritten a read_failed status (Some taken) (Some taken') = (appended : List ℕ) × (taken' ≡ taken ++ appended) × HasWrittenBy a read_failed status appended
+HasWritten a read_failed status (Some taken) (Some taken') =
+    (appended : List ℕ) × (taken' ≡ taken ++ appended) × HasWrittenBy a read_failed status appended
 
 -- one text was handed to the sink: all of it went out under its status, or a proper prefix of it and the
 -- sink's count of faults rose
@@ -45,4 +47,5 @@ IsSent a status faults faults' taken taken' =
 abbrev pub Ends : Answer → Type 0 → ℕ → ℕ → ℕ → Option (List ℕ) → Option (List ℕ) → Type 0
 Ends a read_failed status faults faults' taken taken' =
     ((status ≡ memory) × Took taken taken' [])
-    ⊎ (IsSent a status faults faults' taken taken' ⊎ (IsSent read_fault status faults faults' taken taken' × read_failed))
+    ⊎ (IsSent a status faults faults' taken taken'
+    ⊎ (IsSent read_fault status faults faults' taken taken' × read_failed))

@@ -1,4 +1,5 @@
--- What `pipe` writes: what the five stages of a job's only core hold at each step, and what became of its task.
+-- To be believed. What `pipe` writes: what the five stages of a job's only core hold at
+-- each step, and what became of its task.
 use Rattle.std.specs.Prelude.{ℕ, zero, suc, ◌+◌, ◌==◌, min, Bool, true, false, ◌&&◌, List, [], ◌∷◌, ◌++◌, length, codes, None, Some, option_map}
 use Rattle.slot_arbiter.specs.Slot.{period}
 use Rattle.c_mentions.specs.Alone.{is_alone}
@@ -18,7 +19,7 @@ use Rattle.tcrest.specs.declared.pipe.PipeFault.TheVariants.{OneCore}
 use Rattle.tcrest.specs.Rows.{is_flagged, row_state, running, status_of}
 use Rattle.tcrest.specs.Tasks.{Runs, nothing, assembly, program}
 
--- the number of a fault that `pipe` alone finds, behind those of any job, and its name
+-- the number of a fault that `pipe` alone finds, after those of any job, and its name
 abbrev pub fault_number : PipeFault → ℕ
 fault_number OneCore = 9
 
@@ -45,8 +46,8 @@ abbrev pub steps_text : Core → ℕ → ℕ → List ℕ
 steps_text x limit zero = []
 steps_text x limit (suc n) = steps_text x limit n ++ step_text x limit n
 
--- what is told of the core by its state, what it runs and its program's bound: the line of its state, and no words, starts or
--- transactions
+-- what is told of the core by its state, what it runs and its program's bound: the line of its
+-- state, and no words, starts or transactions
 abbrev pub silent_row : CoreState → Row
 silent_row s = record {
   state = row_state s;
@@ -76,7 +77,8 @@ end_row limit r x = told_row r (state_at limit (core_before x limit).plain)
 abbrev pub pipe_text : Job → Runs → Core → List ℕ
 pipe_text job r x =
     platform_line job.cores job.slot (period job.table job.slot)
-    ++ (steps_text x job.cycles (min job.trace (length (done_below x job.cycles))) ++ state_line 0 (end_row job.cycles r x))
+    ++ (steps_text x job.cycles (min job.trace (length (done_below x job.cycles)))
+    ++ state_line 0 (end_row job.cycles r x))
 
 abbrev pub pipe_of : Job → Runs → Core → Answer
 pipe_of job r x = record { status = status_of (end_row job.cycles r x ∷ []); text = pipe_text job r x }

@@ -1,4 +1,4 @@
--- What `run` tells of each core of the machine at its limit, and under which status.
+-- To be believed. What `run` tells of each core of the machine at its limit, and under which status.
 use Rattle.std.specs.Prelude.{ℕ, ◌+◌, ◌==◌, Bool, true, false, not, List, [], ◌∷◌, take, map, Option, Some, None}
 use Rattle.std.specs.List.{list_any}
 use Rattle.c_mentions.specs.Alone as alone
@@ -43,7 +43,8 @@ is_flagged _ = false
 
 -- what stands in a core's own memories
 abbrev pub own_world : Plain → World
-own_world x = record { scratch = x.scratch; comm = λ _. 0; private = x.private; shared = λ _. 0; overrun = false; sends = [] }
+own_world x =
+    record { scratch = x.scratch; comm = λ _. 0; private = x.private; shared = λ _. 0; overrun = false; sends = [] }
 
 -- the words of the array `out`, where there is one, and whether they are unsigned
 abbrev pub words_out : World → Option Slot → List ℕ
@@ -90,7 +91,8 @@ row_of limit trace all core (program p) x = program_row limit trace all core p x
 -- the rows of cores, the first of which is this one, in a machine
 abbrev pub rows_from : ℕ → ℕ → List Running → ℕ → List Runs → State Core → List Row
 rows_from limit trace all core [] m = []
-rows_from limit trace all core (r ∷ rs) m = row_of limit trace all core r (m.cores core) ∷ rows_from limit trace all (core + 1) rs m
+rows_from limit trace all core (r ∷ rs) m =
+    row_of limit trace all core r (m.cores core) ∷ rows_from limit trace all (core + 1) rs m
 
 abbrev pub rows_of : ℕ → ℕ → List Runs → State Core → List Row
 rows_of limit trace rs m = rows_from limit trace (map running rs) 0 rs m

@@ -1,5 +1,5 @@
--- The tasks of a job by the numbers of their cores, and what each is made to: found in one pass over the cores, which the
--- first refused task ends.
+-- To be believed. The tasks of a job by the numbers of their cores, and what each is made to: found in one pass over
+-- the cores, which the first refused task ends.
 use Rattle.std.specs.Prelude.{ℕ, zero, suc, ◌+◌, ◌==◌, List, [], ◌∷◌, ◌++◌, codes, Option, Some, None, Result, Ok, Err}
 use Rattle.std.specs.List.{find}
 use Rattle.std.specs.Fmt.{decimal}
@@ -178,7 +178,7 @@ check_name check.NoMain = codes "NoMain"
 abbrev pub at_place : List ℕ → ℕ → List ℕ
 at_place name at = name ++ codes " at " ++ decimal at
 
--- what is written of a refusal, behind its core
+-- what is written of a refusal, after its core
 abbrev pub refusal_text : Refusal → List ℕ
 refusal_text Long = codes "Long"
 refusal_text (Char at) = at_place (codes "Char") at

@@ -1,4 +1,5 @@
--- What the report of a job tells of its C tasks, in terms of what their texts mean and of the times of their code.
+-- To be believed. What the report of a job tells of its C tasks, in terms of what their
+-- texts mean and of the times of their code.
 use Rattle.std.specs.Prelude.{◌≡◌, ℕ, ◌+◌, ◌-◌, ◌<◌, ◌≤◌, ◌⊎◌, true, List, take, map, Option, None, Some, IfSome, Ok, slice_get}
 use Rattle.std.specs.List.{AllByRecursion as Each}
 use Rattle.slot_arbiter.specs.declared.place.Place.{Place}
@@ -44,19 +45,21 @@ pub record TellsMeaning (place : Place) (items : List PlainItem) (g : Given) (ro
   pub overrun : row.overrun ≡ g.world.overrun
   pub outs : row.outs ≡ words_out g.world (output_slot items)
 
--- What the row of a core tells of a C task, in the machine of its job at the limit. The program's times hang on its text and its
--- place alone, and neither on its input nor on what the other cores do.
+-- What the row of a core tells of a C task, in the machine of its job at the limit. The program's times hang on its
+-- text and its place alone, and neither on its input nor on what the other cores do.
 pub record TellsTask (job : Job) (m : State Core) (place : Place) (items : List PlainItem) (input : List ℕ) (row : Row) : Type 0 where
   -- the transactions are the first of the program's times below the limit
   pub accesses : row.accesses ≡ take job.trace (below job.cycles (times place items).accesses)
   -- it is done exactly where its end is at most the limit, and else runs there; so it never traps
-  pub done : (times place items).end ≤ job.cycles → (value : ℕ) × (row.state ≡ Done value ((times place items).end - place.start))
+  pub done : (times place items).end ≤ job.cycles
+      → (value : ℕ) × (row.state ≡ Done value ((times place items).end - place.start))
   pub limit : job.cycles < (times place items).end → row.state ≡ Limit
   -- the program's bound is told, and its end is at most its start and that
   pub bound : row.bound ≡ Some (bound_of place items)
   pub within : (times place items).end ≤ place.start + bound_of place items
   -- a done task is told to be what its text means in each world that fits, and alone the world of zeros does
-  pub meaning : (world : ℕ → ℕ) → IsWorld world → FitsWorld items place input m job.cycles world → (times place items).end ≤ job.cycles
+  pub meaning : (world : ℕ → ℕ) → IsWorld world → FitsWorld items place input m job.cycles world
+      → (times place items).end ≤ job.cycles
       → TellsMeaning place items (said items place input world) row
   pub alone : row.alone ≡ true → FitsWorld items place input m job.cycles zeros
 
@@ -72,8 +75,8 @@ TellsTasks job coded =
     → slice_get (rows_of job.cycles job.trace (map runs_on coded) (end_of job coded)) place.core ≡ Some row
     → TellsTask job (end_of job coded) place p.items c.task.input row
 
--- What the bounds of a program tell, whatever its input is and the other cores do: its end is at most its start and each of
--- them, and the persistent one is no more than the other.
+-- What the bounds of a program tell, whatever its input is and the other cores do: its end is at most its start and
+-- each of them, and the persistent one is no more than the other.
 pub record TellsBounds (place : Place) (p : Bounded) : Type 0 where
   pub bound : (times place p.items).end ≤ place.start + p.bound
   pub persist : (times place p.items).end ≤ place.start + p.persist
@@ -82,7 +85,8 @@ pub record TellsBounds (place : Place) (p : Bounded) : Type 0 where
 -- so do those of each C task
 abbrev pub TellsAllBounds : Job → List (Option Coded) → Type 0
 TellsAllBounds job coded =
-    (place : Place) (c : Coded) (p : Bounded) → IsPlaceOf job c.task.start place → slice_get coded place.core ≡ Some (Some c) → c.made.program ≡ Some p
+    (place : Place) (c : Coded) (p : Bounded) → IsPlaceOf job c.task.start place
+    → slice_get coded place.core ≡ Some (Some c) → c.made.program ≡ Some p
     → TellsBounds place p
 
 -- what the answer to a job tells of its tasks, which are made to these
@@ -96,7 +100,9 @@ TellsOf Persist job coded = TellsAllBounds job coded
 
 -- where the text is a job whose tasks are all made
 abbrev pub TellsJob : JobCommand → List ℕ → Type 0
-TellsJob command text = (job : Job) (coded : List (Option Coded)) → job_of text ≡ Ok job → coded_from job 0 job.cores ≡ Ok coded → TellsOf command job coded
+TellsJob command text =
+    (job : Job) (coded : List (Option Coded)) → job_of text ≡ Ok job → coded_from job 0 job.cores ≡ Ok coded
+    → TellsOf command job coded
 
 -- what a command tells of C tasks: of those of the input, or of a generated job
 abbrev pub TellsTasksOf : Command → List ℕ → Type 0

@@ -1,4 +1,4 @@
--- A small job, for worked values.
+-- For worked rows. A small job, for worked values.
 use Rattle.std.specs.Prelude.{ℕ, List, [], ◌∷◌, codes}
 use Rattle.patmos_asm.specs.Assembly.{CodeParts}
 use Rattle.tc_job.specs.declared.job.Job.{Job}
@@ -36,4 +36,6 @@ lone_job cycles = record {
 -- the rows of its machine, where the task has that code
 abbrev pub lone_rows : ℕ → List Row
 lone_rows cycles =
-    rows_of cycles 4 (assembly ∷ []) (machine_of (lone_job cycles) (begun_on (lone_job cycles) 0 (record { task = lone_task; made = of_code seven }) ∷ []))
+    rows_of cycles 4 (assembly ∷ [])
+    (machine_of (lone_job cycles) (begun_on (lone_job cycles) 0 (record { task = lone_task; made = of_code seven })
+    ∷ []))

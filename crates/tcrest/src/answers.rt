@@ -176,7 +176,8 @@ fn answer_by<R: Threads + Wait + Sync, G: Gate + Sync>(
     requires { KeepsRanges job.now }
     ensures answer { IfOk result (λ answer. answer ≡ specs.answer_by command job.now) }
     ensures below { IfOk result (λ answer. answer.status < 5) }
-    ensures told { IfOk result (λ _. (coded : prelude.List (Option Coded)) → coded_from job.now 0 job.now.cores ≡ Ok coded → TellsOf command job.now coded) }
+    ensures told { IfOk result (λ _. (coded : prelude.List (Option Coded))
+        → coded_from job.now 0 job.now.cores ≡ Ok coded → TellsOf command job.now coded) }
 {
     if !is_taken(command, job) {
         return fault_answer(alloc, PipeFault::OneCore);

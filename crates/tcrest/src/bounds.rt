@@ -43,7 +43,8 @@ fn put_bounds(
     bounds: Bounds,
     coded: &[Option<CodedTask<'_>>],
 ) -> Result<(), OutOfMemory>
-    ensures { OnOk result (text.new.items ≡ text.old.items ++ told_from (specs.bound_line_on bounds) 0 (all_shown coded.now)) }
+    ensures { OnOk result (text.new.items
+        ≡ text.old.items ++ told_from (specs.bound_line_on bounds) 0 (all_shown coded.now)) }
 {
     for (core, one) in coded.iter().enumerate() {
         put_bounds_of(text, bounds, core as u64, one)?;

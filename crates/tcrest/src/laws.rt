@@ -32,7 +32,8 @@ use crate::top::MOST_BYTES;
 /// When the answers of usage and of a text that is too long come.
 pub fn refusals_in_order()
     // Status 1 comes exactly where the words are no command.
-    ensures usage { (words : List (List ℕ)) (bytes : List ℕ) → ((answer words bytes).status ≡ 1) ↔ (command_of words ≡ Usage) }
+    ensures usage { (words : List (List ℕ)) (bytes : List ℕ)
+        → ((answer words bytes).status ≡ 1) ↔ (command_of words ≡ Usage) }
     ensures run { (words : List (List ℕ)) → (command_of words ≡ OfJob Run) ↔ (words ≡ codes "run" ∷ []) }
     ensures bound { (words : List (List ℕ)) → (command_of words ≡ OfJob Bound) ↔ (words ≡ codes "bound" ∷ []) }
     ensures asm { (words : List (List ℕ)) → (command_of words ≡ OfJob Asm) ↔ (words ≡ codes "asm" ∷ []) }
@@ -40,18 +41,23 @@ pub fn refusals_in_order()
     ensures pipe { (words : List (List ℕ)) → (command_of words ≡ OfJob Pipe) ↔ (words ≡ codes "pipe" ∷ []) }
     ensures persist { (words : List (List ℕ)) → (command_of words ≡ OfJob Persist) ↔ (words ≡ codes "persist" ∷ []) }
     ensures grid { (words : List (List ℕ)) → (command_of words ≡ Grid) ↔ (words ≡ codes "grid" ∷ []) }
-    ensures generated { (word digits : List ℕ) (number : ℕ) → (command_of (word ∷ digits ∷ []) ≡ Gen number) ↔ ((word ≡ codes "gen") × (number_in digits ≡ Some number)) }
-    ensures bench { (word digits : List ℕ) (number : ℕ) → (command_of (word ∷ digits ∷ []) ≡ Bench number) ↔ ((word ≡ codes "bench") × (number_in digits ≡ Some number)) }
+    ensures generated { (word digits : List ℕ) (number : ℕ)
+        → (command_of (word ∷ digits ∷ []) ≡ Gen number) ↔ ((word ≡ codes "gen") × (number_in digits ≡ Some number)) }
+    ensures bench { (word digits : List ℕ) (number : ℕ)
+        → (command_of (word ∷ digits ∷ []) ≡ Bench number)
+        ↔ ((word ≡ codes "bench") × (number_in digits ≡ Some number)) }
 
     // A text is too long exactly where it has more than `MOST_BYTES` bytes.
-    ensures too_long { (command : Command) (bytes : List ℕ) → (bytes_answer command bytes ≡ too_long) ↔ (MOST_BYTES < length bytes) }
+    ensures too_long { (command : Command) (bytes : List ℕ)
+        → (bytes_answer command bytes ≡ too_long) ↔ (MOST_BYTES < length bytes) }
 {}
 
-/// A job is reported whole under `run`, where its bytes are not too many and each of its tasks has code: nothing else is
-/// answered. A law: it does nothing.
+/// A job is reported whole under `run`, where its bytes are not too many and each of its tasks has code:
+/// nothing else is answered. A law: it does nothing.
 #[tactic(auto, using(crate::proofs::Complete::reported_whole))]
 pub fn jobs_with_code_are_reported()
-    ensures { (bytes : List ℕ) (job : JobParts) → length bytes ≤ MOST_BYTES → job_of bytes ≡ Ok job → Each (HasCode job) job.tasks
+    ensures { (bytes : List ℕ) (job : JobParts) → length bytes ≤ MOST_BYTES → job_of bytes ≡ Ok job
+        → Each (HasCode job) job.tasks
         → IsWhole job (answer (codes "run" ∷ []) bytes) }
 {}
 
@@ -70,7 +76,7 @@ pub fn limits()
     ensures one_core { fault_number OneCore ≡ 9 }
 {}
 
-/// The rows of a small job, computed by the checker: its task ends at cycle 17, behind two transactions.
+/// The rows of a small job, computed by the checker: its task ends at cycle 17, after two transactions.
 #[tactic(auto, unfolding(crate::specs::Machine::machine_of, patmos_code::specs::Codes::code, patmos_code::specs::Decoding::bundle_at, patmos_model::specs::Flows::flowed, patmos_model::specs::Checks::fault_of, patmos_model::specs::Bundle::fetched_at, patmos_model::specs::Transaction::transaction))]
 pub fn worked_run()
     ensures done { map (λ row. row.state) (lone_rows 17) ≡ Done 7 17 ∷ [] }
@@ -91,5 +97,6 @@ pub fn worked_meanings()
 /// A machine that was loaded with the cores of a job, and its numbers, is the job's machine. A law: it does
 /// nothing.
 pub fn loaded_machine_is_the_jobs()
-    ensures { (job : JobParts) (cores : List Core) (m : Machine) → IsLoadedFor job cores m → at_limit m ≡ machine_of job cores }
+    ensures { (job : JobParts) (cores : List Core) (m : Machine) → IsLoadedFor job cores m
+        → at_limit m ≡ machine_of job cores }
 {}

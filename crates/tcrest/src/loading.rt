@@ -28,7 +28,8 @@ pub fn loaded_of(
     requires count { length coded.items ≡ job.now.cores }
     requires among { All (IsAmong job.now.cores) coded.items }
     ensures tasks { IfOk result (λ r. length r.1.items ≡ job.now.cores) }
-    ensures loaded { IfOk result (λ r. IsLoadedFor job.now (specs.cores_from job.now 0 (all_shown coded.entry.items)) r.0) }
+    ensures loaded { IfOk result (λ r. IsLoadedFor job.now
+        (specs.cores_from job.now 0 (all_shown coded.entry.items)) r.0) }
     ensures runs { IfOk result (λ r. map runs r.1.items ≡ map runs_on (all_shown coded.entry.items)) }
 {
     let (cores, tasks) = cores_of(alloc, job, coded)?;
@@ -47,7 +48,8 @@ fn cores_of(
     requires ranges { KeepsRanges job.now }
     requires count { length coded.items ≡ job.now.cores }
     requires among { All (IsAmong job.now.cores) coded.items }
-    ensures cores { IfOk result (λ r. map first_core r.0.items ≡ specs.cores_from job.now 0 (all_shown coded.entry.items)) }
+    ensures cores { IfOk result (λ r. map first_core r.0.items
+        ≡ specs.cores_from job.now 0 (all_shown coded.entry.items)) }
     ensures count { IfOk result (λ r. length r.0.items ≡ job.now.cores) }
     ensures tasks { IfOk result (λ r. length r.1.items ≡ job.now.cores) }
     ensures platform { IfOk result (λ r. AreOnePlatform r.0.items) }
@@ -110,7 +112,8 @@ fn begun_on(
     requires ranges { KeepsRanges job.now }
     requires number { core < job.now.cores }
     requires task { IsTaskAmong job.now.cores task.now }
-    ensures core { IfOk result (λ l. first_core l ≡ begun (specs.site_on job.now core task.now.start image) task.now.input) }
+    ensures core { IfOk result (λ l. first_core l
+        ≡ begun (specs.site_on job.now core task.now.start image) task.now.input) }
     ensures placed { IfOk result (IsPlaced job.now core) }
 {
     let input = List::of(Vec::from_slice(alloc, task.input.as_slice())?);
@@ -132,7 +135,8 @@ pub fn place_of(job: &Job, core: u32, start: u64) -> Place
     ensures core { result.core ≡ core }
     ensures slot { result.slot ≡ job.now.slot }
     ensures table { result.table ≡ job.now.table }
-    ensures placed { (image : Option Parts) (input : List ℕ) → IsPlaced job.now core (record { place = result; image = image; input = input }) }
+    ensures placed { (image : Option Parts) (input : List ℕ)
+        → IsPlaced job.now core (record { place = result; image = image; input = input }) }
 {
     let Some(table) = Table::new(job.table.as_slice(), job.cores) else {
         unreachable!()

@@ -35,7 +35,7 @@ use tc_io::{FreeGate, StdSink, StdSource};
 use tc_word::{OutOfMemory, Text};
 use top::{MEMORY, tcrest};
 
-/// The words behind the program's name. A word that is not text leaves none, which call no command.
+/// The words after the program's name. A word that is not text leaves none, which call no command.
 fn words_of(alloc: Global, rt: &HostRuntime) -> Result<Vec<Text>, OutOfMemory> {
     let mut words = Vec::new(alloc);
     let given = match env::args(rt) {

@@ -12,8 +12,8 @@ use std::alloc::Global;
 use tc_report::{put_core_name, put_mean_line, put_outs};
 use tc_word::OutOfMemory;
 
-/// What the programs of C tasks mean, in the order of their cores, where a task that may take longer than the limit is not
-/// carried out.
+/// What the programs of C tasks mean, in the order of their cores, where a task that may take
+/// longer than the limit is not carried out.
 pub fn meanings(
     alloc: Global,
     limit: u64,
@@ -54,7 +54,8 @@ fn put_timely(
     program: &Program,
     input: &[u32],
 ) -> Result<(), OutOfMemory>
-    ensures { OnOk result (text.new.items ≡ text.old.items ++ specs.timely_lines limit core input.now (bounded program.now)) }
+    ensures { OnOk result (text.new.items
+        ≡ text.old.items ++ specs.timely_lines limit core input.now (bounded program.now)) }
 {
     if limit < program.bound {
         put_core_name(text, core)?;
@@ -70,7 +71,8 @@ fn put_program(
     program: &Checked,
     input: &[u32],
 ) -> Result<(), OutOfMemory>
-    ensures { OnOk result (text.new.items ≡ text.old.items ++ specs.program_lines core input.now (plain program.now.unit)) }
+    ensures { OnOk result (text.new.items
+        ≡ text.old.items ++ specs.program_lines core input.now (plain program.now.unit)) }
 {
     let outcome = mean(*text.allocator(), program, input)?;
     put_mean_line(text, core, outcome.value, outcome.overrun)?;

@@ -30,7 +30,8 @@ pub struct Output {
 /// What a core's memories hold in a program's array `out`; no words where it has none.
 pub fn output_in(alloc: Global, program: &Checked, core: &Core) -> Result<Output, OutOfMemory>
     ensures words { IfOk result (λ o. (m : Machine) (k : ℕ) → IsFinalCore m k core.now
-        → o.words ≡ specs.words_out (specs.own_world ((at_limit m).cores k).plain) (output_slot (plain program.now.unit))) }
+        → o.words ≡ specs.words_out (specs.own_world ((at_limit m).cores k).plain)
+        (output_slot (plain program.now.unit))) }
     ensures unsigned { IfOk result (λ o. o.unsigned ≡ specs.is_unsigned_out (output_slot (plain program.now.unit))) }
 {
     let Some(slot) = output_slot(program) else {

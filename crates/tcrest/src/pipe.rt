@@ -34,7 +34,7 @@ pub enum PipeFault {
 }
 
 impl PipeFault {
-    /// The fault's number, behind those of any job.
+    /// The fault's number, after those of any job.
     pub fn number(self) -> u32
         ensures { result ≡ specs.fault_number self }
     {
@@ -118,7 +118,8 @@ fn stages_answer(
 ) -> Result<Answer, OutOfMemory>
     requires ranges { KeepsRanges job.now }
     requires alone { place.cores ≡ 1 }
-    ensures { IfOk result (λ answer. answer ≡ specs.pipe_of job.now (runs task.now) (begun (site_of place image.now) input.now)) }
+    ensures { IfOk result (λ answer. answer
+        ≡ specs.pipe_of job.now (runs task.now) (begun (site_of place image.now) input.now)) }
 {
     let mut core = PipeCore::new(alloc, place, image, input)?;
     let mut text = Vec::new(alloc);
@@ -139,7 +140,8 @@ fn put_steps(
     requires first { limit_of core.old ≤ limit }
     ensures told { OnOk result ((x : Core) → StandsFor core.old x 0
         → text.new.items ≡ text.old.items ++ specs.steps_text x limit (min trace (length (done_below x limit)))) }
-    ensures stands { OnOk result ((x : Core) → StandsFor core.old x 0 → StandsFor core.new x (length (done_below x limit))) }
+    ensures stands { OnOk result ((x : Core) → StandsFor core.old x 0
+        → StandsFor core.new x (length (done_below x limit))) }
     ensures through { OnOk result ((x : Core) → StandsFor core.old x 0 → IsThrough core.new) }
     ensures limit { OnOk result (limit_of core.new ≡ limit) }
 {
@@ -183,7 +185,7 @@ fn end_row(alloc: Global, task: &CoreTask, state: CoreState) -> Result<Row, OutO
     }
 }
 
-// the answer behind the steps
+// the answer after the steps
 fn ended(alloc: Global, text: Vec<u8>, row: Row) -> Result<Answer, OutOfMemory>
     ensures { IfOk result (λ answer. answer ≡ record {
       status = rows_specs.status_of (row ∷ []);

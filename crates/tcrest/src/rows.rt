@@ -116,7 +116,8 @@ fn with_program(
           bound = Some program.now.bound;
           alone = alone;
           overrun = specs.is_flagged (machine.outcome_of m k);
-          outs = specs.words_out (specs.own_world ((at_limit m).cores k).plain) (output_slot (plain program.now.checked.unit));
+          outs = specs.words_out (specs.own_world ((at_limit m).cores k).plain)
+              (output_slot (plain program.now.checked.unit));
           outs_unsigned = specs.is_unsigned_out (output_slot (plain program.now.checked.unit));
         }) }
 {

@@ -28,7 +28,7 @@ pub const STORE_BYTE_AND_LOAD: &str =
 const LATE_LOAD: &str =
     "addl r2 = r0, 0x01000000; addl r3 = r0, 10000; top: subi r3 = r3, 1; cmpineq p1 = r3, 0; (p1) br top; nop; nop; lwm r1 = [r2 + 0]; ret; nop; nop; nop";
 
-/// The text of a job: what stands at its top, and of each task the keys and the source behind
+/// The text of a job: what stands at its top, and of each task the keys and the source after
 /// `.func main; `.
 pub fn job_of(alloc: Global, head: &str, tasks: &[(&str, &str)]) -> Result<String, Fail> {
     let mut job = format!(in alloc; "{head}\n")?;

@@ -48,21 +48,26 @@ pub fn tcrest<R: Threads + Wait + Sync, S: Source, K: Sink, G: Gate + Sync>(
     gate: &G,
 ) -> u8
     // Where nothing failed, the answer is written, or memory was refused and nothing is.
-    ensures answered { (Rose (S.faults source.old) (S.faults source.new) → ⊥) → (Rose (K.faults sink.old) (K.faults sink.new) → ⊥)
-        → IfSome (S.left source.old) (λ bytes. IsAnswered (answer words.now bytes) result (K.taken sink.old) (K.taken sink.new)) }
+    ensures answered { (Rose (S.faults source.old) (S.faults source.new) → ⊥)
+        → (Rose (K.faults sink.old) (K.faults sink.new) → ⊥)
+        → IfSome (S.left source.old) (λ bytes. IsAnswered (answer words.now bytes) result (K.taken sink.old)
+        (K.taken sink.new)) }
 
     // Words that ask for no text leave the source alone, and are answered whatever it is.
     ensures unread { commands.ReadsNothing (commands.command_of words.now) → source.new ≡ source.old }
-    ensures answered_unread { commands.ReadsNothing (commands.command_of words.now) → (Rose (K.faults sink.old) (K.faults sink.new) → ⊥)
+    ensures answered_unread { commands.ReadsNothing (commands.command_of words.now)
+        → (Rose (K.faults sink.old) (K.faults sink.new) → ⊥)
         → IsAnswered (answer words.now []) result (K.taken sink.old) (K.taken sink.new) }
 
-    // Of each C task its row in the report tells its times, its bound and what its text means: its transactions, its end and its
-    // cycles hang on its text and its place alone, its end is at most its start and the bound that is told, it never traps, and
-    // once it is done its value, its flag and its words of `out` are what its text means in each world that fits its loads; told
-    // to be alone, in the world of zeros. Under `bound` and `persist`, its end is at most its start and each bound that is told,
-    // and the persistent one is no more than the other.
-    ensures programs { IfSome (S.left source.old) (λ bytes. HasReport result → TellsTasksOf (commands.command_of words.now) bytes) }
-    ensures programs_unread { commands.ReadsNothing (commands.command_of words.now) → HasReport result → TellsTasksOf (commands.command_of words.now) [] }
+    // Of each C task its row in the report tells its times, its bound and what its text means: its transactions, its
+    // end and its cycles hang on its text and its place alone, its end is at most its start and the bound that is told,
+    // it never traps, and once it is done its value, its flag and its words of `out` are what its text means in each
+    // world that fits its loads; told to be alone, in the world of zeros. Under `bound` and `persist`, its end is at
+    // most its start and each bound that is told, and the persistent one is no more than the other.
+    ensures programs { IfSome (S.left source.old) (λ bytes. HasReport result
+        → TellsTasksOf (commands.command_of words.now) bytes) }
+    ensures programs_unread { commands.ReadsNothing (commands.command_of words.now) → HasReport result
+        → TellsTasksOf (commands.command_of words.now) [] }
 
     // What was written, whatever failed.
     ensures written { IfSome (S.left source.old) (λ bytes. HasWritten (answer words.now bytes)

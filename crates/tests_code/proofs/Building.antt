@@ -1,14 +1,15 @@
 -- Parts that are put together are well formed.
-use Rattle.std.proofs.Common.{◌≡◌, ℕ, ◌<◌, true, true≢false, List, [], ◌∷◌, refl, ap, sym, ◌∙◌}
+use Rattle.std.proofs.Common.{◌≡◌, ℕ, ◌<◌, true, List, [], ◌∷◌, refl, ap, ◌∙◌}
 use Rattle.std.proofs.lemmas.Bool.{and_from, lt-ltb}
 use Rattle.std.specs.Prelude.{nat_lt, ◌&&◌}
 use Rattle.patmos_instr.specs.Bundles.{Slots}
 use Rattle.sp_shape.specs.Formed.{is_turn, part_formed, parts_formed, function_formed}
-use Rattle.sp_shape.specs.Parts.{PlainPart, straight, repeats, calls_to, leaves, PlainParts, part, one}
+use Rattle.sp_shape.specs.Parts.{leaves, part, one}
 use Rattle.sp_shape.specs.Shown.{plain_part, parts_of}
 use Rattle.sp_shape.specs.Small as small
 use Rattle.sp_shape.specs.declared.parts.Part.{Part}
 use Rattle.sp_shape.specs.declared.parts.Part.TheViews.{Repeat}
+use Rattle.sp_shape.proofs.Functions.{function_then}
 use Rattle.sp_shape.proofs.Plain.{repeat_said}
 
 -- one part, so many times
@@ -21,16 +22,9 @@ turns_formed n count body p tail is back some h =
     (ap (λ xs. parts_formed n (parts_of xs)) is ∙ and_from (part_formed n (plain_part p)) true h refl)
     (ap is_turn back))
 
--- a part before those of a function
-formed_front : (n : ℕ) (p : PlainPart) (rest : PlainParts) → part_formed n p ≡ true → function_formed n rest ≡ true → function_formed n (part p rest) ≡ true
-formed_front n (straight bs) rest h g = and_from (part_formed n (straight bs)) (function_formed n rest) h g
-formed_front n (repeats count body tail) rest h g = and_from (part_formed n (repeats count body tail)) (function_formed n rest) h g
-formed_front n (calls_to k tail) rest h g = and_from (part_formed n (calls_to k tail)) (function_formed n rest) h g
-formed_front n (leaves tail) rest h g = absurd (true≢false (sym h))
-
 -- a part and the return
 pub returning_formed : (n : ℕ) (p last : Part) (function : List Part) → function ≡ p ∷ last ∷ [] → plain_part last ≡ leaves small.return
     → part_formed n (plain_part p) ≡ true → function_formed n (parts_of function) ≡ true
 returning_formed n p last function is return h =
     ap (λ xs. function_formed n (parts_of xs)) is ∙ ap (λ q. function_formed n (part (plain_part p) (one q))) return
-    ∙ formed_front n (plain_part p) small.empty h refl
+    ∙ function_then n (plain_part p) small.empty h refl

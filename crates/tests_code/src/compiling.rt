@@ -11,7 +11,7 @@ fn words_are_the_assemblers(rt: HostRuntime) -> Result<(), Fail> {
     let unit = nine(rt.alloc())?;
     let code = code_of(rt.alloc(), &unit)?;
     let want = [
-        22,
+        23,
         0x83c0_0004,
         0x0084_2001,
         0x0440_0100,
@@ -27,9 +27,10 @@ fn words_are_the_assemblers(rt: HostRuntime) -> Result<(), Fail> {
         0x0341_5003,
         0x042a_0003,
         0,
-        0x0341_5004,
-        0x0402_0001,
+        0x8341_5004,
         0x0005_a000,
+        0x0402_0001,
+        0,
         0x0540_0000,
         0x03c8_0004,
         0,

@@ -1,8 +1,8 @@
 //! Kernels in C, each with inputs, and what they give by gcc for the same texts with the input as first values: the
 //! value of `main`, and the words of `out`. No run has an overrun.
 
-/// A kernel, its bound by a schedule with one instruction in each bundle, a bundle that does nothing behind each load and each
-/// product, and idle delay slots, on a core alone with slots of 6 cycles; and its runs.
+/// A kernel, its bound by a schedule with one instruction in each bundle, a bundle that does nothing after each load
+/// and each product, and idle delay slots, on a core alone with slots of 6 cycles; and its runs.
 pub struct Kernel {
     pub text: &'static str,
     pub straight: u64,

@@ -18,8 +18,8 @@ fn fetch_of(words: &[u32], starts: &[u32], number: usize) -> u64
     (u64::from(size) + 1).div_ceil(4)
 }
 
-// The bound counts f's fetch twice and that of main three times, the persistent bound each once. On one core with slots of
-// 6 cycles a transaction takes at most 6 + 6 - 1 of them.
+// The bound counts f's fetch twice and that of main three times, the persistent bound each once. On one core with slots
+// of 6 cycles a transaction takes at most 6 + 6 - 1 of them.
 #[test]
 fn what_stays_is_fetched_once(rt: HostRuntime) -> Result<(), Fail> {
     let place = Place::new(1, 0, 6, 0).expect(&rt, "a place");

@@ -40,7 +40,8 @@ fn add() -> Bundle
 // a word is loaded, and the next bundle adds to it
 #[tactic(auto, unfolding(sp_shape::specs::Shown::plain_part))]
 fn loading(alloc: Global) -> Result<Shape, AllocError>
-    ensures { IfOk result (λ s. plain_shape s ≡ small.shape_of (part (straight (small.load ∷ small.add 1 ∷ [])) small.empty ∷ []) 0) }
+    ensures { IfOk result (λ s. plain_shape s
+        ≡ small.shape_of (part (straight (small.load ∷ small.add 1 ∷ [])) small.empty ∷ []) 0) }
 {
     let leave = leave(alloc)?;
     let straight = Part::Straight {

@@ -1,5 +1,5 @@
-//! That valid texts are converted to single-path trees, which no clause can say: want of memory may come at any time. What
-//! the trees come to stands beside what the texts mean.
+//! That valid texts are converted to single-path trees, which no clause can say: want of memory may come at any time.
+//! What the trees come to stands beside what the texts mean.
 use crate::kernels::KERNELS;
 use c_check::check;
 use c_lex::lex;
@@ -157,7 +157,7 @@ fn kernels_come_to_what_gcc_gives(rt: HostRuntime) -> Result<(), Fail> {
     Ok(())
 }
 
-/// Ways out of an arm in a loop, of an `else` in an inner loop, and behind that loop.
+/// Ways out of an arm in a loop, of an `else` in an inner loop, and after that loop.
 const EXITS: [&str; 4] = ["", "break;", "continue;", "return s;"];
 
 /// A loop in a loop, left in three places.

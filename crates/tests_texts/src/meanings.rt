@@ -50,7 +50,8 @@ fn functions_are_numbered(rt: HostRuntime) {
 #[test]
 fn statements_become_actions(rt: HostRuntime) {
     let text = "unsigned a[4]; int main() { int i; \
-        _Pragma(\"loopbound min 4 max 4\") for (i = 0; i < 4; i = i + 1) { if (a[i] >= 2) { a[i] = 0; } else { continue; } } \
+        _Pragma(\"loopbound min 4 max 4\") for (i = 0; i < 4; i = i + 1) { if (a[i] >= 2) { a[i] = 0; }
+            else { continue; } } \
         { int j = 5; i = j; } return 1; }";
     let Some(program) = resolved(rt.alloc(), text) else {
         assert!(rt; false, "not resolved");

@@ -1,4 +1,4 @@
--- What a place keeps of the numbers that it was made of.
+-- To be believed. What a place keeps of the numbers that it was made of.
 use Rattle.std.specs.Prelude.{◌≡◌, ℕ}
 use Rattle.slot_arbiter.specs.declared.place.Place.{Place}
 

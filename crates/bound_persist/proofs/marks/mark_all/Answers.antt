@@ -1,8 +1,8 @@
 use Rattle.std.proofs.Common.{◌≡◌, ◌<◌, ◌+◌, ◌-◌, ◌≤◌, ℕ, drop, length, ap, sym, ◌∙◌, subst, arith}
 use Rattle.sp_shape.specs.Shown.{parts_of, functions_of}
 use Rattle.sp_shape.proofs.Plain.{functions_count}
+use Rattle.sp_shape.proofs.Functions.{function_at}
 use Rattle.cycle_bound.specs.Nodes.{parts_nodes, functions_nodes}
-use Rattle.cycle_bound.proofs.Earlier.{function_at}
 use Rattle.bound_persist.specs.Marks.{AreMarks}
 use Rattle.bound_persist.proofs.Marking.{marks_first, have_below, functions_down}
 use Rattle.bound_persist.proofs.marks.mark_all.Goals as goal

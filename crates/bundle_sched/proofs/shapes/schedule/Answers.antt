@@ -9,8 +9,8 @@ use Rattle.bundle_sched.proofs.shapes.schedule.Goals as goal
 pub returns-clause-formed : goal.returns-clause-formed
 returns-clause-formed c = formed_as (plain_shape c.args.shape) (plain_shape c.in_ok-shape.shape) c.in_ok-shape.ensures c.requires.formed c.requires.slots
 
-pub returns-clause-runs : goal.returns-clause-runs
-returns-clause-runs c = runs_as (plain_shape c.args.shape) (plain_shape c.in_ok-shape.shape) c.in_ok-shape.ensures
+pub returns-clause-preserves : goal.returns-clause-preserves
+returns-clause-preserves c = runs_as (plain_shape c.args.shape) (plain_shape c.in_ok-shape.shape) c.in_ok-shape.ensures
 
 pub returns-clause-turns : goal.returns-clause-turns
 returns-clause-turns c = turns_as (plain_shape c.args.shape) (plain_shape c.in_ok-shape.shape) c.in_ok-shape.ensures

@@ -14,7 +14,7 @@ pub returns-clause-code : goal.returns-clause-code
 returns-clause-code c =
     let u = plain_unit c.args.unit.now in
     let shape = c.in_ok-shape-2.shape in
-    let is : plain_shape shape ≡ code_of u = c.in_ok-shape-2.ensures.told ∙ ap scheduled c.in_ok-shape.ensures.told in
+    let is : plain_shape shape ≡ code_of u = c.in_ok-shape-2.ensures.is ∙ ap scheduled c.in_ok-shape.ensures.is in
     let fit : Fit (plain_shape shape) = λ k less. c.in_ok-image.ensures.fit k (subst (λ n. k < n) (functions_count shape.functions) less) in
     let initial : Each IsWord u.initial = search rules in
     record {
@@ -24,11 +24,11 @@ returns-clause-code c =
       initial = initial;
     }
 
-pub returns-clause-means : goal.returns-clause-means
-returns-clause-means c =
+pub returns-clause-preserves : goal.returns-clause-preserves
+returns-clause-preserves c =
     let u = plain_unit c.args.unit.now in
     let shape = c.in_ok-shape-2.shape in
-    let is : plain_shape shape ≡ code_of u = c.in_ok-shape-2.ensures.told ∙ ap scheduled c.in_ok-shape.ensures.told in
+    let is : plain_shape shape ≡ code_of u = c.in_ok-shape-2.ensures.is ∙ ap scheduled c.in_ok-shape.ensures.is in
     let formed = subst (λ s. is_formed s ≡ true) is c.in_ok-shape-2.ensures.formed in
     let fit : Fit (plain_shape shape) = λ k less. c.in_ok-image.ensures.fit k (subst (λ n. k < n) (functions_count shape.functions) less) in
     λ input shared comm words. carried_out u c.requires.formed formed c.requires.fits (subst Fit is fit) input shared comm words

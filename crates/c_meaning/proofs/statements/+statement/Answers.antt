@@ -17,7 +17,8 @@ use Rattle.c_meaning.proofs.Acted.{plain_loop, joined_none, joined_joined, more_
 use Rattle.c_meaning.proofs.Fitting.{block_fits, arms_fit, declare_fits, call_fits, arms_fits, else_fits, loop_fits, inner_fits}
 use Rattle.c_meaning.specs.Fits.{BlockFits, ArmsFit}
 use Rattle.c_tree.specs.Sizes.{block_size, arms_size}
-use Rattle.c_meaning.proofs.StmtFalls.{if_size, else_size, loop_size, inner_size, stmt_in_block, block_in_arms}
+use Rattle.c_tree.proofs.StmtSizes.{inner_sized, loop_sized}
+use Rattle.c_meaning.proofs.StmtFalls.{if_size, else_size, stmt_in_block, block_in_arms}
 use Rattle.c_meaning.proofs.StmtParts.{declare_resolved, set_resolved, set_element_resolved, call_resolved, send_resolved, if_resolved, if_else_resolved, loop_resolved, break_resolved, continue_resolved, return_resolved, inner_resolved, declare_named, set_named, set_element_named, call_named, send_named, if_named, loop_named, break_named, continue_named, return_named, inner_named, block_next, arms_next, kept_after}
 use Rattle.c_meaning.proofs.statements.+statement.Goals as goal
 
@@ -59,7 +60,7 @@ stmt-block-requires t c =
 
 pub stmt-repeat-requires : goal.stmt-repeat-requires
 stmt-repeat-requires t c =
-    let size = loop_size c.args.s.now c.in-Loop.bound c.in-Loop.head c.in-Loop.body c.in-Loop.is in
+    let size = loop_sized c.args.s.now c.in-Loop.bound c.in-Loop.head c.in-Loop.body c.in-Loop.is in
     let same = ap (λ ss. block_size (block_of ss)) c.as_slice-in-Loop.ensures in
     let fits = loop_fits (names_of c.args.scope.now) c.args.s.now c.in-Loop.bound c.in-Loop.head c.in-Loop.body c.as_slice-in-Loop.result.now c.in-Loop.is
     c.as_slice-in-Loop.ensures c.requires in
@@ -67,7 +68,7 @@ stmt-repeat-requires t c =
 
 pub stmt-statements-requires : goal.stmt-statements-requires
 stmt-statements-requires t c =
-    let size = inner_size c.args.s.now c.in-Inner.body c.in-Inner.is in
+    let size = inner_sized c.args.s.now c.in-Inner.body c.in-Inner.is in
     let same = ap (λ ss. block_size (block_of ss)) c.as_slice-in-Inner.ensures in
     let fits = inner_fits (names_of c.args.scope.now) c.args.s.now c.in-Inner.body c.as_slice-in-Inner.result.now c.in-Inner.is c.as_slice-in-Inner.ensures c.requires in
     (omega (arith, c.decreases, size, same), fits)

@@ -1,6 +1,6 @@
 use Rattle.std.proofs.Common.{◌+◌, drop, map, ap, sym, ◌∙◌, arith}
+use Rattle.tc_word.proofs.Items.{drop_item}
 use Rattle.c_tree.specs.Plain.{plain_item}
-use Rattle.c_meaning.proofs.Parts.{drop_item}
 use Rattle.c_mentions.specs.Noted.{with_uses}
 use Rattle.c_mentions.specs.Uses.{item_uses, items_uses}
 use Rattle.c_mentions.proofs.Walks.{uses_append}

@@ -4,6 +4,7 @@ use Rattle.std.specs.Prelude.{option_map}
 use Rattle.c_world.specs.Shown.{shown}
 use Rattle.c_world.specs.World.{with_send}
 use Rattle.sp_tree.specs.Plain.{plain_sp}
+use Rattle.sp_tree.proofs.Runs.{sent_shown}
 use Rattle.c_meaning.specs.declared.actions.Action.{Action}
 use Rattle.c_meaning.specs.declared.actions.Routine.{Routine}
 use Rattle.c_meaning.specs.declared.ways.Way.TheVariants as way
@@ -11,14 +12,14 @@ use Rattle.c_meaning.specs.Meaning.{Done, goes_on, turn_done, turns_done}
 use Rattle.c_meaning.specs.Resolved.{worth, args_worth, holds, step_done, given_done, action_done, actions_done, branches_done}
 use Rattle.c_meaning.specs.Shown.{plain_action, plain_target, plain_assignment, actions_of, branches_of, bodies_of}
 use Rattle.c_meaning.specs.Values.{State}
-use Rattle.c_meaning.proofs.Acted.{plain_choose, plain_loop}
+use Rattle.c_meaning.proofs.Acted.{plain_choose, plain_loop, body_at}
 use Rattle.c_run.specs.Ran.{state_of, served_by, HasDone, HasGiven}
 use Rattle.c_meaning.specs.Sizes.{actions_size, branches_size}
 use Rattle.c_run.specs.Sizes.{total}
 use Rattle.c_run.proofs.Earlier.{earlier_serve, earlier_total}
 use Rattle.c_meaning.proofs.Falls.{choose_size, loop_size, part_size}
-use Rattle.c_run.proofs.Falls.{call_size, body_at, total_grows}
-use Rattle.c_run.proofs.Runs.{has_done, along, sent_shown, reaches_first, reach_item, reach_end, next_action, left_by_break, left_by_continue, left_by_return, at_the_end, none_given, body_given, another_turn, not_held, next_turn, last_turn, all_turned}
+use Rattle.c_run.proofs.Falls.{call_size, total_grows}
+use Rattle.c_run.proofs.Runs.{has_done, along, reaches_first, reach_item, reach_end, next_action, left_by_break, left_by_continue, left_by_return, at_the_end, none_given, body_given, another_turn, not_held, next_turn, last_turn, all_turned}
 use Rattle.c_run.proofs.run.+run.Goals as goal
 
 pub act-call-requires : goal.act-call-requires

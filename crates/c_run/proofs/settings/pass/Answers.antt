@@ -1,8 +1,9 @@
 use Rattle.std.proofs.Common.{map, arith}
 use Rattle.sp_tree.specs.Plain.{plain_sp}
+use Rattle.sp_tree.proofs.Arguments.{same_words}
 use Rattle.c_meaning.specs.Resolved.{args_worth}
 use Rattle.c_run.specs.Ran.{state_of}
-use Rattle.c_run.proofs.Arguments.{same_words, length_worth}
+use Rattle.c_run.proofs.Arguments.{length_worth}
 use Rattle.c_run.proofs.settings.pass.Goals as goal
 
 pub returns : goal.returns

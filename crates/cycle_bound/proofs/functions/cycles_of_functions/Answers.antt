@@ -1,7 +1,7 @@
 use Rattle.std.proofs.Common.{◌<◌, length, ap, sym, ◌∙◌, arith}
 use Rattle.sp_shape.specs.Shown.{parts_of, functions_of}
+use Rattle.sp_shape.proofs.Functions.{function_at}
 use Rattle.cycle_bound.specs.Nodes.{parts_nodes}
-use Rattle.cycle_bound.proofs.Earlier.{function_at}
 use Rattle.cycle_bound.proofs.Learning.{functions_next}
 use Rattle.cycle_bound.proofs.functions.cycles_of_functions.Goals as goal
 

@@ -1,7 +1,7 @@
 use Rattle.std.proofs.Common.{◌<◌, length, length-set, ap, sym, ◌∙◌, arith}
 use Rattle.sp_shape.specs.Shown.{parts_of, functions_of}
+use Rattle.sp_shape.proofs.Functions.{function_at}
 use Rattle.cycle_bound.specs.Nodes.{parts_nodes}
-use Rattle.cycle_bound.proofs.Earlier.{function_at}
 use Rattle.cycle_bound.proofs.Learning.{fill_next, functions_next}
 use Rattle.cycle_bound.proofs.functions.fills_of_functions.Goals as goal
 

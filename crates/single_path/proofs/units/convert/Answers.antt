@@ -24,8 +24,8 @@ returns-clause-formed c =
     so_of_tree c.tree_of.result (plain program.unit) (λ u. is_formed u ≡ true) c.tree_of.ensures
     (single_is_formed program.place.cores program.place.core (plain program.unit) program.place.in_range.cores_most program.valid)
 
-pub returns-clause-meaning : goal.returns-clause-meaning
-returns-clause-meaning c =
+pub returns-clause-preserves : goal.returns-clause-preserves
+returns-clause-preserves c =
     let program = c.args.program.now in
     so_of_tree c.tree_of.result (plain program.unit)
     (λ u. (input : List ℕ) (shared comm : ℕ → ℕ) → IsMeant (straight u input shared comm) (meaning (plain program.unit) input shared comm)) c.tree_of.ensures

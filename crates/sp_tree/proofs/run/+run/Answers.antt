@@ -1,6 +1,6 @@
 use Rattle.std.proofs.Common.{◌≡◌, zero, suc, ◌+◌, ◌-◌, List, drop, map, slice_index, slice_set, length, ap, sym, ◌∙◌, subst, arith}
+use Rattle.shared_order.proofs.Words.{words_put}
 use Rattle.c_world.specs.Shown.{shown}
-use Rattle.c_world.proofs.Words.{word_set}
 use Rattle.sp_tree.specs.Formed.{place_formed, result_formed, stmts_formed}
 use Rattle.sp_tree.specs.Plain.{plain_sp}
 use Rattle.sp_tree.specs.Ran.{state_of, HasGiven}
@@ -76,7 +76,7 @@ act-returns-in-Mask-clause-done t c =
     (ap (λ x. stmt_done (serves (functions_of c.args.functions.now) c.args.known) (plain_stmt x) (state_of c.args.frame.now c.args.memory.now sends)) c.in-Mask.is
     ∙ ap (λ v. with_slot c.in-Mask.slot v (state_of c.args.frame.now c.args.memory.now sends)) (sym (c.value-given.ensures sends))
     ∙ ap (λ words. let s : State = record { frame = words; world = shown c.args.memory.now sends } in s)
-    (sym (word_set c.args.frame.now c.in-Mask.slot c.value-given.result (omega (arith, below, c.requires.frame)))))
+    (sym (words_put c.args.frame.now c.in-Mask.slot c.value-given.result (omega (arith, below, c.requires.frame)))))
 
 pub act-returns-in-Write-clause-done : goal.act-returns-in-Write-clause-done
 unfolding plain_stmt

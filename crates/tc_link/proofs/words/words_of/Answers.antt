@@ -5,10 +5,11 @@ use Rattle.patmos_instr.specs.Bundles.{FitsBundle}
 use Rattle.sp_shape.specs.Parts.{no_part}
 use Rattle.sp_shape.specs.Shown.{parts_of, functions_of}
 use Rattle.sp_shape.specs.Words.{parts_words}
+use Rattle.sp_shape.proofs.Functions.{function_at}
 use Rattle.tc_link.specs.Flat.{flat_parts}
 use Rattle.tc_link.specs.Placed.{function_words}
 use Rattle.tc_link.proofs.Fitting.{fit_at}
-use Rattle.tc_link.proofs.Functions.{function_at, function_sized}
+use Rattle.tc_link.proofs.Functions.{function_sized}
 use Rattle.tc_link.proofs.Order.{order_more, order_same}
 use Rattle.tc_link.proofs.words.words_of.Goals as goal
 use Rattle.tc_link.proofs.words.words_of.Goals.{then-k-entry+in_ok-push_function-2, else-k-entry}

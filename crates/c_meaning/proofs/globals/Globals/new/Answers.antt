@@ -1,10 +1,10 @@
 use Rattle.std.proofs.Common.{◌+◌, drop, ap, sym, ◌∙◌, arith}
 use Rattle.std.specs.Prelude.{bytes_eq}
 use Rattle.std.proofs.lemmas.List.{drop_all}
+use Rattle.tc_word.proofs.Items.{drop_item}
 use Rattle.c_meaning.specs.Globals.{first_in, slot_before}
 use Rattle.c_meaning.specs.Scope.{among_slots}
 use Rattle.c_meaning.proofs.Firsts.{first_next, first_all}
-use Rattle.c_meaning.proofs.Parts.{drop_item}
 use Rattle.c_meaning.proofs.globals.Globals.new.Goals as goal
 
 pub loop-slot-preserved : goal.loop-slot-preserved
