@@ -1,4 +1,4 @@
-ghost use Rattle.std.specs.Prelude.{◌≡◌, ◌↔◌, true, false, IfOk, IsErr};
+ghost use Rattle.std.specs.Prelude.{◌≡◌, ◌↔◌, true, false, IfOk, IsErr, option_map};
 ghost use Rattle.std.specs.Result.{IsErrOf};
 ghost use Rattle.patmos_instr.specs.Bundles.{FitsBundle};
 ghost use Rattle.patmos_instr.specs.Instructions.{is_long, is_second_kind};
@@ -87,5 +87,23 @@ impl Bundle {
         ensures bundle { FitsBundle self.now }
     {
         self.second
+    }
+
+    /// The instruction of the first slot, to be looked at where it stands.
+    #[inline(always)]
+    pub fn first_slot(&self) -> &Instr
+        ensures value { result.now ≡ self.now.first }
+        ensures bundle { FitsBundle self.now }
+    {
+        &self.first
+    }
+
+    /// The instruction of the second slot, where there is one, to be looked at where it stands.
+    #[inline(always)]
+    pub fn second_slot(&self) -> Option<&Instr>
+        ensures value { option_map (λ i. i.now) result ≡ self.now.second }
+        ensures bundle { FitsBundle self.now }
+    {
+        self.second.as_ref()
     }
 }

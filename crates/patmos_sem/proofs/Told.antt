@@ -7,9 +7,10 @@ use Rattle.std.proofs.lemmas.Grind.{common_steps}
 use Rattle.patmos_instr.specs.declared.specials.WritableSpecial.TheVariants as special
 use Rattle.patmos_sem.specs.declared.writes.Write.{Write}
 use Rattle.patmos_sem.specs.declared.writes.Write.TheVariants as write
+use Rattle.patmos_sem.specs.declared.pending.Pending.TheVariants as pending
 use Rattle.patmos_sem.specs.Operations.{has_bit}
 use Rattle.patmos_sem.specs.Registers.{Registers}
-use Rattle.patmos_sem.specs.Writes.{renewed_from, renewed, register_by, pred_by, register_after, pred_after, last_by, low_by, high_by, base_by, offset_by, after_writes}
+use Rattle.patmos_sem.specs.Writes.{renewed_from, renewed, register_by, pred_by, register_after, pred_after, last_by, low_by, high_by, base_by, offset_by, after_writes, came}
 
 pub length-renewed_from : {A : Type 0} (n : ℕ) (f : ℕ → A → A) (xs : List A) → length (renewed_from n f xs) ≡ length xs
 length-renewed_from n f [] = refl
@@ -87,6 +88,11 @@ in_turn a b c regs = ap (after_writes (c ∷ [])) (after_writes-append (a ∷ []
 
 pub one_alone : (a b : Write) (regs : Registers) → after_writes (b ∷ []) (after_writes (a ∷ []) regs) ≡ after_writes (a ∷ b ∷ write.Nothing ∷ []) regs
 one_alone a b regs = after_writes-append (a ∷ []) (b ∷ []) regs
+
+-- where nothing was pending, nothing comes
+pub still_nothing : (w : Write) (regs : Registers) → regs.pending ≡ pending.Nothing
+    → after_writes (w ∷ []) regs ≡ record (after_writes (came regs.pending ∷ w ∷ write.Nothing ∷ []) regs) { pending = pending.Nothing }
+still_nothing w regs none = λ i. record (after_writes (came (sym none i) ∷ w ∷ write.Nothing ∷ []) regs) { pending = none i }
 
 -- s0 written: each predicate gets its bit
 pub s0_bits : (xs : List Bool) (value : ℕ) → length xs ≡ 8

@@ -1,5 +1,7 @@
-ghost use Rattle.std.specs.Prelude.{◌≡◌, Option, None, Some};
+ghost use Rattle.std.specs.Prelude.{◌≡◌, ◌≢◌, Option, None, Some, false};
+ghost use Rattle.patmos_sem.specs.Registers.{Registers};
 ghost use Rattle.patmos_sem.specs.declared.pending.Pending.TheVariants as pending;
+ghost use Rattle.patmos_sem.specs.declared.effects.Effect.TheVariants as effect;
 ghost use Rattle.patmos_sem.specs.Effects.{address_of, width_bytes, store_bytes, write_of, begun, asked};
 ghost use Rattle.patmos_sem.specs.Bundles.{slot_write, slot_begun, slot_asked, after_bundle, effect_of, arrived, OnLoad};
 
@@ -26,22 +28,36 @@ pub fn exec(regs: &mut Regs, bundle: &Bundle, st: u32, ss: u32) -> Effect
 }
 
 /// What a bundle asks for by the registers before it.
+#[inline(always)]
 pub fn asked_by(regs: &Regs, bundle: &Bundle) -> Effect
     ensures { result ≡ effect_of bundle.now regs.now }
 {
-    ask(regs, &bundle.first())
+    ask(regs, bundle.first_slot())
 }
 
 /// Carries out a bundle on the registers alone, whatever it asks for. After one that asks for a load
 /// nothing is pending, as after an `exec`.
+#[inline(always)]
 pub fn write_back(regs: &mut Regs, bundle: &Bundle, st: u32, ss: u32)
     ensures registers { regs.new ≡ after_bundle st ss bundle.now regs.old }
     ensures load { OnLoad (effect_of bundle.now regs.old) (regs.new.pending ≡ pending.Nothing) }
 {
-    let first = bundle.first();
-    match bundle.second() {
-        None => write_single(regs, &first, st, ss),
-        Some(second) => write_pair(regs, &first, &second, st, ss),
+    match bundle.second_slot() {
+        None => write_single(regs, bundle.first_slot(), st, ss),
+        Some(second) => write_pair(regs, bundle.first_slot(), second, st, ss),
+    }
+}
+
+/// The same for a bundle that asks for something: its second slot alone writes.
+#[inline(always)]
+pub fn write_second(regs: &mut Regs, bundle: &Bundle, st: u32, ss: u32)
+    requires asks { effect_of bundle.now regs.old ≢ effect.Nothing }
+    ensures registers { regs.new ≡ after_bundle st ss bundle.now regs.old }
+    ensures nothing { regs.new.pending ≡ pending.Nothing }
+{
+    match bundle.second_slot() {
+        None => regs.settle(),
+        Some(second) => write_pair(regs, bundle.first_slot(), second, st, ss),
     }
 }
 
@@ -51,26 +67,27 @@ fn write_single(regs: &mut Regs, instr: &Instr, st: u32, ss: u32)
     ensures registers { regs.new ≡ after_bundle st ss (record { first = instr.now; second = None }) regs.old }
     ensures pending { regs.new.pending ≡ slot_begun regs.old instr.now }
 {
-    if regs.waits() {
+    if regs.waits() || is_product(&instr.op) {
         write_behind(regs, instr, st, ss);
     } else {
         write_alone(regs, instr, st, ss);
     }
 }
 
-// carries it out where nothing is pending, as before most bundles
+// carries it out where nothing is pending and it begins no product, as most bundles are
 #[inline(always)]
+#[tactic(auto, using(crate::proofs::Loads::none_begun))]
 fn write_alone(regs: &mut Regs, instr: &Instr, st: u32, ss: u32)
     requires nothing { regs.old.pending ≡ pending.Nothing }
+    requires plain { begun regs.old instr.now.op ≡ pending.Nothing }
     ensures registers { regs.new ≡ after_bundle st ss (record { first = instr.now; second = None }) regs.old }
     ensures pending { regs.new.pending ≡ slot_begun regs.old instr.now }
 {
-    let begun = begin(regs, instr);
     let first = slot(regs, instr, st, ss);
-    regs.end_alone(first, begun);
+    regs.end_alone(first);
 }
 
-// carries it out where something may be pending
+// carries it out where something may be pending, or a product begins
 #[inline(never)]
 fn write_behind(regs: &mut Regs, instr: &Instr, st: u32, ss: u32)
     ensures registers { regs.new ≡ after_bundle st ss (record { first = instr.now; second = None }) regs.old }
@@ -160,6 +177,14 @@ fn write_by(regs: &Regs, op: &Op, st: u32, ss: u32) -> Write
     }
 }
 
+// whether an operation is a product, which alone is pending after its bundle
+#[inline(always)]
+fn is_product(op: &Op) -> bool
+    ensures { result ≡ false → (regs : Registers) → begun regs op.now ≡ pending.Nothing }
+{
+    matches!(op, Op::Mul { .. })
+}
+
 // the product that an instruction begins, where its guard is true
 fn begin(regs: &Regs, instr: &Instr) -> Pending
     ensures { result ≡ slot_begun regs.now instr.now }
@@ -180,6 +205,7 @@ fn begin(regs: &Regs, instr: &Instr) -> Pending
 }
 
 // what an instruction asks for, where its guard is true
+#[inline(always)]
 fn ask(regs: &Regs, instr: &Instr) -> Effect
     ensures { result ≡ slot_asked regs.now instr.now }
 {
@@ -191,6 +217,7 @@ fn ask(regs: &Regs, instr: &Instr) -> Effect
 }
 
 // what an operation asks for
+#[inline(always)]
 fn ask_by(regs: &Regs, op: &Op) -> Effect
     ensures { result ≡ asked regs.now op.now }
 {

@@ -6,8 +6,9 @@
 //! a write of that bundle's own wins over them. `r0` stays 0 and `p0` stays true. What lies outside the
 //! registers is answered as an `Effect`: a load, a store, an operation of the stack cache or a flow.
 //! `asked_by` and `write_back` are its two halves, for a caller that looks at the effect before it lets the
-//! bundle write. `arrive` makes a load's value pending. `pick` and `merge` take a byte or a half out of a word and put
-//! it in; `load_bytes` and `store_bytes` say how many bytes an access has.
+//! bundle write; `write_second` is the latter where it asks for something. `arrive` makes a load's value
+//! pending. `pick` and `merge` take a byte or a half out of a word and put it in; `load_bytes` and
+//! `store_bytes` say how many bytes an access has.
 //!
 //! The definitions in `specs/` tell the registers after a bundle one by one, from small pieces that
 //! readers above put together in other ways. No call takes memory, and a bundle is constant work.
@@ -26,7 +27,7 @@ mod registers;
 mod writes;
 
 pub use effects::{Effect, FlowKind};
-pub use execution::{arrive, asked_by, exec, load_bytes, store_bytes, write_back};
+pub use execution::{arrive, asked_by, exec, load_bytes, store_bytes, write_back, write_second};
 pub use laws::{after_bundle_by_register, worked_values};
 pub use narrow::{merge, pick};
 pub use pending::Pending;

@@ -115,8 +115,8 @@ impl Regs {
         self.pending = pending;
     }
 
-    // whether a guard is true
-    pub(crate) fn holds(&self, guard: Guard) -> bool
+    /// Whether a guard is true.
+    pub fn holds(&self, guard: Guard) -> bool
         ensures { result ≡ holds self.now guard }
     {
         let pred = self.pred(guard.pred);
@@ -162,18 +162,39 @@ impl Regs {
         self.set_pending(begun);
     }
 
-    // the end of such a bundle where nothing was pending
+    // the end of such a bundle where nothing was pending, and it begins no product
     #[inline(always)]
-    pub(crate) fn end_alone(&mut self, first: Write, begun: Pending)
+    #[tactic(auto, using(crate::proofs::Told::still_nothing))]
+    pub(crate) fn end_alone(&mut self, first: Write)
         requires nothing { self.old.pending ≡ pending.Nothing }
         ensures { self.new ≡ record (after_writes (came self.old.pending ∷ first ∷ Write.Nothing
-            ∷ []) self.old) { pending = begun } }
+            ∷ []) self.old) { pending = pending.Nothing } }
     {
         self.write(first);
-        self.set_pending(begun);
+    }
+
+    /// The end of a bundle that writes no register itself: what was pending comes, and nothing is then.
+    #[inline(always)]
+    pub fn settle(&mut self)
+        ensures { self.new ≡ record (after_writes (came self.old.pending ∷ []) self.old) { pending = pending.Nothing } }
+    {
+        match self.pending {
+            Pending::Nothing => {}
+            Pending::Value { .. } | Pending::Product { .. } => self.come_last(),
+        }
+    }
+
+    // what was pending comes, and nothing is then
+    #[inline(never)]
+    fn come_last(&mut self)
+        ensures { self.new ≡ record (after_writes (came self.old.pending ∷ []) self.old) { pending = pending.Nothing } }
+    {
+        self.come();
+        self.set_pending(Pending::Nothing);
     }
 
     // what was pending comes, if anything was
+    #[inline(always)]
     fn come(&mut self)
         ensures { self.new ≡ after_writes (came self.old.pending ∷ []) self.old }
     {

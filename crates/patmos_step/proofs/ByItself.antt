@@ -1,5 +1,5 @@
 -- A bundle that a core does by itself is what its own act in the cycle does.
-use Rattle.std.proofs.Common.{◌≡◌, ◌≢◌, ℕ, zero, suc, ◌+◌, ◌<◌, ◌≤◌, ◌==◌, ◌&&◌, nat_lt, nat_le, not, Bool, true, false, Option, None, Some, refl, sym, ap, ◌∙◌, subst, arith, is_none, if◌then◌else◌}
+use Rattle.std.proofs.Common.{◌≡◌, ◌≢◌, ℕ, zero, suc, ◌+◌, ◌<◌, ◌==◌, ◌&&◌, nat_lt, nat_le, not, Bool, true, false, Option, None, Some, refl, sym, ap, ◌∙◌, subst, arith, is_none, if◌then◌else◌}
 use Rattle.std.proofs.lemmas.Bool.Decides.{nat_tests}
 use Rattle.slot_arbiter.specs.Slot.{is_slot_start}
 use Rattle.shared_order.specs.Program.{Prog, and_then}
@@ -9,11 +9,13 @@ use Rattle.local_store.specs.declared.map.Cell.TheVariants as cell
 use Rattle.patmos_instr.specs.Bundles.{Slots}
 use Rattle.patmos_instr.specs.declared.instructions.Op.{Op}
 use Rattle.patmos_instr.specs.declared.instructions.Op.TheVariants as op
+use Rattle.patmos_instr.specs.declared.memories.Mem.{Mem}
 use Rattle.patmos_instr.specs.declared.memories.Mem.TheVariants as mem
 use Rattle.patmos_instr.specs.declared.memories.Width.{Width}
 use Rattle.patmos_instr.specs.declared.memories.StoreWidth.{StoreWidth}
 use Rattle.patmos_sem.specs.declared.effects.Effect.{Effect}
 use Rattle.patmos_sem.specs.declared.effects.Effect.TheVariants as effect
+use Rattle.patmos_sem.specs.declared.effects.FlowKind.{FlowKind}
 use Rattle.patmos_sem.specs.Registers.{Registers, holds}
 use Rattle.patmos_sem.specs.Effects.{asked}
 use Rattle.patmos_sem.specs.Bundles.{effect_of}
@@ -27,16 +29,18 @@ use Rattle.patmos_model.specs.Site.{size_at}
 use Rattle.patmos_model.specs.State.{Plain, History, Core, is_end, has_ended, is_running, is_free, with_plain, stopped}
 use Rattle.patmos_model.specs.Flows.{flowed, taken, gone}
 use Rattle.patmos_model.specs.Cells.{Acted, cell_of, now, reading, writing, with_value}
-use Rattle.patmos_model.specs.Checks.{fault_of, check}
+use Rattle.patmos_model.specs.Checks.{fault_of, check, load_fault, store_fault}
 use Rattle.patmos_model.specs.Bundle.{ends, advanced, answered, done_as, fetched_at, bundle}
 use Rattle.patmos_model.specs.Transaction.{transaction, is_due}
 use Rattle.patmos_model.specs.Cycle.{own, if_running, bundle_step, slot_step}
-use Rattle.patmos_step.proofs.Sleeping.{none_right}
-use Rattle.patmos_step.specs.declared.alone.Private.{Private}
+use Rattle.patmos_model.proofs.Waits.{none_right}
+use Rattle.patmos_step.specs.declared.alone.NextBundle.{NextBundle}
 use Rattle.patmos_step.specs.declared.body.Body.{Body}
+use Rattle.patmos_step.specs.Code.{is_silent}
 use Rattle.patmos_step.specs.Ready.{IsGranted}
 use Rattle.patmos_step.specs.Shown.{Shows, core_of, plain_of}
-use Rattle.patmos_step.specs.Alone.{CanBegin, CanLand, no_slot_left, is_silent, landed, with_registers, passed, IsScratch, AsksOwn, CanFlow, CanWait, finished, scratch_at, scratch_set, IsPrivateIn, IsAlone, DoesAlone, ComesAlone}
+use Rattle.patmos_step.specs.Alone.{CanBegin, CanLand, no_slot_left, left, landed, with_registers, passed, IsScratch, AsksOwn, IsOwn, CanFlow, SpaceWaits, CanWait, finished_load, finished_store, finished, scratch_at, scratch_set, IsNextBundle, IsPrivateIn, IsAlone, DoesAlone, ComesAlone}
+use Rattle.patmos_step.proofs.Short.{free_unmoved}
 
 -- an operation that is silent asks for nothing
 pub silent_asks : (b : Slots) (regs : Registers) → is_silent b.first.op ≡ true → effect.Nothing ≡ effect_of b regs
@@ -94,10 +98,7 @@ answered_alone (effect.Store mem.C width address value) cycle c own = absurd own
 answered_alone (effect.Store mem.M width address value) cycle c own = refl
 answered_alone (effect.StackOp func count) cycle c own = absurd own
 
--- the flow that is left once a branch that was due has taken effect: no check of the bundle fails then
-abbrev left : Option Flow → Option Flow
-left flow = elim (no_slot_left flow) [ true ↦ None | false ↦ flow ]
-
+-- once a branch that was due has taken effect, no check of the bundle fails
 no_flow : (flow : Option Flow) → no_slot_left flow ≡ true → check (is_none (left flow)) trap.Flow None ≡ None
 no_flow flow h = ap (λ b. check (is_none (elim b as (λ _. Option Flow) [ true ↦ None | false ↦ flow ])) trap.Flow None) h
 
@@ -206,10 +207,6 @@ bundle_alone cycle words b c fetched passed own =
     ]) passed
     ∙ answered_alone asked cycle (with_plain (advanced words b) c) own
 
--- and no words move in its cycle
-none_left : (words : ℕ) (free : Bool) → (words == 0) && free ≡ true → words ≡ 0
-none_left words free h = grind (arith, nat_tests)
-
 none_due : (cycle : ℕ) (x : Plain) → x.transfer.words ≡ 0 → is_due cycle x ≡ false
 none_due cycle x none =
     both_false (nat_lt 0 x.transfer.words) (nat_le x.free cycle && is_slot_start x.site.table x.site.slot x.site.core cycle) (ap (nat_lt 0) none)
@@ -264,23 +261,76 @@ own_alone cycle words offset b asked c begins can fetched asks own granted flow 
     (bundle_alone cycle words b there fetched
     (ap (fault_of there.plain) (sym asks) ∙ unchecked asked offset c.plain own granted flow) (subst AsksOwn asks own)
     ∙ ap (λ e. now (with_plain (λ x. finished e cycle (advanced words b x)) there)) (sym asks))
-    (not_due asked cycle (advanced words b there.plain) (none_left c.plain.transfer.words (c.plain.free == cycle) begins.free) waits)
+    (not_due asked cycle (advanced words b there.plain) (free_unmoved c.plain.transfer.words (c.plain.free == cycle) begins.free) waits)
 
 -- a bundle that a core does by itself
-pub done_alone : (cycle : ℕ) (b last : Body) (next : Private) (h : History) → (private : IsPrivateIn cycle b next)
-    → plain_of last ≡ finished next.effect cycle (passed next.words next.effect (landed next.offset (with_registers private.bundle (plain_of b))))
-    → last.ni ≡ b.ni → IsAlone cycle (core_of b h) (core_of last h)
-done_alone cycle b last next h private same ni = record { act = acts; interface = ap (λ s. s.interface) ni }
+pub done_alone : (cycle : ℕ) (b : Body) (y : Plain) (next : NextBundle) (h : History) → (private : IsPrivateIn cycle b next)
+    → y ≡ finished next.effect cycle (passed next.words next.effect (landed next.offset (with_registers private.here.bundle (plain_of b))))
+    → y.interface ≡ b.ni.interface → IsAlone cycle (core_of b h) (record { plain = y; seen = h })
+done_alone cycle b y next h private same interface = record { act = acts; interface = interface }
   where
-    as_advanced : finished next.effect cycle (passed next.words next.effect (landed next.offset (with_registers private.bundle (plain_of b))))
-        ≡ finished next.effect cycle (advanced next.words private.bundle (landed next.offset (plain_of b)))
-    as_advanced = ap (λ e. finished next.effect cycle (passed next.words e (landed next.offset (with_registers private.bundle (plain_of b))))) private.asks
+    as_advanced : finished next.effect cycle (passed next.words next.effect (landed next.offset (with_registers private.here.bundle (plain_of b))))
+        ≡ finished next.effect cycle (advanced next.words private.here.bundle (landed next.offset (plain_of b)))
+    as_advanced = ap (λ e. finished next.effect cycle (passed next.words e (landed next.offset (with_registers private.here.bundle (plain_of b))))) private.here.asks
 
-    acts : own cycle (core_of b h) ≡ now (core_of last h)
+    acts : own cycle (core_of b h) ≡ now (record { plain = y; seen = h })
     acts =
-        own_alone cycle next.words next.offset private.bundle next.effect (core_of b h) private.begins private.lands private.fetched private.asks
+        own_alone cycle next.words next.offset private.here.bundle next.effect (core_of b h) private.begins private.here.lands private.here.fetched private.here.asks
         private.own private.granted private.flow private.waits
         ∙ ap (λ x. now (record { plain = x; seen = h })) (sym (same ∙ as_advanced))
+
+-- so is the core's next bundle, in the way of what it asks for
+pub silent_bundle : (cycle : ℕ) (b : Body) (next : NextBundle) → CanBegin cycle (plain_of b) → IsNextBundle b next → next.effect ≡ effect.Nothing
+    → IsPrivateIn cycle b (record { offset = next.offset; words = next.words; effect = effect.Nothing })
+silent_bundle cycle b next begins n is = record {
+  begins = begins;
+  here = record {
+    lands = n.lands;
+    bundle = n.bundle;
+    fetched = n.fetched;
+    inside = n.inside;
+    within = n.within;
+    asks = sym is ∙ n.asks;
+  };
+  own = tt;
+  granted = tt;
+  flow = tt;
+  waits = tt;
+}
+
+next_alone : (cycle : ℕ) (b : Body) (y : Plain) (next : NextBundle) (asked : Effect) (h : History) → CanBegin cycle (plain_of b) → (n : IsNextBundle b next) → next.effect ≡ asked
+    → AsksOwn asked → IsGranted asked (plain_of b) → CanFlow (plain_of b) asked → CanWait asked cycle (plain_of b).site
+    → y ≡ finished asked cycle (passed next.words next.effect (landed next.offset (with_registers n.bundle (plain_of b))))
+    → y.interface ≡ b.ni.interface → IsAlone cycle (core_of b h) (record { plain = y; seen = h })
+next_alone cycle b y next asked h begins n is own granted flow waits same interface =
+    done_alone cycle b y next h (record {
+      begins = begins;
+      here = n;
+      own = subst AsksOwn (sym is) own;
+      granted = subst (λ e. IsGranted e (plain_of b)) (sym is) granted;
+      flow = subst (CanFlow (plain_of b)) (sym is) flow;
+      waits = subst (λ e. CanWait e cycle (plain_of b).site) (sym is) waits;
+    }) (same ∙ ap (λ e. finished e cycle (passed next.words next.effect (landed next.offset (with_registers n.bundle (plain_of b))))) (sym is)) interface
+
+pub flow_alone : (cycle : ℕ) (b : Body) (y : Plain) (next : NextBundle) (kind : FlowKind) (h : History) → CanBegin cycle (plain_of b) → (n : IsNextBundle b next)
+    → next.effect ≡ effect.Flow kind → no_slot_left b.flow ≡ true
+    → y ≡ ends cycle (passed next.words next.effect (landed next.offset (with_registers n.bundle (plain_of b))))
+    → y.interface ≡ b.ni.interface → IsAlone cycle (core_of b h) (record { plain = y; seen = h })
+flow_alone cycle b y next kind h begins n is none same interface = next_alone cycle b y next (effect.Flow kind) h begins n is tt tt none tt same interface
+
+pub load_alone : (cycle : ℕ) (b : Body) (y : Plain) (next : NextBundle) (space : Mem) (width : Width) (rd address : ℕ) (h : History) → CanBegin cycle (plain_of b) → (n : IsNextBundle b next)
+    → next.effect ≡ effect.Load space width rd address → IsOwn space address → load_fault (plain_of b) space width address ≡ None → SpaceWaits space cycle (plain_of b).site
+    → y ≡ finished_load space width rd address cycle (passed next.words next.effect (landed next.offset (with_registers n.bundle (plain_of b))))
+    → y.interface ≡ b.ni.interface → IsAlone cycle (core_of b h) (record { plain = y; seen = h })
+load_alone cycle b y next space width rd address h begins n is own granted waits same interface =
+    next_alone cycle b y next (effect.Load space width rd address) h begins n is own granted tt waits same interface
+
+pub store_alone : (cycle : ℕ) (b : Body) (y : Plain) (next : NextBundle) (space : Mem) (width : StoreWidth) (address value : ℕ) (h : History) → CanBegin cycle (plain_of b) → (n : IsNextBundle b next)
+    → next.effect ≡ effect.Store space width address value → IsOwn space address → store_fault (plain_of b) space width address value ≡ None → SpaceWaits space cycle (plain_of b).site
+    → y ≡ finished_store space width address value cycle (passed next.words next.effect (landed next.offset (with_registers n.bundle (plain_of b))))
+    → y.interface ≡ b.ni.interface → IsAlone cycle (core_of b h) (record { plain = y; seen = h })
+store_alone cycle b y next space width address value h begins n is own granted waits same interface =
+    next_alone cycle b y next (effect.Store space width address value) h begins n is own granted tt waits same interface
 
 -- what a bundle asks for is still granted once the bundle's registers are written
 pub granted_after : (asked : Effect) (words offset : ℕ) (b : Slots) (x y : Plain) → IsGranted asked x → y ≡ passed words asked (landed offset (with_registers b x)) → IsGranted asked y
@@ -319,13 +369,3 @@ begins_alone from b h shows = record { seen = h; shows = shows; alone = by }
     by : (count : ℕ) → from + count ≡ from → DoesAlone from count (core_of b h) (core_of b h)
     by zero at = refl
     by (suc count) at = absurd (omega (arith, at))
-
-pub goes_alone : (from cycle : ℕ) (c : Core) (b last : Body) → ComesAlone from cycle c b → ((h : History) → IsAlone cycle (core_of b h) (core_of last h))
-    → ((h : History) → Shows b h → Shows last h) → from ≤ cycle → ComesAlone from (cycle + 1) c last
-goes_alone from cycle c b last comes does shows within = record { seen = comes.seen; shows = shows comes.seen comes.shows; alone = by }
-  where
-    by : (count : ℕ) → from + count ≡ cycle + 1 → DoesAlone from count c (core_of last comes.seen)
-    by zero at = absurd (omega (arith, at, within))
-    by (suc count) at =
-        let here : from + count ≡ cycle = omega (arith, at) in
-        (core_of b comes.seen, comes.alone count here, subst (λ q. IsAlone q (core_of b comes.seen) (core_of last comes.seen)) (sym here) (does comes.seen))

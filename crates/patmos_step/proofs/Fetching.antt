@@ -1,5 +1,5 @@
 -- What the decoded words give is what is fetched.
-use Rattle.std.proofs.Common.{◌≡◌, ℕ, ◌+◌, ◌<◌, ◌≤◌, Bool, true, false, List, Option, None, Some, length, sym, ap, ◌∙◌, arith}
+use Rattle.std.proofs.Common.{◌≡◌, ℕ, ◌+◌, ◌<◌, ◌≤◌, Bool, true, false, List, Option, None, Some, length, sym, subst, ap, ◌∙◌, arith}
 use Rattle.std.proofs.lemmas.Bool.Decides.{nat_tests}
 use Rattle.std.specs.Prelude.{slice_index, slice_index_or}
 use Rattle.patmos_instr.specs.Bundles.{Slots}
@@ -9,12 +9,9 @@ use Rattle.patmos_model.specs.declared.fetched.Fetched.{Fetched}
 use Rattle.patmos_model.specs.declared.fetched.Fetched.TheVariants.{Outside, NoBundle, Found}
 use Rattle.patmos_model.specs.Site.{size_at, word_at, bundle_words, is_inside}
 use Rattle.patmos_model.specs.Bundle.{fetched_at, taken_for}
+use Rattle.patmos_step.specs.declared.body.Body.{Body}
 use Rattle.patmos_step.specs.declared.code.Decoded.{Decoded}
 use Rattle.patmos_step.specs.Code.{decoded, IsCodeOf, StandsAt}
-
-some_words : (small : Bool) → 1 ≤ elim small as (λ _. ℕ) [ true ↦ 1 | false ↦ 2 ]
-some_words true = omega arith
-some_words false = omega arith
 
 -- what begins after a function's end, or ends there, does not lie inside it
 pub ends_outside : (image : Parts) (base offset size : ℕ) → size ≡ size_at image base → size < offset + bundle_words (word_at image base offset) → is_inside image base offset ≡ false
@@ -71,3 +68,22 @@ decoded_there image code base offset words found d b codes within at fetched =
     by false here h = cc
     by true None h = cc
     by true (Some bundle) h = cc
+
+-- so it is at the offset of a core's function
+pub there_is : (b : Body) (offset words : ℕ) (found d : Decoded) (here bundle : Slots) → offset < b.size → found ≡ slice_index_or b.code.items (b.base + offset) d
+    → fetched_at b.image b.base offset ≡ Found bundle words → found.bundle ≡ Some here → here ≡ bundle
+there_is b offset words found d here bundle inside at fetched is =
+    let within : b.base + offset < length b.image.words = omega (arith, b.inside, inside) in
+    same_bundle here bundle (sym is ∙ decoded_there b.image b.code.items b.base offset words found d bundle b.decoded within at fetched)
+  where
+    same_bundle : (a b : Slots) → Some a ≡ Some b → a ≡ b
+    same_bundle a b h = cc
+
+pub none_there : (b : Body) (offset words : ℕ) (found d : Decoded) (bundle : Slots) → offset < b.size → found ≡ slice_index_or b.code.items (b.base + offset) d
+    → fetched_at b.image b.base offset ≡ Found bundle words → found.bundle ≡ None → ⊥
+none_there b offset words found d bundle inside at fetched is =
+    let within : b.base + offset < length b.image.words = omega (arith, b.inside, inside) in
+    no_bundle_there bundle (sym is ∙ decoded_there b.image b.code.items b.base offset words found d bundle b.decoded within at fetched)
+  where
+    no_bundle_there : (b : Slots) → None ≡ Some b → ⊥
+    no_bundle_there b h = subst (λ o. elim o as (λ _. Type 0) [ None ↦ Unit {0} | Some x ↦ ⊥ ]) h tt

@@ -4,7 +4,9 @@ pub mod MainCells
 pub mod Places
 pub mod Fetching
 pub mod ByItself
+pub mod AtOnce
 pub mod OwnWords
+pub mod Waits
 pub mod Silent
 pub mod Spills
 pub mod Traces

@@ -19,18 +19,16 @@ use Rattle.patmos_model.specs.Cells.{Acted, now}
 use Rattle.patmos_model.specs.Bundle.{fetched_at, bundle}
 use Rattle.patmos_model.specs.Cycle.{own, with_interface, if_running, bundle_step, slot_step}
 use Rattle.patmos_model.specs.Transaction.{transaction, is_due}
+use Rattle.patmos_model.proofs.Waits.{words_test}
 use Rattle.patmos_step.specs.Plan.{planned, carried_out, settled_at, IsSettled}
 use Rattle.patmos_step.specs.Shown.{Shows, IsAt, IsActed, core_of, plain_of}
-
-no_slot : (slots : ℕ) → 0 < slots → (slots == 0) ≡ false
-no_slot slots h = grind (arith, nat_tests)
 
 stays : (cycle : ℕ) (c : Core) (free : Bool) (flow : Option Flow) → (free ≡ true → IfSome flow (λ f. 0 < f.slots)) → elim free [
   | true ↦ elim flow [ None ↦ c | Some f ↦ elim (f.slots == 0) [ true ↦ taken cycle f.goal c | false ↦ c ] ]
   | false ↦ c
 ] ≡ c
 stays cycle c true None h = refl
-stays cycle c true (Some f) h = ap (λ b. elim b [ true ↦ taken cycle f.goal c | false ↦ c ]) (no_slot f.slots (h refl))
+stays cycle c true (Some f) h = ap (λ b. elim b [ true ↦ taken cycle f.goal c | false ↦ c ]) (words_test f.slots (h refl))
 stays cycle c false flow h = refl
 
 -- where no flow is due, none takes effect

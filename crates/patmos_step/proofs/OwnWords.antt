@@ -15,12 +15,12 @@ use Rattle.patmos_model.specs.Flows.{flowed}
 use Rattle.patmos_model.specs.Cells.{Acted, cell_of, now, reading, writing, with_value}
 use Rattle.patmos_model.specs.Transaction.{transaction, transaction_then, moved, accessed, counted}
 use Rattle.patmos_model.specs.Cycle.{own, if_running, bundle_step, slot_step}
+use Rattle.patmos_model.proofs.Waits.{none_right, flow_waits, bundle_waits}
 use Rattle.patmos_step.specs.declared.body.Body.{Body}
 use Rattle.patmos_step.specs.Shown.{Shows, core_of, plain_of}
 use Rattle.patmos_step.specs.Alone.{IsAlone, DoesAlone, ComesAlone}
 use Rattle.patmos_step.specs.Moving.{IsPrivateCell, MovesOwn, CanMoveIn, private_at, private_set, moved_by}
 use Rattle.patmos_step.proofs.ByItself.{runs}
-use Rattle.patmos_step.proofs.Sleeping.{flow_waits, bundle_waits, none_right}
 
 -- the core with these words moved
 abbrev after_move : ℕ → Core → Core
@@ -120,6 +120,15 @@ comes_on from to later c b last before after first second = record {
       (joined from (to - from) (later - to) to c (core_of b before.seen) (core_of last after.seen) n (before.alone (to - from) n) (after.alone (later - to) m));
 }
 
+pub comes_further : (from cycle next after : ℕ) (c : Core) (b between last : Body) → ComesAlone from cycle c b
+    → ((h : History) → Shows b h → ComesAlone cycle next (core_of b h) between) → ((h : History) → Shows between h → ComesAlone next after (core_of between h) last)
+    → from ≤ cycle → cycle ≤ next → next ≤ after → ComesAlone from after c last
+comes_further from cycle next after c b between last before second third first_on second_on third_on =
+    let there : ComesAlone cycle next (core_of b before.seen) between = second before.seen before.shows in
+    comes_on from cycle after c b last before
+    (comes_on cycle next after (core_of b before.seen) between last there (third there.seen there.shows) second_on third_on)
+    first_on (omega (arith, second_on, third_on))
+
 -- a stretch of one cycle
 pub one_alone : (cycle : ℕ) (c : Core) (last : Body) (h : History) → Shows last h → IsAlone cycle c (core_of last h) → ComesAlone cycle (cycle + 1) c last
 one_alone cycle c last h shows alone = record { seen = h; shows = shows; alone = by }
@@ -128,3 +137,16 @@ one_alone cycle c last h shows alone = record { seen = h; shows = shows; alone =
     by zero at = absurd (omega (arith, at))
     by (suc zero) at = (c, refl, subst (λ q. IsAlone q c (core_of last h)) (omega arith) alone)
     by (suc (suc count)) at = absurd (omega (arith, at))
+
+-- a bundle that was done in a cycle
+pub one_done : (cycle : ℕ) (b last : Body) → ((h : History) → IsAlone cycle (core_of b h) (core_of last h)) → ((h : History) → Shows b h → Shows last h)
+    → (h : History) → Shows b h → ComesAlone cycle (cycle + 1) (core_of b h) last
+one_done cycle b last does shows h shown = one_alone cycle (core_of b h) last h (shows h shown) (does h)
+
+-- and what was waited after it
+pub done_and_waited : (cycle next : ℕ) (b between last : Body) → ((h : History) → IsAlone cycle (core_of b h) (core_of between h)) → ((h : History) → Shows b h → Shows between h)
+    → ((h : History) → Shows between h → ComesAlone (cycle + 1) next (core_of between h) last) → cycle + 1 ≤ next
+    → (h : History) → Shows b h → ComesAlone cycle next (core_of b h) last
+done_and_waited cycle next b between last does shows waits later h shown =
+    let first : ComesAlone cycle (cycle + 1) (core_of b h) between = one_done cycle b between does shows h shown in
+    comes_on cycle (cycle + 1) next (core_of b h) between last first (waits first.seen first.shows) (omega arith) later

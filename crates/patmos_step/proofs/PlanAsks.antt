@@ -53,6 +53,7 @@ use Rattle.patmos_step.specs.Shown.{Shows, core_of, plain_of}
 use Rattle.patmos_step.specs.Asks.{LeavesPending, Ends, Loads, Stores, AsksFor, FollowsAsk, AskFits, load_ask, line_ask, word_ask, store_ask, then_ask, slot_ask, cached_ask, loaded_ask, stored_ask, effect_ask, fetched_ask, plan_ask}
 use Rattle.shared_order.proofs.Parts.{then-done}
 use Rattle.patmos_model.proofs.CellRanges.{cell_in_range, line_fits, LineFits}
+use Rattle.patmos_step.proofs.Short.{none_moved}
 
 -- a program that goes on where another ends
 ends_then : (Is Left : Acted → Type 0) (p : Prog Acted) (next : Acted → Prog Acted) → ((a : Acted) → Is a → Ends Left (next a)) → Ends Is p → Ends Left (and_then p next)
@@ -170,13 +171,9 @@ free_words cycle x h = grind (arith, nat_tests)
 free_now : (cycle : ℕ) (x : Plain) → is_free cycle x ≡ true → nat_le x.free cycle ≡ true
 free_now cycle x h = grind (arith, nat_tests)
 
--- a core without words to move asks for nothing in a slot
-rests : (cycle : ℕ) (a : Acted) → a.core.plain.transfer.words ≡ 0 → slot_step cycle a ≡ done a
-rests cycle a h = grind (arith, nat_tests)
-
 -- so it leaves the pending store of its own act
 ends_at_rest : (asked : Ask) (cycle : ℕ) (a : Acted) → Leaves asked 0 a → Ends (λ left. LeavesPending asked left.pending_store) (slot_step cycle a)
-ends_at_rest asked cycle a h = subst (Ends (λ left. LeavesPending asked left.pending_store)) (sym (rests cycle a h.1)) h.0
+ends_at_rest asked cycle a h = subst (Ends (λ left. LeavesPending asked left.pending_store)) (sym (none_moved cycle a h.1)) h.0
 
 -- a core that has nothing to move once it has acted
 quiet : (cycle : ℕ) (x : Plain) (seen : History) → x.transfer.words ≡ 0 → FollowsAsk asks.Nothing (slot_step cycle (record { core = record { plain = x; seen = seen }; pending_store = None }))

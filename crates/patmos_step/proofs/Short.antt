@@ -97,7 +97,7 @@ none_due : (words : ℕ) (rest : Bool) → words ≡ 0 → nat_lt 0 words && res
 none_due words rest none = ap (λ w. nat_lt 0 w && rest) none
 
 -- with no words to move there is no transaction
-none_moved : (cycle : ℕ) (a : Acted) → a.core.plain.transfer.words ≡ 0 → slot_step cycle a ≡ done a
+pub none_moved : (cycle : ℕ) (a : Acted) → a.core.plain.transfer.words ≡ 0 → slot_step cycle a ≡ done a
 none_moved cycle a none =
     ap (λ b. elim b [ true ↦ transaction cycle a.core | false ↦ done a ]) (none_due a.core.plain.transfer.words _ none)
 
@@ -127,7 +127,7 @@ done_and_moved s cycle fetched c values between last pending_store result none a
     (ap (λ a. (fed s (slot_step cycle a) values).core) whole ∙ sym (short_then s cycle (done_as fetched cycle c) values (done_short fetched cycle c none)))
     (moved act.at.seen act.at.shows)
 
-free_unmoved : (words : ℕ) (rest : Bool) → (words == 0) && rest ≡ true → words ≡ 0
+pub free_unmoved : (words : ℕ) (rest : Bool) → (words == 0) && rest ≡ true → words ≡ 0
 free_unmoved words rest h = grind (arith, nat_tests)
 
 planned_unmoved : (fetched found : Fetched) (words : ℕ) (running free rest : Bool) → free ≡ (words == 0) && rest →

@@ -7,8 +7,6 @@ use Rattle.local_store.specs.declared.map.Space.TheVariants.{Local}
 use Rattle.local_store.specs.declared.map.Cell.{Cell}
 use Rattle.local_store.specs.declared.map.Cell.TheVariants as cell
 use Rattle.patmos_instr.specs.Bundles.{Slots}
-use Rattle.patmos_instr.specs.declared.instructions.Op.{Op}
-use Rattle.patmos_instr.specs.declared.instructions.Op.TheVariants as op
 use Rattle.patmos_instr.specs.declared.memories.Mem.{Mem}
 use Rattle.patmos_instr.specs.declared.memories.Mem.TheVariants as mem
 use Rattle.patmos_instr.specs.declared.memories.Width.{Width}
@@ -28,8 +26,11 @@ use Rattle.patmos_model.specs.Cells.{cell_of, with_value, now}
 use Rattle.patmos_model.specs.Flows.{counted}
 use Rattle.patmos_model.specs.Transfers.{reads, writes}
 use Rattle.patmos_model.specs.Bundle.{fetched_at, asked_flow, stack_set, ends, moves}
+use Rattle.patmos_model.specs.Transaction.{is_due}
 use Rattle.patmos_model.specs.Cycle.{own}
-use Rattle.patmos_step.specs.declared.alone.Private.{Private}
+use Rattle.patmos_step.specs.declared.alone.NextBundle.{NextBundle}
+use Rattle.patmos_step.specs.declared.alone.Went.{Went}
+use Rattle.patmos_step.specs.declared.alone.Went.TheVariants as went
 use Rattle.patmos_step.specs.declared.body.Body.{Body}
 use Rattle.patmos_step.specs.Ready.{IsGranted}
 use Rattle.patmos_step.specs.Shown.{Shows, core_of, plain_of}
@@ -53,9 +54,12 @@ CanLand offset x = elim x.flow [
 abbrev pub no_slot_left : Option Flow → Bool
 no_slot_left flow = elim flow [ None ↦ true | Some f ↦ f.slots == 0 ]
 
--- the core at that offset: a branch that is due has taken effect
+-- the flow that is left, and the core at that offset, once a branch that was due has taken effect
+abbrev pub left : Option Flow → Option Flow
+left flow = elim (no_slot_left flow) [ true ↦ None | false ↦ flow ]
+
 abbrev pub landed : ℕ → Plain → Plain
-landed offset x = record x { offset = offset; flow = elim (no_slot_left x.flow) [ true ↦ None | false ↦ x.flow ] }
+landed offset x = record x { offset = offset; flow = left x.flow }
 
 -- the core with the registers as a bundle leaves them; and with the offset and the flow after one of so many
 -- words that asks for this
@@ -64,19 +68,6 @@ with_registers b x = record x { regs = after_bundle x.stack.st x.stack.ss b x.re
 
 abbrev pub passed : ℕ → Effect → Plain → Plain
 passed words asked x = record x { offset = x.offset + words; flow = counted x.flow (asked_flow x.offset asked) }
-
--- an operation that asks for nothing, whatever the registers hold
-abbrev pub is_silent : Op → Bool
-is_silent (op.AluImm func rd ra imm) = true
-is_silent (op.AluReg func rd ra rb) = true
-is_silent (op.AluLong func rd ra constant) = true
-is_silent (op.Mul unsigned ra rb) = true
-is_silent (op.Cmp func pd ra rb) = true
-is_silent (op.CmpImm func pd ra imm) = true
-is_silent (op.Comb func pd a b) = true
-is_silent (op.ToSpecial special ra) = true
-is_silent (op.FromSpecial rd special) = true
-is_silent _ = false
 
 -- an address in the scratchpad, and one of the core's own stack or scratchpad, or of main memory, whose words
 -- move later
@@ -109,6 +100,10 @@ AsksOwn asked = elim asked [
   | effect.Store space width address value ↦ IsOwn space address
   | effect.StackOp func count ↦ ⊥
 ]
+
+-- a memory whose words come or go in the bundle's own cycle
+abbrev pub IsLocal : Mem → Type 0
+IsLocal space = elim space [ mem.S ↦ Unit {0} | mem.L ↦ Unit {0} | mem.C ↦ ⊥ | mem.M ↦ ⊥ ]
 
 -- a flow is asked for only where none has delay slots left
 abbrev pub CanFlow : Plain → Effect → Type 0
@@ -172,6 +167,12 @@ finished asked cycle x = elim asked [
   | effect.StackOp func count ↦ x
 ]
 
+-- words are to be moved, and the first cycle from one on in which they can be is this
+pub record CanFirstMove (from start : ℕ) (x : Plain) : Type 0 where
+  pub ahead : from ≤ start
+  pub due : is_due start x ≡ true
+  pub before : (u : ℕ) → from ≤ u → u < start → is_due u x ≡ false
+
 -- words of main memory wait for a slot after the bundle's cycle
 abbrev pub SpaceWaits : Mem → ℕ → Site → Type 0
 SpaceWaits space cycle site = elim space [
@@ -190,15 +191,26 @@ CanWait asked cycle site = elim asked [
   | effect.StackOp func count ↦ Unit {0}
 ]
 
--- the bundle comes in the cycle, and the core does it by itself
-pub record IsPrivateIn (cycle : ℕ) (b : Body) (next : Private) : Type 0 where
-  pub begins : CanBegin cycle (plain_of b)
+-- a bundle stands at an offset of the core's function
+pub record HasBundleAt (b : Body) (offset : ℕ) : Type 0 where
+  pub bundle : Slots
+  pub words : ℕ
+  pub fetched : fetched_at b.image b.base offset ≡ Found bundle words
+  pub inside : offset < b.size
+
+-- it is the core's next one, and asks for this
+pub record IsNextBundle (b : Body) (next : NextBundle) : Type 0 where
   pub lands : CanLand next.offset (plain_of b)
   pub bundle : Slots
   pub fetched : fetched_at b.image b.base next.offset ≡ Found bundle next.words
   pub inside : next.offset < b.size
   pub within : next.offset + next.words ≤ b.size
   pub asks : next.effect ≡ effect_of bundle b.regs
+
+-- the bundle comes in the cycle, and the core does it by itself
+pub record IsPrivateIn (cycle : ℕ) (b : Body) (next : NextBundle) : Type 0 where
+  pub begins : CanBegin cycle (plain_of b)
+  pub here : IsNextBundle b next
   pub own : AsksOwn next.effect
   pub granted : IsGranted next.effect (plain_of b)
   pub flow : CanFlow (plain_of b) next.effect
@@ -219,3 +231,14 @@ pub record ComesAlone (from to : ℕ) (c : Core) (b : Body) : Type 0 where
   pub seen : History
   pub shows : Shows b seen
   pub alone : (count : ℕ) → from + count ≡ to → DoesAlone from count c (core_of b seen)
+
+-- the core went so far by itself from a cycle on in which its next bundle comes: it stands where it did; or that
+-- bundle is done, and the next one comes in the next cycle; or it waited after it until a cycle
+abbrev pub HasGone : Went → ℕ → ℕ → Body → Body → Type 0
+HasGone how cycle limit b last = elim how [
+  | went.Nowhere ↦ last ≡ b
+  | went.On ↦ ((h : History) → Shows b h → ComesAlone cycle (cycle + 1) (core_of b h) last)
+      × CanBegin (cycle + 1) (plain_of last)
+  | went.Until next ↦ (cycle < next) × (next ≤ limit)
+      × ((h : History) → Shows b h → ComesAlone cycle next (core_of b h) last)
+]

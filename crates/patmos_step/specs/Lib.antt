@@ -6,4 +6,5 @@ pub mod Shown
 pub mod Asks
 pub mod Facts
 pub mod Alone
+pub mod AtOnce
 pub mod Moving

@@ -1,18 +1,12 @@
-ghost use Rattle.std.specs.Prelude.{◌≡◌, true};
-ghost use Rattle.patmos_step.specs.Alone.{is_silent, IsOwn};
-
 use crate::body::Body;
-use crate::check::cell_of;
-use local_store::{Cell, Space};
-use patmos_instr::{Mem, Op};
+use crate::code::Class;
 use patmos_model::{Flow, Goal, Status};
-use patmos_sem::{Effect, asked_by, write_back};
+use patmos_sem::Effect;
 use slot_arbiter::MOST_CYCLES;
 
-/// A bundle that a core does by itself: it asks for nothing but words of its own stack and scratchpad, or leaves
-/// a word of main memory to be moved in a later cycle; and no check of it fails.
+/// A core's next bundle, with what it asks for.
 #[derive(Clone, Copy, Debug, PartialEq, Eq)]
-pub struct Private {
+pub struct NextBundle {
     /// The offset at which it stands, to which a branch that is due has come.
     pub offset: u32,
     /// How many words of code it has.
@@ -21,17 +15,24 @@ pub struct Private {
     pub effect: Effect,
 }
 
+/// How far a core goes by itself in a cycle in which its next bundle comes.
+#[derive(Clone, Copy, Debug, PartialEq, Eq)]
+pub enum Went {
+    /// Nowhere: it does not do the bundle by itself.
+    Nowhere,
+    /// After the bundle, and the next one comes in the next cycle.
+    On,
+    /// After the bundle, where it waited until this cycle.
+    Until(u64),
+}
+
 impl Body {
-    ghost use Rattle.std.specs.Prelude.{◌≡◌, ℕ, ◌≤◌, ◌<◌, ◌%◌, true, None, IfSome};
-    ghost use Rattle.patmos_sem.specs.declared.pending.Pending.TheVariants as pending;
-    ghost use Rattle.patmos_sem.specs.Bundles.{effect_of, OnLoad};
-    ghost use Rattle.patmos_instr.specs.Bundles.{Slots};
-    ghost use Rattle.patmos_model.specs.declared.fetched.Fetched.TheVariants.{Found};
-    ghost use Rattle.patmos_model.specs.Bundle.{fetched_at};
+    ghost use Rattle.std.specs.Prelude.{◌≡◌, ◌≤◌, ◌<◌, true, IfSome};
     ghost use Rattle.patmos_model.specs.State.{History};
-    ghost use Rattle.patmos_step.specs.Ready.{IsGranted, CanGoOn, IsAtRest};
+    ghost use Rattle.patmos_step.specs.Ready.{CanGoOn};
     ghost use Rattle.patmos_step.specs.Shown.{Shows, IsFramed, core_of, plain_of};
-    ghost use Rattle.patmos_step.specs.Alone.{no_slot_left, landed, with_registers, AsksOwn, CanFlow, SpaceWaits, CanWait, IsPrivateIn, IsAlone, CanBegin, CanLand, ComesAlone};
+    ghost use Rattle.patmos_model.specs.Transaction.{is_due};
+    ghost use Rattle.patmos_step.specs.Alone.{no_slot_left, CanBegin, CanLand, CanFirstMove, HasGone, ComesAlone};
 
     /// From a cycle on goes on as long as the core does all by itself: its bundles, waiting, and moving words of
     /// its own memory; up to the first cycle in which it may do something else, or up to the limit. Gives that
@@ -50,32 +51,14 @@ impl Body {
     {
         let mut cycle = from;
         while cycle < limit {
-            let next = self.go_on_alone(cycle, limit);
-            if next == cycle {
-                return cycle;
+            let next = self.run_bundles(cycle, limit);
+            let after = self.wait_alone(next, limit);
+            if after == next {
+                return after;
             }
-            cycle = next;
+            cycle = after;
         }
         cycle
-    }
-
-    // goes on so for some cycles, if it can
-    fn go_on_alone(&mut self, from: u64, limit: u64) -> u64
-        requires can { CanGoOn self.old }
-        requires within { from ≤ limit }
-        requires most { limit ≤ MOST_CYCLES }
-        ensures from { from ≤ result }
-        ensures within { result ≤ limit }
-        ensures alone { (h : History) → Shows self.old h → ComesAlone from result (core_of self.old h) self.new }
-        ensures can { CanGoOn self.new }
-        ensures ni { self.new.ni ≡ self.old.ni }
-        ensures frame { IsFramed self.old self.new }
-    {
-        if self.can_begin(from) {
-            self.run_bundles(from, limit)
-        } else {
-            self.wait_alone(from, limit)
-        }
     }
 
     // waits until the core may do something, and moves words of its own memory if it is that
@@ -90,19 +73,57 @@ impl Body {
         ensures ni { self.new.ni ≡ self.old.ni }
         ensures frame { IsFramed self.old self.new }
     {
-        let active = self.next_active(from, limit).min(limit);
+        let active = self.active(from, limit).min(limit);
         if active == limit {
             return active;
         }
-        if !self.moves_own(active) {
-            return active;
-        }
-        self.move_own(active);
-        active + 1
+        self.move_at(active, limit)
     }
 
-    // does one bundle a cycle, as long as each is one that the core does by itself
-    #[tactic(auto, using(crate::proofs::ByItself::begins_alone, crate::proofs::ByItself::goes_alone))]
+    /// Waits for the first cycle in which the words that are to be moved can be, and moves them there if they are of
+    /// the core's own memory.
+    #[inline(always)]
+    pub fn wait_until(&mut self, from: u64, start: u64, limit: u64) -> u64
+        requires first { CanFirstMove from start (plain_of self.old) }
+        requires can { CanGoOn self.old }
+        requires within { from ≤ limit }
+        requires most { limit ≤ MOST_CYCLES }
+        ensures from { from ≤ result }
+        ensures within { result ≤ limit }
+        ensures alone { (h : History) → Shows self.old h → ComesAlone from result (core_of self.old h) self.new }
+        ensures can { CanGoOn self.new }
+        ensures ni { self.new.ni ≡ self.old.ni }
+        ensures frame { IsFramed self.old self.new }
+    {
+        if limit <= start {
+            return limit;
+        }
+        self.move_at(start, limit)
+    }
+
+    // moves the words that are to be moved, if they are of its own memory, and waits after them
+    #[inline(always)]
+    fn move_at(&mut self, from: u64, limit: u64) -> u64
+        requires due { 0 < self.old.transfer.words → is_due from (plain_of self.old) ≡ true }
+        requires can { CanGoOn self.old }
+        requires within { from < limit }
+        requires most { limit ≤ MOST_CYCLES }
+        ensures from { from ≤ result }
+        ensures within { result ≤ limit }
+        ensures alone { (h : History) → Shows self.old h → ComesAlone from result (core_of self.old h) self.new }
+        ensures can { CanGoOn self.new }
+        ensures ni { self.new.ni ≡ self.old.ni }
+        ensures frame { IsFramed self.old self.new }
+    {
+        if !self.moves_own() {
+            return from;
+        }
+        self.move_own(from);
+        self.active(from + 1, limit).min(limit)
+    }
+
+    // does bundles one a cycle, as long as each is one that the core does by itself
+    #[tactic(auto, using(crate::proofs::ByItself::begins_alone))]
     fn run_bundles(&mut self, from: u64, limit: u64) -> u64
         requires can { CanGoOn self.old }
         requires within { from ≤ limit }
@@ -114,52 +135,60 @@ impl Body {
         ensures ni { self.new.ni ≡ self.old.ni }
         ensures frame { IsFramed self.old self.new }
     {
+        if !self.can_begin(from) {
+            return from;
+        }
         let mut cycle = from;
         while cycle < limit {
-            let Some(next) = self.next_private(cycle) else {
-                return cycle;
-            };
-            self.do_private(&next, cycle);
-            cycle += 1;
+            match self.do_next(cycle, limit) {
+                Went::Nowhere => return cycle,
+                Went::On => cycle += 1,
+                Went::Until(next) => {
+                    if !self.can_begin(next) {
+                        return next;
+                    }
+                    cycle = next;
+                }
+            }
         }
         cycle
     }
 
-    // the bundle that comes in the cycle, if the core does it by itself
-    fn next_private(&self, cycle: u64) -> Option<Private>
-        requires early { cycle ≤ MOST_CYCLES }
-        ensures { IfSome result (IsPrivateIn cycle self.now) }
+    // does the bundle that comes in the cycle, if the core does it by itself
+    #[inline(always)]
+    #[tactic(auto, using(crate::proofs::AtOnce::silent_next, crate::proofs::AtOnce::branch_next, crate::proofs::OwnWords::one_done))]
+    fn do_next(&mut self, cycle: u64, limit: u64) -> Went
+        requires begins { CanBegin cycle (plain_of self.old) }
+        requires can { CanGoOn self.old }
+        requires below { cycle < limit }
+        requires most { limit ≤ MOST_CYCLES }
+        ensures went { HasGone result cycle limit self.old self.new }
+        ensures can { CanGoOn self.new }
+        ensures ni { self.new.ni ≡ self.old.ni }
+        ensures frame { IsFramed self.old self.new }
     {
-        if !self.can_begin(cycle) {
-            return None;
-        }
-        let offset = self.next_offset()?;
-        let found = self.decoded_at(offset)?;
-        let Some(bundle) = &found.bundle else {
-            return None;
+        let Some(offset) = self.next_offset() else {
+            return Went::Nowhere;
         };
-        if is_silent(&bundle.first().op) {
-            return Some(Private {
-                offset,
-                words: found.words,
-                effect: Effect::Nothing,
-            });
+        let Some(found) = self.decoded_at(offset) else {
+            return Went::Nowhere;
+        };
+        let words = found.words;
+        match found.class {
+            Class::Silent => {
+                self.do_silent(offset, words, cycle);
+                Went::On
+            }
+            Class::Branch { guard, by } if self.has_no_slot_left() => {
+                self.do_branch(offset, words, guard, by, cycle);
+                Went::On
+            }
+            Class::Branch { .. } | Class::Other => self.do_other(offset, cycle, limit),
         }
-        let effect = asked_by(&self.regs, bundle);
-        if !self.is_private(&effect) {
-            return None;
-        }
-        if !self.can_wait(&effect, cycle) {
-            return None;
-        }
-        Some(Private {
-            offset,
-            words: found.words,
-            effect,
-        })
     }
 
     // whether the core's next bundle comes in the cycle, if its task has not ended
+    #[inline(always)]
     fn can_begin(&self, cycle: u64) -> bool
         ensures { result ≡ true → CanBegin cycle (plain_of self.now) }
     {
@@ -167,6 +196,7 @@ impl Body {
     }
 
     // the offset of the next bundle, where no flow is due but a branch to a place in the function
+    #[inline(always)]
     #[tactic(auto, using(crate::proofs::ByItself::lands_here, crate::proofs::ByItself::lands_later, crate::proofs::ByItself::lands_within))]
     fn next_offset(&self) -> Option<u32>
         ensures { IfSome result (λ offset. CanLand offset (plain_of self.now)) }
@@ -183,147 +213,14 @@ impl Body {
         }
     }
 
-    // whether what a bundle asks for is the core's own, and no check of it fails
-    fn is_private(&self, effect: &Effect) -> bool
-        ensures own { result ≡ true → AsksOwn effect.now }
-        ensures granted { result ≡ true → IsGranted effect.now (plain_of self.now) }
-        ensures flow { result ≡ true → CanFlow (plain_of self.now) effect.now }
-    {
-        match *effect {
-            Effect::Nothing => true,
-            Effect::Flow { .. } => self.has_no_slot_left(),
-            Effect::Load {
-                space,
-                width,
-                address,
-                ..
-            } => is_own(space, address) && self.load_fault(space, width, address).is_none(),
-            Effect::Store {
-                space,
-                width,
-                address,
-                value,
-            } => is_own(space, address) && self.store_fault(space, width, address, value).is_none(),
-            Effect::StackOp { .. } => false,
-        }
-    }
-
-    // whether no flow has delay slots left
-    fn has_no_slot_left(&self) -> bool
+    /// Whether no flow has delay slots left.
+    #[inline(always)]
+    pub fn has_no_slot_left(&self) -> bool
         ensures { result ≡ no_slot_left self.now.flow }
     {
         match self.flow {
             Some(flow) => flow.slots == 0,
             None => true,
         }
-    }
-
-    // does a bundle that comes in the cycle
-    fn do_private(&mut self, next: &Private, cycle: u64)
-        requires next { IsPrivateIn cycle self.old next.now }
-        requires can { CanGoOn self.old }
-        requires early { cycle ≤ MOST_CYCLES }
-        ensures alone { (h : History) → IsAlone cycle (core_of self.old h) (core_of self.new h) }
-        ensures shows { (h : History) → Shows self.old h → Shows self.new h }
-        ensures can { CanGoOn self.new }
-        ensures ni { self.new.ni ≡ self.old.ni }
-        ensures frame { IsFramed self.old self.new }
-    {
-        prove!(next.words <= self.size);
-        self.write_registers(next.offset);
-        self.land(next.offset);
-        self.pass(next.words, &next.effect);
-        self.finish(&next.effect, cycle);
-    }
-
-    // writes the registers as the bundle at an offset does
-    fn write_registers(&mut self, offset: u32)
-        requires inside { offset < self.old.size }
-        ensures plain { (b : Slots) (words : ℕ) → fetched_at self.old.image self.old.base offset ≡ Found b words
-            → plain_of self.new ≡ with_registers b (plain_of self.old) }
-        ensures pending { (b : Slots) (words : ℕ) → fetched_at self.old.image self.old.base offset ≡ Found b words
-            → OnLoad (effect_of b self.old.regs) (self.new.regs.pending ≡ pending.Nothing) }
-        ensures shows { (h : History) → Shows self.old h → Shows self.new h }
-        ensures ni { self.new.ni ≡ self.old.ni }
-        ensures rest { IsAtRest self.old → IsAtRest self.new }
-        ensures frame { IsFramed self.old self.new }
-    {
-        let found = &self.code[self.base as usize + offset as usize];
-        match &found.bundle {
-            Some(bundle) => {
-                write_back(&mut self.regs, bundle, self.stack.st(), self.stack.ss());
-            }
-            None => {}
-        }
-    }
-
-    // goes on at an offset, to which a branch that is due has come
-    fn land(&mut self, offset: u32)
-        ensures plain { plain_of self.new ≡ landed offset (plain_of self.old) }
-        ensures offset { self.new.offset ≡ offset }
-        ensures regs { self.new.regs ≡ self.old.regs }
-        ensures shows { (h : History) → Shows self.old h → Shows self.new h }
-        ensures ni { self.new.ni ≡ self.old.ni }
-        ensures rest { IsAtRest self.old → IsAtRest self.new }
-        ensures frame { IsFramed self.old self.new }
-    {
-        self.offset = offset;
-        if self.has_no_slot_left() {
-            self.flow = None;
-        }
-    }
-
-    // whether words that a bundle leaves to be moved wait for a slot after its cycle
-    fn can_wait(&self, effect: &Effect, cycle: u64) -> bool
-        requires early { cycle ≤ MOST_CYCLES }
-        ensures { result ≡ true → CanWait effect.now cycle (plain_of self.now).site }
-    {
-        match *effect {
-            Effect::Load { space, .. } | Effect::Store { space, .. } => self.space_waits(
-                space, cycle,
-            ),
-            Effect::Nothing | Effect::Flow { .. } | Effect::StackOp { .. } => true,
-        }
-    }
-
-    // whether no slot starts in the cycle for words of main memory
-    fn space_waits(&self, space: Mem, cycle: u64) -> bool
-        requires early { cycle ≤ MOST_CYCLES }
-        ensures { result ≡ true → SpaceWaits space cycle (plain_of self.now).site }
-    {
-        match space {
-            Mem::S | Mem::L | Mem::C => true,
-            Mem::M => !self.is_slot_start(cycle),
-        }
-    }
-}
-
-// whether an operation asks for nothing, whatever the registers hold
-fn is_silent(op: &Op) -> bool
-    ensures { result ≡ is_silent op.now }
-{
-    matches!(
-        op,
-        Op::AluImm { .. }
-            | Op::AluReg { .. }
-            | Op::AluLong { .. }
-            | Op::Mul { .. }
-            | Op::Cmp { .. }
-            | Op::CmpImm { .. }
-            | Op::Comb { .. }
-            | Op::ToSpecial { .. }
-            | Op::FromSpecial { .. }
-    )
-}
-
-// whether an address is one of a core's own stack or scratchpad, or of main memory past the data cache
-fn is_own(space: Mem, address: u32) -> bool
-    ensures { result ≡ true → IsOwn space address }
-{
-    match space {
-        Mem::S => true,
-        Mem::L => matches!(cell_of(Space::Local, address), Some(Cell::Scratch(_))),
-        Mem::C => false,
-        Mem::M => true,
     }
 }

@@ -85,7 +85,7 @@ impl Body {
         requires early { cycle ≤ MOST_CYCLES }
         ensures { result ≡ specs.bundle_ask cycle (plain_of self.now) (word_at self.now.cache) bundle.now }
     {
-        if !is_access(&bundle.first().op) {
+        if !is_access(&bundle.first_slot().op) {
             return Ask::Nothing;
         }
         let effect = asked_by(&self.regs, bundle);

@@ -39,6 +39,7 @@ impl Body {
     }
 
     /// The check on a load that fails, if one does.
+    #[inline(always)]
     pub fn load_fault(&self, space: Mem, width: Width, address: u32) -> Option<Trap>
         ensures { result ≡ specs.load_fault (plain_of self.now) space width address }
     {
@@ -53,6 +54,7 @@ impl Body {
     }
 
     /// The check on a store that fails, if one does.
+    #[inline(always)]
     pub fn store_fault(
         &self,
         space: Mem,

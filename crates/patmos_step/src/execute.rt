@@ -81,13 +81,14 @@ impl Body {
         ensures rest { IsAtRest self.old → IsAtRest self.new }
         ensures frame { IsFramed self.old self.new }
     {
-        self.flow = match self.flow {
-            Some(flow) => Some(Flow {
-                goal: flow.goal,
-                slots: flow.slots.saturating_sub(1),
-            }),
-            None => asked_flow(self.offset, effect),
-        };
+        match &mut self.flow {
+            Some(flow) => flow.slots = flow.slots.saturating_sub(1),
+            None => {
+                if let Effect::Flow { kind } = *effect {
+                    self.flow = Some(asked_flow(self.offset, kind));
+                }
+            }
+        }
         self.offset += words;
     }
 
@@ -290,13 +291,10 @@ impl Body {
     }
 }
 
-// the flow that a bundle at an offset asks for
-fn asked_flow(offset: u32, effect: &Effect) -> Option<Flow>
-    ensures { result ≡ bundles.asked_flow offset effect.now }
+// a flow that a bundle at an offset asks for
+fn asked_flow(offset: u32, kind: FlowKind) -> Flow
+    ensures { result ≡ flows.flow_of offset kind }
 {
-    let Effect::Flow { kind } = *effect else {
-        return None;
-    };
     let (goal, slots) = match kind {
         FlowKind::Branch { offset: by } => {
             let offset = branch_target(offset, by);
@@ -306,12 +304,12 @@ fn asked_flow(offset: u32, effect: &Effect) -> Option<Flow>
         FlowKind::BranchFill { target } => (Goal::Fill { target }, 3),
         FlowKind::Return { base, offset } => (Goal::Return { base, offset }, 3),
     };
-    Some(Flow { goal, slots })
+    Flow { goal, slots }
 }
 
 // the offset that a branch goes to
 #[tactic(auto, using(crate::proofs::Branches::target_is))]
-fn branch_target(offset: u32, by: i32) -> u32
+pub fn branch_target(offset: u32, by: i32) -> u32
     ensures { result ≡ flows.branch_target offset by }
 {
     offset.wrapping_add(by.cast_unsigned())

@@ -27,6 +27,7 @@ impl Body {
     }
 
     /// What begins at an offset of the core's function, if it ends inside the function.
+    #[inline(always)]
     #[tactic(auto, using(crate::proofs::Fetching::stands_inside, crate::proofs::Fetching::ends_outside))]
     pub fn decoded_at(&self, offset: u32) -> Option<&Decoded>
         ensures found { IfSome result (λ found. StandsAt self.now.image self.now.base offset found.now) }

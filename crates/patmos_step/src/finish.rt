@@ -3,56 +3,24 @@ use crate::check::cell_of;
 use local_store::{Cell, Space};
 use patmos_instr::{Mem, Reg, StoreWidth, Width};
 use patmos_model::{Then, Transfer};
-use patmos_sem::{Effect, merge};
+use patmos_sem::merge;
 use slot_arbiter::MOST_CYCLES;
 
 impl Body {
-    ghost use Rattle.std.specs.Prelude.{◌≡◌, ℕ, ◌≤◌, ◌%◌, None, IfSome};
+    ghost use Rattle.std.specs.Prelude.{◌≡◌, ◌≤◌, ◌%◌, None, IfSome};
     ghost use Rattle.local_store.specs.Map.{IsInRange};
     ghost use Rattle.patmos_sem.specs.declared.pending.Pending.TheVariants as pending;
-    ghost use Rattle.patmos_sem.specs.Bundles.{OnLoad};
     ghost use Rattle.patmos_sem.specs.Effects.{store_bytes};
     ghost use Rattle.patmos_model.specs.State.{History};
     ghost use Rattle.patmos_model.specs.Checks.{load_fault, store_fault};
-    ghost use Rattle.patmos_step.specs.Ready.{IsGranted, CanGoOn, IsAtRest};
+    ghost use Rattle.patmos_step.specs.Ready.{CanGoOn, IsAtRest};
     ghost use Rattle.patmos_step.specs.Shown.{Shows, IsFramed, plain_of};
-    ghost use Rattle.patmos_step.specs.Alone.{AsksOwn, scratch_at, scratch_set, finished_load, finished_store, finished};
+    ghost use Rattle.patmos_step.specs.Alone.{scratch_at, scratch_set, finished_load, finished_store};
 
-    /// Does what a bundle asked for: words of main memory are left to be moved.
+    /// A load of a word of the core's own stack or scratchpad, or one that leaves a word to be moved.
+    #[inline(always)]
     #[tactic(auto, using(crate::proofs::Rests::can_at_rest))]
-    pub fn finish(&mut self, effect: &Effect, cycle: u64)
-        requires early { cycle ≤ MOST_CYCLES }
-        requires own { AsksOwn effect.now }
-        requires granted { IsGranted effect.now (plain_of self.old) }
-        requires pending { OnLoad effect.now (self.old.regs.pending ≡ pending.Nothing) }
-        requires rest { IsAtRest self.old }
-        ensures plain { plain_of self.new ≡ finished effect.now cycle (plain_of self.old) }
-        ensures shows { (h : History) → Shows self.old h → Shows self.new h }
-        ensures ni { self.new.ni ≡ self.old.ni }
-        ensures can { CanGoOn self.new }
-        ensures frame { IsFramed self.old self.new }
-    {
-        match *effect {
-            Effect::Nothing | Effect::Flow { .. } => self.end(cycle),
-            Effect::Load {
-                space,
-                width,
-                rd,
-                address,
-            } => self.finish_load(space, width, rd, address, cycle),
-            Effect::Store {
-                space,
-                width,
-                address,
-                value,
-            } => self.finish_store(space, width, address, value, cycle),
-            Effect::StackOp { .. } => {}
-        }
-    }
-
-    // a load of a word of the core's own stack or scratchpad, or one that leaves a word to be moved
-    #[tactic(auto, using(crate::proofs::Rests::can_at_rest))]
-    fn finish_load(&mut self, space: Mem, width: Width, rd: Reg, address: u32, cycle: u64)
+    pub fn finish_load(&mut self, space: Mem, width: Width, rd: Reg, address: u32, cycle: u64)
         requires early { cycle ≤ MOST_CYCLES }
         requires granted { load_fault (plain_of self.old) space width address ≡ None }
         requires pending { self.old.regs.pending ≡ pending.Nothing }
@@ -82,9 +50,17 @@ impl Body {
         }
     }
 
-    // a store of that kind
+    /// A store of that kind.
+    #[inline(always)]
     #[tactic(auto, using(crate::proofs::Rests::can_at_rest))]
-    fn finish_store(&mut self, space: Mem, width: StoreWidth, address: u32, value: u32, cycle: u64)
+    pub fn finish_store(
+        &mut self,
+        space: Mem,
+        width: StoreWidth,
+        address: u32,
+        value: u32,
+        cycle: u64,
+    )
         requires early { cycle ≤ MOST_CYCLES }
         requires granted { store_fault (plain_of self.old) space width address value ≡ None }
         requires rest { IsAtRest self.old }

@@ -6,13 +6,14 @@
 //!
 //! - `begin`: the fields before the first cycle, with the image's words and the input in memory;
 //! - `flow`: a flow of control that is due takes effect;
-//! - `code`: the words of the image, each decoded once;
+//! - `code`: the words of the image, each decoded once, with how a core can do them ([`Class`]);
 //! - `plan`, `fetch`, `check`: what the core does in the cycle, the bundle at its offset, and the bundle's checks;
 //! - `execute`, `cells`, `stack`: the bundle's registers, its load or store, its stack instruction;
 //! - `transact`: up to four words move in a slot of main memory;
 //! - `act`: all of them in the order of a cycle, with the values that the core's loads gave;
-//! - `alone`, `finish`, `moving`: the cycles that a core goes through by itself, one after another in a loop of
-//!   their own, with its bundles, its waiting and the words of its own memory ([`Body::run_alone`]);
+//! - `alone`, `quick`, `private`, `finish`, `moving`: the cycles that a core goes through by itself, one after
+//!   another in a loop of their own, with its bundles, its waiting and the words of its own memory
+//!   ([`Body::run_alone`]);
 //! - `ask`: what the act will want of the board's words, known before its loads give their values ([`Ask`]);
 //! - `next_active`: the first cycle in which the core may do something of its own;
 //! - `report`: how far the task has come, and the words of the core's own memories.
@@ -37,14 +38,16 @@ mod flow;
 mod moving;
 mod next_active;
 mod plan;
+mod private;
+mod quick;
 mod report;
 mod stack;
 mod transact;
 mod values;
 
-pub use alone::Private;
+pub use alone::NextBundle;
 pub use ask::Ask;
 pub use body::Body;
 pub use cells::comm_word;
-pub use code::Decoded;
+pub use code::{Class, Decoded};
 pub use plan::Plan;

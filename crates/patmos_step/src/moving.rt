@@ -10,28 +10,31 @@ use patmos_sem::merge;
 use slot_arbiter::MOST_CYCLES;
 
 impl Body {
-    ghost use Rattle.std.specs.Prelude.{◌≡◌, ℕ, ◌%◌, ◌≤◌, true, IfSome};
+    ghost use Rattle.std.specs.Prelude.{◌≡◌, ℕ, ◌%◌, ◌≤◌, ◌<◌, true, IfSome};
     ghost use Rattle.local_store.specs.Map.{IsInRange};
     ghost use Rattle.patmos_sem.specs.Effects.{store_bytes};
     ghost use Rattle.patmos_model.specs.State.{History};
-    ghost use Rattle.patmos_model.specs.Transaction.{accessed};
+    ghost use Rattle.patmos_model.specs.Transaction.{accessed, is_due};
     ghost use Rattle.patmos_step.specs.Ready.{CanMove, CanGoOn, IsAtRest};
     ghost use Rattle.patmos_step.specs.Shown.{Shows, IsFramed, core_of, plain_of};
     ghost use Rattle.patmos_step.specs.Alone.{IsAlone};
     ghost use Rattle.patmos_step.specs.Moving.{MovesOwn, CanMoveIn, private_at, private_set, moved_by};
 
-    /// Whether words move in the cycle which are no others than those of the core's own memory.
-    pub fn moves_own(&self, cycle: u64) -> bool
-        requires early { cycle ≤ MOST_CYCLES }
-        ensures { result ≡ true → CanMoveIn cycle (plain_of self.now) }
+    /// Whether words are to be moved, and no others than those of the core's own memory.
+    #[inline(always)]
+    pub fn moves_own(&self) -> bool
+        ensures some { result ≡ true → 0 < self.now.transfer.words }
+        ensures own { result ≡ true → (cycle : ℕ) → is_due cycle (plain_of self.now) ≡ true
+            → CanMoveIn cycle (plain_of self.now) }
     {
         matches!(self.status, Status::Running)
+            && 0 < self.transfer.words
             && is_own_move(&self.transfer.then)
-            && self.is_due(cycle)
     }
 
     /// Moves them.
     #[tactic(auto, using(crate::proofs::Rests::can_at_rest))]
+    #[inline(always)]
     pub fn move_own(&mut self, cycle: u64)
         requires moves { CanMoveIn cycle (plain_of self.old) }
         requires can { CanGoOn self.old }
@@ -49,6 +52,7 @@ impl Body {
     }
 
     // what comes of the words that moved
+    #[inline(always)]
     fn move_then(&mut self, then: &Then)
         requires own { MovesOwn then.now }
         requires can { CanMove self.old.regs then.now }

@@ -86,6 +86,7 @@ impl Body {
 
     /// The transaction counts among the core's, and the core goes on when its slot ends.
     #[tactic(auto, using(crate::proofs::Traces::trace_grows, crate::proofs::Traces::trace_full))]
+    #[inline(always)]
     pub fn count(&mut self, cycle: u64)
         requires early { cycle ≤ MOST_CYCLES }
         ensures plain { plain_of self.new ≡ specs.moved cycle (plain_of self.old) }

@@ -1,17 +1,10 @@
 -- Where functions start.
-use Rattle.std.proofs.Common.{◌≡◌, ℕ, true, false, ◌==◌, ◌<◌, List, length, slice_index}
+use Rattle.std.proofs.Common.{◌≡◌, ℕ, true, ◌==◌, ◌<◌, List, length, slice_index}
 use Rattle.std.proofs.lemmas.List.Elements.{Contains-get_or}
 use Rattle.std.specs.List.{list_any, Contains}
-use Rattle.std.proofs.lemmas.Cmp.{nat_eq_equiv}
-use Rattle.std.proofs.lemmas.Map.Views.{list_any-from_Contains, Contains-from_any}
-use Rattle.std.proofs.lemmas.Bool.{eqb-true, false_from_ne_true}
-
-pub found_start : (starts : List ℕ) (base : ℕ) → Contains starts base → list_any (λ start. base == start) starts ≡ true
-found_start starts base h = list_any-from_Contains nat_eq_equiv base starts h
-
-pub no_start : (starts : List ℕ) (base : ℕ) → (Contains starts base → ⊥) → list_any (λ start. base == start) starts ≡ false
-no_start starts base none =
-    false_from_ne_true (list_any (λ start. base == start) starts) (λ found. none (Contains-from_any eqb-true base starts found))
+use Rattle.std.proofs.lemmas.Map.Views.{Contains-from_any}
+use Rattle.std.proofs.lemmas.Bool.{eqb-true}
+use Rattle.patmos_step.proofs.Places.{found_start}
 
 pub start_found : (starts : List ℕ) (base : ℕ) → list_any (λ start. base == start) starts ≡ true → Contains starts base
 start_found starts base found = Contains-from_any eqb-true base starts found

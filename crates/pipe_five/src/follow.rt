@@ -112,7 +112,7 @@ fn plainly(base: u32, offset: u32) -> Point
 }
 
 // whether a function starts at the point's base, and the bundle at the point is wholly inside it
-#[tactic(auto, using(crate::proofs::Starts::found_start, crate::proofs::Starts::no_start))]
+#[tactic(auto, using(patmos_step::proofs::Places::found_start, patmos_step::proofs::Places::no_start))]
 fn stands(image: &Image, point: &Point) -> bool
     ensures stands { result ≡ specs.stands image.now point.now }
     ensures within { result ≡ true → IsInCode image.now point.now }

@@ -1,8 +1,8 @@
 use Rattle.std.proofs.Common.{◌≡◌, ◌-◌, ◌≤◌}
 use Rattle.patmos_model.specs.State.{History}
-use Rattle.patmos_step.specs.Alone.{ComesAlone}
+use Rattle.patmos_step.specs.Alone.{CanBegin, ComesAlone}
 use Rattle.patmos_step.specs.Ready.{CanGoOn}
-use Rattle.patmos_step.specs.Shown.{Shows, IsFramed, core_of}
+use Rattle.patmos_step.specs.Shown.{Shows, IsFramed, core_of, plain_of}
 use Rattle.patmos_step.proofs.body.Body.run_bundles.Given as goal
 
 abbrev pub invariant-loop-cycle : goal.invariant-loop-cycle
@@ -11,6 +11,7 @@ invariant-loop-cycle l = record {
   can : CanGoOn l.self;
   ni : l.self.ni ≡ l.fn.self.ni;
   frame : IsFramed l.fn.self l.self;
+  begins : CanBegin l.cycle (plain_of l.self);
   from : l.from ≤ l.cycle;
   within : l.cycle ≤ l.limit;
 }

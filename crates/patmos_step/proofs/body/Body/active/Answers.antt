@@ -1,7 +1,7 @@
 use Rattle.std.proofs.Common.{arith}
 use Rattle.patmos_step.specs.Shown.{plain_of}
 use Rattle.patmos_step.proofs.Sleeping.{sleeps_moving}
-use Rattle.patmos_step.proofs.body.Body.next_active.Goals as goal
+use Rattle.patmos_step.proofs.body.Body.active.Goals as goal
 
 pub returns-then-self-gt0-clause-asleep : goal.returns-then-self-gt0-clause-asleep
 returns-then-self-gt0-clause-asleep c = λ d u same from below.
