@@ -30,7 +30,7 @@ acts_even x half cycle e =
     let same : half / 2 ≡ cycle = omega arith in
     ap (λ b. elim b as (λ _. Bool) [ true ↦ comes x (half / 2) | false ↦ sends x (half / 2) ]) even ∙ ap (comes x) same
 
-acts_odd : (x : Interface) (half cycle : ℕ) → half ≡ 2 * cycle + 1 → acts x half ≡ sends x cycle
+pub acts_odd : (x : Interface) (half cycle : ℕ) → half ≡ 2 * cycle + 1 → acts x half ≡ sends x cycle
 acts_odd x half cycle e =
     let odd : (half % 2 == 0) ≡ false = ne_eqb (half % 2) 0 (omega arith) in
     let same : half / 2 ≡ cycle = omega arith in
@@ -242,29 +242,32 @@ none_in d = elim (cases_lt d 16) [
   | inr past ↦ ap (λ (p : Port). p.channel.left) (get_or_past all_unused d unused (omega (arith, length-replicate 16 unused)))
 ]
 
--- an interface with which nothing was done does nothing
+-- an interface with which nothing was done sends nothing
+pub new_sends_none : (n core cycle : ℕ) → sends (new_interface n core) cycle ≡ false
+new_sends_none n core cycle = false_unless (sends (new_interface n core) cycle) (λ here.
+    let some = (sends_means (new_interface n core) cycle here).some in
+    omega (arith, some, none_in (target_at (new_interface n core) cycle)))
+
+-- so it does nothing
 pub new_is_quiet : (n core half : ℕ) (packets : List Packet) → packets ≡ [] → acts (record (new_interface n core) { under_way = packets }) half ≡ false
 new_is_quiet n core half packets empty =
-    never_acts (record (new_interface n core) { under_way = packets }) none empty half
-  where
-    none : (cycle : ℕ) → sends (new_interface n core) cycle ≡ false
-    none cycle = false_unless (sends (new_interface n core) cycle) (λ here.
-        let some = (sends_means (new_interface n core) cycle here).some in
-        omega (arith, some, none_in (target_at (new_interface n core) cycle)))
+    never_acts (record (new_interface n core) { under_way = packets }) (new_sends_none n core) empty half
 
--- registers change nothing of what is to come
-pub same_acts : (x : Interface) (d half : ℕ) (port : Port) → d < length x.ports → port.channel ≡ (port_to x d).channel → acts (with_port d port x) half ≡ acts x half
-same_acts x d half port below same =
-    let t : ℕ = target_at x (half / 2) in
+-- registers change nothing of what is sent
+pub same_sends : (x : Interface) (d cycle : ℕ) (port : Port) → d < length x.ports → port.channel ≡ (port_to x d).channel → sends (with_port d port x) cycle ≡ sends x cycle
+same_sends x d cycle port below same =
+    let t : ℕ = target_at x cycle in
     let kept : (port_at (set x.ports d port) t).channel ≡ (port_at x.ports t).channel = elim (cases_eq t d) [
       | inl own ↦ ap (λ i. (port_at (set x.ports d port) i).channel) own
           ∙ ap (λ (p : Port). p.channel) (get_or-set_same x.ports d port unused below) ∙ same ∙ sym (ap (λ i. (port_at x.ports i).channel) own)
       | inr other ↦ ap (λ (p : Port). p.channel) (get_or-set_other x.ports d t port unused other)
     ] in
-    ap (λ (c : Channel). elim (half % 2 == 0) as (λ _. Bool) [
-      | true ↦ comes x (half / 2)
-      | false ↦ (half / 2 % 3 == 0) && (nat_le 2 x.cores && nat_lt 0 c.left)
-    ]) kept
+    ap (λ (c : Channel). (cycle % 3 == 0) && (nat_le 2 x.cores && nat_lt 0 c.left)) kept
+
+-- so they change nothing of what is to come
+pub same_acts : (x : Interface) (d half : ℕ) (port : Port) → d < length x.ports → port.channel ≡ (port_to x d).channel → acts (with_port d port x) half ≡ acts x half
+same_acts x d half port below same =
+    ap (λ sent. elim (half % 2 == 0) as (λ _. Bool) [ true ↦ comes x (half / 2) | false ↦ sent ]) (same_sends x d (half / 2) port below same)
 
 -- a packet that comes to its words leaves what follows
 sets_carried : {X : Type 0} (stamp word : ℕ) (load : Payload) (x : X) (values : List ℕ) → (fed stamp (sets word (carried load) (done x)) values).core ≡ x

@@ -1,5 +1,5 @@
 -- What an interface keeps is kept by each of its calls.
-use Rattle.std.proofs.Common.{◌≡◌, ℕ, suc, ◌+◌, ◌-◌, ◌*◌, ◌/◌, ◌%◌, ◌<◌, ◌≤◌, Bool, true, false, ◌==◌, ◌++◌, List, [], ◌∷◌, length, drop, get_or, set, ap, sym, ◌∙◌, subst, refl, arith, inl, inr, ◌⊎◌, length-append}
+use Rattle.std.proofs.Common.{◌≡◌, ℕ, suc, ◌+◌, ◌-◌, ◌*◌, ◌/◌, ◌%◌, ◌<◌, ◌≤◌, Bool, true, false, ◌==◌, ◌++◌, Option, Some, None, IfSome, List, [], ◌∷◌, length, drop, get_or, set, ap, sym, ◌∙◌, subst, refl, arith, inl, inr, ◌⊎◌, length-append}
 use Rattle.std.specs.List.{AllByRecursion as Each}
 use Rattle.std.proofs.lemmas.Bool.{cases_eq, eq-eqb, ne_eqb}
 use Rattle.std.proofs.lemmas.Nat.{mod_below}
@@ -8,6 +8,7 @@ use Rattle.std.proofs.lemmas.List.{get_or-set_same, get_or-set_other}
 use Rattle.std.proofs.lemmas.List.Sums.{sum_by-set, sum_by-cons}
 use Rattle.std.proofs.Math.ListN.{length-set}
 use Rattle.slot_arbiter.specs.Order.{IsNext}
+use Rattle.argo_ni.specs.declared.port.Channel.{Channel}
 use Rattle.argo_ni.specs.declared.port.Port.{Port}
 use Rattle.argo_ni.specs.declared.packet.Packet.{Packet}
 use Rattle.argo_ni.specs.declared.event.Started.TheVariants.{Begun, Refused}
@@ -15,12 +16,12 @@ use Rattle.argo_ni.specs.Port.{unused, port_at, words_left, IsWithin}
 use Rattle.argo_ni.specs.declared.packet.Payload.{Payload}
 use Rattle.argo_ni.specs.Packet.{carried, payload}
 use Rattle.argo_ni.specs.Interface.{Interface, Standing, IsTarget, port_to}
-use Rattle.argo_ni.specs.Sound.{IsSent, IsFirst, IsSound, IsSoundAt}
+use Rattle.argo_ni.specs.Sound.{IsSent, IsFirst, IsFirstOf, IsSound, IsSoundAt, IsKept}
 use Rattle.argo_ni.specs.Event.{IsNextAct, IsPast}
-use Rattle.argo_ni.specs.Start.{is_in_range, answer_to, begun, standing_by}
-use Rattle.argo_ni.specs.Turn.{target_at, sends, packet_of, moved_on, packet_size, injected, injected_to}
+use Rattle.argo_ni.specs.Start.{with_port, is_in_range, answer_to, begun, standing_by}
+use Rattle.argo_ni.specs.Turn.{target_at, sends, packet_of, moved_on, packet_size, injected, injected_to, acts}
 use Rattle.argo_ni.proofs.Windows.{other_core}
-use Rattle.argo_ni.proofs.Acts.{IsSending, none_late, is_sending_now}
+use Rattle.argo_ni.proofs.Acts.{IsSending, none_late, is_sending_now, acts_odd, next_comes, same_sends}
 use Rattle.argo_ni.proofs.Queue.{queue_from, queue_append, each_until, at_most_two, at_most_three}
 use Rattle.shared_order.proofs.Lists.{each-append, each_drop}
 
@@ -143,7 +144,7 @@ injects s cycle target values port packet packets to moved made sent =
     parts ∙ placed
 
 -- a packet is delivered
-pub sound_delivered : (n core from : ℕ) (ports : List Port) (packets : List Packet) (p : Packet) → IsSound n core ports packets from → IsFirst n core from packets p → IsSound n core ports (drop 1 packets) (2 * p.due + 1)
+sound_delivered : (n core from : ℕ) (ports : List Port) (packets : List Packet) (p : Packet) → IsSound n core ports packets from → IsFirst n core from packets p → IsSound n core ports (drop 1 packets) (2 * p.due + 1)
 sound_delivered n core from ports packets p h first =
     let near : 2 * p.due ≤ from + 16 = (let both : Each (λ q. 2 * q.due ≤ from + 16) (p ∷ drop 1 packets) = subst (Each (λ q. 2 * q.due ≤ from + 16)) first.whole h.sent in both.0) in
     let one_less : length packets ≡ length (drop 1 packets) + 1 = ap length first.whole ∙ omega arith in
@@ -155,4 +156,64 @@ sound_delivered n core from ports packets p h first =
       in_time = omega (arith, h.in_time);
       queue = first.rest;
       sent = each_until (from + 16) (2 * p.due + 1 + 16) (drop 1 packets) (omega (arith, first.after)) (each_drop (λ q. 2 * q.due ≤ from + 16) 1 packets h.sent);
+    }
+
+-- the next injection is the same where each cycle sends as before
+next_as_before : (test other : ℕ → Bool) (from : ℕ) (sending : Option ℕ) → ((cycle : ℕ) → other cycle ≡ test cycle) → IfSome sending (IsNext test from) → IfSome sending (IsNext other from)
+next_as_before test other from sending same next = subst (λ f. IfSome sending (IsNext f from)) (λ i cycle. sym (same cycle) i) next
+
+-- a register is set
+pub kept_with_port : (s now : Standing) (d : ℕ) (port : Port) (sending : Option ℕ) → s ≡ now → IsKept s sending → IsTarget now.interface d → port.channel ≡ (port_to s.interface d).channel → IsKept (record s { interface = with_port d port s.interface }) sending
+kept_with_port s now d port sending at h target same =
+    let among : d < s.interface.cores = subst (λ z. d < z.interface.cores) (sym at) target.among in
+    let below : d < length s.interface.ports = omega (arith, h.sound.most, h.sound.targets) in
+    let ports : List Port = s.interface.ports in
+    let here : IsWithin port.channel = subst IsWithin (sym same) (h.sound.channels d) in
+    let left : port.channel.left ≡ (port_to s.interface d).channel.left = ap (λ (c : Channel). c.left) same in
+    record {
+      sound = record {
+        among = h.sound.among;
+        most = h.sound.most;
+        targets = length-set ports d port ∙ h.sound.targets;
+        channels = within_after ports d port below h.sound.channels here;
+        in_time = omega (arith, left, h.sound.in_time, sum_by-set (λ (p : Port). p.channel.left) ports d port unused below);
+        queue = h.sound.queue;
+        sent = h.sound.sent;
+      };
+      next = next_as_before (sends s.interface) (sends (with_port d port s.interface)) (s.from / 2) sending
+          (λ cycle. same_sends s.interface d cycle port below same) h.next;
+      near = h.near;
+      none = λ idle cycle. same_sends s.interface d cycle port below same ∙ h.none idle cycle;
+    }
+
+-- a delivery goes before the next injection
+next_after_delivery : (s : Standing) (due : ℕ) (sending : Option ℕ) → IsNextAct s (2 * due) → IfSome sending (IsNext (sends s.interface) (s.from / 2)) → IfSome sending (IsNext (sends s.interface) ((2 * due + 1) / 2))
+next_after_delivery s due None act next = tt
+next_after_delivery s due (Some cycle) act next = record {
+  passes = next.passes;
+  from =
+      let there : acts s.interface (2 * cycle + 1) ≡ true = acts_odd s.interface (2 * cycle + 1) cycle refl ∙ next.passes in
+      let later : 2 * due ≤ 2 * cycle + 1 = act.least (2 * cycle + 1) (omega (arith, next.from)) there in
+      omega arith;
+  least = λ v after sent. next.least v (omega (arith, act.from)) sent;
+}
+
+-- what is near from a half-cycle on is near from a later one on
+nearer : (from to : ℕ) (sending : Option ℕ) → from ≤ to → IfSome sending (λ cycle. 2 * cycle + 1 < from + 90) → IfSome sending (λ cycle. 2 * cycle + 1 < to + 90)
+nearer from to None later near = tt
+nearer from to (Some cycle) later near = omega (arith, near)
+
+-- the packet that was sent first is delivered
+pub kept_delivered : (s now : Standing) (p : Packet) (packets : List Packet) (sending : Option ℕ) → s ≡ now → IsKept s sending → IsFirstOf s p → (cycle : ℕ) × IsNextAct now (2 * cycle) → packets ≡ drop 1 s.interface.under_way → IsKept (record { interface = record s.interface { under_way = packets }; from = 2 * p.due + 1 }) sending
+kept_delivered s now p packets sending same h first next taken =
+    let x : Interface = s.interface in
+    let act : IsNextAct s (2 * next.0) = subst (λ z. IsNextAct z (2 * next.0)) (sym same) next.1 in
+    let due : p.due ≡ next.0 = next_comes x.cores x.core s.from next.0 x p act first in
+    let now_due : IsNextAct s (2 * p.due) = subst (λ c. IsNextAct s (2 * c)) (sym due) act in
+    record {
+      sound = subst (λ ps. IsSound x.cores x.core x.ports ps (2 * p.due + 1)) (sym taken)
+          (sound_delivered x.cores x.core s.from x.ports x.under_way p h.sound first);
+      next = next_after_delivery s p.due sending now_due h.next;
+      near = nearer s.from (2 * p.due + 1) sending (omega (arith, first.after)) h.near;
+      none = h.none;
     }

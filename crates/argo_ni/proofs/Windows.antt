@@ -1,6 +1,6 @@
 -- Windows go round the other cores: what holds of one round holds of each.
 use Rattle.std.proofs.Common.{◌≡◌, ◌≢◌, ℕ, ◌+◌, ◌-◌, ◌*◌, ◌/◌, ◌%◌, ◌<◌, ◌≤◌, Bool, true, false, ◌&&◌, nat_lt, nat_le, List, ap, sym, ◌∙◌, subst, refl, arith, inl, inr, ◌⊎◌, ◌==◌}
-use Rattle.std.proofs.Math.Nat.{add-mod-mod, mod-add-mod, add-mod_right, mod-eq_of_lt}
+use Rattle.std.proofs.Math.Nat.{mod-add-mod, add-mod_right, mod-eq_of_lt}
 use Rattle.std.proofs.lemmas.Nat.{mod-mul-add, mod_below, div-add-mod'}
 use Rattle.std.proofs.lemmas.Bool.{cases_lt, eq-eqb, eqb-true, and_parts, and_from}
 use Rattle.std.proofs.lemmas.Bool.Decides.{nat_tests}

@@ -1,12 +1,14 @@
 -- For proofs. What an interface keeps from call to call.
-use Rattle.std.specs.Prelude.{◌≡◌, ◌≢◌, ℕ, ◌+◌, ◌*◌, ◌%◌, ◌<◌, ◌≤◌, List, [], ◌∷◌, length, drop}
+use Rattle.std.specs.Prelude.{◌≡◌, ◌≢◌, ℕ, ◌+◌, ◌*◌, ◌/◌, ◌%◌, ◌<◌, ◌≤◌, false, Option, IfSome, IsNone, List, [], ◌∷◌, length, drop}
 use Rattle.std.specs.List.{AllByRecursion as Each}
+use Rattle.slot_arbiter.specs.Order.{IsNext}
 use Rattle.argo_ni.specs.declared.port.Port.{Port}
 use Rattle.argo_ni.specs.declared.packet.Packet.{Packet}
 use Rattle.local_store.specs.declared.map.TheConstants.{COMM_WORDS}
 use Rattle.argo_ni.specs.Port.{port_at, words_left, IsWithin}
 use Rattle.argo_ni.specs.Packet.{carried}
 use Rattle.argo_ni.specs.Interface.{Standing}
+use Rattle.argo_ni.specs.Turn.{sends}
 
 -- a packet for words that the target has, due in a cycle in which a window begins
 pub record IsSent (n core : ℕ) (p : Packet) : Type 0 where
@@ -48,3 +50,11 @@ pub record IsSound (n core : ℕ) (ports : List Port) (packets : List Packet) (f
 abbrev pub IsSoundAt : Standing → Type 0
 IsSoundAt s =
     IsSound s.interface.cores s.interface.core s.interface.ports s.interface.under_way s.from
+
+-- The same, and the cycle of the next injection is kept: it comes soon, and where there is none nothing is ever
+-- injected.
+pub record IsKept (s : Standing) (sending : Option ℕ) : Type 0 where
+  pub sound : IsSoundAt s
+  pub next : IfSome sending (IsNext (sends s.interface) (s.from / 2))
+  pub near : IfSome sending (λ cycle. 2 * cycle + 1 < s.from + 90)
+  pub none : IsNone sending → (cycle : ℕ) → sends s.interface cycle ≡ false

@@ -11,8 +11,8 @@
 //! happens. No call takes memory, and each is constant work.
 //!
 //! - [`Ni`] is the interface of one core: its registers, what it still has to send, and the packets
-//!   under way. [`Ni::next_after`] finds the next injection or delivery by arithmetic, and says that
-//!   nothing lies between.
+//!   under way. [`Ni::next_after`] tells the next injection or delivery, and that nothing lies between.
+//!   The next injection is found by arithmetic where a transfer begins or a packet goes out, and kept.
 //! - [`windows_by_cycles`] states the schedule, and [`interface_worked`] shows the definitions at work.
 //! - [`interface_goes_on`]: what an interface that is run apart does from act to act.
 //! - [`interface_keeps_ranges`]: it names only words that there are, and stores only words of 32 bits.

@@ -24,6 +24,8 @@ pub struct Ni {
     under_way: UnderWay,
     dropped: u32,
     from: u64,
+    // the next cycle in which a packet is injected
+    sending: Option<u64>,
 }
 
 impl Model for Ni {
@@ -32,15 +34,16 @@ impl Model for Ni {
     ghost Value = { Standing };
 
     ghost use Rattle.argo_ni.specs.Seen.{seen};
-    ghost use Rattle.argo_ni.specs.Sound.{IsSoundAt};
+    ghost use Rattle.argo_ni.specs.Sound.{IsKept};
 
     ghost view = { seen };
 
-    ghost invariant = { λ a. IsSoundAt (seen a) };
+    ghost invariant = { λ a. IsKept (seen a) a.sending };
 }
 
 impl Ni {
     /// The interface of the core at that place, before the first cycle.
+    #[tactic(auto, using(crate::proofs::Acts::new_sends_none))]
     pub fn new(place: &Place) -> Ni
         ensures state { result ≡ record { interface = new_interface place.now.cores place.now.core; from = 0 } }
         ensures quiet { (half : ℕ) → acts result.interface half ≡ false }
@@ -52,6 +55,7 @@ impl Ni {
             under_way: UnderWay::new(),
             dropped: 0,
             from: 0,
+            sending: None,
         }
     }
 
@@ -108,6 +112,7 @@ impl Ni {
             Started::Begun => {
                 self.ports[d as usize].begin(count);
                 self.from = 2 * cycle + 2;
+                self.sending = next_send(&self.ports, self.cores, self.core, self.from);
             }
             Started::Dropped => self.dropped = self.dropped.saturating_add(1),
             Started::Refused => {}
@@ -151,10 +156,10 @@ impl Ni {
         self.under_way.send(port.packet(cycle, target, values));
         port.move_on();
         self.from = 2 * cycle + 2;
+        self.sending = next_send(&self.ports, self.cores, self.core, self.from);
     }
 
     /// Carries out the next event, which is a delivery.
-    #[tactic(auto, using(crate::proofs::Kept::sound_delivered))]
     pub fn deliver(&mut self)
         requires next { (cycle : ℕ) × IsNextAct self.old (2 * cycle) }
         ensures state { (cycle : ℕ) → IsNextAct self.old (2 * cycle)
@@ -208,7 +213,7 @@ impl Ni {
         ensures left { IsNone result → (d : ℕ) → IsTarget self.now.interface d
             → (port_to self.now.interface d).channel.left ≡ 0 }
     {
-        next_send(&self.ports, self.cores, self.core, self.from)
+        self.sending
     }
 
     /// The packet under way that was sent first.

@@ -23,6 +23,7 @@ pub enum Place {
 }
 
 // an element of an array; none at or past its end
+#[inline(always)]
 fn element_place(array: &Array, index: u32) -> Place
     ensures { (given : ℕ) (s : State) → with_place result given s
         ≡ record s { world = with_element array.now.region array.now.first array.now.length index given s.world } }
@@ -38,6 +39,7 @@ fn element_place(array: &Array, index: u32) -> Place
 }
 
 /// The place of what is set.
+#[inline(always)]
 pub fn place_of(target: &Target, frame: &[u32], memory: &Memory) -> Place
     ensures { (sends : List Sending) (given : ℕ) → with_place result given (state_of frame.now memory.now sends)
         ≡ with_target (plain_target target.now) given (state_of frame.now memory.now sends) }
@@ -61,6 +63,7 @@ pub fn result_place(target: &Option<Target>, frame: &[u32], memory: &Memory) -> 
 }
 
 /// Sets a word at a place.
+#[inline(always)]
 #[tactic(auto, using(shared_order::proofs::Words::words_put))]
 pub fn put(place: Place, given: u32, frame: &mut [u32], memory: &mut Memory)
     requires frame { length frame.old ≡ MOST_LEVELS }

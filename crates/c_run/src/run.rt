@@ -21,6 +21,7 @@ use sp_tree::{SpExpr, value};
 
 // one action, with these functions to call
 #[cycle(run)]
+#[inline(always)]
 fn act(
     action: &Action,
     routines: &[Routine],
@@ -74,6 +75,7 @@ fn act(
 
 // a function is called, and what it gives is set, if anything: the place is found after the call
 #[cycle(run)]
+#[inline(always)]
 fn call(
     function: u32,
     args: &Arguments,
@@ -100,7 +102,8 @@ fn call(
     Way::On
 }
 
-// actions one after another, up to one that goes elsewhere
+// actions one after another, up to one that goes elsewhere. The hints put the functions of single actions into this
+// one, so that no call is made for an action of a list
 #[cycle(run)]
 fn all(
     actions: &[Action],
@@ -147,6 +150,7 @@ fn pick<'a>(branches: &'a [Branch], frame: &[u32], memory: &Memory) -> Option<&'
 
 // the first branch whose condition holds, or else these
 #[cycle(run)]
+#[inline(always)]
 fn choose(
     branches: &[Branch],
     otherwise: &[Action],
@@ -172,6 +176,7 @@ fn choose(
 
 // a turn of a loop, and how the loop ends by it, if it does
 #[cycle(run)]
+#[inline(always)]
 fn turn(
     body: &[Action],
     next: &Option<Assignment>,
@@ -204,6 +209,7 @@ fn turn(
 
 // so many turns at most
 #[cycle(run)]
+#[inline(always)]
 fn turns(
     max: u32,
     condition: &SpExpr,

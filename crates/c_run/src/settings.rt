@@ -5,7 +5,7 @@ ghost use Rattle.c_tree.specs.declared.limits.TheConstants.{MOST_LEVELS};
 ghost use Rattle.c_world.specs.Shown.{rooms};
 ghost use Rattle.c_world.specs.World.{Sending};
 ghost use Rattle.sp_tree.specs.Plain.{plain_sp};
-ghost use Rattle.c_meaning.specs.Resolved.{worth, args_worth, assignment_done, step_done};
+ghost use Rattle.c_meaning.specs.Resolved.{args_worth, assignment_done, step_done};
 ghost use Rattle.c_meaning.specs.Rooms.{all_rooms};
 ghost use Rattle.c_meaning.specs.Shown.{plain_assignment};
 ghost use Rattle.c_run.specs.Ran.{state_of};
@@ -16,6 +16,7 @@ use c_world::Memory;
 use sp_tree::{SpExpr, value};
 
 /// What is set, and to what.
+#[inline(always)]
 pub fn assign(assignment: &Assignment, frame: &mut [u32], memory: &mut Memory)
     requires frame { length frame.old ≡ MOST_LEVELS }
     requires rooms { rooms memory.old ≡ all_rooms }
@@ -30,6 +31,7 @@ pub fn assign(assignment: &Assignment, frame: &mut [u32], memory: &mut Memory)
 }
 
 /// What is set after a turn of a loop, if anything.
+#[inline(always)]
 pub fn step(assignment: &Option<Assignment>, frame: &mut [u32], memory: &mut Memory)
     requires frame { length frame.old ≡ MOST_LEVELS }
     requires rooms { rooms memory.old ≡ all_rooms }
@@ -44,26 +46,14 @@ pub fn step(assignment: &Option<Assignment>, frame: &mut [u32], memory: &mut Mem
     }
 }
 
-// the word of an argument; 0 where there is none
-#[tactic(auto, using(crate::proofs::Arguments::worth_at, crate::proofs::Arguments::worth_past))]
-fn argument(args: &[SpExpr], number: usize, frame: &[u32], memory: &Memory) -> u32
-    ensures { (sends : List Sending)
-        → result ≡ slice_index (args_worth (map plain_sp args.now) (state_of frame.now memory.now sends)) number }
-{
-    if number < args.len() {
-        value(&args[number], frame, memory)
-    } else {
-        0
-    }
-}
-
 /// The words of a function's own frame: its arguments, and 0 after them.
 pub fn pass(args: &[SpExpr], frame: &[u32], own: &mut [u32], memory: &Memory)
     requires { length args.now ≤ length own.old }
     ensures { (sends : List Sending)
         → slice_index own.new ≡ slice_index (args_worth (map plain_sp args.now) (state_of frame.now memory.now sends)) }
 {
-    for number in 0..own.len() {
-        own[number] = argument(args, number, frame, memory);
+    own.fill(0);
+    for number in 0..args.len() {
+        own[number] = value(&args[number], frame, memory);
     }
 }

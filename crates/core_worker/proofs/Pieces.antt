@@ -1,5 +1,5 @@
 -- A worker's pieces: its core was asked what it does up to the end of the next piece.
-use Rattle.std.proofs.Common.{◌≡◌, ℕ, ◌*◌, ◌%◌, ◌<◌, ◌≤◌, Bool, false, true≢false, nat_eq, eqb-true, List, [], ◌∷◌, ◌++◌, length, None, Some, IfSome, IsNone, is_some, ◌⊎◌, refl, sym, ap, ◌∙◌, subst, append-nil, inl, inr, arith}
+use Rattle.std.proofs.Common.{◌≡◌, ℕ, ◌*◌, ◌%◌, ◌<◌, ◌≤◌, Bool, false, true≢false, nat_eq, eqb-true, List, [], ◌∷◌, ◌++◌, length, None, Some, IfSome, is_some, refl, sym, ap, ◌∙◌, subst, append-nil, inl, inr, arith}
 use Rattle.std.specs.List.{AllByRecursion as Each, Contains}
 use Rattle.std.proofs.lemmas.Bool.{cases_lt}
 use Rattle.std.proofs.lemmas.List.Elements.{Contains-append_left, Contains-append_right}
@@ -11,9 +11,7 @@ use Rattle.clock_board.specs.View.{own, todo, given, IsGiven}
 use Rattle.clock_board.proofs.Steps.{clock-push}
 use Rattle.patmos_core.specs.declared.cpu.Core.{Core as Cpu}
 use Rattle.patmos_model.specs.State.{Core}
-use Rattle.patmos_core.specs.Position.{StandsFor, waiting_of, limit_of, place_of, room_of, IsThrough, IsNextOf, IsWholeOf, HasMadeAll, EventFits, event_of}
-use Rattle.patmos_core.specs.declared.cpu.Next.{Next}
-use Rattle.patmos_core.specs.declared.cpu.Next.TheVariants as next
+use Rattle.patmos_core.specs.Position.{StandsFor, waiting_of, place_of, IsNextOf, IsWholeOf, HasMadeAll, EventFits, ComesTo}
 use Rattle.patmos_core.proofs.Sites.{sited}
 use Rattle.core_worker.specs.Runs.{listed, RunsAs, GoesOnAs, IsNextWhole}
 use Rattle.core_worker.specs.Pieces.{piece_end, stamp_from}
@@ -21,8 +19,7 @@ use Rattle.core_worker.specs.Kept.{IsShown, HasEnded, IsKept}
 use Rattle.core_worker.proofs.Coming.{stamps_rise, next_whole, fits_limit, none_before, not_before, all_late, none_left}
 
 module _ (limit reached : ℕ) (ended : Bool) (k k' : Cpu) (v : View) (kept : IsKept limit reached ended k v)
-    (stands : (x : Core) (made : List Operation) → StandsFor k x made → StandsFor k' x made) (place : place_of k' ≡ place_of k) (room : room_of k' ≡ room_of k)
-    (end : ℕ) (is : end ≡ piece_end limit reached) (at : limit_of k' ≡ end) where
+    (end : ℕ) (is : end ≡ piece_end limit reached) (comes : ComesTo k k' end) where
   -- a piece ends within the limit
   end_within : end ≤ limit
   end_within = omega (arith, is)
@@ -37,9 +34,17 @@ module _ (limit reached : ℕ) (ended : Bool) (k k' : Cpu) (v : View) (kept : Is
 
   -- ---- it has an event there
 
-  module _ (e : Event) (waits : waiting_of k' ≡ Some e) (fits : EventFits (place_of k) (end) e) (sized : length e.ops ≡ 8)
-      (next : (x : Core) (made : List Operation) → StandsFor k x made → IsNextOf x made end e)
-      (whole : (x : Core) (made : List Operation) → StandsFor k x made → IsWholeOf x made end e) where
+  module _ (e : Event) (waits : waiting_of k' ≡ Some e) (sized : length e.ops ≡ 8) where
+    -- it fits, comes next, and is whole
+    fits : EventFits (place_of k) end e
+    fits = subst (λ w. IfSome w (EventFits (place_of k) end)) waits comes.fits
+
+    next : (x : Core) (made : List Operation) → StandsFor k x made → IsNextOf x made end e
+    next = subst (λ w. IfSome w (λ f. (x : Core) (made : List Operation) → StandsFor k x made → IsNextOf x made end f)) waits comes.event
+
+    whole : (x : Core) (made : List Operation) → StandsFor k x made → IsWholeOf x made end e
+    whole = subst (λ w. IfSome w (λ f. (x : Core) (made : List Operation) → StandsFor k x made → IsWholeOf x made end f)) waits comes.whole
+
     -- it comes next in the run up to the limit, and is whole
     next_at_limit : (x : Core) → RunsAs x limit k v → IsNextWhole x (own v).made limit e
     next_at_limit x r =
@@ -59,12 +64,12 @@ module _ (limit reached : ℕ) (ended : Bool) (k k' : Cpu) (v : View) (kept : Is
     pub event_goes_on : GoesOnAs limit k v k' (given v (with_stamp (own v) e.stamp))
     event_goes_on = record {
       runs = λ x r. record {
-        stands = stands x (own v).made r.stands;
+        stands = comes.stands x (own v).made r.stands;
         makes = r.makes;
         next = subst (λ w. IfSome w (IsNextWhole x (own v).made limit)) (sym waits) (next_at_limit x r);
       };
-      place = place;
-      room = room;
+      place = comes.place;
+      room = comes.room;
       cores = refl;
       course = refl;
       core = refl;
@@ -76,24 +81,28 @@ module _ (limit reached : ℕ) (ended : Bool) (k k' : Cpu) (v : View) (kept : Is
         let early : e.stamp < stamp_from v.cores end = subst (λ n. e.stamp < stamp_from n end) kept.cores fits.below in
         record {
           given = still_given e.stamp;
-          cores = ap (λ p. p.cores) place ∙ kept.cores;
-          core = ap (λ p. p.core) place ∙ kept.core;
+          cores = ap (λ p. p.cores) comes.place ∙ kept.cores;
+          core = ap (λ p. p.core) comes.place ∙ kept.core;
           most = kept.most;
           within = kept.within;
-          asked = omega (arith, at, is);
+          asked = omega (arith, comes.at, is);
           clock = omega (arith, clock-push (own v).published e.stamp, early, ap (stamp_from v.cores) is);
           left = left_from e.stamp event_left;
           grid = kept.grid;
           ends = λ h some low. Contains-append_left (own v).published (e.stamp ∷ []) (stamp_from v.cores (1024 * h)) (kept.ends h some low);
           waits = subst (λ w. IfSome w (IsShown (place_of k') limit ((own v).published ++ e.stamp ∷ []))) (sym waits)
-              (record { fits = subst (λ p. EventFits p limit e) (sym place) (fits_limit (place_of k) end limit e end_within fits); sized = sized; shown = ((own v).published, refl) });
+              (record { fits = subst (λ p. EventFits p limit e) (sym comes.place) (fits_limit (place_of k) end limit e end_within fits); sized = sized; shown = ((own v).published, refl) });
           over = λ over. absurd (true≢false (sym over ∙ going));
           run = (kept.run.0, event_goes_on.runs kept.run.0 kept.run.1);
         }
 
   -- ---- it has none
 
-  module _ (waits : waiting_of k' ≡ None) (all : (x : Core) (made : List Operation) → StandsFor k x made → HasMadeAll x made (end)) (through : IsThrough k') where
+  module _ (waits : waiting_of k' ≡ None) where
+    -- it has made all before the end
+    all : (x : Core) (made : List Operation) → StandsFor k x made → HasMadeAll x made end
+    all = comes.all (ap is_some waits)
+
     -- nothing that is left is before the end of the piece
     pub end_left : Each (λ o. stamp_from v.cores (end) ≤ o.stamp) (todo v)
     end_left =
@@ -106,12 +115,12 @@ module _ (limit reached : ℕ) (ended : Bool) (k k' : Cpu) (v : View) (kept : Is
     pub end_goes_on : (s : ℕ) → GoesOnAs limit k v k' (given v (with_stamp (own v) s))
     end_goes_on s = record {
       runs = λ x r. record {
-        stands = stands x (own v).made r.stands;
+        stands = comes.stands x (own v).made r.stands;
         makes = r.makes;
         next = subst (λ w. IfSome w (IsNextWhole x (own v).made limit)) (sym waits) tt;
       };
-      place = place;
-      room = room;
+      place = comes.place;
+      room = comes.room;
       cores = refl;
       course = refl;
       core = refl;
@@ -136,8 +145,8 @@ module _ (limit reached : ℕ) (ended : Bool) (k k' : Cpu) (v : View) (kept : Is
         record {
           made = sym (append-nil (own v).made) ∙ ap (λ l. (own v).made ++ l) (sym nothing) ∙ sym kept.given.whole;
           past = omega (arith, last, clock-push (own v).published (stamp_from v.cores end));
-          through = through;
-          at = at ∙ last_one;
+          through = comes.through (ap is_some waits);
+          at = comes.at ∙ last_one;
           waiting = waits;
         }
 
@@ -145,11 +154,11 @@ module _ (limit reached : ℕ) (ended : Bool) (k k' : Cpu) (v : View) (kept : Is
     pub end_kept : IsKept limit (end) (nat_eq (end) limit) k' (given v (with_stamp (own v) (stamp_from v.cores (end))))
     end_kept = record {
       given = still_given (stamp_from v.cores end);
-      cores = ap (λ p. p.cores) place ∙ kept.cores;
-      core = ap (λ p. p.core) place ∙ kept.core;
+      cores = ap (λ p. p.cores) comes.place ∙ kept.cores;
+      core = ap (λ p. p.core) comes.place ∙ kept.core;
       most = kept.most;
       within = end_within;
-      asked = omega (arith, at, end_within);
+      asked = omega (arith, comes.at, end_within);
       clock = omega (arith, clock-push (own v).published (stamp_from v.cores end), stamps_rise v.cores end (piece_end limit end) (omega (arith, end_within)));
       left = left_from (stamp_from v.cores end) end_left;
       grid = λ going. let before : reached < limit = omega (arith, going, is, kept.within) in let whole : reached % 1024 ≡ 0 = kept.grid before in omega (arith, whole, going, is);
@@ -158,11 +167,3 @@ module _ (limit reached : ℕ) (ended : Bool) (k k' : Cpu) (v : View) (kept : Is
       over = λ over. over_at_end (eqb-true end limit over);
       run = (kept.run.0, (end_goes_on (stamp_from v.cores end)).runs kept.run.0 kept.run.1);
     }
-
--- an answer that is no event
-pub no_event : (r : Next) → (r ≡ next.Limit) ⊎ (r ≡ next.Ended) → event_of r ≡ None
-no_event r is = elim is [ inl at ↦ ap event_of at | inr over ↦ ap event_of over ]
-
--- is none
-pub none_of : (r : Next) → (r ≡ next.Limit) ⊎ (r ≡ next.Ended) → IsNone (event_of r)
-none_of r is = ap is_some (no_event r is)

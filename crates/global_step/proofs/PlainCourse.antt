@@ -23,9 +23,9 @@ use Rattle.patmos_model.specs.State.{Core}
 use Rattle.patmos_model.specs.Cycle.{turn}
 use Rattle.patmos_model.specs.Apart.{apart_from}
 use Rattle.patmos_core.specs.declared.cpu.Core.{Core as Cpu}
-use Rattle.patmos_core.specs.Position.{StandsFor, waiting_of, place_of, phases_of, IsThrough, IsNextOf, HasMadeAll, EventFits}
+use Rattle.patmos_core.specs.Position.{StandsFor, waiting_of, place_of, phases_of, IsThrough, IsNextOf, HasMadeAll, EventFits, stamp_of}
 use Rattle.global_step.specs.PlainEvent.{accesses, made_on}
-use Rattle.global_step.specs.PlainRun.{Every, IsSeated, IsReady, HasNext, stamp_of, Precedes}
+use Rattle.global_step.specs.PlainRun.{Every, IsSeated, IsReady, HasNext, Precedes}
 use Rattle.patmos_core.proofs.Sites.{sited}
 use Rattle.global_step.proofs.PlainEvery.{every_at, every_core, every_from, every_set, any}
 

@@ -3,7 +3,8 @@ use Rattle.std.proofs.Common.{◌≡◌, ℕ, ◌+◌, ◌<◌, List, None, Some
 use Rattle.std.proofs.lemmas.Bool.{cases_lt}
 use Rattle.std.proofs.lemmas.Option.{slice_get_read, get_or_from_slice_get}
 use Rattle.patmos_core.specs.declared.cpu.Core.{Core as Cpu}
-use Rattle.global_step.specs.PlainRun.{stamp_of, Precedes}
+use Rattle.patmos_core.specs.Position.{stamp_of}
+use Rattle.global_step.specs.PlainRun.{Precedes}
 
 pub precedes_itself : (a : Option ℕ) → Precedes a a
 precedes_itself None = tt

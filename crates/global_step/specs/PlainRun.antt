@@ -1,5 +1,5 @@
 -- To be believed. All cores of a platform on one thread, from event to event.
-use Rattle.std.specs.Prelude.{◌≡◌, ℕ, ◌*◌, ◌<◌, ◌≤◌, List, [], Option, None, Some, IsSome, IsNone, IfSome, option_map, slice_get}
+use Rattle.std.specs.Prelude.{◌≡◌, ℕ, ◌*◌, ◌<◌, ◌≤◌, List, [], Option, None, Some, IsSome, IsNone, IfSome, slice_get}
 use Rattle.shared_order.specs.declared.operation.Operation.{Operation}
 use Rattle.patmos_core.specs.declared.cpu.Core.{Core as Cpu}
 use Rattle.patmos_model.specs.State.{Core}
@@ -35,10 +35,6 @@ pub record HasNext (x : Core) (made : List Operation) (limit : ℕ) (c : Cpu) : 
   pub stands : StandsFor c x made
   pub next : IfSome (waiting_of c) (IsNextOf x made limit)
   pub all : IsNone (waiting_of c) → HasMadeAll x made limit
-
--- the stamp of the event that the core waits to be told
-abbrev pub stamp_of : Cpu → Option ℕ
-stamp_of c = option_map (λ e. e.stamp) (waiting_of c)
 
 -- one stamp is not after the other: where there is none, it is the last
 abbrev pub Precedes : Option ℕ → Option ℕ → Type 0

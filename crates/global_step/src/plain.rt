@@ -9,9 +9,9 @@ ghost use Rattle.patmos_model.specs.Cycle.{turn};
 ghost use Rattle.shared_order.specs.Event.{asked_by};
 ghost use Rattle.patmos_model.specs.State as state;
 ghost use Rattle.patmos_core.specs.declared.cpu.Core.{Core as Cpu};
-ghost use Rattle.patmos_core.specs.Position.{StandsFor, waiting_of, limit_of, place_of, room_of, phases_of, IsThrough};
+ghost use Rattle.patmos_core.specs.Position.{StandsFor, waiting_of, limit_of, place_of, room_of, phases_of, IsThrough, stamp_of};
 ghost use Rattle.global_step.specs.PlainEvent.{made_on};
-ghost use Rattle.global_step.specs.PlainRun.{Every, IsFree, Begins, IsSeated, IsReady, HasNext, stamp_of, Precedes};
+ghost use Rattle.global_step.specs.PlainRun.{Every, IsFree, Begins, IsSeated, IsReady, HasNext, Precedes};
 
 use patmos_core::Core;
 use slot_arbiter::{Event, MOST_CYCLES};

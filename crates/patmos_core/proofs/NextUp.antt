@@ -1,5 +1,5 @@
 -- What a core that has come to an event or to its limit does next.
-use Rattle.std.proofs.Common.{◌≡◌, ℕ, ◌*◌, ◌<◌, ◌≤◌, List, [], ◌++◌, Option, None, Some, refl, sym, ap, ◌∙◌, IfSome, IsSome, subst, append-nil, arith}
+use Rattle.std.proofs.Common.{◌≡◌, ℕ, ◌*◌, ◌<◌, ◌≤◌, List, [], ◌++◌, refl, sym, ap, ◌∙◌, IfSome, IsSome, IsNone, IsTrue, Bool, true, false, subst, append-nil, arith}
 use Rattle.slot_arbiter.specs.declared.event.Event.{Event}
 use Rattle.slot_arbiter.specs.declared.place.Place.{Place}
 use Rattle.shared_order.specs.declared.operation.Operation.{Operation}
@@ -16,6 +16,7 @@ use Rattle.patmos_model.specs.State.{Core}
 use Rattle.patmos_model.specs.Begin.{idle}
 use Rattle.patmos_model.specs.Cycle.{turn}
 use Rattle.patmos_model.specs.Apart.{apart_from, site_of}
+use Rattle.patmos_core.specs.Events.{if_found}
 use Rattle.patmos_core.specs.Position.{IsThere, IsOn, IsResting, IsNextOf, IsWholeIn, IsWholeOf, HasMadeAll, EventFits}
 use Rattle.patmos_core.specs.Waiting.{AsksIn, LeavesIn, stamp_phase, IsAskedAt, IsOfPlace}
 use Rattle.patmos_step.specs.Shown.{core_of}
@@ -86,12 +87,16 @@ idle_made_all place x made limit rests =
     (subst (λ os. (more : List ℕ) → apart_from y (loads os ++ more) limit ≡ record { core = y; left = more; made = os }) (sym rests.none)
     (all_made place.cores place.core y y [] limit place.in_range.among refl refl (idle_stands place.cores place.core (site_of place rests.image) limit place.in_range.among))))
 
-pub next_if : (t : Tasked) (found : Option Event) (limit : ℕ) → IfSome found (IsAskedAt t) → (IsSome found → t.cycle < limit)
-    → IfSome found (λ e. (x : Core) (made : List Operation) → IsOn t x made → IsNextOf x made limit e)
-next_if t None limit asked early = tt
-next_if t (Some e) limit asked early = λ x made on. next_of t e x made limit (early refl) asked on
+-- ---- an event that was found, or none
 
-pub whole_if : (t : Tasked) (found : Option Event) (limit : ℕ) → IfSome found (IsAskedAt t) → (IsSome found → t.cycle < limit)
-    → IfSome found (λ e. (x : Core) (made : List Operation) → IsOn t x made → IsWholeOf x made limit e)
-whole_if t None limit asked early = tt
-whole_if t (Some e) limit asked early = λ x made on. whole_of t e x made limit (early refl) asked on
+pub if_some : (P : Event → Type 0) (found : Bool) (e : Event) → (IsTrue found → P e) → IfSome (if_found found e) P
+if_some P true e holds = holds refl
+if_some P false e holds = tt
+
+pub found_where : (found : Bool) (e : Event) → IsSome (if_found found e) → IsTrue found
+found_where true e some = refl
+found_where false e some = some
+
+pub none_where : (found : Bool) (e : Event) → IsNone (if_found found e) → found ≡ false
+none_where true e none = none
+none_where false e none = refl

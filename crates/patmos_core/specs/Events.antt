@@ -1,5 +1,5 @@
 -- To be believed. Events: what a core asks for at one stamp.
-use Rattle.std.specs.Prelude.{◌≡◌, ℕ, zero, suc, ◌+◌, ◌<◌, true, false, List, [], ◌∷◌, ◌++◌, take, Option, None, Some}
+use Rattle.std.specs.Prelude.{◌≡◌, ℕ, zero, suc, ◌+◌, ◌<◌, Bool, true, false, List, [], ◌∷◌, ◌++◌, take, Option, None, Some}
 use Rattle.std.specs.List.{AllByRecursion as Each}
 use Rattle.slot_arbiter.specs.declared.event.WordOp.{WordOp}
 use Rattle.slot_arbiter.specs.declared.event.Event.{Event}
@@ -24,6 +24,10 @@ loads_from word (suc count) = loading word ∷ loads_from (word + 1) count
 abbrev pub stores_from : ℕ → List ℕ → List WordOp
 stores_from word [] = []
 stores_from word (value ∷ values) = storing word value ∷ stores_from (word + 1) values
+
+-- the event, if one was found
+abbrev pub if_found : Bool → Event → Option Event
+if_found found e = elim found [ true ↦ Some e | false ↦ None ]
 
 -- what an event asks for
 abbrev pub asked_of : Event → List WordOp

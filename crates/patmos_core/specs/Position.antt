@@ -1,6 +1,6 @@
 -- To be believed. How far a core that is stepped by itself has come: which run
 -- apart it stands for, and what it asks for.
-use Rattle.std.specs.Prelude.{◌≡◌, ℕ, suc, ◌+◌, ◌*◌, ◌%◌, ◌≤◌, ◌<◌, List, [], ◌∷◌, ◌++◌, Option, None, Some}
+use Rattle.std.specs.Prelude.{◌≡◌, ℕ, suc, ◌+◌, ◌*◌, ◌%◌, ◌≤◌, ◌<◌, List, [], ◌∷◌, ◌++◌, Option, None, Some, IfSome, IsSome, IsNone, option_map}
 use Rattle.slot_arbiter.specs.Stamp.{stamp}
 use Rattle.slot_arbiter.specs.declared.place.Place.{Place}
 use Rattle.slot_arbiter.specs.declared.event.Event.{Event}
@@ -27,7 +27,7 @@ use Rattle.patmos_model.specs.State.{Core, History}
 use Rattle.patmos_model.specs.Begin.{idle}
 use Rattle.patmos_model.specs.Cycle.{turn, settled}
 use Rattle.patmos_model.specs.Apart.{site_of, apart_from}
-use Rattle.patmos_core.specs.Events.{AllBelow, AllUnread, LoadsFirst, asked_of, EndsBefore}
+use Rattle.patmos_core.specs.Events.{AllBelow, AllUnread, LoadsFirst, asked_of, EndsBefore, if_found}
 use Rattle.patmos_step.specs.Shown.{Shows, IsFramed, core_of}
 
 -- the phases of a cycle in their order, and how many are done, three a cycle
@@ -85,7 +85,7 @@ phases_at kind = elim kind [ Idle place ↦ 0 | WithTask t ↦ phases_done t.cyc
 abbrev pub IsThroughTo : ℕ → Kind → Type 0
 IsThroughTo limit kind = elim kind [ Idle place ↦ Unit {0} | WithTask t ↦ (t.cycle ≡ limit) × (t.phase ≡ Delivery) ]
 
--- the same of a core, and the event that it waits to be told, and the last limit
+-- the same of a core, and the event that it waits to be told with its stamp, and the last limit
 abbrev pub StandsFor : Cpu → Core → List Operation → Type 0
 StandsFor k x made = StandsAt k.kind x made
 
@@ -99,7 +99,10 @@ abbrev pub phases_of : Cpu → ℕ
 phases_of k = phases_at k.kind
 
 abbrev pub waiting_of : Cpu → Option Event
-waiting_of k = k.waiting
+waiting_of k = if_found k.waits k.event
+
+abbrev pub stamp_of : Cpu → Option ℕ
+stamp_of k = option_map (λ e. e.stamp) (waiting_of k)
 
 abbrev pub limit_of : Cpu → ℕ
 limit_of k = k.limit
@@ -160,3 +163,20 @@ pub record EventFits (place : Place) (limit : ℕ) (e : Event) : Type 0 where
   pub words : AllBelow (comm_word place.cores 0) (asked_of e)
   pub unread : AllUnread (asked_of e)
   pub loads_first : LoadsFirst (asked_of e)
+
+-- the core goes from k on to k' at the limit: it stands for the same runs apart at the same place, and waits to be
+-- told what comes next before the limit, whole, or else is through at the limit and has made all before it
+pub record ComesTo (k k' : Cpu) (limit : ℕ) : Type 0 where
+  pub stands : (x : Core) (made : List Operation) → StandsFor k x made → StandsFor k' x made
+  pub at : limit_of k' ≡ limit
+  pub place : place_of k' ≡ place_of k
+  pub room : room_of k' ≡ room_of k
+  pub event : IfSome (waiting_of k') (λ e. (x : Core) (made : List Operation) → StandsFor k x made
+      → IsNextOf x made limit e)
+  pub whole : IfSome (waiting_of k') (λ e. (x : Core) (made : List Operation) → StandsFor k x made
+      → IsWholeOf x made limit e)
+  pub fits : IfSome (waiting_of k') (EventFits (place_of k) limit)
+  pub phases : phases_of k ≤ phases_of k'
+  pub below : IsSome (waiting_of k') → phases_of k' < 3 * limit
+  pub through : IsNone (waiting_of k') → IsThrough k'
+  pub all : IsNone (waiting_of k') → (x : Core) (made : List Operation) → StandsFor k x made → HasMadeAll x made limit

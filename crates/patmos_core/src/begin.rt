@@ -4,6 +4,7 @@ ghost use Rattle.patmos_model.specs.Apart.{site_of};
 ghost use Rattle.patmos_core.specs.Position.{StandsFor, waiting_of, limit_of, place_of, room_of};
 
 use crate::cpu::Core;
+use crate::events::blank;
 use crate::kind::Kind;
 use crate::phase::Phase;
 use crate::tasked::Tasked;
@@ -38,7 +39,8 @@ impl Core {
                 phase: Phase::Delivery,
             }),
             limit: 0,
-            waiting: None,
+            waits: false,
+            event: blank(),
         })
     }
 
@@ -52,7 +54,8 @@ impl Core {
         Core {
             kind: Kind::Idle(place),
             limit: 0,
-            waiting: None,
+            waits: false,
+            event: blank(),
         }
     }
 }

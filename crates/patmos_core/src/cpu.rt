@@ -1,3 +1,4 @@
+ghost use Rattle.patmos_core.specs.Events.{if_found};
 ghost use Rattle.patmos_core.specs.Waiting.{WaitsAt, KeepsLimit, waits_once, limit_once};
 
 use crate::kind::Kind;
@@ -20,8 +21,10 @@ pub struct Core {
     pub kind: Kind,
     /// The limit of the last call of `next`.
     pub limit: u64,
-    /// The event that was asked for and not yet told.
-    pub waiting: Option<Event>,
-    ghost kept: { KeepsLimit kind limit waiting } by { limit_once kind limit waiting },
-    ghost asked: { WaitsAt kind waiting } by { waits_once kind waiting },
+    /// Whether an event was asked for and not yet told.
+    pub waits: bool,
+    /// That event, or room for the next one.
+    pub event: Event,
+    ghost kept: { KeepsLimit kind limit (if_found waits event) } by { limit_once kind limit (if_found waits event) },
+    ghost asked: { WaitsAt kind (if_found waits event) } by { waits_once kind (if_found waits event) },
 }

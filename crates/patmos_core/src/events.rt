@@ -6,19 +6,27 @@ ghost use Rattle.patmos_core.specs.Events.{storing, loads_from, stores_from, ask
 use patmos_step::Ask;
 use slot_arbiter::{Event, WordOp};
 
-/// An event at a stamp, which asks for nothing yet.
-pub fn event_at(stamp: u64) -> Event
-    ensures stamp { result.stamp ≡ stamp }
-    ensures count { result.count ≡ 0 }
-    ensures asks { asked_of result ≡ [] }
-    ensures below { (words : ℕ) → AllBelow words (asked_of result) }
-    ensures unread { AllUnread (asked_of result) }
+/// An event of nothing: room for one.
+pub fn blank() -> Event
+    ensures { asked_of result ≡ [] }
 {
     Event {
-        stamp,
+        stamp: 0,
         ops: [load(0); 8],
         count: 0,
     }
+}
+
+/// From here on it is an event at a stamp, which asks for nothing yet.
+pub fn begin_at(event: &mut Event, stamp: u64)
+    ensures stamp { event.new.stamp ≡ stamp }
+    ensures count { event.new.count ≡ 0 }
+    ensures asks { asked_of event.new ≡ [] }
+    ensures below { (words : ℕ) → AllBelow words (asked_of event.new) }
+    ensures unread { AllUnread (asked_of event.new) }
+{
+    event.stamp = stamp;
+    event.count = 0;
 }
 
 // a load of a word, whose value is not known yet

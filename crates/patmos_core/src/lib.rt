@@ -2,7 +2,8 @@
 //!
 //! [`Core::next`] gives the next event of the core's run apart, which is the words of the board that it loads and
 //! stores at one stamp, whatever its loads will give; or it says that none comes before a limit, and what the core then
-//! is. [`Core::resume`] hands back what the event's loads gave. A public relation (`Position`) says for which run apart
+//! is; [`Core::go_on`] does the same and leaves the event in the core, where [`Core::event`] shows it.
+//! [`Core::resume`] hands back what the event's loads gave. A public relation (`Position`) says for which run apart
 //! a core stands. The model (the crate patmos_model) waits cycle by cycle; the code does private bundles one after
 //! another (`turn`, `second_phase`) and goes over waiting by arithmetic on slots, windows and due cycles.
 //!

@@ -23,10 +23,10 @@ impl Tasked {
     ghost use Rattle.patmos_step.specs.Shown.{IsFramed};
 
     /// Tells the core what the loads of the event that it asked for gave, in their order.
-    pub fn resume(&mut self, values: [u32; 8])
+    pub fn resume(&mut self, values: &[u32; 8])
         requires asked { (e : Event) × IsAskedAt self.old e }
         ensures stands { (e : Event) → IsAskedAt self.old e → (x : Core) (made : List Operation)
-            → IsOn self.old x made → IsOn self.new x (made ++ asked_by e values) }
+            → IsOn self.old x made → IsOn self.new x (made ++ asked_by e values.now) }
         ensures frame { IsFramed self.old.body self.new.body }
         ensures further { phases_done self.old.cycle self.old.phase < phases_done self.new.cycle self.new.phase }
         ensures cycle { self.new.cycle ≤ self.old.cycle + 1 }
@@ -34,7 +34,7 @@ impl Tasked {
     {
         match self.phase {
             Phase::Delivery => self.delivered(),
-            Phase::Act => self.acted(&values),
+            Phase::Act => self.acted(values),
             Phase::Completion(_) => self.stored(),
         }
     }

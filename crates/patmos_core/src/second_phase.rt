@@ -2,7 +2,7 @@ ghost use Rattle.std.specs.Prelude.{◌≡◌, ◌+◌, ◌<◌};
 ghost use Rattle.patmos_core.specs.declared.phase.Phase.TheVariants.{Delivery};
 ghost use Rattle.patmos_core.specs.Progress.{cycle_after, phase_after};
 
-use crate::events::{ask_own, ask_packet, event_at};
+use crate::events::{ask_own, ask_packet, begin_at};
 use crate::phase::Phase;
 use crate::tasked::Tasked;
 use crate::window::{Window, window_in};
@@ -12,7 +12,7 @@ use patmos_step::{Ask, Plan, comm_word};
 use slot_arbiter::{Event, MOST_CYCLES, stamp_of};
 
 impl Tasked {
-    ghost use Rattle.std.specs.Prelude.{◌≡◌, ℕ, ◌+◌, ◌*◌, ◌≤◌, ◌<◌, ◌++◌, true, List, [], Option, None, IfSome, IsNone, IsSome};
+    ghost use Rattle.std.specs.Prelude.{◌≡◌, ℕ, ◌+◌, ◌*◌, ◌≤◌, ◌<◌, ◌++◌, true, false, List, [], Option, None, IfSome, IsNone, IsSome, IsTrue};
     ghost use Rattle.shared_order.specs.Program.{fed};
     ghost use Rattle.argo_ni.specs.Interface.{Interface};
     ghost use Rattle.argo_ni.specs.Packet as packets;
@@ -30,19 +30,19 @@ impl Tasked {
     ghost use Rattle.patmos_core.specs.Position.{GoesOnAs, phases_done};
     ghost use Rattle.patmos_step.specs.Shown.{Shows, core_of, plain_of};
 
-    /// The second phase: what it asks for; or, where that is nothing, it is done.
-    pub fn act(&mut self, next: Option<NiEvent>) -> Option<Event>
+    /// The second phase: what it asks for; or, where that is nothing, it is done. And whether it asks for something.
+    pub fn act(&mut self, next: Option<NiEvent>, event: &mut Event) -> bool
         requires act { self.old.phase ≡ Act }
         requires next { TellsNext self.old.body.ni next }
         requires early { self.old.cycle < MOST_CYCLES }
         ensures goes_on { GoesOnAs self.old self.new }
-        ensures asked { IfSome result (IsAskedAt self.new) }
-        ensures fits { IfSome result (IsOfPlace self.new.body.place) }
-        ensures further { IsNone result
+        ensures asked { IsTrue result → IsAskedAt self.new event.new }
+        ensures fits { IsTrue result → IsOfPlace self.new.body.place event.new }
+        ensures further { result ≡ false
             → phases_done self.old.cycle self.old.phase < phases_done self.new.cycle self.new.phase }
         ensures cycle { self.new.cycle ≤ self.old.cycle + 1 }
         ensures whole { self.new.cycle ≡ self.old.cycle + 1 → self.new.phase ≡ Delivery }
-        ensures same { IsSome result → self.new.cycle ≡ self.old.cycle }
+        ensures same { IsTrue result → self.new.cycle ≡ self.old.cycle }
     {
         self.settle();
         let plan = self.body.plan(self.cycle);
@@ -51,9 +51,12 @@ impl Tasked {
         match (window, ask) {
             (None, Ask::Nothing) => {
                 self.act_alone(&plan);
-                None
+                false
             }
-            (window, ask) => Some(self.act_event(window, ask)),
+            (window, ask) => {
+                self.act_event(window, ask, event);
+                true
+            }
         }
     }
 
@@ -116,7 +119,7 @@ impl Tasked {
     }
 
     // the event of a second phase
-    fn act_event(&self, window: Option<Window>, ask: Ask) -> Event
+    fn act_event(&self, window: Option<Window>, ask: Ask, event: &mut Event)
         requires act { self.now.phase ≡ Act }
         requires early { self.now.cycle < MOST_CYCLES }
         requires sends { SendsIn self.now.body.ni.interface self.now.cycle window }
@@ -125,13 +128,12 @@ impl Tasked {
             → FollowsAsk ask (cycles.own self.now.cycle (cycles.with_interface (core_of self.now.body h) i)) }
         requires within { AskFits (packets.comm_word self.now.body.place.cores 0) ask }
         requires some { IsNone window → ask ≡ asks.Nothing → ⊥ }
-        ensures asked { IsAskedAt self.now result }
-        ensures fits { IsOfPlace self.now.body.place result }
+        ensures asked { IsAskedAt self.now event.new }
+        ensures fits { IsOfPlace self.now.body.place event.new }
     {
-        let mut event = event_at(stamp_of(&self.body.place, self.cycle, 1));
-        self.ask_window(&mut event, window);
-        ask_own(&mut event, ask);
-        event
+        begin_at(event, stamp_of(&self.body.place, self.cycle, 1));
+        self.ask_window(event, window);
+        ask_own(event, ask);
     }
 
     // the event asks besides for the packet that is sent

@@ -1,4 +1,4 @@
-ghost use Rattle.std.specs.Prelude.{◌≡◌, ℕ, ◌≤◌, ◌<◌, ◌++◌, ◌*◌, List, Option, None, Some, IsNone, IsSome, IfSome, option_map};
+ghost use Rattle.std.specs.Prelude.{◌≡◌, ℕ, ◌≤◌, ◌<◌, ◌++◌, ◌*◌, List, Option, None, Some, IsNone, IsSome, IfSome, option_copied};
 ghost use Rattle.slot_arbiter.specs.declared.event.Event.{Event};
 ghost use Rattle.shared_order.specs.declared.operation.Operation.{Operation};
 ghost use Rattle.shared_order.specs.Operation.{loads};
@@ -6,7 +6,7 @@ ghost use Rattle.shared_order.specs.Event.{asked_by};
 ghost use Rattle.patmos_model.specs.State as state;
 ghost use Rattle.patmos_model.specs.Apart.{apart_from};
 ghost use Rattle.patmos_model.specs.Outcome.{state_at};
-ghost use Rattle.patmos_core.specs.Position.{StandsFor, waiting_of, limit_of, place_of, room_of, event_of, rest_as, phases_of, IsThrough, IsNextOf, IsWholeOf, HasMadeAll, EventFits};
+ghost use Rattle.patmos_core.specs.Position.{StandsFor, waiting_of, limit_of, place_of, room_of, event_of, rest_as, phases_of, stamp_of, IsThrough, IsNextOf, IsWholeOf, HasMadeAll, EventFits, ComesTo};
 
 use crate::cpu::{Core, Next};
 use patmos_model::CoreState;
@@ -41,13 +41,22 @@ impl Core {
         ensures rest { IsNone (event_of result) → (x : state.Core) (made : List Operation) → StandsFor self.old x made
             → result ≡ rest_as (state_at limit (apart_from x (loads made) limit).core.plain) }
     {
-        let event = self.kind.run(limit, self.limit);
-        self.limit = limit;
-        self.waiting = event;
-        match event {
+        self.go_on(limit);
+        match self.waiting() {
             Some(event) => Next::Event(event),
             None => self.rest(),
         }
+    }
+
+    /// Goes on as [`Core::next`] does, and leaves the event that comes where [`Core::event`] shows it.
+    pub fn go_on(&mut self, limit: u64)
+        requires free { waiting_of self.old ≡ None }
+        requires most { limit ≤ MOST_CYCLES }
+        requires later { limit_of self.old ≤ limit }
+        ensures { ComesTo self.old self.new limit }
+    {
+        self.waits = self.kind.run(limit, self.limit, &mut self.event);
+        self.limit = limit;
     }
 
     // the answer where no event comes before the limit
@@ -76,24 +85,32 @@ impl Core {
         ensures room { room_of self.new ≡ room_of self.old }
     {
         let _ = count;
-        self.kind.resume(values);
-        self.waiting = None;
+        self.kind.resume(&values);
+        self.waits = false;
     }
 
     /// The event that the core asked for and was not yet told.
     pub fn waiting(&self) -> Option<Event>
         ensures { result ≡ waiting_of self.now }
     {
-        self.waiting
+        if self.waits { Some(self.event) } else { None }
+    }
+
+    /// The same event where it stands, with no copy of it.
+    pub fn event(&self) -> Option<&Event>
+        ensures { option_copied result ≡ waiting_of self.now }
+    {
+        if self.waits { Some(&self.event) } else { None }
     }
 
     /// The stamp of that event.
     pub fn stamp(&self) -> Option<u64>
-        ensures { result ≡ option_map (λ e. e.stamp) (waiting_of self.now) }
+        ensures { result ≡ stamp_of self.now }
     {
-        match &self.waiting {
-            Some(event) => Some(event.stamp),
-            None => None,
+        if self.waits {
+            Some(self.event.stamp)
+        } else {
+            None
         }
     }
 }

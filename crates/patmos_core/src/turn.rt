@@ -1,4 +1,4 @@
-use crate::events::{ask_delivery, ask_store, event_at};
+use crate::events::{ask_delivery, ask_store, begin_at};
 use crate::phase::Phase;
 use crate::tasked::Tasked;
 use crate::window::next_act;
@@ -8,7 +8,7 @@ use patmos_step::comm_word;
 use slot_arbiter::{Event, MOST_CYCLES, stamp_of};
 
 impl Tasked {
-    ghost use Rattle.std.specs.Prelude.{◌≡◌, ℕ, ◌+◌, ◌*◌, ◌≤◌, ◌<◌, true, List, IfSome, IsNone, IsSome};
+    ghost use Rattle.std.specs.Prelude.{◌≡◌, ℕ, ◌+◌, ◌*◌, ◌≤◌, ◌<◌, true, false, List, IfSome, IsNone, IsTrue};
     ghost use Rattle.argo_ni.specs.Turn.{acts};
     ghost use Rattle.argo_ni.specs.Event.{half_of, IsNextAct, IsDelivery};
     ghost use Rattle.patmos_core.specs.declared.phase.Phase.TheVariants.{Delivery, Act};
@@ -95,23 +95,26 @@ impl Tasked {
         }
     }
 
-    /// The packets that are due come to their words; without one, the second phase is next.
-    fn deliver(&mut self, next: Option<NiEvent>) -> Option<Event>
+    /// The packets that are due come to their words, and whether there is one; without one, the second phase is next.
+    fn deliver(&mut self, next: Option<NiEvent>, event: &mut Event) -> bool
         requires delivery { self.old.phase ≡ Delivery }
         requires next { TellsNext self.old.body.ni next }
         requires early { self.old.cycle < MOST_CYCLES }
         ensures goes_on { GoesOnAs self.old self.new }
-        ensures asked { IfSome result (IsAskedAt self.new) }
-        ensures fits { IfSome result (IsOfPlace self.new.body.place) }
-        ensures act { IsNone result → self.new.phase ≡ Act }
+        ensures asked { IsTrue result → IsAskedAt self.new event.new }
+        ensures fits { IsTrue result → IsOfPlace self.new.body.place event.new }
+        ensures act { result ≡ false → self.new.phase ≡ Act }
         ensures cycle { self.new.cycle ≡ self.old.cycle }
         ensures ni { self.new.body.ni ≡ self.old.body.ni }
     {
         match self.due_packet(next) {
-            Some(packet) => Some(self.delivery(&packet)),
+            Some(packet) => {
+                self.delivery(&packet, event);
+                true
+            }
             None => {
                 self.pass(next);
-                None
+                false
             }
         }
     }
@@ -160,100 +163,101 @@ impl Tasked {
     }
 
     // the event of a packet that is due
-    fn delivery(&self, packet: &Delivered) -> Event
+    fn delivery(&self, packet: &Delivered, event: &mut Event)
         requires delivery { self.now.phase ≡ Delivery }
         requires due { IsNextAct self.now.body.ni (2 * self.now.cycle) }
         requires packet { IsDelivery self.now.body.ni.interface self.now.cycle packet.now.target packet.now.first packet.now.count packet.now.values }
         requires early { self.now.cycle < MOST_CYCLES }
-        ensures asked { IsAskedAt self.now result }
-        ensures fits { IsOfPlace self.now.body.place result }
+        ensures asked { IsAskedAt self.now event.new }
+        ensures fits { IsOfPlace self.now.body.place event.new }
     {
-        let mut event = event_at(stamp_of(&self.body.place, self.cycle, 0));
+        begin_at(event, stamp_of(&self.body.place, self.cycle, 0));
         let word = comm_word(packet.target, packet.first);
-        ask_delivery(&mut event, word, packet.count, packet.values);
-        event
+        ask_delivery(event, word, packet.count, packet.values);
     }
 
-    /// Goes on by a part of a cycle, or more where nothing is asked for: up to the limit, or to an event.
-    fn step(&mut self, limit: u64) -> Option<Event>
+    /// Goes on by a part of a cycle, or more where nothing is asked for: up to the limit, or to an event, and which.
+    fn step(&mut self, limit: u64, event: &mut Event) -> bool
         requires below { self.old.cycle < limit }
         requires most { limit ≤ MOST_CYCLES }
         ensures goes_on { GoesOnAs self.old self.new }
-        ensures asked { IfSome result (IsAskedAt self.new) }
-        ensures fits { IfSome result (IsOfPlace self.new.body.place) }
-        ensures below { IsSome result → self.new.cycle < limit }
+        ensures asked { IsTrue result → IsAskedAt self.new event.new }
+        ensures fits { IsTrue result → IsOfPlace self.new.body.place event.new }
+        ensures below { IsTrue result → self.new.cycle < limit }
         ensures within { self.new.cycle ≤ limit }
         ensures whole { self.new.cycle ≡ limit → self.new.phase ≡ Delivery }
-        ensures further { IsNone result
+        ensures further { result ≡ false
             → phases_done self.old.cycle self.old.phase < phases_done self.new.cycle self.new.phase }
     {
         match self.phase {
-            Phase::Delivery => self.begin(limit),
+            Phase::Delivery => self.begin(limit, event),
             Phase::Act => {
                 let next = self.next_act();
-                self.act(next)
+                self.act(next, event)
             }
-            Phase::Completion(pending_store) => Some(self.store(pending_store)),
+            Phase::Completion(pending_store) => {
+                self.store(pending_store, event);
+                true
+            }
         }
     }
 
     // goes over the cycles in which nothing happens and those which the core does by itself, and through the
     // first one in which something else may happen
-    fn begin(&mut self, limit: u64) -> Option<Event>
+    fn begin(&mut self, limit: u64, event: &mut Event) -> bool
         requires delivery { self.old.phase ≡ Delivery }
         requires below { self.old.cycle < limit }
         requires most { limit ≤ MOST_CYCLES }
         ensures goes_on { GoesOnAs self.old self.new }
-        ensures asked { IfSome result (IsAskedAt self.new) }
-        ensures fits { IfSome result (IsOfPlace self.new.body.place) }
-        ensures below { IsSome result → self.new.cycle < limit }
+        ensures asked { IsTrue result → IsAskedAt self.new event.new }
+        ensures fits { IsTrue result → IsOfPlace self.new.body.place event.new }
+        ensures below { IsTrue result → self.new.cycle < limit }
         ensures within { self.new.cycle ≤ limit }
         ensures whole { self.new.cycle ≡ limit → self.new.phase ≡ Delivery }
-        ensures further { IsNone result
+        ensures further { result ≡ false
             → phases_done self.old.cycle self.old.phase < phases_done self.new.cycle self.new.phase }
     {
         let next = self.next_act();
         self.skip(next, limit);
         self.go_alone(next, limit);
         if self.cycle == limit {
-            return None;
+            return false;
         }
-        if let Some(event) = self.deliver(next) {
-            return Some(event);
+        if self.deliver(next, event) {
+            return true;
         }
-        self.act(next)
+        self.act(next, event)
     }
 
     // the event of a pending store
-    fn store(&self, pending_store: PendingStore) -> Event
+    fn store(&self, pending_store: PendingStore, event: &mut Event)
         requires pending_store { self.now.phase ≡ phase.Completion pending_store }
         requires early { self.now.cycle < MOST_CYCLES }
-        ensures asked { IsAskedAt self.now result }
-        ensures fits { IsOfPlace self.now.body.place result }
+        ensures asked { IsAskedAt self.now event.new }
+        ensures fits { IsOfPlace self.now.body.place event.new }
     {
-        let mut event = event_at(stamp_of(&self.body.place, self.cycle, 1));
-        ask_store(&mut event, pending_store.word, pending_store.value);
-        event
+        begin_at(event, stamp_of(&self.body.place, self.cycle, 1));
+        ask_store(event, pending_store.word, pending_store.value);
     }
 
-    /// Goes on to the next event before the limit, or else up to the limit.
-    pub fn run(&mut self, limit: u64) -> Option<Event>
+    /// Goes on to the next event before the limit, or else up to the limit, and whether an event comes.
+    pub fn run(&mut self, limit: u64, event: &mut Event) -> bool
         requires within { self.old.cycle ≤ limit }
         requires whole { self.old.cycle ≡ limit → self.old.phase ≡ Delivery }
         requires most { limit ≤ MOST_CYCLES }
         ensures goes_on { GoesOnAs self.old self.new }
-        ensures asked { IfSome result (IsAskedAt self.new) }
-        ensures fits { IfSome result (IsOfPlace self.new.body.place) }
-        ensures below { IsSome result → self.new.cycle < limit }
-        ensures through { IsNone result → self.new.cycle ≡ limit }
+        ensures asked { IsTrue result → IsAskedAt self.new event.new }
+        ensures fits { IsTrue result → IsOfPlace self.new.body.place event.new }
+        ensures below { IsTrue result → self.new.cycle < limit }
+        ensures through { result ≡ false → self.new.cycle ≡ limit }
         ensures whole { self.new.cycle ≡ limit → self.new.phase ≡ Delivery }
     {
         while self.cycle < limit {
-            if let Some(event) = self.step(limit) {
-                return Some(event);
+            if self.step(limit, event) {
+                return true;
             }
         }
-        None
+        false
     }
 }
 

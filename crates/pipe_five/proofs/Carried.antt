@@ -26,8 +26,8 @@ use Rattle.pipe_five.specs.declared.lone.Lone.{Lone}
 use Rattle.pipe_five.specs.Steps.{core_before, words_before}
 use Rattle.pipe_five.specs.Stages.{is_start}
 use Rattle.pipe_five.specs.Board.{Hears, stored_by, completed}
-use Rattle.pipe_five.specs.Lone.{RunsAs, LandedAs, IsStill, LeavesStatus}
-use Rattle.pipe_five.proofs.Cycles.{first_quiet, second_quiet, next_core, next_words}
+use Rattle.pipe_five.specs.Lone.{RunsAs, LandedAs, LeavesStatus}
+use Rattle.pipe_five.proofs.Cycles.{never_turns, first_quiet, second_quiet, next_core, next_words}
 use Rattle.pipe_five.proofs.Answering.{IsAnswered, answered_so}
 use Rattle.pipe_five.proofs.Kept.{keeps_start, runs_on, stops_at}
 use Rattle.pipe_five.proofs.Landing.{Goes, Placed, landed_goes}
@@ -56,13 +56,13 @@ registers_same : (x : Interface) → HasRegisters x x
 registers_same x = record { cores = refl; core = refl; source = λ d. refl; target = λ d. refl }
 
 pub carried : (x : Core) (l : Lone) (next : Body) (asked : Ask) (plan : Plan) (values : List ℕ) (pending_store : Option PendingStore) (stored : List ℕ) (later : ℕ)
-    → LandedAs l x → IsStill l.body.ni → plan ≡ planned l.cycle (plain_of l.body) → (is_running (plain_of l.body) ≡ true → IsSettled l.cycle (plain_of l.body))
+    → LandedAs l x → plan ≡ planned l.cycle (plain_of l.body) → (is_running (plain_of l.body) ≡ true → IsSettled l.cycle (plain_of l.body))
     → ((h : History) (i : Interface) → Shows l.body h → HasRegisters i l.body.ni.interface → FollowsAsk asked (carried_out plan l.cycle (with_interface (core_of l.body h) i)))
     → Hears asked (slice_index l.words.items) values
     → ((s : ℕ) (h : History) → Shows l.body h → IsActed next pending_store (fed s (carried_out plan l.cycle (core_of l.body h)) values).core)
     → ((w : ℕ) → slice_index stored w ≡ completed pending_store (stored_by asked (slice_index l.words.items)) w)
     → later ≡ suc l.cycle → IsRun x later next stored
-carried x l next asked plan values pending_store stored later at still is settles follows hears acts completes far =
+carried x l next asked plan values pending_store stored later at is settles follows hears acts completes far =
     let t : ℕ = l.cycle in
     let s : ℕ = stamp 1 0 t 1 in
     let y : Core = core_before x t in
@@ -71,9 +71,9 @@ carried x l next asked plan values pending_store stored later at still is settle
     let words : ℕ → ℕ = slice_index l.words.items in
     let goes : Goes y (landed t y) = landed_goes t y in
     let same : y.plain.interface ≡ z.plain.interface = sym goes.1 ∙ ap (λ (c : Core). c.plain.interface) at.core in
-    let first : turn 0 t y ≡ done y = first_quiet t y (subst (λ i. delivery t i ≡ done i) (sym same) (still t 0 (omega arith) (omega (arith, l.can.from)))) in
+    let first : turn 0 t y ≡ done y = first_quiet t y (subst (λ i. delivery t i ≡ done i) (sym same) (never_turns l.body.ni l.can.never t 0 (omega arith))) in
     let owns : own t y ≡ p = sym (landed_first y t).act ∙ ap (own t) at.core ∙ own_is_planned t z settles ∙ ap (λ q. carried_out q t z) (sym is) in
-    let second : turn 1 t y ≡ and_then p settled = second_quiet t y (subst (λ i. injection t i ≡ done i) (sym same) (still t 1 (omega arith) (omega (arith, l.can.from)))) ∙ ap (λ q. and_then q settled) owns in
+    let second : turn 1 t y ≡ and_then p settled = second_quiet t y (subst (λ i. injection t i ≡ done i) (sym same) (never_turns l.body.ni l.can.never t 1 (omega arith))) ∙ ap (λ q. and_then q settled) owns in
     let board : words_before x t ≡ words = λ i w. at.words w i in
     let act : IsActed next pending_store (fed s p values).core = acts s at.seen at.shows in
     let answered : IsAnswered s p values words (stored_by asked words) = answered_so s asked p values words (follows at.seen z.plain.interface at.shows (registers_same z.plain.interface)) hears in

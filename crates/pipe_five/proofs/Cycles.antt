@@ -1,14 +1,22 @@
 -- A cycle of the machine of one core in which its interface does nothing.
-use Rattle.std.proofs.Common.{◌≡◌, ℕ, zero, suc, ◌+◌, ◌<◌, ◌≤◌, [], ◌++◌, refl, ap, ◌∙◌, arith}
+use Rattle.std.proofs.Common.{◌≡◌, ℕ, zero, suc, ◌+◌, ◌*◌, ◌<◌, ◌≤◌, [], ◌++◌, refl, ap, ◌∙◌, arith}
 use Rattle.slot_arbiter.specs.Stamp.{stamp}
 use Rattle.shared_order.specs.Words.{after}
 use Rattle.shared_order.specs.Program.{Prog, done, and_then, played}
+use Rattle.argo_ni.specs.Interface.{Standing}
 use Rattle.argo_ni.specs.Turn.{delivery, injection}
+use Rattle.argo_ni.specs.Turn.{turn as turns}
+use Rattle.argo_ni.proofs.Acts.{quiet_for_ever}
 use Rattle.patmos_model.specs.State.{Core}
 use Rattle.patmos_model.specs.Cells.{now}
 use Rattle.patmos_model.specs.Cycle.{turn, own, settled, with_interface}
 use Rattle.core_pace.specs.Moment.{done_in}
+use Rattle.pipe_five.specs.Soundness.{NeverActs}
 use Rattle.pipe_five.specs.Steps.{core_before, words_before, done_below}
+
+-- an interface that never acts does nothing in either phase
+pub never_turns : (s : Standing) → NeverActs s → (cycle phase : ℕ) → phase ≤ 1 → turns phase cycle s.interface ≡ done s.interface
+never_turns s never cycle phase few = quiet_for_ever s.interface 0 (2 * cycle + phase + 1) never cycle phase few (omega arith) (omega arith)
 
 -- nothing is delivered
 pub first_quiet : (t : ℕ) (y : Core) → delivery t y.plain.interface ≡ done y.plain.interface → turn 0 t y ≡ done y

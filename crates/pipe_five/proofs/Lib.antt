@@ -9,5 +9,6 @@ pub mod Lists
 pub mod Carried
 pub mod Skipped
 pub mod Acting
+pub mod AtOnce
 pub mod Stepping
 pub mod Only

@@ -2,7 +2,8 @@ pub mod Soundness
 pub mod Steps
 pub mod Stages
 pub mod Board
-pub mod Lone
 pub mod Latches
+pub mod Follow
+pub mod Lone
 pub mod Pipe
 pub mod Worked

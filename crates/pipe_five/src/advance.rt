@@ -1,10 +1,8 @@
 use crate::beat::Beat;
-use crate::executed::Executed;
 use crate::follow::look_ahead;
-use crate::latches::{Latches, place_in};
+use crate::latches::Latches;
 use crate::lone::Lone;
 use crate::pipe::PipeCore;
-use crate::point::Point;
 use patmos_code::Image;
 use patmos_instr::Reg;
 use patmos_model::CoreState;
@@ -18,11 +16,9 @@ impl PipeCore {
     ghost use Rattle.patmos_model.specs.Begin.{begun};
     ghost use Rattle.patmos_model.specs.State.{Core};
     ghost use Rattle.patmos_model.specs.Outcome.{state_at};
-    ghost use Rattle.patmos_step.specs.Shown.{plain_of};
-    ghost use Rattle.pipe_five.specs.declared.beat.Beat.TheVariants.{Step};
     ghost use Rattle.pipe_five.specs.Steps.{core_before, done_below, first_of};
     ghost use Rattle.pipe_five.specs.Stages as stages;
-    ghost use Rattle.pipe_five.specs.Latches.{shifted};
+    ghost use Rattle.pipe_five.specs.Follow.{IsAtStart};
     ghost use Rattle.pipe_five.specs.Pipe.{StandsFor, IsStep, IfStep, IsStopped, IsThrough, limit_of, steps_after, shown};
 
     /// The only core of a platform, at its place, with a task and its input, before the first cycle. It takes memory
@@ -61,45 +57,29 @@ impl PipeCore {
     {
         self.limit = limit;
         while self.lone.cycle < limit {
-            match self.lone.step(limit) {
-                Some(executed) => return self.shift(executed),
-                None => {}
+            if self.lone.step(&mut self.latches, limit) {
+                return Beat::Step {
+                    cycle: self.lone.cycle - 1,
+                    stages: self.stages(),
+                };
             }
         }
         Beat::Stopped
     }
 
-    // a bundle that was executed in the cycle before comes into its stage, and the others go on
-    fn shift(&mut self, executed: Executed) -> Beat
-        requires after { 0 < self.old.lone.cycle }
-        ensures latches { self.new.latches ≡ shifted executed.place executed.found self.old.latches }
-        ensures lone { self.new.lone ≡ self.old.lone }
-        ensures limit { self.new.limit ≡ self.old.limit }
-        ensures beat { result ≡ Step (self.new.lone.cycle - 1) (shown self.new) }
+    // the places in the stages
+    #[inline(always)]
+    fn stages(&self) -> [Option<u32>; 5]
+        ensures { IsAtStart self.now.lone.body → result ≡ shown self.now }
     {
-        self.latches.shift(executed.place, executed.found);
-        let ahead = look_ahead(&self.lone.body.image, &self.point());
-        Beat::Step {
-            cycle: self.lone.cycle - 1,
-            stages: [
-                ahead.fetch,
-                ahead.decode,
-                self.latches.execute,
-                place_in(self.latches.memory),
-                self.latches.write_back,
-            ],
-        }
-    }
-
-    // where the core is in its code
-    fn point(&self) -> Point
-        ensures { result ≡ stages.point_of (plain_of self.now.lone.body) }
-    {
-        Point {
-            base: self.lone.body.base,
-            offset: self.lone.body.offset,
-            flow: self.lone.body.flow,
-        }
+        let ahead = look_ahead(&self.lone.body);
+        [
+            ahead.fetch,
+            ahead.decode,
+            self.latches.execute,
+            self.latches.memory_place(),
+            self.latches.write_back,
+        ]
     }
 
     /// The word in a register of the register file. It takes no memory.

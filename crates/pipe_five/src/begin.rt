@@ -4,6 +4,7 @@ ghost use Rattle.pipe_five.specs.Stages.{is_start};
 
 use crate::board::zeros;
 use crate::lone::Lone;
+use crate::still::is_still;
 use patmos_code::Image;
 use patmos_step::Body;
 use slot_arbiter::Place;
@@ -29,6 +30,7 @@ impl Lone {
     {
         begins_with_function(image);
         let body = Body::new(alloc, place, image, input, 0)?;
+        is_still(&body);
         let words = zeros(alloc)?;
         Ok(Lone {
             body,

@@ -1,12 +1,15 @@
 ghost use Rattle.std.specs.Prelude.{◌≡◌, ◌≤◌, ◌<◌, ◌^◌, true, IfSome, None, Some, option_map, length};
 ghost use Rattle.patmos_model.specs.Flows as flows;
 ghost use Rattle.patmos_model.specs.Site as site;
+ghost use Rattle.patmos_step.specs.Shown.{plain_of};
 ghost use Rattle.pipe_five.specs.Stages as specs;
 ghost use Rattle.pipe_five.specs.Stages.{IsInCode};
+ghost use Rattle.pipe_five.specs.Follow.{IsAtStart, HasWords, words_standing};
 
 use crate::point::Point;
 use patmos_code::{Image, MOST_IN_IMAGE};
 use patmos_model::{Flow, Goal};
+use patmos_step::Body;
 
 /// Bit 31 of a bundle's first word says that there is a second.
 const TWO_WORDS: u32 = 0x8000_0000;
@@ -18,15 +21,25 @@ pub struct Ahead {
     pub decode: Option<u32>,
 }
 
-/// What stands in fetch and decode after a bundle that left the core at a point.
-pub fn look_ahead(image: &Image, point: &Point) -> Ahead
-    ensures decode { result.decode ≡ specs.decode_place image.now point.now }
-    ensures fetch { result.fetch ≡ specs.fetch_place image.now point.now }
+/// A bundle of the code: the point at which it stands, and how many words it has.
+#[derive(Clone, Copy, Debug, PartialEq, Eq)]
+pub struct BundleAt {
+    pub point: Point,
+    pub words: u32,
+}
+
+/// What stands in fetch and decode after a bundle that left the core so.
+#[inline(always)]
+pub fn look_ahead(body: &Body) -> Ahead
+    ensures decode { IsAtStart body.now
+        → result.decode ≡ specs.decode_place body.now.image (specs.point_of (plain_of body.now)) }
+    ensures fetch { IsAtStart body.now
+        → result.fetch ≡ specs.fetch_place body.now.image (specs.point_of (plain_of body.now)) }
 {
-    match followed(image, point) {
+    match followed(body, &point_of(body)) {
         Some(decode) => Ahead {
-            fetch: place_of(followed(image, &behind(image, &decode))),
-            decode: Some(decode.base + decode.offset),
+            fetch: place_of(followed(body, &behind(&body.image, &decode))),
+            decode: Some(decode.point.base + decode.point.offset),
         },
         None => Ahead {
             fetch: None,
@@ -35,44 +48,63 @@ pub fn look_ahead(image: &Image, point: &Point) -> Ahead
     }
 }
 
-// the place of a point in the code
-fn place_of(point: Option<Point>) -> Option<u32>
-    requires { IfSome point (λ p. specs.word_of p < 2 ^ 32) }
-    ensures { result ≡ option_map specs.word_of point }
+// where a core is in its code
+#[inline(always)]
+fn point_of(body: &Body) -> Point
+    ensures { result ≡ specs.point_of (plain_of body.now) }
 {
-    match point {
-        Some(point) => Some(point.base + point.offset),
+    Point {
+        base: body.base,
+        offset: body.offset,
+        flow: body.flow,
+    }
+}
+
+// the place of a bundle in the code
+#[inline(always)]
+fn place_of(bundle: Option<BundleAt>) -> Option<u32>
+    requires { IfSome bundle (λ s. specs.word_of s.point < 2 ^ 32) }
+    ensures { result ≡ option_map (λ s. specs.word_of s.point) bundle }
+{
+    match bundle {
+        Some(BundleAt { point, .. }) => Some(point.base + point.offset),
         None => None,
     }
 }
 
-// where the code goes on from a point: there, or where a flow without a delay slot left goes to; nowhere if the task
-// ends, no function starts there, or the bundle is not wholly inside its function
-fn followed(image: &Image, point: &Point) -> Option<Point>
-    ensures point { result ≡ specs.followed image.now point.now }
-    ensures within { IfSome result (IsInCode image.now) }
-    ensures place { IfSome result (λ p. specs.word_of p < 2 ^ 32) }
+// the bundle with which the code goes on from a point: there, or where a flow without a delay slot left goes to; none
+// if the task ends, no function starts there, or the bundle is not wholly inside its function
+#[inline(always)]
+fn followed(body: &Body, point: &Point) -> Option<BundleAt>
+    ensures point { IsAtStart body.now
+        → option_map (λ s. s.point) result ≡ specs.followed body.now.image point.now }
+    ensures words { IfSome result (HasWords body.now.image) }
+    ensures within { IfSome result (λ s. IsInCode body.now.image s.point) }
+    ensures place { IfSome result (λ s. specs.word_of s.point < 2 ^ 32) }
 {
     match turned(point) {
-        Some(point) => standing(image, point),
+        Some(point) => standing(body, point),
         None => None,
     }
 }
 
-// the point, if it is one of the code
-fn standing(image: &Image, point: Point) -> Option<Point>
-    ensures point { result ≡ specs.standing image.now (Some point) }
-    ensures within { IfSome result (IsInCode image.now) }
-    ensures place { IfSome result (λ p. specs.word_of p < 2 ^ 32) }
+// the bundle at the point, if it is one of the code
+#[inline(always)]
+fn standing(body: &Body, point: Point) -> Option<BundleAt>
+    ensures point { IsAtStart body.now
+        → option_map (λ s. s.point) result ≡ specs.standing body.now.image (Some point) }
+    ensures words { IfSome result (HasWords body.now.image) }
+    ensures within { IfSome result (λ s. IsInCode body.now.image s.point) }
+    ensures place { IfSome result (λ s. specs.word_of s.point < 2 ^ 32) }
 {
-    if stands(image, &point) {
-        Some(point)
-    } else {
-        None
+    match words_standing(body, &point) {
+        Some(words) => Some(BundleAt { point, words }),
+        None => None,
     }
 }
 
 // the point, or the target of its flow where no delay slot is left
+#[inline(always)]
 fn turned(point: &Point) -> Option<Point>
     ensures { result ≡ specs.turned point.now }
 {
@@ -101,6 +133,7 @@ fn target_of(base: u32, goal: &Goal) -> Option<Point>
 }
 
 // a point without a flow
+#[inline(always)]
 fn plainly(base: u32, offset: u32) -> Point
     ensures { result ≡ specs.plainly base offset }
 {
@@ -108,6 +141,48 @@ fn plainly(base: u32, offset: u32) -> Point
         base,
         offset,
         flow: None,
+    }
+}
+
+// how many words the bundle at a point has, if the point is one of the code
+#[inline(always)]
+fn words_standing(body: &Body, point: &Point) -> Option<u32>
+    ensures standing { IsAtStart body.now → result ≡ words_standing body.now.image point.now }
+    ensures words { IfSome result (λ words. words ≡ specs.words_at body.now.image point.now) }
+    ensures within { IfSome result (λ words. IsInCode body.now.image point.now) }
+{
+    if point.base == body.base {
+        words_here(body, point)
+    } else {
+        words_elsewhere(&body.image, point)
+    }
+}
+
+// the same in the core's own function, whose words are decoded
+#[inline(always)]
+fn words_here(body: &Body, point: &Point) -> Option<u32>
+    requires here { point.now.base ≡ body.now.base }
+    ensures standing { IsAtStart body.now → result ≡ words_standing body.now.image point.now }
+    ensures words { IfSome result (λ words. words ≡ specs.words_at body.now.image point.now) }
+    ensures within { IfSome result (λ words. IsInCode body.now.image point.now) }
+{
+    has_few_words(&body.image);
+    match body.decoded_at(point.offset) {
+        Some(found) => Some(found.words),
+        None => None,
+    }
+}
+
+// the same in another function
+fn words_elsewhere(image: &Image, point: &Point) -> Option<u32>
+    ensures standing { result ≡ words_standing image.now point.now }
+    ensures words { IfSome result (λ words. words ≡ specs.words_at image.now point.now) }
+    ensures within { IfSome result (λ words. IsInCode image.now point.now) }
+{
+    if stands(image, point) {
+        Some(words_at(image, point))
+    } else {
+        None
     }
 }
 
@@ -147,19 +222,31 @@ fn word_at(image: &Image, point: &Point) -> u32
     image.words().get(at).copied().unwrap_or(0)
 }
 
-// after the bundle at a point
-fn behind(image: &Image, point: &Point) -> Point
-    requires { IsInCode image.now point.now }
-    ensures { result ≡ specs.behind image.now point.now }
+/// The words of code have numbers of 32 bits.
+#[inline(always)]
+pub fn has_few_words(image: &Image)
+    ensures { length image.now.words ≤ MOST_IN_IMAGE }
 {
+    let _ = image.words();
+}
+
+// the point after a bundle
+#[inline(always)]
+fn behind(image: &Image, bundle: &BundleAt) -> Point
+    requires words { bundle.now.words ≡ specs.words_at image.now bundle.now.point }
+    requires within { IsInCode image.now bundle.now.point }
+    ensures { result ≡ specs.behind image.now bundle.now.point }
+{
+    let point = bundle.point;
     Point {
         base: point.base,
-        offset: point.offset + words_at(image, point),
+        offset: point.offset + bundle.words,
         flow: counted(point.flow),
     }
 }
 
 // a flow with one delay slot less
+#[inline(always)]
 fn counted(flow: Option<Flow>) -> Option<Flow>
     ensures { result ≡ flows.counted flow None }
 {

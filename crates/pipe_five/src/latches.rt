@@ -1,4 +1,4 @@
-ghost use Rattle.std.specs.Prelude.{◌≡◌, option_map};
+ghost use Rattle.std.specs.Prelude.{◌≡◌, Some, option_map};
 ghost use Rattle.pipe_five.specs.Latches as specs;
 
 use patmos_instr::Reg;
@@ -37,30 +37,59 @@ impl Latches {
     }
 
     /// Each bundle goes on by a stage, and the one at this place comes into execute, which found these registers.
-    pub fn shift(&mut self, place: Option<u32>, found: Regs)
-        ensures { self.new ≡ specs.shifted place found self.old }
+    #[inline(always)]
+    pub fn shift(&mut self, place: u32, found: &Regs)
+        ensures { self.new ≡ specs.shifted (Some place) found.now self.old }
     {
-        self.retire(self.memory);
-        self.memory = match self.execute {
-            Some(place) => Some(Latch {
-                place,
-                results: found,
-            }),
-            None => None,
-        };
-        self.execute = place;
+        self.retire();
+        self.pass_on(found);
+        self.execute = Some(place);
+    }
+
+    // the bundle that was in execute comes into memory, with the registers that the next one found as its results
+    #[inline(always)]
+    fn pass_on(&mut self, found: &Regs)
+        ensures { self.new ≡ record self.old {
+          memory = option_map (λ at. record { place = at; results = found.now }) self.old.execute;
+        } }
+    {
+        match (&mut self.memory, self.execute) {
+            (Some(latch), Some(place)) => {
+                latch.place = place;
+                latch.results = *found;
+            }
+            (None, Some(place)) => {
+                self.memory = Some(Latch {
+                    place,
+                    results: *found,
+                });
+            }
+            (_, None) => self.memory = None,
+        }
     }
 
     // the bundle that was in memory comes into write-back, and its results into the file
-    fn retire(&mut self, done: Option<Latch>)
-        ensures { self.new ≡ specs.written_back done self.old }
+    #[inline(always)]
+    fn retire(&mut self)
+        ensures { self.new ≡ specs.written_back self.old.memory self.old }
     {
-        match done {
+        match &self.memory {
             Some(latch) => {
                 self.write_back = Some(latch.place);
                 self.file = latch.results;
             }
             None => self.write_back = None,
+        }
+    }
+
+    /// The place of the bundle in the memory stage.
+    #[inline(always)]
+    pub fn memory_place(&self) -> Option<u32>
+        ensures { result ≡ option_map (λ latch. latch.place) self.now.memory }
+    {
+        match &self.memory {
+            Some(latch) => Some(latch.place),
+            None => None,
         }
     }
 
@@ -78,15 +107,5 @@ impl Latches {
             }
             Pending::Nothing | Pending::Product { .. } => self.file.general(r),
         }
-    }
-}
-
-/// The place of a bundle in the memory stage.
-pub fn place_in(memory: Option<Latch>) -> Option<u32>
-    ensures { result ≡ option_map (λ latch. latch.place) memory }
-{
-    match memory {
-        Some(latch) => Some(latch.place),
-        None => None,
     }
 }

@@ -12,8 +12,8 @@
 //!    cycle; `Pipe`: the pipeline and the run that it stands for.
 //!
 //! The code holds what a pipeline holds (`latches`): a bundle's results are forwarded to the bundles after it, and lie
-//! in the memory stage's latch until they come into the file. `lone`, `begin`, `cycle` and `waiting` carry out the
-//! cycles; `point` and `follow` find what stands in fetch and decode.
+//! in the memory stage's latch until they come into the file. `lone`, `begin`, `at_once`, `cycle`, `waiting` and
+//! `still` carry out the cycles; `point` and `follow` find what stands in fetch and decode.
 //!
 //! [`worked_steps`], [`worked_flows`], [`worked_load`] and [`worked_ends`] show the definitions on small tasks,
 //! computed by the checker. No call but [`PipeCore::new`] takes memory.
@@ -22,17 +22,18 @@
 #![tactic(auto)]
 
 mod advance;
+mod at_once;
 mod beat;
 mod begin;
 mod board;
 mod cycle;
-mod executed;
 mod follow;
 mod latches;
 mod law;
 mod lone;
 mod pipe;
 mod point;
+mod still;
 mod waiting;
 mod worked;
 

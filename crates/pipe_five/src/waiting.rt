@@ -1,4 +1,4 @@
-use crate::executed::Executed;
+use crate::latches::Latches;
 use crate::lone::Lone;
 use slot_arbiter::{MOST_CYCLES, start_of};
 
@@ -9,21 +9,37 @@ impl Lone {
     ghost use Rattle.pipe_five.specs.Steps.{done_below};
     ghost use Rattle.pipe_five.specs.Lone.{RunsAs, Sleeps, TellsBundle};
 
-    /// Goes through the next cycle below a limit in which the core may do something, and tells the bundle
-    /// that was done in it; or else goes on to the limit.
-    pub fn step(&mut self, limit: u64) -> Option<Executed>
+    /// Goes through the next cycle below a limit in which the core may do something, or else goes on to the limit.
+    /// A bundle that was done comes into its stage, and so it is told.
+    #[inline(always)]
+    pub fn step(&mut self, latches: &mut Latches, limit: u64) -> bool
         requires below { self.old.cycle < limit }
         requires most { limit ≤ MOST_CYCLES }
         ensures runs { (x : Core) → RunsAs self.old x → RunsAs self.new x }
-        ensures tells { (x : Core) → RunsAs self.old x → TellsBundle x self.old.cycle self.new.cycle result }
+        ensures tells { (x : Core) → RunsAs self.old x
+            → TellsBundle x self.old.cycle self.new.cycle result latches.old latches.new }
+        ensures further { self.old.cycle < self.new.cycle }
+        ensures within { self.new.cycle ≤ limit }
+    {
+        self.do_at_once(latches) || self.step_on(latches, limit)
+    }
+
+    // the same in a cycle of any kind
+    #[inline(never)]
+    fn step_on(&mut self, latches: &mut Latches, limit: u64) -> bool
+        requires below { self.old.cycle < limit }
+        requires most { limit ≤ MOST_CYCLES }
+        ensures runs { (x : Core) → RunsAs self.old x → RunsAs self.new x }
+        ensures tells { (x : Core) → RunsAs self.old x
+            → TellsBundle x self.old.cycle self.new.cycle result latches.old latches.new }
         ensures further { self.old.cycle < self.new.cycle }
         ensures within { self.new.cycle ≤ limit }
     {
         self.skip(limit);
         if self.cycle == limit {
-            None
+            false
         } else {
-            self.act()
+            self.act(latches)
         }
     }
 
@@ -36,7 +52,6 @@ impl Lone {
         ensures from { self.old.cycle ≤ self.new.cycle }
         ensures within { self.new.cycle ≤ limit }
     {
-        self.still();
         self.cycle = self.next_active(limit);
     }
 

@@ -1,6 +1,7 @@
 use Rattle.std.proofs.Common.{ℕ, ◌<◌, length, get_or}
 use Rattle.patmos_core.specs.declared.cpu.Core.{Core as Cpu}
-use Rattle.global_step.specs.PlainRun.{stamp_of, Precedes}
+use Rattle.patmos_core.specs.Position.{stamp_of}
+use Rattle.global_step.specs.PlainRun.{Precedes}
 use Rattle.global_step.proofs.plain.least.Given as goal
 
 abbrev pub invariant-loop-k : goal.invariant-loop-k

@@ -13,15 +13,20 @@ unreachable-requires c =
 
 pub send-requires : goal.send-requires
 send-requires c = record {
-  room = (carried_out (seen c.self.inside) c.args.self.now c.in-Some.cycle c.args.values c.self.view_is c.self.invariant c.requires.next c.in-Some.ensures.next c.in-Some.ensures.near).room;
+  room = (carried_out (seen c.self.inside) c.args.self.now c.in-Some.cycle c.args.values c.self.view_is c.self.invariant.sound c.requires.next c.in-Some.ensures.next c.in-Some.ensures.near).room;
 }
 
 pub invariant_of-self : goal.invariant_of-self
-invariant_of-self c =
-    let parts = injects (seen c.self.inside) c.in-Some.cycle c.target_in-target.result c.args.values c.move_on.new.self c.packet.result c.send.new.self
-    c.target_in-target.ensures.target c.move_on.ensures c.packet.ensures c.send.ensures in
-    subst IsSoundAt (sym parts)
-    (carried_out (seen c.self.inside) c.args.self.now c.in-Some.cycle c.args.values c.self.view_is c.self.invariant c.requires.next c.in-Some.ensures.next c.in-Some.ensures.near).sound
+invariant_of-self c = record {
+  sound =
+      let parts = injects (seen c.self.inside) c.in-Some.cycle c.target_in-target.result c.args.values c.move_on.new.self c.packet.result c.send.new.self
+      c.target_in-target.ensures.target c.move_on.ensures c.packet.ensures c.send.ensures in
+      subst IsSoundAt (sym parts)
+      (carried_out (seen c.self.inside) c.args.self.now c.in-Some.cycle c.args.values c.self.view_is c.self.invariant.sound c.requires.next c.in-Some.ensures.next c.in-Some.ensures.near).sound;
+  next = c.next_send-self-inside.ensures.next;
+  near = c.next_send-self-inside.ensures.near;
+  none = c.next_send-self-inside.ensures.none;
+}
 
 pub returns-clause-state : goal.returns-clause-state
 returns-clause-state c = λ cycle next.
