@@ -21,8 +21,6 @@ mod laws;
 mod marks;
 mod shapes;
 mod sums;
-#[cfg(test)]
-mod tests;
 mod worked;
 
 pub use laws::{each_misses_once, persistent_bounds_are_tighter};

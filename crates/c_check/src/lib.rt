@@ -19,8 +19,6 @@ mod laws;
 mod layouts;
 mod names;
 mod statements;
-#[cfg(test)]
-mod tests;
 mod units;
 mod walk;
 mod weights;

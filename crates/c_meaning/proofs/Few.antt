@@ -1,8 +1,8 @@
 -- A program without a fault fits: its functions have few variables open, and its calls few arguments.
 use Rattle.std.proofs.Common.{◌≡◌, ℕ, ◌+◌, ◌≤◌, ◌<◌, ◌*◌, zero, suc, Bool, true, false, List, [], ◌∷◌, ◌++◌, length, get_or, map, Option, None, Some, refl, sym, subst, length-append, arith}
-use Rattle.std.specs.Prelude.{⊤, IsTrue, not, nat_lt, ◌==◌, ◌&&◌, if◌then◌else◌, is_some, bytes_eq}
+use Rattle.std.specs.Prelude.{⊤, IsTrue, not, nat_lt, ◌==◌, ◌&&◌, is_some, IfSome}
 use Rattle.std.specs.List.{AllByRecursion as Each}
-use Rattle.std.specs.Option.{option_or}
+use Rattle.std.specs.Option.{option_map}
 use Rattle.std.proofs.lemmas.Bool.Decides.{nat_tests}
 use Rattle.std.proofs.lemmas.List.Sums.{sum_by-cons}
 use Rattle.c_tree.specs.declared.checks.CheckFault.TheVariants as fault
@@ -21,7 +21,8 @@ use Rattle.c_tree.specs.Checks.{callee_faults, call_faults, args_faults, right_f
 use Rattle.c_tree.specs.Frame.{stmt_frame, block_frame, arms_frame, otherwise_frame, body_frame, function_frame}
 use Rattle.c_tree.specs.Layout.{is_unsigned}
 use Rattle.c_tree.specs.Least.{where_so}
-use Rattle.c_tree.specs.Names.{Named, found, declared, given}
+use Rattle.c_tree.specs.Names.{Found, Named, last_named, found, declared, given}
+use Rattle.c_tree.proofs.LastNamed.{last_has}
 use Rattle.c_tree.specs.Plain.{PlainExpr, PlainRight, PlainStmt, PlainBlock, PlainArms, PlainOtherwise, PlainItem, plain_stmt, plain_item}
 use Rattle.c_tree.specs.Plain as plain
 use Rattle.c_tree.specs.Sizes.{kind_size, expr_size, bound_size, head_size, stmt_size, block_size, arms_size, list_size, item_size}
@@ -51,13 +52,12 @@ abbrev pub FewIn : List Named → Type 0
 FewIn names = Each (λ n. MeaningFew n.means) names
 
 found_few : (text : List ℕ) (names : List Named) → FewIn names → FoundFew (found text names)
-found_few text [] few = tt
-found_few text (n ∷ names) few = by (bytes_eq n.name text) (found text names) (found_few text names few.1)
+found_few text names few =
+    by (last_named (λ n. n.name) 0 text names) (last_has (λ n. MeaningFew n.means) (λ n. n.name) 0 text names few)
   where
-    by : (same : Bool) (later : Option Meaning) → FoundFew later → FoundFew (option_or later (if same then Some n.means else None))
-    by same (Some m) h = h
-    by true None h = few.0
-    by false None h = tt
+    by : (l : Option (Found Named)) → IfSome l (λ f. MeaningFew f.is.means) → FoundFew (option_map (λ f. f.is.means) l)
+    by None has = tt
+    by (Some f) has = has
 
 declared_few : (names : List Named) (text : List ℕ) (m : Meaning) → FewIn names → MeaningFew m → FewIn (declared names text m)
 declared_few [] text m few one = (one, tt)

@@ -10,7 +10,8 @@ use Rattle.c_meaning.specs.declared.ways.Way.{Way}
 use Rattle.c_meaning.specs.declared.ways.Way.TheVariants as way
 use Rattle.c_meaning.specs.Actions.{PlainTarget, to_level, PlainAssignment, turns, chooses, PlainActions, no_action, action, PlainBranches, no_branch, branch, one, joined}
 use Rattle.c_meaning.specs.Meaning.{Done, goes_on, in_world, with_level, with_variable, with_variable_set, with_element_set, right_given, declare_done, head_condition, head_begun, head_stepped, turns_done, then_done, most_turns, names_after, stmt_done, block_done, arms_done, otherwise_done, body_done, assigned, return_value}
-use Rattle.c_meaning.specs.Resolve.{resolved, resolved_args, variable_target, element_target, assignment_to, maybe_sets, numbered_call, resolved_right, resolved_declaration, resolved_assignment, resolved_condition, resolved_begin, resolved_next, resolved_return, choice, resolved_stmt, resolved_block, resolved_arms, resolved_otherwise, resolved_body, number_of, numbered, calls_by, fresh_at}
+use Rattle.c_tree.specs.Names.{number_of}
+use Rattle.c_meaning.specs.Resolve.{resolved, resolved_args, variable_target, element_target, assignment_to, maybe_sets, numbered_call, resolved_right, resolved_declaration, resolved_assignment, resolved_condition, resolved_begin, resolved_next, resolved_return, choice, resolved_stmt, resolved_block, resolved_arms, resolved_otherwise, resolved_body, numbered, calls_by, fresh_at}
 use Rattle.c_meaning.specs.Resolved.{Serves, worth, holds, args_worth, with_result, step_done, given_done, action_done, actions_done, branches_done}
 use Rattle.c_meaning.specs.Scope.{Stands, level, outside, nothing, slot_region, slot_word}
 use Rattle.c_meaning.specs.Values.{State, Names, named, expr_value}

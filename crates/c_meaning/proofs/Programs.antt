@@ -1,7 +1,6 @@
 -- What resolved programs do: what the programs mean that they stand for.
-use Rattle.std.proofs.Common.{◌≡◌, ◌≢◌, ℕ, zero, suc, ◌+◌, ◌-◌, ◌<◌, ◌≤◌, Bool, true, false, ◌==◌, List, [], ◌∷◌, ◌++◌, length, Option, None, Some, bytes_eq, if◌then◌else◌, slice_index, slice_index_or, refl, ap, ap₂, sym, ◌∙◌, arith, eq-eqb, ne_eqb, append_assoc, append-nil, length-append}
-use Rattle.std.specs.Prelude.{codes}
-use Rattle.std.specs.Option.{option_or}
+use Rattle.std.proofs.Common.{◌≡◌, ◌≢◌, ℕ, zero, suc, ◌-◌, ◌<◌, ◌≤◌, Bool, true, false, ◌==◌, List, [], ◌∷◌, ◌++◌, length, Option, None, Some, bytes_eq, if◌then◌else◌, slice_index, slice_index_or, refl, ap, ap₂, sym, subst, ◌∙◌, arith, eq-eqb, ne_eqb, append_assoc, append-nil, length-append}
+use Rattle.std.specs.Prelude.{codes, IfSome}
 use Rattle.std.proofs.lemmas.List.{get_or_append_left, get_or-append_right}
 use Rattle.c_tree.specs.declared.layout.Slot.{Slot}
 use Rattle.c_tree.specs.declared.statements.Kind.{Kind}
@@ -10,35 +9,21 @@ use Rattle.c_tree.specs.Layout.{layout_of}
 use Rattle.c_tree.specs.Plain.{PlainStmt, PlainItem}
 use Rattle.c_tree.specs.Plain as plain
 use Rattle.c_world.specs.World.{World}
+use Rattle.c_tree.proofs.LastNamed.{number_pushed, number_within}
 use Rattle.c_meaning.specs.Actions.{PlainActions, no_action}
 use Rattle.c_meaning.specs.Meaning.{Done, Given, Calls, calls_with, calls_of, function_given, parameter_variables, way_value, program_given}
-use Rattle.c_meaning.specs.Resolve.{resolved_body, resolved_items, names_in, number_of, number_from, numbered, calls_by}
+use Rattle.c_tree.specs.Names.{number_of}
+use Rattle.c_meaning.specs.Resolve.{resolved_body, resolved_items, names_in, numbered, calls_by}
 use Rattle.c_meaning.specs.Resolved.{Serves, serves, routine_given}
 use Rattle.c_meaning.proofs.Means.{body_means}
 
 -- ---- numbers of functions
 
-pub number_same : (at : ℕ) (text : List ℕ) (fs : List (List ℕ)) (f : List ℕ) → bytes_eq f text ≡ true
-    → number_from at text (fs ++ f ∷ []) ≡ Some (at + length fs)
-number_same at text [] f same = ap (λ b. option_or None (if b then Some at else None)) same ∙ ap Some (omega arith)
-number_same at text (h ∷ fs) f same =
-    ap (λ k. option_or k (if bytes_eq h text then Some at else None)) (number_same (at + 1) text fs f same) ∙ ap Some (omega arith)
+pub number_same : (text : List ℕ) (fs : List (List ℕ)) (f : List ℕ) → bytes_eq f text ≡ true → number_of text (fs ++ f ∷ []) ≡ Some (length fs)
+number_same text fs f same = number_pushed text fs f ∙ ap (λ b. if b then Some (length fs) else number_of text fs) same
 
-pub number_other : (at : ℕ) (text : List ℕ) (fs : List (List ℕ)) (f : List ℕ) → bytes_eq f text ≡ false
-    → number_from at text (fs ++ f ∷ []) ≡ number_from at text fs
-number_other at text [] f other = ap (λ b. option_or None (if b then Some at else None)) other
-number_other at text (h ∷ fs) f other = ap (λ k. option_or k (if bytes_eq h text then Some at else None)) (number_other (at + 1) text fs f other)
-
--- a number stands for one of the functions
-pub number_below : (at : ℕ) (text : List ℕ) (fs : List (List ℕ)) (j : ℕ) → number_from at text fs ≡ Some j → j < at + length fs
-number_below at text [] j is = absurd (cc)
-number_below at text (h ∷ fs) j is = by (number_from (at + 1) text fs) (number_below (at + 1) text fs) (bytes_eq h text) is
-  where
-    by : (k : Option ℕ) → ((i : ℕ) → k ≡ Some i → i < at + 1 + length fs) → (b : Bool) → option_or k (if b then Some at else None) ≡ Some j
-        → j < at + suc (length fs)
-    by None below true e = let here : at ≡ j = cc in omega arith
-    by None below false e = absurd (cc)
-    by (Some i) below b e = let here : i ≡ j = cc in let small = below i refl in omega arith
+pub number_other : (text : List ℕ) (fs : List (List ℕ)) (f : List ℕ) → bytes_eq f text ≡ false → number_of text (fs ++ f ∷ []) ≡ number_of text fs
+number_other text fs f other = number_pushed text fs f ∙ ap (λ b. if b then Some (length fs) else number_of text fs) other
 
 -- ---- functions in order
 
@@ -96,11 +81,11 @@ one_more slots fs rs n kind its_name void_word parameters body count_fs count_rs
         → (if b then function_given slots (calls_by fs (serves rs n)) parameters body args world else calls_by fs (serves rs n) text args world)
         ≡ numbered (serves (rs ++ r ∷ []) (suc n)) (number_of text (fs ++ its_name ∷ [])) args world
     by true text args world is =
-        sym (ap (λ k. numbered (serves (rs ++ r ∷ []) (suc n)) k args world) (number_same 0 text fs its_name is ∙ ap Some (omega (arith, count_fs)))
+        sym (ap (λ k. numbered (serves (rs ++ r ∷ []) (suc n)) k args world) (number_same text fs its_name is ∙ ap Some count_fs)
         ∙ serves_last rs r n args world count_rs ∙ routine_means slots fs (serves rs n) parameters body args world)
     by false text args world is =
-        earlier (number_of text fs) args world (λ j e. let below = number_below 0 text fs j e in omega arith)
-        ∙ sym (ap (λ k. numbered (serves (rs ++ r ∷ []) (suc n)) k args world) (number_other 0 text fs its_name is))
+        earlier (number_of text fs) args world (λ j e. let below = subst (λ k. IfSome k (λ i. i < length fs)) e (number_within text fs) in omega arith)
+        ∙ sym (ap (λ k. numbered (serves (rs ++ r ∷ []) (suc n)) k args world) (number_other text fs its_name is))
 
     at : (text args : List ℕ) (world : World)
         → calls_with slots (calls_by fs (serves rs n)) (plain.function kind its_name void_word parameters body) text args world

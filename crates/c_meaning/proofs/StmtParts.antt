@@ -17,7 +17,8 @@ use Rattle.c_tree.proofs.Plains.{block_of, arms_of, otherwise_of, plain_inner, p
 use Rattle.c_meaning.specs.Actions.{no_action, transfers, turns, breaks, continues, returns, branch, one, joined}
 use Rattle.c_meaning.specs.Meaning.{with_variable, names_after, most_turns}
 use Rattle.c_meaning.specs.Open.{closed}
-use Rattle.c_meaning.specs.Resolve.{resolved, resolved_args, variable_target, element_target, maybe_sets, numbered_call, number_of, resolved_right, resolved_declaration, resolved_condition, resolved_begin, resolved_next, resolved_return, choice, resolved_stmt, resolved_block, resolved_arms, resolved_otherwise, resolved_body}
+use Rattle.c_tree.specs.Names.{number_of}
+use Rattle.c_meaning.specs.Resolve.{resolved, resolved_args, variable_target, element_target, maybe_sets, numbered_call, resolved_right, resolved_declaration, resolved_condition, resolved_begin, resolved_next, resolved_return, choice, resolved_stmt, resolved_block, resolved_arms, resolved_otherwise, resolved_body}
 use Rattle.c_meaning.specs.Scope.{Variable}
 use Rattle.c_meaning.specs.Values.{Names, named}
 

@@ -1,17 +1,13 @@
--- For proofs. Names that are open, and functions before this one, as they are kept,
--- and what a name was found to stand for.
-use Rattle.std.specs.Prelude.{ℕ, List}
+-- For proofs. Variables that are open, as they are kept, and what a name was found to stand for.
+use Rattle.std.specs.Prelude.{Bool}
+use Rattle.c_tree.specs.Names.{Called}
 use Rattle.c_meaning.specs.declared.scopes.Found.{Found}
 use Rattle.c_meaning.specs.declared.scopes.Found.TheVariants as found
-use Rattle.c_meaning.specs.declared.scopes.Known.{Known}
-use Rattle.c_meaning.specs.declared.scopes.Open.{Open}
 use Rattle.c_meaning.specs.Scope.{Variable, Stands, level, outside, nothing}
 
-abbrev pub shown_open : Open → Variable
-shown_open o = record { name = o.name.now; unsigned = o.unsigned }
-
-abbrev pub shown_known : Known → List ℕ
-shown_known k = k.name.now
+-- of a variable it is known whether it is unsigned
+abbrev pub shown_open : Called Bool → Variable
+shown_open o = record { name = o.name; unsigned = o.means }
 
 abbrev pub found_shown : Found → Stands
 found_shown (found.Variable at unsigned) = level at unsigned

@@ -1,11 +1,11 @@
 -- To be believed. Names resolved once: from the plain tree of a program to its actions.
-use Rattle.std.specs.Prelude.{ℕ, ◌+◌, ◌==◌, Bool, true, false, if◌then◌else◌, List, [], ◌∷◌, ◌++◌, length, map, Option, None, Some, bytes_eq}
-use Rattle.std.specs.Option.{option_or}
+use Rattle.std.specs.Prelude.{ℕ, ◌==◌, Bool, true, false, if◌then◌else◌, List, [], ◌∷◌, ◌++◌, length, map, Option, None, Some}
 use Rattle.c_tree.specs.declared.expressions.BinaryOp.{BinaryOp}
 use Rattle.c_tree.specs.declared.expressions.BinaryOp.TheVariants as binary
 use Rattle.c_tree.specs.declared.expressions.UnaryOp.{UnaryOp}
 use Rattle.c_tree.specs.declared.expressions.UnaryOp.TheVariants as unary
 use Rattle.c_tree.specs.declared.layout.Slot.{Slot}
+use Rattle.c_tree.specs.Names.{number_of}
 use Rattle.c_tree.specs.Plain.{PlainExpr, PlainSteps, PlainRight, PlainHead, PlainStmt, PlainBlock, PlainArms, PlainOtherwise, PlainItem}
 use Rattle.c_tree.specs.Plain as plain
 use Rattle.c_world.specs.World.{World}
@@ -131,14 +131,6 @@ maybe_sets (Some a) = one (sets a)
 
 -- ---- calls
 
--- the number of the last function so called, where so many stand before these
-abbrev pub number_from : ℕ → List ℕ → List (List ℕ) → Option ℕ
-number_from at text [] = None
-number_from at text (f ∷ fs) = option_or (number_from (at + 1) text fs) (if bytes_eq f text then Some at else None)
-
-abbrev pub number_of : List ℕ → List (List ℕ) → Option ℕ
-number_of text fs = number_from 0 text fs
-
 -- no function gives 0
 abbrev pub numbered_call : Option ℕ → List PlainSp → Option PlainTarget → PlainActions
 numbered_call None args result = maybe_sets (assignment_to result (constant 0))
@@ -228,6 +220,12 @@ abbrev pub names_in : List PlainItem → List (List ℕ)
 names_in [] = []
 names_in (plain.global of ∷ items) = names_in items
 names_in (plain.function kind its_name void_word parameters body ∷ items) = its_name ∷ names_in items
+
+-- how many parameters each function has
+abbrev pub parameters_in : List PlainItem → List ℕ
+parameters_in [] = []
+parameters_in (plain.global of ∷ items) = parameters_in items
+parameters_in (plain.function kind its_name void_word parameters body ∷ items) = length parameters ∷ parameters_in items
 
 -- the functions in order, where these stand before them
 abbrev pub resolved_items : List Slot → List (List ℕ) → List PlainItem → List PlainActions

@@ -69,7 +69,10 @@ abbrev mutual
   pub branches_done : Serves → PlainBranches → (State → Done) → State → Done
   branches_done g no_branch otherwise s = otherwise s
   branches_done g (branch condition body rest) otherwise s =
-      elim (holds condition s) as (λ _. Done) [ true ↦ actions_done g body s | false ↦ branches_done g rest otherwise s ]
+      elim (holds condition s) as (λ _. Done) [
+        | true ↦ actions_done g body s
+        | false ↦ branches_done g rest otherwise s
+      ]
 
 -- ---- functions in order, of which each calls the earlier ones
 

@@ -1,11 +1,11 @@
 -- To be believed. What names stand for (C99 6.2.1): variables of a function by their
 -- levels, and what is declared outside functions.
-use Rattle.std.specs.Prelude.{ℕ, ◌+◌, Bool, false, if◌then◌else◌, List, [], ◌∷◌, Option, None, Some, bytes_eq}
-use Rattle.std.specs.Option.{option_or}
+use Rattle.std.specs.Prelude.{ℕ, Bool, false, if◌then◌else◌, List, [], ◌∷◌, Option, None, Some, bytes_eq}
 use Rattle.local_store.specs.declared.map.Cell.TheVariants as cell
 use Rattle.c_world.specs.declared.region.Region.{Region}
 use Rattle.c_world.specs.declared.region.Region.TheVariants as region
 use Rattle.c_tree.specs.declared.layout.Slot.{Slot}
+use Rattle.c_tree.specs.Names.{Found, last_named}
 
 -- a variable that is open in a function
 pub record Variable : Type 0 where
@@ -19,18 +19,18 @@ pub data Stands : Type 0 where
   outside : Slot → Stands
   nothing : Stands
 
--- the last variable so called, which hides those before it
-abbrev pub among_levels : ℕ → List ℕ → List Variable → Option Stands
-among_levels at name [] = None
-among_levels at name (v ∷ vs) =
-    option_or (among_levels (at + 1) name vs) (if bytes_eq v.name name then Some (level at v.unsigned) else None)
-
+-- what is declared outside functions: the first slot so called
 abbrev pub among_slots : List ℕ → List Slot → Stands
 among_slots name [] = nothing
 among_slots name (s ∷ slots) = if bytes_eq s.name name then outside s else among_slots name slots
 
+-- the last variable so called hides those before it, and what is declared outside functions
+abbrev pub among_variables : List ℕ → List Variable → Option (Found Variable)
+among_variables name variables = last_named (λ v. v.name) 0 name variables
+
 abbrev pub stands : List Slot → List Variable → List ℕ → Stands
-stands slots variables name = elim (among_levels 0 name variables) [ Some s ↦ s | None ↦ among_slots name slots ]
+stands slots variables name =
+    elim (among_variables name variables) [ Some v ↦ level v.at v.is.unsigned | None ↦ among_slots name slots ]
 
 abbrev pub stands_unsigned : Stands → Bool
 stands_unsigned (level at unsigned) = unsigned

@@ -1,5 +1,5 @@
 -- To be believed. What actions say, without the places of their boxes in memory.
-use Rattle.std.specs.Prelude.{List, [], ◌∷◌, map, option_map}
+use Rattle.std.specs.Prelude.{ℕ, List, [], ◌∷◌, map, option_map}
 use Rattle.sp_tree.specs.Plain.{plain_sp}
 use Rattle.c_meaning.specs.declared.actions.Action.{Action, Set, Call, Send, Choose', Loop', Break, Continue, Return}
 use Rattle.c_meaning.specs.declared.actions.Action.TheBlock.{Row_of-Action, end_of-Action, more_of-Action, Row_of-Branch, end_of-Branch, more_of-Branch}
@@ -48,6 +48,9 @@ actions_of (a ∷ rest) = action (plain_action a) (actions_of rest)
 abbrev pub branches_of : List Branch → PlainBranches
 branches_of [] = no_branch
 branches_of (b ∷ rest) = branch (plain_sp b.condition) (actions_of b.body) (branches_of rest)
+
+abbrev pub counts_of : List Routine → List ℕ
+counts_of routines = map (λ r. r.parameters) routines
 
 abbrev pub bodies_of : List Routine → List PlainActions
 bodies_of routines = map (λ r. actions_of r.body) routines

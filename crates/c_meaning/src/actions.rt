@@ -100,8 +100,9 @@ pub struct Branch {
     pub body: List<Action>,
 }
 
-/// A function.
+/// A function: how many parameters it has, and its actions.
 #[derive(Debug, Drop)]
 pub struct Routine {
+    pub parameters: usize,
     pub body: List<Action>,
 }

@@ -4,7 +4,8 @@ ghost use Rattle.c_tree.specs.Layout.{layout_of};
 ghost use Rattle.c_tree.specs.Plain.{PlainItem, PlainStmt};
 ghost use Rattle.c_world.specs.World.{World};
 ghost use Rattle.c_meaning.specs.Meaning.{stmt_done, program_given};
-ghost use Rattle.c_meaning.specs.Resolve.{resolved_stmt, resolved_items, names_in, number_of, numbered, calls_by};
+ghost use Rattle.c_tree.specs.Names.{number_of};
+ghost use Rattle.c_meaning.specs.Resolve.{resolved_stmt, resolved_items, names_in, numbered, calls_by};
 ghost use Rattle.c_meaning.specs.Resolved.{Serves, actions_done, serves};
 ghost use Rattle.c_meaning.specs.Values.{Names, State};
 

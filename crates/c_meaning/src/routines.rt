@@ -6,8 +6,9 @@ ghost use Rattle.c_tree.specs.declared.units.Item.TheVariants as item;
 ghost use Rattle.c_meaning.specs.Fits.{ItemFits};
 ghost use Rattle.c_meaning.specs.Meaning.{parameter_variables};
 ghost use Rattle.c_meaning.specs.Open.{names_of, functions_of};
-ghost use Rattle.c_meaning.specs.Resolve.{resolved_body, resolved_items, names_in, number_of};
-ghost use Rattle.c_meaning.specs.Shown.{actions_of, bodies_of};
+ghost use Rattle.c_tree.specs.Names.{number_of};
+ghost use Rattle.c_meaning.specs.Resolve.{resolved_body, resolved_items, names_in, parameters_in};
+ghost use Rattle.c_meaning.specs.Shown.{actions_of, counts_of, bodies_of};
 
 use crate::actions::Routine;
 use crate::scopes::Scope;
@@ -46,17 +47,20 @@ fn routine<'a>(
 ) -> Result<Routine, OutOfMemory>
     requires none { (names_of scope.old).variables ≡ [] }
     requires fits { ItemFits (names_of scope.old).slots (plain_item (item.Function function.now)) }
+    ensures parameters { IfOk result (λ r. r.parameters ≡ length function.now.parameters) }
     ensures body { IfOk result (λ r. actions_of r.body ≡ resolved_body (functions_of scope.old)
         (record { slots = (names_of scope.old).slots; variables = parameter_variables function.now.parameters })
         (map plain_stmt function.now.body)) }
     ensures names { OnOk result (names_of scope.new ≡ names_of scope.old) }
     ensures functions { OnOk result (functions_of scope.new ≡ functions_of scope.old) }
 {
-    parameters(scope, function.parameters.as_slice())?;
+    let given = function.parameters.as_slice();
+    parameters(scope, given)?;
     let mut actions = Vec::new(alloc);
     statements(alloc, scope, &mut actions, function.body.as_slice())?;
     scope.close(0);
     Ok(Routine {
+        parameters: given.len(),
         body: List::of(actions),
     })
 }
@@ -74,6 +78,8 @@ fn add_item<'a>(
     ensures routines { OnOk result (bodies_of routines.new.items
         ≡ bodies_of routines.old.items
         ++ resolved_items (names_of scope.old).slots (functions_of scope.old) (plain_item item.now ∷ [])) }
+    ensures counts { OnOk result (counts_of routines.new.items
+        ≡ counts_of routines.old.items ++ parameters_in (plain_item item.now ∷ [])) }
     ensures names { OnOk result (names_of scope.new ≡ names_of scope.old) }
     ensures functions { OnOk result (functions_of scope.new
         ≡ functions_of scope.old ++ names_in (plain_item item.now ∷ [])) }
@@ -93,6 +99,7 @@ fn add_item<'a>(
 pub fn resolve(alloc: Global, program: &Checked) -> Result<Resolved, OutOfMemory>
     ensures routines { IfOk result (λ r. bodies_of r.routines
         ≡ resolved_items program.now.layout [] (plain program.now.unit)) }
+    ensures parameters { IfOk result (λ r. counts_of r.routines ≡ parameters_in (plain program.now.unit)) }
     ensures main { IfOk result (λ r. r.main ≡ number_of (codes "main") (names_in (plain program.now.unit))) }
 {
     let mut scope = Scope::new(alloc, program.layout.as_slice())?;

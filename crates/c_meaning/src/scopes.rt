@@ -1,29 +1,17 @@
 //! The names that are open where names are resolved.
 ghost use Rattle.std.specs.Prelude.{◌≡◌, ◌<◌, ◌≤◌, ◌+◌, ◌^◌, [], ◌∷◌, ◌++◌, length, map, option_map, IfOk, IfSome, OnOk};
 ghost use Rattle.c_tree.specs.declared.limits.TheConstants.{MOST_LEVELS};
-ghost use Rattle.c_meaning.specs.Entries.{shown_open, shown_known, found_shown};
+ghost use Rattle.c_tree.specs.Names.{number_of};
+ghost use Rattle.c_names.specs.Open.{open_names};
+ghost use Rattle.c_meaning.specs.Entries.{found_shown};
 ghost use Rattle.c_meaning.specs.Fits.{SlotsFit, StandsFits};
-ghost use Rattle.c_meaning.specs.Resolve.{number_of};
-ghost use Rattle.c_meaning.specs.Scope.{level, among_levels};
 ghost use Rattle.c_meaning.specs.Values.{named};
 
 use crate::globals::Globals;
+use c_names::Names;
 use c_tree::Slot;
 use std::alloc::Global;
 use tc_word::OutOfMemory;
-
-/// A variable of the function, and whether it is unsigned.
-#[derive(Clone, Copy, Debug)]
-struct Open<'a> {
-    name: &'a str,
-    unsigned: bool,
-}
-
-/// An earlier function.
-#[derive(Clone, Copy, Debug)]
-struct Known<'a> {
-    name: &'a str,
-}
 
 /// What a name stands for.
 #[derive(Clone, Copy, Debug)]
@@ -40,10 +28,10 @@ pub enum Found<'a> {
 #[derive(Debug, Drop)]
 pub struct Scope<'a> {
     globals: Globals<'a>,
-    functions: Vec<Known<'a>>,
-    open_names: Vec<Open<'a>>,
-    ghost numbered: { length functions.items < 2 ^ 32 },
-    ghost few: { length open_names.items ≤ MOST_LEVELS },
+    functions: Names<'a, ()>,
+    variables: Names<'a, bool>,
+    ghost numbered: { length (open_names functions) < 2 ^ 32 },
+    ghost few: { length (open_names variables) ≤ MOST_LEVELS },
 }
 
 impl<'a> Scope<'a> {
@@ -58,8 +46,8 @@ impl<'a> Scope<'a> {
         let globals = Globals::new(alloc, slots)?;
         Ok(Scope {
             globals,
-            functions: Vec::new(alloc),
-            open_names: Vec::new(alloc),
+            functions: Names::new(alloc),
+            variables: Names::new(alloc),
         })
     }
 
@@ -67,7 +55,7 @@ impl<'a> Scope<'a> {
     pub fn len(&self) -> usize
         ensures { result ≡ length (names_of self.now).variables }
     {
-        self.open_names.len()
+        self.variables.len()
     }
 
     /// What a name stands for.
@@ -75,7 +63,7 @@ impl<'a> Scope<'a> {
         ensures shown { found_shown result ≡ named (names_of self.now) name.now }
         ensures fits { StandsFits (found_shown result) }
     {
-        match last_open(&self.open_names, name) {
+        match self.variables.find(name) {
             Some((at, unsigned)) => Found::Variable { at, unsigned },
             None => match self.globals.find(name) {
                 Some(slot) => Found::Outside { slot },
@@ -89,7 +77,10 @@ impl<'a> Scope<'a> {
         ensures number { result ≡ number_of name.now (functions_of self.now) }
         ensures small { IfSome result (λ n. n < 2 ^ 32) }
     {
-        last_known(&self.functions, name)
+        match self.functions.find(name) {
+            None => None,
+            Some((number, ())) => Some(number),
+        }
     }
 
     /// Opens a variable.
@@ -101,8 +92,7 @@ impl<'a> Scope<'a> {
         }) }
         ensures functions { OnOk result (functions_of self.new ≡ functions_of self.old) }
     {
-        self.open_names.push(Open { name, unsigned })?;
-        Ok(())
+        self.variables.open(name, unsigned)
     }
 
     /// Closes all variables but the first so many.
@@ -111,7 +101,7 @@ impl<'a> Scope<'a> {
         ensures names { names_of self.new ≡ closed outer (names_of self.old) }
         ensures functions { functions_of self.new ≡ functions_of self.old }
     {
-        self.open_names.truncate(outer);
+        self.variables.close(outer);
     }
 
     /// One function more.
@@ -120,35 +110,6 @@ impl<'a> Scope<'a> {
         ensures names { OnOk result (names_of self.new ≡ names_of self.old) }
         ensures functions { OnOk result (functions_of self.new ≡ functions_of self.old ++ name.now ∷ []) }
     {
-        self.functions.push(Known { name })?;
-        Ok(())
+        self.functions.open(name, ())
     }
-}
-
-// the last variable so called: its level, and whether it is unsigned
-fn last_open(open_names: &[Open<'_>], name: &str) -> Option<(usize, bool)>
-    ensures last { option_map (λ x. level x.0 x.1) result ≡ among_levels 0 name.now (map shown_open open_names.now) }
-    ensures within { IfSome result (λ x. x.0 < length open_names.now) }
-{
-    let mut last = None;
-    for (at, variable) in open_names.iter().enumerate() {
-        if variable.name == name {
-            last = Some((at, variable.unsigned));
-        }
-    }
-    last
-}
-
-// the number of the last function so called
-fn last_known(functions: &[Known<'_>], name: &str) -> Option<usize>
-    ensures last { result ≡ number_of name.now (map shown_known functions.now) }
-    ensures within { IfSome result (λ n. n < length functions.now) }
-{
-    let mut last = None;
-    for (at, function) in functions.iter().enumerate() {
-        if function.name == name {
-            last = Some(at);
-        }
-    }
-    last
 }

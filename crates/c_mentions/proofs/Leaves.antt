@@ -1,9 +1,10 @@
 -- What one name adds to what is noted, and what it hides after its declaration.
-use Rattle.std.proofs.Common.{◌≡◌, ℕ, ◌+◌, Bool, true, false, not, ◌&&◌, ◌||◌, List, [], ◌∷◌, ◌++◌, length, Option, None, Some, refl, ap, ap₂, sym, subst, ◌∙◌, arith}
+use Rattle.std.proofs.Common.{◌≡◌, ℕ, ◌+◌, Bool, true, false, not, ◌&&◌, ◌||◌, List, [], ◌∷◌, ◌++◌, length, Option, None, Some, refl, ap, ap₂, sym, subst, ◌∙◌}
 use Rattle.std.specs.Prelude.{if◌then◌else◌, bytes_eq, codes}
-use Rattle.std.specs.Option.{option_or}
 use Rattle.std.proofs.lemmas.Slice.Eq.{bytes_eq-Decides}
-use Rattle.c_meaning.specs.Scope.{Variable, Stands, level, among_levels, among_slots}
+use Rattle.c_tree.specs.Names.{Found}
+use Rattle.c_tree.proofs.LastNamed.{last_pushed}
+use Rattle.c_meaning.specs.Scope.{Variable, Stands, level, among_variables, among_slots}
 use Rattle.c_meaning.specs.Values.{Names, named}
 use Rattle.c_mentions.specs.declared.arrays.Arrays.{Arrays}
 use Rattle.c_mentions.specs.declared.noted.Flags.{Flags}
@@ -44,18 +45,6 @@ set_noted before after hidden means text comm shared is = record {
 
 -- ---- one variable more
 
-later_else : {A : Type 0} → (b : Bool) (d e : A) (l m : Option A) → d ≡ e → option_or (if b then Some d else l) m ≡ (if b then Some e else option_or l m)
-later_else true d e l m same = ap Some same
-later_else false d e l m same = refl
-
-last_level : (at : ℕ) (text : List ℕ) (vs : List Variable) (v : Variable)
-    → among_levels at text (vs ++ v ∷ []) ≡ (if bytes_eq v.name text then Some (level (at + length vs) v.unsigned) else among_levels at text vs)
-last_level at text [] v = ap (λ (n : ℕ). if bytes_eq v.name text then Some (level n v.unsigned) else None) (omega arith)
-last_level at text (w ∷ vs) v =
-    ap (λ l. option_or l (if bytes_eq w.name text then Some (level at w.unsigned) else None)) (last_level (at + 1) text vs v)
-    ∙ later_else (bytes_eq v.name text) (level (at + 1 + length vs) v.unsigned) (level (at + length (w ∷ vs)) v.unsigned) (among_levels (at + 1) text vs)
-    (if bytes_eq w.name text then Some (level at w.unsigned) else None) (ap (λ n. level n v.unsigned) (omega arith))
-
 -- the name of what hides is not the array's, or it is
 pub hidden_more : (b c d hidden was now : Bool) → (b ≡ true → c ≡ d) → (b ≡ false → c ≡ true → d ≡ false) → was ≡ (c && not hidden)
     → now ≡ (if b then false else was) → now ≡ (c && not (hidden || d))
@@ -84,16 +73,18 @@ hides_one a hidden names v hides = λ text.
     hidden_more (bytes_eq v.name text) (bytes_eq text (name_of a)) (bytes_eq v.name (name_of a)) hidden (stands_for a (named names text))
     (stands_for a (named (and_variable names v) text)) (same_name v.name text (name_of a)) (other_name v.name text (name_of a)) (hides text) (here text)
   where
-    either : (b : Bool) (at : ℕ) (l : Option Stands) (text : List ℕ)
-        → stands_for a (elim (if b then Some (level at v.unsigned) else l) as (λ _. Stands) [ Some s ↦ s | None ↦ among_slots text names.slots ])
-        ≡ (if b then false else stands_for a (elim l as (λ _. Stands) [ Some s ↦ s | None ↦ among_slots text names.slots ]))
-    either true at l text = refl
-    either false at l text = refl
+    or_outside : List ℕ → Option (Found Variable) → Stands
+    or_outside text l = elim l as (λ _. Stands) [ Some f ↦ level f.at f.is.unsigned | None ↦ among_slots text names.slots ]
+
+    either : (b : Bool) (f : Found Variable) (l : Option (Found Variable)) (text : List ℕ)
+        → stands_for a (or_outside text (if b then Some f else l)) ≡ (if b then false else stands_for a (or_outside text l))
+    either true f l text = refl
+    either false f l text = refl
 
     here : (text : List ℕ) → stands_for a (named (and_variable names v) text) ≡ (if bytes_eq v.name text then false else stands_for a (named names text))
     here text =
-        ap (λ l. stands_for a (elim l as (λ _. Stands) [ Some s ↦ s | None ↦ among_slots text names.slots ])) (last_level 0 text names.variables v)
-        ∙ either (bytes_eq v.name text) (0 + length names.variables) (among_levels 0 text names.variables) text
+        ap (λ l. stands_for a (or_outside text l)) (last_pushed (λ x. x.name) 0 text names.variables v)
+        ∙ either (bytes_eq v.name text) (record { at = 0 + length names.variables; is = v }) (among_variables text names.variables) text
 
 pub hides_variable : (hidden behind : Arrays) (names : Names) (v : Variable) → behind.comm ≡ (hidden.comm || bytes_eq v.name (codes "comm"))
     → behind.shared ≡ (hidden.shared || bytes_eq v.name (codes "shared")) → Hides hidden names → Hides behind (and_variable names v)

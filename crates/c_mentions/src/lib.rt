@@ -20,8 +20,6 @@ mod noted;
 mod programs;
 mod statements;
 mod tasks;
-#[cfg(test)]
-mod tests;
 mod told;
 mod worked;
 

@@ -3,7 +3,6 @@ use Rattle.std.proofs.Common.{◌≡◌, ◌≢◌, ℕ, ◌≤◌, false, List,
 use Rattle.c_tree.specs.declared.tokens.Token.{Token}
 use Rattle.c_tree.specs.declared.tokens.Token.TheVariants as token
 use Rattle.c_tree.specs.declared.tokens.Sign.TheVariants as sign
-use Rattle.c_tree.specs.declared.statements.Kind.{Kind}
 use Rattle.c_tree.specs.declared.units.Const.{Const}
 use Rattle.c_parse.specs.Expected.{Expected, Name, Outside, Variable, Items, MoreParameters, begins, may_open, room_at, may_end, drive, drive_to}
 use Rattle.c_parse.specs.Expected as expected
@@ -33,10 +32,10 @@ parameters_push (a ∷ b ∷ ps) p some =
     ap (λ ts. kind_tokens a.kind ++ token.Word a.name ∷ one sign.Comma ∷ ts) (parameters_push (b ∷ ps) p (λ h. cc))
     ∙ sym (append_assoc (kind_tokens a.kind) (token.Word a.name ∷ one sign.Comma ∷ parameters_tokens (b ∷ ps)) _)
 
-pub parameters_grown : (ts rest t1 t2 after : List Token) (ps more : List Parameter) (p : Parameter) (k : Kind) → p.kind ≡ k → ts ≡ parameters_tokens ps ++ rest → ps ≢ [] → more ≡ ps ++ p ∷ []
-    → rest ≡ one sign.Comma ∷ t1 → t1 ≡ kind_tokens k ++ t2 → t2 ≡ token.Word p.name ∷ after → ts ≡ parameters_tokens more ++ after
-parameters_grown ts rest t1 t2 after ps more p k of_kind so_far some pushed comma kind next =
-    so_far ∙ ap (λ l. parameters_tokens ps ++ l) (comma ∙ ap (λ l. one sign.Comma ∷ l) (kind ∙ ap (λ j. kind_tokens j ++ t2) (sym of_kind) ∙ ap (λ l. kind_tokens p.kind ++ l) next))
+pub parameters_grown : (ts rest behind after : List Token) (ps more : List Parameter) (p : Parameter) → ts ≡ parameters_tokens ps ++ rest → ps ≢ [] → more ≡ ps ++ p ∷ []
+    → rest ≡ one sign.Comma ∷ behind → behind ≡ kind_tokens p.kind ++ token.Word p.name ∷ after → ts ≡ parameters_tokens more ++ after
+parameters_grown ts rest behind after ps more p so_far some pushed comma next =
+    so_far ∙ ap (λ l. parameters_tokens ps ++ l) (comma ∙ ap (λ l. one sign.Comma ∷ l) next)
     ∙ sym (ap (λ l. parameters_tokens l ++ after) pushed ∙ ap (λ l. l ++ after) (parameters_push ps p some) ∙ simp append_assoc)
 
 items_push : (items : List Item) (i : Item) → items_tokens (items ++ i ∷ []) ≡ items_tokens items ++ item_tokens i
@@ -55,11 +54,9 @@ initials_some [] h = absurd (omega (arith, h))
 initials_some (c ∷ cs) h = refl
 
 -- one parameter more is read
-pub parameter_passed : (n : ℕ) (ts rest t1 t2 after : List Token) (xs ys : List Expected) → drive n ys ts ≡ drive n (MoreParameters ∷ xs) rest → rest ≡ one sign.Comma ∷ t1
-    → drive n (expected.Kind ∷ Name ∷ MoreParameters ∷ xs) t1 ≡ drive n (Name ∷ MoreParameters ∷ xs) t2 → drive n (Name ∷ MoreParameters ∷ xs) t2 ≡ drive n (MoreParameters ∷ xs) after
-    → drive n ys ts ≡ drive n (MoreParameters ∷ xs) after
-parameter_passed n ts rest t1 t2 after xs ys so_far comma kind name =
-    so_far ∙ ap (drive n (MoreParameters ∷ xs)) comma ∙ parameters_next 64 n t1 xs ∙ kind ∙ name
+pub parameter_passed : (n : ℕ) (ts rest behind after : List Token) (xs ys : List Expected) → drive n ys ts ≡ drive n (MoreParameters ∷ xs) rest → rest ≡ one sign.Comma ∷ behind
+    → drive n (expected.Kind ∷ Name ∷ MoreParameters ∷ xs) behind ≡ drive n (MoreParameters ∷ xs) after → drive n ys ts ≡ drive n (MoreParameters ∷ xs) after
+parameter_passed n ts rest behind after xs ys so_far comma further = so_far ∙ ap (drive n (MoreParameters ∷ xs)) comma ∙ parameters_next 64 n behind xs ∙ further
 
 -- a name that no parenthesis follows is a variable's
 pub name_outside : (ts behind : List Token) (w : List ℕ) (xs : List Expected) → ts ≡ token.Word w ∷ behind → begins (may_open (room_at 0) sign.OpenParenthesis) behind ≡ false

@@ -1,5 +1,5 @@
 -- Blocks, loops and `if`s with the same tokens are one: no more than the places of their boxes may differ.
-use Rattle.std.proofs.Common.{◌≡◌, ℕ, true, false, List, [], ◌∷◌, ◌++◌, Option, None, Some, refl, ap, sym, subst, ◌∙◌, append_assoc, arith}
+use Rattle.std.proofs.Common.{◌≡◌, ℕ, true, false, List, [], ◌∷◌, ◌++◌, Option, None, Some, refl, ap, sym, subst, ◌∙◌, append_assoc}
 use Rattle.c_tree.specs.declared.tokens.Token.{Token}
 use Rattle.c_tree.specs.declared.tokens.Token.TheVariants as token
 use Rattle.c_tree.specs.declared.tokens.Keyword.TheVariants as keyword
@@ -15,7 +15,7 @@ use Rattle.c_tree.specs.Fits.{ExprFits, HeadFits, StmtFits, BlockFits, ArmsFit, 
 use Rattle.c_parse.specs.Expected.{begins, is_sign, is_keyword}
 use Rattle.c_parse.proofs.Stated.{NoElse, stmt_begins, stmt_no_else, closing_no_else}
 use Rattle.c_parse.proofs.OneExpression.{behind_parenthesis}
-use Rattle.c_parse.proofs.OneStatement.{OneStmt, whole_one, behind_semicolon, sort_of, one_sort, declare_one, set_one, set_element_one, call_one, send_one, break_one, continue_one, return_one}
+use Rattle.c_parse.proofs.OneStatement.{differ, OneStmt, whole_one, behind_semicolon, sort_of, one_sort, declare_one, set_one, set_element_one, call_one, send_one, break_one, continue_one, return_one}
 use Rattle.c_tree.specs.Plain.{plain_expr, plain_head, plain_stmt, plain_block, plain_arms, plain_otherwise}
 
 -- ---- what is told by its tokens
@@ -105,7 +105,7 @@ if_one l arms o f one_arms one_o (If' l' arms' o') g r q n m eq =
     let h : (plain_arms arms ≡ plain_arms arms') × (plain_otherwise o ≡ plain_otherwise o') × (r ≡ q) =
     one_arms _ arms' g.0 g.1 o o' one_o g.2 r q n m (sym (append_assoc (arms_tokens arms) (otherwise_tokens o) r) ∙ eq ∙ append_assoc (arms_tokens arms') (otherwise_tokens o') q) in
     (cc, h.2)
-if_one l arms o f one_arms one_o d g r q n m eq = let wrong : 5 ≡ sort_of d = one_sort (If' l arms o) d f g r q eq in absurd (omega arith)
+if_one l arms o f one_arms one_o d g r q n m eq = let wrong : 5 ≡ sort_of d = one_sort (If' l arms o) d f g r q eq in absurd (differ 5 (sort_of d) wrong refl)
 
 -- ---- loops and blocks
 
@@ -158,14 +158,14 @@ loop_one bound a l row f one_row (Loop' bound' b l' row') g r q n m eq =
   where
     flat : (xs ys zs r : List Token) → (xs ++ (ys ++ one sign.OpenBrace ∷ (zs ++ one sign.CloseBrace ∷ []))) ++ r ≡ xs ++ (ys ++ one sign.OpenBrace ∷ (zs ++ one sign.CloseBrace ∷ r))
     flat xs ys zs r = simp append_assoc
-loop_one bound a l row f one_row d g r q n m eq = let wrong : 6 ≡ sort_of d = one_sort (Loop' bound a l row) d f g r q eq in absurd (omega arith)
+loop_one bound a l row f one_row d g r q n m eq = let wrong : 6 ≡ sort_of d = one_sort (Loop' bound a l row) d f g r q eq in absurd (differ 6 (sort_of d) wrong refl)
 
 inner_one : (l : _) (row : _) → StmtFits (Inner' l row) → OneBlock row → OneStmt (Inner' l row)
 unfolding stmt_tokens StmtFits plain_stmt
 inner_one l row f one_row (Inner' l' row') g r q n m eq =
     let h : (plain_block row ≡ plain_block row') × (r ≡ q) = one_row _ row' g r q (sym (append_assoc (block_tokens row) (one sign.CloseBrace ∷ []) r) ∙ (cc) ∙ append_assoc (block_tokens row') (one sign.CloseBrace ∷ []) q) in
     (cc, h.1)
-inner_one l row f one_row d g r q n m eq = let wrong : 10 ≡ sort_of d = one_sort (Inner' l row) d f g r q eq in absurd (omega arith)
+inner_one l row f one_row d g r q n m eq = let wrong : 10 ≡ sort_of d = one_sort (Inner' l row) d f g r q eq in absurd (differ 10 (sort_of d) wrong refl)
 
 -- a statement does not begin with a brace that closes
 pub stmt_opens : (s : Stmt) → StmtFits s → (r q : List Token) → one sign.CloseBrace ∷ r ≡ stmt_tokens s ++ q → ⊥

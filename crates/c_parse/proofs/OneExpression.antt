@@ -130,6 +130,19 @@ abbrev OneFrom : ℕ → Expr → Type 0
 OneFrom m e = (d : Expr) → ExprFits d → m ≤ rank d → (least : ℕ) → least ≤ rank e → least ≤ rank d → (r q : List Token) → expr_tokens e ++ r ≡ expr_tokens d ++ q → Behind least r → Behind least q
     → (plain_expr e ≡ plain_expr d) × (r ≡ q)
 
+-- a chain binds less than an operand, and no signs are no operand's signs
+no_chain : (level : ℕ) → 11 ≤ level → level ≤ 10 → ⊥
+no_chain level above within = omega (arith, above, within)
+
+over_chain : (level least : ℕ) → level ≤ 10 → 11 ≤ least → level + 1 ≤ least
+over_chain level least within above = omega (arith, within, above)
+
+up : (m : ℕ) → m ≤ 11 → m ≤ 12
+up m few = omega (arith, few)
+
+no_signs : 1 ≤ 0 → ⊥
+no_signs some = omega (arith, some)
+
 -- A chain of a lower level has more tokens than its first operand, so it is no other.
 from_all : (e : Expr) (m : ℕ) → m ≤ 11 → m ≤ rank e → OneFrom m e → One e
 unfolding expr_tokens ExprFits
@@ -142,10 +155,10 @@ from_all e m few above base (Chain' level p first l row) f least a b r q eq x y 
     by_level true h inner = let less : level < m = grind (arith, common_steps) in absurd (apart level least row f.2 f.5 b r q (inner less).1 x)
     by_level false h inner = let most : m ≤ level = grind (arith, common_steps) in base (Chain' level p first l row) f most least a b r q eq x y
 from_all e m few above base (Unary' ops p of) f least a b r q eq x y = base (Unary' ops p of) f few least a b r q eq x y
-from_all e m few above base (Number v u) f least a b r q eq x y = base (Number v u) f (omega (arith, few)) least a b r q eq x y
-from_all e m few above base (Name w) f least a b r q eq x y = base (Name w) f (omega (arith, few)) least a b r q eq x y
-from_all e m few above base (Element' w p index) f least a b r q eq x y = base (Element' w p index) f (omega (arith, few)) least a b r q eq x y
-from_all e m few above base (Paren' p inner) f least a b r q eq x y = base (Paren' p inner) f (omega (arith, few)) least a b r q eq x y
+from_all e m few above base (Number v u) f least a b r q eq x y = base (Number v u) f (up m few) least a b r q eq x y
+from_all e m few above base (Name w) f least a b r q eq x y = base (Name w) f (up m few) least a b r q eq x y
+from_all e m few above base (Element' w p index) f least a b r q eq x y = base (Element' w p index) f (up m few) least a b r q eq x y
+from_all e m few above base (Paren' p inner) f least a b r q eq x y = base (Paren' p inner) f (up m few) least a b r q eq x y
 
 -- every fitting expression has a rank
 pub some_rank : (e : Expr) → ExprFits e → 1 ≤ rank e
@@ -196,11 +209,11 @@ chain_one level p first l row f one_first one_row = from_all (Chain' level p fir
             (sym (append_assoc (expr_tokens first) (steps_tokens row) r) ∙ eq ∙ append_assoc (expr_tokens first') (steps_tokens row') q) (behind r) (steps_behind level row' g.2 fits q) in
             let j : (plain_steps row ≡ plain_steps row') × (r ≡ q) = one_row _ row' fits least a r q i.1 x y in
             (cc, j.1)
-    by_rank (Unary' ops p' of) g above least a b r q eq x y = absurd (higher (Unary' ops p' of) g (omega (arith, f.1)) least a r q eq y)
-    by_rank (Number v u) g above least a b r q eq x y = absurd (higher (Number v u) g (omega (arith, f.1)) least a r q eq y)
-    by_rank (Name w) g above least a b r q eq x y = absurd (higher (Name w) g (omega (arith, f.1)) least a r q eq y)
-    by_rank (Element' w p' index) g above least a b r q eq x y = absurd (higher (Element' w p' index) g (omega (arith, f.1)) least a r q eq y)
-    by_rank (Paren' p' inner) g above least a b r q eq x y = absurd (higher (Paren' p' inner) g (omega (arith, f.1)) least a r q eq y)
+    by_rank (Unary' ops p' of) g above least a b r q eq x y = absurd (higher (Unary' ops p' of) g (over_chain level _ f.1 (lit≤ tt)) least a r q eq y)
+    by_rank (Number v u) g above least a b r q eq x y = absurd (higher (Number v u) g (over_chain level _ f.1 (lit≤ tt)) least a r q eq y)
+    by_rank (Name w) g above least a b r q eq x y = absurd (higher (Name w) g (over_chain level _ f.1 (lit≤ tt)) least a r q eq y)
+    by_rank (Element' w p' index) g above least a b r q eq x y = absurd (higher (Element' w p' index) g (over_chain level _ f.1 (lit≤ tt)) least a r q eq y)
+    by_rank (Paren' p' inner) g above least a b r q eq x y = absurd (higher (Paren' p' inner) g (over_chain level _ f.1 (lit≤ tt)) least a r q eq y)
 
 no_steps_one : {n : _} (level level' : ℕ) (row : Row_of-Step n) → StepsFit level' row → level ≤ level' → (r q : List Token) → r ≡ steps_tokens row ++ q → Behind level r → (no_step ≡ plain_steps row) × (r ≡ q)
 unfolding steps_tokens StepsFit plain_steps
@@ -211,21 +224,21 @@ no_steps_one level level' (more_of-Step op operand row) f within r q e b = absur
 
 number_one : (v : ℕ) (u : Bool) → One (Number v u)
 unfolding expr_tokens ExprFits plain_expr
-number_one v u = from_all (Number v u) 11 (omega arith) (lit≤ tt) base
+number_one v u = from_all (Number v u) 11 (lit≤ tt) (lit≤ tt) base
   where
     base : OneFrom 11 (Number v u)
-    base (Chain' level p first l row) f above least a b r q eq x y = absurd (omega (arith, above, f.1))
-    base (Unary' [] p of) f above least a b r q eq x y = absurd (omega (arith, f.0))
+    base (Chain' level p first l row) f above least a b r q eq x y = absurd (no_chain level above f.1)
+    base (Unary' [] p of) f above least a b r q eq x y = absurd (no_signs f.0)
     base (Number v' u') f above least a b r q eq x y = (cc, cc)
     base d f above least a b r q eq x y = absurd (cc)
 
 name_one : (w : List ℕ) → One (Name w)
 unfolding expr_tokens ExprFits plain_expr
-name_one w = from_all (Name w) 11 (omega arith) (lit≤ tt) base
+name_one w = from_all (Name w) 11 (lit≤ tt) (lit≤ tt) base
   where
     base : OneFrom 11 (Name w)
-    base (Chain' level p first l row) f above least a b r q eq x y = absurd (omega (arith, above, f.1))
-    base (Unary' [] p of) f above least a b r q eq x y = absurd (omega (arith, f.0))
+    base (Chain' level p first l row) f above least a b r q eq x y = absurd (no_chain level above f.1)
+    base (Unary' [] p of) f above least a b r q eq x y = absurd (no_signs f.0)
     base (Name v) f above least a b r q eq x y = (cc, cc)
     base (Element' v p index) f above least a b r q eq x y = absurd (no_bracket r ((expr_tokens index ++ one sign.CloseBracket ∷ []) ++ q) (cc) x.no_index)
     base d f above least a b r q eq x y = absurd (cc)
@@ -241,11 +254,11 @@ closed e d one_e f g s b r q eq =
 
 element_one : (w : List ℕ) (p : _) (index : Expr) → ExprFits index → One index → One (Element' w p index)
 unfolding expr_tokens ExprFits plain_expr
-element_one w p index fits one_index = from_all (Element' w p index) 11 (omega arith) (lit≤ tt) base
+element_one w p index fits one_index = from_all (Element' w p index) 11 (lit≤ tt) (lit≤ tt) base
   where
     base : OneFrom 11 (Element' w p index)
-    base (Chain' level p' first l row) f above least a b r q eq x y = absurd (omega (arith, above, f.1))
-    base (Unary' [] p' of) f above least a b r q eq x y = absurd (omega (arith, f.0))
+    base (Chain' level p' first l row) f above least a b r q eq x y = absurd (no_chain level above f.1)
+    base (Unary' [] p' of) f above least a b r q eq x y = absurd (no_signs f.0)
     base (Name v) f above least a b r q eq x y = absurd (no_bracket q ((expr_tokens index ++ one sign.CloseBracket ∷ []) ++ r) (cc) y.no_index)
     base (Element' v p' index') f above least a b r q eq x y =
         let h : (plain_expr index ≡ plain_expr index') × (r ≡ q) = closed index index' one_index fits f sign.CloseBracket behind_bracket r q (cc) in (cc, h.1)
@@ -253,11 +266,11 @@ element_one w p index fits one_index = from_all (Element' w p index) 11 (omega a
 
 paren_one : (p : _) (inner : Expr) → ExprFits inner → One inner → One (Paren' p inner)
 unfolding expr_tokens ExprFits plain_expr
-paren_one p inner fits one_inner = from_all (Paren' p inner) 11 (omega arith) (lit≤ tt) base
+paren_one p inner fits one_inner = from_all (Paren' p inner) 11 (lit≤ tt) (lit≤ tt) base
   where
     base : OneFrom 11 (Paren' p inner)
-    base (Chain' level p' first l row) f above least a b r q eq x y = absurd (omega (arith, above, f.1))
-    base (Unary' [] p' of) f above least a b r q eq x y = absurd (omega (arith, f.0))
+    base (Chain' level p' first l row) f above least a b r q eq x y = absurd (no_chain level above f.1)
+    base (Unary' [] p' of) f above least a b r q eq x y = absurd (no_signs f.0)
     base (Unary' (op ∷ ops) p' of) f above least a b r q eq x y = absurd (no_parenthesis op (cc))
     base (Paren' p' inner') f above least a b r q eq x y =
         let h : (plain_expr inner ≡ plain_expr inner') × (r ≡ q) = closed inner inner' one_inner fits f sign.CloseParenthesis behind_parenthesis r q (cc) in (cc, h.1)
@@ -286,11 +299,11 @@ signs_one (op ∷ ops) (op' ∷ ops') e d f g a b r q eq =
 
 unary_one : (ops : List UnaryOp) (p : _) (of : Expr) → ExprFits (Unary' ops p of) → One of → One (Unary' ops p of)
 unfolding expr_tokens ExprFits plain_expr signs
-unary_one [] p of fits one_of = absurd (omega (arith, fits.0))
-unary_one (op ∷ ops) p of fits one_of = from_all (Unary' (op ∷ ops) p of) 11 (omega arith) (lit≤ tt) base
+unary_one [] p of fits one_of = absurd (no_signs fits.0)
+unary_one (op ∷ ops) p of fits one_of = from_all (Unary' (op ∷ ops) p of) 11 (lit≤ tt) (lit≤ tt) base
   where
     base : OneFrom 11 (Unary' (op ∷ ops) p of)
-    base (Chain' level p' first l row) f above least a b r q eq x y = absurd (omega (arith, above, f.1))
+    base (Chain' level p' first l row) f above least a b r q eq x y = absurd (no_chain level above f.1)
     base (Unary' ops' p' of') f above least a b r q eq x y =
         let h : (op ∷ ops ≡ ops') × (expr_tokens of ++ r ≡ expr_tokens of' ++ q) =
         signs_one (op ∷ ops) ops' of of' fits.2 f.2 fits.1 f.1 r q (sym (append_assoc (signs (op ∷ ops)) (expr_tokens of) r) ∙ eq ∙ append_assoc (signs ops') (expr_tokens of') q) in

@@ -1,5 +1,6 @@
 -- Fitting statements with the same tokens are one statement: no more than the places of their boxes may differ.
-use Rattle.std.proofs.Common.{◌≡◌, ℕ, Bool, true, false, List, [], ◌∷◌, ◌++◌, map, Option, None, Some, refl, ap, sym, subst, ◌∙◌, append_assoc, arith, lit<}
+use Rattle.std.proofs.Common.{◌≡◌, ℕ, nat_eq, Bool, true, false, List, [], ◌∷◌, ◌++◌, map, Option, None, Some, refl, ap, sym, subst, ◌∙◌, append_assoc, arith, lit<}
+use Rattle.std.proofs.lemmas.Grind.{common_steps}
 use Rattle.std.specs.List.{AllByRecursion as Each}
 use Rattle.c_tree.specs.declared.tokens.Token.{Token}
 use Rattle.c_tree.specs.declared.tokens.Token.TheVariants as token
@@ -166,6 +167,10 @@ sort_begins s f r = refl
 pub one_sort : (s d : Stmt) → StmtFits s → StmtFits d → (r q : List Token) → stmt_tokens s ++ r ≡ stmt_tokens d ++ q → sort_of s ≡ sort_of d
 one_sort s d f g r q eq = sym (sort_begins s f r) ∙ ap begun eq ∙ sort_begins d g q
 
+-- two sorts that are told apart
+pub differ : (m n : ℕ) → m ≡ n → nat_eq m n ≡ false → ⊥
+differ m n e h = grind (arith, common_steps)
+
 declared_flat : (ks : List Token) (w : List ℕ) (r : List Token) → ((ks ++ token.Word w ∷ []) ++ one sign.Semicolon ∷ []) ++ r ≡ ks ++ token.Word w ∷ one sign.Semicolon ∷ r
 declared_flat ks w r = simp append_assoc
 
@@ -191,13 +196,13 @@ declare_one k w (Some a) f (Declare k' w' (Some b)) g r q n m eq =
     kind_one k k' w w' _ _ (sym (given_flat (kind_tokens k) w (right_tokens a) r) ∙ eq ∙ given_flat (kind_tokens k') w' (right_tokens b) q) in
     let i : (plain_right a ≡ plain_right b) × (r ≡ q) = right_one a b f g r q (cc) in
     (cc, i.1)
-declare_one k w a f d g r q n m eq = let wrong : 0 ≡ sort_of d = one_sort (Declare k w a) d f g r q eq in absurd (omega arith)
+declare_one k w a f d g r q n m eq = let wrong : 0 ≡ sort_of d = one_sort (Declare k w a) d f g r q eq in absurd (differ 0 (sort_of d) wrong refl)
 
 pub set_one : (w : List ℕ) (a : Right) → RightFits a → OneStmt (Set w a)
 unfolding stmt_tokens StmtFits plain_stmt
 set_one w a f (Set v b) g r q n m eq =
     let i : (plain_right a ≡ plain_right b) × (r ≡ q) = right_one a b f g r q (along (right_tokens a) (right_tokens b) (one sign.Semicolon ∷ []) r q (cc)) in (cc, i.1)
-set_one w a f d g r q n m eq = let wrong : 1 ≡ sort_of d = one_sort (Set w a) d f g r q eq in absurd (omega arith)
+set_one w a f d g r q n m eq = let wrong : 1 ≡ sort_of d = one_sort (Set w a) d f g r q eq in absurd (differ 1 (sort_of d) wrong refl)
 
 pub set_element_one : (w : List ℕ) (e : Expr) (a : Right) → ExprFits e → RightFits a → OneStmt (SetElement w e a)
 unfolding stmt_tokens StmtFits plain_stmt
@@ -209,7 +214,7 @@ set_element_one w e a f f' (SetElement v d b) g r q n m eq =
   where
     flat : (es rs r : List Token) → ((es ++ one sign.CloseBracket ∷ one sign.Assign ∷ rs) ++ one sign.Semicolon ∷ []) ++ r ≡ es ++ one sign.CloseBracket ∷ one sign.Assign ∷ (rs ++ one sign.Semicolon ∷ r)
     flat es rs r = simp append_assoc
-set_element_one w e a f f' d g r q n m eq = let wrong : 2 ≡ sort_of d = one_sort (SetElement w e a) d (f, f') g r q eq in absurd (omega arith)
+set_element_one w e a f f' d g r q n m eq = let wrong : 2 ≡ sort_of d = one_sort (SetElement w e a) d (f, f') g r q eq in absurd (differ 2 (sort_of d) wrong refl)
 
 pub call_one : (w : List ℕ) (args : List Expr) → Each ExprFits args → OneStmt (Call w args)
 unfolding stmt_tokens StmtFits plain_stmt
@@ -220,7 +225,7 @@ call_one w args f (Call v args') g r q n m eq =
   where
     flat : (xs r : List Token) → ((xs ++ one sign.CloseParenthesis ∷ []) ++ one sign.Semicolon ∷ []) ++ r ≡ xs ++ one sign.CloseParenthesis ∷ one sign.Semicolon ∷ r
     flat xs r = simp append_assoc
-call_one w args f d g r q n m eq = let wrong : 3 ≡ sort_of d = one_sort (Call w args) d f g r q eq in absurd (omega arith)
+call_one w args f d g r q n m eq = let wrong : 3 ≡ sort_of d = one_sort (Call w args) d f g r q eq in absurd (differ 3 (sort_of d) wrong refl)
 
 pub send_one : (v : ℕ) (u : Bool) (a b c : Expr) → ExprFits a → ExprFits b → ExprFits c → OneStmt (Send v u a b c)
 unfolding stmt_tokens StmtFits plain_stmt
@@ -237,17 +242,17 @@ send_one v u a b c f f' f'' (Send v' u' a' b' c') g r q n m eq =
     flat : (xs ys zs r : List Token) → ((xs ++ one sign.Comma ∷ (ys ++ one sign.Comma ∷ (zs ++ one sign.CloseParenthesis ∷ []))) ++ one sign.Semicolon ∷ []) ++ r
         ≡ xs ++ one sign.Comma ∷ (ys ++ one sign.Comma ∷ (zs ++ one sign.CloseParenthesis ∷ one sign.Semicolon ∷ r))
     flat xs ys zs r = simp append_assoc
-send_one v u a b c f f' f'' d g r q n m eq = let wrong : 4 ≡ sort_of d = one_sort (Send v u a b c) d (f, f', f'') g r q eq in absurd (omega arith)
+send_one v u a b c f f' f'' d g r q n m eq = let wrong : 4 ≡ sort_of d = one_sort (Send v u a b c) d (f, f', f'') g r q eq in absurd (differ 4 (sort_of d) wrong refl)
 
 pub break_one : OneStmt Break
 unfolding stmt_tokens StmtFits plain_stmt
 break_one Break g r q n m eq = (refl, cc)
-break_one d g r q n m eq = let wrong : 7 ≡ sort_of d = one_sort Break d tt g r q eq in absurd (omega arith)
+break_one d g r q n m eq = let wrong : 7 ≡ sort_of d = one_sort Break d tt g r q eq in absurd (differ 7 (sort_of d) wrong refl)
 
 pub continue_one : OneStmt Continue
 unfolding stmt_tokens StmtFits plain_stmt
 continue_one Continue g r q n m eq = (refl, cc)
-continue_one d g r q n m eq = let wrong : 8 ≡ sort_of d = one_sort Continue d tt g r q eq in absurd (omega arith)
+continue_one d g r q n m eq = let wrong : 8 ≡ sort_of d = one_sort Continue d tt g r q eq in absurd (differ 8 (sort_of d) wrong refl)
 
 -- an expression does not begin with a semicolon
 not_ended : (e : Expr) → ExprFits e → (r q : List Token) → one sign.Semicolon ∷ r ≡ expr_tokens e ++ q → ⊥
@@ -266,4 +271,4 @@ return_one (Some e) f (Return (Some d)) g r q n m eq =
     let h : (plain_expr e ≡ plain_expr d) × (one sign.Semicolon ∷ r ≡ one sign.Semicolon ∷ q) =
     whole_one e d f g sign.Semicolon sign.Semicolon behind_semicolon behind_semicolon r q (along (expr_tokens e) (expr_tokens d) (one sign.Semicolon ∷ []) r q (cc)) in
     (cc, cc)
-return_one a f d g r q n m eq = let wrong : 9 ≡ sort_of d = one_sort (Return a) d f g r q eq in absurd (omega arith)
+return_one a f d g r q n m eq = let wrong : 9 ≡ sort_of d = one_sort (Return a) d f g r q eq in absurd (differ 9 (sort_of d) wrong refl)

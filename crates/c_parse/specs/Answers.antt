@@ -1,5 +1,5 @@
 -- To be believed. What a refusal says of the tokens.
-use Rattle.std.specs.Prelude.{◌≡◌, ℕ, ◌-◌, List, [], ◌∷◌, length, Option, None, Some, option_map, ⊤}
+use Rattle.std.specs.Prelude.{◌≡◌, ℕ, ◌-◌, List, [], ◌∷◌, length, Option, Some, option_map, ⊤}
 use Rattle.c_tree.specs.declared.tokens.Token.{Token}
 use Rattle.c_tree.specs.Places.{IsProgram, IsPlace}
 use Rattle.c_parse.specs.declared.faults.ParseFault.{ParseFault}

@@ -1,10 +1,11 @@
-ghost use Rattle.std.specs.Prelude.{◌≡◌, ◌<◌, ◌≤◌, [], ◌∷◌, ◌++◌, length, false, IfOk, IfErr};
+ghost use Rattle.std.specs.Prelude.{◌≡◌, ◌+◌, ◌<◌, ◌≤◌, [], ◌∷◌, ◌++◌, length, true, false, IfOk, IfErr};
 ghost use Rattle.std.specs.List.{AllByRecursion as Each};
 ghost use Rattle.c_tree.specs.Tokens.{expr_tokens, args_tokens, call_tokens, right_tokens, one};
-ghost use Rattle.c_tree.specs.Fits.{ExprFits, RightFits, rank};
+ghost use Rattle.c_tree.specs.Fits.{ExprFits, RightFits, rank, open_after};
 ghost use Rattle.c_tree.specs.declared.tokens.Sign.TheVariants as sign;
+ghost use Rattle.c_tree.specs.declared.tokens.Token.TheVariants as token;
 ghost use Rattle.c_parse.specs.Expected as expected;
-ghost use Rattle.c_parse.specs.Expected.{Operand, Tail, Passes, Refuses, begins, is_prefix, level_ahead};
+ghost use Rattle.c_parse.specs.Expected.{Operand, Tail, Index, Only, Passes, PassesTo, Refuses, begins, is_prefix, level_ahead, opens_none};
 
 use crate::ahead::{Read, after, copy, name_at, number_at, opened, sign, stop};
 use crate::operators::{operator_at, prefix_at};
@@ -23,6 +24,22 @@ pub fn expression(alloc: Global, depth: u32, tokens: &[Token]) -> Read<'_, Expr>
     ensures shorter { IfOk result (λ r. length r.1.now < length tokens.now) }
 {
     chain(alloc, depth, 1, tokens)
+}
+
+/// An expression, and this sign after it.
+#[tactic(auto, using(crate::proofs::Steps::sign_read, crate::proofs::Steps::no_sign))]
+pub fn up_to(alloc: Global, depth: u32, end: Sign, tokens: &[Token]) -> Read<'_, Expr>
+    requires { opens_none end ≡ true }
+    ensures written { IfOk result (λ r. tokens.now ≡ expr_tokens r.0 ++ one end ∷ r.1.now) }
+    ensures fits { IfOk result (λ r. ExprFits r.0) }
+    ensures passes { IfOk result (λ r. PassesTo depth (Operand ∷ Tail ∷ Only end
+        ∷ []) tokens.now (open_after (one end) depth) [] r.1.now) }
+    ensures refuses { IfErr result (Refuses depth (Operand ∷ Tail ∷ Only end ∷ []) tokens.now) }
+    ensures shorter { IfOk result (λ r. length r.1.now < length tokens.now) }
+{
+    let (of, behind) = expression(alloc, depth, tokens)?;
+    let rest = sign(end, behind)?;
+    Ok((of, rest))
 }
 
 // operands with operators of this level between them, or one operand of a greater level
@@ -96,7 +113,7 @@ fn operand(alloc: Global, depth: u32, tokens: &[Token]) -> Read<'_, Expr>
 
 // a number, a variable, an element of an array, or an expression in parentheses
 #[cycle(expression)]
-#[tactic(auto, using(crate::proofs::Steps::operand_number, crate::proofs::Steps::operand_name, crate::proofs::Steps::operand_paren, crate::proofs::Steps::no_operand, crate::proofs::Steps::index_bracket, crate::proofs::Steps::no_index, crate::proofs::Steps::sign_read, crate::proofs::Steps::no_sign), unfolding(c_tree::specs::Tokens::expr_tokens, c_tree::specs::Fits::ExprFits))]
+#[tactic(auto, using(crate::proofs::Steps::operand_number, crate::proofs::Steps::operand_name, crate::proofs::Steps::operand_paren, crate::proofs::Steps::no_operand, crate::proofs::Steps::sign_read, crate::proofs::Steps::no_sign), unfolding(c_tree::specs::Tokens::expr_tokens, c_tree::specs::Fits::ExprFits))]
 fn primary(alloc: Global, depth: u32, tokens: &[Token]) -> Read<'_, Expr>
     requires { begins is_prefix tokens.now ≡ false }
     ensures written { IfOk result (λ r. tokens.now ≡ expr_tokens r.0 ++ r.1.now) }
@@ -110,14 +127,7 @@ fn primary(alloc: Global, depth: u32, tokens: &[Token]) -> Read<'_, Expr>
         return Ok((Expr::Number { value, unsigned }, rest));
     }
     if let Some((text, rest)) = name_at(tokens) {
-        let name = copy(alloc, text)?;
-        let Some(behind) = opened(Sign::OpenBracket, depth, rest) else {
-            return Ok((Expr::Name { name }, rest));
-        };
-        let (index, behind) = expression(alloc, depth + 1, behind)?;
-        let rest = sign(Sign::CloseBracket, behind)?;
-        let index = Box::new(alloc, index)?;
-        return Ok((Expr::Element { name, index }, rest));
+        return variable(alloc, depth, text, rest);
     }
     let Some(behind) = opened(Sign::OpenParenthesis, depth, tokens) else {
         return Err(stop(tokens));
@@ -126,4 +136,42 @@ fn primary(alloc: Global, depth: u32, tokens: &[Token]) -> Read<'_, Expr>
     let rest = sign(Sign::CloseParenthesis, behind)?;
     let inner = Box::new(alloc, inner)?;
     Ok((Expr::Paren { inner }, rest))
+}
+
+// a variable or an element of an array, after its name
+#[cycle(expression)]
+#[tactic(auto, using(crate::proofs::Steps::index_bracket, crate::proofs::Steps::no_index), unfolding(c_tree::specs::Tokens::expr_tokens, c_tree::specs::Fits::ExprFits))]
+fn variable<'t>(alloc: Global, depth: u32, text: &Text, tokens: &'t [Token]) -> Read<'t, Expr>
+    ensures written { IfOk result (λ r. token.Word text.now ∷ tokens.now ≡ expr_tokens r.0 ++ r.1.now) }
+    ensures fits { IfOk result (λ r. ExprFits r.0) }
+    ensures above { IfOk result (λ r. 12 ≤ rank r.0) }
+    ensures passes { IfOk result (λ r. Passes depth (Index ∷ []) tokens.now [] r.1.now) }
+    ensures refuses { IfErr result (Refuses depth (Index ∷ []) tokens.now) }
+    ensures shorter { IfOk result (λ r. length r.1.now ≤ length tokens.now) }
+{
+    let Some(behind) = opened(Sign::OpenBracket, depth, tokens) else {
+        let name = copy(alloc, text)?;
+        return Ok((Expr::Name { name }, tokens));
+    };
+    let (index, rest) = index(alloc, depth, behind)?;
+    let index = Box::new(alloc, index)?;
+    let name = copy(alloc, text)?;
+    Ok((Expr::Element { name, index }, rest))
+}
+
+/// The index of an element, after its bracket, and the closing one.
+#[cycle(expression)]
+#[tactic(auto, using(crate::proofs::Steps::sign_read, crate::proofs::Steps::no_sign))]
+pub fn index(alloc: Global, depth: u32, tokens: &[Token]) -> Read<'_, Expr>
+    requires { depth < 64 }
+    ensures written { IfOk result (λ r. tokens.now ≡ expr_tokens r.0 ++ one sign.CloseBracket ∷ r.1.now) }
+    ensures fits { IfOk result (λ r. ExprFits r.0) }
+    ensures passes { IfOk result (λ r. PassesTo (depth + 1) (Operand ∷ Tail ∷ Only sign.CloseBracket
+        ∷ []) tokens.now depth [] r.1.now) }
+    ensures refuses { IfErr result (Refuses (depth + 1) (Operand ∷ Tail ∷ Only sign.CloseBracket ∷ []) tokens.now) }
+    ensures shorter { IfOk result (λ r. length r.1.now < length tokens.now) }
+{
+    let (index, behind) = expression(alloc, depth + 1, tokens)?;
+    let rest = sign(Sign::CloseBracket, behind)?;
+    Ok((index, rest))
 }

@@ -44,7 +44,7 @@ fn parameter(alloc: Global, depth: u32, kind: Kind, tokens: &[Token]) -> Read<'_
 
 /// The parameters of a function, after their parenthesis, and the closing one. The first part says whether `void`
 /// stands for them.
-#[tactic(auto, using(crate::proofs::Starts::parameters_end, crate::proofs::Starts::parameters_void, crate::proofs::Starts::parameters_kind, crate::proofs::Starts::parameters_next, crate::proofs::Starts::parameters_done, crate::proofs::Starts::kind_kind, crate::proofs::Starts::no_parameters, crate::proofs::Starts::no_more_parameters, crate::proofs::Steps::sign_read, crate::proofs::Steps::no_sign))]
+#[tactic(auto, using(crate::proofs::Starts::parameters_end, crate::proofs::Starts::parameters_void, crate::proofs::Starts::parameters_kind, crate::proofs::Starts::no_parameters, crate::proofs::Steps::sign_read, crate::proofs::Steps::no_sign))]
 fn parameters(alloc: Global, depth: u32, tokens: &[Token]) -> Read<'_, (bool, List<Parameter>)>
     ensures none { IfOk result (λ r. IsTrue r.0.0 → r.0.1 ≡ []) }
     ensures written { IfOk result (λ r. tokens.now ≡ listed r.0.0 r.0.1 ++ one sign.CloseParenthesis ∷ r.1.now) }
@@ -52,27 +52,55 @@ fn parameters(alloc: Global, depth: u32, tokens: &[Token]) -> Read<'_, (bool, Li
     ensures refuses { IfErr result (Refuses depth (Parameters ∷ []) tokens.now) }
     ensures shorter { IfOk result (λ r. length r.1.now < length tokens.now) }
 {
-    let mut parameters = Vec::new(alloc);
     if let Some(rest) = after(Sign::CloseParenthesis, tokens) {
-        return Ok(((false, List::of(parameters)), rest));
+        return Ok(((false, List::of(Vec::new(alloc))), rest));
     }
     if let Some(behind) = after_word(Keyword::Void, tokens) {
         let rest = sign(Sign::CloseParenthesis, behind)?;
-        return Ok(((true, List::of(parameters)), rest));
+        return Ok(((true, List::of(Vec::new(alloc))), rest));
     }
-    let Some((first_kind, behind)) = kind_at(tokens) else {
+    let Some((kind, behind)) = kind_at(tokens) else {
         return Err(stop(tokens));
     };
-    let (first, mut rest) = parameter(alloc, depth, first_kind, behind)?;
+    let (parameters, rest) = some_parameters(alloc, depth, kind, behind)?;
+    Ok(((false, parameters), rest))
+}
+
+// one parameter or more after the first one's kind, and the parenthesis that closes
+#[tactic(auto, using(crate::proofs::Starts::parameters_done, crate::proofs::Starts::no_more_parameters))]
+fn some_parameters(
+    alloc: Global,
+    depth: u32,
+    kind: Kind,
+    tokens: &[Token],
+) -> Read<'_, List<Parameter>>
+    ensures written { IfOk result (λ r. kind_tokens kind ++ tokens.now
+        ≡ parameters_tokens r.0 ++ one sign.CloseParenthesis ∷ r.1.now) }
+    ensures passes { IfOk result (λ r. PassesTo depth (Name ∷ MoreParameters ∷ []) tokens.now (depth - 1) [] r.1.now) }
+    ensures refuses { IfErr result (Refuses depth (Name ∷ MoreParameters ∷ []) tokens.now) }
+    ensures shorter { IfOk result (λ r. length r.1.now < length tokens.now) }
+{
+    let (first, mut rest) = parameter(alloc, depth, kind, tokens)?;
+    let mut parameters = Vec::new(alloc);
     parameters.push(first)?;
     while let Some(behind) = after(Sign::Comma, rest) {
-        let (next_kind, behind) = kind(depth, behind)?;
-        let (further, next) = parameter(alloc, depth, next_kind, behind)?;
+        let (further, next) = further(alloc, depth, behind)?;
         parameters.push(further)?;
         rest = next;
     }
     let rest = sign(Sign::CloseParenthesis, rest)?;
-    Ok(((false, List::of(parameters)), rest))
+    Ok((List::of(parameters), rest))
+}
+
+// a parameter with its kind
+fn further(alloc: Global, depth: u32, tokens: &[Token]) -> Read<'_, Parameter>
+    ensures written { IfOk result (λ r. tokens.now ≡ kind_tokens r.0.kind ++ token.Word r.0.name ∷ r.1.now) }
+    ensures passes { IfOk result (λ r. Passes depth (kind_here ∷ Name ∷ []) tokens.now [] r.1.now) }
+    ensures refuses { IfErr result (Refuses depth (kind_here ∷ Name ∷ []) tokens.now) }
+    ensures shorter { IfOk result (λ r. length r.1.now < length tokens.now) }
+{
+    let (kind, behind) = kind(depth, tokens)?;
+    parameter(alloc, depth, kind, behind)
 }
 
 /// A function after its name and the parenthesis there.

@@ -1,7 +1,7 @@
-ghost use Rattle.std.specs.Prelude.{◌≡◌, ◌-◌, ◌<◌, ◌≤◌, [], ◌∷◌, ◌++◌, length, Some, None, IfOk, IfErr};
+ghost use Rattle.std.specs.Prelude.{◌≡◌, ◌+◌, ◌-◌, ◌<◌, ◌≤◌, [], ◌∷◌, ◌++◌, length, Some, None, IfOk, IfErr};
 ghost use Rattle.c_tree.specs.Tokens.{const_tokens, consts_tokens, initials_tokens, shape_tokens, ended, one};
 ghost use Rattle.c_tree.specs.declared.tokens.Sign.TheVariants as sign;
-ghost use Rattle.c_parse.specs.Expected.{Variable, Elements, Constant, MoreConstants, Passes, PassesTo, Refuses};
+ghost use Rattle.c_parse.specs.Expected.{Only, Open, Number, Variable, Elements, Constant, MoreConstants, Passes, PassesTo, Refuses};
 
 use crate::ahead::{Read, after, bracket, number, number_at, opened, sign, stop};
 use c_tree::{Const, Length, Sign, Token};
@@ -62,7 +62,7 @@ fn constants(alloc: Global, depth: u32, tokens: &[Token]) -> Read<'_, List<Const
 }
 
 /// What is after a global's name, up to its semicolon.
-#[tactic(auto, using(crate::proofs::Starts::variable_array, crate::proofs::Starts::variable_assign, crate::proofs::Starts::variable_end, crate::proofs::Starts::no_variable, crate::proofs::Steps::sign_read, crate::proofs::Steps::no_sign, crate::proofs::Steps::number_read, crate::proofs::Steps::no_number))]
+#[tactic(auto, using(crate::proofs::Starts::variable_array, crate::proofs::Starts::variable_assign, crate::proofs::Starts::variable_end, crate::proofs::Starts::no_variable))]
 pub fn shape(alloc: Global, depth: u32, tokens: &[Token]) -> Read<'_, Shape>
     ensures written { IfOk result (λ r. tokens.now ≡ ended (shape_tokens r.0.0 r.0.1) ++ r.1.now) }
     ensures passes { IfOk result (λ r. Passes depth (Variable ∷ []) tokens.now [] r.1.now) }
@@ -71,26 +71,53 @@ pub fn shape(alloc: Global, depth: u32, tokens: &[Token]) -> Read<'_, Shape>
     ensures one_value { IfOk result (λ r. r.0.0 ≡ None → length r.0.1 ≤ 1) }
 {
     if let Some(behind) = opened(Sign::OpenBracket, depth, tokens) {
-        let ((value, unsigned), behind) = number(behind)?;
-        let behind = sign(Sign::CloseBracket, behind)?;
-        let (initial, rest) = elements(alloc, depth, behind)?;
-        return Ok(((Some(Length { value, unsigned }), initial), rest));
+        return array(alloc, depth, behind);
     }
-    let mut initial = Vec::new(alloc);
     if let Some(rest) = after(Sign::Semicolon, tokens) {
-        return Ok(((None, List::of(initial)), rest));
+        return Ok(((None, List::of(Vec::new(alloc))), rest));
     }
     let Some(behind) = after(Sign::Assign, tokens) else {
         return Err(stop(tokens));
     };
-    let (constant, behind) = constant(depth, behind)?;
+    first_value(alloc, depth, behind)
+}
+
+// the length of an array, after its bracket, and its first values
+#[tactic(auto, using(crate::proofs::Steps::sign_read, crate::proofs::Steps::no_sign, crate::proofs::Steps::number_read, crate::proofs::Steps::no_number))]
+fn array(alloc: Global, depth: u32, tokens: &[Token]) -> Read<'_, Shape>
+    requires { depth < 64 }
+    ensures written { IfOk result (λ r. one sign.OpenBracket ∷ tokens.now
+        ≡ ended (shape_tokens r.0.0 r.0.1) ++ r.1.now) }
+    ensures passes { IfOk result (λ r. PassesTo (depth + 1) (Number ∷ Only sign.CloseBracket ∷ Elements
+        ∷ []) tokens.now depth [] r.1.now) }
+    ensures refuses { IfErr result (Refuses (depth + 1) (Number ∷ Only sign.CloseBracket ∷ Elements ∷ []) tokens.now) }
+    ensures shorter { IfOk result (λ r. length r.1.now < length tokens.now) }
+    ensures one_value { IfOk result (λ r. r.0.0 ≡ None → length r.0.1 ≤ 1) }
+{
+    let ((value, unsigned), behind) = number(tokens)?;
+    let behind = sign(Sign::CloseBracket, behind)?;
+    let (initial, rest) = elements(alloc, depth, behind)?;
+    Ok(((Some(Length { value, unsigned }), initial), rest))
+}
+
+// the first value of a variable, after its sign
+#[tactic(auto, using(crate::proofs::Steps::sign_read, crate::proofs::Steps::no_sign))]
+fn first_value(alloc: Global, depth: u32, tokens: &[Token]) -> Read<'_, Shape>
+    ensures written { IfOk result (λ r. one sign.Assign ∷ tokens.now ≡ ended (shape_tokens r.0.0 r.0.1) ++ r.1.now) }
+    ensures passes { IfOk result (λ r. Passes depth (Constant ∷ Only sign.Semicolon ∷ []) tokens.now [] r.1.now) }
+    ensures refuses { IfErr result (Refuses depth (Constant ∷ Only sign.Semicolon ∷ []) tokens.now) }
+    ensures shorter { IfOk result (λ r. length r.1.now < length tokens.now) }
+    ensures one_value { IfOk result (λ r. length r.0.1 ≤ 1) }
+{
+    let (constant, behind) = constant(depth, tokens)?;
     let rest = sign(Sign::Semicolon, behind)?;
+    let mut initial = Vec::new(alloc);
     initial.push(constant)?;
     Ok(((None, List::of(initial)), rest))
 }
 
 // the first values of an array, up to its semicolon
-#[tactic(auto, using(crate::proofs::Starts::elements_assign, crate::proofs::Starts::elements_end, crate::proofs::Starts::no_elements, crate::proofs::Steps::sign_read, crate::proofs::Steps::no_sign, crate::proofs::Steps::bracket_read, crate::proofs::Steps::no_bracket, crate::proofs::Declared::initials_some))]
+#[tactic(auto, using(crate::proofs::Starts::elements_assign, crate::proofs::Starts::elements_end, crate::proofs::Starts::no_elements))]
 fn elements(alloc: Global, depth: u32, tokens: &[Token]) -> Read<'_, List<Const>>
     ensures written { IfOk result (λ r. tokens.now ≡ ended (initials_tokens r.0) ++ r.1.now) }
     ensures passes { IfOk result (λ r. Passes depth (Elements ∷ []) tokens.now [] r.1.now) }
@@ -103,7 +130,20 @@ fn elements(alloc: Global, depth: u32, tokens: &[Token]) -> Read<'_, List<Const>
     let Some(behind) = after(Sign::Assign, tokens) else {
         return Err(stop(tokens));
     };
-    let behind = bracket(Sign::OpenBrace, depth, behind)?;
+    filled(alloc, depth, behind)
+}
+
+// the first values of an array in braces, and the semicolon after them
+#[tactic(auto, using(crate::proofs::Steps::sign_read, crate::proofs::Steps::no_sign, crate::proofs::Steps::bracket_read, crate::proofs::Steps::no_bracket, crate::proofs::Declared::initials_some))]
+fn filled(alloc: Global, depth: u32, tokens: &[Token]) -> Read<'_, List<Const>>
+    ensures written { IfOk result (λ r. one sign.Assign ∷ tokens.now ≡ ended (initials_tokens r.0) ++ r.1.now) }
+    ensures passes { IfOk result (λ r. Passes depth (Open sign.OpenBrace ∷ Constant ∷ MoreConstants
+        ∷ Only sign.Semicolon ∷ []) tokens.now [] r.1.now) }
+    ensures refuses { IfErr result (Refuses depth (Open sign.OpenBrace ∷ Constant ∷ MoreConstants
+        ∷ Only sign.Semicolon ∷ []) tokens.now) }
+    ensures shorter { IfOk result (λ r. length r.1.now < length tokens.now) }
+{
+    let behind = bracket(Sign::OpenBrace, depth, tokens)?;
     let (initial, behind) = constants(alloc, depth + 1, behind)?;
     let rest = sign(Sign::Semicolon, behind)?;
     Ok((initial, rest))

@@ -1,15 +1,15 @@
-ghost use Rattle.std.specs.Prelude.{◌≡◌, ◌-◌, ◌<◌, [], ◌∷◌, ◌++◌, length, IfOk, IfErr};
+ghost use Rattle.std.specs.Prelude.{◌≡◌, ◌+◌, ◌-◌, ◌<◌, [], ◌∷◌, ◌++◌, length, IfOk, IfErr};
 ghost use Rattle.std.specs.List.{AllByRecursion as Each};
-ghost use Rattle.c_tree.specs.Tokens.{stmt_tokens, body_tokens, arm_tokens, braced, one, word};
+ghost use Rattle.c_tree.specs.Tokens.{stmt_tokens, body_tokens, arm_tokens, bound_tokens, braced, one, word};
 ghost use Rattle.c_tree.specs.Fits.{StmtFits, ExprFits};
 ghost use Rattle.c_tree.specs.declared.tokens.Keyword.TheVariants as keyword;
 ghost use Rattle.c_tree.specs.declared.tokens.Sign.TheVariants as sign;
-ghost use Rattle.c_parse.specs.Expected.{Statement, Statements, Else, Condition, Block, Passes, PassesTo, Refuses};
+ghost use Rattle.c_parse.specs.Expected.{Statement, Statements, Else, Condition, Block, Loop, Passes, PassesTo, Refuses};
 
 use crate::ahead::{Read, after, after_word, bound_at, bracket, opened};
-use crate::loops::{condition, for_head, head, while_head};
+use crate::loops::{at_loop, condition, head};
 use crate::simple::simple;
-use c_tree::{Arm, Keyword, Sign, Stmt, Token};
+use c_tree::{Arm, Bound, Keyword, Sign, Stmt, Token};
 use std::alloc::Global;
 use tc_word::List;
 
@@ -103,8 +103,38 @@ fn conditional(alloc: Global, depth: u32, tokens: &[Token]) -> Read<'_, Stmt>
     ))
 }
 
+// a loop, after its bound if it has one
 #[cycle(statement)]
-#[tactic(auto, using(crate::proofs::Starts::statement_if, crate::proofs::Starts::statement_bound, crate::proofs::Starts::statement_brace, crate::proofs::Starts::statement_while, crate::proofs::Starts::statement_for, c_tree::proofs::Blocks::loop_tokens, c_tree::proofs::Blocks::loop_fits, c_tree::proofs::Blocks::inner_tokens, c_tree::proofs::Blocks::inner_fits))]
+#[tactic(auto, using(c_tree::proofs::Blocks::loop_fits))]
+fn looped(alloc: Global, depth: u32, bound: Option<Bound>, tokens: &[Token]) -> Read<'_, Stmt>
+    ensures written { IfOk result (λ r. bound_tokens bound ++ tokens.now ≡ stmt_tokens r.0 ++ r.1.now) }
+    ensures fits { IfOk result (λ r. StmtFits r.0) }
+    ensures passes { IfOk result (λ r. Passes depth (Loop ∷ []) tokens.now [] r.1.now) }
+    ensures refuses { IfErr result (Refuses depth (Loop ∷ []) tokens.now) }
+    ensures shorter { IfOk result (λ r. length r.1.now < length tokens.now) }
+{
+    let (head, behind) = head(alloc, depth, tokens)?;
+    let (body, rest) = block(alloc, depth, behind)?;
+    Ok((Stmt::Loop { bound, head, body }, rest))
+}
+
+// a block as a statement, after its brace
+#[cycle(statement)]
+#[tactic(auto, using(c_tree::proofs::Blocks::inner_fits))]
+fn inner(alloc: Global, depth: u32, tokens: &[Token]) -> Read<'_, Stmt>
+    requires { depth < 64 }
+    ensures written { IfOk result (λ r. one sign.OpenBrace ∷ tokens.now ≡ stmt_tokens r.0 ++ r.1.now) }
+    ensures fits { IfOk result (λ r. StmtFits r.0) }
+    ensures passes { IfOk result (λ r. PassesTo (depth + 1) (Statements ∷ []) tokens.now depth [] r.1.now) }
+    ensures refuses { IfErr result (Refuses (depth + 1) (Statements ∷ []) tokens.now) }
+    ensures shorter { IfOk result (λ r. length r.1.now < length tokens.now) }
+{
+    let (body, rest) = statements(alloc, depth + 1, tokens)?;
+    Ok((Stmt::Inner { body }, rest))
+}
+
+#[cycle(statement)]
+#[tactic(auto, using(crate::proofs::Starts::statement_if, crate::proofs::Starts::statement_bound, crate::proofs::Starts::statement_brace))]
 fn statement(alloc: Global, depth: u32, tokens: &[Token]) -> Read<'_, Stmt>
     ensures written { IfOk result (λ r. tokens.now ≡ stmt_tokens r.0 ++ r.1.now) }
     ensures fits { IfOk result (λ r. StmtFits r.0) }
@@ -116,44 +146,13 @@ fn statement(alloc: Global, depth: u32, tokens: &[Token]) -> Read<'_, Stmt>
         return conditional(alloc, depth, behind);
     }
     if let Some((bound, behind)) = bound_at(tokens) {
-        let (head, behind) = head(alloc, depth, behind)?;
-        let (body, rest) = block(alloc, depth, behind)?;
-        return Ok((
-            Stmt::Loop {
-                bound: Some(bound),
-                head,
-                body,
-            },
-            rest,
-        ));
+        return looped(alloc, depth, Some(bound), behind);
     }
     if let Some(behind) = opened(Sign::OpenBrace, depth, tokens) {
-        let (body, rest) = statements(alloc, depth + 1, behind)?;
-        return Ok((Stmt::Inner { body }, rest));
+        return inner(alloc, depth, behind);
     }
-    if let Some(behind) = after_word(Keyword::While, tokens) {
-        let (head, behind) = while_head(alloc, depth, behind)?;
-        let (body, rest) = block(alloc, depth, behind)?;
-        return Ok((
-            Stmt::Loop {
-                bound: None,
-                head,
-                body,
-            },
-            rest,
-        ));
-    }
-    if let Some(behind) = after_word(Keyword::For, tokens) {
-        let (head, behind) = for_head(alloc, depth, behind)?;
-        let (body, rest) = block(alloc, depth, behind)?;
-        return Ok((
-            Stmt::Loop {
-                bound: None,
-                head,
-                body,
-            },
-            rest,
-        ));
+    if at_loop(tokens) {
+        return looped(alloc, depth, None, tokens);
     }
     simple(alloc, depth, tokens)
 }

@@ -1,8 +1,10 @@
 ghost use Rattle.std.specs.Prelude.{◌≡◌, ◌≢◌, ◌<◌, [], ◌∷◌, ◌++◌, length, None, IfOk, IfErr};
 ghost use Rattle.std.specs.List.{AllByRecursion as Each};
-ghost use Rattle.c_tree.specs.Tokens.{item_tokens, items_tokens, kind_tokens};
+ghost use Rattle.c_tree.specs.Tokens.{item_tokens, items_tokens, kind_tokens, word};
 ghost use Rattle.c_tree.specs.Fits.{ItemFits};
-ghost use Rattle.c_parse.specs.Expected.{Items, Name, Outside, Variable as variable_here, Passes, Refuses, StopsAt, drive, scratch_tokens};
+ghost use Rattle.c_tree.specs.declared.tokens.Keyword.TheVariants as keyword;
+ghost use Rattle.c_tree.specs.declared.tokens.Sign.TheVariants as sign;
+ghost use Rattle.c_parse.specs.Expected.{Items, Name, Open, Outside, Parameters, Block, Kind as kind_here, Variable as variable_here, Passes, Refuses, StopsAt, drive, scratch_tokens};
 
 use crate::ahead::{Read, after_word, bracket, copy, name, opened, stop};
 use crate::faults::Stop;
@@ -31,7 +33,7 @@ pub fn items(alloc: Global, tokens: &[Token]) -> Result<List<Item>, Stop>
 }
 
 // a declaration
-#[tactic(auto, using(crate::proofs::Starts::items_kind, crate::proofs::Starts::items_scratch, crate::proofs::Starts::items_void, crate::proofs::Starts::no_items, crate::proofs::Starts::kind_kind, crate::proofs::Starts::outside_function, crate::proofs::Steps::name_read, crate::proofs::Steps::no_name, crate::proofs::Steps::bracket_read, crate::proofs::Steps::no_bracket, crate::proofs::Steps::none_behind))]
+#[tactic(auto, using(crate::proofs::Starts::items_kind, crate::proofs::Starts::items_scratch, crate::proofs::Starts::items_void, crate::proofs::Starts::no_items, crate::proofs::Steps::none_behind))]
 fn item(alloc: Global, tokens: &[Token]) -> Read<'_, Item>
     requires { tokens.now ≢ [] }
     ensures written { IfOk result (λ r. tokens.now ≡ item_tokens r.0 ++ r.1.now) }
@@ -44,13 +46,39 @@ fn item(alloc: Global, tokens: &[Token]) -> Read<'_, Item>
         return outside(alloc, kind, behind);
     }
     if let Some(behind) = after_word(Keyword::Scratchpad, tokens) {
-        let (kind, behind) = kind(0, behind)?;
-        return variable(alloc, true, kind, behind);
+        return scratch(alloc, behind);
     }
     let Some(behind) = after_word(Keyword::Void, tokens) else {
         return Err(stop(tokens));
     };
-    let (text, behind) = name(behind)?;
+    procedure(alloc, behind)
+}
+
+// a variable or an array in the scratchpad, after that word
+#[tactic(auto, using(crate::proofs::Starts::kind_kind))]
+fn scratch(alloc: Global, tokens: &[Token]) -> Read<'_, Item>
+    ensures written { IfOk result (λ r. word keyword.Scratchpad ∷ tokens.now ≡ item_tokens r.0 ++ r.1.now) }
+    ensures fits { IfOk result (λ r. ItemFits r.0) }
+    ensures passes { IfOk result (λ r. Passes 0 (kind_here ∷ Name ∷ variable_here ∷ []) tokens.now [] r.1.now) }
+    ensures refuses { IfErr result (Refuses 0 (kind_here ∷ Name ∷ variable_here ∷ []) tokens.now) }
+    ensures shorter { IfOk result (λ r. length r.1.now < length tokens.now) }
+{
+    let (kind, behind) = kind(0, tokens)?;
+    variable(alloc, true, kind, behind)
+}
+
+// a function that gives nothing, after `void`
+#[tactic(auto, using(crate::proofs::Steps::name_read, crate::proofs::Steps::no_name, crate::proofs::Steps::bracket_read, crate::proofs::Steps::no_bracket))]
+fn procedure(alloc: Global, tokens: &[Token]) -> Read<'_, Item>
+    ensures written { IfOk result (λ r. word keyword.Void ∷ tokens.now ≡ item_tokens r.0 ++ r.1.now) }
+    ensures fits { IfOk result (λ r. ItemFits r.0) }
+    ensures passes { IfOk result (λ r. Passes 0 (Name ∷ Open sign.OpenParenthesis ∷ Parameters ∷ Block
+        ∷ []) tokens.now [] r.1.now) }
+    ensures refuses { IfErr result
+        (Refuses 0 (Name ∷ Open sign.OpenParenthesis ∷ Parameters ∷ Block ∷ []) tokens.now) }
+    ensures shorter { IfOk result (λ r. length r.1.now < length tokens.now) }
+{
+    let (text, behind) = name(tokens)?;
     let behind = bracket(Sign::OpenParenthesis, 0, behind)?;
     let (function, rest) = function(alloc, 0, None, text, behind)?;
     Ok((Item::Function { function }, rest))

@@ -12,8 +12,8 @@
 #![tactic(auto)]
 
 mod begin;
+mod locations;
 mod outcome;
-mod places;
 mod run;
 mod settings;
 mod worked;

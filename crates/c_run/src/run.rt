@@ -12,7 +12,7 @@ ghost use Rattle.c_meaning.specs.Values.{State};
 ghost use Rattle.c_run.specs.Ran.{state_of, served_by, HasDone, HasGiven, HasTurned, picked_done};
 ghost use Rattle.c_meaning.specs.Sizes.{actions_size, branches_size};
 
-use crate::places::{put, result_place};
+use crate::locations::{put, result_location};
 use crate::settings::{assign, pass, step};
 use c_meaning::{Action, Arguments, Assignment, Branch, Routine, Target, Way};
 use c_tree::MOST_LEVELS;
@@ -73,7 +73,7 @@ fn act(
     }
 }
 
-// a function is called, and what it gives is set, if anything: the place is found after the call
+// a function is called, and what it gives is set, if anything: the location is found after the call
 #[cycle(run)]
 #[inline(always)]
 fn call(
@@ -97,8 +97,8 @@ fn call(
 {
     let function = function as usize;
     let given = served(function, args, routines, frame, rest, memory);
-    let place = result_place(target, frame, memory);
-    put(place, given, frame, memory);
+    let location = result_location(target, frame, memory);
+    put(location, given, frame, memory);
     Way::On
 }
 

@@ -10,7 +10,7 @@ ghost use Rattle.c_meaning.specs.Rooms.{all_rooms};
 ghost use Rattle.c_meaning.specs.Shown.{plain_assignment};
 ghost use Rattle.c_run.specs.Ran.{state_of};
 
-use crate::places::{place_of, put};
+use crate::locations::{location_of, put};
 use c_meaning::Assignment;
 use c_world::Memory;
 use sp_tree::{SpExpr, value};
@@ -26,8 +26,8 @@ pub fn assign(assignment: &Assignment, frame: &mut [u32], memory: &mut Memory)
     ensures rooms { rooms memory.new ≡ all_rooms }
 {
     let given = value(&assignment.value, frame, memory);
-    let place = place_of(&assignment.target, frame, memory);
-    put(place, given, frame, memory);
+    let location = location_of(&assignment.target, frame, memory);
+    put(location, given, frame, memory);
 }
 
 /// What is set after a turn of a loop, if anything.

@@ -22,8 +22,8 @@ use Rattle.stack_cache.specs.declared.stack.TheConstants.{STACK_LOWEST, STACK_EN
 use Rattle.sp_tree.specs.Statements.{PlainStmts, no_stmt, stmt, PlainFunction, no_function}
 use Rattle.sp_tree.specs.Statements as tree
 use Rattle.sp_emit.specs.Chains.{stmt_chain, stmts_chain, chains}
-use Rattle.c_meaning.specs.Resolve.{resolved_items}
-use Rattle.single_path.specs.Single.{made_functions, parameters_in, frames_in, single}
+use Rattle.c_meaning.specs.Resolve.{resolved_items, parameters_in}
+use Rattle.single_path.specs.Single.{made_functions, frames_in, single}
 use Rattle.single_path.proofs.Budgets.{frames_within}
 
 -- ---- what a function weighs

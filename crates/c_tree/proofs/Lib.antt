@@ -1,6 +1,7 @@
 pub mod Blocks
 pub mod Chains
 pub mod Faultless
+pub mod LastNamed
 pub mod Leasts
 pub mod Plains
 pub mod Sizes

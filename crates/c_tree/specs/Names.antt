@@ -1,18 +1,40 @@
--- To be believed. Names and their scopes (C99 6.2.1): the list of the names that are open, innermost last.
-use Rattle.std.specs.Prelude.{ℕ, Bool, if◌then◌else◌, List, [], ◌∷◌, ◌++◌, drop, Option, None, Some, is_some, bytes_eq, codes}
+-- To be believed. Names and their scopes (C99 6.2.1). Of all that is declared and is open where a name stands, the name
+-- means what was declared last, which hides the earlier ones.
+use Rattle.std.specs.Prelude.{ℕ, ◌+◌, Bool, if◌then◌else◌, List, [], ◌∷◌, ◌++◌, drop, Option, None, Some, option_map, is_some, bytes_eq, codes}
 use Rattle.std.specs.Option.{option_or}
 use Rattle.c_tree.specs.declared.checks.Meaning.{Meaning}
 use Rattle.c_tree.specs.declared.checks.Meaning.TheVariants as meaning
 
--- a name, and what it is declared as
-pub record Named : Type 0 where
-  pub name : List ℕ
-  pub means : Meaning
+-- ---- of a list in which each element has a name, the last one so called
 
--- what a name means: its last declaration, which hides the earlier ones
+-- a name, and what it is declared as
+pub record Called (T : Type 0) : Type 0 where
+  pub name : List ℕ
+  pub means : T
+
+-- an element, and how many stand before it
+pub record Found (A : Type 0) : Type 0 where
+  pub at : ℕ
+  pub is : A
+
+-- where so many stand before these
+abbrev pub last_named : {A : Type 0} → (A → List ℕ) → ℕ → List ℕ → List A → Option (Found A)
+last_named name_of at name [] = None
+last_named name_of at name (x ∷ xs) =
+    option_or (last_named name_of (at + 1) name xs)
+    (if bytes_eq (name_of x) name then Some (record { at = at; is = x }) else None)
+
+-- of names alone, its number
+abbrev pub number_of : List ℕ → List (List ℕ) → Option ℕ
+number_of name names = option_map (λ f. f.at) (last_named (λ n. n) 0 name names)
+
+-- ---- what names mean where a program is checked
+
+abbrev pub Named : Type 0
+Named = Called Meaning
+
 abbrev pub found : List ℕ → List Named → Option Meaning
-found name [] = None
-found name (n ∷ names) = option_or (found name names) (if bytes_eq n.name name then Some n.means else None)
+found name names = option_map (λ f. f.is.means) (last_named (λ n. n.name) 0 name names)
 
 -- a name is declared in this block already, where so many of the names are declared outside of it
 abbrev pub is_declared : List ℕ → ℕ → List Named → Bool

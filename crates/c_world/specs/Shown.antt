@@ -31,7 +31,12 @@ room_in region.Private r = r.private
 room_in region.Shared r = r.shared
 
 abbrev pub rooms : Memory → Rooms
-rooms m = record { scratch = vec_len m.scratch; comm = vec_len m.comm; private = vec_len m.private; shared = vec_len m.shared }
+rooms m = record {
+  scratch = vec_len m.scratch;
+  comm = vec_len m.comm;
+  private = vec_len m.private;
+  shared = vec_len m.shared;
+}
 
 -- new memories have so many words of private memory
 abbrev pub fresh_rooms : ℕ → Rooms

@@ -38,8 +38,6 @@ mod known;
 mod law;
 mod parts;
 mod rule;
-#[cfg(test)]
-mod tests;
 mod worked;
 
 pub use course::Course;

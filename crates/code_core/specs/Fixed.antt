@@ -82,7 +82,15 @@ pub record IsLinkable (s : PlainShape) : Type 0 where
 
 -- no word was set
 abbrev pub no_memory : Memory
-no_memory = record { scratch = λ _. 0; comm = λ _. 0; private = λ _. 0; shared = λ _. 0; source = λ _. 0; target = λ _. 0; starts = [] }
+no_memory = record {
+  scratch = λ _. 0;
+  comm = λ _. 0;
+  private = λ _. 0;
+  shared = λ _. 0;
+  source = λ _. 0;
+  target = λ _. 0;
+  starts = [];
+}
 
 abbrev pub begun_run : PlainShape → List ℕ → Run
 begun_run s loads = at_begin no_memory loads (backs_of s)

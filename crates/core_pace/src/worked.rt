@@ -94,21 +94,3 @@ pub fn worked_words()
     ensures asked { is_sent_to (record { target = 2; from = 0; to = 0; count = 1 } ∷ []) 2 ≡ true }
     ensures unasked { is_sent_to (record { target = 2; from = 0; to = 0; count = 1 } ∷ []) 1 ≡ false }
 {}
-
-#[cfg(test)]
-mod tests {
-    use super::*;
-    use crate::run::place_has_slots;
-    use slot_arbiter::Place;
-
-    #[test]
-    fn worked_values_are_called(rt: HostRuntime) {
-        worked_starts();
-        worked_bundles();
-        worked_events();
-        worked_growth();
-        worked_stack();
-        worked_words();
-        place_has_slots(&Place::new(4, 2, 6, 0).expect(&rt, "a place"));
-    }
-}

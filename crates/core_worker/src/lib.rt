@@ -12,7 +12,8 @@
 //!   their workers back; they may wait for workers elsewhere.
 //! - [`Waiting`] is what the workers of a run share to do so, beside the board: who waits peeks at a clock and
 //!   then sleeps, and who publishes a stamp that is waited for wakes it.
-//! - [`two_idle_cores`] and [`two_idle_cores_at_once`] show how workers are made, run and taken apart.
+//! - [`two_idle_cores`] and [`two_idle_cores_at_once`] show how workers are made, run and taken apart, and
+//!   [`one_core_awaited`] how a thread that sleeps for a clock is woken.
 //!
 //! Contracts tell of the core for whose run apart a worker stands (`specs/Runs.antt`), of the stamps that it
 //! has published (`specs/Pieces.antt`), and of its looks (`specs/Looked.antt`); what each turn did stands in
@@ -25,8 +26,6 @@ mod looking;
 mod making;
 mod progress;
 mod rounds;
-#[cfg(test)]
-mod tests;
 mod turn;
 mod waiting;
 mod worked;
@@ -35,5 +34,5 @@ mod worker;
 pub use rounds::{run_all, run_some};
 pub use turn::Turn;
 pub use waiting::Waiting;
-pub use worked::{NoOperations, two_idle_cores, two_idle_cores_at_once};
+pub use worked::{NoOperations, one_core_awaited, two_idle_cores, two_idle_cores_at_once};
 pub use worker::Worker;

@@ -10,3 +10,4 @@ pub mod Resumed
 pub mod NextUp
 pub mod ResumedOf
 pub mod LoadsFirst
+pub mod WordsMoving

@@ -1,9 +1,6 @@
 -- Cycles in which nothing happens.
-use Rattle.std.proofs.Common.{◌≡◌, ℕ, ◌+◌, ◌*◌, ◌<◌, ◌≤◌, true, List, Option, None, Some, IfSome, IsNone, true≢false, ◌-◌, refl, sym, ap, ◌∙◌, subst, arith}
+use Rattle.std.proofs.Common.{◌≡◌, ℕ, ◌+◌, ◌*◌, ◌<◌, ◌≤◌, true, List, Option, None, Some, IfSome, IsNone, true≢false, refl, sym, ap, ◌∙◌, subst, arith}
 use Rattle.shared_order.specs.declared.operation.Operation.{Operation}
-use Rattle.shared_order.specs.Stamps.{act_at}
-use Rattle.shared_order.specs.Stands.{Stands}
-use Rattle.shared_order.proofs.Standing.{skips_cycles}
 use Rattle.shared_order.specs.Program.{done, and_then}
 use Rattle.argo_ni.specs.Interface.{Standing}
 use Rattle.argo_ni.specs.Turn.{acts, delivery, injection, turn as interface_turn}
@@ -13,21 +10,13 @@ use Rattle.patmos_core.specs.Events.{SendsIn}
 use Rattle.argo_ni.specs.declared.event.NiEvent.{NiEvent}
 use Rattle.argo_ni.specs.declared.event.NiKind.TheVariants.{Inject, Deliver}
 use Rattle.patmos_model.specs.State.{Core}
-use Rattle.patmos_model.specs.Cells.{now}
-use Rattle.patmos_model.specs.Cycle.{with_interface, own, settled, turn}
+use Rattle.patmos_model.specs.Cycle.{with_interface, turn}
 use Rattle.patmos_core.specs.declared.phase.Phase.{Phase}
 use Rattle.patmos_core.specs.declared.phase.Phase.TheVariants.{Delivery, Act}
 use Rattle.patmos_core.specs.Position.{IsThere}
 use Rattle.patmos_core.proofs.Moving.{delivery_passed}
-use Rattle.patmos_core.specs.Progress.{half_at, TellsNext, IsStillIn, IsQuietAt}
+use Rattle.patmos_core.specs.Progress.{half_at, TellsNext, IsStillIn}
 use Rattle.patmos_step.specs.Ready.{IsUpTo}
-
--- neither the interface nor the core does something
-still : (u : ℕ) (y : Core) → delivery u y.plain.interface ≡ done y.plain.interface → injection u y.plain.interface ≡ done y.plain.interface → own u y ≡ now y → IsQuietAt u y
-still u y none_comes none_goes rests = record {
-  first = ap (λ p. and_then p (λ i. done (with_interface y i))) none_comes;
-  second = ap (λ p. and_then (and_then p (λ i. own u (with_interface y i))) settled) none_goes ∙ ap (λ p. and_then p settled) rests;
-}
 
 -- the cycle of an event is that of its half-cycle
 pub half_bounds : (e : NiEvent) → (2 * e.cycle ≤ half_of e) × (half_of e ≤ 2 * e.cycle + 1)
@@ -49,25 +38,10 @@ still_before s (Some e) u tells from before =
       injection = tells.between u 1 (omega arith) (omega (arith, from)) (omega (arith, before, bounds.0));
     }
 
--- before the interface's next act and before the core next_active
-pub quiet_before : (s : Standing) (next : Option NiEvent) (y : Core) (u : ℕ) → TellsNext s next → y.plain.interface ≡ s.interface → s.from ≤ 2 * u → IfSome next (λ e. u < e.cycle) → own u y ≡ now y → IsQuietAt u y
-quiet_before s next y u tells same from before rests =
-    let quiet : IsStillIn y.plain.interface u = subst (λ i. IsStillIn i u) (sym same) (still_before s next u tells from before) in
-    still u y quiet.delivery quiet.injection rests
-
 -- nothing of the interface is left before its next act
 pub nothing_before : (s : Standing) (next : Option NiEvent) (cycle half : ℕ) → TellsNext s next → IfSome next (λ e. cycle ≤ e.cycle) → s.from ≤ half → acts s.interface half ≡ true → 2 * cycle ≤ half
 nothing_before s None cycle half tells within from is = absurd (true≢false (sym is ∙ tells.never refl half))
 nothing_before s (Some e) cycle half tells within from is = omega (arith, within, (half_bounds e).0, tells.is.least half from is)
-
--- a core goes over quiet cycles as it is
-pub there_skipped : (n core : ℕ) (x : Core) (made : List Operation) (y : Core) (cycle later : ℕ) (phase : Phase) → phase ≡ Delivery → core < n → cycle ≤ later → ((u : ℕ) → cycle ≤ u → u < later → IsQuietAt u y) → IsThere n core cycle phase x made y → IsThere n core later phase x made y
-there_skipped n core x made y cycle later phase is among on quiet there =
-    let far : cycle + (later - cycle) ≡ later = omega (arith, on) in
-    subst (λ p. IsThere n core later p x made y) (sym is)
-    (subst (λ q. Stands (act_at turn n) n core x made (2 * q * n) y) far
-    (skips_cycles turn n core x made cycle y (later - cycle) among (λ u from below. let still : IsQuietAt u y = quiet u from (omega (arith, below, far)) in (still.first, still.second))
-    (subst (λ p. IsThere n core cycle p x made y) is there)))
 
 -- what is done before a cycle
 pub up_to_cycle : (ni : Standing) (cycle : ℕ) (phase : Phase) → phase ≡ Delivery → IsUpTo (half_at cycle phase) ni → IsUpTo (2 * cycle) ni

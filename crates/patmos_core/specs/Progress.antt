@@ -1,5 +1,5 @@
 -- For proofs. How far a core with a task has come in a cycle, and what its fields keep there.
-use Rattle.std.specs.Prelude.{◌≡◌, ℕ, ◌+◌, ◌*◌, ◌≤◌, false, Option, None, Some, IfSome, IsNone}
+use Rattle.std.specs.Prelude.{◌≡◌, ℕ, ◌+◌, ◌*◌, ◌≤◌, ◌<◌, true, false, Option, None, Some, IfSome, IsNone}
 use Rattle.slot_arbiter.specs.declared.place.TheConstants.{MOST_CYCLES}
 use Rattle.argo_ni.specs.Interface.{Interface, Standing}
 use Rattle.argo_ni.specs.Turn.{acts, delivery, injection}
@@ -10,9 +10,10 @@ use Rattle.patmos_step.specs.declared.body.Body.{Body}
 use Rattle.patmos_model.specs.declared.pending_store.PendingStore.{PendingStore}
 use Rattle.patmos_core.specs.declared.phase.Phase.{Phase}
 use Rattle.patmos_core.specs.declared.phase.Phase.TheVariants.{Delivery, Act, Completion}
-use Rattle.patmos_model.specs.State.{Core}
-use Rattle.patmos_model.specs.Cycle.{turn}
+use Rattle.patmos_model.specs.Transaction.{is_due}
+use Rattle.patmos_step.specs.Moving.{MovesIn}
 use Rattle.patmos_step.specs.Ready.{CanGoOn, StoresWithin, IsUpTo}
+use Rattle.patmos_step.specs.Shown.{plain_of}
 
 -- the half-cycle that comes next
 abbrev pub half_at : ℕ → Phase → ℕ
@@ -40,6 +41,12 @@ pub record IsSound (b : Body) (cycle : ℕ) (phase : Phase) : Type 0 where
   pub ni : IsUpTo (half_at cycle phase) b.ni
   pub leaves : StoresWithin b.place (pending_in phase)
 
+-- in the second phase of the cycle words are to be moved, and the interface does nothing in it
+pub record IsMoving (b : Body) (cycle : ℕ) (phase : Phase) : Type 0 where
+  pub act : phase ≡ Act
+  pub moves : MovesIn cycle (plain_of b)
+  pub ni : IsUpTo (2 * cycle + 2) b.ni
+
 -- what the interface does next, if anything: nothing happens before it, or ever
 pub record TellsNext (s : Standing) (next : Option NiEvent) : Type 0 where
   pub is : IfSome next (λ e. IsNextAct s (half_of e))
@@ -53,7 +60,8 @@ pub record IsStillIn (x : Interface) (cycle : ℕ) : Type 0 where
   pub delivery : delivery cycle x ≡ done x
   pub injection : injection cycle x ≡ done x
 
--- in both phases of the cycle the core does nothing
-pub record IsQuietAt (cycle : ℕ) (y : Core) : Type 0 where
-  pub first : turn 0 cycle y ≡ done y
-  pub second : turn 1 cycle y ≡ done y
+-- the interface does nothing in the cycle, and words that are to be moved can be
+pub record IsAloneAt (b : Body) (cycle : ℕ) : Type 0 where
+  pub still : IsStillIn b.ni.interface cycle
+  pub ni : IsUpTo (2 * cycle + 2) b.ni
+  pub due : 0 < b.transfer.words → is_due cycle (plain_of b) ≡ true

@@ -37,6 +37,7 @@ impl Core {
                 body,
                 cycle: 0,
                 phase: Phase::Delivery,
+                moves: false,
             }),
             limit: 0,
             waits: false,

@@ -11,7 +11,7 @@ use argo_ni::Ni;
 use slot_arbiter::MOST_CYCLES;
 
 impl Tasked {
-    ghost use Rattle.std.specs.Prelude.{◌≡◌, ℕ, ◌+◌, ◌≤◌, ◌<◌, List, ◌++◌};
+    ghost use Rattle.std.specs.Prelude.{◌≡◌, ℕ, ◌+◌, ◌≤◌, ◌<◌, List, ◌++◌, IsTrue, false};
     ghost use Rattle.slot_arbiter.specs.declared.event.Event.{Event};
     ghost use Rattle.shared_order.specs.declared.operation.Operation.{Operation};
     ghost use Rattle.shared_order.specs.Event.{asked_by};
@@ -34,12 +34,14 @@ impl Tasked {
     {
         match self.phase {
             Phase::Delivery => self.delivered(),
+            Phase::Act if self.moves => self.moved(values),
             Phase::Act => self.acted(values),
             Phase::Completion(_) => self.stored(),
         }
     }
 
     // the packets that were due have come to their words: the second phase is next
+    #[tactic(auto, using(crate::proofs::WordsMoving::none_before))]
     fn delivered(&mut self)
         requires delivery { self.old.phase ≡ Delivery }
         requires asked { (e : Event) × IsAskedAt self.old e }
@@ -57,6 +59,7 @@ impl Tasked {
     // the second phase is done with what its loads gave, but for a store that is then pending
     fn acted(&mut self, values: &[u32; 8])
         requires act { self.old.phase ≡ Act }
+        requires still { self.old.moves ≡ false }
         requires asked { (e : Event) × IsAskedAt self.old e }
         ensures stands { (e : Event) → IsAskedAt self.old e → (x : Core) (made : List Operation)
             → IsOn self.old x made → IsOn self.new x (made ++ asked_by e values.now) }
@@ -73,7 +76,26 @@ impl Tasked {
         self.phase = phase;
     }
 
+    // words have moved, with what their loads gave; but a store may then be pending
+    fn moved(&mut self, values: &[u32; 8])
+        requires moves { IsTrue self.old.moves }
+        requires asked { (e : Event) × IsAskedAt self.old e }
+        ensures stands { (e : Event) → IsAskedAt self.old e → (x : Core) (made : List Operation)
+            → IsOn self.old x made → IsOn self.new x (made ++ asked_by e values.now) }
+        ensures frame { IsFramed self.old.body self.new.body }
+        ensures further { phases_done self.old.cycle self.old.phase < phases_done self.new.cycle self.new.phase }
+        ensures cycle { self.new.cycle ≤ self.old.cycle + 1 }
+        ensures whole { self.new.cycle ≡ self.old.cycle + 1 → self.new.phase ≡ Delivery }
+    {
+        let pending_store = self.body.transact(self.cycle, values);
+        let (cycle, phase) = after_act(self.cycle, pending_store);
+        self.cycle = cycle;
+        self.phase = phase;
+        self.moves = false;
+    }
+
     // the pending store is made: the next cycle begins
+    #[tactic(auto, using(crate::proofs::WordsMoving::none_after))]
     fn stored(&mut self)
         requires pending_store { (o : PendingStore) × (self.old.phase ≡ Completion o) }
         requires asked { (e : Event) × IsAskedAt self.old e }

@@ -24,7 +24,8 @@ impl Tasked {
     ghost use Rattle.patmos_core.specs.Events.{SendsIn, AllBelow, AllUnread, asked_of, window_asks};
     ghost use Rattle.patmos_model.specs.Cycle as cycles;
     ghost use Rattle.patmos_step.specs.Plan.{planned, IsSettled, PlanFits};
-    ghost use Rattle.patmos_core.specs.Progress.{TellsNext};
+    ghost use Rattle.patmos_core.specs.Progress.{TellsNext, IsAloneAt};
+    ghost use Rattle.patmos_step.specs.Moving.{MovesIn};
     ghost use Rattle.patmos_core.specs.Waiting.{IsAskedAt, IsOfPlace};
     ghost use Rattle.patmos_step.specs.Ready.{HasRegisters};
     ghost use Rattle.patmos_core.specs.Position.{GoesOnAs, phases_done};
@@ -60,16 +61,18 @@ impl Tasked {
         }
     }
 
-    // a flow that is due takes effect
+    // a flow that is due takes effect; what is to be moved is not known any more
     fn settle(&mut self)
         requires act { self.old.phase ≡ Act }
         ensures goes_on { GoesOnAs self.old self.new }
+        ensures still { self.new.moves ≡ false }
         ensures settled { is_running (plain_of self.new.body) ≡ true
             → IsSettled self.new.cycle (plain_of self.new.body) }
         ensures act { self.new.phase ≡ Act }
         ensures cycle { self.new.cycle ≡ self.old.cycle }
         ensures ni { self.new.body.ni ≡ self.old.body.ni }
     {
+        self.moves = false;
         self.body.settle(self.cycle);
     }
 
@@ -98,6 +101,7 @@ impl Tasked {
     // a second phase that asks for nothing is done
     fn act_alone(&mut self, plan: &Plan)
         requires act { self.old.phase ≡ Act }
+        requires still { self.old.moves ≡ false }
         requires early { self.old.cycle < MOST_CYCLES }
         requires plan { plan.now ≡ planned self.old.cycle (plain_of self.old.body) }
         requires within { PlanFits self.old.body.offset self.old.body.size plan.now }
@@ -116,6 +120,25 @@ impl Tasked {
         let (cycle, phase) = after_act(self.cycle, pending_store);
         self.cycle = cycle;
         self.phase = phase;
+    }
+
+    /// The event of words of the board that are to be moved.
+    pub fn act_moving(&mut self, ask: Ask, event: &mut Event)
+        requires act { self.old.phase ≡ Act }
+        requires alone { IsAloneAt self.old.body self.old.cycle }
+        requires moves { MovesIn self.old.cycle (plain_of self.old.body) }
+        requires early { self.old.cycle < MOST_CYCLES }
+        requires follows { (h : History) (i : Interface) → FollowsAsk ask (cycles.own self.old.cycle
+            (cycles.with_interface (core_of self.old.body h) i)) }
+        requires within { AskFits (packets.comm_word self.old.body.place.cores 0) ask }
+        requires some { ask ≡ asks.Nothing → ⊥ }
+        ensures goes_on { GoesOnAs self.old self.new }
+        ensures asked { IsAskedAt self.new event.new }
+        ensures fits { IsOfPlace self.new.body.place event.new }
+        ensures cycle { self.new.cycle ≡ self.old.cycle }
+    {
+        self.act_event(None, ask, event);
+        self.moves = true;
     }
 
     // the event of a second phase

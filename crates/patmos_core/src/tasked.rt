@@ -1,6 +1,6 @@
-ghost use Rattle.std.specs.Prelude.{◌≤◌};
+ghost use Rattle.std.specs.Prelude.{◌≤◌, IsTrue};
 ghost use Rattle.patmos_step.specs.Facts.{facts};
-ghost use Rattle.patmos_core.specs.Progress.{IsSound};
+ghost use Rattle.patmos_core.specs.Progress.{IsSound, IsMoving};
 
 use crate::phase::Phase;
 use patmos_step::Body;
@@ -11,5 +11,8 @@ pub struct Tasked {
     pub body: Body,
     pub cycle: u64,
     pub phase: Phase,
+    /// Its own act in the cycle moves words, and nothing else happens in it.
+    pub moves: bool,
     ghost sound: { IsSound body cycle phase } by { Prim.hlevel facts },
+    ghost moving: { IsTrue moves → IsMoving body cycle phase } by { Prim.hlevel facts },
 }

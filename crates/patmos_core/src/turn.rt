@@ -4,7 +4,7 @@ use crate::tasked::Tasked;
 use crate::window::next_act;
 use argo_ni::{NiEvent, NiKind};
 use patmos_model::PendingStore;
-use patmos_step::comm_word;
+use patmos_step::{Ask, comm_word};
 use slot_arbiter::{Event, MOST_CYCLES, stamp_of};
 
 impl Tasked {
@@ -13,11 +13,9 @@ impl Tasked {
     ghost use Rattle.argo_ni.specs.Event.{half_of, IsNextAct, IsDelivery};
     ghost use Rattle.patmos_core.specs.declared.phase.Phase.TheVariants.{Delivery, Act};
     ghost use Rattle.patmos_core.specs.declared.phase.Phase.TheVariants as phase;
-    ghost use Rattle.patmos_model.specs.State.{History};
-    ghost use Rattle.patmos_core.specs.Progress.{TellsNext, IsStillIn, IsQuietAt};
+    ghost use Rattle.patmos_core.specs.Progress.{TellsNext, IsStillIn, IsAloneAt};
     ghost use Rattle.patmos_core.specs.Waiting.{IsAskedAt, IsOfPlace};
     ghost use Rattle.patmos_core.specs.Position.{GoesOnAs, phases_done};
-    ghost use Rattle.patmos_step.specs.Shown.{core_of};
 
     /// What the interface does next, if anything is left.
     fn next_act(&self) -> Option<NiEvent>
@@ -26,30 +24,10 @@ impl Tasked {
         next_act(&self.body.ni)
     }
 
-    /// The first cycle from this one on in which something may happen, or else the limit.
-    #[tactic(auto, using(crate::proofs::Stillness::quiet_before, crate::proofs::Stillness::nothing_before))]
-    fn next_active(&self, next: Option<NiEvent>, limit: u64) -> u64
-        requires delivery { self.now.phase ≡ Delivery }
-        requires next { TellsNext self.now.body.ni next }
-        requires within { self.now.cycle ≤ limit }
-        requires most { limit ≤ MOST_CYCLES }
-        ensures from { self.now.cycle ≤ result }
-        ensures most { result ≤ limit }
-        ensures quiet { (h : History) (u : ℕ) → self.now.cycle ≤ u → u < result
-            → IsQuietAt u (core_of self.now.body h) }
-        ensures nothing { (half : ℕ) → self.now.body.ni.from ≤ half → acts self.now.body.ni.interface half ≡ true
-            → 2 * result ≤ half }
-    {
-        let own = self.body.next_active(self.cycle, limit).min(limit);
-        match next {
-            Some(act) => own.min(act.cycle),
-            None => own,
-        }
-    }
-
-    /// Goes over the cycles in which nothing happens.
-    #[tactic(auto)]
-    fn skip(&mut self, next: Option<NiEvent>, limit: u64)
+    /// Goes on as long as the core does all by itself and the interface does nothing: whether it comes to a cycle in
+    /// which the interface does nothing either.
+    #[tactic(auto, using(crate::proofs::WordsMoving::none_before))]
+    fn go_alone(&mut self, next: Option<NiEvent>, limit: u64) -> bool
         requires delivery { self.old.phase ≡ Delivery }
         requires next { TellsNext self.old.body.ni next }
         requires within { self.old.cycle ≤ limit }
@@ -57,24 +35,13 @@ impl Tasked {
         ensures goes_on { GoesOnAs self.old self.new }
         ensures delivery { self.new.phase ≡ Delivery }
         ensures within { self.new.cycle ≤ limit }
-        ensures ni { self.new.body.ni ≡ self.old.body.ni }
-    {
-        self.cycle = self.next_active(next, limit);
-    }
-
-    /// Does the bundles that the core does by itself, as long as the interface does nothing.
-    fn go_alone(&mut self, next: Option<NiEvent>, limit: u64)
-        requires delivery { self.old.phase ≡ Delivery }
-        requires next { TellsNext self.old.body.ni next }
-        requires within { self.old.cycle ≤ limit }
-        requires most { limit ≤ MOST_CYCLES }
-        ensures goes_on { GoesOnAs self.old self.new }
-        ensures delivery { self.new.phase ≡ Delivery }
-        ensures within { self.new.cycle ≤ limit }
+        ensures below { IsTrue result → self.new.cycle < limit }
+        ensures alone { IsTrue result → IsAloneAt self.new.body self.new.cycle }
         ensures ni { self.new.body.ni ≡ self.old.body.ni }
     {
         let until = self.still_until(next, limit);
         self.cycle = self.body.run_alone(self.cycle, until);
+        self.cycle < until
     }
 
     // the cycle of the interface's next act, or the limit if that is earlier
@@ -125,7 +92,8 @@ impl Tasked {
         requires delivery { self.now.phase ≡ Delivery }
         requires next { TellsNext self.now.body.ni next }
         ensures due { IfSome result (λ packet. IsNextAct self.now.body.ni (2 * self.now.cycle)) }
-        ensures packet { IfSome result (λ packet. IsDelivery self.now.body.ni.interface self.now.cycle packet.target packet.first packet.count packet.values) }
+        ensures packet { IfSome result (λ packet. IsDelivery self.now.body.ni.interface self.now.cycle
+            packet.target packet.first packet.count packet.values) }
         ensures none { IsNone result → IfSome next (λ e. 2 * self.now.cycle < half_of e) }
     {
         let act = next?;
@@ -150,6 +118,7 @@ impl Tasked {
     }
 
     // without a packet that is due, the second phase is next
+    #[tactic(auto, using(crate::proofs::WordsMoving::none_before))]
     fn pass(&mut self, next: Option<NiEvent>)
         requires delivery { self.old.phase ≡ Delivery }
         requires next { TellsNext self.old.body.ni next }
@@ -157,7 +126,7 @@ impl Tasked {
         ensures goes_on { GoesOnAs self.old self.new }
         ensures act { self.new.phase ≡ Act }
         ensures cycle { self.new.cycle ≡ self.old.cycle }
-        ensures ni { self.new.body.ni ≡ self.old.body.ni }
+        ensures body { self.new.body ≡ self.old.body }
     {
         self.phase = Phase::Act;
     }
@@ -166,7 +135,8 @@ impl Tasked {
     fn delivery(&self, packet: &Delivered, event: &mut Event)
         requires delivery { self.now.phase ≡ Delivery }
         requires due { IsNextAct self.now.body.ni (2 * self.now.cycle) }
-        requires packet { IsDelivery self.now.body.ni.interface self.now.cycle packet.now.target packet.now.first packet.now.count packet.now.values }
+        requires packet { IsDelivery self.now.body.ni.interface self.now.cycle
+            packet.now.target packet.now.first packet.now.count packet.now.values }
         requires early { self.now.cycle < MOST_CYCLES }
         ensures asked { IsAskedAt self.now event.new }
         ensures fits { IsOfPlace self.now.body.place event.new }
@@ -202,8 +172,8 @@ impl Tasked {
         }
     }
 
-    // goes over the cycles in which nothing happens and those which the core does by itself, and through the
-    // first one in which something else may happen
+    // goes over the cycles which the core goes through by itself, and through the first one in which something else may
+    // happen
     fn begin(&mut self, limit: u64, event: &mut Event) -> bool
         requires delivery { self.old.phase ≡ Delivery }
         requires below { self.old.cycle < limit }
@@ -218,8 +188,9 @@ impl Tasked {
             → phases_done self.old.cycle self.old.phase < phases_done self.new.cycle self.new.phase }
     {
         let next = self.next_act();
-        self.skip(next, limit);
-        self.go_alone(next, limit);
+        if self.go_alone(next, limit) {
+            return self.act_still(next, event);
+        }
         if self.cycle == limit {
             return false;
         }
@@ -227,6 +198,32 @@ impl Tasked {
             return true;
         }
         self.act(next, event)
+    }
+
+    // goes through a cycle in which the interface does nothing: words are moved, or else the core has its second phase
+    #[tactic(auto, using(crate::proofs::WordsMoving::next_later))]
+    fn act_still(&mut self, next: Option<NiEvent>, event: &mut Event) -> bool
+        requires delivery { self.old.phase ≡ Delivery }
+        requires next { TellsNext self.old.body.ni next }
+        requires alone { IsAloneAt self.old.body self.old.cycle }
+        requires early { self.old.cycle < MOST_CYCLES }
+        ensures goes_on { GoesOnAs self.old self.new }
+        ensures asked { IsTrue result → IsAskedAt self.new event.new }
+        ensures fits { IsTrue result → IsOfPlace self.new.body.place event.new }
+        ensures further { result ≡ false
+            → phases_done self.old.cycle self.old.phase < phases_done self.new.cycle self.new.phase }
+        ensures cycle { self.new.cycle ≤ self.old.cycle + 1 }
+        ensures whole { self.new.cycle ≡ self.old.cycle + 1 → self.new.phase ≡ Delivery }
+        ensures same { IsTrue result → self.new.cycle ≡ self.old.cycle }
+    {
+        self.pass(next);
+        match self.body.ask_of_moved() {
+            Ask::Nothing => self.act(next, event),
+            ask => {
+                self.act_moving(ask, event);
+                true
+            }
+        }
     }
 
     // the event of a pending store

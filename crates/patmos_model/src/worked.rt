@@ -72,26 +72,3 @@ pub fn worked_traps()
     ensures no_step { (after tasks.stopped_pair 30).plain.offset ≡ 2 }
     ensures at_limit { outcome tasks.no_memory 7 ≡ Running }
 {}
-
-#[cfg(test)]
-mod tests {
-    use super::*;
-    use crate::apart::run_apart_is_followed;
-    use crate::bursts::transfer_is_its_bursts;
-    use crate::range::core_keeps_ranges;
-    use crate::trap::Trap;
-
-    #[test]
-    fn laws_are_called_and_traps_have_their_numbers(rt: HostRuntime) {
-        worked_task();
-        worked_flows();
-        worked_memory();
-        worked_traps();
-        run_apart_is_followed();
-        transfer_is_its_bursts();
-        core_keeps_ranges();
-        assert_eq!(rt; (Trap::Access.number(), Trap::Align.number()), (1, 2));
-        assert_eq!(rt; (Trap::Decode.number(), Trap::Flow.number()), (3, 4));
-        assert_eq!(rt; (Trap::Stack.number(), Trap::Interface.number()), (5, 6));
-    }
-}

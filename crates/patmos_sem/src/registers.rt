@@ -24,11 +24,35 @@ impl Model for Regs {
 
     ghost Value = { Registers };
 
-    ghost view = { λ r. record { general = r.general; preds = r.preds; sl = r.sl; sh = r.sh; srb = r.srb; sro = r.sro; pending = r.pending } };
+    ghost view = { λ r. record {
+      general = r.general;
+      preds = r.preds;
+      sl = r.sl;
+      sh = r.sh;
+      srb = r.srb;
+      sro = r.sro;
+      pending = r.pending;
+    } };
 
-    ghost invariant = { λ r. FitsRegisters (record { general = r.general; preds = r.preds; sl = r.sl; sh = r.sh; srb = r.srb; sro = r.sro; pending = r.pending }) };
+    ghost invariant = { λ r. FitsRegisters (record {
+      general = r.general;
+      preds = r.preds;
+      sl = r.sl;
+      sh = r.sh;
+      srb = r.srb;
+      sro = r.sro;
+      pending = r.pending;
+    }) };
 
-    ghost inverse = { λ r. record { general = r.general; preds = r.preds; sl = r.sl; sh = r.sh; srb = r.srb; sro = r.sro; pending = r.pending } };
+    ghost inverse = { λ r. record {
+      general = r.general;
+      preds = r.preds;
+      sl = r.sl;
+      sh = r.sh;
+      srb = r.srb;
+      sro = r.sro;
+      pending = r.pending;
+    } };
 }
 
 impl Regs {

@@ -19,7 +19,7 @@ use Rattle.patmos_model.proofs.Waits.{none_right, flow_waits, bundle_waits}
 use Rattle.patmos_step.specs.declared.body.Body.{Body}
 use Rattle.patmos_step.specs.Shown.{Shows, core_of, plain_of}
 use Rattle.patmos_step.specs.Alone.{IsAlone, DoesAlone, ComesAlone}
-use Rattle.patmos_step.specs.Moving.{IsPrivateCell, MovesOwn, CanMoveIn, private_at, private_set, moved_by}
+use Rattle.patmos_step.specs.Moving.{IsPrivateCell, MovesOwn, MovesIn, CanMoveIn, private_at, private_set, moved_by}
 use Rattle.patmos_step.proofs.ByItself.{runs}
 
 -- the core with these words moved
@@ -65,7 +65,8 @@ goes_on : (flow : Option Flow) (moved : Bool) → moved ≡ false → elim flow 
 goes_on None moved h = refl
 goes_on (Some f) moved h = none_right (is_end f) moved h
 
-own_moves : (cycle : ℕ) (c : Core) → CanMoveIn cycle c.plain → own cycle c ≡ now (after_move cycle c)
+-- so its own act in the cycle moves the words
+pub own_moves : (cycle : ℕ) (c : Core) → MovesIn cycle c.plain → own cycle c ≡ transaction cycle c
 own_moves cycle c moves =
     let some : (c.plain.transfer.words == 0) ≡ false = is_more c.plain.transfer.words _ moves.due in
     let running : is_running c.plain ≡ true = runs c.plain moves.status (goes_on c.plain.flow (c.plain.transfer.words == 0) some) in
@@ -75,14 +76,14 @@ own_moves cycle c moves =
     ∙ ap (λ b. and_then (elim b as (λ _. Prog Acted) [ true ↦ bundle_step cycle c | false ↦ now c ]) (slot_step cycle)) running
     ∙ ap (λ p. and_then p (slot_step cycle)) (bundle_waits c cycle busy)
     ∙ ap (λ b. elim b as (λ _. Prog Acted) [ true ↦ transaction cycle c | false ↦ now c ]) moves.due
-    ∙ transacts cycle c moves.own
 
 -- the words of a core's own memory move
 pub moved_alone : (cycle : ℕ) (b last : Body) (h : History) → CanMoveIn cycle (plain_of b)
     → plain_of last ≡ moved_by b.transfer.then (moved cycle (plain_of b)) → last.ni ≡ b.ni
     → IsAlone cycle (core_of b h) (core_of last (accessed b.transfer cycle h))
 moved_alone cycle b last h moves same ni = record {
-  act = own_moves cycle (core_of b h) moves ∙ ap (λ x. now (record { plain = x; seen = accessed b.transfer cycle h })) (sym same);
+  act = own_moves cycle (core_of b h) moves.moves ∙ transacts cycle (core_of b h) moves.own
+      ∙ ap (λ x. now (record { plain = x; seen = accessed b.transfer cycle h })) (sym same);
   interface = ap (λ s. s.interface) ni;
 }
 

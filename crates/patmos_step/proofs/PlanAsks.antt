@@ -46,13 +46,15 @@ use Rattle.patmos_model.specs.Cells.{Acted, cell_of, now, with_value, reading, r
 use Rattle.patmos_model.specs.Checks.{fault_of, check, is_other, is_store_word, store_cell_fault}
 use Rattle.patmos_model.specs.Bundle.{ends, moves, with_words, refilled, stack_set, stacked, loaded, stored, answered, performed, advanced, done_as, fetched_at}
 use Rattle.patmos_model.specs.Transaction.{transaction, transaction_then, is_due, line_address, line_taken, moved, counted, with_store}
-use Rattle.patmos_model.specs.Cycle.{slot_step, with_interface}
+use Rattle.patmos_model.specs.Cycle.{own, slot_step, with_interface}
+use Rattle.patmos_step.specs.Moving.{MovesIn}
 use Rattle.patmos_step.specs.Plan.{planned, carried_out}
 use Rattle.patmos_step.specs.Ready.{HasRegisters}
 use Rattle.patmos_step.specs.Shown.{Shows, core_of, plain_of}
 use Rattle.patmos_step.specs.Asks.{LeavesPending, Ends, Loads, Stores, AsksFor, FollowsAsk, AskFits, load_ask, line_ask, word_ask, store_ask, then_ask, slot_ask, cached_ask, loaded_ask, stored_ask, effect_ask, fetched_ask, plan_ask}
 use Rattle.shared_order.proofs.Parts.{then-done}
 use Rattle.patmos_model.proofs.CellRanges.{cell_in_range, line_fits, LineFits}
+use Rattle.patmos_step.proofs.OwnWords.{own_moves}
 use Rattle.patmos_step.proofs.Short.{none_moved}
 
 -- a program that goes on where another ends
@@ -162,6 +164,15 @@ slot_asks true cycle c h =
 slot_asks false cycle c h =
     subst (λ due. FollowsAsk asks.Nothing (elim due [ true ↦ transaction_then c.plain.transfer.then cycle c | false ↦ done (record { core = c; pending_store = None }) ])) (sym h)
     refl
+
+-- so it is where the core's own act moves it, whatever its interface is
+pub moved_follows : (b : Body) (cycle : ℕ) (asked : Ask) (h : History) (i : Interface) → MovesIn cycle (plain_of b) → asked ≡ then_ask (plain_of b).site b.transfer.then
+    → FollowsAsk asked (own cycle (with_interface (core_of b h) i))
+unfolding transaction
+moved_follows b cycle asked h i moves same =
+    let c : Core = with_interface (core_of b h) i in
+    let does : own cycle c ≡ transaction_then b.transfer.then cycle c = own_moves cycle c (record { status = moves.status; due = moves.due }) in
+    subst (λ a. FollowsAsk a (own cycle c)) (sym same) (subst (FollowsAsk (then_ask c.plain.site b.transfer.then)) (sym does) (then_asks b.transfer.then cycle c))
 
 -- a core that is free has nothing to move
 free_words : (cycle : ℕ) (x : Plain) → is_free cycle x ≡ true → x.transfer.words ≡ 0
@@ -427,6 +438,10 @@ plan_ask_fits Waits cycle x cached among = either_fits (is_due cycle x) x.site x
 plan_ask_fits (Does Outside) cycle x cached among = tt
 plan_ask_fits (Does NoBundle) cycle x cached among = tt
 plan_ask_fits (Does (Found b words)) cycle x cached among = checked_fits (fault_of x (effect_of b x.regs)) cycle x.site cached (effect_of b x.regs) among
+
+-- what the words of a core ask for is on the board
+pub moved_within : (b : Body) (asked : Ask) → asked ≡ then_ask (plain_of b).site b.transfer.then → b.place.core < b.place.cores → AskFits (comm_word b.place.cores 0) asked
+moved_within b asked same among = subst (AskFits (comm_word b.place.cores 0)) (sym same) (then_fits (plain_of b).site b.transfer.then among)
 
 -- what the plan of a core asks for is on the board
 pub plan_within : (b : Body) (plan : Plan) (cycle : ℕ) (asked : Ask) → asked ≡ plan_ask plan cycle (plain_of b) (word_at b.cache) → b.place.core < b.place.cores → AskFits (comm_word b.place.cores 0) asked

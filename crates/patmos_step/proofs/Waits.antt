@@ -19,8 +19,9 @@ use Rattle.patmos_model.specs.declared.transfer.Then.TheVariants as then_on
 use Rattle.slot_arbiter.specs.Order.{IsNext}
 use Rattle.slot_arbiter.specs.Slot.{is_slot_start}
 use Rattle.patmos_model.specs.Bundle.{ends}
-use Rattle.patmos_step.specs.Alone.{CanBegin, IsLocal, SpaceWaits, CanFirstMove, landed, with_registers, passed, scratch_set, finished_load, finished_store}
+use Rattle.patmos_step.specs.Alone.{CanBegin, IsLocal, SpaceWaits, CanFirstMove, IsDueBefore, landed, with_registers, passed, scratch_set, finished_load, finished_store}
 use Rattle.patmos_step.proofs.AtOnce.{begins_next}
+use Rattle.patmos_step.proofs.Short.{free_unmoved}
 use Rattle.patmos_step.proofs.Sleeping.{slot_first}
 
 free_now : (words free cycle : ℕ) → (words == 0) && (free == cycle) ≡ true → free ≡ cycle
@@ -50,6 +51,10 @@ pub store_waits : (width : StoreWidth) (address value cycle start words offset :
     → IsNext (is_slot_start before.site.table before.site.slot before.site.core) cycle start → CanFirstMove (cycle + 1) start y
 store_waits width address value cycle start words offset asked b before x y begins there same later next =
     left_waits cycle start words offset asked b before x y (writes 1 (then_on.Store false width address value)) begins there same (omega arith) later next
+
+-- where a bundle comes, no words are to be moved
+pub none_moves : (cycle limit later : ℕ) (x : Plain) → CanBegin cycle x → IsDueBefore limit later x
+none_moves cycle limit later x begins = λ below some. absurd (omega (arith, some, free_unmoved x.transfer.words (x.free == cycle) begins.free))
 
 -- words of the other memories wait for no slot
 pub local_waits : (space : Mem) (cycle : ℕ) (site : Site) → IsLocal space → SpaceWaits space cycle site

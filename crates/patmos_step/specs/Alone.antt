@@ -232,8 +232,13 @@ pub record ComesAlone (from to : ℕ) (c : Core) (b : Body) : Type 0 where
   pub shows : Shows b seen
   pub alone : (count : ℕ) → from + count ≡ to → DoesAlone from count c (core_of b seen)
 
--- the core went so far by itself from a cycle on in which its next bundle comes: it stands where it did; or that
--- bundle is done, and the next one comes in the next cycle; or it waited after it until a cycle
+-- words that are to be moved can be in a cycle that comes before the limit
+abbrev pub IsDueBefore : ℕ → ℕ → Plain → Type 0
+IsDueBefore limit cycle x = cycle < limit → 0 < x.transfer.words → is_due cycle x ≡ true
+
+-- the core went so far by itself from a cycle on in which its next bundle comes: it stands where it did;
+-- or that bundle is done, and the next one comes in the next cycle; or it waited after it until a cycle,
+-- in which words that are still to be moved can be
 abbrev pub HasGone : Went → ℕ → ℕ → Body → Body → Type 0
 HasGone how cycle limit b last = elim how [
   | went.Nowhere ↦ last ≡ b
@@ -241,4 +246,5 @@ HasGone how cycle limit b last = elim how [
       × CanBegin (cycle + 1) (plain_of last)
   | went.Until next ↦ (cycle < next) × (next ≤ limit)
       × ((h : History) → Shows b h → ComesAlone cycle next (core_of b h) last)
+      × IsDueBefore limit next (plain_of last)
 ]

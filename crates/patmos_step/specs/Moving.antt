@@ -1,5 +1,5 @@
 -- To be believed. Words of a core's own memory that move in a slot: nothing of the board is asked for.
-use Rattle.std.specs.Prelude.{◌≡◌, ℕ, true, false, Option, None, Some}
+use Rattle.std.specs.Prelude.{◌≡◌, ℕ, ◌<◌, true, false, Option, None, Some}
 use Rattle.shared_order.specs.Words.{put}
 use Rattle.local_store.specs.declared.map.Space.TheVariants.{Main}
 use Rattle.local_store.specs.declared.map.Cell.{Cell}
@@ -35,11 +35,20 @@ MovesOwn then = elim then [
   | then_on.Store cached width address value ↦ elim cached [ true ↦ ⊥ | false ↦ IsPrivateCell (cell_of Main address) ]
 ]
 
--- such words move in the cycle
-pub record CanMoveIn (cycle : ℕ) (x : Plain) : Type 0 where
+-- words are to be moved, in this cycle or a later one
+pub record HasToMove (x : Plain) : Type 0 where
   pub status : x.status ≡ Running
-  pub own : MovesOwn x.transfer.then
+  pub words : 0 < x.transfer.words
+
+-- words move in the cycle
+pub record MovesIn (cycle : ℕ) (x : Plain) : Type 0 where
+  pub status : x.status ≡ Running
   pub due : is_due cycle x ≡ true
+
+-- and they are such words
+pub record CanMoveIn (cycle : ℕ) (x : Plain) : Type 0 where
+  pub moves : MovesIn cycle x
+  pub own : MovesOwn x.transfer.then
 
 -- the word in a cell of private memory, and the core with a value stored in it
 abbrev pub private_at : Option Cell → Plain → ℕ

@@ -106,7 +106,8 @@ impl Body {
         requires can { CanGoOn self.old }
         requires ready { IsReady cycle self.old.ni }
         ensures done { (s : ℕ) (h : History) → Shows self.old h
-            → IsActed self.new result (fed s (cycles.slot_step cycle (record { core = core_of self.old h; pending_store = pending_store })) values.now).core }
+            → IsActed self.new result (fed s (cycles.slot_step cycle
+            (record { core = core_of self.old h; pending_store = pending_store })) values.now).core }
         ensures ready { IsReady cycle self.new.ni }
         ensures can { CanGoOn self.new }
         ensures frame { IsFramed self.old self.new }

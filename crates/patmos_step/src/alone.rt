@@ -32,7 +32,7 @@ impl Body {
     ghost use Rattle.patmos_step.specs.Ready.{CanGoOn};
     ghost use Rattle.patmos_step.specs.Shown.{Shows, IsFramed, core_of, plain_of};
     ghost use Rattle.patmos_model.specs.Transaction.{is_due};
-    ghost use Rattle.patmos_step.specs.Alone.{no_slot_left, CanBegin, CanLand, CanFirstMove, HasGone, ComesAlone};
+    ghost use Rattle.patmos_step.specs.Alone.{no_slot_left, CanBegin, CanLand, CanFirstMove, IsDueBefore, HasGone, ComesAlone};
 
     /// From a cycle on goes on as long as the core does all by itself: its bundles, waiting, and moving words of
     /// its own memory; up to the first cycle in which it may do something else, or up to the limit. Gives that
@@ -45,6 +45,7 @@ impl Body {
         ensures from { from ≤ result }
         ensures within { result ≤ limit }
         ensures alone { (h : History) → Shows self.old h → ComesAlone from result (core_of self.old h) self.new }
+        ensures due { IsDueBefore limit result (plain_of self.new) }
         ensures can { CanGoOn self.new }
         ensures ni { self.new.ni ≡ self.old.ni }
         ensures frame { IsFramed self.old self.new }
@@ -52,6 +53,9 @@ impl Body {
         let mut cycle = from;
         while cycle < limit {
             let next = self.run_bundles(cycle, limit);
+            if cycle < next && 0 < self.transfer.words {
+                return next;
+            }
             let after = self.wait_alone(next, limit);
             if after == next {
                 return after;
@@ -69,6 +73,7 @@ impl Body {
         ensures from { from ≤ result }
         ensures within { result ≤ limit }
         ensures alone { (h : History) → Shows self.old h → ComesAlone from result (core_of self.old h) self.new }
+        ensures due { IsDueBefore limit result (plain_of self.new) }
         ensures can { CanGoOn self.new }
         ensures ni { self.new.ni ≡ self.old.ni }
         ensures frame { IsFramed self.old self.new }
@@ -91,6 +96,7 @@ impl Body {
         ensures from { from ≤ result }
         ensures within { result ≤ limit }
         ensures alone { (h : History) → Shows self.old h → ComesAlone from result (core_of self.old h) self.new }
+        ensures due { IsDueBefore limit result (plain_of self.new) }
         ensures can { CanGoOn self.new }
         ensures ni { self.new.ni ≡ self.old.ni }
         ensures frame { IsFramed self.old self.new }
@@ -111,6 +117,7 @@ impl Body {
         ensures from { from ≤ result }
         ensures within { result ≤ limit }
         ensures alone { (h : History) → Shows self.old h → ComesAlone from result (core_of self.old h) self.new }
+        ensures due { IsDueBefore limit result (plain_of self.new) }
         ensures can { CanGoOn self.new }
         ensures ni { self.new.ni ≡ self.old.ni }
         ensures frame { IsFramed self.old self.new }
@@ -123,7 +130,7 @@ impl Body {
     }
 
     // does bundles one a cycle, as long as each is one that the core does by itself
-    #[tactic(auto, using(crate::proofs::ByItself::begins_alone))]
+    #[tactic(auto, using(crate::proofs::ByItself::begins_alone, crate::proofs::Waits::none_moves))]
     fn run_bundles(&mut self, from: u64, limit: u64) -> u64
         requires can { CanGoOn self.old }
         requires within { from ≤ limit }
@@ -131,6 +138,7 @@ impl Body {
         ensures from { from ≤ result }
         ensures within { result ≤ limit }
         ensures alone { (h : History) → Shows self.old h → ComesAlone from result (core_of self.old h) self.new }
+        ensures due { from < result → IsDueBefore limit result (plain_of self.new) }
         ensures can { CanGoOn self.new }
         ensures ni { self.new.ni ≡ self.old.ni }
         ensures frame { IsFramed self.old self.new }

@@ -28,14 +28,17 @@ pub enum Ask {
 }
 
 impl Body {
-    ghost use Rattle.std.specs.Prelude.{◌≡◌, ◌≤◌};
+    ghost use Rattle.std.specs.Prelude.{◌≡◌, ◌≢◌, ℕ, ◌≤◌, true};
     ghost use Rattle.data_cache.specs.Lines.{word_at};
     ghost use Rattle.argo_ni.specs.Interface.{Interface};
     ghost use Rattle.argo_ni.specs.Packet as packets;
     ghost use Rattle.patmos_model.specs.State.{History};
-    ghost use Rattle.patmos_model.specs.Cycle.{with_interface};
+    ghost use Rattle.patmos_model.specs.Cycle.{own, with_interface};
+    ghost use Rattle.patmos_model.specs.Transaction.{is_due};
+    ghost use Rattle.patmos_step.specs.declared.ask.Ask.TheVariants as asks;
+    ghost use Rattle.patmos_step.specs.Moving.{HasToMove};
     ghost use Rattle.patmos_step.specs.Plan.{planned, carried_out};
-    ghost use Rattle.patmos_step.specs.Asks.{FollowsAsk, AskFits};
+    ghost use Rattle.patmos_step.specs.Asks.{FollowsAsk, AskFits, then_ask};
     ghost use Rattle.patmos_step.specs.Ready.{HasRegisters};
     ghost use Rattle.patmos_step.specs.Shown.{Shows, core_of, plain_of};
 
@@ -49,6 +52,24 @@ impl Body {
         ensures within { AskFits (packets.comm_word self.now.place.cores 0) result }
     {
         self.ask_of_plan(plan, cycle)
+    }
+
+    /// What words that are to be moved ask for in the cycle in which they move, known without a plan.
+    #[inline(always)]
+    #[tactic(auto, using(crate::proofs::PlanAsks::moved_follows, crate::proofs::PlanAsks::moved_within))]
+    pub fn ask_of_moved(&self) -> Ask
+        ensures asks { HasToMove (plain_of self.now) → result
+            ≡ then_ask (plain_of self.now).site self.now.transfer.then }
+        ensures some { result ≢ asks.Nothing → HasToMove (plain_of self.now) }
+        ensures follows { result ≢ asks.Nothing → (cycle : ℕ) (h : History) (i : Interface)
+            → is_due cycle (plain_of self.now) ≡ true
+            → FollowsAsk result (own cycle (with_interface (core_of self.now h) i)) }
+        ensures within { AskFits (packets.comm_word self.now.place.cores 0) result }
+    {
+        if !self.is_moving() {
+            return Ask::Nothing;
+        }
+        self.ask_of_then(&self.transfer.then)
     }
 
     // what the plan asks for

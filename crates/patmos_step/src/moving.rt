@@ -1,4 +1,4 @@
-ghost use Rattle.std.specs.Prelude.{◌≡◌, true};
+ghost use Rattle.std.specs.Prelude.{◌↔◌, IsTrue};
 ghost use Rattle.patmos_step.specs.Moving.{MovesOwn, IsPrivateCell};
 
 use crate::body::Body;
@@ -10,26 +10,30 @@ use patmos_sem::merge;
 use slot_arbiter::MOST_CYCLES;
 
 impl Body {
-    ghost use Rattle.std.specs.Prelude.{◌≡◌, ℕ, ◌%◌, ◌≤◌, ◌<◌, true, IfSome};
+    ghost use Rattle.std.specs.Prelude.{◌≡◌, ◌%◌, ◌≤◌, ◌↔◌, IsTrue, IfSome};
     ghost use Rattle.local_store.specs.Map.{IsInRange};
     ghost use Rattle.patmos_sem.specs.Effects.{store_bytes};
     ghost use Rattle.patmos_model.specs.State.{History};
-    ghost use Rattle.patmos_model.specs.Transaction.{accessed, is_due};
+    ghost use Rattle.patmos_model.specs.Transaction.{accessed};
     ghost use Rattle.patmos_step.specs.Ready.{CanMove, CanGoOn, IsAtRest};
     ghost use Rattle.patmos_step.specs.Shown.{Shows, IsFramed, core_of, plain_of};
     ghost use Rattle.patmos_step.specs.Alone.{IsAlone};
-    ghost use Rattle.patmos_step.specs.Moving.{MovesOwn, CanMoveIn, private_at, private_set, moved_by};
+    ghost use Rattle.patmos_step.specs.Moving.{HasToMove, MovesOwn, CanMoveIn, private_at, private_set, moved_by};
 
     /// Whether words are to be moved, and no others than those of the core's own memory.
     #[inline(always)]
     pub fn moves_own(&self) -> bool
-        ensures some { result ≡ true → 0 < self.now.transfer.words }
-        ensures own { result ≡ true → (cycle : ℕ) → is_due cycle (plain_of self.now) ≡ true
-            → CanMoveIn cycle (plain_of self.now) }
+        ensures { IsTrue result ↔ (HasToMove (plain_of self.now) × MovesOwn self.now.transfer.then) }
     {
-        matches!(self.status, Status::Running)
-            && 0 < self.transfer.words
-            && is_own_move(&self.transfer.then)
+        self.is_moving() && is_own_move(&self.transfer.then)
+    }
+
+    /// Whether words are to be moved.
+    #[inline(always)]
+    pub fn is_moving(&self) -> bool
+        ensures { IsTrue result ↔ HasToMove (plain_of self.now) }
+    {
+        matches!(self.status, Status::Running) && 0 < self.transfer.words
     }
 
     /// Moves them.
@@ -107,7 +111,7 @@ impl Body {
 
 // whether no words but those of a core's own memory move, and none of them in a line
 fn is_own_move(then: &Then) -> bool
-    ensures { result ≡ true → MovesOwn then.now }
+    ensures { IsTrue result ↔ MovesOwn then.now }
 {
     match *then {
         Then::Nothing => true,
@@ -123,7 +127,7 @@ fn is_own_move(then: &Then) -> bool
 
 // whether it is a cell of a core's private memory
 fn is_private_cell(cell: Option<Cell>) -> bool
-    ensures { result ≡ true → IsPrivateCell cell }
+    ensures { IsTrue result ↔ IsPrivateCell cell }
 {
     matches!(cell, Some(Cell::Private(_)))
 }

@@ -2,26 +2,16 @@ use crate::body::Body;
 use slot_arbiter::{MOST_CYCLES, start_of};
 
 impl Body {
-    ghost use Rattle.std.specs.Prelude.{◌≡◌, ℕ, ◌≤◌, ◌<◌, true};
+    ghost use Rattle.std.specs.Prelude.{◌≡◌, ℕ, ◌≤◌, ◌<◌};
     ghost use Rattle.patmos_model.specs.State.{Core};
     ghost use Rattle.patmos_model.specs.Cells.{now};
     ghost use Rattle.patmos_model.specs.Cycle.{own};
-    ghost use Rattle.patmos_model.specs.Transaction.{is_due};
+    ghost use Rattle.patmos_step.specs.Alone.{IsDueBefore};
     ghost use Rattle.patmos_step.specs.Ready.{CanGoOn};
     ghost use Rattle.patmos_step.specs.Shown.{plain_of};
 
-    /// The first cycle from this one on in which the core may do something of its own, or else the limit.
-    pub fn next_active(&self, cycle: u64, limit: u64) -> u64
-        requires can { CanGoOn self.now }
-        requires within { cycle ≤ limit }
-        requires most { limit ≤ MOST_CYCLES }
-        ensures from { cycle ≤ result }
-        ensures asleep { (c : Core) (u : ℕ) → c.plain ≡ plain_of self.now → cycle ≤ u → u < result → own u c ≡ now c }
-    {
-        self.active(cycle, limit)
-    }
-
-    /// The same; if words are to be moved, they can be in that cycle, where it comes before the limit.
+    /// The first cycle from this one on in which the core may do something of its own, or else the limit. If words are
+    /// to be moved, they can be in that cycle, where it comes before the limit.
     #[inline(always)]
     #[tactic(auto, using(crate::proofs::Sleeping::sleeps_stopped, crate::proofs::Sleeping::sleeps_waiting, crate::proofs::Sleeping::sleeps_moving, crate::proofs::Sleeping::due_there))]
     pub fn active(&self, cycle: u64, limit: u64) -> u64
@@ -30,7 +20,7 @@ impl Body {
         requires most { limit ≤ MOST_CYCLES }
         ensures from { cycle ≤ result }
         ensures asleep { (c : Core) (u : ℕ) → c.plain ≡ plain_of self.now → cycle ≤ u → u < result → own u c ≡ now c }
-        ensures due { result < limit → 0 < self.now.transfer.words → is_due result (plain_of self.now) ≡ true }
+        ensures due { IsDueBefore limit result (plain_of self.now) }
     {
         if !self.is_running() {
             limit

@@ -8,21 +8,3 @@ pub struct Operation {
     /// The word, whether it is stored, and the value that is loaded or stored.
     pub act: WordOp,
 }
-
-#[cfg(test)]
-mod tests {
-    use super::*;
-
-    #[test]
-    fn an_operation_is_its_stamp_and_act(rt: HostRuntime) {
-        let act = WordOp {
-            word: 5,
-            write: true,
-            value: 7,
-        };
-        let stored = Operation { stamp: 8, act };
-        let (copy, later) = (stored, Operation { stamp: 10, act });
-        assert!(rt; copy == stored);
-        assert!(rt; later != stored);
-    }
-}

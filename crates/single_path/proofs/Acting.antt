@@ -2,7 +2,7 @@
 use Rattle.std.proofs.Common.{◌≡◌, ◌≢◌, ℕ, ◌≤◌, Bool, true, false, if◌then◌else◌, Some, None, refl, ap, sym, arith, subst, inl}
 use Rattle.std.specs.Prelude.{◌&&◌}
 use Rattle.c_world.specs.Numbers.{is_true}
-use Rattle.sp_tree.specs.Statements.{PlainPlace, to_slot, PlainStmt, masks, writes, overruns, PlainStmts, no_stmt, stmt, one, joined}
+use Rattle.sp_tree.specs.Statements.{PlainSpTarget, to_slot, PlainStmt, masks, writes, overruns, PlainStmts, no_stmt, stmt, one, joined}
 use Rattle.sp_tree.specs.Statements as tree
 use Rattle.sp_tree.specs.Straight.{State, Serves, worth, stmt_done, stmts_done}
 use Rattle.sp_tree.proofs.Joins.{joined_done}
@@ -13,9 +13,9 @@ use Rattle.c_meaning.specs.declared.ways.Way.TheVariants as way
 use Rattle.c_meaning.specs.Meaning.{Done, goes_on, then_done}
 use Rattle.c_meaning.specs.Resolved as resolved
 use Rattle.c_meaning.specs.Values as values
-use Rattle.single_path.specs.declared.places.Place.{Place}
-use Rattle.single_path.specs.Places.{in_arm, in_loop, where_so, where_not_taken, where_not_returned, bit_of, not_zero, broken, continued, returned_function, returned_loop}
-use Rattle.single_path.specs.Places as mask
+use Rattle.single_path.specs.declared.part_words.PartWords.{PartWords}
+use Rattle.single_path.specs.PartWords.{in_arm, in_loop, where_so, where_not_taken, where_not_returned, bit_of, not_zero, broken, continued, returned_function, returned_loop}
+use Rattle.single_path.specs.PartWords as mask
 use Rattle.single_path.specs.Made.{made, made_action, made_branches, made_assignment, made_arm, made_otherwise, is_no_branch, is_no_action, ends}
 use Rattle.single_path.specs.Widths.{action_words, words, branches_words}
 use Rattle.single_path.proofs.Fits.{FitsAction, Fits, FitsBranches}
@@ -28,13 +28,13 @@ use Rattle.single_path.proofs.Leaving.{Nest, broken_acted, continued_acted, on_a
 use Rattle.single_path.proofs.Arming.{skipped_went, taken_went}
 use Rattle.single_path.proofs.Looping.{loop_acted}
 
-nest_loop : (n : ℕ) (p : Place) → Order n p → Nest true (in_loop p)
+nest_loop : (n : ℕ) (p : PartWords) → Order n p → Nest true (in_loop p)
 nest_loop n p o is = omega (arith, o.loop, o.own, o.free)
 
 -- what stands after the last `else`
-record Otherwise (g : Serves) (n : ℕ) (inside : Bool) (nothing : Bool) (otherwise : Place → PlainStmts) (meant : values.State → Done) : Type 0 where
-  acts : (q : Place) (t : State) (m : values.State) → Order n q → Nest inside q → Live q t → Agrees n t m → Went n q t (meant m) (stmts_done g (otherwise q) t)
-  idles : (q : Place) (t : State) → Order n q → Dead q t → Still q.free t (stmts_done g (otherwise q) t)
+record Otherwise (g : Serves) (n : ℕ) (inside : Bool) (nothing : Bool) (otherwise : PartWords → PlainStmts) (meant : values.State → Done) : Type 0 where
+  acts : (q : PartWords) (t : State) (m : values.State) → Order n q → Nest inside q → Live q t → Agrees n t m → Went n q t (meant m) (stmts_done g (otherwise q) t)
+  idles : (q : PartWords) (t : State) → Order n q → Dead q t → Still q.free t (stmts_done g (otherwise q) t)
   empty : (m : values.State) → nothing ≡ true → meant m ≡ goes_on m
 
 no_otherwise : (gc : resolved.Serves) (rest : PlainBranches) (nothing : Bool) (meant : values.State → Done) (m : values.State)
@@ -47,7 +47,7 @@ nothing_done gc no_action m is = refl
 nothing_done gc (action a rest) m is = absurd (cc)
 
 -- after one action the rest, where it goes on
-next_went : (g : Serves) → Quiet g → (gc : resolved.Serves) (n : ℕ) (p : Place) (a : PlainAction) (rest : PlainActions) (s t : State) → Order n p
+next_went : (g : Serves) → Quiet g → (gc : resolved.Serves) (n : ℕ) (p : PartWords) (a : PlainAction) (rest : PlainActions) (s t : State) → Order n p
     → ((m : values.State) → Live p t → Agrees n t m → Went n p t (resolved.actions_done gc rest m) (stmts_done g (made p rest) t))
     → (w : Way) (m : values.State) → Acted a n p s (record { way = w; state = m }) t
     → Went n p s (then_done (resolved.actions_done gc rest) (record { way = w; state = m })) (stmts_done g (if ends a then no_stmt else made p rest) t)
@@ -71,7 +71,7 @@ next_went g quiet gc n p a rest s t o further w m acted = by (ends a) refl w act
     by false is (way.Returned v) acted = stays (way.Returned v) (λ e. absurd (cc)) acted is
 
 mutual
-  live_action : (Fit : ℕ → ℕ → Type 0) (gc : resolved.Serves) (g : Serves) → Serving Fit gc g → (n : ℕ) (a : PlainAction) (inside : Bool) (p : Place) (s : State)
+  live_action : (Fit : ℕ → ℕ → Type 0) (gc : resolved.Serves) (g : Serves) → Serving Fit gc g → (n : ℕ) (a : PlainAction) (inside : Bool) (p : PartWords) (s : State)
       (l : values.State) → Order n p → Nest inside p → action_words a ≤ n → FitsAction Fit inside a → Live p s → Agrees n s l
       → Acted a n p s (resolved.action_done gc a l) (stmts_done g (made_action p a) s)
   live_action Fit gc g serving n (sets a) inside p s l o nest within fits live h =
@@ -116,7 +116,7 @@ mutual
   live_action Fit gc g serving n continues inside p s l o nest within fits live h = continued_acted gc g n p s l o (nest fits) live h
   live_action Fit gc g serving n (returns e) inside p s l o nest within fits live h = returned_acted gc g n p e s l o live h within
 
-  pub live_all : (Fit : ℕ → ℕ → Type 0) (gc : resolved.Serves) (g : Serves) → Serving Fit gc g → (n : ℕ) (all : PlainActions) (inside : Bool) (p : Place) (s : State)
+  pub live_all : (Fit : ℕ → ℕ → Type 0) (gc : resolved.Serves) (g : Serves) → Serving Fit gc g → (n : ℕ) (all : PlainActions) (inside : Bool) (p : PartWords) (s : State)
       (l : values.State) → Order n p → Nest inside p → words all ≤ n → Fits Fit inside all → Live p s → Agrees n s l
       → Went n p s (resolved.actions_done gc all l) (stmts_done g (made p all) s)
   live_all Fit gc g serving n no_action inside p s l o nest within fits live h = record {
@@ -136,7 +136,7 @@ mutual
       (λ m live' h'. live_all Fit gc g serving n rest inside p t m o nest (omega (arith, within)) fits.1 live' h') d.way d.state acted)
 
   live_branches : (Fit : ℕ → ℕ → Type 0) (gc : resolved.Serves) (g : Serves) → Serving Fit gc g → (n : ℕ) (bs : PlainBranches) (inside nothing : Bool)
-      (otherwise : Place → PlainStmts) (meant : values.State → Done) → Otherwise g n inside nothing otherwise meant → (p : Place) (s : State)
+      (otherwise : PartWords → PlainStmts) (meant : values.State → Done) → Otherwise g n inside nothing otherwise meant → (p : PartWords) (s : State)
       (l : values.State) → Order n p → Nest inside p → branches_words bs ≤ n → FitsBranches Fit inside bs → Live p s → Agrees n s l
       → Went n p s (resolved.branches_done gc bs meant l) (stmts_done g (made_branches p bs nothing otherwise) s)
   live_branches Fit gc g serving n no_branch inside nothing otherwise meant last p s l o nest within fits live h = last.acts p s l o nest live h

@@ -4,14 +4,14 @@ use Rattle.std.specs.Prelude.{cond}
 use Rattle.c_world.specs.World.{World, with_word, with_element}
 use Rattle.sp_tree.specs.Operators.{unary_value, binary_value}
 use Rattle.sp_tree.specs.Plain.{PlainSp, constant, frame_word, cell_word, array_word, before_one, between_two}
-use Rattle.sp_tree.specs.Straight.{State, Serves, with_place, write_done, args_worth, worth, stmt_done, stmts_done}
+use Rattle.sp_tree.specs.Straight.{State, Serves, with_sp_target, write_done, args_worth, worth, stmt_done, stmts_done}
 use Rattle.sp_tree.specs.Values.{sp_value, array_value}
 use Rattle.sp_tree.proofs.Runs.{on}
 use Rattle.c_meaning.specs.Actions.{PlainTarget, to_level, PlainAssignment, PlainAction, sets, calls, transfers, chooses, turns, breaks, continues, returns, PlainActions, no_action, action, PlainBranches, no_branch, branch}
 use Rattle.c_meaning.specs.Actions as actions
 use Rattle.c_meaning.specs.Resolved as resolved
 use Rattle.c_meaning.specs.Values as values
-use Rattle.single_path.specs.Made.{made_place, made_assignment, made_step}
+use Rattle.single_path.specs.Made.{made_target, made_assignment, made_step}
 use Rattle.single_path.specs.Widths.{expr_words, args_words, target_words, assignment_words, step_words}
 use Rattle.single_path.proofs.Frames.{put_there, Still}
 
@@ -53,7 +53,7 @@ pub record Sets (n : ℕ) (s t : State) (l : values.State) : Type 0 where
   pub others : (x : ℕ) → n ≤ x → t.frame x ≡ s.frame x
 
 pub target_set : (n : ℕ) (target : PlainTarget) (v : ℕ) (s : State) (l : values.State) → Agrees n s l → target_words target ≤ n
-    → Sets n s (with_place (made_place target) v s) (resolved.with_target target v l)
+    → Sets n s (with_sp_target (made_target target) v s) (resolved.with_target target v l)
 target_set n (to_level at) v s l h within = record {
   agrees = record { locals = λ x below. ap (λ y. cond (at == x) v y) (h.locals x below); world = h.world };
   others = λ x behind. put_there at v x s.frame (omega (arith, behind, within));
@@ -77,7 +77,7 @@ assignment_set g n mask a s l is h within =
     let here = target_set n a.target (worth a.value s) s l h (omega (arith, within)) in
     subst (λ v. Sets n s (stmt_done g (made_assignment mask a) s) (resolved.with_target a.target v l)) value
     (subst (λ t. Sets n s t (resolved.with_target a.target (worth a.value s) l))
-    (sym (on mask (write_done (made_place a.target) a.value) s (eq-eqb (s.frame mask) 1 is))) here)
+    (sym (on mask (write_done (made_target a.target) a.value) s (eq-eqb (s.frame mask) 1 is))) here)
 
 pub step_set : (g : Serves) (n mask : ℕ) (step : Option PlainAssignment) (s : State) (l : values.State) → s.frame mask ≡ 1 → Agrees n s l → step_words step ≤ n
     → Sets n s (stmts_done g (made_step mask step) s) (resolved.step_done step l)

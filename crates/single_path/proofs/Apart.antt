@@ -3,7 +3,7 @@
 use Rattle.std.proofs.Common.{◌≡◌, ◌≢◌, ℕ, ◌+◌, Bool, true, false, if◌then◌else◌, List, [], ◌∷◌, ◌++◌, length, Option, Some, None, bytes_eq, refl, ap, sym, ◌∙◌, arith, subst, true≢false}
 use Rattle.std.specs.Prelude.{IsTrue, ◌&&◌, nat_lt, is_some, codes, sum_by, ◌==◌, ◌||◌}
 use Rattle.std.specs.List.{AllByRecursion as Each}
-use Rattle.std.specs.Option.{option_or}
+use Rattle.std.specs.Option.{option_or, option_map}
 use Rattle.std.proofs.lemmas.Slice.Eq.{bytes_eq-Decides}
 use Rattle.c_tree.specs.declared.checks.CheckFault.TheVariants as fault
 use Rattle.c_tree.specs.declared.checks.Meaning.{Meaning}
@@ -14,14 +14,14 @@ use Rattle.c_tree.specs.declared.units.Length.{Length}
 use Rattle.c_tree.specs.Checks.{twice_faults}
 use Rattle.c_tree.specs.Layout.{slot_of, given_slots, slots_from, layout_of}
 use Rattle.c_tree.specs.Least.{where_so}
-use Rattle.c_tree.specs.Names.{Named, found, is_declared, declared, given}
+use Rattle.c_tree.specs.Names.{Found, Named, found, is_declared, declared, given}
 use Rattle.c_tree.specs.Plain.{PlainItem, global, function}
 use Rattle.c_tree.specs.Sizes.{kind_size, item_size}
 use Rattle.c_tree.specs.Valid.{IsValid, has_none, words_of, means_of, function_means, global_faults, item_faults, with_item, items_faults, item_words, end_faults}
 use Rattle.sp_tree.specs.Uses.{are_apart, uses_of}
-use Rattle.c_meaning.specs.Resolve.{resolved_items}
+use Rattle.c_meaning.specs.Resolve.{resolved_items, parameters_in}
 use Rattle.c_meaning.specs.Scope.{outside, among_slots}
-use Rattle.single_path.specs.Single.{single, parameters_in}
+use Rattle.single_path.specs.Single.{single}
 use Rattle.single_path.proofs.ArrayWords.{is_array, in_array, Kept, kept_apart, if_past, SameFrom, variable_slot, array_slot}
 use Rattle.single_path.proofs.Checked.{function_checked}
 use Rattle.single_path.proofs.OpenNames.{Keeps, found_same, found_before, keeps_function}
@@ -203,8 +203,12 @@ laid_first items cores own none = record {
   same = λ word from. refl;
 }
   where
+    array_at : ℕ → List ℕ → Found Named
+    array_at at text = record { at = at; is = record { name = text; means = means.Array } }
+
     no_scalar : (b d : Bool)
-        → option_or (option_or None (if b then Some means.Array else None)) (if d then Some means.Array else None) ≢ Some means.Scalar
+        → option_map (λ f. f.is.means) (option_or (option_or None (if b then Some (array_at 1 (codes "comm")) else None))
+        (if d then Some (array_at 0 (codes "shared")) else None)) ≢ Some means.Scalar
     no_scalar true d is = absurd (cc)
     no_scalar false true is = absurd (cc)
     no_scalar false false is = absurd (cc)

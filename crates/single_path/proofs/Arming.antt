@@ -10,8 +10,8 @@ use Rattle.c_meaning.specs.declared.ways.Way.{Way}
 use Rattle.c_meaning.specs.declared.ways.Way.TheVariants as way
 use Rattle.c_meaning.specs.Meaning.{Done, goes_on}
 use Rattle.c_meaning.specs.Values as values
-use Rattle.single_path.specs.declared.places.Place.{Place}
-use Rattle.single_path.specs.Places.{in_arm, where_so, where_not_taken}
+use Rattle.single_path.specs.declared.part_words.PartWords.{PartWords}
+use Rattle.single_path.specs.PartWords.{in_arm, where_so, where_not_taken}
 use Rattle.single_path.specs.Made.{made_arm, made_otherwise}
 use Rattle.single_path.proofs.Frames.{put_here, Order, Still, still_on, fewer, set_behind}
 use Rattle.single_path.proofs.Idle.{Idle, left, armed, waits, gone, Dead}
@@ -19,7 +19,7 @@ use Rattle.single_path.proofs.Agreeing.{Agrees, still_agrees}
 use Rattle.single_path.proofs.Ways.{Live, Went, function_of, loop_of, went_own, went_still}
 
 -- a part that acts in an arm, told of the part in which the arm stands
-arm_went : (n : ℕ) (p : Place) (s t : State) (d : Done) (u : State) → Order n p → Live p s → ((x : ℕ) → x < p.free → t.frame x ≡ s.frame x)
+arm_went : (n : ℕ) (p : PartWords) (s t : State) (d : Done) (u : State) → Order n p → Live p s → ((x : ℕ) → x < p.free → t.frame x ≡ s.frame x)
     → Went n (in_arm p) t d u → Went n p s d u
 arm_went n p s t d u o live below h = record {
   same = h.same;
@@ -47,7 +47,7 @@ idle_armed way.Continued = waits
 idle_armed (way.Returned v) = gone
 
 -- what stands after `else`, where the arm was taken
-otherwise_idle : (g : Serves) (n : ℕ) (p : Place) (nothing : Bool) (rest : PlainStmts) (s : State) (d : Done) (u : State) → Order n p
+otherwise_idle : (g : Serves) (n : ℕ) (p : PartWords) (nothing : Bool) (rest : PlainStmts) (s : State) (d : Done) (u : State) → Order n p
     → ((t : State) → Dead (in_arm p) t → Still (p.free + 1) t (stmts_done g rest t)) → Went n p s d u → (d.way ≡ way.On → u.frame p.free ≡ 1)
     → Went n p s d (stmts_done g (made_otherwise p nothing rest) u)
 otherwise_idle g n p true rest s d u o each h free_on = h
@@ -71,13 +71,13 @@ otherwise_idle g n p false rest s d u o each h free_on =
     (still_on p.free u v (stmts_done g rest v) begun (fewer (p.free + 1) p.free v (stmts_done g rest v) (omega arith) (each v idle_there)))
 
 -- the mask of an arm
-pub tested : (p : Place) (condition : PlainSp) (holds : Bool) (s : State) → s.frame p.own ≡ 1 → is_true (worth condition s) ≡ holds
+pub tested : (p : PartWords) (condition : PlainSp) (holds : Bool) (s : State) → s.frame p.own ≡ 1 → is_true (worth condition s) ≡ holds
     → worth (where_so p.own condition) s ≡ flag holds
 tested p condition true s is held = ap₂ (λ a b. bit_and a (flag b)) is held
 tested p condition false s is held = ap₂ (λ a b. bit_and a (flag b)) is held
 
 -- the arm is taken
-pub taken_went : (g : Serves) (n : ℕ) (p : Place) (condition : PlainSp) (arm : PlainStmts) (nothing : Bool) (rest : PlainStmts) (s : State) (l : values.State) (d : Done)
+pub taken_went : (g : Serves) (n : ℕ) (p : PartWords) (condition : PlainSp) (arm : PlainStmts) (nothing : Bool) (rest : PlainStmts) (s : State) (l : values.State) (d : Done)
     → Order n p → Live p s → Agrees n s l → is_true (worth condition s) ≡ true
     → ((t : State) → Live (in_arm p) t → Agrees n t l → Went n (in_arm p) t d (stmts_done g arm t))
     → ((t : State) → Dead (in_arm p) t → Still (p.free + 1) t (stmts_done g rest t))
@@ -98,7 +98,7 @@ taken_went g n p condition arm nothing rest s l d o live h holds acts idles =
     (otherwise_idle g n p nothing rest s d u o idles went (went_own n (in_arm p) t d u inner))
 
 -- the arm is not taken
-pub skipped_went : (g : Serves) (n : ℕ) (p : Place) (condition : PlainSp) (arm : PlainStmts) (nothing : Bool) (rest : PlainStmts) (s : State) (l : values.State) (d : Done)
+pub skipped_went : (g : Serves) (n : ℕ) (p : PartWords) (condition : PlainSp) (arm : PlainStmts) (nothing : Bool) (rest : PlainStmts) (s : State) (l : values.State) (d : Done)
     → Order n p → Live p s → Agrees n s l → is_true (worth condition s) ≡ false
     → ((t : State) → Dead (in_arm p) t → Still (p.free + 1) t (stmts_done g arm t))
     → ((t : State) → Live (in_arm p) t → Agrees n t l → Went n (in_arm p) t d (stmts_done g rest t))

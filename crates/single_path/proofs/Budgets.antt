@@ -5,8 +5,8 @@ use Rattle.c_tree.specs.Plain.{PlainItem, global, function}
 use Rattle.sp_tree.specs.Cost.{cost}
 use Rattle.sp_tree.specs.Statements.{no_function}
 use Rattle.c_meaning.specs.Meaning.{parameter_variables}
-use Rattle.c_meaning.specs.Resolve.{resolved_items}
-use Rattle.single_path.specs.Single.{made_functions, parameters_in, weights_in, frames_in}
+use Rattle.c_meaning.specs.Resolve.{resolved_items, parameters_in}
+use Rattle.single_path.specs.Single.{made_functions, weights_in, frames_in}
 use Rattle.single_path.proofs.Costs.{cost_within}
 use Rattle.single_path.proofs.FramesWithin.{frame_within}
 

@@ -3,17 +3,17 @@ use Rattle.std.proofs.Common.{◌≡◌, ℕ, ◌<◌, ◌≤◌, ◌==◌, List
 use Rattle.std.specs.Prelude.{cond}
 use Rattle.c_world.specs.World.{World, with_send}
 use Rattle.sp_tree.specs.Plain.{PlainSp, frame_word}
-use Rattle.sp_tree.specs.Statements.{PlainPlace, to_slot, PlainStmt, masks, writes, overruns, PlainStmts, no_stmt, stmt, one, joined}
+use Rattle.sp_tree.specs.Statements.{PlainSpTarget, to_slot, PlainStmt, masks, writes, overruns, PlainStmts, no_stmt, stmt, one, joined}
 use Rattle.sp_tree.specs.Statements as tree
-use Rattle.sp_tree.specs.Straight.{State, Given, Serves, with_slot, in_world, with_place, with_result, write_done, transfer_done, args_worth, worth, stmt_done, stmts_done}
+use Rattle.sp_tree.specs.Straight.{State, Given, Serves, with_slot, in_world, with_sp_target, with_result, write_done, transfer_done, args_worth, worth, stmt_done, stmts_done}
 use Rattle.sp_tree.proofs.Runs.{on}
 use Rattle.c_meaning.specs.Actions.{PlainTarget, to_level}
 use Rattle.c_meaning.specs.Meaning.{Done, goes_on, then_done, turn_done, turns_done, way_value}
 use Rattle.c_meaning.specs.Meaning as meaning
 use Rattle.c_meaning.specs.Resolved as resolved
 use Rattle.c_meaning.specs.Values as values
-use Rattle.single_path.specs.declared.places.Place.{Place}
-use Rattle.single_path.specs.Made.{made_place}
+use Rattle.single_path.specs.declared.part_words.PartWords.{PartWords}
+use Rattle.single_path.specs.Made.{made_target}
 use Rattle.single_path.specs.Widths.{expr_words, args_words, target_words}
 use Rattle.single_path.proofs.Frames.{put_here, put_there, Order}
 use Rattle.single_path.proofs.Idle.{Quiet}
@@ -46,10 +46,10 @@ called Fit gc g serving n mask k args result s l is h within fits =
           ∙ ap₂ (λ v w. with_result result v (in_world s w)) value world;
     }
 
--- what a function gives to a place outside of the frame goes by a free word
-pub given_set : (Fit : ℕ → ℕ → Type 0) (gc : resolved.Serves) (g : Serves) → Serving Fit gc g → (n : ℕ) (p : Place) (k : ℕ) (args : List PlainSp) (target : PlainTarget)
+-- what a function gives to a target outside of the frame goes by a free word
+pub given_set : (Fit : ℕ → ℕ → Type 0) (gc : resolved.Serves) (g : Serves) → Serving Fit gc g → (n : ℕ) (p : PartWords) (k : ℕ) (args : List PlainSp) (target : PlainTarget)
     (s : State) (l : values.State) → Order n p → s.frame p.own ≡ 1 → Agrees n s l → args_words args ≤ n → target_words target ≤ n → Fit k (length args)
-    → let t = stmts_done g (stmt (tree.calls p.own k args (Some p.free)) (one (writes p.own (made_place target) (frame_word p.free)))) s in
+    → let t = stmts_done g (stmt (tree.calls p.own k args (Some p.free)) (one (writes p.own (made_target target) (frame_word p.free)))) s in
     Agrees n t (resolved.given_done (Some target) l (gc k (resolved.args_worth args l) l.world)) × ((x : ℕ) → n ≤ x → x < p.free → t.frame x ≡ s.frame x)
 given_set Fit gc g serving n p k args target s l o is h within target_within fits =
     let given = gc k (resolved.args_worth args l) l.world in
@@ -64,11 +64,11 @@ given_set Fit gc g serving n p k args target s l o is h within target_within fit
     let own_there : t.frame p.own ≡ 1 = put_there p.free given.value p.own s.frame (omega (arith, o.free)) ∙ is in
     let word : t.frame p.free ≡ given.value = put_here p.free given.value s.frame in
     let set_there = target_set n target (t.frame p.free) t m agrees target_within in
-    let written : stmts_done g (stmt (tree.calls p.own k args (Some p.free)) (one (writes p.own (made_place target) (frame_word p.free)))) s
-    ≡ with_place (made_place target) (t.frame p.free) t =
-    ap (stmt_done g (writes p.own (made_place target) (frame_word p.free))) c.done
-    ∙ on p.own (write_done (made_place target) (frame_word p.free)) t (eq-eqb (t.frame p.own) 1 own_there) in (
-      subst (λ v. Agrees n (stmts_done g (stmt (tree.calls p.own k args (Some p.free)) (one (writes p.own (made_place target) (frame_word p.free)))) s)
+    let written : stmts_done g (stmt (tree.calls p.own k args (Some p.free)) (one (writes p.own (made_target target) (frame_word p.free)))) s
+    ≡ with_sp_target (made_target target) (t.frame p.free) t =
+    ap (stmt_done g (writes p.own (made_target target) (frame_word p.free))) c.done
+    ∙ on p.own (write_done (made_target target) (frame_word p.free)) t (eq-eqb (t.frame p.own) 1 own_there) in (
+      subst (λ v. Agrees n (stmts_done g (stmt (tree.calls p.own k args (Some p.free)) (one (writes p.own (made_target target) (frame_word p.free)))) s)
           (resolved.with_target target v m)) word
           (subst (λ u. Agrees n u (resolved.with_target target (t.frame p.free) m)) (sym written) set_there.agrees),
       λ x behind below. ap (λ (u : State). u.frame x) written ∙ set_there.others x behind

@@ -13,7 +13,7 @@ use Rattle.c_tree.specs.declared.units.Parameter.{Parameter}
 use Rattle.c_tree.specs.Checks.{is_scalar, is_array, use_faults, scalar_faults, array_faults, callee_faults, expr_faults, steps_faults, whole_faults, args_faults, right_faults, opened, looped, after, twice_faults, bound_faults, assigned_faults, head_faults, target_faults, stmt_faults, block_faults, arms_faults, otherwise_faults, body_faults}
 use Rattle.c_tree.specs.Depth.{expr_depth}
 use Rattle.c_tree.specs.Least.{where_so}
-use Rattle.c_tree.specs.Names.{Named, found, declared}
+use Rattle.c_tree.specs.Names.{Named, found, declared, number_of}
 use Rattle.c_tree.specs.Plain.{PlainExpr, PlainSteps, PlainRight, PlainHead, PlainStmt, PlainBlock, PlainArms, PlainOtherwise}
 use Rattle.c_tree.specs.Plain as plain
 use Rattle.c_tree.specs.Sizes.{kind_size, expr_size, argument_size, list_size, bound_size, head_size, stmt_size, arms_size, block_size}
@@ -25,7 +25,7 @@ use Rattle.c_meaning.specs.Actions.{PlainTarget, to_level}
 use Rattle.c_meaning.specs.Actions as actions
 use Rattle.c_meaning.specs.Meaning.{with_variable, names_after, most_turns, parameter_variables}
 use Rattle.c_meaning.specs.Operators.{works_unsigned, gives_unsigned}
-use Rattle.c_meaning.specs.Resolve.{resolved, resolved_steps, resolved_args, resolved_between, resolved_right, resolved_begin, resolved_condition, resolved_next, resolved_stmt, resolved_block, resolved_arms, resolved_otherwise, resolved_body, maybe_sets, variable_target, element_target, number_of}
+use Rattle.c_meaning.specs.Resolve.{resolved, resolved_steps, resolved_args, resolved_between, resolved_right, resolved_begin, resolved_condition, resolved_next, resolved_stmt, resolved_block, resolved_arms, resolved_otherwise, resolved_body, maybe_sets, variable_target, element_target}
 use Rattle.c_meaning.specs.Values.{Names, named, expr_unsigned}
 use Rattle.single_path.proofs.Doing.{ExprDoes, ResultDoes, StepDoes, Do, BranchesDo}
 use Rattle.single_path.proofs.OpenNames.{Keeps, keeps_variable, keeps_after, keeps_function, keeps_parameters}

@@ -13,10 +13,10 @@ use Rattle.c_meaning.proofs.Acted.{plain_choose, plain_loop}
 use Rattle.sp_tree.specs.declared.expressions.SpExpr.{SpExpr}
 use Rattle.sp_tree.specs.Plain.{plain_sp}
 use Rattle.sp_tree.specs.Statements.{PlainStmts, no_stmt, masks, one, joined}
-use Rattle.single_path.specs.declared.places.Place.{Place}
+use Rattle.single_path.specs.declared.part_words.PartWords.{PartWords}
 use Rattle.single_path.specs.Made.{made, made_action, made_branches, made_otherwise, is_no_branch, is_no_action, ends}
 use Rattle.single_path.specs.Widths as width
-use Rattle.single_path.specs.Places.{in_arm, where_so, where_not_taken}
+use Rattle.single_path.specs.PartWords.{in_arm, where_so, where_not_taken}
 use Rattle.c_meaning.specs.Sizes.{actions_size, branches_size}
 use Rattle.single_path.proofs.Stated.{joined_none, joined_joined}
 
@@ -35,14 +35,14 @@ loop_is a most condition body body' step is same =
 
 -- ---- one action more
 
-more_actions : (p : Place) (out : PlainStmts) (actions : List Action) (i : ℕ) (a : Action) → i < length actions → a ≡ get_or actions i a
+more_actions : (p : PartWords) (out : PlainStmts) (actions : List Action) (i : ℕ) (a : Action) → i < length actions → a ≡ get_or actions i a
     → joined out (made p (actions_of (drop i actions)))
     ≡ joined (joined out (made_action p (plain_action a))) (if ends (plain_action a) then no_stmt else made p (actions_of (drop (i + 1) actions)))
 more_actions p out actions i a within is =
     ap (λ xs. joined out (made p (actions_of xs))) (drop_item actions i a within is)
     ∙ sym (joined_joined out (made_action p (plain_action a)) (if ends (plain_action a) then no_stmt else made p (actions_of (drop (i + 1) actions))))
 
-pub next_action : (p : Place) (out more whole : PlainStmts) (actions : List Action) (i : ℕ) (a : Action) → i < length actions → a ≡ get_or actions i a
+pub next_action : (p : PartWords) (out more whole : PlainStmts) (actions : List Action) (i : ℕ) (a : Action) → i < length actions → a ≡ get_or actions i a
     → ends (plain_action a) ≡ false → more ≡ joined out (made_action p (plain_action a)) → joined out (made p (actions_of (drop i actions))) ≡ whole
     → joined more (made p (actions_of (drop (i + 1) actions))) ≡ whole
 next_action p out more whole actions i a within is stays grown so_far =
@@ -50,7 +50,7 @@ next_action p out more whole actions i a within is stays grown so_far =
     ∙ ap (λ b. joined (joined out (made_action p (plain_action a))) (if b then no_stmt else made p (actions_of (drop (i + 1) actions)))) (sym stays)
     ∙ sym (more_actions p out actions i a within is) ∙ so_far
 
-pub last_action : (p : Place) (out more whole : PlainStmts) (actions : List Action) (i : ℕ) (a : Action) → i < length actions → a ≡ get_or actions i a
+pub last_action : (p : PartWords) (out more whole : PlainStmts) (actions : List Action) (i : ℕ) (a : Action) → i < length actions → a ≡ get_or actions i a
     → ends (plain_action a) ≡ true → more ≡ joined out (made_action p (plain_action a)) → joined out (made p (actions_of (drop i actions))) ≡ whole
     → more ≡ whole
 last_action p out more whole actions i a within is ended grown so_far =
@@ -58,7 +58,7 @@ last_action p out more whole actions i a within is ended grown so_far =
     ∙ ap (λ b. joined (joined out (made_action p (plain_action a))) (if b then no_stmt else made p (actions_of (drop (i + 1) actions)))) (sym ended)
     ∙ sym (more_actions p out actions i a within is) ∙ so_far
 
-pub no_action_left : (p : Place) (out whole : PlainStmts) (actions : List Action) (i : ℕ) → length actions ≤ i
+pub no_action_left : (p : PartWords) (out whole : PlainStmts) (actions : List Action) (i : ℕ) → length actions ≤ i
     → joined out (made p (actions_of (drop i actions))) ≡ whole → out ≡ whole
 no_action_left p out whole actions i past so_far =
     sym (joined_none out) ∙ ap (λ xs. joined out (made p (actions_of xs))) (sym (drop_all i actions past)) ∙ so_far
@@ -80,8 +80,8 @@ branches_split (x ∷ branches) b some is =
     ap₂ (λ y ys. branch (plain_sp y.condition) (actions_of y.body) (branches_of ys)) (sym is) (sym (take_all (length (x ∷ branches) - 1) branches (omega arith)))
 
 -- one arm more, and what stands after it
-pub arm_added : (p arm : Place) (old first second : PlainStmts) (branches rest : List Branch) (b : Branch) (body : List Action) (nothing : Bool)
-    (otherwise : Place → PlainStmts) → 1 ≤ length branches → b ≡ get_or branches 0 b → rest ≡ take (length branches - 1) (drop 1 branches) → body ≡ b.body
+pub arm_added : (p arm : PartWords) (old first second : PlainStmts) (branches rest : List Branch) (b : Branch) (body : List Action) (nothing : Bool)
+    (otherwise : PartWords → PlainStmts) → 1 ≤ length branches → b ≡ get_or branches 0 b → rest ≡ take (length branches - 1) (drop 1 branches) → body ≡ b.body
     → arm ≡ in_arm p → first ≡ joined old (one (masks p.free (where_so p.own (plain_sp b.condition)))) → second ≡ joined first (made arm (actions_of body))
     → joined second (made_otherwise p (is_no_branch (branches_of rest) && nothing) (made_branches arm (branches_of rest) nothing otherwise))
     ≡ joined old (made_branches p (branches_of branches) nothing otherwise)
@@ -93,18 +93,18 @@ arm_added p arm old first second branches rest b body nothing otherwise some is 
     ∙ joined_joined old mask (joined (made (in_arm p) (actions_of b.body)) (behind (in_arm p) (take (length branches - 1) (drop 1 branches))))
     ∙ ap (λ bs. joined old (made_branches p bs nothing otherwise)) (sym (branches_split branches b some is))
   where
-    behind : Place → List Branch → PlainStmts
+    behind : PartWords → List Branch → PlainStmts
     behind q rs = made_otherwise p (is_no_branch (branches_of rs) && nothing) (made_branches q (branches_of rs) nothing otherwise)
 
     mask : PlainStmts
     mask = one (masks p.free (where_so p.own (plain_sp b.condition)))
 
 -- what stands after an arm
-pub nothing_added : (p : Place) (old behind : PlainStmts) (nothing : Bool) → nothing ≡ true → old ≡ joined old (made_otherwise p nothing behind)
+pub nothing_added : (p : PartWords) (old behind : PlainStmts) (nothing : Bool) → nothing ≡ true → old ≡ joined old (made_otherwise p nothing behind)
 nothing_added p old behind nothing is =
     sym (joined_none old) ∙ ap (λ b. joined old (made_otherwise p b behind)) (sym is)
 
-pub otherwise_added : (p : Place) (old first behind : PlainStmts) (nothing : Bool) → nothing ≡ false → first ≡ joined old (one (masks p.free (where_not_taken p)))
+pub otherwise_added : (p : PartWords) (old first behind : PlainStmts) (nothing : Bool) → nothing ≡ false → first ≡ joined old (one (masks p.free (where_not_taken p)))
     → joined first behind ≡ joined old (made_otherwise p nothing behind)
 otherwise_added p old first behind nothing is is_first =
     ap (λ xs. joined xs behind) is_first ∙ joined_joined old (one (masks p.free (where_not_taken p))) behind

@@ -9,7 +9,7 @@ use Rattle.c_tree.specs.Plain.{PlainExpr, PlainSteps, PlainRight, PlainHead, Pla
 use Rattle.c_tree.specs.Plain as plain
 use Rattle.c_tree.specs.Weight.{operator_weight, expr_weight, steps_weight, right_weight, head_weight, stmt_weight, block_weight, arms_weight, otherwise_weight, body_weight, function_weight}
 use Rattle.sp_tree.specs.declared.operators.SpBinary.{SpBinary}
-use Rattle.sp_tree.specs.Cost.{binary_cost, is_held, expr_cost, args_cost, place_cost, stmts_cost, cost}
+use Rattle.sp_tree.specs.Cost.{binary_cost, is_held, expr_cost, args_cost, target_cost, stmts_cost, cost}
 use Rattle.sp_tree.specs.Plain.{PlainSp, constant, frame_word, between_two}
 use Rattle.sp_tree.specs.Statements.{PlainStmts, no_stmt, stmt, joined, masks}
 use Rattle.sp_tree.specs.Statements as tree
@@ -18,13 +18,14 @@ use Rattle.c_meaning.specs.Actions.{PlainTarget, to_level, to_cell, to_array, Pl
 use Rattle.c_meaning.specs.Actions as actions
 use Rattle.c_meaning.specs.Meaning.{with_variable, names_after, most_turns}
 use Rattle.c_meaning.specs.Operators.{works_unsigned, gives_unsigned}
-use Rattle.c_meaning.specs.Resolve.{operator_of, is_exchanged, resolved_between, resolved_sign, resolved_signs, is_fresh, resolved_variable, resolved_element, resolved, resolved_steps, resolved_args, variable_target, element_target, assignment_to, maybe_sets, number_of, numbered_call, resolved_right, resolved_assignment, resolved_condition, resolved_begin, resolved_next, choice, resolved_stmt, resolved_block, resolved_arms, resolved_otherwise, resolved_body}
+use Rattle.c_tree.specs.Names.{number_of}
+use Rattle.c_meaning.specs.Resolve.{operator_of, is_exchanged, resolved_between, resolved_sign, resolved_signs, is_fresh, resolved_variable, resolved_element, resolved, resolved_steps, resolved_args, variable_target, element_target, assignment_to, maybe_sets, numbered_call, resolved_right, resolved_assignment, resolved_condition, resolved_begin, resolved_next, choice, resolved_stmt, resolved_block, resolved_arms, resolved_otherwise, resolved_body}
 use Rattle.c_meaning.specs.Scope.{Stands, level, outside}
 use Rattle.c_meaning.specs.Scope as scope
 use Rattle.c_meaning.specs.Values.{Names, named, expr_unsigned}
-use Rattle.single_path.specs.declared.places.Place.{Place}
-use Rattle.single_path.specs.Places.{in_arm, in_loop, outermost, both, less_by, bit_of, where_not_taken, where_on, not_zero, returned_function, returned_loop}
-use Rattle.single_path.specs.Made.{is_zero, made_place, made_step, made_result, made_return, ends, is_no_action, is_no_branch, made_arm, made_otherwise, made_turn, made_loop, made_action, made, made_branches}
+use Rattle.single_path.specs.declared.part_words.PartWords.{PartWords}
+use Rattle.single_path.specs.PartWords.{in_arm, in_loop, outermost, both, less_by, bit_of, where_not_taken, where_on, not_zero, returned_function, returned_loop}
+use Rattle.single_path.specs.Made.{is_zero, made_target, made_step, made_result, made_return, ends, is_no_action, is_no_branch, made_arm, made_otherwise, made_turn, made_loop, made_action, made, made_branches}
 use Rattle.single_path.specs.Single.{variables, made_function}
 
 -- ---- expressions and arguments
@@ -109,7 +110,7 @@ resolved_args_cost names fresh (e ∷ args) =
 
 abbrev given_cost : Option PlainTarget → ℕ
 given_cost None = 0
-given_cost (Some target) = place_cost (made_place target)
+given_cost (Some target) = target_cost (made_target target)
 
 variable_target_cost : (stands : Stands) → given_cost (variable_target stands) ≤ 7
 variable_target_cost (level at unsigned) = omega arith
@@ -121,13 +122,13 @@ element_target_cost (level at unsigned) index = omega arith
 element_target_cost (outside slot) index = omega arith
 element_target_cost scope.nothing index = omega arith
 
-sets_cost : (p : Place) (target : Option PlainTarget) (e : PlainSp)
+sets_cost : (p : PartWords) (target : Option PlainTarget) (e : PlainSp)
     → stmts_cost (made p (maybe_sets (assignment_to target e))) ≤ given_cost target + expr_cost e
 sets_cost p None e = omega arith
 sets_cost p (Some target) e = omega arith
 
--- what a function gives to a place outside of the frame goes by a word of it
-call_cost : (p : Place) (k : Option ℕ) (args : List PlainSp) (target : Option PlainTarget)
+-- what a function gives to a target outside of the frame goes by a word of it
+call_cost : (p : PartWords) (k : Option ℕ) (args : List PlainSp) (target : Option PlainTarget)
     → stmts_cost (made p (numbered_call k args target)) ≤ 18 + args_cost args + given_cost target
 call_cost p None args target = omega (arith, sets_cost p target (constant 0))
 call_cost p (Some k) args None = omega arith
@@ -135,7 +136,7 @@ call_cost p (Some k) args (Some (to_level at)) = omega arith
 call_cost p (Some k) args (Some (to_cell cell)) = omega arith
 call_cost p (Some k) args (Some (to_array array index)) = omega arith
 
-right_cost : (fs : List (List ℕ)) (names : Names) (fresh : Option ℕ) (target : Option PlainTarget) (r : PlainRight) (p : Place)
+right_cost : (fs : List (List ℕ)) (names : Names) (fresh : Option ℕ) (target : Option PlainTarget) (r : PlainRight) (p : PartWords)
     → stmts_cost (made p (resolved_right fs names fresh target r)) ≤ given_cost target + right_weight r
 right_cost fs names fresh target (plain.value e) p = omega (arith, sets_cost p target (resolved names fresh e), resolved_cost names fresh e)
 right_cost fs names fresh target (plain.call text args) p =
@@ -148,7 +149,7 @@ ended_cost : (ended : Bool) (ts : PlainStmts) → stmts_cost (if ended then no_s
 ended_cost true ts = omega arith
 ended_cost false ts = omega arith
 
-made_joined_cost : (p : Place) (xs ys : PlainActions) → stmts_cost (made p (actions.joined xs ys)) ≤ stmts_cost (made p xs) + stmts_cost (made p ys)
+made_joined_cost : (p : PartWords) (xs ys : PlainActions) → stmts_cost (made p (actions.joined xs ys)) ≤ stmts_cost (made p xs) + stmts_cost (made p ys)
 made_joined_cost p no_action ys = omega arith
 made_joined_cost p (action a rest) ys = by (ends a) (joined_cost (made_action p a)) (made_joined_cost p rest ys)
   where
@@ -159,16 +160,16 @@ made_joined_cost p (action a rest) ys = by (ends a) (joined_cost (made_action p 
     by true each more = omega (arith, each no_stmt)
     by false each more = omega (arith, more, each (made p (actions.joined rest ys)), each (made p rest))
 
-one_cost : (p : Place) (a : PlainAction) → stmts_cost (made p (one a)) ≤ stmts_cost (made_action p a)
+one_cost : (p : PartWords) (a : PlainAction) → stmts_cost (made p (one a)) ≤ stmts_cost (made_action p a)
 one_cost p a = omega (arith, joined_cost (made_action p a) (if ends a then no_stmt else no_stmt), ended_cost (ends a) no_stmt)
 
 -- ---- ways on, and loops
 
-result_cost : (p : Place) (e : PlainSp) → stmts_cost (made_result p e) ≤ 4 + expr_cost e
+result_cost : (p : PartWords) (e : PlainSp) → stmts_cost (made_result p e) ≤ 4 + expr_cost e
 result_cost p e = omega (arith, ended_cost (is_zero e) (tree.one (tree.writes p.own (tree.to_slot p.result) e)))
 
 -- what is returned, and the masks of the function and of the loop
-return_cost : (p : Place) (e : PlainSp) → stmts_cost (made_return p e) ≤ 12 + stmts_cost (made_result p e)
+return_cost : (p : PartWords) (e : PlainSp) → stmts_cost (made_return p e) ≤ 12 + stmts_cost (made_result p e)
 return_cost p e =
     let outer = tree.one (masks p.turn (returned_loop p)) in
     let ends_all = stmt (masks p.function (returned_function p)) (if p.function == p.turn then no_stmt else outer) in
@@ -182,18 +183,18 @@ return_cost p e =
 
 abbrev step_cost : Option PlainAssignment → ℕ
 step_cost None = 0
-step_cost (Some a) = place_cost (made_place a.target) + expr_cost a.value
+step_cost (Some a) = target_cost (made_target a.target) + expr_cost a.value
 
 made_step_cost : (mask : ℕ) (step : Option PlainAssignment) → stmts_cost (made_step mask step) ≤ step_cost step
 made_step_cost mask None = omega arith
 made_step_cost mask (Some a) = omega arith
 
-turn_cost : (p : Place) (condition : PlainSp) (body : PlainStmts) (step : Option PlainAssignment)
+turn_cost : (p : PartWords) (condition : PlainSp) (body : PlainStmts) (step : Option PlainAssignment)
     → stmts_cost (made_turn p condition body step) ≤ 13 + expr_cost condition + stmts_cost body + step_cost step
 turn_cost p condition body step =
     omega (arith, joined_cost body (stmt (masks p.free (not_zero (frame_word p.free))) (made_step p.free step)), made_step_cost p.free step)
 
-loop_cost : (p : Place) (most : ℕ) (condition : PlainSp) (turn : PlainStmts)
+loop_cost : (p : PartWords) (most : ℕ) (condition : PlainSp) (turn : PlainStmts)
     → stmts_cost (made_loop p most condition turn) ≤ 34 + expr_cost condition + stmts_cost turn
 loop_cost p zero condition turn = omega arith
 loop_cost p (suc n) condition turn = omega arith
@@ -206,7 +207,7 @@ assignment_cost names text e = by (variable_target (named names text)) (variable
     by (Some target) within = omega (arith, within, resolved_cost names None e)
 
 -- a loop with its masks, its condition twice, and the assignments of a `for`
-head_cost : (names : Names) (head : PlainHead) (p : Place)
+head_cost : (names : Names) (head : PlainHead) (p : PartWords)
     → 47 + 2 * expr_cost (resolved_condition names head) + stmts_cost (made p (maybe_sets (resolved_begin names head)))
     + step_cost (resolved_next names head) ≤ head_weight head
 head_cost names (plain.turns_while condition) p = omega (arith, resolved_cost names None condition)
@@ -227,7 +228,7 @@ abbrev repair : PlainBranches → ℕ
 repair no_branch = 0
 repair (branch condition body rest) = 6
 
-choice_cost : (p : Place) (branches : PlainBranches) (otherwise : PlainActions)
+choice_cost : (p : PartWords) (branches : PlainBranches) (otherwise : PlainActions)
     → stmts_cost (made p (choice branches otherwise))
     ≤ stmts_cost (made_branches p branches (is_no_action otherwise) (λ q. made q otherwise)) + repair branches
 choice_cost p no_branch otherwise = omega arith
@@ -248,7 +249,7 @@ repair_spared : (fs : List (List ℕ)) (names : Names) (arms : PlainArms) → re
 repair_spared fs names plain.no_arm = omega arith
 repair_spared fs names (plain.arm condition body rest) = omega arith
 
-arm_cost : (p : Place) (condition : PlainSp) (arm : PlainStmts) (nothing : Bool) (rest : PlainStmts)
+arm_cost : (p : PartWords) (condition : PlainSp) (arm : PlainStmts) (nothing : Bool) (rest : PlainStmts)
     → stmts_cost (made_arm p condition arm (made_otherwise p nothing rest)) ≤ 17 + expr_cost condition + stmts_cost arm + stmts_cost rest
 arm_cost p condition arm nothing rest =
     omega (arith, joined_cost arm (made_otherwise p nothing rest), ended_cost nothing (stmt (masks p.free (where_not_taken p)) rest))
@@ -256,7 +257,7 @@ arm_cost p condition arm nothing rest =
 mutual
   unfolding stmt_weight block_weight arms_weight otherwise_weight
 
-  stmt_within : (fs : List (List ℕ)) (names : Names) (s : PlainStmt) (p : Place)
+  stmt_within : (fs : List (List ℕ)) (names : Names) (s : PlainStmt) (p : PartWords)
       → stmts_cost (made p (resolved_stmt fs names s)) ≤ stmt_weight s
   stmt_within fs names (plain.declared kind text None) p = omega arith
   stmt_within fs names (plain.declared kind text (Some r)) p =
@@ -302,7 +303,7 @@ mutual
       omega (arith, resolved_cost names None e, result_cost p given, return_cost p given, one_cost p (returns given))
   stmt_within fs names (plain.inner body) p = block_within fs names body p
 
-  block_within : (fs : List (List ℕ)) (names : Names) (body : PlainBlock) (p : Place)
+  block_within : (fs : List (List ℕ)) (names : Names) (body : PlainBlock) (p : PartWords)
       → stmts_cost (made p (resolved_block fs names body)) ≤ block_weight body
   block_within fs names plain.no_stmt p = omega arith
   block_within fs names (plain.stmt s rest) p =
@@ -310,8 +311,8 @@ mutual
       let more = block_within fs (names_after names s) rest p in
       omega (arith, first, more, made_joined_cost p (resolved_stmt fs names s) (resolved_block fs (names_after names s) rest))
 
-  arms_within : (fs : List (List ℕ)) (names : Names) (arms : PlainArms) (nothing : Bool) (otherwise : Place → PlainStmts) (weight : ℕ)
-      → ((q : Place) → stmts_cost (otherwise q) ≤ weight) → (p : Place)
+  arms_within : (fs : List (List ℕ)) (names : Names) (arms : PlainArms) (nothing : Bool) (otherwise : PartWords → PlainStmts) (weight : ℕ)
+      → ((q : PartWords) → stmts_cost (otherwise q) ≤ weight) → (p : PartWords)
       → stmts_cost (made_branches p (resolved_arms fs names arms) nothing otherwise) + spare arms ≤ arms_weight arms + weight
   arms_within fs names plain.no_arm nothing otherwise weight each p = omega (arith, each p)
   arms_within fs names (plain.arm condition body rest) nothing otherwise weight each p =
@@ -328,14 +329,14 @@ mutual
         arm_cost p test arm (is_no_branch others && nothing) (made_branches (in_arm p) others nothing otherwise),
       )
 
-  otherwise_within : (fs : List (List ℕ)) (names : Names) (otherwise : PlainOtherwise) (p : Place)
+  otherwise_within : (fs : List (List ℕ)) (names : Names) (otherwise : PlainOtherwise) (p : PartWords)
       → stmts_cost (made p (resolved_otherwise fs names otherwise)) ≤ otherwise_weight otherwise
   otherwise_within fs names plain.no_else p = omega arith
   otherwise_within fs names (plain.or_else body) p = block_within fs names body p
 
 -- ---- functions
 
-body_within : (fs : List (List ℕ)) (names : Names) (body : List PlainStmt) (p : Place)
+body_within : (fs : List (List ℕ)) (names : Names) (body : List PlainStmt) (p : PartWords)
     → stmts_cost (made p (resolved_body fs names body)) ≤ body_weight body
 body_within fs names [] p = omega arith
 body_within fs names (s ∷ rest) p =

@@ -8,10 +8,10 @@ use Rattle.c_tree.specs.Plain.{PlainItem, global, function}
 use Rattle.c_tree.specs.Valid.{IsValid}
 use Rattle.c_tree.specs.Weight.{item_weight, items_weight}
 use Rattle.sp_tree.specs.Formed.{data_formed}
-use Rattle.c_meaning.specs.Resolve.{resolved_items}
+use Rattle.c_meaning.specs.Resolve.{resolved_items, parameters_in}
 use Rattle.c_tree.proofs.Faultless.{private_fits}
 use Rattle.c_meaning.proofs.Fits.{initial_fits, input_within}
-use Rattle.single_path.specs.Single.{parameters_in, single}
+use Rattle.single_path.specs.Single.{single}
 use Rattle.single_path.proofs.Ends.{ends_of}
 use Rattle.single_path.proofs.Formed.{as_many, made_length}
 

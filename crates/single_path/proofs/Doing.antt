@@ -7,12 +7,12 @@ use Rattle.shared_order.proofs.Lists.{each-append}
 use Rattle.sp_tree.specs.Plain.{PlainSp, constant, frame_word, cell_word, array_word, before_one, between_two}
 use Rattle.sp_tree.specs.Statements.{PlainStmt, PlainStmts, no_stmt, stmt, joined, masks}
 use Rattle.sp_tree.specs.Statements as tree
-use Rattle.sp_tree.specs.Uses.{Use, reads_cell, reads_array, writes_cell, writes_array, sends_to, expr_uses, args_uses, place_uses, stmt_uses, stmts_uses, functions_uses}
+use Rattle.sp_tree.specs.Uses.{Use, reads_cell, reads_array, writes_cell, writes_array, sends_to, expr_uses, args_uses, target_uses, stmt_uses, stmts_uses, functions_uses}
 use Rattle.sp_tree.proofs.Joins.{joined_uses}
 use Rattle.c_meaning.specs.Actions.{PlainTarget, to_level, to_cell, to_array, PlainAssignment, PlainAction, sets, calls, transfers, chooses, turns, breaks, continues, returns, PlainActions, no_action, action, PlainBranches, no_branch, branch}
-use Rattle.single_path.specs.declared.places.Place.{Place}
-use Rattle.single_path.specs.Places.{in_arm, in_loop, outermost, both, less_by, bit_of, not_zero, where_so, where_not_taken, where_on, where_not_returned, returned_function, returned_loop}
-use Rattle.single_path.specs.Made.{is_zero, made_place, made_assignment, made_step, made_call, made_result, made_return, ends, is_no_action, is_no_branch, made_arm, made_otherwise, made_turn, made_loop, made_action, made, made_branches}
+use Rattle.single_path.specs.declared.part_words.PartWords.{PartWords}
+use Rattle.single_path.specs.PartWords.{in_arm, in_loop, outermost, both, less_by, bit_of, not_zero, where_so, where_not_taken, where_on, where_not_returned, returned_function, returned_loop}
+use Rattle.single_path.specs.Made.{is_zero, made_target, made_assignment, made_step, made_call, made_result, made_return, ends, is_no_action, is_no_branch, made_arm, made_otherwise, made_turn, made_loop, made_action, made, made_branches}
 use Rattle.single_path.specs.Single.{variables, begun_mask, made_functions}
 
 -- ---- actions whose uses all have a property
@@ -57,7 +57,7 @@ abbrev mutual
   BranchesDo P no_branch = ⊤
   BranchesDo P (branch condition body rest) = ExprDoes P condition × Do P body × BranchesDo P rest
 
--- ---- the uses of expressions, arguments and places
+-- ---- the uses of expressions, arguments and targets
 
 expr_each : (P : Use → Type 0) (e : PlainSp) → ExprDoes P e → Each P (expr_uses e)
 expr_each P (constant n) does = tt
@@ -71,7 +71,7 @@ args_each : (P : Use → Type 0) (args : List PlainSp) → Each (ExprDoes P) arg
 args_each P [] does = tt
 args_each P (e ∷ args) does = each-append P (expr_uses e) (args_uses args) (expr_each P e does.0) (args_each P args does.1)
 
-target_each : (P : Use → Type 0) (target : PlainTarget) → TargetDoes P target → Each P (place_uses (made_place target))
+target_each : (P : Use → Type 0) (target : PlainTarget) → TargetDoes P target → Each P (target_uses (made_target target))
 target_each P (to_level at) does = tt
 target_each P (to_cell cell) does = (does, tt)
 target_each P (to_array array index) does = (does.0, expr_each P index does.1)
@@ -105,13 +105,13 @@ assignment_do : (P : Use → Type 0) (mask : ℕ) (a : PlainAssignment) → Targ
     → StmtsDo P (tree.one (made_assignment mask a))
 assignment_do P mask a target value =
     only P (made_assignment mask a)
-    (each-append P (place_uses (made_place a.target)) (expr_uses a.value) (target_each P a.target target) (expr_each P a.value value))
+    (each-append P (target_uses (made_target a.target)) (expr_uses a.value) (target_each P a.target target) (expr_each P a.value value))
 
 step_do : (P : Use → Type 0) (mask : ℕ) (step : Option PlainAssignment) → StepDoes P step → StmtsDo P (made_step mask step)
 step_do P mask None does = tt
 step_do P mask (Some a) does = assignment_do P mask a does.0 does.1
 
-call_do : (P : Use → Type 0) (p : Place) (k : ℕ) (args : List PlainSp) (result : Option PlainTarget) → Each (ExprDoes P) args → ResultDoes P result
+call_do : (P : Use → Type 0) (p : PartWords) (k : ℕ) (args : List PlainSp) (result : Option PlainTarget) → Each (ExprDoes P) args → ResultDoes P result
     → StmtsDo P (made_call p k args result)
 call_do P p k args None given does = only P (tree.calls p.own k args None) (args_each P args given)
 call_do P p k args (Some (to_level at)) given does = only P (tree.calls p.own k args (Some at)) (args_each P args given)
@@ -124,7 +124,7 @@ call_do P p k args (Some (to_array array index)) given does =
 
 -- ---- ways on, arms and loops
 
-return_does : (P : Use → Type 0) (p : Place) (e : PlainSp) → ExprDoes P e → StmtsDo P (made_return p e)
+return_does : (P : Use → Type 0) (p : PartWords) (e : PlainSp) → ExprDoes P e → StmtsDo P (made_return p e)
 return_does P p e does =
     joined_do P (made_result p e) ended
     (unless_do P (is_zero e) (tree.one (tree.writes p.own (tree.to_slot p.result) e))
@@ -145,14 +145,14 @@ return_does P p e does =
     by true = ((tt, (tt, tt)), (tt, tt))
     by false = ((tt, tt), (tt, tt))
 
-arm_does : (P : Use → Type 0) (p : Place) (condition : PlainSp) (arm : PlainStmts) (nothing : Bool) (rest : PlainStmts)
+arm_does : (P : Use → Type 0) (p : PartWords) (condition : PlainSp) (arm : PlainStmts) (nothing : Bool) (rest : PlainStmts)
     → ExprDoes P condition → StmtsDo P arm → StmtsDo P rest → StmtsDo P (made_arm p condition arm (made_otherwise p nothing rest))
 arm_does P p condition arm nothing rest test inside more =
     mask_then P p.free (where_so p.own condition) (joined arm (made_otherwise p nothing rest)) (tt, (test, tt))
     (joined_do P arm (made_otherwise p nothing rest) inside
     (unless_do P nothing (stmt (masks p.free (where_not_taken p)) rest) (mask_then P p.free (where_not_taken p) rest ((tt, tt), (tt, tt)) more)))
 
-turn_does : (P : Use → Type 0) (p : Place) (condition : PlainSp) (body : PlainStmts) (step : Option PlainAssignment)
+turn_does : (P : Use → Type 0) (p : PartWords) (condition : PlainSp) (body : PlainStmts) (step : Option PlainAssignment)
     → ExprDoes P condition → StmtsDo P body → StepDoes P step → StmtsDo P (made_turn p condition body step)
 turn_does P p condition body step test inside stepped =
     let behind = stmt (masks p.free (not_zero (frame_word p.free))) (made_step p.free step) in
@@ -160,7 +160,7 @@ turn_does P p condition body step test inside stepped =
     (joined_do P body behind inside
     (mask_then P p.free (not_zero (frame_word p.free)) (made_step p.free step) (tt, tt) (step_do P p.free step stepped)))
 
-loop_does : (P : Use → Type 0) (p : Place) (most : ℕ) (condition : PlainSp) (turn : PlainStmts) → ExprDoes P condition → StmtsDo P turn
+loop_does : (P : Use → Type 0) (p : PartWords) (most : ℕ) (condition : PlainSp) (turn : PlainStmts) → ExprDoes P condition → StmtsDo P turn
     → StmtsDo P (made_loop p most condition turn)
 loop_does P p zero condition turn test inside = only P (tree.overruns p.own condition) (expr_each P condition test)
 loop_does P p (suc n) condition turn test inside =
@@ -171,7 +171,7 @@ loop_does P p (suc n) condition turn test inside =
 -- ---- all actions
 
 mutual
-  action_does : (P : Use → Type 0) (p : Place) (a : PlainAction) → ActionDoes P a → StmtsDo P (made_action p a)
+  action_does : (P : Use → Type 0) (p : PartWords) (a : PlainAction) → ActionDoes P a → StmtsDo P (made_action p a)
   action_does P p (sets a) does = assignment_do P p.own a does.0 does.1
   action_does P p (calls k args result) does = call_do P p k args result does.0 does.1
   action_does P p (transfers core source target count) does =
@@ -190,14 +190,14 @@ mutual
   action_does P p continues does = tt
   action_does P p (returns e) does = return_does P p e does
 
-  made_does : (P : Use → Type 0) (p : Place) (actions : PlainActions) → Do P actions → StmtsDo P (made p actions)
+  made_does : (P : Use → Type 0) (p : PartWords) (actions : PlainActions) → Do P actions → StmtsDo P (made p actions)
   made_does P p no_action does = tt
   made_does P p (action a rest) does =
       joined_do P (made_action p a) (if ends a then no_stmt else made p rest) (action_does P p a does.0)
       (unless_do P (ends a) (made p rest) (made_does P p rest does.1))
 
-  branches_do : (P : Use → Type 0) (p : Place) (bs : PlainBranches) (nothing : Bool) (otherwise : Place → PlainStmts) → BranchesDo P bs
-      → ((q : Place) → StmtsDo P (otherwise q)) → StmtsDo P (made_branches p bs nothing otherwise)
+  branches_do : (P : Use → Type 0) (p : PartWords) (bs : PlainBranches) (nothing : Bool) (otherwise : PartWords → PlainStmts) → BranchesDo P bs
+      → ((q : PartWords) → StmtsDo P (otherwise q)) → StmtsDo P (made_branches p bs nothing otherwise)
   branches_do P p no_branch nothing otherwise does last = last p
   branches_do P p (branch condition body rest) nothing otherwise does last =
       arm_does P p condition (made (in_arm p) body) (is_no_branch rest && nothing) (made_branches (in_arm p) rest nothing otherwise) does.0

@@ -24,10 +24,10 @@ use Rattle.sp_tree.specs.Formed.{slots_of, function_formed, functions_formed}
 use Rattle.sp_tree.specs.Statements.{PlainFunction, no_function, masks}
 use Rattle.c_meaning.specs.Actions.{PlainActions, no_action}
 use Rattle.c_meaning.specs.Meaning.{parameter_variables}
-use Rattle.c_meaning.specs.Resolve.{resolved_body, resolved_items}
+use Rattle.c_meaning.specs.Resolve.{resolved_body, resolved_items, parameters_in}
 use Rattle.single_path.specs.Made.{made}
-use Rattle.single_path.specs.Places.{outermost}
-use Rattle.single_path.specs.Single.{variables, begun_mask, made_function, made_functions, parameters_in, single}
+use Rattle.single_path.specs.PartWords.{outermost}
+use Rattle.single_path.specs.Single.{variables, begun_mask, made_function, made_functions, single}
 use Rattle.single_path.specs.Widths as width
 use Rattle.single_path.proofs.Ends.{ends_of}
 use Rattle.single_path.proofs.Fits.{Fits}

@@ -3,14 +3,14 @@ use Rattle.std.proofs.Common.{◌≡◌, ℕ, zero, suc, ◌+◌, ◌<◌, ◌�
 use Rattle.std.proofs.lemmas.Bool.{and_from}
 use Rattle.std.specs.List.{AllByRecursion as Each}
 use Rattle.std.specs.Prelude.{◌&&◌}
-use Rattle.sp_tree.specs.Formed.{place_formed, result_formed, callee_formed, stmt_formed, stmts_formed}
+use Rattle.sp_tree.specs.Formed.{target_formed, result_formed, callee_formed, stmt_formed, stmts_formed}
 use Rattle.sp_tree.specs.Plain.{PlainSp, frame_word}
 use Rattle.sp_tree.specs.Statements.{PlainStmt, PlainStmts, no_stmt, stmt, PlainFunction, masks, writes, overruns}
 use Rattle.sp_tree.specs.Statements as tree
 use Rattle.c_meaning.specs.Actions.{PlainTarget, to_level, to_cell, to_array, PlainAssignment, PlainAction, sets, calls, transfers, chooses, turns, breaks, continues, returns, PlainActions, no_action, action, PlainBranches, no_branch, branch}
-use Rattle.single_path.specs.Made.{made_place, made_assignment, made_step, made_call, is_zero, made_result, made_return, ends, is_no_action, is_no_branch, made_arm, made_otherwise, made_turn, made_loop, made_action, made, made_branches}
-use Rattle.single_path.specs.declared.places.Place.{Place}
-use Rattle.single_path.specs.Places.{in_arm, in_loop, where_so, where_not_taken, where_on, bit_of, not_zero, returned_function, returned_loop}
+use Rattle.single_path.specs.Made.{made_target, made_assignment, made_step, made_call, is_zero, made_result, made_return, ends, is_no_action, is_no_branch, made_arm, made_otherwise, made_turn, made_loop, made_action, made, made_branches}
+use Rattle.single_path.specs.declared.part_words.PartWords.{PartWords}
+use Rattle.single_path.specs.PartWords.{in_arm, in_loop, where_so, where_not_taken, where_on, bit_of, not_zero, returned_function, returned_loop}
 use Rattle.single_path.specs.Widths.{result_words, expr_words, args_words, target_words, assignment_words, step_words, words, action_words, branches_words, branches_masks}
 use Rattle.single_path.specs.Widths as width
 use Rattle.single_path.proofs.Fits.{FitsAction, Fits, FitsBranches}
@@ -22,15 +22,15 @@ use Rattle.single_path.proofs.Sound.{SoundTarget, SoundResult, SoundStep, SoundA
 
 -- ---- what is set, and calls
 
-target_formed : (slots : ℕ) (target : PlainTarget) → SoundTarget target → target_words target ≤ slots → place_formed slots (made_place target) ≡ true
-target_formed slots (to_level at) sound within = lt-ltb at slots (omega (arith, within))
-target_formed slots (to_cell cell) sound within = sound
-target_formed slots (to_array array index) sound within = and_from _ _ sound.0 (sound_formed slots index sound.1 within)
+target_is_formed : (slots : ℕ) (target : PlainTarget) → SoundTarget target → target_words target ≤ slots → target_formed slots (made_target target) ≡ true
+target_is_formed slots (to_level at) sound within = lt-ltb at slots (omega (arith, within))
+target_is_formed slots (to_cell cell) sound within = sound
+target_is_formed slots (to_array array index) sound within = and_from _ _ sound.0 (sound_formed slots index sound.1 within)
 
 write_formed : (fs : List PlainFunction) (number slots mask : ℕ) (target : PlainTarget) (e : PlainSp) → mask < slots → SoundTarget target → Sound e
-    → target_words target ≤ slots → expr_words e ≤ slots → stmt_formed fs number slots (writes mask (made_place target) e) ≡ true
+    → target_words target ≤ slots → expr_words e ≤ slots → stmt_formed fs number slots (writes mask (made_target target) e) ≡ true
 write_formed fs number slots mask target e there to sound within of =
-    and_from _ _ (lt-ltb mask slots there) (and_from _ _ (target_formed slots target to within) (sound_formed slots e sound of))
+    and_from _ _ (lt-ltb mask slots there) (and_from _ _ (target_is_formed slots target to within) (sound_formed slots e sound of))
 
 step_formed : (fs : List PlainFunction) (number slots mask : ℕ) (step : Option PlainAssignment) → mask < slots → SoundStep step
     → step_words step ≤ slots → stmts_formed fs number slots (made_step mask step) ≡ true
@@ -45,17 +45,17 @@ called_formed : (fs : List PlainFunction) (number slots mask k : ℕ) (args : Li
 called_formed fs number slots mask k args given there callee each within to =
     and_from _ _ (lt-ltb mask slots there) (and_from _ _ callee (and_from _ _ (sound_args_formed slots args each within) to))
 
--- what a function gives to a place outside of the frame goes by the word that is free
-by_word_formed : (fs : List PlainFunction) (number slots : ℕ) (p : Place) (k : ℕ) (args : List PlainSp) (target : PlainTarget) → p.own < slots
+-- what a function gives to a target outside of the frame goes by the word that is free
+by_word_formed : (fs : List PlainFunction) (number slots : ℕ) (p : PartWords) (k : ℕ) (args : List PlainSp) (target : PlainTarget) → p.own < slots
     → p.free < slots → callee_formed fs number k (length args) ≡ true → Each Sound args → SoundTarget target → args_words args ≤ slots
     → target_words target ≤ slots
     → stmts_formed fs number slots
-    (stmt (tree.calls p.own k args (Some p.free)) (tree.one (writes p.own (made_place target) (frame_word p.free)))) ≡ true
+    (stmt (tree.calls p.own k args (Some p.free)) (tree.one (writes p.own (made_target target) (frame_word p.free)))) ≡ true
 by_word_formed fs number slots p k args target own free callee each to within of =
     and_from _ _ (called_formed fs number slots p.own k args (Some p.free) own callee each within (lt-ltb p.free slots free))
     (and_from _ _ (write_formed fs number slots p.own target (frame_word p.free) own to (sound_word p.free) of (omega (arith, free))) refl)
 
-call_formed : (fs : List PlainFunction) (number slots : ℕ) (p : Place) (k : ℕ) (args : List PlainSp) (target : Option PlainTarget) → p.own < slots
+call_formed : (fs : List PlainFunction) (number slots : ℕ) (p : PartWords) (k : ℕ) (args : List PlainSp) (target : Option PlainTarget) → p.own < slots
     → p.free + width.result_masks target ≤ slots → callee_formed fs number k (length args) ≡ true → Each Sound args → SoundResult target
     → args_words args ≤ slots → result_words target ≤ slots → stmts_formed fs number slots (made_call p k args target) ≡ true
 call_formed fs number slots p k args None own free callee each to within of =
@@ -71,7 +71,7 @@ call_formed fs number slots p k args (Some (to_array array index)) own free call
 
 -- ---- ways on
 
-result_made_formed : (fs : List PlainFunction) (number slots : ℕ) (p : Place) (e : PlainSp) → Below p slots → Sound e → expr_words e ≤ slots
+result_made_formed : (fs : List PlainFunction) (number slots : ℕ) (p : PartWords) (e : PlainSp) → Below p slots → Sound e → expr_words e ≤ slots
     → stmts_formed fs number slots (made_result p e) ≡ true
 result_made_formed fs number slots p e b sound within = by (is_zero e)
   where
@@ -81,7 +81,7 @@ result_made_formed fs number slots p e b sound within = by (is_zero e)
         more_formed fs number slots (writes p.own (tree.to_slot p.result) e) no_stmt
         (write_formed fs number slots p.own (to_level p.result) e b.own tt sound (omega (arith, b.result)) within) refl
 
-return_formed : (fs : List PlainFunction) (number slots : ℕ) (p : Place) (e : PlainSp) → Below p slots → Sound e → expr_words e ≤ slots
+return_formed : (fs : List PlainFunction) (number slots : ℕ) (p : PartWords) (e : PlainSp) → Below p slots → Sound e → expr_words e ≤ slots
     → stmts_formed fs number slots (made_return p e) ≡ true
 return_formed fs number slots p e b sound within =
     let outer = tree.one (masks p.turn (returned_loop p)) in
@@ -93,7 +93,7 @@ return_formed fs number slots p e b sound within =
 
 -- ---- arms and loops
 
-arm_formed : (fs : List PlainFunction) (number slots : ℕ) (p : Place) (condition : PlainSp) (arm : PlainStmts) (nothing : Bool) (rest : PlainStmts)
+arm_formed : (fs : List PlainFunction) (number slots : ℕ) (p : PartWords) (condition : PlainSp) (arm : PlainStmts) (nothing : Bool) (rest : PlainStmts)
     → Below p slots → p.free < slots → Sound condition → expr_words condition ≤ slots → stmts_formed fs number slots arm ≡ true
     → stmts_formed fs number slots rest ≡ true → stmts_formed fs number slots (made_arm p condition arm (made_otherwise p nothing rest)) ≡ true
 arm_formed fs number slots p condition arm nothing rest b free sound within here there =
@@ -103,7 +103,7 @@ arm_formed fs number slots p condition arm nothing rest b free sound within here
     (both_formed fs number slots arm (made_otherwise p nothing rest) here (unless_formed fs number slots nothing otherwise
     (more_formed fs number slots (masks p.free (where_not_taken p)) rest (not_taken_formed fs number slots p b free) there)))
 
-turn_formed : (fs : List PlainFunction) (number slots : ℕ) (p : Place) (condition : PlainSp) (body : PlainStmts) (step : Option PlainAssignment)
+turn_formed : (fs : List PlainFunction) (number slots : ℕ) (p : PartWords) (condition : PlainSp) (body : PlainStmts) (step : Option PlainAssignment)
     → p.free < slots → Sound condition → expr_words condition ≤ slots → SoundStep step → step_words step ≤ slots
     → stmts_formed fs number slots body ≡ true → stmts_formed fs number slots (made_turn p condition body step) ≡ true
 turn_formed fs number slots p condition body step free sound within to of inside =
@@ -119,7 +119,7 @@ overrun_formed : (fs : List PlainFunction) (number slots mask : ℕ) (condition 
     → expr_words condition ≤ slots → stmt_formed fs number slots (overruns mask condition) ≡ true
 overrun_formed fs number slots mask condition there sound within = and_from _ _ (lt-ltb mask slots there) (sound_formed slots condition sound within)
 
-loop_formed : (fs : List PlainFunction) (number slots : ℕ) (p : Place) (n : ℕ) (condition : PlainSp) (turn : PlainStmts) → Below p slots
+loop_formed : (fs : List PlainFunction) (number slots : ℕ) (p : PartWords) (n : ℕ) (condition : PlainSp) (turn : PlainStmts) → Below p slots
     → p.free < slots → Sound condition → expr_words condition ≤ slots → stmts_formed fs number slots turn ≡ true
     → stmts_formed fs number slots (made_loop p (suc n) condition turn) ≡ true
 loop_formed fs number slots p n condition turn b free sound within inside =
@@ -137,7 +137,7 @@ MayCall Fit fs number = (k args : ℕ) → Fit k args → callee_formed fs numbe
 -- the variables have the first so many words
 mutual
   action_formed : (Fit : ℕ → ℕ → Type 0) (fs : List PlainFunction) (number slots n : ℕ)
-      → MayCall Fit fs number → (a : PlainAction) (inside : Bool) (p : Place) → Order n p
+      → MayCall Fit fs number → (a : PlainAction) (inside : Bool) (p : PartWords) → Order n p
       → action_words a ≤ n → p.free + width.action_masks a ≤ slots → FitsAction Fit inside a → SoundAction a
       → stmts_formed fs number slots (made_action p a) ≡ true
   action_formed Fit fs number slots n each (sets a) inside p order within free fits sound =
@@ -187,7 +187,7 @@ mutual
       return_formed fs number slots p e (below n slots p order (omega (arith, free))) sound (omega (arith, within, more))
 
   pub made_formed : (Fit : ℕ → ℕ → Type 0) (fs : List PlainFunction) (number slots n : ℕ)
-      → MayCall Fit fs number → (xs : PlainActions) (inside : Bool) (p : Place) → Order n p
+      → MayCall Fit fs number → (xs : PlainActions) (inside : Bool) (p : PartWords) → Order n p
       → words xs ≤ n → p.free + width.masks xs ≤ slots → Fits Fit inside xs → AllSound xs → stmts_formed fs number slots (made p xs) ≡ true
   made_formed Fit fs number slots n each no_action inside p order within free fits sound = refl
   made_formed Fit fs number slots n each (action a rest) inside p order within free fits sound =
@@ -198,9 +198,9 @@ mutual
 
   -- before what stands after the last `else`, which takes so many masks
   branches_formed : (Fit : ℕ → ℕ → Type 0) (fs : List PlainFunction) (number slots n : ℕ)
-      → MayCall Fit fs number → (bs : PlainBranches) (nothing : Bool) (otherwise : Place → PlainStmts) (last : ℕ)
-      → ((q : Place) → Order n q → q.free + last ≤ slots → stmts_formed fs number slots (otherwise q) ≡ true)
-      → (inside : Bool) (p : Place) → Order n p → branches_words bs ≤ n → p.free + branches_masks bs last ≤ slots → FitsBranches Fit inside bs
+      → MayCall Fit fs number → (bs : PlainBranches) (nothing : Bool) (otherwise : PartWords → PlainStmts) (last : ℕ)
+      → ((q : PartWords) → Order n q → q.free + last ≤ slots → stmts_formed fs number slots (otherwise q) ≡ true)
+      → (inside : Bool) (p : PartWords) → Order n p → branches_words bs ≤ n → p.free + branches_masks bs last ≤ slots → FitsBranches Fit inside bs
       → SoundBranches bs → stmts_formed fs number slots (made_branches p bs nothing otherwise) ≡ true
   branches_formed Fit fs number slots n each no_branch nothing otherwise last behind inside p order within free fits sound = behind p order free
   branches_formed Fit fs number slots n each (branch condition body rest) nothing otherwise last behind inside p order within free fits sound =

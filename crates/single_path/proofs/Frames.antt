@@ -4,7 +4,7 @@ use Rattle.std.specs.Prelude.{cond}
 use Rattle.std.proofs.lemmas.Bool.{cases_eq}
 use Rattle.shared_order.specs.Words.{put}
 use Rattle.sp_tree.specs.Straight.{State, with_slot, times}
-use Rattle.single_path.specs.declared.places.Place.{Place}
+use Rattle.single_path.specs.declared.part_words.PartWords.{PartWords}
 
 pub put_here : (x y : ℕ) (f : ℕ → ℕ) → put x y f x ≡ y
 put_here x y f = ap (λ b. cond b y (f x)) (eq-eqb x x refl)
@@ -13,7 +13,7 @@ pub put_there : (x y u : ℕ) (f : ℕ → ℕ) → x ≢ u → put x y f u ≡ 
 put_there x y u f other = ap (λ b. cond b y (f u)) (ne_eqb x u other)
 
 -- after the words of so many variables stand the result, the masks from outer to inner ones, and the words that are free
-pub record Order (n : ℕ) (p : Place) : Type 0 where
+pub record Order (n : ℕ) (p : PartWords) : Type 0 where
   pub result : n ≤ p.result
   pub function : p.result < p.function
   pub loop : p.function ≤ p.turn

@@ -17,11 +17,12 @@ use Rattle.sp_tree.proofs.Joins.{joined_levels}
 use Rattle.c_meaning.specs.Actions.{PlainTarget, to_level, to_cell, to_array, PlainAssignment, PlainAction, chooses, turns, returns, PlainActions, no_action, action, PlainBranches, no_branch, branch, one}
 use Rattle.c_meaning.specs.Actions as actions
 use Rattle.c_meaning.specs.Meaning.{with_variable, names_after, most_turns, parameter_variables}
-use Rattle.c_meaning.specs.Resolve.{resolved, resolved_args, variable_target, element_target, assignment_to, maybe_sets, number_of, numbered_call, resolved_right, resolved_condition, resolved_begin, resolved_next, choice, resolved_stmt, resolved_block, resolved_arms, resolved_otherwise, resolved_body}
+use Rattle.c_tree.specs.Names.{number_of}
+use Rattle.c_meaning.specs.Resolve.{resolved, resolved_args, variable_target, element_target, assignment_to, maybe_sets, numbered_call, resolved_right, resolved_condition, resolved_begin, resolved_next, choice, resolved_stmt, resolved_block, resolved_arms, resolved_otherwise, resolved_body}
 use Rattle.c_meaning.specs.Values.{Names, named}
 use Rattle.c_meaning.proofs.Few.{parameters_open}
-use Rattle.single_path.specs.declared.places.Place.{Place}
-use Rattle.single_path.specs.Places.{in_arm, in_loop, outermost, where_not_taken, where_on, not_zero, returned_function, returned_loop}
+use Rattle.single_path.specs.declared.part_words.PartWords.{PartWords}
+use Rattle.single_path.specs.PartWords.{in_arm, in_loop, outermost, where_not_taken, where_on, not_zero, returned_function, returned_loop}
 use Rattle.single_path.specs.Made.{is_zero, made_result, made_return, made_step, ends, is_no_action, is_no_branch, made_arm, made_otherwise, made_turn, made_loop, made_action, made, made_branches}
 use Rattle.single_path.specs.Single.{variables, made_function}
 use Rattle.single_path.specs.Widths.{expr_words, args_words, result_words, step_words, words, branches_words, branches_masks}
@@ -30,14 +31,14 @@ use Rattle.single_path.proofs.Words.{resolved_words, resolved_args_words, variab
 
 -- ---- what is counted
 
--- For actions that stand where so many variables are open, and for the place that they are made at: their words after those
+-- For actions that stand where so many variables are open, and for the words that they are made with: their words after those
 -- variables, their masks but one, and their levels of turns are together so many at most. (The one mask may be that of what a
--- function gives to a place outside of the frame, for which nothing is counted.)
-abbrev Within : ℕ → PlainActions → Place → ℕ → Type 0
+-- function gives to a target outside of the frame, for which nothing is counted.)
+abbrev Within : ℕ → PlainActions → PartWords → ℕ → Type 0
 Within n xs p room = words xs - n + (width.masks xs - 1) + stmts_levels (made p xs) ≤ room
 
 -- the same, where more variables are open after the actions than before
-abbrev Opens : ℕ → ℕ → PlainActions → Place → ℕ → Type 0
+abbrev Opens : ℕ → ℕ → PlainActions → PartWords → ℕ → Type 0
 Opens before after xs p room = after + (words xs - after + (width.masks xs - 1) + stmts_levels (made p xs)) ≤ before + room
 
 -- ---- one action after another
@@ -54,7 +55,7 @@ ended_levels : (ended : Bool) (ts : PlainStmts) → stmts_levels (if ended then 
 ended_levels true ts = omega arith
 ended_levels false ts = omega arith
 
-levels_joined : (p : Place) (xs ys : PlainActions)
+levels_joined : (p : PartWords) (xs ys : PlainActions)
     → stmts_levels (made p (actions.joined xs ys)) ≤ max (stmts_levels (made p xs)) (stmts_levels (made p ys))
 levels_joined p no_action ys = omega arith
 levels_joined p (action a rest) ys = by (ends a) (joined_levels (made_action p a)) (levels_joined p rest ys)
@@ -66,7 +67,7 @@ levels_joined p (action a rest) ys = by (ends a) (joined_levels (made_action p a
     by true each more = omega (arith, each no_stmt)
     by false each more = omega (arith, more, each (made p (actions.joined rest ys)), each (made p rest))
 
-levels_one : (p : Place) (a : PlainAction) → stmts_levels (made p (one a)) ≤ stmts_levels (made_action p a)
+levels_one : (p : PartWords) (a : PlainAction) → stmts_levels (made p (one a)) ≤ stmts_levels (made_action p a)
 levels_one p a = omega (arith, joined_levels (made_action p a) (if ends a then no_stmt else no_stmt), ended_levels (ends a) no_stmt)
 
 choice_words : (branches : PlainBranches) (otherwise : PlainActions)
@@ -80,7 +81,7 @@ choice_masks no_branch otherwise = omega arith
 choice_masks (branch condition body rest) otherwise = omega arith
 
 -- a choice has the levels of its arms and of what stands after `else`
-choice_levels : (p : Place) (branches : PlainBranches) (otherwise : PlainActions)
+choice_levels : (p : PartWords) (branches : PlainBranches) (otherwise : PlainActions)
     → stmts_levels (made p (choice branches otherwise)) ≤ stmts_levels (made_branches p branches (is_no_action otherwise) (λ q. made q otherwise))
 choice_levels p no_branch otherwise = omega arith
 choice_levels p (branch condition body rest) otherwise =
@@ -92,21 +93,21 @@ choice_levels p (branch condition body rest) otherwise =
     )
 
 -- the first may open variables, each of which takes a word
-joined_within : (before after first more : ℕ) (xs ys : PlainActions) (p : Place) → before ≤ after → Opens before after xs p first
+joined_within : (before after first more : ℕ) (xs ys : PlainActions) (p : PartWords) → before ≤ after → Opens before after xs p first
     → Within after ys p more → Within before (actions.joined xs ys) p (first + more)
 joined_within before after first more xs ys p opens here there =
     omega (arith, opens, here, there, words_joined xs ys, masks_joined xs ys, levels_joined p xs ys)
 
 -- ---- what is set, and calls
 
-sets_within : (n : ℕ) (p : Place) (target : Option PlainTarget) (e : PlainSp) → result_words target ≤ n → expr_words e ≤ n
+sets_within : (n : ℕ) (p : PartWords) (target : Option PlainTarget) (e : PlainSp) → result_words target ≤ n → expr_words e ≤ n
     → Within n (maybe_sets (assignment_to target e)) p 0
 sets_within n p None e of to = omega arith
 sets_within n p (Some (to_level at)) e of to = omega (arith, of, to)
 sets_within n p (Some (to_cell cell)) e of to = omega (arith, to)
 sets_within n p (Some (to_array array index)) e of to = omega (arith, of, to)
 
-call_within : (n : ℕ) (p : Place) (k : Option ℕ) (args : List PlainSp) (target : Option PlainTarget) → result_words target ≤ n
+call_within : (n : ℕ) (p : PartWords) (k : Option ℕ) (args : List PlainSp) (target : Option PlainTarget) → result_words target ≤ n
     → args_words args ≤ n → Within n (numbered_call k args target) p 0
 call_within n p None args target of to = sets_within n p target (constant 0) of (omega arith)
 call_within n p (Some k) args None of to = omega (arith, to)
@@ -114,7 +115,7 @@ call_within n p (Some k) args (Some (to_level at)) of to = omega (arith, of, to)
 call_within n p (Some k) args (Some (to_cell cell)) of to = omega (arith, to)
 call_within n p (Some k) args (Some (to_array array index)) of to = omega (arith, of, to)
 
-right_within : (fs : List (List ℕ)) (names : Names) (fresh : Option ℕ) (target : Option PlainTarget) (r : PlainRight) (p : Place)
+right_within : (fs : List (List ℕ)) (names : Names) (fresh : Option ℕ) (target : Option PlainTarget) (r : PlainRight) (p : PartWords)
     → result_words target ≤ length names.variables → Within (length names.variables) (resolved_right fs names fresh target r) p 0
 right_within fs names fresh target (plain.value e) p of =
     sets_within (length names.variables) p target (resolved names fresh e) of (resolved_words names fresh e)
@@ -123,32 +124,32 @@ right_within fs names fresh target (plain.call text args) p of =
 
 -- ---- ways on, and loops
 
-return_levels : (p : Place) (e : PlainSp) → stmts_levels (made_return p e) ≤ 0
+return_levels : (p : PartWords) (e : PlainSp) → stmts_levels (made_return p e) ≤ 0
 return_levels p e =
     let outer = tree.one (masks p.turn (returned_loop p)) in
     let ends_all = stmt (masks p.function (returned_function p)) (if p.function == p.turn then no_stmt else outer) in
     let set = ended_levels (is_zero e) (tree.one (tree.writes p.own (tree.to_slot p.result) e)) in
     omega (arith, joined_levels (made_result p e) ends_all, set, ended_levels (p.function == p.turn) outer)
 
-return_within : (n : ℕ) (p : Place) (e : PlainSp) → expr_words e ≤ n → Within n (one (returns e)) p 0
+return_within : (n : ℕ) (p : PartWords) (e : PlainSp) → expr_words e ≤ n → Within n (one (returns e)) p 0
 return_within n p e of = omega (arith, of, levels_one p (returns e), return_levels p e)
 
 step_levels : (mask : ℕ) (step : Option PlainAssignment) → stmts_levels (made_step mask step) ≤ 0
 step_levels mask None = omega arith
 step_levels mask (Some a) = omega arith
 
-turn_levels : (p : Place) (condition : PlainSp) (body : PlainStmts) (step : Option PlainAssignment)
+turn_levels : (p : PartWords) (condition : PlainSp) (body : PlainStmts) (step : Option PlainAssignment)
     → stmts_levels (made_turn p condition body step) ≤ stmts_levels body
 turn_levels p condition body step =
     omega (arith, joined_levels body (stmt (masks p.free (not_zero (frame_word p.free))) (made_step p.free step)), step_levels p.free step)
 
-loop_levels : (p : Place) (most : ℕ) (condition : PlainSp) (turn : PlainStmts)
+loop_levels : (p : PartWords) (most : ℕ) (condition : PlainSp) (turn : PlainStmts)
     → stmts_levels (made_loop p most condition turn) ≤ 1 + stmts_levels turn
 loop_levels p zero condition turn = omega arith
 loop_levels p (suc n) condition turn = omega arith
 
 -- a loop takes a word for its mask and one for its turns
-turns_within : (n room : ℕ) (p : Place) (most : ℕ) (condition : PlainSp) (body : PlainActions) (step : Option PlainAssignment)
+turns_within : (n room : ℕ) (p : PartWords) (most : ℕ) (condition : PlainSp) (body : PlainActions) (step : Option PlainAssignment)
     → expr_words condition ≤ n → step_words step ≤ n → Within n body (in_loop p) room
     → Within n (one (turns most condition body step)) p (2 + room)
 turns_within n room p zero condition body step of to within = omega (arith, of, to, within)
@@ -168,7 +169,7 @@ condition_words : (names : Names) (head : PlainHead) → expr_words (resolved_co
 condition_words names (plain.turns_while condition) = resolved_words names None condition
 condition_words names (plain.turns_for first from condition to_set to) = resolved_words names None condition
 
-begin_within : (names : Names) (head : PlainHead) (p : Place) → Within (length names.variables) (maybe_sets (resolved_begin names head)) p 0
+begin_within : (names : Names) (head : PlainHead) (p : PartWords) → Within (length names.variables) (maybe_sets (resolved_begin names head)) p 0
 begin_within names (plain.turns_while condition) p = omega arith
 begin_within names (plain.turns_for first from condition to_set to) p =
     sets_within (length names.variables) p (variable_target (named names first)) (resolved names None from) (variable_target_words names first)
@@ -185,7 +186,7 @@ next_words names (plain.turns_for first from condition to_set to) = by (variable
 
 -- ---- statements
 
-arm_levels : (p : Place) (condition : PlainSp) (arm : PlainStmts) (nothing : Bool) (rest : PlainStmts)
+arm_levels : (p : PartWords) (condition : PlainSp) (arm : PlainStmts) (nothing : Bool) (rest : PlainStmts)
     → stmts_levels (made_arm p condition arm (made_otherwise p nothing rest)) ≤ max (stmts_levels arm) (stmts_levels rest)
 arm_levels p condition arm nothing rest =
     omega (arith, joined_levels arm (made_otherwise p nothing rest), ended_levels nothing (stmt (masks p.free (where_not_taken p)) rest))
@@ -201,7 +202,7 @@ names_more names s = omega arith
 mutual
   unfolding stmt_frame block_frame arms_frame otherwise_frame
 
-  stmt_within : (fs : List (List ℕ)) (names : Names) (s : PlainStmt) (p : Place)
+  stmt_within : (fs : List (List ℕ)) (names : Names) (s : PlainStmt) (p : PartWords)
       → Opens (length names.variables) (length (names_after names s).variables) (resolved_stmt fs names s) p (stmt_frame s)
   stmt_within fs names (plain.declared kind text None) p = omega (arith, one_more names kind text)
   stmt_within fs names (plain.declared kind text (Some r)) p =
@@ -247,7 +248,7 @@ mutual
       omega (arith, return_within (length names.variables) p (resolved names None e) (resolved_words names None e))
   stmt_within fs names (plain.inner body) p = let within = block_within fs names body p in omega (arith, within)
 
-  block_within : (fs : List (List ℕ)) (names : Names) (body : PlainBlock) (p : Place)
+  block_within : (fs : List (List ℕ)) (names : Names) (body : PlainBlock) (p : PartWords)
       → Within (length names.variables) (resolved_block fs names body) p (block_frame body)
   block_within fs names plain.no_stmt p = omega arith
   block_within fs names (plain.stmt s rest) p =
@@ -258,8 +259,8 @@ mutual
       (stmt_within fs names s p) (block_within fs after rest p)
 
   -- arms before actions that have so many masks, and after which there is so much room
-  arms_within : (fs : List (List ℕ)) (names : Names) (arms : PlainArms) (nothing : Bool) (otherwise : Place → PlainStmts) (inside room : ℕ)
-      → ((q : Place) → inside - 1 + stmts_levels (otherwise q) ≤ room) → (p : Place)
+  arms_within : (fs : List (List ℕ)) (names : Names) (arms : PlainArms) (nothing : Bool) (otherwise : PartWords → PlainStmts) (inside room : ℕ)
+      → ((q : PartWords) → inside - 1 + stmts_levels (otherwise q) ≤ room) → (p : PartWords)
       → branches_words (resolved_arms fs names arms) - length names.variables + (branches_masks (resolved_arms fs names arms) inside - 1)
       + stmts_levels (made_branches p (resolved_arms fs names arms) nothing otherwise) ≤ arms_frame arms + room
   arms_within fs names plain.no_arm nothing otherwise inside room each p = omega (arith, each p)
@@ -276,14 +277,14 @@ mutual
         arm_levels p (resolved names None condition) arm (is_no_branch others && nothing) (made_branches (in_arm p) others nothing otherwise),
       )
 
-  otherwise_within : (fs : List (List ℕ)) (names : Names) (otherwise : PlainOtherwise) (p : Place)
+  otherwise_within : (fs : List (List ℕ)) (names : Names) (otherwise : PlainOtherwise) (p : PartWords)
       → Within (length names.variables) (resolved_otherwise fs names otherwise) p (otherwise_frame otherwise)
   otherwise_within fs names plain.no_else p = omega arith
   otherwise_within fs names (plain.or_else body) p = block_within fs names body p
 
 -- ---- functions
 
-body_within : (fs : List (List ℕ)) (names : Names) (body : List PlainStmt) (p : Place)
+body_within : (fs : List (List ℕ)) (names : Names) (body : List PlainStmt) (p : PartWords)
     → Within (length names.variables) (resolved_body fs names body) p (body_frame body)
 body_within fs names [] p = omega arith
 body_within fs names (s ∷ rest) p =

@@ -9,7 +9,7 @@ use Rattle.sp_tree.specs.Straight.{State, Serves, with_slot, worth, stmts_done, 
 use Rattle.c_meaning.specs.Actions.{PlainActions, no_action}
 use Rattle.c_meaning.specs.Resolved as resolved
 use Rattle.single_path.specs.Made.{made}
-use Rattle.single_path.specs.Places.{outermost}
+use Rattle.single_path.specs.PartWords.{outermost}
 use Rattle.single_path.specs.Single.{variables, begun_mask, made_function, made_functions}
 use Rattle.single_path.proofs.Acting.{live_all}
 use Rattle.single_path.proofs.Calling.{Serving}

@@ -4,17 +4,17 @@ use Rattle.std.specs.Prelude.{bit_and, bit_xor, not, ◌&&◌}
 use Rattle.c_world.specs.Numbers.{flag, sum_of, difference_of}
 use Rattle.c_world.specs.World.{World}
 use Rattle.sp_tree.specs.Plain.{PlainSp, constant, frame_word}
-use Rattle.sp_tree.specs.Statements.{PlainPlace, to_slot, PlainStmt, masks, writes, overruns, PlainStmts, no_stmt, stmt, one, joined}
+use Rattle.sp_tree.specs.Statements.{PlainSpTarget, to_slot, PlainStmt, masks, writes, overruns, PlainStmts, no_stmt, stmt, one, joined}
 use Rattle.sp_tree.specs.Statements as tree
 use Rattle.sp_tree.specs.Straight.{State, Serves, with_slot, args_worth, worth, times, stmt_done, stmts_done}
 use Rattle.sp_tree.proofs.Joins.{joined_done}
 use Rattle.sp_tree.proofs.Masks.{write_off, send_off, overrun_off, call_off}
 use Rattle.c_meaning.specs.Actions.{PlainTarget, to_level, PlainAssignment, PlainAction, sets, calls, transfers, chooses, turns, breaks, continues, returns, PlainActions, no_action, action, PlainBranches, no_branch, branch}
 use Rattle.c_meaning.specs.Actions as actions
-use Rattle.single_path.specs.declared.places.Place.{Place}
-use Rattle.single_path.specs.Places.{in_arm, in_loop, where_so, where_not_taken, where_not_returned, bit_of, not_zero, broken, continued, returned_function, returned_loop}
-use Rattle.single_path.specs.Places as mask
-use Rattle.single_path.specs.Made.{made, made_action, made_branches, made_place, made_assignment, made_step, made_return, made_result, made_arm, made_otherwise, made_turn, made_loop, is_zero, is_no_branch, is_no_action, ends}
+use Rattle.single_path.specs.declared.part_words.PartWords.{PartWords}
+use Rattle.single_path.specs.PartWords.{in_arm, in_loop, where_so, where_not_taken, where_not_returned, bit_of, not_zero, broken, continued, returned_function, returned_loop}
+use Rattle.single_path.specs.PartWords as mask
+use Rattle.single_path.specs.Made.{made, made_action, made_branches, made_target, made_assignment, made_step, made_return, made_result, made_arm, made_otherwise, made_turn, made_loop, is_zero, is_no_branch, is_no_action, ends}
 use Rattle.single_path.proofs.Frames.{put_here, Order, Still, still_here, still_on, fewer, set_behind, set_same, turns_still}
 
 -- a function under another mask than 1 changes no memory
@@ -29,7 +29,7 @@ pub data Idle : ℕ → ℕ → ℕ → Type 0 where
   skips : Idle 2 2 1
   gone : Idle 0 0 0
 
-pub record Dead (p : Place) (s : State) : Type 0 where
+pub record Dead (p : PartWords) (s : State) : Type 0 where
   pub own_word : ℕ
   pub loop_word : ℕ
   pub function_word : ℕ
@@ -142,7 +142,7 @@ idle_loop a b c waits = left
 idle_loop a b c skips = left
 idle_loop a b c gone = gone
 
-pub dead_on : (n : ℕ) (p : Place) (s t : State) → p.own < n → p.turn < n → p.function < n → Still n s t → Dead p s → Dead p t
+pub dead_on : (n : ℕ) (p : PartWords) (s t : State) → p.own < n → p.turn < n → p.function < n → Still n s t → Dead p s → Dead p t
 dead_on n p s t own_in loop_in function_in h d = record {
   own_word = d.own_word;
   loop_word = d.loop_word;
@@ -155,11 +155,11 @@ dead_on n p s t own_in loop_in function_in h d = record {
 }
 
 -- the masks of a part stand before its first free word
-pub still_dead : (n : ℕ) (p : Place) (s t : State) → Order n p → Still p.free s t → Dead p s → Dead p t
+pub still_dead : (n : ℕ) (p : PartWords) (s t : State) → Order n p → Still p.free s t → Dead p s → Dead p t
 still_dead n p s t o h d =
     dead_on p.free p s t o.free (omega (arith, o.own, o.free)) (omega (arith, o.loop, o.own, o.free)) h d
 
-pub dead_arm : (n : ℕ) (p : Place) (s t : State) → Order n p → Still p.free s t → t.frame p.free ≡ 0 → Dead p s → Dead (in_arm p) t
+pub dead_arm : (n : ℕ) (p : PartWords) (s t : State) → Order n p → Still p.free s t → t.frame p.free ≡ 0 → Dead p s → Dead (in_arm p) t
 dead_arm n p s t o h off d = record {
   own_word = 0;
   loop_word = d.loop_word;
@@ -171,7 +171,7 @@ dead_arm n p s t o h off d = record {
   alone = λ two. absurd (omega (arith, two));
 }
 
-dead_loop : (n : ℕ) (p : Place) (s t : State) → Order n p → Still p.free s t → t.frame p.free ≡ 0 → Dead p s → Dead (in_loop p) t
+dead_loop : (n : ℕ) (p : PartWords) (s t : State) → Order n p → Still p.free s t → t.frame p.free ≡ 0 → Dead p s → Dead (in_loop p) t
 dead_loop n p s t o h off d = record {
   own_word = 0;
   loop_word = 0;
@@ -183,15 +183,15 @@ dead_loop n p s t o h off d = record {
   alone = λ two. absurd (omega (arith, two));
 }
 
-pub order_arm : (n : ℕ) (p : Place) → Order n p → Order n (in_arm p)
+pub order_arm : (n : ℕ) (p : PartWords) → Order n p → Order n (in_arm p)
 order_arm n p o = record { result = o.result; function = o.function; loop = o.loop; own = omega (arith, o.own, o.free); free = omega arith }
 
-pub order_loop : (n : ℕ) (p : Place) → Order n p → Order n (in_loop p)
+pub order_loop : (n : ℕ) (p : PartWords) → Order n p → Order n (in_loop p)
 order_loop n p o = record { result = o.result; function = o.function; loop = omega (arith, o.loop, o.own, o.free); own = omega arith; free = omega arith }
 
 -- ---- statements under masks that are not 1
 
-pub off : (p : Place) (s : State) → Dead p s → s.frame p.own ≢ 1
+pub off : (p : PartWords) (s : State) → Dead p s → s.frame p.own ≢ 1
 off p s d is = not_1 d.own_word d.loop_word d.function_word d.idle (sym d.own ∙ is)
 
 same_still : (n : ℕ) (s t : State) → t ≡ s → Still n s t
@@ -210,27 +210,27 @@ call_still g quiet n mask k args result s is = let same = call_off g mask k args
 }
 
 -- what a function gives is set nowhere, by its free word either
-given_still : (g : Serves) → Quiet g → (n : ℕ) (p : Place) (k : ℕ) (args : List PlainSp) (place : PlainPlace) (s : State) → p.own < n → s.frame p.own ≢ 1
-    → Still n s (stmts_done g (stmt (tree.calls p.own k args (Some p.free)) (one (writes p.own place (frame_word p.free)))) s)
-given_still g quiet n p k args place s own_in is =
+given_still : (g : Serves) → Quiet g → (n : ℕ) (p : PartWords) (k : ℕ) (args : List PlainSp) (target : PlainSpTarget) (s : State) → p.own < n → s.frame p.own ≢ 1
+    → Still n s (stmts_done g (stmt (tree.calls p.own k args (Some p.free)) (one (writes p.own target (frame_word p.free)))) s)
+given_still g quiet n p k args target s own_in is =
     let t = stmt_done g (tree.calls p.own k args (Some p.free)) s in
     let called = call_still g quiet n p.own k args (Some p.free) s is in
     let still_off : t.frame p.own ≢ 1 = λ e. is (sym (called.frame p.own own_in) ∙ e) in
-    still_on n s t (stmt_done g (writes p.own place (frame_word p.free)) t) called
-    (same_still n t (stmt_done g (writes p.own place (frame_word p.free)) t) (write_off g p.own place (frame_word p.free) t still_off))
+    still_on n s t (stmt_done g (writes p.own target (frame_word p.free)) t) called
+    (same_still n t (stmt_done g (writes p.own target (frame_word p.free)) t) (write_off g p.own target (frame_word p.free) t still_off))
 
 step_still : (g : Serves) (n mask : ℕ) (step : Option PlainAssignment) (s : State) → s.frame mask ≢ 1 → Still n s (stmts_done g (made_step mask step) s)
 step_still g n mask None s is = still_here n s
-step_still g n mask (Some a) s is = same_still n s (stmt_done g (made_assignment mask a) s) (write_off g mask (made_place a.target) a.value s is)
+step_still g n mask (Some a) s is = same_still n s (stmt_done g (made_assignment mask a) s) (write_off g mask (made_target a.target) a.value s is)
 
 -- ---- ways on that are not taken
 
-result_still : (g : Serves) (n : ℕ) (p : Place) (e : PlainSp) (zero_value : Bool) (s : State) → s.frame p.own ≢ 1
+result_still : (g : Serves) (n : ℕ) (p : PartWords) (e : PlainSp) (zero_value : Bool) (s : State) → s.frame p.own ≢ 1
     → Still n s (stmts_done g (if zero_value then no_stmt else one (writes p.own (to_slot p.result) e)) s)
 result_still g n p e true s is = still_here n s
 result_still g n p e false s is = same_still n s (stmt_done g (writes p.own (to_slot p.result) e) s) (write_off g p.own (to_slot p.result) e s is)
 
-returned_function_still : (p : Place) (s : State) (alone : Bool) → (p.own == p.turn) ≡ alone → Dead p s
+returned_function_still : (p : PartWords) (s : State) (alone : Bool) → (p.own == p.turn) ≡ alone → Dead p s
     → difference_of (s.frame p.function) (worth (if alone then bit_of p.own else frame_word p.own) s) ≡ s.frame p.function
 returned_function_still p s true is d =
     ap₂ (λ c a. difference_of c (bit_and a 1)) d.function d.own ∙ ap (difference_of d.function_word) (idle_bit d.own_word d.loop_word d.function_word d.idle)
@@ -239,7 +239,7 @@ returned_function_still p s false is d =
     ap₂ difference_of d.function (d.own ∙ idle_apart d.own_word d.loop_word d.function_word d.idle (λ two. true≢false (sym (eq-eqb p.own p.turn (d.alone two)) ∙ is)))
     ∙ idle_function d.own_word d.loop_word d.function_word d.idle ∙ sym d.function
 
-returned_loop_still : (p : Place) (s : State) (alone : Bool) → (p.own == p.turn) ≡ alone → Dead p s
+returned_loop_still : (p : PartWords) (s : State) (alone : Bool) → (p.own == p.turn) ≡ alone → Dead p s
     → worth (if alone then mask.both (frame_word p.turn) (constant 2) else mask.less_by (frame_word p.turn) (frame_word p.own)) s ≡ s.frame p.turn
 returned_loop_still p s true is d =
     ap (λ b. bit_and b 2) d.loop
@@ -248,12 +248,12 @@ returned_loop_still p s false is d =
     ap₂ difference_of d.loop (d.own ∙ idle_apart d.own_word d.loop_word d.function_word d.idle (λ two. true≢false (sym (eq-eqb p.own p.turn (d.alone two)) ∙ is)))
     ∙ idle_less d.own_word d.loop_word d.function_word d.idle ∙ sym d.loop
 
-outer_still : (g : Serves) (p : Place) (outside : Bool) (s : State) → Dead p s
+outer_still : (g : Serves) (p : PartWords) (outside : Bool) (s : State) → Dead p s
     → Still p.free s (stmts_done g (if outside then no_stmt else one (masks p.turn (returned_loop p))) s)
 outer_still g p true s d = still_here p.free s
 outer_still g p false s d = set_same p.free p.turn (worth (returned_loop p) s) s (returned_loop_still p s (p.own == p.turn) refl d)
 
-return_still : (g : Serves) (n : ℕ) (p : Place) (e : PlainSp) (s : State) → Order n p → Dead p s → Still p.free s (stmts_done g (made_return p e) s)
+return_still : (g : Serves) (n : ℕ) (p : PartWords) (e : PlainSp) (s : State) → Order n p → Dead p s → Still p.free s (stmts_done g (made_return p e) s)
 return_still g n p e s o d =
     let result = result_still g p.free p e (is_zero e) s (off p s d) in
     let t = stmts_done g (made_result p e) s in
@@ -267,25 +267,25 @@ return_still g n p e s o d =
 -- ---- turns
 
 -- the masks of a loop that is left
-pub record Left (p : Place) (s : State) : Type 0 where
+pub record Left (p : PartWords) (s : State) : Type 0 where
   pub dead : Dead (in_loop p) s
   pub off : s.frame p.free ≡ 0
 
-pub left_on : (n : ℕ) (p : Place) (s t : State) → Order n p → Still (p.free + 1) s t → Left p s → Left p t
+pub left_on : (n : ℕ) (p : PartWords) (s t : State) → Order n p → Still (p.free + 1) s t → Left p s → Left p t
 left_on n p s t o h l = record { dead = still_dead n (in_loop p) s t (order_loop n p o) h l.dead; off = h.frame p.free (omega arith) ∙ l.off }
 
-pub left_off : (p : Place) (s : State) → Left p s → s.frame p.free ≢ 1
+pub left_off : (p : PartWords) (s : State) → Left p s → s.frame p.free ≢ 1
 left_off p s l e = absurd (let z = l.off in omega (arith, e, z))
 
 -- the mask of a loop that is left stays, whether the turn ends or the condition is tested
-pub again_still : (p : Place) (s : State) → Left p s → Still (p.free + 1) s (with_slot p.free (worth (not_zero (frame_word p.free)) s) s)
+pub again_still : (p : PartWords) (s : State) → Left p s → Still (p.free + 1) s (with_slot p.free (worth (not_zero (frame_word p.free)) s) s)
 again_still p s l = set_same (p.free + 1) p.free (worth (not_zero (frame_word p.free)) s) s (ap (λ a. flag (not (a == 0))) l.off ∙ sym l.off)
 
-pub tested_still : (p : Place) (condition : PlainSp) (s : State) → Left p s → Still (p.free + 1) s (with_slot p.free (worth (where_so p.free condition) s) s)
+pub tested_still : (p : PartWords) (condition : PlainSp) (s : State) → Left p s → Still (p.free + 1) s (with_slot p.free (worth (where_so p.free condition) s) s)
 tested_still p condition s l = set_same (p.free + 1) p.free (worth (where_so p.free condition) s) s (ap (λ a. bit_and a (worth (not_zero condition) s)) l.off ∙ sym l.off)
 
 -- the end of a turn
-pub ended_still : (g : Serves) (n : ℕ) (p : Place) (step : Option PlainAssignment) (s : State) → Order n p → Left p s
+pub ended_still : (g : Serves) (n : ℕ) (p : PartWords) (step : Option PlainAssignment) (s : State) → Order n p → Left p s
     → Still (p.free + 1) s (stmts_done g (stmt (masks p.free (not_zero (frame_word p.free))) (made_step p.free step)) s)
 ended_still g n p step s o l =
     let t = with_slot p.free (worth (not_zero (frame_word p.free)) s) s in
@@ -294,7 +294,7 @@ ended_still g n p step s o l =
     (step_still g (p.free + 1) p.free step t (left_off p t (left_on n p s t o again l)))
 
 -- a turn after its test
-pub behind_still : (g : Serves) (n : ℕ) (p : Place) (body : PlainStmts) (step : Option PlainAssignment) → Order n p
+pub behind_still : (g : Serves) (n : ℕ) (p : PartWords) (body : PlainStmts) (step : Option PlainAssignment) → Order n p
     → ((t : State) → Dead (in_loop p) t → Still (p.free + 1) t (stmts_done g body t)) → (s : State) → Left p s
     → Still (p.free + 1) s (stmts_done g (joined body (stmt (masks p.free (not_zero (frame_word p.free))) (made_step p.free step))) s)
 behind_still g n p body step o each s l =
@@ -302,7 +302,7 @@ behind_still g n p body step o each s l =
     joined_still g (p.free + 1) body (stmt (masks p.free (not_zero (frame_word p.free))) (made_step p.free step)) s turned
     (ended_still g n p step (stmts_done g body s) o (left_on n p s (stmts_done g body s) o turned l))
 
-turn_still : (g : Serves) (n : ℕ) (p : Place) (condition : PlainSp) (body : PlainStmts) (step : Option PlainAssignment) → Order n p
+turn_still : (g : Serves) (n : ℕ) (p : PartWords) (condition : PlainSp) (body : PlainStmts) (step : Option PlainAssignment) → Order n p
     → ((t : State) → Dead (in_loop p) t → Still (p.free + 1) t (stmts_done g body t))
     → (s : State) → Left p s → Still (p.free + 1) s (stmts_done g (made_turn p condition body step) s)
 turn_still g n p condition body step o each s l =
@@ -311,7 +311,7 @@ turn_still g n p condition body step o each s l =
     still_on (p.free + 1) s t (stmts_done g (joined body (stmt (masks p.free (not_zero (frame_word p.free))) (made_step p.free step))) t) tested
     (behind_still g n p body step o each t (left_on n p s t o tested l))
 
-pub turns_left : (g : Serves) (n : ℕ) (p : Place) (condition : PlainSp) (body : PlainStmts) (step : Option PlainAssignment) → Order n p
+pub turns_left : (g : Serves) (n : ℕ) (p : PartWords) (condition : PlainSp) (body : PlainStmts) (step : Option PlainAssignment) → Order n p
     → ((t : State) → Dead (in_loop p) t → Still (p.free + 1) t (stmts_done g body t))
     → (k : ℕ) (s : State) → Left p s → Still (p.free + 1) s (times k (stmts_done g (made_turn p condition body step)) s)
 turns_left g n p condition body step o each k s l =
@@ -320,7 +320,7 @@ turns_left g n p condition body step o each k s l =
     (λ t h. left_on n p t (stmts_done g (made_turn p condition body step) t) o (turn_still g n p condition body step o each t h) h) k s l
 
 -- so many turns, and the flag after them
-pub flagged_still : (g : Serves) (n : ℕ) (p : Place) (condition : PlainSp) (body : PlainStmts) (step : Option PlainAssignment) → Order n p
+pub flagged_still : (g : Serves) (n : ℕ) (p : PartWords) (condition : PlainSp) (body : PlainStmts) (step : Option PlainAssignment) → Order n p
     → ((t : State) → Dead (in_loop p) t → Still (p.free + 1) t (stmts_done g body t)) → (k : ℕ) (s : State) → Left p s
     → Still p.free s (stmt_done g (overruns p.free condition) (times k (stmts_done g (made_turn p condition body step)) s))
 flagged_still g n p condition body step o each k s l =
@@ -329,12 +329,12 @@ flagged_still g n p condition body step o each k s l =
     still_on p.free s t (stmt_done g (overruns p.free condition) t) (fewer (p.free + 1) p.free s t (omega arith) turned)
     (same_still p.free t (stmt_done g (overruns p.free condition) t) (overrun_off g p.free condition t (left_off p t (left_on n p s t o turned l))))
 
-on_still : (g : Serves) (p : Place) (s : State) → Dead p s → Still p.free s (stmts_done g (one (masks p.own (mask.where_on p))) s)
+on_still : (g : Serves) (p : PartWords) (s : State) → Dead p s → Still p.free s (stmts_done g (one (masks p.own (mask.where_on p))) s)
 on_still g p s d = set_same p.free p.own (worth (mask.where_on p) s) s
     (ap₂ bit_and d.own d.loop ∙ idle_on d.own_word d.loop_word d.function_word d.idle ∙ sym d.own)
 
 -- a loop begins where its part does not act
-pub loop_left : (n : ℕ) (p : Place) (s : State) → Order n p → Dead p s → Left p (with_slot p.free (worth (bit_of p.own) s) s)
+pub loop_left : (n : ℕ) (p : PartWords) (s : State) → Order n p → Dead p s → Left p (with_slot p.free (worth (bit_of p.own) s) s)
 loop_left n p s o d =
     let t = with_slot p.free (worth (bit_of p.own) s) s in
     let off_there : t.frame p.free ≡ 0 =
@@ -342,7 +342,7 @@ loop_left n p s o d =
     record { dead = dead_loop n p s t o (set_behind p.free p.free (worth (bit_of p.own) s) s (omega arith)) off_there d; off = off_there }
 
 -- after the turns the flag stands, and so do the masks
-loop_still : (g : Serves) (n : ℕ) (p : Place) (most : ℕ) (condition : PlainSp) (body : PlainStmts) (step : Option PlainAssignment) → Order n p
+loop_still : (g : Serves) (n : ℕ) (p : PartWords) (most : ℕ) (condition : PlainSp) (body : PlainStmts) (step : Option PlainAssignment) → Order n p
     → ((t : State) → Dead (in_loop p) t → Still (p.free + 1) t (stmts_done g body t))
     → (s : State) → Dead p s → Still p.free s (stmts_done g (made_loop p most condition (made_turn p condition body step)) s)
 loop_still g n p zero condition body step o each s d =
@@ -364,19 +364,19 @@ loop_still g n p (suc k) condition body step o each s d =
 -- ---- arms
 
 -- the mask of an arm, as it begins and after `else`
-pub arm_off : (p : Place) (condition : PlainSp) (s : State) → Dead p s → (with_slot p.free (worth (where_so p.own condition) s) s).frame p.free ≡ 0
+pub arm_off : (p : PartWords) (condition : PlainSp) (s : State) → Dead p s → (with_slot p.free (worth (where_so p.own condition) s) s).frame p.free ≡ 0
 arm_off p condition s d =
     put_here p.free (worth (where_so p.own condition) s) s.frame
     ∙ ap (λ a. bit_and a (flag (not (worth condition s == 0)))) d.own
     ∙ idle_so d.own_word d.loop_word d.function_word d.idle (not (worth condition s == 0))
 
-pub not_taken_still : (p : Place) (s : State) → Dead p s → s.frame p.free ≡ 0 → Still (p.free + 1) s (with_slot p.free (worth (where_not_taken p) s) s)
+pub not_taken_still : (p : PartWords) (s : State) → Dead p s → s.frame p.free ≡ 0 → Still (p.free + 1) s (with_slot p.free (worth (where_not_taken p) s) s)
 not_taken_still p s d is = set_same (p.free + 1) p.free (worth (where_not_taken p) s) s
     (ap₂ (λ b a. bit_and (bit_and b 1) (bit_xor a (s.frame p.free))) d.loop d.own
     ∙ ap (λ f. bit_and (bit_and d.loop_word 1) (bit_xor d.own_word f)) is
     ∙ idle_otherwise d.own_word d.loop_word d.function_word d.idle ∙ sym is)
 
-otherwise_still : (g : Serves) (n : ℕ) (p : Place) (nothing : Bool) (rest : PlainStmts) → Order n p
+otherwise_still : (g : Serves) (n : ℕ) (p : PartWords) (nothing : Bool) (rest : PlainStmts) → Order n p
     → ((t : State) → Dead (in_arm p) t → Still (p.free + 1) t (stmts_done g rest t))
     → (s : State) → Dead p s → Dead (in_arm p) s → s.frame p.free ≡ 0 → Still (p.free + 1) s (stmts_done g (made_otherwise p nothing rest) s)
 otherwise_still g n p true rest o each s d inner is = still_here (p.free + 1) s
@@ -385,7 +385,7 @@ otherwise_still g n p false rest o each s d inner is =
     let tested = not_taken_still p s d is in
     still_on (p.free + 1) s t (stmts_done g rest t) tested (each t (still_dead n (in_arm p) s t (order_arm n p o) tested inner))
 
-arm_still : (g : Serves) (n : ℕ) (p : Place) (condition : PlainSp) (arm : PlainStmts) (nothing : Bool) (rest : PlainStmts) → Order n p
+arm_still : (g : Serves) (n : ℕ) (p : PartWords) (condition : PlainSp) (arm : PlainStmts) (nothing : Bool) (rest : PlainStmts) → Order n p
     → ((t : State) → Dead (in_arm p) t → Still (p.free + 1) t (stmts_done g arm t))
     → ((t : State) → Dead (in_arm p) t → Still (p.free + 1) t (stmts_done g rest t))
     → (s : State) → Dead p s → Still p.free s (stmts_done g (made_arm p condition arm (made_otherwise p nothing rest)) s)
@@ -406,10 +406,10 @@ arm_still g n p condition arm nothing rest o inside behind s d =
 -- ---- all actions
 
 mutual
-  pub dead_action : (g : Serves) → Quiet g → (n : ℕ) (a : PlainAction) (p : Place) (s : State) → Order n p → Dead p s
+  pub dead_action : (g : Serves) → Quiet g → (n : ℕ) (a : PlainAction) (p : PartWords) (s : State) → Order n p → Dead p s
       → Still p.free s (stmts_done g (made_action p a) s)
   dead_action g quiet n (sets a) p s o d =
-      same_still p.free s (stmt_done g (made_assignment p.own a) s) (write_off g p.own (made_place a.target) a.value s (off p s d))
+      same_still p.free s (stmt_done g (made_assignment p.own a) s) (write_off g p.own (made_target a.target) a.value s (off p s d))
   dead_action g quiet n (calls k args None) p s o d = call_still g quiet p.free p.own k args None s (off p s d)
   dead_action g quiet n (calls k args (Some (to_level at))) p s o d = call_still g quiet p.free p.own k args (Some at) s (off p s d)
   dead_action g quiet n (calls k args (Some (actions.to_cell cell))) p s o d =
@@ -431,7 +431,7 @@ mutual
       (ap₂ (λ b a. sum_of b (bit_and a 1)) d.loop d.own ∙ idle_continued d.own_word d.loop_word d.function_word d.idle ∙ sym d.loop)
   dead_action g quiet n (returns e) p s o d = return_still g n p e s o d
 
-  pub dead : (g : Serves) → Quiet g → (n : ℕ) (all : PlainActions) (p : Place) (s : State) → Order n p → Dead p s → Still p.free s (stmts_done g (made p all) s)
+  pub dead : (g : Serves) → Quiet g → (n : ℕ) (all : PlainActions) (p : PartWords) (s : State) → Order n p → Dead p s → Still p.free s (stmts_done g (made p all) s)
   dead g quiet n no_action p s o d = still_here p.free s
   dead g quiet n (action a rest) p s o d =
       let first = dead_action g quiet n a p s o d in
@@ -444,9 +444,9 @@ mutual
       by true t h = still_here p.free t
       by false t h = h
 
-  pub dead_branches : (g : Serves) → Quiet g → (n : ℕ) (bs : PlainBranches) (nothing : Bool) (otherwise : Place → PlainStmts)
-      → ((q : Place) (t : State) → Order n q → Dead q t → Still q.free t (stmts_done g (otherwise q) t))
-      → (p : Place) (s : State) → Order n p → Dead p s → Still p.free s (stmts_done g (made_branches p bs nothing otherwise) s)
+  pub dead_branches : (g : Serves) → Quiet g → (n : ℕ) (bs : PlainBranches) (nothing : Bool) (otherwise : PartWords → PlainStmts)
+      → ((q : PartWords) (t : State) → Order n q → Dead q t → Still q.free t (stmts_done g (otherwise q) t))
+      → (p : PartWords) (s : State) → Order n p → Dead p s → Still p.free s (stmts_done g (made_branches p bs nothing otherwise) s)
   dead_branches g quiet n no_branch nothing otherwise each p s o d = each p s o d
   dead_branches g quiet n (branch condition body rest) nothing otherwise each p s o d =
       arm_still g n p condition (made (in_arm p) body) (is_no_branch rest && nothing) (made_branches (in_arm p) rest nothing otherwise) o

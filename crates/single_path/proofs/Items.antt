@@ -15,11 +15,10 @@ use Rattle.c_tree.specs.Tokens.{gives_tokens}
 use Rattle.c_tree.specs.Valid.{has_none, means_of, function_means, parameters_faults, with_parameters, named_faults, inner_faults, function_faults, global_faults, item_faults, with_item, items_faults}
 use Rattle.c_meaning.specs.Actions.{no_action}
 use Rattle.c_meaning.specs.Meaning.{parameter_variables}
-use Rattle.c_meaning.specs.Resolve.{resolved_body, resolved_items}
+use Rattle.c_meaning.specs.Resolve.{resolved_body, resolved_items, parameters_in}
 use Rattle.c_meaning.specs.Values.{Names}
 use Rattle.c_tree.proofs.Faultless.{none_left, none_right}
 use Rattle.c_meaning.proofs.Programs.{number_same, number_other}
-use Rattle.single_path.specs.Single.{parameters_in}
 use Rattle.single_path.proofs.Fits.{Fits}
 use Rattle.single_path.proofs.Functions.{Callable}
 use Rattle.single_path.proofs.Valid.{Callee, Knows, found_last, knows_more, scalar_hides, body_fits}
@@ -57,12 +56,12 @@ knows_function names fs counts text n g count k = record {
         → (if same then Some (means.Function n g false) else found other names) ≡ Some (means.Function c gives false) → Callee (fs ++ text ∷ []) counts other c
     by other c gives true is e = record {
       number = length fs;
-      is = number_same 0 other fs text is ∙ ap Some (omega arith);
+      is = number_same other fs text is;
       fits = (omega (arith, more), (let same : n ≡ c = cc in sym same ∙ sym count));
     }
     by other c gives false is e = let there = k.earlier other c gives e in record {
       number = there.number;
-      is = number_other 0 other fs text is ∙ there.is;
+      is = number_other other fs text is ∙ there.is;
       fits = (omega (arith, more, there.fits.0), there.fits.1);
     }
 

@@ -14,9 +14,9 @@ use Rattle.c_meaning.specs.declared.ways.Way.TheVariants as way
 use Rattle.c_meaning.specs.Meaning.{Done, way_value}
 use Rattle.c_meaning.specs.Resolved as resolved
 use Rattle.c_meaning.specs.Values as values
-use Rattle.single_path.specs.declared.places.Place.{Place}
-use Rattle.single_path.specs.Places.{in_arm, in_loop, where_so, where_not_taken, where_not_returned, bit_of, not_zero, broken, continued, returned_function, returned_loop}
-use Rattle.single_path.specs.Places as mask
+use Rattle.single_path.specs.declared.part_words.PartWords.{PartWords}
+use Rattle.single_path.specs.PartWords.{in_arm, in_loop, where_so, where_not_taken, where_not_returned, bit_of, not_zero, broken, continued, returned_function, returned_loop}
+use Rattle.single_path.specs.PartWords as mask
 use Rattle.single_path.specs.Made.{made_action, made_result, is_zero, ends}
 use Rattle.single_path.specs.Widths.{expr_words}
 use Rattle.single_path.proofs.Frames.{put_here, put_there, Order, set_behind, set_same}
@@ -27,11 +27,11 @@ use Rattle.single_path.proofs.Ways.{Acted, Live, Went, function_of, loop_of, own
 -- ---- ways on that are taken
 
 -- where a `break` or `continue` stands, there is a loop
-abbrev pub Nest : Bool → Place → Type 0
+abbrev pub Nest : Bool → PartWords → Type 0
 Nest inside p = inside ≡ true → p.function < p.turn
 
 -- the loop's mask is set, and no other
-loop_set : (n : ℕ) (p : Place) (v : ℕ) (w : Way) (s : State) (l : values.State) → Order n p → p.function < p.turn → Live p s → Agrees n s l
+loop_set : (n : ℕ) (p : PartWords) (v : ℕ) (w : Way) (s : State) (l : values.State) → Order n p → p.function < p.turn → Live p s → Agrees n s l
     → v ≡ loop_of w → function_of w ≡ 1 → way_value w ≡ 0 → Went n p s (record { way = w; state = l }) (with_slot p.turn v s)
 loop_set n p v w s l o nested live h is function value = record {
   same = still_agrees n p.turn s (with_slot p.turn v s) l (omega (arith, o.result, o.function, o.loop)) (set_behind p.turn p.turn v s (omega arith)) h;
@@ -42,7 +42,7 @@ loop_set n p v w s l o nested live h is function value = record {
   others = λ x behind below r f q own. put_there p.turn v x s.frame (λ e. q (sym e));
 }
 
-pub broken_acted : (gc : resolved.Serves) (g : Serves) (n : ℕ) (p : Place) (s : State) (l : values.State) → Order n p → p.function < p.turn → Live p s → Agrees n s l
+pub broken_acted : (gc : resolved.Serves) (g : Serves) (n : ℕ) (p : PartWords) (s : State) (l : values.State) → Order n p → p.function < p.turn → Live p s → Agrees n s l
     → Acted breaks n p s (resolved.action_done gc breaks l) (stmts_done g (made_action p breaks) s)
 broken_acted gc g n p s l o nested live h = record {
   went = loop_set n p (worth (broken p) s) way.Broken s l o nested live h (ap₂ (λ b a. difference_of b (bit_and a 1)) live.loop live.own) refl refl;
@@ -50,7 +50,7 @@ broken_acted gc g n p s l o nested live h = record {
   idle = λ is. absurd (true≢false is);
 }
 
-pub continued_acted : (gc : resolved.Serves) (g : Serves) (n : ℕ) (p : Place) (s : State) (l : values.State) → Order n p → p.function < p.turn → Live p s → Agrees n s l
+pub continued_acted : (gc : resolved.Serves) (g : Serves) (n : ℕ) (p : PartWords) (s : State) (l : values.State) → Order n p → p.function < p.turn → Live p s → Agrees n s l
     → Acted continues n p s (resolved.action_done gc continues l) (stmts_done g (made_action p continues) s)
 continued_acted gc g n p s l o nested live h = record {
   went = loop_set n p (worth (continued p) s) way.Continued s l o nested live h (ap₂ (λ b a. sum_of b (bit_and a 1)) live.loop live.own) refl refl;
@@ -59,7 +59,7 @@ continued_acted gc g n p s l o nested live h = record {
 }
 
 -- the result has its word: where it is 0 as it stands it is not set
-record Results (n : ℕ) (p : Place) (v : ℕ) (s t : State) (l : values.State) : Type 0 where
+record Results (n : ℕ) (p : PartWords) (v : ℕ) (s t : State) (l : values.State) : Type 0 where
   agrees : Agrees n t l
   value : t.frame p.result ≡ v
   others : (x : ℕ) → x ≢ p.result → t.frame x ≡ s.frame x
@@ -72,7 +72,7 @@ zero_worth (array_word array index) l is = absurd (cc)
 zero_worth (before_one op of) l is = absurd (cc)
 zero_worth (between_two op a b) l is = absurd (cc)
 
-result_set : (g : Serves) (n : ℕ) (p : Place) (e : PlainSp) (zero_value : Bool) (s : State) (l : values.State) → is_zero e ≡ zero_value → n ≤ p.result → Live p s
+result_set : (g : Serves) (n : ℕ) (p : PartWords) (e : PlainSp) (zero_value : Bool) (s : State) (l : values.State) → is_zero e ≡ zero_value → n ≤ p.result → Live p s
     → Agrees n s l → expr_words e ≤ n
     → Results n p (resolved.worth e l) s (stmts_done g (if zero_value then no_stmt else one (writes p.own (to_slot p.result) e)) s) l
 result_set g n p e true s l is behind live h within = record {
@@ -88,17 +88,17 @@ result_set g n p e false s l is behind live h within =
     })
 
 -- the masks of the function, and of a loop that stands in it
-returned_function_set : (p : Place) (s : State) (alone : Bool) → s.frame p.own ≡ 1 → s.frame p.function ≡ 1
+returned_function_set : (p : PartWords) (s : State) (alone : Bool) → s.frame p.own ≡ 1 → s.frame p.function ≡ 1
     → difference_of (s.frame p.function) (worth (if alone then bit_of p.own else frame_word p.own) s) ≡ 0
 returned_function_set p s true own function = ap₂ (λ c a. difference_of c (bit_and a 1)) function own
 returned_function_set p s false own function = ap₂ difference_of function own
 
-returned_loop_set : (p : Place) (s : State) (alone : Bool) → s.frame p.own ≡ 1 → s.frame p.turn ≡ 1
+returned_loop_set : (p : PartWords) (s : State) (alone : Bool) → s.frame p.own ≡ 1 → s.frame p.turn ≡ 1
     → worth (if alone then mask.both (frame_word p.turn) (constant 2) else mask.less_by (frame_word p.turn) (frame_word p.own)) s ≡ 0
 returned_loop_set p s true own loop = ap (λ b. bit_and b 2) loop
 returned_loop_set p s false own loop = ap₂ difference_of loop own
 
-returned_went : (g : Serves) (n : ℕ) (p : Place) (v : ℕ) (outside : Bool) (s t : State) (l : values.State) → (p.function == p.turn) ≡ outside → Order n p → Live p s
+returned_went : (g : Serves) (n : ℕ) (p : PartWords) (v : ℕ) (outside : Bool) (s t : State) (l : values.State) → (p.function == p.turn) ≡ outside → Order n p → Live p s
     → Results n p v s t l
     → Went n p s (record { way = way.Returned v; state = l })
     (stmts_done g (stmt (masks p.function (returned_function p)) (if outside then no_stmt else one (masks p.turn (returned_loop p)))) t)
@@ -150,7 +150,7 @@ returned_went g n p v outside s t l is o live r = by outside is
           others = λ x behind below not_result not_function not_loop not_own. there x not_loop ∙ apart x not_function ∙ r.others x not_result;
         }
 
-pub returned_acted : (gc : resolved.Serves) (g : Serves) (n : ℕ) (p : Place) (e : PlainSp) (s : State) (l : values.State) → Order n p → Live p s → Agrees n s l
+pub returned_acted : (gc : resolved.Serves) (g : Serves) (n : ℕ) (p : PartWords) (e : PlainSp) (s : State) (l : values.State) → Order n p → Live p s → Agrees n s l
     → expr_words e ≤ n → Acted (returns e) n p s (resolved.action_done gc (returns e) l) (stmts_done g (made_action p (returns e)) s)
 returned_acted gc g n p e s l o live h within =
     let t = stmts_done g (made_result p e) s in
@@ -206,7 +206,7 @@ own_small way.Broken = omega arith
 own_small way.Continued = omega arith
 own_small (way.Returned v) = omega arith
 
-pub on_acted : (a : PlainAction) (g : Serves) (n : ℕ) (p : Place) (s : State) (d : Done) (t : State) → ends a ≡ false → Order n p → Went n p s d t
+pub on_acted : (a : PlainAction) (g : Serves) (n : ℕ) (p : PartWords) (s : State) (d : Done) (t : State) → ends a ≡ false → Order n p → Went n p s d t
     → Acted a n p s d (stmts_done g (one (masks p.own (mask.where_on p))) t)
 on_acted a g n p s d t stays o h = by (cases_eq p.own p.turn)
   where

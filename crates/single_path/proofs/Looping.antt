@@ -16,8 +16,8 @@ use Rattle.c_meaning.specs.Meaning.{Done, goes_on, then_done, turn_done, turns_d
 use Rattle.c_meaning.specs.Meaning as meaning
 use Rattle.c_meaning.specs.Resolved as resolved
 use Rattle.c_meaning.specs.Values as values
-use Rattle.single_path.specs.declared.places.Place.{Place}
-use Rattle.single_path.specs.Places.{in_loop, where_so, where_not_returned, bit_of, not_zero}
+use Rattle.single_path.specs.declared.part_words.PartWords.{PartWords}
+use Rattle.single_path.specs.PartWords.{in_loop, where_so, where_not_returned, bit_of, not_zero}
 use Rattle.single_path.specs.Made.{made_step, made_turn, made_loop, ends}
 use Rattle.single_path.specs.Widths.{expr_words, step_words}
 use Rattle.single_path.proofs.Frames.{put_here, put_there, Order, Still, still_on, fewer, set_behind}
@@ -29,14 +29,14 @@ use Rattle.single_path.proofs.Arming.{tested}
 
 -- after the turns of a loop and its flag: the loop has ended, and its part goes on or the function has returned; the masks
 -- of the part stand
-record Turned (n : ℕ) (p : Place) (s : State) (d : Done) (u : State) : Type 0 where
+record Turned (n : ℕ) (p : PartWords) (s : State) (d : Done) (u : State) : Type 0 where
   same : Agrees n u d.state
   result : u.frame p.result ≡ way_value d.way
   function : u.frame p.function ≡ function_of d.way
   settled : function_of d.way ≡ loop_of d.way
   others : (x : ℕ) → n ≤ x → x < p.free → x ≢ p.result → x ≢ p.function → u.frame x ≡ s.frame x
 
-turned_still : (n : ℕ) (p : Place) (s : State) (d : Done) (u v : State) → Order n p → Turned n p s d u → Still p.free u v → Turned n p s d v
+turned_still : (n : ℕ) (p : PartWords) (s : State) (d : Done) (u v : State) → Order n p → Turned n p s d u → Still p.free u v → Turned n p s d v
 turned_still n p s d u v o h k = record {
   same = still_agrees n p.free u v d.state (omega (arith, o.result, o.function, o.loop, o.own, o.free)) k h.same;
   result = k.frame p.result (omega (arith, o.function, o.loop, o.own, o.free)) ∙ h.result;
@@ -45,7 +45,7 @@ turned_still n p s d u v o h k = record {
   others = λ x behind below r f. k.frame x below ∙ h.others x behind below r f;
 }
 
-turned_from : (n : ℕ) (p : Place) (s t : State) (d : Done) (u : State)
+turned_from : (n : ℕ) (p : PartWords) (s t : State) (d : Done) (u : State)
     → ((x : ℕ) → n ≤ x → x < p.free → x ≢ p.result → x ≢ p.function → t.frame x ≡ s.frame x) → Turned n p t d u → Turned n p s d u
 turned_from n p s t d u before h = record {
   same = h.same;
@@ -56,7 +56,7 @@ turned_from n p s t d u before h = record {
 }
 
 -- the masks of a loop that was left in its turn
-left_there : (n : ℕ) (p : Place) (t : State) (w : Way) (m : values.State) (u : State) → loop_of w ≡ 0 → Idle 0 0 (function_of w)
+left_there : (n : ℕ) (p : PartWords) (t : State) (w : Way) (m : values.State) (u : State) → loop_of w ≡ 0 → Idle 0 0 (function_of w)
     → Went n (in_loop p) t (record { way = w; state = m }) u → Left p u
 left_there n p t w m u is idle h = record {
   dead = record {
@@ -73,11 +73,11 @@ left_there n p t w m u is idle h = record {
 }
 
 -- what a loop needs of its body
-pub record Body (g : Serves) (n : ℕ) (p : Place) (body : PlainStmts) (meant : values.State → Done) : Type 0 where
+pub record Body (g : Serves) (n : ℕ) (p : PartWords) (body : PlainStmts) (meant : values.State → Done) : Type 0 where
   pub acts : (t : State) (m : values.State) → Live (in_loop p) t → Agrees n t m → Went n (in_loop p) t (meant m) (stmts_done g body t)
   pub idles : (t : State) → Dead (in_loop p) t → Still (p.free + 1) t (stmts_done g body t)
 
-no_turn : (g : Serves) (n : ℕ) (p : Place) (condition : PlainSp) (s : State) (l : values.State) → Live (in_loop p) s → Agrees n s l → expr_words condition ≤ n
+no_turn : (g : Serves) (n : ℕ) (p : PartWords) (condition : PlainSp) (s : State) (l : values.State) → Live (in_loop p) s → Agrees n s l → expr_words condition ≤ n
     → Turned n p s (goes_on (meaning.in_world l (with_overrun (resolved.holds condition l) l.world))) (stmt_done g (overruns p.free condition) s)
 no_turn g n p condition s l live h within =
     let flagged : stmt_done g (overruns p.free condition) s ≡ in_world s (with_overrun (resolved.holds condition l) l.world) =
@@ -91,7 +91,7 @@ no_turn g n p condition s l live h within =
       others = λ x behind below r f. refl;
     })
 
-turned : (g : Serves) (n : ℕ) (p : Place) (condition : PlainSp) (body : PlainStmts) (step : Option PlainAssignment) (meant : values.State → Done)
+turned : (g : Serves) (n : ℕ) (p : PartWords) (condition : PlainSp) (body : PlainStmts) (step : Option PlainAssignment) (meant : values.State → Done)
     → Order n p → expr_words condition ≤ n → step_words step ≤ n → Body g n p body meant → (k : ℕ) (s : State) (l : values.State) → Live (in_loop p) s → Agrees n s l
     → Turned n p s (turns_done (resolved.holds condition) meant (resolved.step_done step) k l)
     (stmt_done g (overruns p.free condition) (times k (stmts_done g (made_turn p condition body step)) s))
@@ -232,7 +232,7 @@ turned g n p condition body step meant o within step_within b (suc k) s l live h
         }))
 
 -- after a loop its part's masks are repaired
-behind_loop : (n : ℕ) (p : Place) (s : State) (d : Done) (u : State) → Order n p → Live p s → Turned n p s d u
+behind_loop : (n : ℕ) (p : PartWords) (s : State) (d : Done) (u : State) → Order n p → Live p s → Turned n p s d u
     → Went n p s d (with_slot p.turn (worth (where_not_returned p) u) u)
 behind_loop n p s d u o live h = by (cases_eq p.function p.turn)
   where
@@ -291,7 +291,7 @@ behind_loop n p s d u o live h = by (cases_eq p.function p.turn)
           others = others;
         }
 
-pub loop_acted : (a : PlainAction) (g : Serves) (n : ℕ) (p : Place) (most : ℕ) (condition : PlainSp) (body : PlainStmts) (step : Option PlainAssignment)
+pub loop_acted : (a : PlainAction) (g : Serves) (n : ℕ) (p : PartWords) (most : ℕ) (condition : PlainSp) (body : PlainStmts) (step : Option PlainAssignment)
     (meant : values.State → Done) (s : State) (l : values.State) → ends a ≡ false → Order n p → expr_words condition ≤ n → step_words step ≤ n
     → Body g n p body meant → Live p s → Agrees n s l
     → Acted a n p s (turns_done (resolved.holds condition) meant (resolved.step_done step) most l)

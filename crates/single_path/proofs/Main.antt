@@ -2,7 +2,7 @@
 use Rattle.std.proofs.Common.{◌≡◌, ℕ, suc, ◌+◌, ◌<◌, ◌==◌, Bool, true, false, if◌then◌else◌, List, [], ◌∷◌, length, Option, None, Some, is_some, slice_index, bytes_eq, refl, ap, sym, ◌∙◌, arith, lt-ltb, eq-eqb, eqb-true, true≢false, slice_index_or}
 use Rattle.std.proofs.lemmas.Bool.{and_from, and_parts}
 use Rattle.std.proofs.lemmas.Slice.Eq.{bytes_eq-Decides}
-use Rattle.std.specs.Option.{option_or}
+use Rattle.std.specs.Option.{option_or, option_map}
 use Rattle.std.specs.Prelude.{IsTrue, codes, ◌&&◌, ◌||◌}
 use Rattle.c_tree.specs.declared.checks.CheckFault.TheVariants as fault
 use Rattle.c_tree.specs.declared.checks.Meaning.{Meaning}
@@ -10,15 +10,15 @@ use Rattle.c_tree.specs.declared.statements.Kind.{Kind}
 use Rattle.c_tree.specs.declared.units.Parameter.{Parameter}
 use Rattle.c_tree.specs.Checks.{twice_faults}
 use Rattle.c_tree.specs.Layout.{layout_of}
-use Rattle.c_tree.specs.Names.{Named, found, is_declared, declared, given}
+use Rattle.c_tree.specs.Names.{Found, Named, last_named, found, is_declared, declared, given, number_of}
 use Rattle.c_tree.specs.Plain.{PlainStmt, PlainItem, global, function}
 use Rattle.c_tree.specs.Sizes.{item_size}
 use Rattle.c_tree.specs.Tokens.{gives_tokens}
 use Rattle.c_tree.specs.Valid.{IsValid, has_none, means_of, function_means, named_faults, inner_faults, function_faults, item_faults, with_item, items_faults, gives_int, is_main, has_main}
 use Rattle.sp_tree.specs.Formed.{entry_formed}
 use Rattle.sp_tree.specs.Statements.{no_function}
-use Rattle.c_meaning.specs.Resolve.{names_in, number_from, number_of, resolved_items}
-use Rattle.single_path.specs.Single.{parameters_in, single, entry_of}
+use Rattle.c_meaning.specs.Resolve.{names_in, resolved_items, parameters_in}
+use Rattle.single_path.specs.Single.{single, entry_of}
 use Rattle.single_path.proofs.Ends.{ends_of}
 use Rattle.single_path.proofs.Formed.{as_many, made_length}
 use Rattle.single_path.proofs.Functions.{made_at}
@@ -61,7 +61,7 @@ function_other cores own names at kind name void_word parameters body none text 
     by true is = absurd (true≢false (sym there ∙ ap (λ x. is_some (found x names)) (sym ((bytes_eq-Decides name text).0 is)) ∙ new))
 
 no_later : (cores own : ℕ) (names : List Named) (at : ℕ) (items : List PlainItem) → IsTrue (has_none (items_faults cores own names at items))
-    → (text : List ℕ) → is_some (found text names) ≡ true → (k : ℕ) → number_from k text (names_in items) ≡ None
+    → (text : List ℕ) → is_some (found text names) ≡ true → (k : ℕ) → last_named (λ n. n) k text (names_in items) ≡ None
 no_later cores own names at [] none text there k = refl
 no_later cores own names at (global g ∷ items) none text there k =
     let behind = items_faults cores own (with_item names (global g)) (at + item_size (global g)) items in
@@ -75,13 +75,14 @@ no_later cores own names at (function kind name void_word parameters body ∷ it
     (still_found text names name (function_means false kind parameters) there) (k + 1) in
     let here = none_left (item_faults cores own names at f) behind none in
     let other = function_other cores own names at kind name void_word parameters body here text there in
-    ap (λ n. option_or n (if bytes_eq name text then Some k else None)) later ∙ ap (λ b. if b then Some k else None) other
+    let own_name : Found (List ℕ) = record { at = k; is = name } in
+    ap (λ l. option_or l (if bytes_eq name text then Some own_name else None)) later ∙ ap (λ b. if b then Some own_name else None) other
 
 -- ---- where `main` stands, where so many functions stand before these
 
 record MainFrom (k : ℕ) (items : List PlainItem) : Type 0 where
   number : ℕ
-  is : number_from k (codes "main") (names_in items) ≡ Some (k + number)
+  is : option_map (λ f. f.at) (last_named (λ n. n) k (codes "main") (names_in items)) ≡ Some (k + number)
   within : number < length (parameters_in items)
   bare : slice_index (parameters_in items) number ≡ 0
 
@@ -99,6 +100,14 @@ main_from cores own names at (function kind name void_word parameters body ∷ i
     f : PlainItem
     f = function kind name void_word parameters body
 
+    own_name : Found (List ℕ)
+    own_name = record { at = k; is = name }
+
+    later_meant : (later : Option (Found (List ℕ))) (here : Bool) (n : ℕ) → option_map (λ l. l.at) later ≡ Some n
+        → option_map (λ l. l.at) (option_or later (if here then Some own_name else None)) ≡ Some n
+    later_meant None here n is = absurd (cc)
+    later_meant (Some l) here n is = is
+
     none_behind : IsTrue (has_none (items_faults cores own (with_item names f) (at + item_size f) items))
     none_behind = none_right (item_faults cores own names at f) (items_faults cores own (with_item names f) (at + item_size f) items) none
 
@@ -111,8 +120,8 @@ main_from cores own names at (function kind name void_word parameters body ∷ i
         (found_here (codes "main") names name (function_means false kind parameters) parts.0) (k + 1) in
         record {
           number = 0;
-          is = ap (λ n. option_or n (if bytes_eq name (codes "main") then Some k else None)) last
-              ∙ ap (λ b. if b then Some k else None) parts.0 ∙ ap Some (omega arith);
+          is = ap (λ l. option_map (λ f. f.at) (option_or l (if bytes_eq name (codes "main") then Some own_name else None))) last
+              ∙ ap (λ b. option_map (λ f. f.at) (if b then Some own_name else None)) parts.0 ∙ ap Some (omega arith);
           within = omega arith;
           bare = eqb-true (length parameters) 0 bare.1;
         }
@@ -120,7 +129,8 @@ main_from cores own names at (function kind name void_word parameters body ∷ i
         let later = rest some in
         record {
           number = suc later.number;
-          is = ap (λ n. option_or n (if bytes_eq name (codes "main") then Some k else None)) later.is ∙ ap Some (omega arith);
+          is = later_meant (last_named (λ n. n) (k + 1) (codes "main") (names_in items)) (bytes_eq name (codes "main")) (k + 1 + later.number) later.is
+              ∙ ap Some (omega arith);
           within = omega (arith, later.within);
           bare = later.bare;
         }

@@ -1,4 +1,4 @@
--- The statements that set masks are well formed, where the words of their place are words of the frame.
+-- The statements that set masks are well formed, where the words of their part are words of the frame.
 use Rattle.std.proofs.Common.{◌≡◌, ℕ, ◌<◌, ◌≤◌, ◌==◌, Bool, true, false, if◌then◌else◌, List, refl, ◌∙◌, arith, lt-ltb}
 use Rattle.std.proofs.lemmas.Bool.{and_from}
 use Rattle.sp_tree.specs.Formed.{stmt_formed, stmts_formed}
@@ -7,23 +7,23 @@ use Rattle.sp_tree.specs.Plain.{PlainSp, constant, frame_word}
 use Rattle.sp_tree.specs.Statements.{PlainStmt, PlainStmts, no_stmt, stmt, PlainFunction, masks, writes, overruns}
 use Rattle.sp_tree.specs.Statements as tree
 use Rattle.sp_tree.proofs.Joins.{joined_formed}
-use Rattle.single_path.specs.declared.places.Place.{Place}
-use Rattle.single_path.specs.Places.{both, less_by, where_so, where_not_taken, where_on, where_not_returned, bit_of, not_zero, broken, continued, returned_function, returned_loop}
+use Rattle.single_path.specs.declared.part_words.PartWords.{PartWords}
+use Rattle.single_path.specs.PartWords.{both, less_by, where_so, where_not_taken, where_on, where_not_returned, bit_of, not_zero, broken, continued, returned_function, returned_loop}
 use Rattle.single_path.specs.Single.{begun_mask}
 use Rattle.single_path.specs.Widths.{expr_words}
 use Rattle.single_path.proofs.Frames.{Order}
 use Rattle.single_path.proofs.Needs.{both_needed, Sound, sound_formed}
 
--- ---- a place in a frame
+-- ---- the words of a part in a frame
 
 -- its words are below so many
-pub record Below (p : Place) (slots : ℕ) : Type 0 where
+pub record Below (p : PartWords) (slots : ℕ) : Type 0 where
   pub result : p.result < slots
   pub function : p.function < slots
   pub loop : p.turn < slots
   pub own : p.own < slots
 
-pub below : (n slots : ℕ) (p : Place) → Order n p → p.free ≤ slots → Below p slots
+pub below : (n slots : ℕ) (p : PartWords) → Order n p → p.free ≤ slots → Below p slots
 below n slots p order within = record {
   result = omega (arith, within, order.function, order.loop, order.own, order.free);
   function = omega (arith, within, order.loop, order.own, order.free);
@@ -32,7 +32,7 @@ below n slots p order within = record {
 }
 
 -- and so are those of the variables
-pub words_there : (n slots : ℕ) (p : Place) → Order n p → p.free ≤ slots → n ≤ slots
+pub words_there : (n slots : ℕ) (p : PartWords) → Order n p → p.free ≤ slots → n ≤ slots
 words_there n slots p order within = omega (arith, within, order.result, order.function, order.loop, order.own, order.free)
 
 -- ---- statements one after another
@@ -63,39 +63,39 @@ condition_sound mask condition sound = record {
   few = omega (arith, sound.few, (both_needed (need condition) 1).0, (both_needed (need (not_zero condition)) 1).1);
 }
 
-pub begun_formed : (fs : List PlainFunction) (number slots : ℕ) (p : Place) → Below p slots
+pub begun_formed : (fs : List PlainFunction) (number slots : ℕ) (p : PartWords) → Below p slots
     → stmt_formed fs number slots (masks p.function (begun_mask p)) ≡ true
 begun_formed fs number slots p b =
     mask_formed fs number slots p.function (begun_mask p) b.function (record { ranged = (tt, tt); few = omega arith }) (omega (arith, b.function))
 
-pub on_formed : (fs : List PlainFunction) (number slots : ℕ) (p : Place) → Below p slots
+pub on_formed : (fs : List PlainFunction) (number slots : ℕ) (p : PartWords) → Below p slots
     → stmt_formed fs number slots (masks p.own (where_on p)) ≡ true
 on_formed fs number slots p b =
     mask_formed fs number slots p.own (where_on p) b.own (record { ranged = (tt, tt); few = omega arith }) (omega (arith, b.own, b.loop))
 
-pub broken_formed : (fs : List PlainFunction) (number slots : ℕ) (p : Place) → Below p slots
+pub broken_formed : (fs : List PlainFunction) (number slots : ℕ) (p : PartWords) → Below p slots
     → stmt_formed fs number slots (masks p.turn (broken p)) ≡ true
 broken_formed fs number slots p b =
     mask_formed fs number slots p.turn (broken p) b.loop (record { ranged = (tt, (tt, tt)); few = omega arith }) (omega (arith, b.own, b.loop))
 
-pub continued_formed : (fs : List PlainFunction) (number slots : ℕ) (p : Place) → Below p slots
+pub continued_formed : (fs : List PlainFunction) (number slots : ℕ) (p : PartWords) → Below p slots
     → stmt_formed fs number slots (masks p.turn (continued p)) ≡ true
 continued_formed fs number slots p b =
     mask_formed fs number slots p.turn (continued p) b.loop (record { ranged = (tt, (tt, tt)); few = omega arith }) (omega (arith, b.own, b.loop))
 
-pub not_returned_formed : (fs : List PlainFunction) (number slots : ℕ) (p : Place) → Below p slots
+pub not_returned_formed : (fs : List PlainFunction) (number slots : ℕ) (p : PartWords) → Below p slots
     → stmt_formed fs number slots (masks p.turn (where_not_returned p)) ≡ true
 not_returned_formed fs number slots p b =
     mask_formed fs number slots p.turn (where_not_returned p) b.loop (record { ranged = (tt, tt); few = omega arith })
     (omega (arith, b.function, b.loop))
 
-pub not_taken_formed : (fs : List PlainFunction) (number slots : ℕ) (p : Place) → Below p slots → p.free < slots
+pub not_taken_formed : (fs : List PlainFunction) (number slots : ℕ) (p : PartWords) → Below p slots → p.free < slots
     → stmt_formed fs number slots (masks p.free (where_not_taken p)) ≡ true
 not_taken_formed fs number slots p b free =
     mask_formed fs number slots p.free (where_not_taken p) free (record { ranged = ((tt, tt), (tt, tt)); few = omega arith })
     (omega (arith, b.own, b.loop, free))
 
--- ---- masks after `return`: two ways to take from them, of which the place decides
+-- ---- masks after `return`: two ways to take from them, of which the part decides
 
 either_formed : (fs : List PlainFunction) (number slots slot : ℕ) (e : PlainSp → PlainSp) (first : Bool) (a b : PlainSp)
     → stmt_formed fs number slots (masks slot (e a)) ≡ true → stmt_formed fs number slots (masks slot (e b)) ≡ true
@@ -103,7 +103,7 @@ either_formed : (fs : List PlainFunction) (number slots slot : ℕ) (e : PlainSp
 either_formed fs number slots slot e true a b ha hb = ha
 either_formed fs number slots slot e false a b ha hb = hb
 
-pub returned_function_formed : (fs : List PlainFunction) (number slots : ℕ) (p : Place) → Below p slots
+pub returned_function_formed : (fs : List PlainFunction) (number slots : ℕ) (p : PartWords) → Below p slots
     → stmt_formed fs number slots (masks p.function (returned_function p)) ≡ true
 returned_function_formed fs number slots p b =
     let less = less_by (frame_word p.function) in
@@ -113,7 +113,7 @@ returned_function_formed fs number slots p b =
     (mask_formed fs number slots p.function (less (frame_word p.own)) b.function (record { ranged = (tt, tt); few = omega arith })
     (omega (arith, b.function, b.own)))
 
-pub returned_loop_formed : (fs : List PlainFunction) (number slots : ℕ) (p : Place) → Below p slots
+pub returned_loop_formed : (fs : List PlainFunction) (number slots : ℕ) (p : PartWords) → Below p slots
     → stmt_formed fs number slots (masks p.turn (returned_loop p)) ≡ true
 returned_loop_formed fs number slots p b =
     let bit = both (frame_word p.turn) (constant 2) in

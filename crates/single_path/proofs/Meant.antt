@@ -9,11 +9,11 @@ use Rattle.sp_tree.specs.Straight as straight
 use Rattle.c_meaning.specs.Actions.{PlainActions}
 use Rattle.c_meaning.specs.Begun.{begun, meaning}
 use Rattle.c_meaning.specs.Meaning.{Given}
-use Rattle.c_meaning.specs.Resolve.{resolved_items, numbered}
+use Rattle.c_meaning.specs.Resolve.{resolved_items, numbered, parameters_in}
 use Rattle.c_meaning.specs.Resolved as resolved
 use Rattle.c_meaning.proofs.Programs.{program_means}
 use Rattle.single_path.specs.Meant.{IsMeant}
-use Rattle.single_path.specs.Single.{entry_of, made_functions, parameters_in, single}
+use Rattle.single_path.specs.Single.{entry_of, made_functions, single}
 use Rattle.single_path.proofs.Calling.{Serving}
 use Rattle.single_path.proofs.Formed.{as_many, functions_fit, made_length}
 use Rattle.single_path.proofs.Functions.{Callable, functions_serve}

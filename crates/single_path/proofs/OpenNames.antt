@@ -1,7 +1,6 @@
 -- The names that the checks know, beside what the same names stand for: what is found as a variable may be read and set as
 -- one, and arrays as arrays. Each declaration keeps this.
-use Rattle.std.proofs.Common.{◌≡◌, ◌≢◌, ℕ, ◌+◌, Bool, true, false, if◌then◌else◌, List, [], ◌∷◌, ◌++◌, Option, Some, None, bytes_eq, refl, ap, sym, ◌∙◌, subst, append_assoc, append-nil}
-use Rattle.std.specs.Option.{option_or}
+use Rattle.std.proofs.Common.{◌≡◌, ◌≢◌, ℕ, ◌+◌, Bool, true, false, if◌then◌else◌, List, [], ◌∷◌, ◌++◌, length, Option, Some, None, bytes_eq, refl, ap, sym, ◌∙◌, subst, append_assoc, append-nil}
 use Rattle.c_tree.specs.declared.checks.Meaning.{Meaning}
 use Rattle.c_tree.specs.declared.checks.Meaning.TheVariants as means
 use Rattle.c_tree.specs.declared.layout.Slot.{Slot}
@@ -9,13 +8,14 @@ use Rattle.c_tree.specs.declared.statements.Kind.{Kind}
 use Rattle.c_tree.specs.declared.units.Parameter.{Parameter}
 use Rattle.c_tree.specs.Checks.{after}
 use Rattle.c_tree.specs.Layout.{is_unsigned}
-use Rattle.c_tree.specs.Names.{Named, found, declared}
+use Rattle.c_tree.specs.Names.{Found, Named, found, declared}
+use Rattle.c_tree.proofs.LastNamed.{last_pushed}
 use Rattle.c_tree.specs.Plain.{PlainStmt}
 use Rattle.c_tree.specs.Plain as plain
 use Rattle.c_tree.specs.Valid.{with_parameters}
 use Rattle.sp_tree.specs.Uses.{Use, sends_to}
 use Rattle.c_meaning.specs.Meaning.{with_variable, names_after, parameter_variables}
-use Rattle.c_meaning.specs.Scope.{Variable, Stands, level, among_levels, among_slots}
+use Rattle.c_meaning.specs.Scope.{Variable, Stands, level, among_variables, among_slots}
 use Rattle.c_meaning.specs.Values.{Names, named}
 use Rattle.single_path.proofs.Resolving.{Outside, CellRead, ArrayRead, CellWritten, ArrayWritten}
 use Rattle.single_path.proofs.Valid.{found_last}
@@ -44,38 +44,22 @@ found_before names name text m f is other =
 
 -- ---- names after a variable
 
--- what a name stands for among variables, or else outside functions
-abbrev or_else : Option Stands → Stands → Stands
-or_else found rest = elim found as (λ _. Stands) [ Some s ↦ s | None ↦ rest ]
-
-either_else : (Q : Slot → Type 0) (later here : Option Stands) (rest : Stands) → Outside Q (or_else later (or_else here rest))
-    → Outside Q (or_else (option_or later here) rest)
-either_else Q None here rest may = may
-either_else Q (Some s) here rest may = may
-
-else_either : (Q : Slot → Type 0) (later here : Option Stands) (rest : Stands) → Outside Q (or_else (option_or later here) rest)
-    → Outside Q (or_else later (or_else here rest))
-else_either Q None here rest may = may
-else_either Q (Some s) here rest may = may
-
 -- one variable more hides what is so called, and nothing else
-behind_last : (Q : Slot → Type 0) (at : ℕ) (text : List ℕ) (vs : List Variable) (v : Variable) (rest : Stands)
-    → (bytes_eq v.name text ≡ false → Outside Q (or_else (among_levels at text vs) rest))
-    → Outside Q (or_else (among_levels at text (vs ++ v ∷ [])) rest)
-behind_last Q at text [] v rest may = by (bytes_eq v.name text) refl
-  where
-    by : (same : Bool) → bytes_eq v.name text ≡ same → Outside Q (or_else (option_or None (if same then Some (level at v.unsigned) else None)) rest)
-    by true same = tt
-    by false other = may other
-behind_last Q at text (w ∷ vs) v rest may =
-    let here = if bytes_eq w.name text then Some (level at w.unsigned) else None in
-    either_else Q (among_levels (at + 1) text (vs ++ v ∷ [])) here rest
-    (behind_last Q (at + 1) text vs v (or_else here rest) (λ other. else_either Q (among_levels (at + 1) text vs) here rest (may other)))
-
 behind_variable : (Q : Slot → Type 0) (of : Names) (kind : Kind) (name text : List ℕ) → (bytes_eq name text ≡ false → Outside Q (named of text))
     → Outside Q (named (with_variable of kind name) text)
 behind_variable Q of kind name text may =
-    behind_last Q 0 text of.variables (record { name = name; unsigned = is_unsigned kind }) (among_slots text of.slots) may
+    subst (λ l. Outside Q (or_outside l)) (sym (last_pushed (λ x. x.name) 0 text of.variables v)) (by (bytes_eq name text) refl)
+  where
+    v : Variable
+    v = record { name = name; unsigned = is_unsigned kind }
+
+    or_outside : Option (Found Variable) → Stands
+    or_outside l = elim l as (λ _. Stands) [ Some f ↦ level f.at f.is.unsigned | None ↦ among_slots text of.slots ]
+
+    by : (same : Bool) → bytes_eq name text ≡ same
+        → Outside Q (or_outside (if same then Some (record { at = 0 + length of.variables; is = v }) else among_variables text of.variables))
+    by true same = tt
+    by false other = may other
 
 pub keeps_variable : (P : Use → Type 0) (names : List Named) (of : Names) (kind : Kind) (name : List ℕ) → Keeps P names of
     → Keeps P (declared names name means.Scalar) (with_variable of kind name)

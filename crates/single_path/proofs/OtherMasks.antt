@@ -5,9 +5,9 @@ use Rattle.c_tree.specs.Plain.{PlainItem}
 use Rattle.c_world.specs.World.{World}
 use Rattle.sp_tree.specs.Statements.{no_function}
 use Rattle.sp_tree.specs.Straight.{begun_frame, serves, stmts_done}
-use Rattle.c_meaning.specs.Resolve.{resolved_items}
+use Rattle.c_meaning.specs.Resolve.{resolved_items, parameters_in}
 use Rattle.single_path.specs.Masked.{stmts_mask}
-use Rattle.single_path.specs.Single.{parameters_in, single}
+use Rattle.single_path.specs.Single.{single}
 use Rattle.single_path.proofs.Functions.{functions_quiet, made_stands, made_rests}
 use Rattle.single_path.proofs.Resting.{all_rest}
 

@@ -4,7 +4,6 @@ use Rattle.std.proofs.lemmas.Bool.{and_from}
 use Rattle.std.proofs.lemmas.Bool.Decides.{nat_tests}
 use Rattle.std.proofs.lemmas.List.Sums.{sum_by-cons}
 use Rattle.std.specs.List.{AllByRecursion as Each}
-use Rattle.std.specs.Option.{option_or}
 use Rattle.std.specs.Prelude.{IsTrue, nat_lt, ◌&&◌, ◌||◌, ⊤}
 use Rattle.c_world.specs.Shown.{room_in}
 use Rattle.local_store.specs.declared.map.Cell.TheVariants as cell
@@ -14,13 +13,13 @@ use Rattle.c_tree.specs.declared.units.Global.{Global}
 use Rattle.c_tree.specs.Checks.{twice_faults}
 use Rattle.c_tree.specs.Layout.{slot_of, given_slots, slots_from, layout_of}
 use Rattle.c_tree.specs.Least.{where_so}
-use Rattle.c_tree.specs.Names.{Named, given}
+use Rattle.c_tree.specs.Names.{Found, Named, given}
 use Rattle.c_tree.specs.Plain.{PlainItem, global, function}
 use Rattle.c_tree.specs.Sizes.{kind_size, item_size}
 use Rattle.c_tree.specs.Valid.{IsValid, has_none, words_of, global_faults, item_faults, items_faults, item_words, words_in, with_item}
 use Rattle.sp_tree.specs.Formed.{all_rooms, first_of, cell_formed, array_formed}
 use Rattle.c_meaning.specs.Resolve.{slot_cell, slot_array}
-use Rattle.c_meaning.specs.Scope.{Variable, Stands, level, outside, among_levels, among_slots, slot_region, slot_word}
+use Rattle.c_meaning.specs.Scope.{Variable, Stands, level, outside, among_variables, among_slots, slot_region, slot_word}
 use Rattle.c_meaning.specs.Scope as scope
 use Rattle.c_meaning.specs.Values.{Names, named}
 use Rattle.single_path.proofs.Ends.{ends_of}
@@ -51,19 +50,6 @@ StandsFit (level at unsigned) = ⊤
 StandsFit (outside slot) = SlotFits slot
 StandsFit scope.nothing = ⊤
 
-abbrev FoundFits : Option Stands → Type 0
-FoundFits None = ⊤
-FoundFits (Some stands) = StandsFit stands
-
-levels_fit : (at : ℕ) (name : List ℕ) (vs : List Variable) → FoundFits (among_levels at name vs)
-levels_fit at name [] = tt
-levels_fit at name (v ∷ vs) = by (among_levels (at + 1) name vs) (bytes_eq v.name name) (levels_fit (at + 1) name vs)
-  where
-    by : (later : Option Stands) (here : Bool) → FoundFits later → FoundFits (option_or later (if here then Some (level at v.unsigned) else None))
-    by None true fits = tt
-    by None false fits = tt
-    by (Some stands) here fits = fits
-
 slots_fit : (name : List ℕ) (slots : List Slot) → Each SlotFits slots → StandsFit (among_slots name slots)
 slots_fit name [] each = tt
 slots_fit name (s ∷ slots) each = by (bytes_eq s.name name) (slots_fit name slots each.1)
@@ -73,11 +59,12 @@ slots_fit name (s ∷ slots) each = by (bytes_eq s.name name) (slots_fit name sl
     by false later = later
 
 pub named_fits : (names : Names) (text : List ℕ) → Each SlotFits names.slots → StandsFit (named names text)
-named_fits names text each = by (among_levels 0 text names.variables) (levels_fit 0 text names.variables)
+named_fits names text each = by (among_variables text names.variables)
   where
-    by : (found : Option Stands) → FoundFits found → StandsFit (elim found [ Some s ↦ s | None ↦ among_slots text names.slots ])
-    by None fits = slots_fit text names.slots each
-    by (Some s) fits = fits
+    by : (found : Option (Found Variable))
+        → StandsFit (elim found as (λ _. Stands) [ Some v ↦ level v.at v.is.unsigned | None ↦ among_slots text names.slots ])
+    by None = slots_fit text names.slots each
+    by (Some v) = tt
 
 -- ---- the slots of a program
 

@@ -3,15 +3,15 @@
 use Rattle.std.proofs.Common.{◌≡◌, ◌≢◌, ℕ, zero, suc, ◌+◌, ◌==◌, Bool, true, false, if◌then◌else◌, ◌||◌, List, Option, Some, None, refl, ap, sym, ◌∙◌, arith, eq-eqb, true≢false}
 use Rattle.std.specs.Prelude.{◌&&◌}
 use Rattle.sp_tree.specs.Plain.{PlainSp, frame_word}
-use Rattle.sp_tree.specs.Statements.{PlainPlace, to_slot, PlainStmt, masks, writes, calls, transfers, overruns, turns, PlainStmts, no_stmt, stmt, one, joined}
+use Rattle.sp_tree.specs.Statements.{PlainSpTarget, to_slot, PlainStmt, masks, writes, calls, transfers, overruns, turns, PlainStmts, no_stmt, stmt, one, joined}
 use Rattle.sp_tree.specs.Statements as tree
 use Rattle.sp_tree.specs.Straight.{State, Serves, with_slot, worth, times, stmt_done, stmts_done}
 use Rattle.sp_tree.proofs.Masks.{write_off, send_off, overrun_off, call_off}
 use Rattle.c_meaning.specs.Actions.{to_level, PlainAssignment, PlainAction, PlainActions, no_action, action, PlainBranches, no_branch, branch}
 use Rattle.c_meaning.specs.Actions as actions
-use Rattle.single_path.specs.declared.places.Place.{Place}
-use Rattle.single_path.specs.Places.{in_arm, in_loop, where_so, where_not_taken, bit_of, not_zero, where_not_returned, returned_function, returned_loop}
-use Rattle.single_path.specs.Places as mask
+use Rattle.single_path.specs.declared.part_words.PartWords.{PartWords}
+use Rattle.single_path.specs.PartWords.{in_arm, in_loop, where_so, where_not_taken, bit_of, not_zero, where_not_returned, returned_function, returned_loop}
+use Rattle.single_path.specs.PartWords as mask
 use Rattle.single_path.specs.Made.{made, made_action, made_branches, made_step, made_result, made_return, made_arm, made_otherwise, made_turn, made_loop, is_zero, is_no_branch, is_no_action, ends}
 use Rattle.single_path.specs.Masked.{stmt_masks, stmts_mask}
 use Rattle.single_path.proofs.Frames.{put_there, Order, Still, fewer, set_behind}
@@ -22,7 +22,7 @@ use Rattle.single_path.proofs.Idle.{Quiet, Dead, Left, still_dead, dead_arm, ord
 abbrev mutual
   pub Rests : Serves → PlainStmt → State → Type 0
   Rests g (masks slot e) s = Unit {0}
-  Rests g (writes mask place e) s = s.frame mask ≢ 1
+  Rests g (writes mask target e) s = s.frame mask ≢ 1
   Rests g (calls mask k args result) s = s.frame mask ≢ 1
   Rests g (transfers mask core source target count) s = s.frame mask ≢ 1
   Rests g (overruns mask e) s = s.frame mask ≢ 1
@@ -45,7 +45,7 @@ times_stand x change Kept each (suc n) s kept = times_stand x change Kept each n
 mutual
   rests : (g : Serves) (x : ℕ) (t : PlainStmt) (s : State) → Rests g t s → stmt_masks x t ≡ false → (stmt_done g t s).frame x ≡ s.frame x
   rests g x (masks slot e) s rest is = put_there slot (worth e s) x s.frame (λ same. true≢false (sym (eq-eqb slot x same) ∙ is))
-  rests g x (writes mask place e) s rest is = ap (λ (u : State). u.frame x) (write_off g mask place e s rest)
+  rests g x (writes mask target e) s rest is = ap (λ (u : State). u.frame x) (write_off g mask target e s rest)
   rests g x (calls mask k args result) s rest is = ap (λ (u : State). u.frame x) (call_off g mask k args result s rest)
   rests g x (transfers mask core source target count) s rest is = ap (λ (u : State). u.frame x) (send_off g mask core source target count s rest)
   rests g x (overruns mask e) s rest is = ap (λ (u : State). u.frame x) (overrun_off g mask e s rest)
@@ -63,9 +63,9 @@ joined_rest g (stmt t xs) ys s first second = (first.0, joined_rest g xs ys (stm
 
 -- ---- parts of actions
 
-given_rests : (g : Serves) → Quiet g → (p : Place) (k : ℕ) (args : List PlainSp) (place : PlainPlace) (s : State) (n : ℕ) → Order n p → Dead p s
-    → AllRest g (stmt (tree.calls p.own k args (Some p.free)) (one (writes p.own place (frame_word p.free)))) s
-given_rests g quiet p k args place s n o d =
+given_rests : (g : Serves) → Quiet g → (p : PartWords) (k : ℕ) (args : List PlainSp) (target : PlainSpTarget) (s : State) (n : ℕ) → Order n p → Dead p s
+    → AllRest g (stmt (tree.calls p.own k args (Some p.free)) (one (writes p.own target (frame_word p.free)))) s
+given_rests g quiet p k args target s n o d =
     let called = call_still g quiet p.free p.own k args (Some p.free) s (off p s d) in
     (off p s d, ((λ e. off p s d (sym (called.frame p.own o.free) ∙ e)), tt))
 
@@ -73,7 +73,7 @@ step_rests : (g : Serves) (mask : ℕ) (step : Option PlainAssignment) (s : Stat
 step_rests g mask None s is = tt
 step_rests g mask (Some a) s is = (is, tt)
 
-return_rests : (g : Serves) (p : Place) (e : PlainSp) (s : State) → Dead p s → AllRest g (made_return p e) s
+return_rests : (g : Serves) (p : PartWords) (e : PlainSp) (s : State) → Dead p s → AllRest g (made_return p e) s
 return_rests g p e s d =
     joined_rest g (made_result p e) (stmt (masks p.function (returned_function p)) (outer (p.function == p.turn))) s (result (is_zero e))
     (tt, behind (p.function == p.turn) (with_slot p.function (worth (returned_function p) (stmts_done g (made_result p e) s)) (stmts_done g (made_result p e) s)))
@@ -91,7 +91,7 @@ return_rests g p e s d =
 
 -- ---- turns
 
-turn_rests : (g : Serves) (n : ℕ) (p : Place) (condition : PlainSp) (body : PlainStmts) (step : Option PlainAssignment) → Order n p
+turn_rests : (g : Serves) (n : ℕ) (p : PartWords) (condition : PlainSp) (body : PlainStmts) (step : Option PlainAssignment) → Order n p
     → ((t : State) → Dead (in_loop p) t → Still (p.free + 1) t (stmts_done g body t)) → ((t : State) → Dead (in_loop p) t → AllRest g body t)
     → (s : State) → Left p s → AllRest g (made_turn p condition body step) s
 turn_rests g n p condition body step o still each s l =
@@ -106,7 +106,7 @@ turn_rests g n p condition body step o still each s l =
           (tt, step_rests g p.free step v (left_off p v again)),
     )
 
-loop_rests : (g : Serves) (n : ℕ) (p : Place) (most : ℕ) (condition : PlainSp) (body : PlainStmts) (step : Option PlainAssignment) → Order n p
+loop_rests : (g : Serves) (n : ℕ) (p : PartWords) (most : ℕ) (condition : PlainSp) (body : PlainStmts) (step : Option PlainAssignment) → Order n p
     → ((t : State) → Dead (in_loop p) t → Still (p.free + 1) t (stmts_done g body t)) → ((t : State) → Dead (in_loop p) t → AllRest g body t)
     → (s : State) → Dead p s → AllRest g (made_loop p most condition (made_turn p condition body step)) s
 loop_rests g n p zero condition body step o still each s d = (off p s d, tt)
@@ -124,14 +124,14 @@ loop_rests g n p (suc k) condition body step o still each s d =
 
 -- ---- arms
 
-otherwise_rests : (g : Serves) (n : ℕ) (p : Place) (nothing : Bool) (rest : PlainStmts) → Order n p → ((t : State) → Dead (in_arm p) t → AllRest g rest t)
+otherwise_rests : (g : Serves) (n : ℕ) (p : PartWords) (nothing : Bool) (rest : PlainStmts) → Order n p → ((t : State) → Dead (in_arm p) t → AllRest g rest t)
     → (s : State) → Dead p s → Dead (in_arm p) s → s.frame p.free ≡ 0 → AllRest g (made_otherwise p nothing rest) s
 otherwise_rests g n p true rest o each s d inner is = tt
 otherwise_rests g n p false rest o each s d inner is =
     let t = with_slot p.free (worth (where_not_taken p) s) s in
     (tt, each t (still_dead n (in_arm p) s t (order_arm n p o) (not_taken_still p s d is) inner))
 
-arm_rests : (g : Serves) (n : ℕ) (p : Place) (condition : PlainSp) (arm : PlainStmts) (nothing : Bool) (rest : PlainStmts) → Order n p
+arm_rests : (g : Serves) (n : ℕ) (p : PartWords) (condition : PlainSp) (arm : PlainStmts) (nothing : Bool) (rest : PlainStmts) → Order n p
     → ((t : State) → Dead (in_arm p) t → Still (p.free + 1) t (stmts_done g arm t)) → ((t : State) → Dead (in_arm p) t → AllRest g arm t)
     → ((t : State) → Dead (in_arm p) t → AllRest g rest t)
     → (s : State) → Dead p s → AllRest g (made_arm p condition arm (made_otherwise p nothing rest)) s
@@ -152,7 +152,7 @@ arm_rests g n p condition arm nothing rest o still inside behind s d =
 -- ---- all actions
 
 mutual
-  action_rests : (g : Serves) → Quiet g → (n : ℕ) (a : PlainAction) (p : Place) (s : State) → Order n p → Dead p s → AllRest g (made_action p a) s
+  action_rests : (g : Serves) → Quiet g → (n : ℕ) (a : PlainAction) (p : PartWords) (s : State) → Order n p → Dead p s → AllRest g (made_action p a) s
   action_rests g quiet n (actions.sets a) p s o d = (off p s d, tt)
   action_rests g quiet n (actions.calls k args None) p s o d = (off p s d, tt)
   action_rests g quiet n (actions.calls k args (Some (to_level at))) p s o d = (off p s d, tt)
@@ -170,7 +170,7 @@ mutual
   action_rests g quiet n actions.continues p s o d = (tt, tt)
   action_rests g quiet n (actions.returns e) p s o d = return_rests g p e s d
 
-  pub actions_rest : (g : Serves) → Quiet g → (n : ℕ) (all : PlainActions) (p : Place) (s : State) → Order n p → Dead p s → AllRest g (made p all) s
+  pub actions_rest : (g : Serves) → Quiet g → (n : ℕ) (all : PlainActions) (p : PartWords) (s : State) → Order n p → Dead p s → AllRest g (made p all) s
   actions_rest g quiet n no_action p s o d = tt
   actions_rest g quiet n (action a rest) p s o d =
       let t = stmts_done g (made_action p a) s in
@@ -181,9 +181,9 @@ mutual
       by true t h = tt
       by false t h = h
 
-  branches_rest : (g : Serves) → Quiet g → (n : ℕ) (bs : PlainBranches) (nothing : Bool) (otherwise : Place → PlainStmts)
-      → ((q : Place) (t : State) → Order n q → Dead q t → AllRest g (otherwise q) t)
-      → (p : Place) (s : State) → Order n p → Dead p s → AllRest g (made_branches p bs nothing otherwise) s
+  branches_rest : (g : Serves) → Quiet g → (n : ℕ) (bs : PlainBranches) (nothing : Bool) (otherwise : PartWords → PlainStmts)
+      → ((q : PartWords) (t : State) → Order n q → Dead q t → AllRest g (otherwise q) t)
+      → (p : PartWords) (s : State) → Order n p → Dead p s → AllRest g (made_branches p bs nothing otherwise) s
   branches_rest g quiet n no_branch nothing otherwise each p s o d = each p s o d
   branches_rest g quiet n (branch condition body rest) nothing otherwise each p s o d =
       arm_rests g n p condition (made (in_arm p) body) (is_no_branch rest && nothing) (made_branches (in_arm p) rest nothing otherwise) o

@@ -10,7 +10,7 @@ use Rattle.c_tree.specs.declared.checks.Within.{Within}
 use Rattle.c_tree.specs.declared.statements.Kind.{Kind}
 use Rattle.c_tree.specs.Checks.{callee_faults, call_faults, args_faults, right_faults, whole_faults, scalar_faults, array_faults, twice_faults, declare_faults, assigned_faults, bound_faults, head_faults, target_faults, return_faults, stmt_faults, block_faults, arms_faults, otherwise_faults, body_faults, opened, looped, after}
 use Rattle.c_tree.specs.Least.{where_so}
-use Rattle.c_tree.specs.Names.{Named, found, declared}
+use Rattle.c_tree.specs.Names.{Named, found, declared, number_of}
 use Rattle.c_tree.specs.Plain.{PlainExpr, PlainRight, PlainHead, PlainStmt, PlainBlock, PlainArms, PlainOtherwise}
 use Rattle.c_tree.specs.Plain as plain
 use Rattle.c_tree.specs.Sizes.{kind_size, expr_size, bound_size, head_size, stmt_size, arms_size, block_size}
@@ -19,7 +19,7 @@ use Rattle.sp_tree.specs.Formed.{cell_formed, array_formed}
 use Rattle.sp_tree.specs.Plain.{PlainSp, constant}
 use Rattle.c_meaning.specs.Actions.{PlainTarget, to_level, to_cell, to_array, PlainAssignment, PlainAction, sets, calls, transfers, chooses, turns, breaks, continues, returns, PlainActions, no_action, action, PlainBranches, no_branch, branch, one, joined}
 use Rattle.c_meaning.specs.Meaning.{with_variable, names_after, most_turns}
-use Rattle.c_meaning.specs.Resolve.{resolved, resolved_args, resolved_right, resolved_declaration, choice, resolved_stmt, resolved_block, resolved_arms, resolved_otherwise, resolved_body, resolved_begin, resolved_condition, resolved_next, resolved_return, maybe_sets, assignment_to, variable_target, element_target, numbered_call, number_of}
+use Rattle.c_meaning.specs.Resolve.{resolved, resolved_args, resolved_right, resolved_declaration, choice, resolved_stmt, resolved_block, resolved_arms, resolved_otherwise, resolved_body, resolved_begin, resolved_condition, resolved_next, resolved_return, maybe_sets, assignment_to, variable_target, element_target, numbered_call}
 use Rattle.c_meaning.specs.Scope.{Stands, level, outside}
 use Rattle.c_meaning.specs.Scope as scope
 use Rattle.c_meaning.specs.Values.{Names, named}

@@ -18,14 +18,15 @@ use Rattle.c_meaning.specs.Actions.{PlainTarget, to_level}
 use Rattle.c_meaning.specs.Actions as actions
 use Rattle.c_meaning.specs.Meaning.{with_variable, names_after, most_turns, parameter_variables}
 use Rattle.c_meaning.specs.Operators.{works_unsigned, gives_unsigned}
-use Rattle.c_meaning.specs.Resolve.{resolved, resolved_steps, resolved_args, resolved_between, resolved_right, resolved_begin, resolved_condition, resolved_next, resolved_stmt, resolved_block, resolved_arms, resolved_otherwise, resolved_body, resolved_items, maybe_sets, variable_target, element_target, number_of, slot_cell, slot_array}
+use Rattle.c_tree.specs.Names.{number_of}
+use Rattle.c_meaning.specs.Resolve.{resolved, resolved_steps, resolved_args, resolved_between, resolved_right, resolved_begin, resolved_condition, resolved_next, resolved_stmt, resolved_block, resolved_arms, resolved_otherwise, resolved_body, resolved_items, maybe_sets, variable_target, element_target, slot_cell, slot_array, parameters_in}
 use Rattle.c_meaning.specs.Scope.{Stands, level, outside, slot_region}
 use Rattle.c_meaning.specs.Scope as scope
 use Rattle.c_meaning.specs.Values.{Names, named, expr_unsigned}
 use Rattle.c_mentions.specs.Mentions.{Array, comm_array, shared_array, is_at, is_mention, is_assignment, is_send, mentions, assigns, sends_to}
 use Rattle.c_mentions.specs.Uses.{reads, sets, sends, expr_uses, steps_uses, args_uses, right_uses, first_uses, returned_uses, head_uses, stmt_uses, block_uses, arms_uses, otherwise_uses, body_uses, item_uses, items_uses, program_uses}
 use Rattle.c_mentions.specs.Uses as source
-use Rattle.single_path.specs.Single.{single, parameters_in}
+use Rattle.single_path.specs.Single.{single}
 use Rattle.single_path.specs.Used.{IsMadeTo, ComesFrom, same_region, reads_region, writes_region, is_send_to, memory_of}
 use Rattle.single_path.proofs.Doing.{ExprDoes, ResultDoes, StepDoes, Do, BranchesDo, functions_do}
 use Rattle.single_path.proofs.Resolving.{Outside, CellRead, ArrayRead, CellWritten, ArrayWritten, variable_does, element_does, variable_target_does, element_target_does, between_does, signs_do, assigned_does, sets_do, numbered_does, actions_joined, choice_does}

@@ -2,7 +2,7 @@
 use Rattle.std.proofs.Common.{◌≡◌, ◌≢◌, ℕ, ◌+◌, ◌==◌, Bool, true, false, if◌then◌else◌, List, [], ◌∷◌, ◌++◌, length, Option, Some, None, bytes_eq, refl, ap, sym, ◌∙◌, subst, eqb-true}
 use Rattle.std.proofs.lemmas.List.{length-map}
 use Rattle.std.specs.Prelude.{IsTrue, not, ◌&&◌}
-use Rattle.std.specs.Option.{option_or}
+use Rattle.std.specs.Option.{option_map}
 use Rattle.c_tree.specs.declared.checks.CheckFault.TheVariants as fault
 use Rattle.c_tree.specs.declared.checks.Meaning.{Meaning}
 use Rattle.c_tree.specs.declared.checks.Meaning.TheVariants as means
@@ -11,14 +11,15 @@ use Rattle.c_tree.specs.declared.statements.Kind.{Kind}
 use Rattle.sp_tree.specs.Plain.{PlainSp}
 use Rattle.c_tree.specs.Checks.{callee_faults, call_faults, args_faults, right_faults, whole_faults, scalar_faults, array_faults, twice_faults, declare_faults, bound_faults, head_faults, stmt_faults, block_faults, arms_faults, otherwise_faults, body_faults, opened, looped, after}
 use Rattle.c_tree.specs.Least.{where_so}
-use Rattle.c_tree.specs.Names.{Named, found, declared}
+use Rattle.c_tree.specs.Names.{Named, last_named, found, declared, number_of}
+use Rattle.c_tree.proofs.LastNamed.{last_pushed}
 use Rattle.c_tree.specs.Plain.{PlainExpr, PlainRight, PlainHead, PlainStmt, PlainBlock, PlainArms, PlainOtherwise}
 use Rattle.c_tree.specs.Plain as plain
 use Rattle.c_tree.specs.Sizes.{kind_size, expr_size, bound_size, head_size, stmt_size, arms_size, block_size}
 use Rattle.c_tree.specs.Valid.{has_none}
 use Rattle.c_meaning.specs.Actions.{PlainTarget, to_level, PlainAssignment, PlainActions, no_action, action, PlainBranches, no_branch, branch, one, joined, turns}
 use Rattle.c_meaning.specs.Meaning.{with_variable, names_after, most_turns}
-use Rattle.c_meaning.specs.Resolve.{resolved, resolved_args, resolved_right, resolved_declaration, choice, resolved_stmt, resolved_block, resolved_arms, resolved_otherwise, resolved_body, resolved_begin, resolved_condition, resolved_next, maybe_sets, assignment_to, variable_target, element_target, numbered_call, number_of}
+use Rattle.c_meaning.specs.Resolve.{resolved, resolved_args, resolved_right, resolved_declaration, choice, resolved_stmt, resolved_block, resolved_arms, resolved_otherwise, resolved_body, resolved_begin, resolved_condition, resolved_next, maybe_sets, assignment_to, variable_target, element_target, numbered_call}
 use Rattle.c_meaning.specs.Values.{Names, named}
 use Rattle.c_tree.proofs.Faultless.{none_left, none_right, not_so}
 use Rattle.single_path.proofs.Fits.{Fits, FitsBranches}
@@ -36,17 +37,13 @@ pub record Callee (fs : List (List ℕ)) (counts : List ℕ) (text : List ℕ) (
 pub record Knows (names : List Named) (fs : List (List ℕ)) (counts : List ℕ) : Type 0 where
   pub earlier : (text : List ℕ) (c : ℕ) (gives : Bool) → found text names ≡ Some (means.Function c gives false) → Callee fs counts text c
 
-pub found_last : (text : List ℕ) (names : List Named) (x : Named) → found text (names ++ x ∷ []) ≡ (if bytes_eq x.name text then Some x.means else found text names)
-found_last text [] x = by (bytes_eq x.name text)
+pub found_last : (text : List ℕ) (names : List Named) (x : Named)
+    → found text (names ++ x ∷ []) ≡ (if bytes_eq x.name text then Some x.means else found text names)
+found_last text names x = ap (option_map (λ f. f.is.means)) (last_pushed (λ n. n.name) 0 text names x) ∙ by (bytes_eq x.name text)
   where
-    by : (same : Bool) → option_or None (if same then Some x.means else None) ≡ (if same then Some x.means else None)
-    by true = refl
-    by false = refl
-found_last text (n ∷ names) x =
-    ap (λ f. option_or f (if bytes_eq n.name text then Some n.means else None)) (found_last text names x) ∙ by (bytes_eq x.name text)
-  where
-    by : (same : Bool) → option_or (if same then Some x.means else found text names) (if bytes_eq n.name text then Some n.means else None)
-        ≡ (if same then Some x.means else option_or (found text names) (if bytes_eq n.name text then Some n.means else None))
+    by : (same : Bool)
+        → option_map (λ f. f.is.means) (if same then Some (record { at = 0 + length names; is = x }) else last_named (λ n. n.name) 0 text names)
+        ≡ (if same then Some x.means else found text names)
     by true = refl
     by false = refl
 

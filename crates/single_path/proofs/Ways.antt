@@ -7,7 +7,7 @@ use Rattle.c_meaning.specs.declared.ways.Way.{Way}
 use Rattle.c_meaning.specs.declared.ways.Way.TheVariants as way
 use Rattle.c_meaning.specs.Meaning.{Done, goes_on, way_value}
 use Rattle.c_meaning.specs.Values as values
-use Rattle.single_path.specs.declared.places.Place.{Place}
+use Rattle.single_path.specs.declared.part_words.PartWords.{PartWords}
 use Rattle.single_path.specs.Made.{ends}
 use Rattle.single_path.proofs.Frames.{Order, Still}
 use Rattle.single_path.proofs.Idle.{Dead}
@@ -26,7 +26,7 @@ abbrev pub own_of : Way → ℕ
 own_of way.On = 1
 own_of _ = 0
 
-pub record Live (p : Place) (s : State) : Type 0 where
+pub record Live (p : PartWords) (s : State) : Type 0 where
   pub own : s.frame p.own ≡ 1
   pub loop : s.frame p.turn ≡ 1
   pub function : s.frame p.function ≡ 1
@@ -34,7 +34,7 @@ pub record Live (p : Place) (s : State) : Type 0 where
 
 -- what a part left: the words of variables and memories, what it returns, and the masks. Its own mask may still be 1 where
 -- it went elsewhere; of the words before the first free one it changed no other
-pub record Went (n : ℕ) (p : Place) (s : State) (d : Done) (t : State) : Type 0 where
+pub record Went (n : ℕ) (p : PartWords) (s : State) (d : Done) (t : State) : Type 0 where
   pub same : Agrees n t d.state
   pub result : t.frame p.result ≡ way_value d.way
   pub function : t.frame p.function ≡ function_of d.way
@@ -43,12 +43,12 @@ pub record Went (n : ℕ) (p : Place) (s : State) (d : Done) (t : State) : Type 
   pub others : (x : ℕ) → n ≤ x → x < p.free → x ≢ p.result → x ≢ p.function → x ≢ p.turn → x ≢ p.own → t.frame x ≡ s.frame x
 
 -- an action that does not always go elsewhere leaves masks under which what stands after it acts, or is idle
-pub record Acted (a : PlainAction) (n : ℕ) (p : Place) (s : State) (d : Done) (t : State) : Type 0 where
+pub record Acted (a : PlainAction) (n : ℕ) (p : PartWords) (s : State) (d : Done) (t : State) : Type 0 where
   pub went : Went n p s d t
   pub ended : ends a ≡ true → d.way ≢ way.On
   pub idle : ends a ≡ false → d.way ≢ way.On → Dead p t
 
-pub went_own : (n : ℕ) (p : Place) (s : State) (d : Done) (t : State) → Went n p s d t → d.way ≡ way.On → t.frame p.own ≡ 1
+pub went_own : (n : ℕ) (p : PartWords) (s : State) (d : Done) (t : State) → Went n p s d t → d.way ≡ way.On → t.frame p.own ≡ 1
 went_own n p s d t h is = by (cases_eq p.own p.turn)
   where
     on_there : (t.frame p.own ≡ 1) ⊎ ((t.frame p.own ≡ 0) × (d.way ≢ way.On)) → t.frame p.own ≡ 1
@@ -59,10 +59,10 @@ went_own n p s d t h is = by (cases_eq p.own p.turn)
     by (inl same) = ap t.frame same ∙ h.loop ∙ ap loop_of is
     by (inr apart) = on_there (h.own apart)
 
-pub went_live : (n : ℕ) (p : Place) (s : State) (l : values.State) (t : State) → Went n p s (goes_on l) t → Live p t
+pub went_live : (n : ℕ) (p : PartWords) (s : State) (l : values.State) (t : State) → Went n p s (goes_on l) t → Live p t
 went_live n p s l t h = record { own = went_own n p s (goes_on l) t h refl; loop = h.loop; function = h.function; result = h.result }
 
-pub went_still : (n : ℕ) (p : Place) (s : State) (d : Done) (t u : State) → Order n p → Went n p s d t → Still p.free t u → Went n p s d u
+pub went_still : (n : ℕ) (p : PartWords) (s : State) (d : Done) (t u : State) → Order n p → Went n p s d t → Still p.free t u → Went n p s d u
 went_still n p s d t u o h k = record {
   same = still_agrees n p.free t u d.state (omega (arith, o.result, o.function, o.loop, o.own, o.free)) k h.same;
   result = k.frame p.result (omega (arith, o.function, o.loop, o.own, o.free)) ∙ h.result;
@@ -79,7 +79,7 @@ went_still n p s d t u o h k = record {
     by (inl is) = inl (own_still ∙ is)
     by (inr is) = inr (own_still ∙ is.0, is.1)
 
-pub went_on : (n : ℕ) (p : Place) (s : State) (l : values.State) (t : State) (d : Done) (u : State) → Went n p s (goes_on l) t → Went n p t d u → Went n p s d u
+pub went_on : (n : ℕ) (p : PartWords) (s : State) (l : values.State) (t : State) (d : Done) (u : State) → Went n p s (goes_on l) t → Went n p t d u → Went n p s d u
 went_on n p s l t d u h k = record {
   same = k.same;
   result = k.result;
@@ -90,7 +90,7 @@ went_on n p s l t d u h k = record {
 }
 
 -- words below the first free one are set, and no mask
-pub low_acted : (a : PlainAction) (n : ℕ) (p : Place) (s t : State) (l : values.State) → ends a ≡ false → Order n p → Live p s → Agrees n t l
+pub low_acted : (a : PlainAction) (n : ℕ) (p : PartWords) (s t : State) (l : values.State) → ends a ≡ false → Order n p → Live p s → Agrees n t l
     → ((x : ℕ) → n ≤ x → x < p.free → t.frame x ≡ s.frame x) → Acted a n p s (goes_on l) t
 low_acted a n p s t l stays o live agrees others = record {
   went = record {
@@ -105,6 +105,6 @@ low_acted a n p s t l stays o live agrees others = record {
   idle = λ is other. absurd (other refl);
 }
 
-pub set_acted : (a : PlainAction) (n : ℕ) (p : Place) (s t : State) (l : values.State) → ends a ≡ false → Order n p → Live p s → Sets n s t l
+pub set_acted : (a : PlainAction) (n : ℕ) (p : PartWords) (s t : State) (l : values.State) → ends a ≡ false → Order n p → Live p s → Sets n s t l
     → Acted a n p s (goes_on l) t
 set_acted a n p s t l stays o live h = low_acted a n p s t l stays o live h.agrees (λ x behind below. h.others x behind)

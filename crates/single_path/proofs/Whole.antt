@@ -5,11 +5,12 @@ use Rattle.std.proofs.lemmas.Bool.{and_from}
 use Rattle.c_tree.specs.Layout.{input_of, layout_of}
 use Rattle.c_tree.specs.Plain.{PlainItem}
 use Rattle.c_tree.specs.Valid.{IsValid}
-use Rattle.c_meaning.specs.Resolve.{names_in, number_of, resolved_items}
+use Rattle.c_tree.specs.Names.{number_of}
+use Rattle.c_meaning.specs.Resolve.{names_in, resolved_items, parameters_in}
 use Rattle.c_tree.proofs.Faultless.{private_fits}
 use Rattle.c_meaning.proofs.Fits.{input_within}
 use Rattle.sp_tree.specs.Formed.{is_formed}
-use Rattle.single_path.specs.Single.{entry_of, parameters_in, single}
+use Rattle.single_path.specs.Single.{entry_of, single}
 use Rattle.single_path.proofs.Apart.{valid_apart}
 use Rattle.single_path.proofs.Data.{data_is_formed, functions_are_few}
 use Rattle.single_path.proofs.Formed.{as_many, functions_are_formed, made_length}

@@ -1,17 +1,18 @@
 -- Resolved expressions, arguments and targets name no words of a frame but those of the variables that are open.
-use Rattle.std.proofs.Common.{ℕ, ◌+◌, ◌≤◌, Bool, true, false, if◌then◌else◌, List, [], ◌∷◌, length, Option, None, Some, bytes_eq, arith}
-use Rattle.std.specs.Prelude.{max}
-use Rattle.std.specs.Option.{option_or}
+use Rattle.std.proofs.Common.{ℕ, ◌+◌, ◌<◌, ◌≤◌, Bool, true, false, if◌then◌else◌, List, [], ◌∷◌, length, Option, None, Some, bytes_eq, arith}
+use Rattle.std.specs.Prelude.{max, IfSome}
 use Rattle.c_tree.specs.declared.expressions.BinaryOp.{BinaryOp}
 use Rattle.c_tree.specs.declared.expressions.UnaryOp.{UnaryOp}
 use Rattle.c_tree.specs.declared.expressions.UnaryOp.TheVariants as unary
 use Rattle.c_tree.specs.declared.layout.Slot.{Slot}
+use Rattle.c_tree.specs.Names.{Found}
+use Rattle.c_tree.proofs.LastNamed.{last_within}
 use Rattle.c_tree.specs.Plain.{PlainExpr, PlainSteps}
 use Rattle.c_tree.specs.Plain as plain
 use Rattle.sp_tree.specs.Plain.{PlainSp, constant, frame_word, between_two}
 use Rattle.c_meaning.specs.Operators.{works_unsigned, gives_unsigned}
 use Rattle.c_meaning.specs.Resolve.{operator_of, is_exchanged, resolved_between, resolved_sign, resolved_signs, is_fresh, resolved_variable, resolved_element, resolved, resolved_steps, resolved_args, variable_target, element_target}
-use Rattle.c_meaning.specs.Scope.{Variable, Stands, level, outside, among_levels, among_slots}
+use Rattle.c_meaning.specs.Scope.{Variable, Stands, level, outside, among_variables, among_slots}
 use Rattle.c_meaning.specs.Scope as scope
 use Rattle.c_meaning.specs.Values.{Names, named, expr_unsigned}
 use Rattle.single_path.specs.Widths.{expr_words, args_words, result_words}
@@ -23,20 +24,6 @@ level_words (level at unsigned) = at + 1
 level_words (outside slot) = 0
 level_words scope.nothing = 0
 
-abbrev found_words : Option Stands → ℕ
-found_words None = 0
-found_words (Some stands) = level_words stands
-
-among_words : (at : ℕ) (name : List ℕ) (vs : List Variable) → found_words (among_levels at name vs) ≤ at + length vs
-among_words at name [] = omega arith
-among_words at name (v ∷ vs) = by (among_levels (at + 1) name vs) (bytes_eq v.name name) (among_words (at + 1) name vs)
-  where
-    by : (later : Option Stands) (here : Bool) → found_words later ≤ at + 1 + length vs
-        → found_words (option_or later (if here then Some (level at v.unsigned) else None)) ≤ at + length (v ∷ vs)
-    by None true within = omega arith
-    by None false within = omega arith
-    by (Some stands) here within = omega (arith, within)
-
 slots_words : (name : List ℕ) (slots : List Slot) → level_words (among_slots name slots) ≤ 0
 slots_words name [] = omega arith
 slots_words name (s ∷ slots) = by (bytes_eq s.name name) (slots_words name slots)
@@ -46,12 +33,12 @@ slots_words name (s ∷ slots) = by (bytes_eq s.name name) (slots_words name slo
     by false within = within
 
 named_words : (names : Names) (text : List ℕ) → level_words (named names text) ≤ length names.variables
-named_words names text = by (among_levels 0 text names.variables) (among_words 0 text names.variables)
+named_words names text = by (among_variables text names.variables) (last_within (λ v. v.name) 0 text names.variables)
   where
-    by : (found : Option Stands) → found_words found ≤ 0 + length names.variables
-        → level_words (elim found [ Some s ↦ s | None ↦ among_slots text names.slots ]) ≤ length names.variables
+    by : (found : Option (Found Variable)) → IfSome found (λ v. (0 ≤ v.at) × (v.at < 0 + length names.variables))
+        → level_words (elim found as (λ _. Stands) [ Some v ↦ level v.at v.is.unsigned | None ↦ among_slots text names.slots ]) ≤ length names.variables
     by None within = omega (arith, slots_words text names.slots)
-    by (Some s) within = omega (arith, within)
+    by (Some v) within = omega (arith, within.1)
 
 -- ---- expressions and arguments
 

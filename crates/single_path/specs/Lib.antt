@@ -1,4 +1,4 @@
-pub mod Places
+pub mod PartWords
 pub mod Made
 pub mod Widths
 pub mod Single

@@ -1,6 +1,6 @@
 -- To be believed. The single-path tree of a program: its functions, each made of the actions
 -- of one, and the words that it begins with.
-use Rattle.std.specs.Prelude.{ℕ, ◌+◌, max, List, [], ◌∷◌, length, Option, None, Some, codes}
+use Rattle.std.specs.Prelude.{ℕ, ◌+◌, max, List, [], ◌∷◌, Option, None, Some, codes}
 use Rattle.c_tree.specs.Frame.{function_frame}
 use Rattle.c_tree.specs.Layout.{initial_of, input_of, layout_of}
 use Rattle.c_tree.specs.Plain.{PlainItem, global, function}
@@ -10,10 +10,11 @@ use Rattle.sp_tree.specs.Plain.{PlainSp, constant, frame_word, between_two}
 use Rattle.sp_tree.specs.declared.operators.SpBinary.TheVariants as binary
 use Rattle.sp_tree.specs.Statements.{PlainStmts, masks, stmt, PlainFunction, PlainUnit}
 use Rattle.c_meaning.specs.Actions.{PlainActions}
-use Rattle.c_meaning.specs.Resolve.{names_in, number_of, resolved_items}
+use Rattle.c_tree.specs.Names.{number_of}
+use Rattle.c_meaning.specs.Resolve.{names_in, parameters_in, resolved_items}
 use Rattle.single_path.specs.Made.{made}
-use Rattle.single_path.specs.declared.places.Place.{Place}
-use Rattle.single_path.specs.Places.{outermost}
+use Rattle.single_path.specs.declared.part_words.PartWords.{PartWords}
+use Rattle.single_path.specs.PartWords.{outermost}
 use Rattle.single_path.specs.Widths as width
 
 -- the words of a function's variables, of which its parameters are the first
@@ -21,10 +22,10 @@ abbrev pub variables : ℕ → PlainActions → ℕ
 variables parameters body = max parameters (width.words body)
 
 -- the mask that a function is run under may be any word: from here on it is 1 or 0
-abbrev pub begun_mask : Place → PlainSp
+abbrev pub begun_mask : PartWords → PlainSp
 begun_mask p = between_two binary.Equal (frame_word p.function) (constant 1)
 
-abbrev pub made_body : Place → PlainActions → PlainStmts
+abbrev pub made_body : PartWords → PlainActions → PlainStmts
 made_body p body = stmt (masks p.function (begun_mask p)) (made p body)
 
 -- After its variables stand what it returns, its mask, and the masks of its arms and loops; then as many words as code
@@ -46,12 +47,6 @@ abbrev pub made_functions : List ℕ → List PlainActions → List PlainFunctio
 made_functions [] bodies = []
 made_functions (n ∷ counts) [] = []
 made_functions (n ∷ counts) (body ∷ bodies) = made_function n body ∷ made_functions counts bodies
-
--- how many parameters each function has
-abbrev pub parameters_in : List PlainItem → List ℕ
-parameters_in [] = []
-parameters_in (global of ∷ items) = parameters_in items
-parameters_in (function kind its_name void_word parameters body ∷ items) = length parameters ∷ parameters_in items
 
 -- a valid program has a `main`
 abbrev pub entry_of : Option ℕ → ℕ

@@ -53,8 +53,8 @@ abbrev mutual
   branches_words no_branch = 0
   branches_words (branch condition body rest) = max (expr_words condition) (max (words body) (branches_words rest))
 
--- ---- words of masks: one for each loop and each arm that stand inside one another, and one for what a function gives to
--- a place outside of the frame
+-- ---- words of masks: one for each loop and each arm that stand inside one another, and one for what a function gives
+-- to a target outside of the frame
 
 abbrev pub result_masks : Option PlainTarget → ℕ
 result_masks None = 0

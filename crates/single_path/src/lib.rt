@@ -4,7 +4,7 @@
 //! [`convert`] gives the single-path tree of a valid program. It is exactly `specs/Single.antt` of the program; and
 //! what the tree comes to is what the program means, for every input and all words that the shared memories begin with.
 //!
-//! - `specs/Places.antt`: the words of a frame that decide what has an effect, and what they are set to.
+//! - `specs/PartWords.antt`: the words of a frame that decide what has an effect, and what they are set to.
 //! - `specs/Made.antt`: the statements that are made of actions.
 //! - `specs/Widths.antt`: how many words of a frame actions need.
 //! - `specs/Single.antt`: functions and units; what each function may weigh, and how many words its frame may have.
@@ -17,7 +17,7 @@
 
 mod laws;
 mod masks;
-mod places;
+mod part_words;
 mod statements;
 mod units;
 mod widths;

@@ -1,10 +1,10 @@
 //! What masks are set to.
 ghost use Rattle.std.specs.Prelude.{◌≡◌, IfOk};
 ghost use Rattle.sp_tree.specs.Plain.{plain_sp, constant, frame_word};
-ghost use Rattle.single_path.specs.Places as specs;
+ghost use Rattle.single_path.specs.PartWords as specs;
 ghost use Rattle.single_path.specs.Single.{begun_mask};
 
-use crate::places::Place;
+use crate::part_words::PartWords;
 use sp_tree::{SpBinary, SpExpr, SpUnary, before_operand, between_operands};
 use std::alloc::Global;
 use tc_word::OutOfMemory;
@@ -47,71 +47,71 @@ pub fn where_so(alloc: Global, mask: u32, condition: SpExpr) -> Result<SpExpr, O
 }
 
 /// The mask of a function: 1 where it is run under the mask 1, and else 0.
-pub fn begun_mask(alloc: Global, place: Place) -> Result<SpExpr, OutOfMemory>
-    ensures { IfOk result (λ m. plain_sp m ≡ begun_mask place) }
+pub fn begun_mask(alloc: Global, part: PartWords) -> Result<SpExpr, OutOfMemory>
+    ensures { IfOk result (λ m. plain_sp m ≡ begun_mask part) }
 {
-    between_operands(alloc, SpBinary::Equal, word(place.function), number(1))
+    between_operands(alloc, SpBinary::Equal, word(part.function), number(1))
 }
 
 /// The mask of what stands after `else`.
-pub fn where_not_taken(alloc: Global, place: Place) -> Result<SpExpr, OutOfMemory>
-    ensures { IfOk result (λ m. plain_sp m ≡ specs.where_not_taken place) }
+pub fn where_not_taken(alloc: Global, part: PartWords) -> Result<SpExpr, OutOfMemory>
+    ensures { IfOk result (λ m. plain_sp m ≡ specs.where_not_taken part) }
 {
-    let goes_on = bit_of(alloc, place.turn)?;
-    let other = between_operands(alloc, SpBinary::BitXor, word(place.own), word(place.free))?;
+    let goes_on = bit_of(alloc, part.turn)?;
+    let other = between_operands(alloc, SpBinary::BitXor, word(part.own), word(part.free))?;
     between_operands(alloc, SpBinary::BitAnd, goes_on, other)
 }
 
 /// The mask of a part, after an arm or a loop in which the turn may have ended.
-pub fn where_on(alloc: Global, place: Place) -> Result<SpExpr, OutOfMemory>
-    ensures { IfOk result (λ m. plain_sp m ≡ specs.where_on place) }
+pub fn where_on(alloc: Global, part: PartWords) -> Result<SpExpr, OutOfMemory>
+    ensures { IfOk result (λ m. plain_sp m ≡ specs.where_on part) }
 {
-    between_operands(alloc, SpBinary::BitAnd, word(place.own), word(place.turn))
+    between_operands(alloc, SpBinary::BitAnd, word(part.own), word(part.turn))
 }
 
 /// The mask of a loop, after one inside it in which the function may have returned.
-pub fn where_not_returned(alloc: Global, place: Place) -> Result<SpExpr, OutOfMemory>
-    ensures { IfOk result (λ m. plain_sp m ≡ specs.where_not_returned place) }
+pub fn where_not_returned(alloc: Global, part: PartWords) -> Result<SpExpr, OutOfMemory>
+    ensures { IfOk result (λ m. plain_sp m ≡ specs.where_not_returned part) }
 {
-    let all_bits = before_operand(alloc, SpUnary::Minus, word(place.function))?;
-    between_operands(alloc, SpBinary::BitAnd, word(place.turn), all_bits)
+    let all_bits = before_operand(alloc, SpUnary::Minus, word(part.function))?;
+    between_operands(alloc, SpBinary::BitAnd, word(part.turn), all_bits)
 }
 
 /// The turn's mask after `break`.
-pub fn broken(alloc: Global, place: Place) -> Result<SpExpr, OutOfMemory>
-    ensures { IfOk result (λ m. plain_sp m ≡ specs.broken place) }
+pub fn broken(alloc: Global, part: PartWords) -> Result<SpExpr, OutOfMemory>
+    ensures { IfOk result (λ m. plain_sp m ≡ specs.broken part) }
 {
-    let own = bit_of(alloc, place.own)?;
-    between_operands(alloc, SpBinary::Minus, word(place.turn), own)
+    let own = bit_of(alloc, part.own)?;
+    between_operands(alloc, SpBinary::Minus, word(part.turn), own)
 }
 
 /// The turn's mask after `continue`.
-pub fn continued(alloc: Global, place: Place) -> Result<SpExpr, OutOfMemory>
-    ensures { IfOk result (λ m. plain_sp m ≡ specs.continued place) }
+pub fn continued(alloc: Global, part: PartWords) -> Result<SpExpr, OutOfMemory>
+    ensures { IfOk result (λ m. plain_sp m ≡ specs.continued part) }
 {
-    let own = bit_of(alloc, place.own)?;
-    between_operands(alloc, SpBinary::Plus, word(place.turn), own)
+    let own = bit_of(alloc, part.own)?;
+    between_operands(alloc, SpBinary::Plus, word(part.turn), own)
 }
 
 /// The function's mask after `return`.
-pub fn returned_function(alloc: Global, place: Place) -> Result<SpExpr, OutOfMemory>
-    ensures { IfOk result (λ m. plain_sp m ≡ specs.returned_function place) }
+pub fn returned_function(alloc: Global, part: PartWords) -> Result<SpExpr, OutOfMemory>
+    ensures { IfOk result (λ m. plain_sp m ≡ specs.returned_function part) }
 {
-    let own = if place.own == place.turn {
-        bit_of(alloc, place.own)?
+    let own = if part.own == part.turn {
+        bit_of(alloc, part.own)?
     } else {
-        word(place.own)
+        word(part.own)
     };
-    between_operands(alloc, SpBinary::Minus, word(place.function), own)
+    between_operands(alloc, SpBinary::Minus, word(part.function), own)
 }
 
 /// The turn's mask after `return` in a loop.
-pub fn returned_turn(alloc: Global, place: Place) -> Result<SpExpr, OutOfMemory>
-    ensures { IfOk result (λ m. plain_sp m ≡ specs.returned_loop place) }
+pub fn returned_turn(alloc: Global, part: PartWords) -> Result<SpExpr, OutOfMemory>
+    ensures { IfOk result (λ m. plain_sp m ≡ specs.returned_loop part) }
 {
-    if place.own == place.turn {
-        between_operands(alloc, SpBinary::BitAnd, word(place.turn), number(2))
+    if part.own == part.turn {
+        between_operands(alloc, SpBinary::BitAnd, word(part.turn), number(2))
     } else {
-        between_operands(alloc, SpBinary::Minus, word(place.turn), word(place.own))
+        between_operands(alloc, SpBinary::Minus, word(part.turn), word(part.own))
     }
 }

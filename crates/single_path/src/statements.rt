@@ -1,22 +1,22 @@
 //! Statements, made of actions.
 ghost use Rattle.std.specs.Prelude.{◌≡◌, ◌&&◌, ◌+◌, ◌<◌, ◌^◌, Option, map, option_map, IfOk, OnOk};
 ghost use Rattle.sp_tree.specs.Plain.{plain_sp, frame_word};
-ghost use Rattle.sp_tree.specs.Shown.{plain_place, plain_stmt, stmts_of};
+ghost use Rattle.sp_tree.specs.Shown.{plain_sp_target, plain_stmt, stmts_of};
 ghost use Rattle.sp_tree.specs.Statements.{masks, writes, calls, overruns, joined, one, stmt};
 ghost use Rattle.sp_tree.specs.Statements as tree;
 ghost use Rattle.c_meaning.specs.Shown.{plain_target, plain_assignment, plain_action, actions_of, branches_of};
 ghost use Rattle.c_meaning.specs.Actions as plain;
 ghost use Rattle.single_path.specs.Made as specs;
-ghost use Rattle.single_path.specs.Places as places;
+ghost use Rattle.single_path.specs.PartWords as part_words;
 ghost use Rattle.single_path.specs.Widths as widths;
 
 use crate::masks::{
     bit_of, broken, continued, not_zero, returned_function, returned_turn, where_not_returned,
     where_not_taken, where_on, where_so, word,
 };
-use crate::places::Place;
+use crate::part_words::PartWords;
 use c_meaning::{Action, Assignment, Branch, Target};
-use sp_tree::{SpArray, SpCell, SpExpr, SpPlace, SpStmt, copied};
+use sp_tree::{SpArray, SpCell, SpExpr, SpStmt, SpTarget, copied};
 use std::alloc::Global;
 use tc_word::{List, OutOfMemory};
 
@@ -42,13 +42,20 @@ pub fn add_mask(out: &mut Vec<SpStmt>, slot: u32, value: SpExpr) -> Result<(), O
 fn add_write(
     out: &mut Vec<SpStmt>,
     mask: u32,
-    place: SpPlace,
+    target: SpTarget,
     value: SpExpr,
 ) -> Result<(), OutOfMemory>
     ensures { OnOk result (stmts_of out.new.items
-        ≡ joined (stmts_of out.old.items) (one (writes mask (plain_place place) (plain_sp value)))) }
+        ≡ joined (stmts_of out.old.items) (one (writes mask (plain_sp_target target) (plain_sp value)))) }
 {
-    add(out, SpStmt::Write { mask, place, value })
+    add(
+        out,
+        SpStmt::Write {
+            mask,
+            target,
+            value,
+        },
+    )
 }
 
 #[tactic(auto, unfolding(sp_tree::specs::Shown::plain_stmt))]
@@ -68,12 +75,12 @@ fn add_turns(out: &mut Vec<SpStmt>, count: u32, body: List<SpStmt>) -> Result<()
 }
 
 // what an action sets
-fn place_of(alloc: Global, target: &Target) -> Result<SpPlace, OutOfMemory>
-    ensures { IfOk result (λ p. plain_place p ≡ specs.made_place (plain_target target.now)) }
+fn target_of(alloc: Global, target: &Target) -> Result<SpTarget, OutOfMemory>
+    ensures { IfOk result (λ p. plain_sp_target p ≡ specs.made_target (plain_target target.now)) }
 {
     match target {
-        Target::Variable { level } => Ok(SpPlace::Frame { slot: level.number }),
-        Target::Scalar { word } => Ok(SpPlace::Scalar {
+        Target::Variable { level } => Ok(SpTarget::Frame { slot: level.number }),
+        Target::Scalar { word } => Ok(SpTarget::Scalar {
             cell: SpCell {
                 region: word.region,
                 word: word.word,
@@ -81,7 +88,7 @@ fn place_of(alloc: Global, target: &Target) -> Result<SpPlace, OutOfMemory>
         }),
         Target::Element { array, index } => {
             let index = copied(alloc, index)?;
-            Ok(SpPlace::Element {
+            Ok(SpTarget::Element {
                 array: SpArray {
                     region: array.region,
                     first: array.first,
@@ -102,9 +109,9 @@ fn add_assignment(
     ensures { OnOk result (stmts_of out.new.items
         ≡ joined (stmts_of out.old.items) (one (specs.made_assignment mask (plain_assignment assignment.now)))) }
 {
-    let place = place_of(alloc, &assignment.target)?;
+    let target = target_of(alloc, &assignment.target)?;
     let value = copied(alloc, &assignment.value)?;
-    add_write(out, mask, place, value)
+    add_write(out, mask, target, value)
 }
 
 // what is set after each turn
@@ -165,7 +172,7 @@ fn add_call_to(
 #[tactic(auto, using(crate::proofs::Stated::joined_twice))]
 fn add_call(
     alloc: Global,
-    place: Place,
+    part: PartWords,
     out: &mut Vec<SpStmt>,
     function: u32,
     args: &[SpExpr],
@@ -173,17 +180,17 @@ fn add_call(
 ) -> Result<(), OutOfMemory>
     ensures { OnOk result (stmts_of out.new.items
         ≡ joined (stmts_of out.old.items)
-        (specs.made_call place function (map plain_sp args.now) (option_map plain_target target.now))) }
+        (specs.made_call part function (map plain_sp args.now) (option_map plain_target target.now))) }
 {
     match target {
-        None => add_call_to(alloc, out, place.own, function, args, None),
+        None => add_call_to(alloc, out, part.own, function, args, None),
         Some(Target::Variable { level }) => {
-            add_call_to(alloc, out, place.own, function, args, Some(level.number))
+            add_call_to(alloc, out, part.own, function, args, Some(level.number))
         }
         Some(target) => {
-            add_call_to(alloc, out, place.own, function, args, Some(place.free))?;
-            let outside = place_of(alloc, target)?;
-            add_write(out, place.own, outside, word(place.free))
+            add_call_to(alloc, out, part.own, function, args, Some(part.free))?;
+            let outside = target_of(alloc, target)?;
+            add_write(out, part.own, outside, word(part.free))
         }
     }
 }
@@ -233,36 +240,36 @@ fn is_zero(e: &SpExpr) -> bool
 #[tactic(auto, using(crate::proofs::Stated::joined_none))]
 fn add_result(
     alloc: Global,
-    place: Place,
+    part: PartWords,
     out: &mut Vec<SpStmt>,
     e: &SpExpr,
 ) -> Result<(), OutOfMemory>
     ensures { OnOk result (stmts_of out.new.items
-        ≡ joined (stmts_of out.old.items) (specs.made_result place (plain_sp e.now))) }
+        ≡ joined (stmts_of out.old.items) (specs.made_result part (plain_sp e.now))) }
 {
     if is_zero(e) {
         return Ok(());
     }
     let value = copied(alloc, e)?;
-    add_write(out, place.own, SpPlace::Frame { slot: place.result }, value)
+    add_write(out, part.own, SpTarget::Frame { slot: part.result }, value)
 }
 
 #[tactic(auto, using(crate::proofs::Stated::joined_one, crate::proofs::Stated::joined_two))]
 fn add_return(
     alloc: Global,
-    place: Place,
+    part: PartWords,
     out: &mut Vec<SpStmt>,
     e: &SpExpr,
 ) -> Result<(), OutOfMemory>
     ensures { OnOk result (stmts_of out.new.items
-        ≡ joined (stmts_of out.old.items) (specs.made_return place (plain_sp e.now))) }
+        ≡ joined (stmts_of out.old.items) (specs.made_return part (plain_sp e.now))) }
 {
-    add_result(alloc, place, out, e)?;
-    let function = returned_function(alloc, place)?;
-    add_mask(out, place.function, function)?;
-    if place.function != place.turn {
-        let turn = returned_turn(alloc, place)?;
-        add_mask(out, place.turn, turn)?;
+    add_result(alloc, part, out, e)?;
+    let function = returned_function(alloc, part)?;
+    add_mask(out, part.function, function)?;
+    if part.function != part.turn {
+        let turn = returned_turn(alloc, part)?;
+        add_mask(out, part.turn, turn)?;
     }
     Ok(())
 }
@@ -279,50 +286,50 @@ fn ends(action: &Action) -> bool
 }
 
 #[tactic(auto)]
-fn add_break(alloc: Global, place: Place, out: &mut Vec<SpStmt>) -> Result<(), OutOfMemory>
+fn add_break(alloc: Global, part: PartWords, out: &mut Vec<SpStmt>) -> Result<(), OutOfMemory>
     ensures { OnOk result (stmts_of out.new.items
-        ≡ joined (stmts_of out.old.items) (specs.made_action place plain.breaks)) }
+        ≡ joined (stmts_of out.old.items) (specs.made_action part plain.breaks)) }
 {
-    let turn = broken(alloc, place)?;
-    add_mask(out, place.turn, turn)
+    let turn = broken(alloc, part)?;
+    add_mask(out, part.turn, turn)
 }
 
-fn add_continue(alloc: Global, place: Place, out: &mut Vec<SpStmt>) -> Result<(), OutOfMemory>
+fn add_continue(alloc: Global, part: PartWords, out: &mut Vec<SpStmt>) -> Result<(), OutOfMemory>
     ensures { OnOk result (stmts_of out.new.items
-        ≡ joined (stmts_of out.old.items) (specs.made_action place plain.continues)) }
+        ≡ joined (stmts_of out.old.items) (specs.made_action part plain.continues)) }
 {
-    let turn = continued(alloc, place)?;
-    add_mask(out, place.turn, turn)
+    let turn = continued(alloc, part)?;
+    add_mask(out, part.turn, turn)
 }
 
 // ---- arms
 
-// the mask of an arm, and the arm's place
+// the mask of an arm, and the arm's words
 fn begin_arm(
     alloc: Global,
-    place: Place,
+    part: PartWords,
     out: &mut Vec<SpStmt>,
     condition: &SpExpr,
-) -> Result<Place, OutOfMemory>
-    requires { place.free + 1 < 2 ^ 32 }
-    ensures arm { IfOk result (λ p. p ≡ places.in_arm place) }
+) -> Result<PartWords, OutOfMemory>
+    requires { part.free + 1 < 2 ^ 32 }
+    ensures arm { IfOk result (λ p. p ≡ part_words.in_arm part) }
     ensures mask { OnOk result (stmts_of out.new.items
         ≡ joined (stmts_of out.old.items)
-        (one (masks place.free (places.where_so place.own (plain_sp condition.now))))) }
+        (one (masks part.free (part_words.where_so part.own (plain_sp condition.now))))) }
 {
     let condition = copied(alloc, condition)?;
-    let taken = where_so(alloc, place.own, condition)?;
-    add_mask(out, place.free, taken)?;
-    Ok(place.in_arm())
+    let taken = where_so(alloc, part.own, condition)?;
+    add_mask(out, part.free, taken)?;
+    Ok(part.in_arm())
 }
 
 // the mask of what stands after `else`
-fn begin_otherwise(alloc: Global, place: Place, out: &mut Vec<SpStmt>) -> Result<(), OutOfMemory>
+fn begin_otherwise(alloc: Global, part: PartWords, out: &mut Vec<SpStmt>) -> Result<(), OutOfMemory>
     ensures { OnOk result (stmts_of out.new.items
-        ≡ joined (stmts_of out.old.items) (one (masks place.free (places.where_not_taken place)))) }
+        ≡ joined (stmts_of out.old.items) (one (masks part.free (part_words.where_not_taken part)))) }
 {
-    let other = where_not_taken(alloc, place)?;
-    add_mask(out, place.free, other)
+    let other = where_not_taken(alloc, part)?;
+    add_mask(out, part.free, other)
 }
 
 // whether no arm is left, and nothing stands after the last `else`
@@ -334,25 +341,29 @@ fn stands_nothing(rest: &[Branch], otherwise: &[Action]) -> bool
 }
 
 // the mask of a part after its arms
-fn repair(alloc: Global, place: Place, out: &mut Vec<SpStmt>) -> Result<(), OutOfMemory>
+fn repair(alloc: Global, part: PartWords, out: &mut Vec<SpStmt>) -> Result<(), OutOfMemory>
     ensures { OnOk result (stmts_of out.new.items
-        ≡ joined (stmts_of out.old.items) (one (masks place.own (places.where_on place)))) }
+        ≡ joined (stmts_of out.old.items) (one (masks part.own (part_words.where_on part)))) }
 {
-    let own = where_on(alloc, place)?;
-    add_mask(out, place.own, own)
+    let own = where_on(alloc, part)?;
+    add_mask(out, part.own, own)
 }
 
 // ---- loops
 
 // the test of a turn
-fn begin_turn(alloc: Global, place: Place, condition: &SpExpr) -> Result<Vec<SpStmt>, OutOfMemory>
+fn begin_turn(
+    alloc: Global,
+    part: PartWords,
+    condition: &SpExpr,
+) -> Result<Vec<SpStmt>, OutOfMemory>
     ensures { IfOk result (λ r. stmts_of r.items
-        ≡ one (masks place.free (places.where_so place.free (plain_sp condition.now)))) }
+        ≡ one (masks part.free (part_words.where_so part.free (plain_sp condition.now)))) }
 {
     let mut turn = Vec::new(alloc);
     let holds = copied(alloc, condition)?;
-    let goes_on = where_so(alloc, place.free, holds)?;
-    add_mask(&mut turn, place.free, goes_on)?;
+    let goes_on = where_so(alloc, part.free, holds)?;
+    add_mask(&mut turn, part.free, goes_on)?;
     Ok(turn)
 }
 
@@ -360,17 +371,17 @@ fn begin_turn(alloc: Global, place: Place, condition: &SpExpr) -> Result<Vec<SpS
 #[tactic(auto, using(crate::proofs::Stated::joined_joined))]
 fn end_turn(
     alloc: Global,
-    place: Place,
+    part: PartWords,
     turn: &mut Vec<SpStmt>,
     step: &Option<Assignment>,
 ) -> Result<(), OutOfMemory>
     ensures { OnOk result (stmts_of turn.new.items ≡ joined (stmts_of turn.old.items)
-        (stmt (masks place.free (places.not_zero (frame_word place.free)))
-        (specs.made_step place.free (option_map plain_assignment step.now)))) }
+        (stmt (masks part.free (part_words.not_zero (frame_word part.free)))
+        (specs.made_step part.free (option_map plain_assignment step.now)))) }
 {
-    let again = not_zero(alloc, word(place.free))?;
-    add_mask(turn, place.free, again)?;
-    add_step(alloc, turn, place.free, step)
+    let again = not_zero(alloc, word(part.free))?;
+    add_mask(turn, part.free, again)?;
+    add_step(alloc, turn, part.free, step)
 }
 
 // the flag of a loop that may not turn at all
@@ -391,25 +402,25 @@ fn add_flag(
 #[tactic(auto, using(crate::proofs::Stated::five_more))]
 fn add_loop(
     alloc: Global,
-    place: Place,
+    part: PartWords,
     out: &mut Vec<SpStmt>,
     max: u32,
     condition: &SpExpr,
     turn: List<SpStmt>,
 ) -> Result<(), OutOfMemory>
     ensures { OnOk result (stmts_of out.new.items ≡ joined (stmts_of out.old.items)
-        (stmt (masks place.free (places.bit_of place.own))
-        (stmt (tree.turns max (stmts_of turn)) (stmt (overruns place.free (plain_sp condition.now))
-        (stmt (masks place.turn (places.where_not_returned place))
-        (one (masks place.own (places.where_on place)))))))) }
+        (stmt (masks part.free (part_words.bit_of part.own))
+        (stmt (tree.turns max (stmts_of turn)) (stmt (overruns part.free (plain_sp condition.now))
+        (stmt (masks part.turn (part_words.where_not_returned part))
+        (one (masks part.own (part_words.where_on part)))))))) }
 {
-    let on = bit_of(alloc, place.own)?;
-    add_mask(out, place.free, on)?;
+    let on = bit_of(alloc, part.own)?;
+    add_mask(out, part.free, on)?;
     add_turns(out, max, turn)?;
-    add_flag(alloc, out, place.free, condition)?;
-    let outer = where_not_returned(alloc, place)?;
-    add_mask(out, place.turn, outer)?;
-    repair(alloc, place, out)
+    add_flag(alloc, out, part.free, condition)?;
+    let outer = where_not_returned(alloc, part)?;
+    add_mask(out, part.turn, outer)?;
+    repair(alloc, part, out)
 }
 
 // ---- all actions
@@ -418,40 +429,40 @@ fn add_loop(
 #[tactic(none)]
 fn add_action(
     alloc: Global,
-    place: Place,
+    part: PartWords,
     out: &mut Vec<SpStmt>,
     action: &Action,
 ) -> Result<(), OutOfMemory>
-    requires { place.free + widths.action_masks (plain_action action.now) < 2 ^ 32 }
+    requires { part.free + widths.action_masks (plain_action action.now) < 2 ^ 32 }
     ensures { OnOk result (stmts_of out.new.items
-        ≡ joined (stmts_of out.old.items) (specs.made_action place (plain_action action.now))) }
+        ≡ joined (stmts_of out.old.items) (specs.made_action part (plain_action action.now))) }
 {
     match action {
-        Action::Set { assignment } => add_assignment(alloc, out, place.own, assignment),
+        Action::Set { assignment } => add_assignment(alloc, out, part.own, assignment),
         Action::Call {
             function,
             args,
             target,
-        } => add_call(alloc, place, out, *function, args.values.as_slice(), target),
+        } => add_call(alloc, part, out, *function, args.values.as_slice(), target),
         Action::Send {
             core,
             source,
             target,
             count,
-        } => add_send(alloc, out, place.own, *core, source, target, count),
+        } => add_send(alloc, out, part.own, *core, source, target, count),
         Action::Choose {
             branches,
             otherwise,
-        } => add_choice(alloc, place, out, branches.as_slice(), otherwise.as_slice()),
+        } => add_choice(alloc, part, out, branches.as_slice(), otherwise.as_slice()),
         Action::Loop {
             max,
             condition,
             body,
             step,
-        } => add_repeated(alloc, place, out, *max, condition, body.as_slice(), step),
-        Action::Break => add_break(alloc, place, out),
-        Action::Continue => add_continue(alloc, place, out),
-        Action::Return { value } => add_return(alloc, place, out, value),
+        } => add_repeated(alloc, part, out, *max, condition, body.as_slice(), step),
+        Action::Break => add_break(alloc, part, out),
+        Action::Continue => add_continue(alloc, part, out),
+        Action::Return { value } => add_return(alloc, part, out, value),
     }
 }
 
@@ -460,16 +471,16 @@ fn add_action(
 #[tactic(auto, using(crate::proofs::Converted::next_action, crate::proofs::Converted::last_action, crate::proofs::Converted::no_action_left))]
 pub fn add_all(
     alloc: Global,
-    place: Place,
+    part: PartWords,
     out: &mut Vec<SpStmt>,
     actions: &[Action],
 ) -> Result<(), OutOfMemory>
-    requires { place.free + widths.masks (actions_of actions.now) < 2 ^ 32 }
+    requires { part.free + widths.masks (actions_of actions.now) < 2 ^ 32 }
     ensures { OnOk result (stmts_of out.new.items
-        ≡ joined (stmts_of out.old.items) (specs.made place (actions_of actions.now))) }
+        ≡ joined (stmts_of out.old.items) (specs.made part (actions_of actions.now))) }
 {
     for action in actions {
-        add_action(alloc, place, out, action)?;
+        add_action(alloc, part, out, action)?;
         if ends(action) {
             return Ok(());
         }
@@ -482,19 +493,19 @@ pub fn add_all(
 #[tactic(auto, using(crate::proofs::Stated::joined_joined))]
 fn add_choice(
     alloc: Global,
-    place: Place,
+    part: PartWords,
     out: &mut Vec<SpStmt>,
     branches: &[Branch],
     otherwise: &[Action],
 ) -> Result<(), OutOfMemory>
-    requires { place.free + widths.branches_masks (branches_of branches.now) (widths.masks (actions_of otherwise.now))
+    requires { part.free + widths.branches_masks (branches_of branches.now) (widths.masks (actions_of otherwise.now))
         < 2 ^ 32 }
     ensures { OnOk result (stmts_of out.new.items
         ≡ joined (stmts_of out.old.items)
-        (specs.made_action place (plain.chooses (branches_of branches.now) (actions_of otherwise.now)))) }
+        (specs.made_action part (plain.chooses (branches_of branches.now) (actions_of otherwise.now)))) }
 {
-    add_arms(alloc, place, out, branches, otherwise)?;
-    repair(alloc, place, out)
+    add_arms(alloc, part, out, branches, otherwise)?;
+    repair(alloc, part, out)
 }
 
 // arms, each with those that stand after its `else`
@@ -502,24 +513,24 @@ fn add_choice(
 #[tactic(auto)]
 fn add_arms(
     alloc: Global,
-    place: Place,
+    part: PartWords,
     out: &mut Vec<SpStmt>,
     branches: &[Branch],
     otherwise: &[Action],
 ) -> Result<(), OutOfMemory>
-    requires { place.free + widths.branches_masks (branches_of branches.now) (widths.masks (actions_of otherwise.now))
+    requires { part.free + widths.branches_masks (branches_of branches.now) (widths.masks (actions_of otherwise.now))
         < 2 ^ 32 }
     ensures { OnOk result (stmts_of out.new.items
         ≡ joined (stmts_of out.old.items)
-        (specs.made_branches place (branches_of branches.now) (specs.is_no_action (actions_of otherwise.now))
+        (specs.made_branches part (branches_of branches.now) (specs.is_no_action (actions_of otherwise.now))
         (λ q. specs.made q (actions_of otherwise.now)))) }
 {
     match branches {
-        [] => add_all(alloc, place, out, otherwise),
+        [] => add_all(alloc, part, out, otherwise),
         [branch, rest @ ..] => {
-            let arm = begin_arm(alloc, place, out, &branch.condition)?;
+            let arm = begin_arm(alloc, part, out, &branch.condition)?;
             add_all(alloc, arm, out, branch.body.as_slice())?;
-            add_otherwise(alloc, place, arm, out, rest, otherwise)
+            add_otherwise(alloc, part, arm, out, rest, otherwise)
         }
     }
 }
@@ -529,8 +540,8 @@ fn add_arms(
 #[tactic(auto)]
 fn add_otherwise(
     alloc: Global,
-    place: Place,
-    arm: Place,
+    part: PartWords,
+    arm: PartWords,
     out: &mut Vec<SpStmt>,
     rest: &[Branch],
     otherwise: &[Action],
@@ -538,7 +549,7 @@ fn add_otherwise(
     requires { arm.free + widths.branches_masks (branches_of rest.now) (widths.masks (actions_of otherwise.now))
         < 2 ^ 32 }
     ensures { OnOk result (stmts_of out.new.items ≡ joined (stmts_of out.old.items)
-        (specs.made_otherwise place (specs.is_no_branch (branches_of rest.now)
+        (specs.made_otherwise part (specs.is_no_branch (branches_of rest.now)
         && specs.is_no_action (actions_of otherwise.now))
         (specs.made_branches arm (branches_of rest.now) (specs.is_no_action (actions_of otherwise.now))
         (λ q. specs.made q (actions_of otherwise.now))))) }
@@ -546,7 +557,7 @@ fn add_otherwise(
     if stands_nothing(rest, otherwise) {
         return Ok(());
     }
-    begin_otherwise(alloc, place, out)?;
+    begin_otherwise(alloc, part, out)?;
     add_arms(alloc, arm, out, rest, otherwise)
 }
 
@@ -555,24 +566,24 @@ fn add_otherwise(
 #[tactic(auto)]
 fn add_repeated(
     alloc: Global,
-    place: Place,
+    part: PartWords,
     out: &mut Vec<SpStmt>,
     max: u32,
     condition: &SpExpr,
     body: &[Action],
     step: &Option<Assignment>,
 ) -> Result<(), OutOfMemory>
-    requires { place.free + widths.loop_masks max (widths.masks (actions_of body.now)) < 2 ^ 32 }
+    requires { part.free + widths.loop_masks max (widths.masks (actions_of body.now)) < 2 ^ 32 }
     ensures { OnOk result (stmts_of out.new.items ≡ joined (stmts_of out.old.items)
-        (specs.made_action place (plain.turns max (plain_sp condition.now) (actions_of body.now)
+        (specs.made_action part (plain.turns max (plain_sp condition.now) (actions_of body.now)
         (option_map plain_assignment step.now)))) }
 {
     if max == 0 {
-        return add_flag(alloc, out, place.own, condition);
+        return add_flag(alloc, out, part.own, condition);
     }
-    let mut turn = begin_turn(alloc, place, condition)?;
-    let inner = place.in_loop();
+    let mut turn = begin_turn(alloc, part, condition)?;
+    let inner = part.in_loop();
     add_all(alloc, inner, &mut turn, body)?;
-    end_turn(alloc, place, &mut turn, step)?;
-    add_loop(alloc, place, out, max, condition, List::of(turn))
+    end_turn(alloc, part, &mut turn, step)?;
+    add_loop(alloc, part, out, max, condition, List::of(turn))
 }

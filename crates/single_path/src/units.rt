@@ -11,14 +11,14 @@ ghost use Rattle.sp_tree.specs.Statements.{no_function};
 ghost use Rattle.sp_tree.specs.Uses.{uses_of};
 ghost use Rattle.c_meaning.specs.Actions.{no_action};
 ghost use Rattle.c_meaning.specs.Begun.{meaning};
-ghost use Rattle.c_meaning.specs.Shown.{actions_of, bodies_of};
+ghost use Rattle.c_meaning.specs.Shown.{actions_of, counts_of, bodies_of};
 ghost use Rattle.c_mentions.specs.Mentions.{Array, mentions, assigns, sends_to};
 ghost use Rattle.single_path.specs.Meant.{IsMeant};
 ghost use Rattle.single_path.specs.Single as specs;
 ghost use Rattle.single_path.specs.Used.{reads_region, writes_region, is_send_to, memory_of};
 
 use crate::masks::begun_mask;
-use crate::places::Place;
+use crate::part_words::PartWords;
 use crate::statements::{add_all, add_mask};
 use crate::widths::{exact_levels, exact_width};
 use c_meaning::{Action, InputPlace, Routine, add_initial, input_place, resolve};
@@ -34,53 +34,34 @@ fn function(alloc: Global, parameters: usize, body: &[Action]) -> Result<SpFunct
 {
     let parameters = parameters as u32;
     let width = exact_width(body);
-    let place = Place::outermost(parameters.max(width.variables));
+    let part = PartWords::outermost(parameters.max(width.variables));
     let mut made = Vec::new(alloc);
-    let mask = begun_mask(alloc, place)?;
-    add_mask(&mut made, place.function, mask)?;
-    add_all(alloc, place, &mut made, body)?;
+    let mask = begun_mask(alloc, part)?;
+    add_mask(&mut made, part.function, mask)?;
+    add_all(alloc, part, &mut made, body)?;
     let levels = exact_levels(made.as_slice());
     Ok(SpFunction {
         // after the words that are named stand those that code keeps for turns and the return
-        frame: place.free + width.masks + (levels + 2),
+        frame: part.free + width.masks + (levels + 2),
         parameters,
-        mask: place.function,
-        result: place.result,
+        mask: part.function,
+        result: part.result,
         body: List::of(made),
     })
 }
 
-// how many parameters each function has
-#[tactic(auto, using(crate::proofs::Assembled::counts_next))]
-fn parameter_counts(alloc: Global, items: &[Item]) -> Result<Vec<usize>, OutOfMemory>
-    ensures { IfOk result (λ v. v.items ≡ specs.parameters_in (map plain_item items.now)) }
-{
-    let mut counts = Vec::new(alloc);
-    for item in items {
-        if let Item::Function { function } = item {
-            counts.push(function.parameters.as_slice().len())?;
-        }
-    }
-    Ok(counts)
-}
-
-// functions, each of so many parameters and of these actions
-#[tactic(auto, using(crate::proofs::Assembled::frame_at, crate::proofs::Assembled::function_next, crate::proofs::Assembled::no_more_functions))]
-fn functions(
-    alloc: Global,
-    counts: &[usize],
-    routines: &[Routine],
-) -> Result<List<SpFunction>, OutOfMemory>
+// functions, each of the actions of a routine
+#[tactic(auto, using(crate::proofs::Assembled::frame_at, crate::proofs::Assembled::function_next))]
+fn functions(alloc: Global, routines: &[Routine]) -> Result<List<SpFunction>, OutOfMemory>
     requires { (k : ℕ) → k < length (bodies_of routines.now)
-        → (specs.made_function (slice_index counts.now k) (slice_index_or (bodies_of routines.now) k no_action)).frame
-        < 2 ^ 32 }
-    ensures { IfOk result (λ fs. functions_of fs ≡ specs.made_functions counts.now (bodies_of routines.now)) }
+        → (specs.made_function (slice_index (counts_of routines.now) k)
+        (slice_index_or (bodies_of routines.now) k no_action)).frame < 2 ^ 32 }
+    ensures { IfOk result (λ fs. functions_of fs
+        ≡ specs.made_functions (counts_of routines.now) (bodies_of routines.now)) }
 {
     let mut made = Vec::new(alloc);
-    let both = counts.len().min(routines.len());
-    for number in 0..both {
-        let one = function(alloc, counts[number], routines[number].body.as_slice())?;
-        made.push(one)?;
+    for routine in routines {
+        made.push(function(alloc, routine.parameters, routine.body.as_slice())?)?;
     }
     Ok(List::of(made))
 }
@@ -111,8 +92,7 @@ fn tree_of(alloc: Global, program: &Checked) -> Result<SpUnit, OutOfMemory>
 {
     let items = program.unit.items.as_slice();
     let resolved = resolve(alloc, program)?;
-    let counts = parameter_counts(alloc, items)?;
-    let functions = functions(alloc, counts.as_slice(), resolved.routines.as_slice())?;
+    let functions = functions(alloc, resolved.routines.as_slice())?;
     let entry = entry_of(resolved.main);
     let initial = initial_words(alloc, items)?;
     let InputPlace { at, room } = input_place(items);

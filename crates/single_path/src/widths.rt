@@ -61,9 +61,9 @@ fn target(target: &Target) -> u32
 fn assignment(assignment: &Assignment) -> u32
     ensures { result ≡ specs.capped (specs.assignment_words (plain_assignment assignment.now)) }
 {
-    let place = target(&assignment.target);
+    let target = target(&assignment.target);
     let value = expression(&assignment.value);
-    place.max(value)
+    target.max(value)
 }
 
 fn step(step: &Option<Assignment>) -> u32
@@ -86,7 +86,7 @@ fn call(args: &[SpExpr], given: &Option<Target>) -> Width
     let before = arguments(args);
     let variables = match given {
         None => before,
-        Some(place) => before.max(target(place)),
+        Some(result) => before.max(target(result)),
     };
     let masks = match given {
         None | Some(Target::Variable { .. }) => 0,

@@ -1,5 +1,5 @@
 -- Code reaches whole words.
-use Rattle.std.proofs.Common.{◌≡◌, ℕ, ◌+◌, ◌*◌, ◌%◌, inl, inr, refl, arith}
+use Rattle.std.proofs.Common.{◌≡◌, ℕ, ◌%◌, inl, inr, refl, arith}
 use Rattle.c_world.specs.declared.region.Region.{Region}
 use Rattle.c_world.specs.declared.region.Region.TheVariants as region
 use Rattle.patmos_instr.specs.declared.memories.Mem.{Mem}

@@ -8,7 +8,7 @@ use Rattle.c_world.specs.declared.region.Region.{Region}
 use Rattle.sp_tree.specs.Cost.{is_held}
 use Rattle.sp_tree.specs.Need.{need}
 use Rattle.sp_tree.specs.Plain.{PlainSp, constant, frame_word, cell_word, array_word, before_one, between_two}
-use Rattle.sp_tree.specs.Statements.{PlainPlace, to_slot, to_cell, to_array, PlainStmt, masks, writes, calls, transfers, overruns, turns, PlainStmts, no_stmt, stmt, PlainFunction}
+use Rattle.sp_tree.specs.Statements.{PlainSpTarget, to_slot, to_cell, to_array, PlainStmt, masks, writes, calls, transfers, overruns, turns, PlainStmts, no_stmt, stmt, PlainFunction}
 use Rattle.sp_tree.specs.declared.operators.SpBinary.{SpBinary}
 use Rattle.sp_tree.specs.declared.operators.SpUnary.{SpUnary}
 use Rattle.sp_shape.specs.Bundles.{parts_all}
@@ -16,7 +16,7 @@ use Rattle.sp_shape.specs.Parts.{straight, PlainParts, one, joined}
 use Rattle.sp_shape.proofs.Lists.{all_append}
 use Rattle.sp_emit.specs.Expressions.{unary_code, binary_code, held_code, element_code, number_of, expr_code}
 use Rattle.sp_emit.specs.Functions.{argument_kept, first_counter, arguments_kept, state_kept, function_begin, function_rest, function_code}
-use Rattle.sp_emit.specs.Statements.{cell_write, element_write, place_write, args_code, call_code, send_code, overrun_code, slot_set, stmt_code, stmts_code}
+use Rattle.sp_emit.specs.Statements.{cell_write, element_write, target_write, args_code, call_code, send_code, overrun_code, slot_set, stmt_code, stmts_code}
 use Rattle.sp_emit.proofs.Quiet.{each_joined, each_lone}
 
 abbrev is_alone : Slots → Bool
@@ -70,10 +70,10 @@ cell_write_alone mask r word = grind arith
 element_write_alone : (mask : ℕ) (r : Region) (first length : ℕ) → AreAlone (element_write mask (record { region = r; first = first; length = length }))
 element_write_alone mask r first length = grind arith
 
-place_alone : (mask : ℕ) (place : PlainPlace) → Alone (place_write mask place)
-place_alone mask (to_slot slot) = refl
-place_alone mask (to_cell cell) = each_lone is_alone (cell_write mask cell) (cell_write_alone mask cell.region cell.word)
-place_alone mask (to_array array index) = both (expr_code index 4) (one (straight (element_write mask array))) (expr_alone index 4)
+target_alone : (mask : ℕ) (target : PlainSpTarget) → Alone (target_write mask target)
+target_alone mask (to_slot slot) = refl
+target_alone mask (to_cell cell) = each_lone is_alone (cell_write mask cell) (cell_write_alone mask cell.region cell.word)
+target_alone mask (to_array array index) = both (expr_code index 4) (one (straight (element_write mask array))) (expr_alone index 4)
     (each_lone is_alone (element_write mask array) (element_write_alone mask array.region array.first array.length))
 
 call_alone : (frame mask k : ℕ) (result : Option ℕ) → Alone (call_code frame mask k result)
@@ -83,7 +83,7 @@ call_alone frame mask k (Some slot) = refl
 mutual
   stmt_alone : (frame counter : ℕ) (t : PlainStmt) → Alone (stmt_code frame counter t)
   stmt_alone frame counter (masks slot e) = both (expr_code e 3) (slot_set slot) (expr_alone e 3) refl
-  stmt_alone frame counter (writes mask place e) = both (expr_code e 3) (place_write mask place) (expr_alone e 3) (place_alone mask place)
+  stmt_alone frame counter (writes mask target e) = both (expr_code e 3) (target_write mask target) (expr_alone e 3) (target_alone mask target)
   stmt_alone frame counter (calls mask k args result) = both (args_code args 3) (call_code frame mask k result) (args_alone args 3) (call_alone frame mask k result)
   stmt_alone frame counter (transfers mask core source target count) =
       let sent = one (straight (send_code mask core)) in

@@ -5,7 +5,7 @@ use Rattle.std.proofs.lemmas.Bool.{and_parts, and_from, ltb-true}
 use Rattle.sp_tree.specs.Cost.{held_below, is_held}
 use Rattle.sp_tree.specs.Need.{need}
 use Rattle.sp_tree.specs.Plain.{PlainSp, constant, frame_word, cell_word, array_word, before_one, between_two}
-use Rattle.sp_tree.specs.Statements.{PlainPlace, to_slot, to_cell, to_array, PlainStmt, masks, writes, calls, transfers, overruns, turns, PlainStmts, no_stmt, stmt, PlainFunction, no_function, PlainUnit}
+use Rattle.sp_tree.specs.Statements.{PlainSpTarget, to_slot, to_cell, to_array, PlainStmt, masks, writes, calls, transfers, overruns, turns, PlainStmts, no_stmt, stmt, PlainFunction, no_function, PlainUnit}
 use Rattle.sp_tree.specs.declared.operators.SpBinary.{SpBinary}
 use Rattle.sp_tree.specs.declared.operators.SpBinary.TheVariants as binary
 use Rattle.sp_shape.specs.Bundles.{has_word, part_all, parts_all}
@@ -13,8 +13,8 @@ use Rattle.sp_shape.specs.Parts.{straight, PlainParts, no_part, part, one, joine
 use Rattle.sp_emit.specs.Counts.{HasStmtCounts, HasStmtsCounts, HasCounts}
 use Rattle.sp_emit.specs.Expressions.{element_code, unary_code, binary_code, held_code, number_of, expr_code}
 use Rattle.sp_emit.specs.Functions.{first_counter, function_begin, function_rest, function_code, emitted}
-use Rattle.sp_emit.specs.Means.{HasWordConstants, HasPlaceConstants, HasArgsConstants, HasStmtConstants, HasStmtsConstants, HasConstants}
-use Rattle.sp_emit.specs.Statements.{element_write, place_write, args_code, call_code, send_code, overrun_code, slot_set, turns_begin, turns_tail, stmt_code, stmts_code}
+use Rattle.sp_emit.specs.Means.{HasWordConstants, HasTargetConstants, HasArgsConstants, HasStmtConstants, HasStmtsConstants, HasConstants}
+use Rattle.sp_emit.specs.Statements.{element_write, target_write, args_code, call_code, send_code, overrun_code, slot_set, turns_begin, turns_tail, stmt_code, stmts_code}
 
 abbrev Wordy : PlainParts → Type 0
 Wordy parts = parts_all has_word parts ≡ true
@@ -77,17 +77,17 @@ args_words (e ∷ args) rd h =
 
 -- ---- statements
 
-place_words : (mask : ℕ) (place : PlainPlace) → Wordy (place_write mask place) → HasPlaceConstants place
-place_words mask (to_slot slot) h = tt
-place_words mask (to_cell cell) h = tt
-place_words mask (to_array array index) h = expr_words index 4 (split (expr_code index 4) (one (straight (element_write mask array))) h).0
+target_words : (mask : ℕ) (target : PlainSpTarget) → Wordy (target_write mask target) → HasTargetConstants target
+target_words mask (to_slot slot) h = tt
+target_words mask (to_cell cell) h = tt
+target_words mask (to_array array index) h = expr_words index 4 (split (expr_code index 4) (one (straight (element_write mask array))) h).0
 
 mutual
   stmt_words : (frame counter : ℕ) (t : PlainStmt) → Wordy (stmt_code frame counter t) → HasStmtConstants t × HasStmtCounts t
   stmt_words frame counter (masks slot e) h = (expr_words e 3 (split (expr_code e 3) (slot_set slot) h).0, tt)
-  stmt_words frame counter (writes mask place e) h =
-      let s = split (expr_code e 3) (place_write mask place) h in
-      ((place_words mask place s.1, expr_words e 3 s.0), tt)
+  stmt_words frame counter (writes mask target e) h =
+      let s = split (expr_code e 3) (target_write mask target) h in
+      ((target_words mask target s.1, expr_words e 3 s.0), tt)
   stmt_words frame counter (calls mask k args result) h = (args_words args 3 (split (args_code args 3) (call_code frame mask k result) h).0, tt)
   stmt_words frame counter (transfers mask core source target count) h =
       let sent = one (straight (send_code mask core)) in

@@ -2,10 +2,10 @@
 use Rattle.std.proofs.Common.{◌≡◌, ℕ, zero, suc, ◌+◌, ◌-◌, ◌<◌, ◌≤◌, true, List, [], ◌∷◌, length, get_or, slice_index_or, arith, ap, sym, ◌∙◌, IfSome, Option, None, Some}
 use Rattle.std.specs.Prelude.{nat_lt, nat_le, nat_eq, ◌&&◌}
 use Rattle.std.proofs.lemmas.Bool.{and_parts, ltb-true, leb-true, eqb-true}
-use Rattle.sp_tree.specs.Formed.{names_words, expr_formed, args_formed, place_formed, cell_formed, array_formed, result_formed, callee_formed, send_formed, stmts_formed, stmt_levels, stmts_levels, function_formed, functions_formed, slots_of}
+use Rattle.sp_tree.specs.Formed.{names_words, expr_formed, args_formed, target_formed, cell_formed, array_formed, result_formed, callee_formed, send_formed, stmts_formed, stmt_levels, stmts_levels, function_formed, functions_formed, slots_of}
 use Rattle.sp_tree.specs.Need.{need}
 use Rattle.sp_tree.specs.Plain.{PlainSp}
-use Rattle.sp_tree.specs.Statements.{PlainPlace, to_slot, to_cell, to_array, PlainStmt, masks, writes, calls, transfers, overruns, turns, PlainStmts, PlainFunction, no_function}
+use Rattle.sp_tree.specs.Statements.{PlainSpTarget, to_slot, to_cell, to_array, PlainStmt, masks, writes, calls, transfers, overruns, turns, PlainStmts, PlainFunction, no_function}
 use Rattle.sp_tree.specs.declared.expressions.SpArray.{SpArray}
 use Rattle.sp_tree.specs.declared.expressions.SpCell.{SpCell}
 use Rattle.sp_tree.proofs.Forms.{function_at, earlier_one, earlier_ones, few_arguments, item_part}
@@ -13,7 +13,7 @@ use Rattle.sp_tree.specs.Shown.{plain_stmt, plain_function, stmts_of, functions_
 use Rattle.sp_tree.specs.declared.statements.SpFunction.{SpFunction}
 use Rattle.sp_tree.specs.declared.statements.SpStmt.{SpStmt}
 use Rattle.sp_emit.specs.Functions.{first_counter}
-use Rattle.sp_emit.specs.Fits.{ExprFits, ArgsFit, PlaceFits, StmtFits, StmtsFit, FunctionFits}
+use Rattle.sp_emit.specs.Fits.{ExprFits, ArgsFit, TargetFits, StmtFits, StmtsFit, FunctionFits}
 
 pub expr_fits : (slots rd : ℕ) (e : PlainSp) → slots ≤ 128 → rd ≤ 9 → expr_formed slots e ≡ true → ExprFits e rd
 expr_fits slots rd e most low h =
@@ -37,35 +37,35 @@ masks_value slot e f = expr_fits f.slots 3 e (omega (arith, few_slots f)) (omega
 pub masks_slot : {frame counter : ℕ} (slot : ℕ) (e : PlainSp) → StmtFits frame counter (masks slot e) → slot < 128
 masks_slot slot e f = word_fits f slot (masks_parts slot e f).0
 
--- ---- a place that is set
+-- ---- a target that is set
 
-writes_parts : {frame counter : ℕ} (mask : ℕ) (place : PlainPlace) (e : PlainSp) (f : StmtFits frame counter (writes mask place e))
-    → (nat_lt mask f.slots ≡ true) × ((place_formed f.slots place ≡ true) × (expr_formed f.slots e ≡ true))
-writes_parts mask place e f =
-    let a = and_parts (nat_lt mask f.slots) (place_formed f.slots place && expr_formed f.slots e) f.formed in
-    (a.0, and_parts (place_formed f.slots place) (expr_formed f.slots e) a.1)
+writes_parts : {frame counter : ℕ} (mask : ℕ) (target : PlainSpTarget) (e : PlainSp) (f : StmtFits frame counter (writes mask target e))
+    → (nat_lt mask f.slots ≡ true) × ((target_formed f.slots target ≡ true) × (expr_formed f.slots e ≡ true))
+writes_parts mask target e f =
+    let a = and_parts (nat_lt mask f.slots) (target_formed f.slots target && expr_formed f.slots e) f.formed in
+    (a.0, and_parts (target_formed f.slots target) (expr_formed f.slots e) a.1)
 
-pub writes_value : {frame counter : ℕ} (mask : ℕ) (place : PlainPlace) (e : PlainSp) → StmtFits frame counter (writes mask place e) → ExprFits e 3
-writes_value mask place e f = expr_fits f.slots 3 e (omega (arith, few_slots f)) (omega arith) (writes_parts mask place e f).1.1
+pub writes_value : {frame counter : ℕ} (mask : ℕ) (target : PlainSpTarget) (e : PlainSp) → StmtFits frame counter (writes mask target e) → ExprFits e 3
+writes_value mask target e f = expr_fits f.slots 3 e (omega (arith, few_slots f)) (omega arith) (writes_parts mask target e f).1.1
 
-pub writes_place : {frame counter : ℕ} (mask : ℕ) (place : PlainPlace) (e : PlainSp) → StmtFits frame counter (writes mask place e) → PlaceFits mask place
-writes_place mask place e f =
-    let parts = writes_parts mask place e f in
+pub writes_target : {frame counter : ℕ} (mask : ℕ) (target : PlainSpTarget) (e : PlainSp) → StmtFits frame counter (writes mask target e) → TargetFits mask target
+writes_target mask target e f =
+    let parts = writes_parts mask target e f in
     record { slots = f.slots; most = omega (arith, few_slots f); masked = parts.0; formed = parts.1.0 }
 
-pub place_mask : {mask : ℕ} {place : PlainPlace} → PlaceFits mask place → mask < 128
-place_mask {mask} f = omega (arith, f.most, ltb-true mask f.slots f.masked)
+pub target_mask : {mask : ℕ} {target : PlainSpTarget} → TargetFits mask target → mask < 128
+target_mask {mask} f = omega (arith, f.most, ltb-true mask f.slots f.masked)
 
-pub slot_fits : {mask : ℕ} (slot : ℕ) → PlaceFits mask (to_slot slot) → slot < 128
+pub slot_fits : {mask : ℕ} (slot : ℕ) → TargetFits mask (to_slot slot) → slot < 128
 slot_fits slot f = omega (arith, f.most, ltb-true slot f.slots f.formed)
 
-pub index_fits : {mask : ℕ} (array : SpArray) (index : PlainSp) → PlaceFits mask (to_array array index) → ExprFits index 4
+pub index_fits : {mask : ℕ} (array : SpArray) (index : PlainSp) → TargetFits mask (to_array array index) → ExprFits index 4
 index_fits array index f = expr_fits f.slots 4 index f.most (omega arith) (and_parts (array_formed array) (expr_formed f.slots index) f.formed).1
 
-pub cell_fits : {mask : ℕ} (cell : SpCell) → PlaceFits mask (to_cell cell) → cell_formed cell ≡ true
+pub cell_fits : {mask : ℕ} (cell : SpCell) → TargetFits mask (to_cell cell) → cell_formed cell ≡ true
 cell_fits cell f = f.formed
 
-pub array_fits : {mask : ℕ} (array : SpArray) (index : PlainSp) → PlaceFits mask (to_array array index) → array_formed array ≡ true
+pub array_fits : {mask : ℕ} (array : SpArray) (index : PlainSp) → TargetFits mask (to_array array index) → array_formed array ≡ true
 array_fits array index f = (and_parts (array_formed array) (expr_formed f.slots index) f.formed).0
 
 -- ---- calls

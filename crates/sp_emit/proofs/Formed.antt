@@ -10,7 +10,7 @@ use Rattle.sp_tree.specs.Cost.{is_held}
 use Rattle.sp_tree.specs.Formed as tree
 use Rattle.sp_tree.specs.Need.{need}
 use Rattle.sp_tree.specs.Plain.{PlainSp, constant, frame_word, cell_word, array_word, before_one, between_two}
-use Rattle.sp_tree.specs.Statements.{PlainPlace, to_slot, to_cell, to_array, PlainStmt, masks, writes, calls, transfers, overruns, turns, PlainStmts, no_stmt, stmt, PlainFunction, no_function, PlainUnit}
+use Rattle.sp_tree.specs.Statements.{PlainSpTarget, to_slot, to_cell, to_array, PlainStmt, masks, writes, calls, transfers, overruns, turns, PlainStmts, no_stmt, stmt, PlainFunction, no_function, PlainUnit}
 use Rattle.sp_tree.specs.declared.operators.SpBinary.{SpBinary}
 use Rattle.sp_tree.specs.declared.operators.SpBinary.TheVariants as binary
 use Rattle.sp_tree.specs.declared.operators.SpUnary.{SpUnary}
@@ -20,7 +20,7 @@ use Rattle.sp_shape.specs.Parts.{straight, repeats, calls_to, leaves, PlainParts
 use Rattle.sp_shape.proofs.Lists.{calm_append}
 use Rattle.sp_emit.specs.Expressions.{unary_code, binary_code, held_code, element_code, number_of, expr_code}
 use Rattle.sp_emit.specs.Functions.{argument_kept, first_counter, arguments_kept, state_kept, function_begin, function_rest, function_code, emitted}
-use Rattle.sp_emit.specs.Statements.{cell_write, element_write, place_write, args_code, behind_call, call_code, send_code, overrun_code, slot_set, stmt_code, stmts_code}
+use Rattle.sp_emit.specs.Statements.{cell_write, element_write, target_write, args_code, behind_call, call_code, send_code, overrun_code, slot_set, stmt_code, stmts_code}
 
 -- ---- parts after others
 
@@ -125,10 +125,10 @@ element_calm mask region.Comm first length = refl
 element_calm mask region.Private first length = refl
 element_calm mask region.Shared first length = refl
 
-place_formed : (n mask : ℕ) (place : PlainPlace) → parts_formed n (place_write mask place) ≡ true
-place_formed n mask (to_slot slot) = refl
-place_formed n mask (to_cell cell) = lone n (cell_write mask cell) (cell_calm mask cell.region cell.word)
-place_formed n mask (to_array array index) =
+target_formed : (n mask : ℕ) (target : PlainSpTarget) → parts_formed n (target_write mask target) ≡ true
+target_formed n mask (to_slot slot) = refl
+target_formed n mask (to_cell cell) = lone n (cell_write mask cell) (cell_calm mask cell.region cell.word)
+target_formed n mask (to_array array index) =
     both n (expr_code index 4) (one (straight (element_write mask array))) (expr_formed n index 4)
     (lone n (element_write mask array) (element_calm mask array.region array.first array.length))
 
@@ -148,7 +148,7 @@ call_formed n frame mask k result earlier =
 mutual
   pub stmt_formed : (fs : List PlainFunction) (n slots frame counter : ℕ) (t : PlainStmt) → tree.stmt_formed fs n slots t ≡ true → parts_formed n (stmt_code frame counter t) ≡ true
   stmt_formed fs n slots frame counter (masks slot e) h = both n (expr_code e 3) (slot_set slot) (expr_formed n e 3) refl
-  stmt_formed fs n slots frame counter (writes mask place e) h = both n (expr_code e 3) (place_write mask place) (expr_formed n e 3) (place_formed n mask place)
+  stmt_formed fs n slots frame counter (writes mask target e) h = both n (expr_code e 3) (target_write mask target) (expr_formed n e 3) (target_formed n mask target)
   stmt_formed fs n slots frame counter (calls mask k args result) h =
       let b = and_parts (nat_lt mask slots) (tree.callee_formed fs n k (length args) && (tree.args_formed slots args && tree.result_formed slots result)) h in
       let c = and_parts (tree.callee_formed fs n k (length args)) (tree.args_formed slots args && tree.result_formed slots result) b.1 in

@@ -5,13 +5,13 @@ use Rattle.std.proofs.lemmas.Bool.{and_parts, and_from}
 use Rattle.sp_tree.specs.Cost.{is_held}
 use Rattle.sp_tree.specs.Need.{need}
 use Rattle.sp_tree.specs.Plain.{PlainSp, constant, frame_word, cell_word, array_word, before_one, between_two}
-use Rattle.sp_tree.specs.Statements.{PlainPlace, to_slot, to_cell, to_array, PlainStmt, masks, writes, calls, transfers, overruns, turns, PlainStmts, no_stmt, stmt, PlainFunction}
+use Rattle.sp_tree.specs.Statements.{PlainSpTarget, to_slot, to_cell, to_array, PlainStmt, masks, writes, calls, transfers, overruns, turns, PlainStmts, no_stmt, stmt, PlainFunction}
 use Rattle.sp_tree.specs.declared.operators.SpBinary.{SpBinary}
 use Rattle.sp_shape.specs.Bundles.{part_idle, parts_idle}
 use Rattle.sp_shape.specs.Parts.{straight, PlainParts, no_part, part, one, joined}
 use Rattle.sp_emit.specs.Expressions.{unary_code, binary_code, held_code, element_code, number_of, expr_code}
 use Rattle.sp_emit.specs.Functions.{first_counter, function_rest, function_code}
-use Rattle.sp_emit.specs.Statements.{element_write, place_write, args_code, call_code, send_code, overrun_code, slot_set, stmt_code, stmts_code}
+use Rattle.sp_emit.specs.Statements.{element_write, target_write, args_code, call_code, send_code, overrun_code, slot_set, stmt_code, stmts_code}
 
 abbrev Idles : PlainParts → Type 0
 Idles parts = parts_idle parts ≡ true
@@ -47,15 +47,15 @@ args_idle : (args : List PlainSp) (rd : ℕ) → Idles (args_code args rd)
 args_idle [] rd = refl
 args_idle (e ∷ args) rd = both (expr_code e rd) (args_code args (rd + 1)) (expr_idle e rd) (args_idle args (rd + 1))
 
-place_idle : (mask : ℕ) (place : PlainPlace) → Idles (place_write mask place)
-place_idle mask (to_slot slot) = refl
-place_idle mask (to_cell cell) = refl
-place_idle mask (to_array array index) = both (expr_code index 4) (one (straight (element_write mask array))) (expr_idle index 4) refl
+target_idle : (mask : ℕ) (target : PlainSpTarget) → Idles (target_write mask target)
+target_idle mask (to_slot slot) = refl
+target_idle mask (to_cell cell) = refl
+target_idle mask (to_array array index) = both (expr_code index 4) (one (straight (element_write mask array))) (expr_idle index 4) refl
 
 mutual
   stmt_idle : (frame counter : ℕ) (t : PlainStmt) → Idles (stmt_code frame counter t)
   stmt_idle frame counter (masks slot e) = both (expr_code e 3) (slot_set slot) (expr_idle e 3) refl
-  stmt_idle frame counter (writes mask place e) = both (expr_code e 3) (place_write mask place) (expr_idle e 3) (place_idle mask place)
+  stmt_idle frame counter (writes mask target e) = both (expr_code e 3) (target_write mask target) (expr_idle e 3) (target_idle mask target)
   stmt_idle frame counter (calls mask k args result) = both (args_code args 3) (call_code frame mask k result) (args_idle args 3) refl
   stmt_idle frame counter (transfers mask core source target count) =
       let sent = one (straight (send_code mask core)) in

@@ -34,7 +34,7 @@ pub mod Once
 pub mod Overruns
 pub mod Passed
 pub mod Passing
-pub mod PlaceWrites
+pub mod TargetWrites
 pub mod Pointing
 pub mod Products
 pub mod Pushed

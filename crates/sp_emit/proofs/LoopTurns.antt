@@ -6,7 +6,7 @@ use Rattle.sp_tree.specs.Cost.{is_held}
 use Rattle.sp_tree.specs.Formed.{callee_formed, args_formed, result_formed, stmt_formed, stmts_formed, stmt_levels, stmts_levels}
 use Rattle.sp_tree.specs.Need.{need}
 use Rattle.sp_tree.specs.Plain.{PlainSp, constant, frame_word, cell_word, array_word, before_one, between_two}
-use Rattle.sp_tree.specs.Statements.{PlainPlace, to_slot, to_cell, to_array, PlainStmt, masks, writes, calls, transfers, overruns, turns, PlainStmts, no_stmt, stmt, PlainFunction, no_function}
+use Rattle.sp_tree.specs.Statements.{PlainSpTarget, to_slot, to_cell, to_array, PlainStmt, masks, writes, calls, transfers, overruns, turns, PlainStmts, no_stmt, stmt, PlainFunction, no_function}
 use Rattle.sp_tree.specs.declared.operators.SpBinary.{SpBinary}
 use Rattle.sp_tree.specs.declared.operators.SpBinary.TheVariants as binary
 use Rattle.sp_shape.proofs.Whole.{run_append, run_whole}
@@ -19,7 +19,7 @@ use Rattle.sp_emit.specs.Division.{quotient_to, rest_to, signed_quotient_to, sig
 use Rattle.sp_emit.specs.Expressions.{unary_code, binary_code, held_code, element_code, number_of, expr_code}
 use Rattle.sp_emit.specs.Holding.{held}
 use Rattle.sp_emit.specs.Instructions.{always, set_long, store_slot}
-use Rattle.sp_emit.specs.Statements.{element_write, place_write, mask_handed, call_tail, args_code, call_code, send_code, overrun_code, slot_set, turns_begin, stmt_code, stmts_code}
+use Rattle.sp_emit.specs.Statements.{element_write, target_write, mask_handed, call_tail, args_code, call_code, send_code, overrun_code, slot_set, turns_begin, stmt_code, stmts_code}
 use Rattle.sp_emit.specs.declared.registers.TheConstants.{FIRST, SPARE}
 use Rattle.sp_emit.proofs.Counters.{counter_turns}
 use Rattle.sp_emit.proofs.DigitTurns.{division_turns, signed_division_turns}
@@ -101,10 +101,10 @@ args_turn from f Called back (e ∷ args) rd m whole = two_parts from f Called b
 
 -- ---- statements
 
-place_turns : (from : Sources) (f : ℕ → List Step) (Called : ℕ → Run → Type 0) (back : Back) (mask : ℕ) (place : PlainPlace) → Turn from f Called back (place_write mask place)
-place_turns from f Called back mask (to_slot slot) m whole = (tt, tt)
-place_turns from f Called back mask (to_cell cell) m whole = (tt, tt)
-place_turns from f Called back mask (to_array array index) m whole =
+target_turns : (from : Sources) (f : ℕ → List Step) (Called : ℕ → Run → Type 0) (back : Back) (mask : ℕ) (target : PlainSpTarget) → Turn from f Called back (target_write mask target)
+target_turns from f Called back mask (to_slot slot) m whole = (tt, tt)
+target_turns from f Called back mask (to_cell cell) m whole = (tt, tt)
+target_turns from f Called back mask (to_array array index) m whole =
     two_parts from f Called back (expr_code index (FIRST + 1)) (one (straight (element_write mask array))) (expr_turns from f Called back index (FIRST + 1)) (bundles from f Called back (element_write mask array)) m whole
 
 -- functions that are called turn, and leave the stack, where it has so much room
@@ -139,8 +139,8 @@ mutual
       → (m : Run) → IsWhole m → low ≤ m.st → PartsTurn (run from) f Called back (stmt_code frame counter t) m
   stmt_turns from f Called back fs number slots frame counter low told callees some few (masks slot e) levels is counts m whole enough =
       two_parts from f Called back (expr_code e FIRST) (slot_set slot) (expr_turns from f Called back e FIRST) (bundles from f Called back (store_slot always slot FIRST ∷ [])) m whole
-  stmt_turns from f Called back fs number slots frame counter low told callees some few (writes mask place e) levels is counts m whole enough =
-      two_parts from f Called back (expr_code e FIRST) (place_write mask place) (expr_turns from f Called back e FIRST) (place_turns from f Called back mask place) m whole
+  stmt_turns from f Called back fs number slots frame counter low told callees some few (writes mask target e) levels is counts m whole enough =
+      two_parts from f Called back (expr_code e FIRST) (target_write mask target) (expr_turns from f Called back e FIRST) (target_turns from f Called back mask target) m whole
   stmt_turns from f Called back fs number slots frame counter low told callees some few (calls mask k args result) levels is counts m whole enough =
       let a = and_parts (nat_lt mask slots) (callee_formed fs number k (length args) && (args_formed slots args && result_formed slots result)) is in
       let b = and_parts (callee_formed fs number k (length args)) (args_formed slots args && result_formed slots result) a.1 in

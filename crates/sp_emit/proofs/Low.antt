@@ -9,13 +9,13 @@ use Rattle.patmos_instr.specs.declared.functions.StackFunc.TheVariants.{Sres, Se
 use Rattle.patmos_instr.specs.declared.memories.Mem.TheVariants as mem
 use Rattle.patmos_instr.specs.declared.memories.StoreWidth.TheVariants as store
 use Rattle.c_world.specs.declared.region.Region.{Region}
-use Rattle.sp_tree.specs.Formed.{place_formed, expr_formed, callee_formed, args_formed, result_formed, stmt_formed, stmts_formed, stmt_levels, stmts_levels}
+use Rattle.sp_tree.specs.Formed.{target_formed, expr_formed, callee_formed, args_formed, result_formed, stmt_formed, stmts_formed, stmt_levels, stmts_levels}
 use Rattle.sp_tree.specs.Plain.{PlainSp}
-use Rattle.sp_tree.specs.Statements.{PlainPlace, to_slot, to_cell, to_array, PlainStmt, masks, writes, calls, transfers, overruns, turns, PlainStmts, no_stmt, stmt, PlainFunction}
+use Rattle.sp_tree.specs.Statements.{PlainSpTarget, to_slot, to_cell, to_array, PlainStmt, masks, writes, calls, transfers, overruns, turns, PlainStmts, no_stmt, stmt, PlainFunction}
 use Rattle.sp_shape.specs.Bundles.{parts_all}
 use Rattle.sp_shape.specs.Parts.{straight, repeats, PlainParts, one, joined}
 use Rattle.sp_emit.specs.Expressions.{expr_code}
-use Rattle.sp_emit.specs.Statements.{slot_write, cell_write, element_write, place_write, args_code, call_code, send_code, overrun_code, slot_set, turns_begin, turns_tail, stmt_code, stmts_code}
+use Rattle.sp_emit.specs.Statements.{slot_write, cell_write, element_write, target_write, args_code, call_code, send_code, overrun_code, slot_set, turns_begin, turns_tail, stmt_code, stmts_code}
 use Rattle.sp_emit.specs.declared.registers.TheConstants.{FIRST}
 use Rattle.sp_emit.proofs.Passing.{is_low, passes}
 use Rattle.sp_emit.proofs.Quiet.{each_joined, each_lone, each_so, is_quiet, expr_quiet, args_quiet}
@@ -82,10 +82,10 @@ cell_write_low count mask r word = grind arith
 element_write_low : (count mask : ℕ) (r : Region) (first length : ℕ) → AreLow count (element_write mask (record { region = r; first = first; length = length }))
 element_write_low count mask r first length = grind arith
 
-place_low : (count slots mask : ℕ) (place : PlainPlace) → slots ≤ count → place_formed slots place ≡ true → Low count (place_write mask place)
-place_low count slots mask (to_slot slot) le formed = each_lone (passes count) (slot_write mask slot) (slot_write_low count mask slot (omega (arith, le, ltb-true slot slots formed)))
-place_low count slots mask (to_cell cell) le formed = each_lone (passes count) (cell_write mask cell) (cell_write_low count mask cell.region cell.word)
-place_low count slots mask (to_array array index) le formed =
+target_low : (count slots mask : ℕ) (target : PlainSpTarget) → slots ≤ count → target_formed slots target ≡ true → Low count (target_write mask target)
+target_low count slots mask (to_slot slot) le formed = each_lone (passes count) (slot_write mask slot) (slot_write_low count mask slot (omega (arith, le, ltb-true slot slots formed)))
+target_low count slots mask (to_cell cell) le formed = each_lone (passes count) (cell_write mask cell) (cell_write_low count mask cell.region cell.word)
+target_low count slots mask (to_array array index) le formed =
     both count (expr_code index (FIRST + 1)) (one (straight (element_write mask array))) (expr_low count index (FIRST + 1))
     (each_lone (passes count) (element_write mask array) (element_write_low count mask array.region array.first array.length))
 
@@ -104,10 +104,10 @@ mutual
   stmt_low fs number slots frame counter (masks slot e) some levels formed =
       let parts = and_parts (nat_lt slot slots) (expr_formed slots e) formed in
       both (counter + 1) (expr_code e FIRST) (slot_set slot) (expr_low (counter + 1) e FIRST) (slot_low (counter + 1) slot (omega (arith, levels, ltb-true slot slots parts.0)))
-  stmt_low fs number slots frame counter (writes mask place e) some levels formed =
-      let parts = and_parts (nat_lt mask slots) (place_formed slots place && expr_formed slots e) formed in
-      let places = and_parts (place_formed slots place) (expr_formed slots e) parts.1 in
-      both (counter + 1) (expr_code e FIRST) (place_write mask place) (expr_low (counter + 1) e FIRST) (place_low (counter + 1) slots mask place (omega (arith, levels)) places.0)
+  stmt_low fs number slots frame counter (writes mask target e) some levels formed =
+      let parts = and_parts (nat_lt mask slots) (target_formed slots target && expr_formed slots e) formed in
+      let targets = and_parts (target_formed slots target) (expr_formed slots e) parts.1 in
+      both (counter + 1) (expr_code e FIRST) (target_write mask target) (expr_low (counter + 1) e FIRST) (target_low (counter + 1) slots mask target (omega (arith, levels)) targets.0)
   stmt_low fs number slots frame counter (calls mask k args result) some levels formed =
       let a = and_parts (nat_lt mask slots) (callee_formed fs number k (length args) && (args_formed slots args && result_formed slots result)) formed in
       let b = and_parts (callee_formed fs number k (length args)) (args_formed slots args && result_formed slots result) a.1 in

@@ -17,7 +17,7 @@ use Rattle.sp_emit.specs.Holding.{held, Keeps}
 use Rattle.sp_emit.specs.Means.{HasWordConstants, IsReady, Follows, KeepsBehind}
 use Rattle.sp_emit.specs.Expressions.{expr_code}
 use Rattle.sp_emit.specs.Instructions.{always, where_so, compare_short, load_slot, store_slot}
-use Rattle.sp_emit.specs.Statements.{mask_test, slot_set, place_write, stmt_code}
+use Rattle.sp_emit.specs.Statements.{mask_test, slot_set, target_write, stmt_code}
 use Rattle.sp_emit.specs.declared.registers.TheConstants.{FIRST, SPARE, TEST}
 use Rattle.sp_emit.proofs.Calm.{calm_run}
 use Rattle.sp_emit.proofs.Leaving.{did_compare_short, slot_leaves}
@@ -142,7 +142,7 @@ slot_done f frame counter slots mask slot e s m most fits masked named formed co
     let t = tested slots mask s n most masked y in
     let u = run by_words (all_done (mask_test mask)) n in
     let done = slot_where slots (counter + 1) slot FIRST (worth e s) s u (s.frame mask == 1) most named fits (value_small e r) (follows_still t.keeps y) (t.keeps.low FIRST (omega arith) ∙ value_left f e r) t.test in
-    subst (Done slots (counter + 1) (where_on mask (write_done (to_slot slot) e) s) m) (sym (run_joined by_words f (expr_code e FIRST) (place_write mask (to_slot slot)) m)) (record {
+    subst (Done slots (counter + 1) (where_on mask (write_done (to_slot slot) e) s) m) (sym (run_joined by_words f (expr_code e FIRST) (target_write mask (to_slot slot)) m)) (record {
       follows = done.follows;
       keeps = keeps_then (behind_still (counter + 1) keeps) (keeps_then (behind_still (counter + 1) t.keeps) done.keeps);
     })

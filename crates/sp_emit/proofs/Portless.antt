@@ -1,5 +1,5 @@
 -- Code that stores in no register of the interface starts no transfer; and code after other code.
-use Rattle.std.proofs.Common.{◌≡◌, ℕ, ◌<◌, ◌^◌, true≢false, ◌&&◌, Bool, true, false, if◌then◌else◌, List, [], ◌∷◌, ◌++◌, sym}
+use Rattle.std.proofs.Common.{◌≡◌, true≢false, Bool, true, false, if◌then◌else◌, List, [], ◌∷◌, ◌++◌, sym}
 use Rattle.std.specs.List.{list_all}
 use Rattle.std.proofs.lemmas.Bool.{and_parts}
 use Rattle.patmos_instr.specs.Bundles.{Slots}

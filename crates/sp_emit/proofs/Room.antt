@@ -3,11 +3,11 @@ use Rattle.std.proofs.Common.{◌≡◌, ℕ, zero, suc, ◌+◌, ◌-◌, ◌�
 use Rattle.std.specs.Prelude.{nat_lt, nat_le}
 use Rattle.std.proofs.lemmas.Bool.{and_parts, leb-true}
 use Rattle.c_world.specs.declared.region.Region.{Region}
-use Rattle.sp_tree.specs.Cost.{unary_cost, binary_cost, is_held, expr_cost, args_cost, place_cost, stmt_cost, stmts_cost, cost}
+use Rattle.sp_tree.specs.Cost.{unary_cost, binary_cost, is_held, expr_cost, args_cost, target_cost, stmt_cost, stmts_cost, cost}
 use Rattle.sp_tree.specs.Formed as tree
 use Rattle.sp_tree.specs.Need.{need}
 use Rattle.sp_tree.specs.Plain.{PlainSp, constant, frame_word, cell_word, array_word, before_one, between_two}
-use Rattle.sp_tree.specs.Statements.{PlainPlace, to_slot, to_cell, to_array, PlainStmt, masks, writes, calls, transfers, overruns, turns, PlainStmts, no_stmt, stmt, PlainFunction}
+use Rattle.sp_tree.specs.Statements.{PlainSpTarget, to_slot, to_cell, to_array, PlainStmt, masks, writes, calls, transfers, overruns, turns, PlainStmts, no_stmt, stmt, PlainFunction}
 use Rattle.sp_tree.specs.declared.operators.SpBinary.{SpBinary}
 use Rattle.sp_tree.specs.declared.operators.SpUnary.{SpUnary}
 use Rattle.sp_shape.specs.Words.{bundles_room, parts_room}
@@ -15,7 +15,7 @@ use Rattle.sp_shape.specs.Parts.{straight, PlainParts, no_part, part, one, joine
 use Rattle.sp_shape.proofs.Lists.{room_append}
 use Rattle.sp_emit.specs.Expressions.{unary_code, binary_code, held_code, element_code, number_of, expr_code}
 use Rattle.sp_emit.specs.Functions.{argument_kept, first_counter, arguments_kept, state_kept, function_rest, function_code}
-use Rattle.sp_emit.specs.Statements.{cell_write, element_write, place_write, args_code, call_code, send_code, overrun_code, slot_set, stmt_code, stmts_code}
+use Rattle.sp_emit.specs.Statements.{cell_write, element_write, target_write, args_code, call_code, send_code, overrun_code, slot_set, stmt_code, stmts_code}
 
 room_both : (a b : PlainParts) → parts_room (joined a b) ≡ parts_room a + parts_room b
 room_both no_part b = omega arith
@@ -76,10 +76,10 @@ cell_room mask r word = grind arith
 element_room : (mask : ℕ) (r : Region) (first length : ℕ) → bundles_room (element_write mask (record { region = r; first = first; length = length })) ≤ 12
 element_room mask r first length = grind arith
 
-place_room : (mask : ℕ) (place : PlainPlace) → parts_room (place_write mask place) ≤ place_cost place
-place_room mask (to_slot slot) = omega arith
-place_room mask (to_cell cell) = omega (arith, cell_room mask cell.region cell.word)
-place_room mask (to_array array index) =
+target_room : (mask : ℕ) (target : PlainSpTarget) → parts_room (target_write mask target) ≤ target_cost target
+target_room mask (to_slot slot) = omega arith
+target_room mask (to_cell cell) = omega (arith, cell_room mask cell.region cell.word)
+target_room mask (to_array array index) =
     omega (arith, room_both (expr_code index 4) (one (straight (element_write mask array))), expr_room index 4, element_room mask array.region array.first array.length)
 
 call_room : (frame mask k : ℕ) (result : Option ℕ) → parts_room (call_code frame mask k result) ≤ 12
@@ -89,7 +89,7 @@ call_room frame mask k (Some slot) = omega arith
 mutual
   stmt_room : (frame counter : ℕ) (t : PlainStmt) → parts_room (stmt_code frame counter t) ≤ stmt_cost t
   stmt_room frame counter (masks slot e) = omega (arith, room_both (expr_code e 3) (slot_set slot), expr_room e 3)
-  stmt_room frame counter (writes mask place e) = omega (arith, room_both (expr_code e 3) (place_write mask place), expr_room e 3, place_room mask place)
+  stmt_room frame counter (writes mask target e) = omega (arith, room_both (expr_code e 3) (target_write mask target), expr_room e 3, target_room mask target)
   stmt_room frame counter (calls mask k args result) =
       omega (arith, room_both (args_code args 3) (call_code frame mask k result), args_room args 3, call_room frame mask k result)
   stmt_room frame counter (transfers mask core source target count) =

@@ -1,9 +1,9 @@
 -- The code of statements leaves the run where their meaning leaves the state, where the code of calls does.
 use Rattle.std.proofs.Common.{◌≡◌, ℕ, ◌+◌, ◌-◌, ◌<◌, ◌≤◌, true, ◌&&◌, List, Option, refl, sym, subst, arith, nat_lt}
 use Rattle.std.proofs.lemmas.Bool.{and_parts, ltb-true}
-use Rattle.sp_tree.specs.Formed.{send_formed, place_formed, array_formed, expr_formed, stmt_formed, stmts_formed, stmt_levels, stmts_levels}
+use Rattle.sp_tree.specs.Formed.{send_formed, target_formed, array_formed, expr_formed, stmt_formed, stmts_formed, stmt_levels, stmts_levels}
 use Rattle.sp_tree.specs.Plain.{PlainSp}
-use Rattle.sp_tree.specs.Statements.{PlainPlace, to_slot, to_cell, to_array, PlainStmt, masks, writes, calls, transfers, overruns, turns, PlainStmts, no_stmt, stmt, PlainFunction}
+use Rattle.sp_tree.specs.Statements.{PlainSpTarget, to_slot, to_cell, to_array, PlainStmt, masks, writes, calls, transfers, overruns, turns, PlainStmts, no_stmt, stmt, PlainFunction}
 use Rattle.sp_tree.specs.Straight.{State, Serves, stmt_done, stmts_done}
 use Rattle.sp_shape.specs.Run.{Run, by_words, run}
 use Rattle.sp_shape.specs.Trail.{Step, parts_trail}
@@ -11,7 +11,7 @@ use Rattle.sp_emit.specs.Means.{Follows, KeepsBehind, HasStmtConstants, HasStmts
 use Rattle.sp_emit.specs.Statements.{stmt_code, stmts_code}
 use Rattle.sp_emit.proofs.Masks.{Done, mask_done, slot_done}
 use Rattle.sp_emit.proofs.Overruns.{overrun_is_done}
-use Rattle.sp_emit.proofs.PlaceWrites.{cell_done, element_done}
+use Rattle.sp_emit.proofs.TargetWrites.{cell_done, element_done}
 use Rattle.sp_emit.proofs.Sends.{send_done}
 use Rattle.sp_emit.proofs.Turns.{done_then, turns_done}
 use Rattle.sp_emit.proofs.Values.{run_joined}
@@ -28,8 +28,8 @@ pub record CallsRun (f : ℕ → List Step) (g : Serves) (fs : List PlainFunctio
 fewer_kept : {count more : ℕ} {m t : Run} → count ≤ more → KeepsBehind count m t → KeepsBehind more m t
 fewer_kept le k = record { st = k.st; stack = λ a above. k.stack a (omega (arith, above, le)) }
 
-write_run : (f : ℕ → List Step) (g : Serves) (frame counter slots low mask : ℕ) (place : PlainPlace) (e : PlainSp) → slots ≤ 128 → slots ≤ counter + 1 → mask < slots → place_formed slots place ≡ true → expr_formed slots e ≡ true → HasStmtConstants (writes mask place e)
-    → Runs f g frame counter slots low (writes mask place e)
+write_run : (f : ℕ → List Step) (g : Serves) (frame counter slots low mask : ℕ) (target : PlainSpTarget) (e : PlainSp) → slots ≤ 128 → slots ≤ counter + 1 → mask < slots → target_formed slots target ≡ true → expr_formed slots e ≡ true → HasStmtConstants (writes mask target e)
+    → Runs f g frame counter slots low (writes mask target e)
 write_run f g frame counter slots low mask (to_slot slot) e most fits masked placed formed constants s m enough x = slot_done f frame counter slots mask slot e s m most fits masked (ltb-true slot slots placed) formed constants.1 x
 write_run f g frame counter slots low mask (to_cell cell) e most fits masked placed formed constants s m enough x = cell_done f frame counter slots mask cell e s m most masked placed formed constants.1 x
 write_run f g frame counter slots low mask (to_array array index) e most fits masked placed formed constants s m enough x =
@@ -42,10 +42,10 @@ mutual
   stmt_runs f g fs number frame slots counter low others most few within (masks slot e) levels formed constants s m enough x =
       let parts = and_parts (nat_lt slot slots) (expr_formed slots e) formed in
       mask_done f frame counter slots slot e s m most (omega (arith, levels)) (ltb-true slot slots parts.0) parts.1 constants x
-  stmt_runs f g fs number frame slots counter low others most few within (writes mask place e) levels formed constants s m enough x =
-      let parts = and_parts (nat_lt mask slots) (place_formed slots place && expr_formed slots e) formed in
-      let places = and_parts (place_formed slots place) (expr_formed slots e) parts.1 in
-      write_run f g frame counter slots low mask place e most (omega (arith, levels)) (ltb-true mask slots parts.0) places.0 places.1 constants s m enough x
+  stmt_runs f g fs number frame slots counter low others most few within (writes mask target e) levels formed constants s m enough x =
+      let parts = and_parts (nat_lt mask slots) (target_formed slots target && expr_formed slots e) formed in
+      let targets = and_parts (target_formed slots target) (expr_formed slots e) parts.1 in
+      write_run f g frame counter slots low mask target e most (omega (arith, levels)) (ltb-true mask slots parts.0) targets.0 targets.1 constants s m enough x
   stmt_runs f g fs number frame slots counter low others most few within (calls mask k args result) levels formed constants s m enough x = others.calls counter mask k args result (omega (arith, levels)) within formed constants s m enough x
   stmt_runs f g fs number frame slots counter low others most few within (transfers mask core source target count) levels formed constants s m enough x =
       let parts = and_parts (nat_lt mask slots) (send_formed slots core source target count) formed in

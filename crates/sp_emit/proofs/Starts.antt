@@ -1,22 +1,17 @@
 -- The code of a send starts a transfer only where the registers that it has set allow it, whatever loads give.
-use Rattle.std.proofs.Common.{◌≡◌, ℕ, ◌+◌, ◌*◌, ◌%◌, ◌<◌, ◌^◌, true≢false, ◌&&◌, Bool, true, false, if◌then◌else◌, Some, List, [], ◌∷◌, ◌++◌, refl, sym, ap, ◌∙◌, subst, arith}
-use Rattle.std.specs.List.{list_all}
+use Rattle.std.proofs.Common.{◌≡◌, ℕ, ◌+◌, ◌*◌, ◌%◌, ◌<◌, ◌^◌, ◌&&◌, Bool, true, false, if◌then◌else◌, Some, [], ◌∷◌, ◌++◌, refl, sym, ap, ◌∙◌, subst, arith}
 use Rattle.std.proofs.lemmas.Bool.{and_parts}
-use Rattle.patmos_instr.specs.Bundles.{Slots}
-use Rattle.patmos_instr.specs.declared.instructions.Op.{Op}
-use Rattle.shared_order.specs.Words.{put}
 use Rattle.c_world.specs.World.{may_start}
 use Rattle.local_store.specs.declared.map.Cell.TheVariants as cell
 use Rattle.patmos_instr.specs.declared.instructions.Op.TheVariants.{Store}
 use Rattle.patmos_instr.specs.declared.memories.Mem.TheVariants as mem
 use Rattle.patmos_instr.specs.declared.memories.StoreWidth.TheVariants as store
 use Rattle.patmos_sem.specs.Bundles.{effect_of}
-use Rattle.patmos_sem.specs.Effects.{asked, address_of as address_by}
-use Rattle.patmos_sem.specs.Registers.{Registers, holds}
+use Rattle.patmos_sem.specs.Effects.{address_of as address_by}
 use Rattle.patmos_sem.specs.declared.effects.Effect.TheVariants as effect
 use Rattle.sp_shape.specs.Memory.{Memory, cell_of, with_port, with_word as cell_set}
-use Rattle.sp_shape.specs.Run.{Run, Sources, once, run, begun, IsWhole}
-use Rattle.sp_shape.specs.Trail.{Step, does, begins, all_done}
+use Rattle.sp_shape.specs.Run.{Run, Sources, once, run, IsWhole}
+use Rattle.sp_shape.specs.Trail.{does, all_done}
 use Rattle.sp_emit.specs.Holding.{held}
 use Rattle.sp_emit.specs.Instructions.{where_so, store_to, set_long}
 use Rattle.sp_emit.specs.Starting.{StartsAt, StartsWell, AllStart}

@@ -6,13 +6,13 @@ use Rattle.std.proofs.lemmas.Bool.{and_from}
 use Rattle.patmos_instr.specs.Bundles.{Slots}
 use Rattle.c_world.specs.declared.region.Region.{Region}
 use Rattle.sp_tree.specs.Plain.{PlainSp}
-use Rattle.sp_tree.specs.Statements.{PlainPlace, to_slot, to_cell, to_array, PlainStmt, masks, writes, calls, transfers, overruns, turns, PlainStmts, no_stmt, stmt, PlainFunction}
+use Rattle.sp_tree.specs.Statements.{PlainSpTarget, to_slot, to_cell, to_array, PlainStmt, masks, writes, calls, transfers, overruns, turns, PlainStmts, no_stmt, stmt, PlainFunction}
 use Rattle.sp_shape.specs.Bundles.{is_steady, parts_all}
 use Rattle.sp_shape.specs.Parts.{straight, PlainParts, one, joined}
 use Rattle.sp_shape.proofs.Lists.{all_append}
 use Rattle.sp_emit.specs.Expressions.{expr_code}
 use Rattle.sp_emit.specs.Functions.{argument_kept, first_counter, arguments_kept, state_kept, function_begin, function_rest, function_code}
-use Rattle.sp_emit.specs.Statements.{cell_write, element_write, place_write, args_code, call_code, send_code, overrun_code, slot_set, stmt_code, stmts_code}
+use Rattle.sp_emit.specs.Statements.{cell_write, element_write, target_write, args_code, call_code, send_code, overrun_code, slot_set, stmt_code, stmts_code}
 use Rattle.sp_emit.proofs.Quiet.{each_joined, each_lone, each_so, is_quiet, expr_quiet, args_quiet}
 
 abbrev Steady : PlainParts → Type 0
@@ -43,10 +43,10 @@ cell_write_steady mask r word = grind arith
 element_write_steady : (mask : ℕ) (r : Region) (first length : ℕ) → AreSteady (element_write mask (record { region = r; first = first; length = length }))
 element_write_steady mask r first length = grind arith
 
-place_steady : (mask : ℕ) (place : PlainPlace) → Steady (place_write mask place)
-place_steady mask (to_slot slot) = refl
-place_steady mask (to_cell cell) = each_lone is_steady (cell_write mask cell) (cell_write_steady mask cell.region cell.word)
-place_steady mask (to_array array index) = both (expr_code index 4) (one (straight (element_write mask array))) (expr_steady index 4)
+target_steady : (mask : ℕ) (target : PlainSpTarget) → Steady (target_write mask target)
+target_steady mask (to_slot slot) = refl
+target_steady mask (to_cell cell) = each_lone is_steady (cell_write mask cell) (cell_write_steady mask cell.region cell.word)
+target_steady mask (to_array array index) = both (expr_code index 4) (one (straight (element_write mask array))) (expr_steady index 4)
     (each_lone is_steady (element_write mask array) (element_write_steady mask array.region array.first array.length))
 
 call_steady : (frame mask k : ℕ) (result : Option ℕ) → Steady (call_code frame mask k result)
@@ -56,7 +56,7 @@ call_steady frame mask k (Some slot) = refl
 mutual
   stmt_steady : (frame counter : ℕ) (t : PlainStmt) → Steady (stmt_code frame counter t)
   stmt_steady frame counter (masks slot e) = both (expr_code e 3) (slot_set slot) (expr_steady e 3) refl
-  stmt_steady frame counter (writes mask place e) = both (expr_code e 3) (place_write mask place) (expr_steady e 3) (place_steady mask place)
+  stmt_steady frame counter (writes mask target e) = both (expr_code e 3) (target_write mask target) (expr_steady e 3) (target_steady mask target)
   stmt_steady frame counter (calls mask k args result) = both (args_code args 3) (call_code frame mask k result) (args_steady args 3) (call_steady frame mask k result)
   stmt_steady frame counter (transfers mask core source target count) =
       let sent = one (straight (send_code mask core)) in

@@ -38,7 +38,7 @@ use Rattle.sp_emit.proofs.Aligned.{stored_aligned}
 use Rattle.sp_emit.proofs.Cells.{cell_in, cell_found, element_found, element_address, few_words, first_small}
 use Rattle.sp_emit.proofs.Leaving.{did_set_short, constant_leaves}
 use Rattle.sp_emit.proofs.Once.{so, with_written, did_nothing, whole_written, got}
-use Rattle.sp_emit.proofs.PlaceWrites.{element_address_made, reaches}
+use Rattle.sp_emit.proofs.TargetWrites.{element_address_made, reaches}
 use Rattle.sp_emit.proofs.Portless.{portless_start, start_append}
 use Rattle.sp_emit.proofs.Starts.{send_starts}
 use Rattle.sp_emit.proofs.Storing.{with_store, did_store}

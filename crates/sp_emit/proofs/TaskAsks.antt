@@ -6,10 +6,10 @@ use Rattle.std.proofs.lemmas.Bool.{cases_lt, and_parts, ltb-true, eqb-true, eqb-
 use Rattle.std.proofs.lemmas.List.{get_or-map, length-map}
 use Rattle.patmos_instr.specs.Bundles.{Slots}
 use Rattle.sp_tree.proofs.Forms.{earlier_one}
-use Rattle.sp_tree.specs.Formed.{send_formed, place_formed, array_formed, expr_formed, callee_formed, args_formed, result_formed, stmt_formed, stmts_formed, function_formed, functions_formed, entry_formed, is_formed, slots_of}
+use Rattle.sp_tree.specs.Formed.{send_formed, target_formed, array_formed, expr_formed, callee_formed, args_formed, result_formed, stmt_formed, stmts_formed, function_formed, functions_formed, entry_formed, is_formed, slots_of}
 use Rattle.sp_tree.specs.Plain.{PlainSp}
-use Rattle.sp_tree.specs.Statements.{PlainPlace, to_slot, to_cell, to_array, PlainStmt, masks, writes, calls, transfers, overruns, turns, PlainStmts, no_stmt, stmt, PlainFunction, no_function, PlainUnit}
-use Rattle.sp_tree.specs.Uses.{Use, expr_uses, args_uses, place_uses, stmt_uses, stmts_uses, functions_uses, uses_of}
+use Rattle.sp_tree.specs.Statements.{PlainSpTarget, to_slot, to_cell, to_array, PlainStmt, masks, writes, calls, transfers, overruns, turns, PlainStmts, no_stmt, stmt, PlainFunction, no_function, PlainUnit}
+use Rattle.sp_tree.specs.Uses.{Use, expr_uses, args_uses, target_uses, stmt_uses, stmts_uses, functions_uses, uses_of}
 use Rattle.sp_shape.specs.Bundles.{parts_all}
 use Rattle.sp_shape.specs.Parts.{straight, no_part, one, joined}
 use Rattle.sp_shape.specs.Trail.{Step, all_done, parts_trail, trails, trail}
@@ -17,7 +17,7 @@ use Rattle.sp_shape.proofs.Lists.{all_append}
 use Rattle.sp_emit.specs.Accesses.{AsksOnly}
 use Rattle.sp_emit.specs.Expressions.{expr_code}
 use Rattle.sp_emit.specs.Functions.{arguments_kept, argument_kept, state_kept, first_counter, function_begin, function_end, function_rest, function_code, return_tail, emitted}
-use Rattle.sp_emit.specs.Statements.{slot_write, cell_write, element_write, place_write, args_code, call_code, send_code, overrun_code, slot_set, turns_begin, turns_tail, stmt_code, stmts_code}
+use Rattle.sp_emit.specs.Statements.{slot_write, cell_write, element_write, target_write, args_code, call_code, send_code, overrun_code, slot_set, turns_begin, turns_tail, stmt_code, stmts_code}
 use Rattle.sp_emit.specs.Instructions.{always, store_slot}
 use Rattle.sp_emit.specs.declared.registers.TheConstants.{FIRST}
 use Rattle.sp_emit.proofs.Accessing.{asks_append, asks_nothing, asks_copies, is_near, near_asks, near_parts}
@@ -43,10 +43,10 @@ args_ask Named f slots (e ∷ args) rd most some few formed named =
 near_lone : (Named : Use → Type 0) (f : ℕ → List Step) (bs : List Slots) → list_all is_near bs ≡ true → AsksOnly Named (parts_trail f (one (straight bs)))
 near_lone Named f bs near = asks_lone f bs (near_asks Named bs near)
 
-place_asks : (Named : Use → Type 0) (f : ℕ → List Step) (slots mask : ℕ) (place : PlainPlace) → slots ≤ 128 → place_formed slots place ≡ true → AreNamed Named (place_uses place) → AsksOnly Named (parts_trail f (place_write mask place))
-place_asks Named f slots mask (to_slot slot) most formed named = near_lone Named f (slot_write mask slot) refl
-place_asks Named f slots mask (to_cell cell) most formed named = asks_lone f (cell_write mask cell) (cell_write_asks Named mask cell formed named.0)
-place_asks Named f slots mask (to_array array index) most formed named =
+target_asks : (Named : Use → Type 0) (f : ℕ → List Step) (slots mask : ℕ) (target : PlainSpTarget) → slots ≤ 128 → target_formed slots target ≡ true → AreNamed Named (target_uses target) → AsksOnly Named (parts_trail f (target_write mask target))
+target_asks Named f slots mask (to_slot slot) most formed named = near_lone Named f (slot_write mask slot) refl
+target_asks Named f slots mask (to_cell cell) most formed named = asks_lone f (cell_write mask cell) (cell_write_asks Named mask cell formed named.0)
+target_asks Named f slots mask (to_array array index) most formed named =
     let parts = and_parts (array_formed array) (expr_formed slots index) formed in
     asks_joined f (expr_code index (FIRST + 1)) (one (straight (element_write mask array))) (value_asks Named f slots (FIRST + 1) index most (omega arith) (omega arith) parts.1 named.1)
     (asks_lone f (element_write mask array) (element_write_asks Named mask array parts.0 named.0))
@@ -63,11 +63,11 @@ mutual
   stmt_asks Named f fs number slots frame counter called earlier most (masks slot e) formed named =
       let parts = and_parts (nat_lt slot slots) (expr_formed slots e) formed in
       asks_joined f (expr_code e FIRST) (slot_set slot) (value_asks Named f slots FIRST e most (omega arith) (omega arith) parts.1 named) (near_lone Named f (store_slot always slot FIRST ∷ []) refl)
-  stmt_asks Named f fs number slots frame counter called earlier most (writes mask place e) formed named =
-      let parts = and_parts (nat_lt mask slots) (place_formed slots place && expr_formed slots e) formed in
-      let places = and_parts (place_formed slots place) (expr_formed slots e) parts.1 in
-      asks_joined f (expr_code e FIRST) (place_write mask place) (value_asks Named f slots FIRST e most (omega arith) (omega arith) places.1 (named_right Named (place_uses place) (expr_uses e) named))
-      (place_asks Named f slots mask place most places.0 (named_left Named (place_uses place) (expr_uses e) named))
+  stmt_asks Named f fs number slots frame counter called earlier most (writes mask target e) formed named =
+      let parts = and_parts (nat_lt mask slots) (target_formed slots target && expr_formed slots e) formed in
+      let targets = and_parts (target_formed slots target) (expr_formed slots e) parts.1 in
+      asks_joined f (expr_code e FIRST) (target_write mask target) (value_asks Named f slots FIRST e most (omega arith) (omega arith) targets.1 (named_right Named (target_uses target) (expr_uses e) named))
+      (target_asks Named f slots mask target most targets.0 (named_left Named (target_uses target) (expr_uses e) named))
   stmt_asks Named f fs number slots frame counter called earlier most (calls mask k args result) formed named =
       let a = and_parts (nat_lt mask slots) (callee_formed fs number k (length args) && (args_formed slots args && result_formed slots result)) formed in
       let b = and_parts (callee_formed fs number k (length args)) (args_formed slots args && result_formed slots result) a.1 in

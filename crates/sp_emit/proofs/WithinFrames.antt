@@ -8,10 +8,10 @@ use Rattle.patmos_instr.specs.declared.functions.StackFunc.TheVariants.{Sens}
 use Rattle.patmos_sem.specs.declared.effects.Effect.TheVariants as effect
 use Rattle.c_world.specs.declared.region.Region.{Region}
 use Rattle.sp_tree.specs.Cost.{is_held}
-use Rattle.sp_tree.specs.Formed.{names_words, array_formed, send_formed, place_formed, expr_formed, callee_formed, args_formed, result_formed, stmt_formed, stmts_formed, stmt_levels, stmts_levels}
+use Rattle.sp_tree.specs.Formed.{names_words, array_formed, send_formed, target_formed, expr_formed, callee_formed, args_formed, result_formed, stmt_formed, stmts_formed, stmt_levels, stmts_levels}
 use Rattle.sp_tree.specs.Need.{need}
 use Rattle.sp_tree.specs.Plain.{PlainSp, constant, frame_word, cell_word, array_word, before_one, between_two}
-use Rattle.sp_tree.specs.Statements.{PlainPlace, to_slot, to_cell, to_array, PlainStmt, masks, writes, calls, transfers, overruns, turns, PlainStmts, no_stmt, stmt, PlainFunction, no_function}
+use Rattle.sp_tree.specs.Statements.{PlainSpTarget, to_slot, to_cell, to_array, PlainStmt, masks, writes, calls, transfers, overruns, turns, PlainStmts, no_stmt, stmt, PlainFunction, no_function}
 use Rattle.sp_tree.specs.declared.operators.SpBinary.{SpBinary}
 use Rattle.sp_tree.specs.declared.operators.SpUnary.{SpUnary}
 use Rattle.sp_shape.proofs.Whole.{begun_whole, run_append}
@@ -23,7 +23,7 @@ use Rattle.sp_shape.specs.Trail.{Step, all_done, copies, part_trail, parts_trail
 use Rattle.sp_emit.specs.Chains.{stmt_chain, stmts_chain}
 use Rattle.sp_emit.specs.Expressions.{unary_code, binary_code, held_code, cell_code, element_code, number_of, expr_code}
 use Rattle.sp_emit.specs.Instructions.{always, stack_op, store_slot}
-use Rattle.sp_emit.specs.Statements.{slot_write, cell_write, element_write, place_write, args_code, mask_handed, call_tail, result_write, call_code, send_code, overrun_code, slot_set, turns_begin, turns_tail, stmt_code, stmts_code}
+use Rattle.sp_emit.specs.Statements.{slot_write, cell_write, element_write, target_write, args_code, mask_handed, call_tail, result_write, call_code, send_code, overrun_code, slot_set, turns_begin, turns_tail, stmt_code, stmts_code}
 use Rattle.sp_emit.specs.declared.registers.TheConstants.{FIRST}
 use Rattle.sp_emit.proofs.Arguments.{did_stack}
 use Rattle.sp_emit.proofs.Calling.{call_run}
@@ -135,12 +135,12 @@ cell_write_inside frame mask r word masked = grind (arith, masked)
 element_write_inside : (frame mask : ℕ) (r : Region) (first length : ℕ) → nat_lt mask frame ≡ true → AreInside frame (element_write mask (record { region = r; first = first; length = length }))
 element_write_inside frame mask r first length masked = grind (arith, masked)
 
-place_stays : (from : Sources) (f : ℕ → List Step) (frame slots mask : ℕ) (place : PlainPlace) → slots ≤ frame → mask < slots → place_formed slots place ≡ true → StaysIn from frame (parts_trail f (place_write mask place))
-place_stays from f frame slots mask (to_slot slot) le masked is =
+target_stays : (from : Sources) (f : ℕ → List Step) (frame slots mask : ℕ) (target : PlainSpTarget) → slots ≤ frame → mask < slots → target_formed slots target ≡ true → StaysIn from frame (parts_trail f (target_write mask target))
+target_stays from f frame slots mask (to_slot slot) le masked is =
     bundles_stay from f frame (slot_write mask slot) (rw (lt-ltb mask frame (omega (arith, le, masked)), lt-ltb slot frame (omega (arith, le, ltb-true slot slots is))) refl)
-place_stays from f frame slots mask (to_cell cell) le masked is =
+target_stays from f frame slots mask (to_cell cell) le masked is =
     bundles_stay from f frame (cell_write mask cell) (cell_write_inside frame mask cell.region cell.word (lt-ltb mask frame (omega (arith, le, masked))))
-place_stays from f frame slots mask (to_array array index) le masked is =
+target_stays from f frame slots mask (to_array array index) le masked is =
     stay_joined from f frame (expr_code index (FIRST + 1)) (one (straight (element_write mask array))) (value_stays from f frame slots index (FIRST + 1) le (and_parts (array_formed array) (expr_formed slots index) is).1)
     (bundles_stay from f frame (element_write mask array) (element_write_inside frame mask array.region array.first array.length (lt-ltb mask frame (omega (arith, le, masked)))))
 
@@ -205,11 +205,11 @@ mutual
       let parts = and_parts (nat_lt slot slots) (expr_formed slots e) is in
       stay_joined from f frame (expr_code e FIRST) (slot_set slot) (value_stays from f frame slots e FIRST (omega (arith, levels, within)) parts.1)
       (bundles_stay from f frame (store_slot always slot FIRST ∷ []) (rw (lt-ltb slot frame (omega (arith, levels, within, ltb-true slot slots parts.0))) refl)) m framed
-  stmt_stays from f g fs number slots frame counter callees some within (writes mask place e) levels is m framed enough =
-      let parts = and_parts (nat_lt mask slots) (place_formed slots place && expr_formed slots e) is in
-      let places = and_parts (place_formed slots place) (expr_formed slots e) parts.1 in
-      stay_joined from f frame (expr_code e FIRST) (place_write mask place) (value_stays from f frame slots e FIRST (omega (arith, levels, within)) places.1)
-      (place_stays from f frame slots mask place (omega (arith, levels, within)) (ltb-true mask slots parts.0) places.0) m framed
+  stmt_stays from f g fs number slots frame counter callees some within (writes mask target e) levels is m framed enough =
+      let parts = and_parts (nat_lt mask slots) (target_formed slots target && expr_formed slots e) is in
+      let targets = and_parts (target_formed slots target) (expr_formed slots e) parts.1 in
+      stay_joined from f frame (expr_code e FIRST) (target_write mask target) (value_stays from f frame slots e FIRST (omega (arith, levels, within)) targets.1)
+      (target_stays from f frame slots mask target (omega (arith, levels, within)) (ltb-true mask slots parts.0) targets.0) m framed
   stmt_stays from f g fs number slots frame counter callees some within (calls mask k args result) levels is m framed enough =
       let a = and_parts (nat_lt mask slots) (callee_formed fs number k (length args) && (args_formed slots args && result_formed slots result)) is in
       let b = and_parts (callee_formed fs number k (length args)) (args_formed slots args && result_formed slots result) a.1 in

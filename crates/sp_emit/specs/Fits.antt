@@ -1,10 +1,10 @@
 -- To be believed. What fits a frame: statements are well formed over its first words, and from after these up to the
 -- next counter of turns there is a word for each level of them.
 use Rattle.std.specs.Prelude.{◌≡◌, ℕ, ◌+◌, ◌≤◌, nat_lt, true, List, length}
-use Rattle.sp_tree.specs.Formed.{names_words, args_formed, place_formed, stmt_formed, stmts_formed, function_formed, functions_formed, stmt_levels, stmts_levels}
+use Rattle.sp_tree.specs.Formed.{names_words, args_formed, target_formed, stmt_formed, stmts_formed, function_formed, functions_formed, stmt_levels, stmts_levels}
 use Rattle.sp_tree.specs.Need.{need}
 use Rattle.sp_tree.specs.Plain.{PlainSp}
-use Rattle.sp_tree.specs.Statements.{PlainPlace, PlainStmt, PlainStmts, PlainFunction}
+use Rattle.sp_tree.specs.Statements.{PlainSpTarget, PlainStmt, PlainStmts, PlainFunction}
 
 -- an expression names words that the offset of an access can hold, and has registers from one on
 pub record ExprFits (e : PlainSp) (rd : ℕ) : Type 0 where
@@ -13,18 +13,18 @@ pub record ExprFits (e : PlainSp) (rd : ℕ) : Type 0 where
   pub names : names_words slots e ≡ true
   pub registers : rd + need e ≤ 21
 
--- so do arguments one after another, and a place that is set
+-- so do arguments one after another, and a target that is set
 pub record ArgsFit (args : List PlainSp) (rd : ℕ) : Type 0 where
   pub slots : ℕ
   pub most : slots ≤ 128
   pub formed : args_formed slots args ≡ true
   pub registers : rd + length args + 11 ≤ 21
 
-pub record PlaceFits (mask : ℕ) (place : PlainPlace) : Type 0 where
+pub record TargetFits (mask : ℕ) (target : PlainSpTarget) : Type 0 where
   pub slots : ℕ
   pub most : slots ≤ 128
   pub masked : nat_lt mask slots ≡ true
-  pub formed : place_formed slots place ≡ true
+  pub formed : target_formed slots target ≡ true
 
 pub record StmtFits (frame counter : ℕ) (t : PlainStmt) : Type 0 where
   pub functions : List PlainFunction

@@ -6,7 +6,7 @@ use Rattle.c_world.specs.World.{World, Sending}
 use Rattle.sp_tree.specs.Formed.{names_words}
 use Rattle.sp_tree.specs.Need.{need}
 use Rattle.sp_tree.specs.Plain.{PlainSp, constant, frame_word, cell_word, array_word, before_one, between_two}
-use Rattle.sp_tree.specs.Statements.{PlainPlace, to_slot, to_cell, to_array, PlainStmt, masks, writes, calls, transfers, overruns, turns, PlainStmts, no_stmt, stmt, PlainFunction, no_function}
+use Rattle.sp_tree.specs.Statements.{PlainSpTarget, to_slot, to_cell, to_array, PlainStmt, masks, writes, calls, transfers, overruns, turns, PlainStmts, no_stmt, stmt, PlainFunction, no_function}
 use Rattle.sp_tree.specs.Straight.{State}
 use Rattle.sp_shape.specs.Memory.{Memory, Start}
 use Rattle.sp_shape.specs.Run.{Run, IsWhole}
@@ -75,10 +75,10 @@ pub record KeepsBehind (count : ℕ) (m t : Run) : Type 0 where
   pub stack : (a : ℕ) → m.st + count ≤ a → t.stack a ≡ m.stack a
 
 -- the constants of statements are words
-abbrev pub HasPlaceConstants : PlainPlace → Type 0
-HasPlaceConstants (to_slot slot) = Unit {0}
-HasPlaceConstants (to_cell cell) = Unit {0}
-HasPlaceConstants (to_array array index) = HasWordConstants index
+abbrev pub HasTargetConstants : PlainSpTarget → Type 0
+HasTargetConstants (to_slot slot) = Unit {0}
+HasTargetConstants (to_cell cell) = Unit {0}
+HasTargetConstants (to_array array index) = HasWordConstants index
 
 abbrev pub HasArgsConstants : List PlainSp → Type 0
 HasArgsConstants [] = Unit {0}
@@ -87,7 +87,7 @@ HasArgsConstants (e ∷ args) = HasWordConstants e × HasArgsConstants args
 abbrev mutual
   pub HasStmtConstants : PlainStmt → Type 0
   HasStmtConstants (masks slot e) = HasWordConstants e
-  HasStmtConstants (writes mask place e) = HasPlaceConstants place × HasWordConstants e
+  HasStmtConstants (writes mask target e) = HasTargetConstants target × HasWordConstants e
   HasStmtConstants (calls mask k args result) = HasArgsConstants args
   HasStmtConstants (transfers mask core source target count) =
       HasWordConstants source × HasWordConstants target × HasWordConstants count

@@ -11,7 +11,7 @@ use Rattle.patmos_instr.specs.declared.functions.StackFunc.TheVariants.{Sens}
 use Rattle.patmos_instr.specs.declared.memories.Mem.{Mem}
 use Rattle.patmos_instr.specs.declared.memories.Mem.TheVariants as mem
 use Rattle.sp_tree.specs.Plain.{PlainSp}
-use Rattle.sp_tree.specs.Statements.{PlainPlace, to_slot, to_cell, to_array, PlainStmt, masks, writes, calls, transfers, overruns, turns, PlainStmts, no_stmt, stmt}
+use Rattle.sp_tree.specs.Statements.{PlainSpTarget, to_slot, to_cell, to_array, PlainStmt, masks, writes, calls, transfers, overruns, turns, PlainStmts, no_stmt, stmt}
 use Rattle.sp_tree.specs.declared.expressions.SpArray.{SpArray}
 use Rattle.sp_tree.specs.declared.expressions.SpCell.{SpCell}
 use Rattle.sp_shape.specs.Parts.{PlainPart, straight, repeats, calls_to, PlainParts, no_part, one, joined}
@@ -49,10 +49,10 @@ element_write mask a =
     ∷ compute always alu.Shadd2 (FIRST + 1) (FIRST + 1) SPARE
     ∷ masked_store (array_space a.region) (FIRST + 1)
 
-abbrev pub place_write : ℕ → PlainPlace → PlainParts
-place_write mask (to_slot slot) = one (straight (slot_write mask slot))
-place_write mask (to_cell cell) = one (straight (cell_write mask cell))
-place_write mask (to_array array index) =
+abbrev pub target_write : ℕ → PlainSpTarget → PlainParts
+target_write mask (to_slot slot) = one (straight (slot_write mask slot))
+target_write mask (to_cell cell) = one (straight (cell_write mask cell))
+target_write mask (to_array array index) =
     joined (expr_code index (FIRST + 1)) (one (straight (element_write mask array)))
 
 -- ---- calls
@@ -147,7 +147,7 @@ slot_set slot = one (straight (store_slot always slot FIRST ∷ []))
 abbrev mutual
   pub stmt_code : ℕ → ℕ → PlainStmt → PlainParts
   stmt_code frame counter (masks slot e) = joined (expr_code e FIRST) (slot_set slot)
-  stmt_code frame counter (writes mask place e) = joined (expr_code e FIRST) (place_write mask place)
+  stmt_code frame counter (writes mask target e) = joined (expr_code e FIRST) (target_write mask target)
   stmt_code frame counter (calls mask k args result) = joined (args_code args FIRST) (call_code frame mask k result)
   stmt_code frame counter (transfers mask core source target count) =
       joined (expr_code source FIRST)

@@ -166,7 +166,8 @@ pub fn emit(alloc: Global, unit: &SpUnit) -> Result<Shape, OutOfMemory>
         → HasConstants (plain_unit unit.now).functions → HoldsWords (begun (plain_unit unit.now) input shared comm)
         → Answers (task_straight (plain_unit unit.now) input shared comm)
         (at_begin (begun_memory (plain_unit unit.now) input shared comm) [] backs)
-        (run by_words (trail (plain_shape s)) (at_begin (begun_memory (plain_unit unit.now) input shared comm) [] backs))) }
+        (run by_words (trail (plain_shape s))
+        (at_begin (begun_memory (plain_unit unit.now) input shared comm) [] backs))) }
 
     ensures slots { IfOk result (λ s. (k : ℕ) → k < length (plain_unit unit.now).functions
         → parts_idle (slice_index_or (plain_shape s).functions k no_part) ≡ true) }

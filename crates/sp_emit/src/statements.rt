@@ -1,11 +1,11 @@
 //! Statements.
 ghost use Rattle.std.specs.Prelude.{◌≡◌, ◌+◌, ◌<◌, map, OnOk};
-ghost use Rattle.sp_emit.specs.Fits.{ExprFits, ArgsFit, PlaceFits, StmtFits, StmtsFit};
+ghost use Rattle.sp_emit.specs.Fits.{ExprFits, ArgsFit, TargetFits, StmtFits, StmtsFit};
 ghost use Rattle.sp_emit.specs.Statements as specs;
 ghost use Rattle.sp_shape.specs.Parts.{joined};
 ghost use Rattle.sp_shape.specs.Shown.{parts_of};
 ghost use Rattle.sp_tree.specs.Plain.{plain_sp};
-ghost use Rattle.sp_tree.specs.Shown.{plain_place, plain_stmt, stmts_of};
+ghost use Rattle.sp_tree.specs.Shown.{plain_sp_target, plain_stmt, stmts_of};
 ghost use Rattle.sp_tree.specs.Statements as plain;
 ghost use Rattle.sp_emit.specs.Expressions.{expr_code};
 ghost use Rattle.sp_emit.specs.declared.registers.TheConstants.{FIRST};
@@ -18,20 +18,20 @@ use crate::registers::{FIRST, behind, reg};
 use crate::writes::{cell_write, element_write, slot_write};
 use patmos_instr::Reg;
 use sp_shape::Part;
-use sp_tree::{SpExpr, SpPlace, SpStmt};
+use sp_tree::{SpExpr, SpStmt, SpTarget};
 use tc_word::OutOfMemory;
 
-// a place is set to the value in the first register
-#[tactic(auto, using(crate::proofs::Pushed::two_pushed, crate::proofs::Fitting::place_mask, crate::proofs::Fitting::slot_fits, crate::proofs::Fitting::index_fits, crate::proofs::Fitting::cell_fits, crate::proofs::Fitting::array_fits))]
-fn place(out: &mut Vec<Part>, mask: u32, to: &SpPlace) -> Result<(), OutOfMemory>
-    requires fits { PlaceFits mask (plain_place to.now) }
+// a target is set to the value in the first register
+#[tactic(auto, using(crate::proofs::Pushed::two_pushed, crate::proofs::Fitting::target_mask, crate::proofs::Fitting::slot_fits, crate::proofs::Fitting::index_fits, crate::proofs::Fitting::cell_fits, crate::proofs::Fitting::array_fits))]
+fn target(out: &mut Vec<Part>, mask: u32, to: &SpTarget) -> Result<(), OutOfMemory>
+    requires fits { TargetFits mask (plain_sp_target to.now) }
     ensures { OnOk result (parts_of out.new.items
-        ≡ joined (parts_of out.old.items) (specs.place_write mask (plain_place to.now))) }
+        ≡ joined (parts_of out.old.items) (specs.target_write mask (plain_sp_target to.now))) }
 {
     match to {
-        SpPlace::Frame { slot } => slot_write(out, mask, *slot),
-        SpPlace::Scalar { cell } => cell_write(out, mask, *cell),
-        SpPlace::Element { array, index } => {
+        SpTarget::Frame { slot } => slot_write(out, mask, *slot),
+        SpTarget::Scalar { cell } => cell_write(out, mask, *cell),
+        SpTarget::Element { array, index } => {
             expression(out, index, behind(reg(FIRST)))?;
             element_write(out, mask, *array)
         }
@@ -108,7 +108,7 @@ fn set_slot(out: &mut Vec<Part>, slot: u32) -> Result<(), OutOfMemory>
 
 /// The code of a statement stands after the parts. It is `Err` where memory runs out.
 #[cycle(statement)]
-#[tactic(auto, using(crate::proofs::Pushed::two_pushed, crate::proofs::Fitting::masks_value, crate::proofs::Fitting::masks_slot, crate::proofs::Fitting::writes_value, crate::proofs::Fitting::writes_place, crate::proofs::Fitting::calls_mask, crate::proofs::Fitting::calls_args, crate::proofs::Fitting::calls_result, crate::proofs::Fitting::sends_mask, crate::proofs::Fitting::sends_core, crate::proofs::Fitting::sends_source, crate::proofs::Fitting::sends_target, crate::proofs::Fitting::sends_count, crate::proofs::Fitting::overruns_mask, crate::proofs::Fitting::overruns_value), unfolding(sp_tree::specs::Shown::plain_stmt))]
+#[tactic(auto, using(crate::proofs::Pushed::two_pushed, crate::proofs::Fitting::masks_value, crate::proofs::Fitting::masks_slot, crate::proofs::Fitting::writes_value, crate::proofs::Fitting::writes_target, crate::proofs::Fitting::calls_mask, crate::proofs::Fitting::calls_args, crate::proofs::Fitting::calls_result, crate::proofs::Fitting::sends_mask, crate::proofs::Fitting::sends_core, crate::proofs::Fitting::sends_source, crate::proofs::Fitting::sends_target, crate::proofs::Fitting::sends_count, crate::proofs::Fitting::overruns_mask, crate::proofs::Fitting::overruns_value), unfolding(sp_tree::specs::Shown::plain_stmt))]
 pub fn statement(
     out: &mut Vec<Part>,
     t: &SpStmt,
@@ -126,11 +126,11 @@ pub fn statement(
         }
         SpStmt::Write {
             mask,
-            place: to,
+            target: to,
             value,
         } => {
             expression(out, value, reg(FIRST))?;
-            place(out, *mask, to)
+            target(out, *mask, to)
         }
         SpStmt::Call {
             mask,

@@ -6,7 +6,7 @@ ghost use Rattle.sp_shape.specs.Parts.{straight, one, joined};
 ghost use Rattle.sp_shape.specs.Shown.{parts_of};
 ghost use Rattle.sp_tree.specs.Formed.{cell_formed, array_formed};
 ghost use Rattle.sp_tree.specs.Plain.{plain_sp};
-ghost use Rattle.sp_tree.specs.Shown.{plain_place};
+ghost use Rattle.sp_tree.specs.Shown.{plain_sp_target};
 
 use crate::expressions::{address_of, array_space, cell_space};
 use crate::instructions::{

@@ -4,17 +4,17 @@ use Rattle.std.proofs.lemmas.Bool.{cases_lt, and_parts, and_from, ltb-true, lt-l
 use Rattle.std.specs.Prelude.{nat_eq, nat_lt, nat_le, ◌&&◌, Option, None, Some}
 use denote.Hole.Carrier.{hidden}
 use Rattle.sp_tree.specs.declared.expressions.SpExpr.{SpExpr}
-use Rattle.sp_tree.specs.declared.expressions.SpPlace.{SpPlace}
+use Rattle.sp_tree.specs.declared.expressions.SpTarget.{SpTarget}
 use Rattle.sp_tree.specs.declared.statements.SpFunction.{SpFunction}
 use Rattle.sp_tree.specs.declared.statements.SpStmt.{SpStmt, Mask, Write, Call}
 use Rattle.sp_tree.specs.declared.statements.SpStmt.TheViews.{Turns}
 use Rattle.sp_tree.specs.declared.statements.SpStmt.TheBlock.{hidden-the_row-SpStmt-0}
-use Rattle.sp_tree.specs.Formed.{names_words, expr_formed, args_formed, place_formed, result_formed, callee_formed, send_formed, stmt_formed, stmts_formed, slots_of, function_formed, functions_formed, array_formed}
+use Rattle.sp_tree.specs.Formed.{names_words, expr_formed, args_formed, target_formed, result_formed, callee_formed, send_formed, stmt_formed, stmts_formed, slots_of, function_formed, functions_formed, array_formed}
 use Rattle.sp_tree.specs.Need.{need}
 use Rattle.sp_tree.specs.Plain.{PlainSp, constant, frame_word, cell_word, array_word, before_one, between_two, plain_sp}
-use Rattle.sp_tree.specs.Shown.{plain_stmt, plain_row, plain_place, stmts_of, plain_function, functions_of}
+use Rattle.sp_tree.specs.Shown.{plain_stmt, plain_row, plain_sp_target, stmts_of, plain_function, functions_of}
 use Rattle.sp_tree.specs.Sizes.{stmt_size, stmts_size, total}
-use Rattle.sp_tree.specs.Statements.{PlainPlace, to_slot, to_cell, to_array, PlainStmt, masks, writes, calls, transfers, overruns, turns, PlainStmts, no_stmt, stmt, PlainFunction, no_function}
+use Rattle.sp_tree.specs.Statements.{PlainSpTarget, to_slot, to_cell, to_array, PlainStmt, masks, writes, calls, transfers, overruns, turns, PlainStmts, no_stmt, stmt, PlainFunction, no_function}
 
 -- ---- turns by the list of their statements
 
@@ -55,10 +55,10 @@ more_args slots width (e ∷ args) more h =
 more_slot : (slots width slot : ℕ) → slots ≤ width → nat_lt slot slots ≡ true → nat_lt slot width ≡ true
 more_slot slots width slot more h = lt-ltb slot width (omega (arith, more, ltb-true slot slots h))
 
-more_place : (slots width : ℕ) (place : PlainPlace) → slots ≤ width → place_formed slots place ≡ true → place_formed width place ≡ true
-more_place slots width (to_slot slot) more h = more_slot slots width slot more h
-more_place slots width (to_cell cell) more h = h
-more_place slots width (to_array array index) more h =
+more_target : (slots width : ℕ) (target : PlainSpTarget) → slots ≤ width → target_formed slots target ≡ true → target_formed width target ≡ true
+more_target slots width (to_slot slot) more h = more_slot slots width slot more h
+more_target slots width (to_cell cell) more h = h
+more_target slots width (to_array array index) more h =
     let both = and_parts (array_formed array) (expr_formed slots index) h in
     and_from (array_formed array) (expr_formed width index) both.0 (more_expr slots width index more both.1)
 
@@ -82,11 +82,11 @@ mutual
   more_stmt fs number slots width (masks slot e) more h =
       let both = and_parts (nat_lt slot slots) (expr_formed slots e) h in
       and_from (nat_lt slot width) (expr_formed width e) (more_slot slots width slot more both.0) (more_expr slots width e more both.1)
-  more_stmt fs number slots width (writes mask place e) more h =
-      let a = and_parts (nat_lt mask slots) (place_formed slots place && expr_formed slots e) h in
-      let b = and_parts (place_formed slots place) (expr_formed slots e) a.1 in
-      and_from (nat_lt mask width) (place_formed width place && expr_formed width e) (more_slot slots width mask more a.0)
-      (and_from (place_formed width place) (expr_formed width e) (more_place slots width place more b.0) (more_expr slots width e more b.1))
+  more_stmt fs number slots width (writes mask target e) more h =
+      let a = and_parts (nat_lt mask slots) (target_formed slots target && expr_formed slots e) h in
+      let b = and_parts (target_formed slots target) (expr_formed slots e) a.1 in
+      and_from (nat_lt mask width) (target_formed width target && expr_formed width e) (more_slot slots width mask more a.0)
+      (and_from (target_formed width target) (expr_formed width e) (more_target slots width target more b.0) (more_expr slots width e more b.1))
   more_stmt fs number slots width (calls mask k args given) more h =
       let a = and_parts (nat_lt mask slots) (callee_formed fs number k (length args) && (args_formed slots args && result_formed slots given)) h in
       let b = and_parts (callee_formed fs number k (length args)) (args_formed slots args && result_formed slots given) a.1 in
@@ -119,13 +119,13 @@ unfolding plain_stmt
 mask_part fs number slots t slot e is h =
     ltb-true slot slots (and_parts (nat_lt slot slots) (expr_formed slots (plain_sp e)) (ap (λ x. stmt_formed fs number slots (plain_stmt x)) (sym is) ∙ h)).0
 
-pub write_part : (fs : List PlainFunction) (number slots : ℕ) (t : SpStmt) (mask : ℕ) (place : SpPlace) (e : SpExpr) → t ≡ Write mask place e
-    → stmt_formed fs number slots (plain_stmt t) ≡ true → place_formed slots (plain_place place) ≡ true
+pub write_part : (fs : List PlainFunction) (number slots : ℕ) (t : SpStmt) (mask : ℕ) (target : SpTarget) (e : SpExpr) → t ≡ Write mask target e
+    → stmt_formed fs number slots (plain_stmt t) ≡ true → target_formed slots (plain_sp_target target) ≡ true
 unfolding plain_stmt
-write_part fs number slots t mask place e is h =
-    let a = and_parts (nat_lt mask slots) (place_formed slots (plain_place place) && expr_formed slots (plain_sp e))
+write_part fs number slots t mask target e is h =
+    let a = and_parts (nat_lt mask slots) (target_formed slots (plain_sp_target target) && expr_formed slots (plain_sp e))
     (ap (λ x. stmt_formed fs number slots (plain_stmt x)) (sym is) ∙ h) in
-    (and_parts (place_formed slots (plain_place place)) (expr_formed slots (plain_sp e)) a.1).0
+    (and_parts (target_formed slots (plain_sp_target target)) (expr_formed slots (plain_sp e)) a.1).0
 
 -- what is known of a call
 pub record CallFormed (fs : List PlainFunction) (number slots k : ℕ) (args : List SpExpr) (given : Option ℕ) : Type 0 where

@@ -2,14 +2,14 @@
 use Rattle.std.proofs.Common.{◌≡◌, ◌≢◌, ℕ, List, ap, ne_eqb, if◌then◌else◌}
 use Rattle.std.specs.Prelude.{Option}
 use Rattle.sp_tree.specs.Plain.{PlainSp}
-use Rattle.sp_tree.specs.Statements.{PlainPlace, writes, calls, transfers, overruns}
+use Rattle.sp_tree.specs.Statements.{PlainSpTarget, writes, calls, transfers, overruns}
 use Rattle.sp_tree.specs.Straight.{State, Serves, args_worth, in_world, where_on, with_result, write_done, transfer_done, overrun_done, stmt_done}
 
 pub off : (mask : ℕ) (change : State → State) (s : State) → s.frame mask ≢ 1 → where_on mask change s ≡ s
 off mask change s is = ap (λ b. if b then change s else s) (ne_eqb (s.frame mask) 1 is)
 
-pub write_off : (g : Serves) (mask : ℕ) (place : PlainPlace) (e : PlainSp) (s : State) → s.frame mask ≢ 1 → stmt_done g (writes mask place e) s ≡ s
-write_off g mask place e s is = off mask (write_done place e) s is
+pub write_off : (g : Serves) (mask : ℕ) (target : PlainSpTarget) (e : PlainSp) (s : State) → s.frame mask ≢ 1 → stmt_done g (writes mask target e) s ≡ s
+write_off g mask target e s is = off mask (write_done target e) s is
 
 pub send_off : (g : Serves) (mask core : ℕ) (source target count : PlainSp) (s : State) → s.frame mask ≢ 1
     → stmt_done g (transfers mask core source target count) s ≡ s

@@ -6,7 +6,7 @@ use Rattle.sp_tree.specs.declared.operators.SpBinary.TheVariants as binary
 use Rattle.sp_tree.specs.declared.operators.SpUnary.{SpUnary}
 use Rattle.sp_tree.specs.declared.operators.SpUnary.TheVariants as unary
 use Rattle.sp_tree.specs.Plain.{PlainSp, constant, frame_word, cell_word, array_word, before_one, between_two}
-use Rattle.sp_tree.specs.Statements.{PlainPlace, to_slot, to_cell, to_array, PlainStmt, masks, writes, calls, transfers, overruns, turns, PlainStmts, no_stmt, stmt, PlainFunction}
+use Rattle.sp_tree.specs.Statements.{PlainSpTarget, to_slot, to_cell, to_array, PlainStmt, masks, writes, calls, transfers, overruns, turns, PlainStmts, no_stmt, stmt, PlainFunction}
 
 -- ---- expressions
 
@@ -67,15 +67,15 @@ args_cost (e ∷ args) = expr_cost e + args_cost args
 -- ---- statements
 
 -- the test of the mask takes three words; then comes a store, with its address, and the test of an index
-abbrev pub place_cost : PlainPlace → ℕ
-place_cost (to_slot slot) = 4
-place_cost (to_cell cell) = 7
-place_cost (to_array array index) = 16 + expr_cost index
+abbrev pub target_cost : PlainSpTarget → ℕ
+target_cost (to_slot slot) = 4
+target_cost (to_cell cell) = 7
+target_cost (to_array array index) = 16 + expr_cost index
 
 abbrev mutual
   pub stmt_cost : PlainStmt → ℕ
   stmt_cost (masks slot e) = 1 + expr_cost e
-  stmt_cost (writes mask place e) = place_cost place + expr_cost e
+  stmt_cost (writes mask target e) = target_cost target + expr_cost e
   stmt_cost (calls mask k args result) = 16 + args_cost args
   stmt_cost (transfers mask core source target count) = 20 + expr_cost source + expr_cost target + expr_cost count
   stmt_cost (overruns mask e) = 6 + expr_cost e

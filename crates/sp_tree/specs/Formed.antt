@@ -12,7 +12,7 @@ use Rattle.sp_tree.specs.declared.limits.TheConstants.{MOST_FRAME, MOST_FUNCTION
 use Rattle.sp_tree.specs.Need.{need}
 use Rattle.sp_tree.specs.Plain.{PlainSp, constant, frame_word, cell_word, array_word, before_one, between_two}
 use Rattle.sp_tree.specs.Uses.{uses_of, are_apart}
-use Rattle.sp_tree.specs.Statements.{PlainPlace, to_slot, to_cell, to_array, PlainStmt, masks, writes, calls, transfers, overruns, turns, PlainStmts, no_stmt, stmt, PlainFunction, no_function, PlainUnit}
+use Rattle.sp_tree.specs.Statements.{PlainSpTarget, to_slot, to_cell, to_array, PlainStmt, masks, writes, calls, transfers, overruns, turns, PlainStmts, no_stmt, stmt, PlainFunction, no_function, PlainUnit}
 
 -- ---- words of memories
 
@@ -31,7 +31,7 @@ cell_formed c = nat_le (first_of c.region) c.word && nat_lt c.word (room_in c.re
 abbrev pub array_formed : SpArray → Bool
 array_formed a = nat_le (first_of a.region) a.first && nat_le (a.first + a.length) (room_in a.region all_rooms)
 
--- ---- expressions and places, over the first so many words of a frame
+-- ---- expressions and targets, over the first so many words of a frame
 
 abbrev pub names_words : ℕ → PlainSp → Bool
 names_words slots (constant n) = true
@@ -49,10 +49,10 @@ abbrev pub args_formed : ℕ → List PlainSp → Bool
 args_formed slots [] = true
 args_formed slots (e ∷ args) = expr_formed slots e && args_formed slots args
 
-abbrev pub place_formed : ℕ → PlainPlace → Bool
-place_formed slots (to_slot slot) = nat_lt slot slots
-place_formed slots (to_cell cell) = cell_formed cell
-place_formed slots (to_array array index) = array_formed array && expr_formed slots index
+abbrev pub target_formed : ℕ → PlainSpTarget → Bool
+target_formed slots (to_slot slot) = nat_lt slot slots
+target_formed slots (to_cell cell) = cell_formed cell
+target_formed slots (to_array array index) = array_formed array && expr_formed slots index
 
 -- ---- statements of the function of a number
 
@@ -71,8 +71,8 @@ send_formed slots core source target count =
 abbrev mutual
   pub stmt_formed : List PlainFunction → ℕ → ℕ → PlainStmt → Bool
   stmt_formed fs number slots (masks slot e) = nat_lt slot slots && expr_formed slots e
-  stmt_formed fs number slots (writes mask place e) =
-      nat_lt mask slots && (place_formed slots place && expr_formed slots e)
+  stmt_formed fs number slots (writes mask target e) =
+      nat_lt mask slots && (target_formed slots target && expr_formed slots e)
   stmt_formed fs number slots (calls mask k args result) =
       nat_lt mask slots && (callee_formed fs number k (length args)
       && (args_formed slots args && result_formed slots result))

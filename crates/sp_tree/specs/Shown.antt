@@ -1,23 +1,23 @@
 -- To be believed. What statements, functions and units say, without the places of their boxes in memory.
 use Rattle.std.specs.Prelude.{List, [], ◌∷◌, map}
 use Rattle.sp_tree.specs.Plain.{plain_sp}
-use Rattle.sp_tree.specs.Statements.{PlainPlace, to_slot, to_cell, to_array, PlainStmt, masks, writes, calls, transfers, overruns, turns, PlainStmts, no_stmt, stmt, PlainFunction, PlainUnit}
-use Rattle.sp_tree.specs.declared.expressions.SpPlace.{SpPlace}
-use Rattle.sp_tree.specs.declared.expressions.SpPlace.TheVariants as place
+use Rattle.sp_tree.specs.Statements.{PlainSpTarget, to_slot, to_cell, to_array, PlainStmt, masks, writes, calls, transfers, overruns, turns, PlainStmts, no_stmt, stmt, PlainFunction, PlainUnit}
+use Rattle.sp_tree.specs.declared.expressions.SpTarget.{SpTarget}
+use Rattle.sp_tree.specs.declared.expressions.SpTarget.TheVariants as target
 use Rattle.sp_tree.specs.declared.statements.SpStmt.{SpStmt, Mask, Write, Call, Send, Overrun, Turns'}
 use Rattle.sp_tree.specs.declared.statements.SpStmt.TheBlock.{Row_of-SpStmt, end_of-SpStmt, more_of-SpStmt}
 use Rattle.sp_tree.specs.declared.statements.SpFunction.{SpFunction}
 use Rattle.sp_tree.specs.declared.statements.SpUnit.{SpUnit}
 
-abbrev pub plain_place : SpPlace → PlainPlace
-plain_place (place.Frame slot) = to_slot slot
-plain_place (place.Scalar cell) = to_cell cell
-plain_place (place.Element array index) = to_array array (plain_sp index)
+abbrev pub plain_sp_target : SpTarget → PlainSpTarget
+plain_sp_target (target.Frame slot) = to_slot slot
+plain_sp_target (target.Scalar cell) = to_cell cell
+plain_sp_target (target.Element array index) = to_array array (plain_sp index)
 
 unfoldable mutual
   pub plain_stmt : SpStmt → PlainStmt
   plain_stmt (Mask slot e) = masks slot (plain_sp e)
-  plain_stmt (Write mask at e) = writes mask (plain_place at) (plain_sp e)
+  plain_stmt (Write mask at e) = writes mask (plain_sp_target at) (plain_sp e)
   plain_stmt (Call mask k args given) = calls mask k (map plain_sp args) given
   plain_stmt (Send mask core source aim count) = transfers mask core (plain_sp source) (plain_sp aim) (plain_sp count)
   plain_stmt (Overrun mask e) = overruns mask (plain_sp e)

@@ -5,7 +5,7 @@ use Rattle.sp_tree.specs.Statements.{PlainStmt, masks, writes, calls, transfers,
 abbrev mutual
   pub stmt_size : PlainStmt → ℕ
   stmt_size (masks slot e) = 1
-  stmt_size (writes mask place e) = 1
+  stmt_size (writes mask target e) = 1
   stmt_size (calls mask k args result) = 2
   stmt_size (transfers mask core source target count) = 1
   stmt_size (overruns mask e) = 1

@@ -73,8 +73,8 @@ served f = serves (f ∷ []) 1
 abbrev pub calling : PlainStmt
 calling = calls 0 0 (constant 7 ∷ constant 5 ∷ []) (Some 1)
 
--- ---- what ways through a program become: word 1 of the frame is the function's mask, word 2 that of the innermost loop,
--- word 3 the own mask, and word 4 that of what stands inside
+-- ---- what ways through a program become: word 1 of the frame is the function's mask, word 2 that of the innermost
+-- loop, word 3 the own mask, and word 4 that of what stands inside
 
 -- `if (c) { } else { }`: the mask of the arm, that under `else`, and the own mask after both
 abbrev pub arm : PlainSp → PlainStmts

@@ -6,16 +6,16 @@ use Rattle.sp_tree.specs.declared.expressions.SpArray.{SpArray}
 use Rattle.sp_tree.specs.declared.expressions.SpCell.{SpCell}
 
 -- what is set
-pub data PlainPlace : Type 0 where
-  to_slot : ℕ → PlainPlace
-  to_cell : SpCell → PlainPlace
-  to_array : SpArray → PlainSp → PlainPlace
+pub data PlainSpTarget : Type 0 where
+  to_slot : ℕ → PlainSpTarget
+  to_cell : SpCell → PlainSpTarget
+  to_array : SpArray → PlainSp → PlainSpTarget
 
 -- a statement; the first number of each but `masks` and `turns` is the word of the frame that is its mask
 mutual
   pub data PlainStmt : Type 0 where
     masks : ℕ → PlainSp → PlainStmt
-    writes : ℕ → PlainPlace → PlainSp → PlainStmt
+    writes : ℕ → PlainSpTarget → PlainSp → PlainStmt
     calls : ℕ → ℕ → List PlainSp → Option ℕ → PlainStmt
     transfers : ℕ → ℕ → PlainSp → PlainSp → PlainSp → PlainStmt
     overruns : ℕ → PlainSp → PlainStmt

@@ -6,7 +6,7 @@ use Rattle.c_world.specs.Numbers.{is_true}
 use Rattle.c_world.specs.World.{World, with_word, with_element, with_overrun, with_send}
 use Rattle.sp_tree.specs.Plain.{PlainSp}
 use Rattle.sp_tree.specs.Values.{sp_value}
-use Rattle.sp_tree.specs.Statements.{PlainPlace, to_slot, to_cell, to_array, PlainStmt, masks, writes, calls, transfers, overruns, turns, PlainStmts, no_stmt, stmt, PlainFunction, no_function}
+use Rattle.sp_tree.specs.Statements.{PlainSpTarget, to_slot, to_cell, to_array, PlainStmt, masks, writes, calls, transfers, overruns, turns, PlainStmts, no_stmt, stmt, PlainFunction, no_function}
 
 -- the words of a function's frame, by their numbers, and of all memories
 pub record State : Type 0 where
@@ -37,10 +37,10 @@ with_slot slot given s = record s { frame = put slot given s.frame }
 abbrev pub in_world : State → World → State
 in_world s world = record s { world = world }
 
-abbrev pub with_place : PlainPlace → ℕ → State → State
-with_place (to_slot slot) given s = with_slot slot given s
-with_place (to_cell cell) given s = in_world s (with_word cell.region cell.word given s.world)
-with_place (to_array array index) given s =
+abbrev pub with_sp_target : PlainSpTarget → ℕ → State → State
+with_sp_target (to_slot slot) given s = with_slot slot given s
+with_sp_target (to_cell cell) given s = in_world s (with_word cell.region cell.word given s.world)
+with_sp_target (to_array array index) given s =
     in_world s (with_element array.region array.first array.length (worth index s) given s.world)
 
 -- a result may be set nowhere
@@ -54,8 +54,8 @@ with_result (Some slot) given s = with_slot slot given s
 abbrev pub where_on : ℕ → (State → State) → State → State
 where_on mask change s = if s.frame mask == 1 then change s else s
 
-abbrev pub write_done : PlainPlace → PlainSp → State → State
-write_done place e s = with_place place (worth e s) s
+abbrev pub write_done : PlainSpTarget → PlainSp → State → State
+write_done target e s = with_sp_target target (worth e s) s
 
 abbrev pub transfer_done : ℕ → PlainSp → PlainSp → PlainSp → State → State
 transfer_done core source target count s =
@@ -78,7 +78,7 @@ times (suc n) change s = times n change (change s)
 abbrev mutual
   pub stmt_done : Serves → PlainStmt → State → State
   stmt_done g (masks slot e) s = with_slot slot (worth e s) s
-  stmt_done g (writes mask place e) s = where_on mask (write_done place e) s
+  stmt_done g (writes mask target e) s = where_on mask (write_done target e) s
   stmt_done g (calls mask k args result) s = call_done mask result s (g k (s.frame mask) (args_worth args s) s.world)
   stmt_done g (transfers mask core source target count) s = where_on mask (transfer_done core source target count) s
   stmt_done g (overruns mask e) s = where_on mask (overrun_done e) s

@@ -7,7 +7,7 @@ use Rattle.c_world.specs.declared.region.Region.TheVariants as region
 use Rattle.sp_tree.specs.declared.expressions.SpArray.{SpArray}
 use Rattle.sp_tree.specs.declared.expressions.SpCell.{SpCell}
 use Rattle.sp_tree.specs.Plain.{PlainSp, constant, frame_word, cell_word, array_word, before_one, between_two}
-use Rattle.sp_tree.specs.Statements.{PlainPlace, to_slot, to_cell, to_array, PlainStmt, masks, writes, calls, transfers, overruns, turns, PlainStmts, no_stmt, stmt, PlainFunction, PlainUnit}
+use Rattle.sp_tree.specs.Statements.{PlainSpTarget, to_slot, to_cell, to_array, PlainStmt, masks, writes, calls, transfers, overruns, turns, PlainStmts, no_stmt, stmt, PlainFunction, PlainUnit}
 
 pub data Use : Type 0 where
   reads_cell : SpCell → Use
@@ -28,15 +28,15 @@ abbrev pub args_uses : List PlainSp → List Use
 args_uses [] = []
 args_uses (e ∷ args) = expr_uses e ++ args_uses args
 
-abbrev pub place_uses : PlainPlace → List Use
-place_uses (to_slot slot) = []
-place_uses (to_cell cell) = writes_cell cell ∷ []
-place_uses (to_array array index) = writes_array array ∷ expr_uses index
+abbrev pub target_uses : PlainSpTarget → List Use
+target_uses (to_slot slot) = []
+target_uses (to_cell cell) = writes_cell cell ∷ []
+target_uses (to_array array index) = writes_array array ∷ expr_uses index
 
 abbrev mutual
   pub stmt_uses : PlainStmt → List Use
   stmt_uses (masks slot e) = expr_uses e
-  stmt_uses (writes mask place e) = place_uses place ++ expr_uses e
+  stmt_uses (writes mask target e) = target_uses target ++ expr_uses e
   stmt_uses (calls mask k args result) = args_uses args
   stmt_uses (transfers mask core source target count) =
       sends_to core ∷ (expr_uses source ++ (expr_uses target ++ expr_uses count))

@@ -47,7 +47,7 @@ pub enum SpExpr {
 
 /// What is set.
 #[derive(Debug, Drop)]
-pub enum SpPlace {
+pub enum SpTarget {
     /// A word of the frame.
     Frame { slot: u32 },
     Scalar { cell: SpCell },

@@ -5,7 +5,7 @@ ghost use Rattle.sp_tree.specs.Cost.{stmts_cost};
 ghost use Rattle.sp_tree.specs.Formed.{stmts_formed, stmts_levels, function_formed, functions_formed};
 ghost use Rattle.sp_tree.specs.Plain.{PlainSp};
 ghost use Rattle.sp_tree.specs.Shown.{stmts_of};
-ghost use Rattle.sp_tree.specs.Statements.{PlainPlace, PlainStmts, PlainFunction, no_function, joined, writes, calls, transfers, overruns};
+ghost use Rattle.sp_tree.specs.Statements.{PlainSpTarget, PlainStmts, PlainFunction, no_function, joined, writes, calls, transfers, overruns};
 ghost use Rattle.sp_tree.specs.Straight.{State, Serves, args_worth, in_world, stmt_done, stmts_done, function_given, serves};
 ghost use Rattle.sp_tree.specs.Uses.{stmts_uses};
 ghost use Rattle.sp_tree.specs.declared.statements.SpStmt.{SpStmt};
@@ -28,8 +28,8 @@ pub fn statements_join()
 /// Under a mask that is not 1 a statement has no effect, but that the function of a call is run.
 #[tactic(auto, using(crate::proofs::Masks::write_off, crate::proofs::Masks::send_off, crate::proofs::Masks::overrun_off, crate::proofs::Masks::call_off))]
 pub fn masks_hold()
-    ensures write { (g : Serves) (mask : ℕ) (place : PlainPlace) (e : PlainSp) (s : State) → s.frame mask ≢ 1
-        → stmt_done g (writes mask place e) s ≡ s }
+    ensures write { (g : Serves) (mask : ℕ) (target : PlainSpTarget) (e : PlainSp) (s : State) → s.frame mask ≢ 1
+        → stmt_done g (writes mask target e) s ≡ s }
     ensures send { (g : Serves) (mask core : ℕ) (source target count : PlainSp) (s : State) → s.frame mask ≢ 1
         → stmt_done g (transfers mask core source target count) s ≡ s }
     ensures overrun { (g : Serves) (mask : ℕ) (e : PlainSp) (s : State) → s.frame mask ≢ 1

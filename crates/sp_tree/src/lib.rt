@@ -4,9 +4,9 @@
 //! function's frame, decide what has an effect, and loops always make all their turns. Its variables are the words of a
 //! frame, by their numbers, and cells and arrays of the memories; what it works on is a [`c_world::Memory`].
 //!
-//! - What is said: expressions ([`SpExpr`]), places that are set ([`SpPlace`]), statements ([`SpStmt`]), functions and
-//!   tasks ([`SpUnit`]). `specs/Plain.antt` and `specs/Statements.antt` are the same without the places of their boxes
-//!   in memory, `specs/Shown.antt` what a tree in code says.
+//! - What is said: expressions ([`SpExpr`]), targets that are set ([`SpTarget`]), statements ([`SpStmt`]), functions
+//!   and tasks ([`SpUnit`]). `specs/Plain.antt` and `specs/Statements.antt` are the same without the places of their
+//!   boxes in memory, `specs/Shown.antt` what a tree in code says.
 //! - What it means: `specs/Values.antt` is what an expression is worth, `specs/Straight.antt` what statements and
 //!   functions do, `specs/Begun.antt` what a task begins with and comes to. [`value`] and [`plain_straight`] work it
 //!   out: exactly that. They go only as deep as the tree and its chain of calls.
@@ -27,15 +27,13 @@ mod outcome;
 mod run;
 mod settings;
 mod statements;
-#[cfg(test)]
-mod tests;
 mod worked;
 mod worked_forms;
 mod worked_runs;
 
 pub use c_world::Region;
 pub use evaluation::value;
-pub use expressions::{SpArray, SpCell, SpExpr, SpPlace};
+pub use expressions::{SpArray, SpCell, SpExpr, SpTarget};
 pub use laws::{earlier_functions_serve, frames_grow, masks_hold, statements_join, tree_limits};
 pub use limits::{MOST_FRAME, MOST_FUNCTIONS, MOST_NEED, MOST_PARAMETERS};
 pub use making::{before_operand, between_operands, copied, indexed};

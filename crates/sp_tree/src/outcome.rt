@@ -39,7 +39,12 @@ pub fn plain_straight(alloc: Global, unit: &SpUnit, input: &[u32]) -> Result<SpO
         ≡ (straight_alone (plain_unit unit.now) input.now).world.private) }
     ensures shared { IfOk result (λ o. slice_index o.shared
         ≡ (straight_alone (plain_unit unit.now) input.now).world.shared) }
-    ensures lengths { IfOk result (λ o. record { scratch = length o.scratch; comm = length o.comm; private = length o.private; shared = length o.shared } ≡ all_rooms) }
+    ensures lengths { IfOk result (λ o. record {
+      scratch = length o.scratch;
+      comm = length o.comm;
+      private = length o.private;
+      shared = length o.shared;
+    } ≡ all_rooms) }
 {
     let functions = unit.functions.as_slice();
     let mut memory = begin(alloc, unit, input)?;

@@ -44,9 +44,9 @@ fn act(
         }
         SpStmt::Write {
             mask,
-            place,
+            target,
             value: e,
-        } => write(*mask, place, e, frame, memory),
+        } => write(*mask, target, e, frame, memory),
         SpStmt::Call {
             mask,
             function,

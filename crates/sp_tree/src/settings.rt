@@ -2,31 +2,31 @@
 ghost use Rattle.std.specs.Prelude.{◌≡◌, ◌<◌, ◌≤◌, ◌==◌, ℕ, List, length, map, slice_index, true};
 ghost use Rattle.c_world.specs.Shown.{shown, rooms};
 ghost use Rattle.c_world.specs.World.{World, Sending};
-ghost use Rattle.sp_tree.specs.Formed.{all_rooms, place_formed, result_formed};
+ghost use Rattle.sp_tree.specs.Formed.{all_rooms, target_formed, result_formed};
 ghost use Rattle.sp_tree.specs.Plain.{plain_sp};
 ghost use Rattle.sp_tree.specs.Ran.{state_of};
-ghost use Rattle.sp_tree.specs.Shown.{plain_place, plain_function};
-ghost use Rattle.sp_tree.specs.Straight.{worth, args_worth, with_place, with_result, where_on, write_done, overrun_done, begun_frame};
+ghost use Rattle.sp_tree.specs.Shown.{plain_sp_target, plain_function};
+ghost use Rattle.sp_tree.specs.Straight.{worth, args_worth, with_sp_target, with_result, where_on, write_done, overrun_done, begun_frame};
 
 use crate::evaluation::{slot_word, value};
-use crate::expressions::{SpExpr, SpPlace};
+use crate::expressions::{SpExpr, SpTarget};
 use crate::statements::SpFunction;
 use c_world::Memory;
 
 // a word of the frame, a word of a memory, or an element
 #[tactic(auto, using(shared_order::proofs::Words::words_put))]
-fn set(place: &SpPlace, given: u32, frame: &mut [u32], memory: &mut Memory)
+fn set(target: &SpTarget, given: u32, frame: &mut [u32], memory: &mut Memory)
     requires rooms { rooms memory.old ≡ all_rooms }
-    requires formed { place_formed (length frame.old) (plain_place place.now) ≡ true }
+    requires formed { target_formed (length frame.old) (plain_sp_target target.now) ≡ true }
     ensures done { (sends : List Sending)
-        → with_place (plain_place place.now) given (state_of frame.old memory.old sends)
+        → with_sp_target (plain_sp_target target.now) given (state_of frame.old memory.old sends)
         ≡ state_of frame.new memory.new sends }
     ensures rooms { rooms memory.new ≡ all_rooms }
 {
-    match place {
-        SpPlace::Frame { slot } => frame[*slot as usize] = given,
-        SpPlace::Scalar { cell } => memory.set_word(cell.region, cell.word as usize, given),
-        SpPlace::Element { array, index } => {
+    match target {
+        SpTarget::Frame { slot } => frame[*slot as usize] = given,
+        SpTarget::Scalar { cell } => memory.set_word(cell.region, cell.word as usize, given),
+        SpTarget::Element { array, index } => {
             let index = value(index, frame, memory);
             memory.set_element(array.region, array.first, array.length, index, given);
         }
@@ -40,18 +40,18 @@ fn is_on(mask: u32, frame: &[u32]) -> bool
     slot_word(frame, mask as usize) == 1
 }
 
-/// A place is set to what an expression is worth, where the mask is 1.
-pub fn write(mask: u32, place: &SpPlace, e: &SpExpr, frame: &mut [u32], memory: &mut Memory)
+/// A target is set to what an expression is worth, where the mask is 1.
+pub fn write(mask: u32, target: &SpTarget, e: &SpExpr, frame: &mut [u32], memory: &mut Memory)
     requires rooms { rooms memory.old ≡ all_rooms }
-    requires formed { place_formed (length frame.old) (plain_place place.now) ≡ true }
+    requires formed { target_formed (length frame.old) (plain_sp_target target.now) ≡ true }
     ensures done { (sends : List Sending)
-        → where_on mask (write_done (plain_place place.now) (plain_sp e.now)) (state_of frame.old memory.old sends)
+        → where_on mask (write_done (plain_sp_target target.now) (plain_sp e.now)) (state_of frame.old memory.old sends)
         ≡ state_of frame.new memory.new sends }
     ensures rooms { rooms memory.new ≡ all_rooms }
 {
     if is_on(mask, frame) {
         let given = value(e, frame, memory);
-        set(place, given, frame, memory);
+        set(target, given, frame, memory);
     }
 }
 

@@ -1,6 +1,6 @@
 //! Statements, functions and units.
 
-use crate::expressions::{SpExpr, SpPlace};
+use crate::expressions::{SpExpr, SpTarget};
 use tc_word::List;
 
 /// A statement. One that names a mask has its effect where that word of the frame is 1, and where it is 0, 2 or any
@@ -12,10 +12,10 @@ pub enum SpStmt {
         slot: u32,
         value: SpExpr,
     },
-    /// A place is set.
+    /// A target is set.
     Write {
         mask: u32,
-        place: SpPlace,
+        target: SpTarget,
         value: SpExpr,
     },
     /// A function is run, in either case, under the word of the mask; then a word of the frame is set to what it

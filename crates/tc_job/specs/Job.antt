@@ -43,7 +43,16 @@ job_in ms = do
   workers ← at_key None (codes "workers") (number_or platform.cores 1 platform.cores (get_member (codes "workers") ms))
   tables ← at_key None (codes "task") (tables_of (get_member (codes "task") ms))
   tasks ← tasks_from platform.cores [] tables
-  Ok (record { version = platform.version; cores = platform.cores; slot = platform.slot; table = platform.table; cycles = cycles; trace = trace; workers = workers; tasks = tasks })
+  Ok (record {
+    version = platform.version;
+    cores = platform.cores;
+    slot = platform.slot;
+    table = platform.table;
+    cycles = cycles;
+    trace = trace;
+    workers = workers;
+    tasks = tasks;
+  })
 
 -- the job of bytes
 unfoldable pub job_of : List ℕ → Result Job Fault

@@ -63,8 +63,8 @@ pub fn link(alloc: Global, shape: &Shape) -> Result<Image, OutOfMemory>
     requires fits { FitsImage (plain_shape shape.now) }
     ensures is { IfOk result (λ image. image ≡ linked (plain_shape shape.now)) }
 
-    // A core that is put where the entry starts, and that fetches its words and obeys its flows, does the bundles of the
-    // shape's trail, where its loops make all their turns and its functions come back.
+    // A core that is put where the entry starts, and that fetches its words and obeys its flows, does the bundles of
+    // the shape's trail, where its loops make all their turns and its functions come back.
     ensures preserves { IfOk result (λ image. (from : Sources) (m : Run) → FitsRegisters m.regs
         → m.backs ≡ backs_of (plain_shape shape.now) → ShapeTurns (run_late from) (plain_shape shape.now) m
         → Follows image from (trail (plain_shape shape.now)) (dues_of (plain_shape shape.now) (back_of m))

@@ -1,5 +1,5 @@
 -- The cores of a plain run: as they were loaded, and as it leaves them.
-use Rattle.std.proofs.Common.{◌≡◌, ℕ, ◌<◌, ◌≤◌, List, [], length, map, get_or, Some, IfSome, slice_get, refl, sym, ap, ◌∙◌, subst, arith}
+use Rattle.std.proofs.Common.{◌≡◌, ℕ, ◌<◌, List, [], length, map, get_or, Some, IfSome, slice_get, sym, ap, ◌∙◌, subst, arith}
 use Rattle.std.proofs.lemmas.List.{length-map, get_or-map}
 use Rattle.slot_arbiter.specs.declared.place.Place.{Place}
 use Rattle.shared_order.specs.Operation.{operations_of as operations_among}

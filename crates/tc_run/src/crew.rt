@@ -4,9 +4,8 @@ ghost use Rattle.clock_board.specs.Board.{BoardFace};
 ghost use Rattle.core_worker.specs.Worker.{WorkerFace, IsDone, IsOn};
 ghost use Rattle.tc_run.specs.Carried.{Carries, IsCrewOn, IsReady, workers_in, workers_of};
 
-use crate::threads::{SameWorkers, gather, run_on, run_through, start_group};
-use clock_board::Board;
-use core_worker::{Waiting, Worker};
+use crate::threads::{Common, SameWorkers, gather, run_on, run_through, start_group};
+use core_worker::Worker;
 use global_step::Loaded;
 use std::alloc::Global;
 use std::sync::Wait;
@@ -50,43 +49,35 @@ impl Crew {
     }
 
     /// Runs the workers that the caller has until none of them has an event left, or all threads give theirs back.
-    fn run_here<R: Wait, G: Gate>(
-        &mut self,
-        rt: &R,
-        board: &Board<Loaded>,
-        waiting: &Waiting,
-        gate: &G,
-    )
-        requires on { All (IsOn board.now) (workers_of self.old) }
-        ensures carries { Carries board.now (workers_of self.old) (workers_of self.new) }
-        ensures ready { (workers : List WorkerFace) (groups : ℕ) → IsReady board.now self.old workers groups
-            → IsReady board.now self.new workers groups }
+    fn run_here<R: Wait, G: Gate>(&mut self, common: Common<'_, R, G>)
+        requires on { All (IsOn common.board.now) (workers_of self.old) }
+        ensures carries { Carries common.entry.board.now (workers_of self.old) (workers_of self.new) }
+        ensures ready { (workers : List WorkerFace) (groups : ℕ)
+            → IsReady common.entry.board.now self.old workers groups
+            → IsReady common.entry.board.now self.new workers groups }
     {
-        run_on(rt, &mut self.here, board, waiting, gate);
+        run_on(common, &mut self.here);
     }
 
     /// Takes a group of workers on, in a thread of its own. Where no thread can be started, the caller has them.
     pub(crate) fn take_on<'s, E, R: Threads + Wait + Sync, G: Gate + Sync>(
         &mut self,
         scope: &Scope<'s, E>,
-        rt: &'s R,
+        common: Common<'s, R, G>,
         group: Vec<Worker<Loaded>>,
         refused: &'s AtomicBool,
-        board: &'s Board<Loaded>,
-        waiting: &'s Waiting,
-        gate: &'s G,
     )
-        requires on { All (IsOn board.now) group.items }
-        requires away { IsCrewOn board.now self.old }
+        requires on { All (IsOn common.board.now) group.items }
+        requires away { IsCrewOn common.board.now self.old }
         requires room { length (workers_of self.old) + vec_len group ≤ vec_capacity self.old.here }
         requires threads { vec_len self.old.away < vec_capacity self.old.away }
-        ensures carries { Carries board.now (workers_of self.old ++ group.items) (workers_of self.new) }
-        ensures away { IsCrewOn board.now self.new }
+        ensures carries { Carries common.entry.board.now (workers_of self.old ++ group.items) (workers_of self.new) }
+        ensures away { IsCrewOn common.entry.board.now self.new }
         ensures room { vec_capacity self.old.here ≤ vec_capacity self.new.here }
         ensures one { vec_len self.new.away ≤ vec_len self.old.away + 1 }
         ensures threads { vec_capacity self.new.away ≡ vec_capacity self.old.away }
     {
-        match start_group(scope, rt, group, refused, board, waiting, gate) {
+        match start_group(scope, common, group, refused) {
             Ok(handle) => self.away.push_reserved(handle),
             Err(back) => gather(&mut self.here, back),
         }
@@ -96,22 +87,20 @@ impl Crew {
     pub(crate) fn take_all_on<'s, E, R: Threads + Wait + Sync, G: Gate + Sync>(
         &mut self,
         scope: &Scope<'s, E>,
-        rt: &'s R,
+        common: Common<'s, R, G>,
         mut groups: Vec<Vec<Worker<Loaded>>>,
         refused: &'s [AtomicBool],
-        board: &'s Board<Loaded>,
-        waiting: &'s Waiting,
-        gate: &'s G,
     )
-        requires ready { IsReady board.now self.old (workers_in groups.items) (vec_len groups) }
+        requires ready { IsReady common.board.now self.old (workers_in groups.items) (vec_len groups) }
         requires flags { vec_len groups ≤ length refused.now }
-        ensures carries { Carries board.now (workers_of self.old ++ workers_in groups.items) (workers_of self.new) }
-        ensures ready { IsReady board.now self.new [] 0 }
+        ensures carries { Carries common.entry.board.now (workers_of self.old ++ workers_in groups.items)
+            (workers_of self.new) }
+        ensures ready { IsReady common.entry.board.now self.new [] 0 }
     {
         while let Some(group) = groups.pop() {
             let flag = &refused[groups.len()];
             if !group.is_empty() {
-                self.take_on(scope, rt, group, flag, board, waiting, gate);
+                self.take_on(scope, common, group, flag);
             }
         }
     }
@@ -132,19 +121,22 @@ impl Crew {
 /// Runs all workers: first those that the crew has, and then each of the groups in a thread of its own, or in
 /// the thread of the call where no thread can be started. What the threads give back undone, the call does.
 pub(crate) fn run_groups<R: Threads + Wait + Sync, G: Gate + Sync>(
-    rt: &R,
+    common: Common<'_, R, G>,
     groups: Vec<Vec<Worker<Loaded>>>,
     crew: Crew,
     refused: &[AtomicBool],
-    board: &Board<Loaded>,
-    waiting: &Waiting,
-    gate: &G,
 ) -> Vec<Worker<Loaded>>
-    requires ready { IsReady board.now crew (workers_in groups.items) (vec_len groups) }
+    requires ready { IsReady common.board.now crew (workers_in groups.items) (vec_len groups) }
     requires flags { vec_len groups ≤ length refused.now }
-    ensures carries { Carries board.now (workers_of crew ++ workers_in groups.items) result.items }
+    ensures carries { Carries common.entry.board.now (workers_of crew ++ workers_in groups.items) result.items }
     ensures done { All IsDone result.items }
 {
+    let Common {
+        rt,
+        board,
+        waiting,
+        gate,
+    } = common;
     thread::scope(
         thread::scope_env(),
         rt,
@@ -153,30 +145,35 @@ pub(crate) fn run_groups<R: Threads + Wait + Sync, G: Gate + Sync>(
             requires flags { vec_len groups ≤ length refused.now }
             ensures carries { Carries board.entry.now (workers_of crew ++ workers_in groups.items) result.items }
             ensures done { All IsDone result.items }
-        { run_in(scope, rt, groups, crew, refused, board, waiting, gate) },
+        {
+            let common = Common {
+                rt,
+                board,
+                waiting,
+                gate,
+            };
+            run_in(scope, common, groups, crew, refused)
+        },
     )
 }
 
 // the same, with the scope of the threads
 fn run_in<'s, E, R: Threads + Wait + Sync, G: Gate + Sync>(
     scope: &Scope<'s, E>,
-    rt: &'s R,
+    common: Common<'s, R, G>,
     groups: Vec<Vec<Worker<Loaded>>>,
     mut crew: Crew,
     refused: &'s [AtomicBool],
-    board: &'s Board<Loaded>,
-    waiting: &'s Waiting,
-    gate: &'s G,
 ) -> Vec<Worker<Loaded>>
-    requires ready { IsReady board.now crew (workers_in groups.items) (vec_len groups) }
+    requires ready { IsReady common.board.now crew (workers_in groups.items) (vec_len groups) }
     requires flags { vec_len groups ≤ length refused.now }
-    ensures carries { Carries board.now (workers_of crew ++ workers_in groups.items) result.items }
+    ensures carries { Carries common.entry.board.now (workers_of crew ++ workers_in groups.items) result.items }
     ensures done { All IsDone result.items }
 {
-    crew.run_here(rt, board, waiting, gate);
-    crew.take_all_on(scope, rt, groups, refused, board, waiting, gate);
-    crew.run_here(rt, board, waiting, gate);
-    let mut workers = crew.joined(rt);
-    run_through(rt, &mut workers, board, waiting, gate);
+    crew.run_here(common);
+    crew.take_all_on(scope, common, groups, refused);
+    crew.run_here(common);
+    let mut workers = crew.joined(common.rt);
+    run_through(common, &mut workers);
     workers
 }

@@ -11,9 +11,9 @@
 //!
 //! `machine` makes what the workers share to wait for one another, before the first of them starts.
 //! `making` makes the board and the workers in groups, `crew` runs the groups in threads and joins them, with the
-//! steps of `threads`, and `ending` gives the passes back and closes the board. That a step hands all workers on is
-//! said by `specs/Carried.antt`, and for which of the machine's cores a worker stands by `specs/Worked.antt`. That the
-//! run returns is not promised, nor that several threads run.
+//! steps of `threads` and what all workers have in common, and `ending` gives the passes back and closes the board.
+//! That a step hands all workers on is said by `specs/Carried.antt`, and for which of the machine's cores a worker
+//! stands by `specs/Worked.antt`. That the run returns is not promised, nor that several threads run.
 //!
 //! What its words mean stands in [the glossary](../../../docs/GLOSSARY.md).
 #![tactic(auto)]

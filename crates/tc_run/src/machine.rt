@@ -7,6 +7,7 @@ use crate::begin::count_of;
 use crate::crew::{Crew, run_groups};
 use crate::ending::{Final, end_of};
 use crate::making::{board_of, groups_of};
+use crate::threads::Common;
 use core_worker::Waiting;
 use global_step::Loaded;
 use std::alloc::Global;
@@ -49,7 +50,13 @@ pub(crate) fn run_waiting<R: Threads + Wait + Sync, G: Gate + Sync>(
     let crew = Crew::with_last(alloc, &mut groups, count_of(machine))?;
     let refused = flags_of(alloc, groups.len())?;
     let cores = Vec::with_capacity(alloc, count_of(machine))?;
-    let workers = run_groups(rt, groups, crew, refused.as_slice(), &board, waiting, gate);
+    let common = Common {
+        rt,
+        board: &board,
+        waiting,
+        gate,
+    };
+    let workers = run_groups(common, groups, crew, refused.as_slice());
     Ok(end_of(machine, board, maker, workers, cores))
 }
 

@@ -9,7 +9,7 @@ ghost use Rattle.tc_run.specs.Final.{AreFinal};
 use crate::begin::{core_of, count_of};
 use crate::ending::{Final, end_of};
 use crate::making::{board_of, groups_of};
-use crate::threads::{gather, run_through};
+use crate::threads::{Common, gather, run_through};
 use core_worker::{Waiting, Worker};
 use global_step::{Loaded, plain_run};
 use local_store::{COMM_WORDS, SHARED_WORDS};
@@ -51,7 +51,13 @@ pub fn run_by_turns<R: Wait, G: Gate>(
     let groups = groups_of(rt, alloc, machine, &board, &mut maker)?;
     let mut workers = all_of(alloc, groups, count_of(machine))?;
     let cores = Vec::with_capacity(alloc, count_of(machine))?;
-    run_through(rt, &mut workers, &board, &Waiting::new(false), gate);
+    let common = Common {
+        rt,
+        board: &board,
+        waiting: &Waiting::new(false),
+        gate,
+    };
+    run_through(common, &mut workers);
     Ok(end_of(machine, board, maker, workers, cores))
 }
 

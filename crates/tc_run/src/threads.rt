@@ -12,6 +12,17 @@ use std::sync::atomic::{AtomicBool, Ordering};
 use std::thread::{Promise, PromisedHandle, Scope, Threads};
 use tc_io::Gate;
 
+/// What the workers of a run have in common: the runtime, their board, what they share to wait for one another, and the
+/// gate that is told each event. A closure captures these one by one: nothing is known of the result of one that
+/// captures a record of references.
+#[derive_where(Clone, Copy)]
+pub(crate) struct Common<'s, R, G> {
+    pub(crate) rt: &'s R,
+    pub(crate) board: &'s Board<Loaded>,
+    pub(crate) waiting: &'s Waiting,
+    pub(crate) gate: &'s G,
+}
+
 /// That the workers that a thread gives back are those that moved into it, later.
 #[derive(Drop)]
 pub(crate) struct SameWorkers {
@@ -49,19 +60,22 @@ pub(crate) fn run_group<R: Wait, G: Gate>(
 /// Starts the thread of a group. Where that is refused, it gives the group's workers back unrun.
 pub(crate) fn start_group<'s, E, R: Threads + Wait + Sync, G: Gate + Sync>(
     scope: &Scope<'s, E>,
-    rt: &'s R,
+    common: Common<'s, R, G>,
     workers: Vec<Worker<Loaded>>,
     refused: &'s AtomicBool,
-    board: &'s Board<Loaded>,
-    waiting: &'s Waiting,
-    gate: &'s G,
 ) -> Result<PromisedHandle<Vec<Worker<Loaded>>, SameWorkers>, Vec<Worker<Loaded>>>
-    requires on { All (IsOn board.now) workers.items }
+    requires on { All (IsOn common.board.now) workers.items }
     ensures started { IfOk result (λ h.
-        (h.promise.was.value ≡ workers) × (h.promise.board.value ≡ board.now)) }
-    ensures on { IfErr result (λ ws. All (IsOn board.now) ws.items) }
+        (h.promise.was.value ≡ workers) × (h.promise.board.value ≡ common.entry.board.now)) }
+    ensures on { IfErr result (λ ws. All (IsOn common.entry.board.now) ws.items) }
     ensures later { IfErr result (λ ws. AreLater workers.items ws.items) }
 {
+    let Common {
+        rt,
+        board,
+        waiting,
+        gate,
+    } = common;
     let promise = SameWorkers {
         was: Snapshot::of(&workers),
         board: Snapshot::of(board),
@@ -90,32 +104,35 @@ pub(crate) fn gather(all: &mut Vec<Worker<Loaded>>, mut group: Vec<Worker<Loaded
 }
 
 /// Runs workers until none of them has an event left, or the threads of the run give theirs back.
-pub(crate) fn run_on<R: Wait, G: Gate>(
-    rt: &R,
-    workers: &mut Vec<Worker<Loaded>>,
-    board: &Board<Loaded>,
-    waiting: &Waiting,
-    gate: &G,
-)
-    requires on { All (IsOn board.now) workers.old.items }
-    ensures carries { Carries board.now workers.old.items workers.new.items }
+pub(crate) fn run_on<R: Wait, G: Gate>(common: Common<'_, R, G>, workers: &mut Vec<Worker<Loaded>>)
+    requires on { All (IsOn common.board.now) workers.old.items }
+    ensures carries { Carries common.entry.board.now workers.old.items workers.new.items }
     ensures room { vec_capacity workers.new ≡ vec_capacity workers.old }
 {
-    run_some(rt, workers.as_mut_slice(), board, waiting, gate);
+    run_some(
+        common.rt,
+        workers.as_mut_slice(),
+        common.board,
+        common.waiting,
+        common.gate,
+    );
 }
 
 /// Runs workers until none of them has an event left.
 pub(crate) fn run_through<R: Wait, G: Gate>(
-    rt: &R,
+    common: Common<'_, R, G>,
     workers: &mut Vec<Worker<Loaded>>,
-    board: &Board<Loaded>,
-    waiting: &Waiting,
-    gate: &G,
 )
-    requires on { All (IsOn board.now) workers.old.items }
-    ensures carries { Carries board.now workers.old.items workers.new.items }
+    requires on { All (IsOn common.board.now) workers.old.items }
+    ensures carries { Carries common.entry.board.now workers.old.items workers.new.items }
     ensures done { All IsDone workers.new.items }
     ensures room { vec_capacity workers.new ≡ vec_capacity workers.old }
 {
-    run_all(rt, workers.as_mut_slice(), board, waiting, gate);
+    run_all(
+        common.rt,
+        workers.as_mut_slice(),
+        common.board,
+        common.waiting,
+        common.gate,
+    );
 }

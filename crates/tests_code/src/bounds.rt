@@ -1,9 +1,13 @@
-//! Bounds of shapes in memory, worked out by hand for a place where a transaction takes 29 cycles at most.
-ghost use Rattle.std.specs.Prelude.{◌≡◌, ℕ, ◌<◌, IfOk, true};
+//! Bounds of shapes in memory, the persistent one too, worked out by hand for a place where a transaction takes 29
+//! cycles at most.
+ghost use Rattle.std.specs.Prelude.{◌≡◌, ℕ, ◌<◌, [], ◌∷◌, IfOk, true};
+ghost use Rattle.bound_persist.specs.Examples as example;
 ghost use Rattle.sp_shape.specs.Formed.{is_formed, part_formed, function_formed};
 ghost use Rattle.sp_shape.specs.Shown.{parts_of, plain_part, plain_shape};
+ghost use Rattle.sp_shape.specs.Small as small;
 
-use crate::making::{again, idle, leave};
+use crate::making::{again, idle, leave, turns};
+use bound_persist::persist_bound_uncounted;
 use cycle_bound::{Long, bound_uncounted};
 use slot_arbiter::Place;
 use sp_shape::{Part, Shape};
@@ -96,5 +100,34 @@ fn only_what_is_run_counts(rt: HostRuntime) -> Result<(), Fail> {
         let shape = shape_of(rt.alloc(), long, short, entry)?;
         assert_eq!(rt; bound_uncounted(&shape, &place), want, "entry {entry}");
     }
+    Ok(())
+}
+
+// a function that returns at once, and one that calls it three times, which is run
+fn calling(alloc: Global) -> Result<Shape, AllocError>
+    ensures { IfOk result (λ s. plain_shape s ≡ small.shape_of (small.empty ∷ example.thrice ∷ []) 1) }
+{
+    let leave_first = leave(alloc)?;
+    let empty = List::of(vec![in alloc; leave_first]?);
+    let turns = turns(alloc)?;
+    let leave_second = leave(alloc)?;
+    let thrice = List::of(vec![in alloc; turns, leave_second]?);
+    Ok(Shape {
+        functions: List::of(vec![in alloc; empty, thrice]?),
+        entry: 1,
+        initial: List::of(Vec::new(alloc)),
+        input_at: 4,
+        input_room: 0,
+    })
+}
+
+// 3 + 2 transactions of 29 cycles fetch both functions once, and 3 * (4 + 4 + 3) + 4 bundles are run. The bound counts
+// 3 transactions, and 2 + 3 more in each of the three turns.
+#[test]
+fn each_function_is_fetched_once(rt: HostRuntime) -> Result<(), Fail> {
+    let place = Place::new(4, 2, 6, 0).expect(&rt, "a place");
+    let shape = calling(rt.alloc())?;
+    assert_eq!(rt; persist_bound_uncounted(&shape, &place), Ok(182));
+    assert_eq!(rt; bound_uncounted(&shape, &place), Ok(559));
     Ok(())
 }

@@ -23,3 +23,5 @@ mod making;
 mod persisting;
 #[cfg(test)]
 mod scheduling;
+#[cfg(test)]
+mod trees;

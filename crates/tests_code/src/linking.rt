@@ -1,12 +1,12 @@
 //! That a shape is linked where memory is there, which no clause can say.
 ghost use Rattle.std.specs.Prelude.{◌≡◌, ◌<◌, [], ◌∷◌, IfOk};
-ghost use Rattle.sp_shape.specs.Parts.{calls_to, one, repeats, straight};
+ghost use Rattle.sp_shape.specs.Parts.{straight};
 ghost use Rattle.sp_shape.specs.Shown.{parts_of, plain_part, plain_shape};
 ghost use Rattle.sp_shape.specs.Small as small;
 ghost use Rattle.tc_link.specs.Examples.{second_run};
 
-use crate::making::{again, alone, idle, leave};
-use patmos_instr::{Addr22, Imm12, ImmFunc, Op, Reg};
+use crate::making::{alone, leave, turns};
+use patmos_instr::{Imm12, ImmFunc, Op, Reg};
 use sp_shape::{Part, Shape};
 use std::alloc::{AllocError, Global};
 use std::test::Fail;
@@ -27,34 +27,6 @@ fn add(alloc: Global, n: u32) -> Result<Part, AllocError>
     });
     Ok(Part::Straight {
         bundles: List::of(vec![in alloc; bundle]?),
-    })
-}
-
-// a call of the first function, and its delay slots
-#[tactic(auto, unfolding(sp_shape::specs::Shown::plain_part))]
-fn call(alloc: Global) -> Result<Part, AllocError>
-    ensures { IfOk result (λ p. plain_part p ≡ calls_to 0 small.call) }
-{
-    let way = alone(Op::Call {
-        target: Addr22::low(0),
-    });
-    Ok(Part::CallTo {
-        function: 0,
-        tail: List::of(vec![in alloc; way, idle(), idle(), idle()]?),
-    })
-}
-
-// three turns with a call in each
-fn turns(alloc: Global) -> Result<Part, AllocError>
-    ensures { IfOk result (λ p. plain_part p ≡ repeats 3 (one (calls_to 0 small.call)) small.again) }
-{
-    let call = call(alloc)?;
-    let body = List::of(vec![in alloc; call]?);
-    let tail = again(alloc)?;
-    Ok(Part::Repeat {
-        count: 3,
-        body,
-        tail,
     })
 }
 

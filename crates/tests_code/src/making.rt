@@ -1,12 +1,12 @@
 //! Bundles and parts of small shapes, and a small tree.
 ghost use Rattle.std.specs.Prelude.{◌≡◌, IfOk};
 ghost use Rattle.c_compile.specs.Examples as examples;
-ghost use Rattle.sp_shape.specs.Parts.{leaves};
+ghost use Rattle.sp_shape.specs.Parts.{calls_to, leaves, one, repeats};
 ghost use Rattle.sp_shape.specs.Shown.{plain_part};
 ghost use Rattle.sp_shape.specs.Small as small;
 ghost use Rattle.sp_tree.specs.Shown.{plain_unit};
 
-use patmos_instr::{Bundle, Guard, Instr, Off22, Op};
+use patmos_instr::{Addr22, Bundle, Guard, Instr, Off22, Op};
 use sp_shape::Part;
 use sp_tree::{SpExpr, SpFunction, SpStmt, SpUnit};
 use std::alloc::{AllocError, Global};
@@ -50,6 +50,34 @@ pub fn leave(alloc: Global) -> Result<Part, AllocError>
     let way_back = alone(Op::Return);
     Ok(Part::Leave {
         tail: List::of(vec![in alloc; way_back, idle(), idle(), idle()]?),
+    })
+}
+
+// a call of the first function, and its delay slots
+#[tactic(auto, unfolding(sp_shape::specs::Shown::plain_part))]
+fn call(alloc: Global) -> Result<Part, AllocError>
+    ensures { IfOk result (λ p. plain_part p ≡ calls_to 0 small.call) }
+{
+    let way = alone(Op::Call {
+        target: Addr22::low(0),
+    });
+    Ok(Part::CallTo {
+        function: 0,
+        tail: List::of(vec![in alloc; way, idle(), idle(), idle()]?),
+    })
+}
+
+/// Three turns with a call in each.
+pub fn turns(alloc: Global) -> Result<Part, AllocError>
+    ensures { IfOk result (λ p. plain_part p ≡ repeats 3 (one (calls_to 0 small.call)) small.again) }
+{
+    let call = call(alloc)?;
+    let body = List::of(vec![in alloc; call]?);
+    let tail = again(alloc)?;
+    Ok(Part::Repeat {
+        count: 3,
+        body,
+        tail,
     })
 }
 

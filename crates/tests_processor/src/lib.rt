@@ -1,4 +1,5 @@
-//! Tests of the crates of a processor: instructions, their words, what a bundle does, and a core.
+//! Tests of the crates of a processor: instructions, their words, what a bundle does, a core and what it is made of,
+//! and the machine of all cores.
 //!
 //! A crate with tests is proved twice, with them and without. So the tests of several crates stand here, over their
 //! public calls alone, and have no part in the program. What a command shows is a case of `cases/` at the top instead.
@@ -10,5 +11,15 @@ mod bundles;
 mod cores;
 #[cfg(test)]
 mod instructions;
+#[cfg(test)]
+mod interfaces;
+#[cfg(test)]
+mod machines;
+#[cfg(test)]
+mod models;
+#[cfg(test)]
+mod operations;
+#[cfg(test)]
+mod stacks;
 #[cfg(test)]
 mod words;

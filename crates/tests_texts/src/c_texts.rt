@@ -53,7 +53,7 @@ fn reads_tokens(rt: HostRuntime) -> Result<(), Fail> {
 }
 
 /// The tree of a text that is not very long, or the place of its syntax.
-fn parsed(alloc: Global, text: &str) -> Result<Unit, ParseFault> {
+pub fn parsed(alloc: Global, text: &str) -> Result<Unit, ParseFault> {
     let tokens = match tokens_of(alloc, text) {
         Ok(tokens) if tokens.as_slice().len() < 1_000_000 => tokens,
         _ => return Err(ParseFault::Memory),

@@ -9,6 +9,8 @@ mod assembly;
 #[cfg(test)]
 mod c_texts;
 #[cfg(test)]
+mod checks;
+#[cfg(test)]
 mod conversions;
 #[cfg(test)]
 mod jobs;
@@ -16,5 +18,7 @@ mod jobs;
 mod kernels;
 #[cfg(test)]
 mod meanings;
+#[cfg(test)]
+mod mentions;
 #[cfg(test)]
 mod schedules;

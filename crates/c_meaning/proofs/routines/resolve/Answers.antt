@@ -4,11 +4,11 @@ use Rattle.std.proofs.Math.ListN.{length-append}
 use Rattle.c_tree.specs.Plain.{plain_item, plain}
 use Rattle.c_meaning.specs.Fits.{SlotsFit, ItemFits}
 use Rattle.c_meaning.specs.Open.{functions_of}
-use Rattle.c_meaning.specs.Resolve.{resolved_items, names_in}
-use Rattle.c_meaning.specs.Shown.{bodies_of}
+use Rattle.c_meaning.specs.Resolve.{resolved_items, names_in, parameters_in}
+use Rattle.c_meaning.specs.Shown.{counts_of, bodies_of}
 use Rattle.c_meaning.proofs.Few.{program_fits, item_at, few_functions}
 use Rattle.c_meaning.proofs.Slots.{layout_fits}
-use Rattle.c_meaning.proofs.ItemParts.{items_next, names_next}
+use Rattle.c_meaning.proofs.ItemParts.{items_next, names_next, counts_next}
 use Rattle.c_meaning.proofs.routines.resolve.Goals as goal
 
 pub new-requires : goal.new-requires
@@ -55,6 +55,9 @@ loop-item-preserved c =
       routines = ap₂ (λ bs f. bs ++ resolved_items slots f rest) one_more c.in_ok-add_item.ensures.functions
           ∙ append_assoc bodies (resolved_items slots fs (plain_item t ∷ [])) (resolved_items slots (fs ++ names_in (plain_item t ∷ [])) rest)
           ∙ ap (λ rs. bodies ++ rs) (sym (items_next slots fs items i t (omega arith) c.item-item.is)) ∙ c.loop-item.invariant.routines;
+      counts = ap (λ cs. cs ++ parameters_in rest) c.in_ok-add_item.ensures.counts
+          ∙ append_assoc (counts_of c.loop-item.routines.items) (parameters_in (plain_item t ∷ [])) (parameters_in rest)
+          ∙ ap (λ ns. counts_of c.loop-item.routines.items ++ ns) (sym (counts_next items i t (omega arith) c.item-item.is)) ∙ c.loop-item.invariant.counts;
       functions = ap (λ f. f ++ names_in rest) c.in_ok-add_item.ensures.functions
           ∙ append_assoc fs (names_in (plain_item t ∷ [])) (names_in rest)
           ∙ ap (λ ns. fs ++ ns) (sym (names_next items i t (omega arith) c.item-item.is)) ∙ c.loop-item.invariant.functions;

@@ -17,6 +17,12 @@ decreases-operand l = 16 * length l.tokens.now + 1
 abbrev pub decreases-primary : goal.decreases-primary
 decreases-primary l = 16 * length l.tokens.now
 
+abbrev pub decreases-variable : goal.decreases-variable
+decreases-variable l = 16 * length l.tokens.now + 15
+
+abbrev pub decreases-index : goal.decreases-index
+decreases-index l = 16 * length l.tokens.now + 14
+
 abbrev pub invariant-chain-loop-op : goal.invariant-chain-loop-op
 invariant-chain-loop-op l = record {
   written : l.fn.tokens ≡ expr_tokens l.first ++ (tokens_of_steps l.steps.items ++ l.rest);

@@ -1,8 +1,8 @@
-use Rattle.std.proofs.Common.{arith, refl, ◌∙◌, ◌∷◌, Some, None}
+use Rattle.std.proofs.Common.{arith, refl, ◌∷◌, Some, None}
 use Rattle.std.proofs.lemmas.Grind.{common_steps}
 use Rattle.c_parse.proofs.Growing.{arms_passed, body_grown, each_grown, arms_grown, not_empty, arms_fitting, if_written, loop_written, inner_written, otherwise_written}
 use Rattle.c_parse.specs.Expected.{Else}
-use Rattle.c_parse.proofs.Starts.{statements_statement}
+use Rattle.c_parse.proofs.Starts.{statements_end, statements_statement, block_open, no_block, else_more, branch_if, branch_block, no_else, statement_if, statement_bound, statement_brace}
 use Rattle.c_parse.proofs.statements.+statement.Goals as goal
 
 pub statements-loop-behind-preserved : goal.statements-loop-behind-preserved
@@ -34,14 +34,53 @@ conditional-returns-clause-written t c = if_written _ _ _ _ None c.of-2.ensures 
 pub conditional-returns-clause-fits : goal.conditional-returns-clause-fits
 conditional-returns-clause-fits t c = arms_fitting _ _ None c.of-2.ensures c.loop-behind.invariant.some c.loop-behind.invariant.fits tt
 
-pub statement-returns-in-Some-bound_at-clause-written : goal.statement-returns-in-Some-bound_at-clause-written
-statement-returns-in-Some-bound_at-clause-written t c = loop_written _ _ _ _ (Some c.in-Some-bound_at.bound) _ _ c.in-Some-bound_at.ensures c.in_ok-head.ensures.written c.in_ok-body.ensures.written
+pub looped-returns-clause-written : goal.looped-returns-clause-written
+looped-returns-clause-written t c = loop_written _ _ _ _ c.args.bound _ _ refl c.in_ok-head.ensures.written c.in_ok-body.ensures.written
 
-pub statement-returns-in-Some-opened-clause-written : goal.statement-returns-in-Some-opened-clause-written
-statement-returns-in-Some-opened-clause-written t c = inner_written _ _ _ _ c.in-Some-opened.ensures.0 c.in_ok-body-2.ensures.written
+pub inner-returns-clause-written : goal.inner-returns-clause-written
+inner-returns-clause-written t c = inner_written _ _ _ _ refl c.in_ok-body.ensures.written
 
-pub statement-returns-in-Some-after_word-clause-written : goal.statement-returns-in-Some-after_word-clause-written
-statement-returns-in-Some-after_word-clause-written t c = loop_written _ _ _ _ None _ _ refl (c.in-Some-after_word.ensures ∙ c.in_ok-head-2.ensures.written) c.in_ok-body-3.ensures.written
+pub statements-returns-in-Some-clause-passes : goal.statements-returns-in-Some-clause-passes
+statements-returns-in-Some-clause-passes t c = grind (arith, common_steps, statements_end)
 
-pub statement-returns-in-Some-after_word-2-clause-written : goal.statement-returns-in-Some-after_word-2-clause-written
-statement-returns-in-Some-after_word-2-clause-written t c = loop_written _ _ _ _ None _ _ refl (c.in-Some-after_word-2.ensures ∙ c.in_ok-head-3.ensures.written) c.in_ok-body-4.ensures.written
+pub statements-returns-in_err-statement-clause-refuses : goal.statements-returns-in_err-statement-clause-refuses
+statements-returns-in_err-statement-clause-refuses t c = grind (arith, common_steps, statements_statement)
+
+pub block-returns-in_err-behind-clause-refuses : goal.block-returns-in_err-behind-clause-refuses
+block-returns-in_err-behind-clause-refuses t c = grind (arith, common_steps, no_block)
+
+pub block-returns-in_err-body-clause-refuses : goal.block-returns-in_err-body-clause-refuses
+block-returns-in_err-body-clause-refuses t c = grind (arith, common_steps, block_open)
+
+pub block-returns-clause-passes : goal.block-returns-clause-passes
+block-returns-clause-passes t c = grind (arith, common_steps, block_open)
+
+pub conditional-returns-in_err-further-clause-refuses : goal.conditional-returns-in_err-further-clause-refuses
+conditional-returns-in_err-further-clause-refuses t c = grind (arith, common_steps, else_more, branch_if)
+
+pub conditional-returns-in_err-body-clause-refuses : goal.conditional-returns-in_err-body-clause-refuses
+conditional-returns-in_err-body-clause-refuses t c = grind (arith, common_steps, else_more, branch_block)
+
+pub conditional-returns-in_default-after_word-clause-passes : goal.conditional-returns-in_default-after_word-clause-passes
+conditional-returns-in_default-after_word-clause-passes t c = grind (arith, common_steps, else_more, branch_block)
+
+pub conditional-returns-clause-passes : goal.conditional-returns-clause-passes
+conditional-returns-clause-passes t c = grind (arith, common_steps, no_else)
+
+pub statement-returns-in-Some-clause-passes : goal.statement-returns-in-Some-clause-passes
+statement-returns-in-Some-clause-passes t c = grind (arith, common_steps, statement_if)
+
+pub statement-returns-in-Some-clause-refuses : goal.statement-returns-in-Some-clause-refuses
+statement-returns-in-Some-clause-refuses t c = grind (arith, common_steps, statement_if)
+
+pub statement-returns-in-Some-bound_at-clause-passes : goal.statement-returns-in-Some-bound_at-clause-passes
+statement-returns-in-Some-bound_at-clause-passes t c = grind (arith, common_steps, statement_bound)
+
+pub statement-returns-in-Some-bound_at-clause-refuses : goal.statement-returns-in-Some-bound_at-clause-refuses
+statement-returns-in-Some-bound_at-clause-refuses t c = grind (arith, common_steps, statement_bound)
+
+pub statement-returns-in-Some-opened-clause-passes : goal.statement-returns-in-Some-opened-clause-passes
+statement-returns-in-Some-opened-clause-passes t c = grind (arith, common_steps, statement_brace)
+
+pub statement-returns-in-Some-opened-clause-refuses : goal.statement-returns-in-Some-opened-clause-refuses
+statement-returns-in-Some-opened-clause-refuses t c = grind (arith, common_steps, statement_brace)

@@ -13,6 +13,12 @@ decreases-statements l = 8 * length l.tokens.now + 4
 abbrev pub decreases-statement : goal.decreases-statement
 decreases-statement l = 8 * length l.tokens.now + 3
 
+abbrev pub decreases-looped : goal.decreases-looped
+decreases-looped l = 8 * length l.tokens.now + 2
+
+abbrev pub decreases-inner : goal.decreases-inner
+decreases-inner l = 8 * length l.tokens.now + 5
+
 abbrev pub decreases-conditional : goal.decreases-conditional
 decreases-conditional l = 8 * length l.tokens.now + 2
 

@@ -5,7 +5,7 @@ use Rattle.sp_tree.specs.Shown.{stmts_of}
 use Rattle.sp_tree.specs.Statements.{joined}
 use Rattle.c_meaning.specs.Shown.{plain_action, plain_target, actions_of, branches_of}
 use Rattle.single_path.specs.Made.{made, made_action, made_branches, made_call, is_no_action, is_no_branch}
-use Rattle.single_path.specs.declared.places.Place.{Place}
+use Rattle.single_path.specs.declared.part_words.PartWords.{PartWords}
 use Rattle.single_path.specs.Widths as width
 use Rattle.c_meaning.specs.Sizes.{action_size}
 use Rattle.c_meaning.proofs.Falls.{part_size}
@@ -31,52 +31,52 @@ add_action-add_repeated-requires t c =
 pub add_action-returns-in-Set : goal.add_action-returns-in-Set
 unfolding plain_action
 add_action-returns-in-Set t c =
-    subst (λ a. OnOk c.add_assignment.result (stmts_of c.add_assignment.new.out.items ≡ joined (stmts_of c.args.out.now.items) (made_action c.args.place (plain_action a))))
+    subst (λ a. OnOk c.add_assignment.result (stmts_of c.add_assignment.new.out.items ≡ joined (stmts_of c.args.out.now.items) (made_action c.args.part (plain_action a))))
     (sym c.in-Set.is) c.add_assignment.ensures
 
 pub add_action-returns-in-Call : goal.add_action-returns-in-Call
 unfolding plain_action
 add_action-returns-in-Call t c =
-    subst (λ a. OnOk c.add_call.result (stmts_of c.add_call.new.out.items ≡ joined (stmts_of c.args.out.now.items) (made_action c.args.place (plain_action a))))
+    subst (λ a. OnOk c.add_call.result (stmts_of c.add_call.new.out.items ≡ joined (stmts_of c.args.out.now.items) (made_action c.args.part (plain_action a))))
     (sym c.in-Call.is)
     (subst (λ vs. OnOk c.add_call.result (stmts_of c.add_call.new.out.items
-    ≡ joined (stmts_of c.args.out.now.items) (made_call c.args.place c.in-Call.function (map plain_sp vs) (option_map plain_target c.in-Call.target))))
+    ≡ joined (stmts_of c.args.out.now.items) (made_call c.args.part c.in-Call.function (map plain_sp vs) (option_map plain_target c.in-Call.target))))
     c.as_slice.ensures c.add_call.ensures)
 
 pub add_action-returns-in-Send : goal.add_action-returns-in-Send
 unfolding plain_action
 add_action-returns-in-Send t c =
-    subst (λ a. OnOk c.add_send.result (stmts_of c.add_send.new.out.items ≡ joined (stmts_of c.args.out.now.items) (made_action c.args.place (plain_action a))))
+    subst (λ a. OnOk c.add_send.result (stmts_of c.add_send.new.out.items ≡ joined (stmts_of c.args.out.now.items) (made_action c.args.part (plain_action a))))
     (sym c.in-Send.is) c.add_send.ensures
 
 pub add_action-returns-in-Choose : goal.add_action-returns-in-Choose
 add_action-returns-in-Choose t c =
-    subst (λ a. OnOk c.add_choice.result (stmts_of c.add_choice.new.out.items ≡ joined (stmts_of c.args.out.now.items) (made_action c.args.place a)))
+    subst (λ a. OnOk c.add_choice.result (stmts_of c.add_choice.new.out.items ≡ joined (stmts_of c.args.out.now.items) (made_action c.args.part a)))
     (choose_is c.args.action.now c.in-Choose.branches c.as_slice-in-Choose.result.now c.in-Choose.otherwise c.as_slice-in-Choose-2.result.now
     c.in-Choose.is c.as_slice-in-Choose.ensures c.as_slice-in-Choose-2.ensures) c.add_choice.ensures
 
 pub add_action-returns-in-Loop : goal.add_action-returns-in-Loop
 add_action-returns-in-Loop t c =
-    subst (λ a. OnOk c.add_repeated.result (stmts_of c.add_repeated.new.out.items ≡ joined (stmts_of c.args.out.now.items) (made_action c.args.place a)))
+    subst (λ a. OnOk c.add_repeated.result (stmts_of c.add_repeated.new.out.items ≡ joined (stmts_of c.args.out.now.items) (made_action c.args.part a)))
     (loop_is c.args.action.now c.in-Loop.max c.in-Loop.condition c.in-Loop.body c.as_slice-in-Loop.result.now c.in-Loop.step c.in-Loop.is
     c.as_slice-in-Loop.ensures) c.add_repeated.ensures
 
 pub add_action-returns-in-Break : goal.add_action-returns-in-Break
 unfolding plain_action
 add_action-returns-in-Break t c =
-    subst (λ a. OnOk c.add_break.result (stmts_of c.add_break.new.out.items ≡ joined (stmts_of c.args.out.now.items) (made_action c.args.place (plain_action a))))
+    subst (λ a. OnOk c.add_break.result (stmts_of c.add_break.new.out.items ≡ joined (stmts_of c.args.out.now.items) (made_action c.args.part (plain_action a))))
     (sym c.in-Break.is) c.add_break.ensures
 
 pub add_action-returns-in-Continue : goal.add_action-returns-in-Continue
 unfolding plain_action
 add_action-returns-in-Continue t c =
-    subst (λ a. OnOk c.add_continue.result (stmts_of c.add_continue.new.out.items ≡ joined (stmts_of c.args.out.now.items) (made_action c.args.place (plain_action a))))
+    subst (λ a. OnOk c.add_continue.result (stmts_of c.add_continue.new.out.items ≡ joined (stmts_of c.args.out.now.items) (made_action c.args.part (plain_action a))))
     (sym c.in-Continue.is) c.add_continue.ensures
 
 pub add_action-returns-in-Return : goal.add_action-returns-in-Return
 unfolding plain_action
 add_action-returns-in-Return t c =
-    subst (λ a. OnOk c.add_return.result (stmts_of c.add_return.new.out.items ≡ joined (stmts_of c.args.out.now.items) (made_action c.args.place (plain_action a))))
+    subst (λ a. OnOk c.add_return.result (stmts_of c.add_return.new.out.items ≡ joined (stmts_of c.args.out.now.items) (made_action c.args.part (plain_action a))))
     (sym c.in-Return.is) c.add_return.ensures
 
 pub add_all-add_action-requires : goal.add_all-add_action-requires
@@ -87,26 +87,26 @@ add_all-add_action-requires t c =
 
 pub add_all-loop-action-preserved : goal.add_all-loop-action-preserved
 add_all-loop-action-preserved t c =
-    next_action c.args.place (stmts_of c.loop-action.out.items) (stmts_of c.add_action.new.out.items)
-    (joined (stmts_of c.args.out.now.items) (made c.args.place (actions_of c.args.actions.now))) c.args.actions.now c.loop-action.action-index c.action-item.result
+    next_action c.args.part (stmts_of c.loop-action.out.items) (stmts_of c.add_action.new.out.items)
+    (joined (stmts_of c.args.out.now.items) (made c.args.part (actions_of c.args.actions.now))) c.args.actions.now c.loop-action.action-index c.action-item.result
     (omega arith) c.action-item.is (sym c.ends.ensures ∙ c.if-ends.false) c.in_ok-add_action.ensures c.loop-action.invariant
 
 pub add_all-returns : goal.add_all-returns
 add_all-returns t c =
-    no_action_left c.args.place (stmts_of c.loop-action.out.items) (joined (stmts_of c.args.out.now.items) (made c.args.place (actions_of c.args.actions.now)))
+    no_action_left c.args.part (stmts_of c.loop-action.out.items) (joined (stmts_of c.args.out.now.items) (made c.args.part (actions_of c.args.actions.now)))
     c.args.actions.now c.loop-action.action-index (omega arith) c.loop-action.invariant
 
 pub add_arms-add_otherwise-requires : goal.add_arms-add_otherwise-requires
 add_arms-add_otherwise-requires t c =
     let size = split_size c.args.branches.now c.branch-item.result (omega arith) c.branch-item.is in
     let taken = split_masks c.args.branches.now c.branch-item.result (width.masks (actions_of c.args.otherwise.now)) (omega arith) c.branch-item.is in
-    let free = ap (λ (q : Place). q.free) c.in_ok-arm-in-len1-up.ensures.arm in
+    let free = ap (λ (q : PartWords). q.free) c.in_ok-arm-in-len1-up.ensures.arm in
     (omega (arith, c.decreases, size), omega (arith, c.requires, taken, free))
 
 pub add_arms-returns-in_ok-add_all-in-len1-up : goal.add_arms-returns-in_ok-add_all-in-len1-up
 add_arms-returns-in_ok-add_all-in-len1-up t c =
     subst (λ w. OnOk c.add_otherwise.result (stmts_of c.add_otherwise.new.out.items ≡ w))
-    (arm_added c.args.place c.in_ok-arm-in-len1-up.arm (stmts_of c.args.out.now.items) (stmts_of c.begin_arm.new.out.items) (stmts_of c.add_all-in-len1-up.new.out.items)
+    (arm_added c.args.part c.in_ok-arm-in-len1-up.arm (stmts_of c.args.out.now.items) (stmts_of c.begin_arm.new.out.items) (stmts_of c.add_all-in-len1-up.new.out.items)
     c.args.branches.now _ c.branch-item.result c.as_slice.result.now (is_no_action (actions_of c.args.otherwise.now)) (λ q. made q (actions_of c.args.otherwise.now))
     (omega arith) c.branch-item.is refl c.as_slice.ensures c.in_ok-arm-in-len1-up.ensures.arm c.in_ok-arm-in-len1-up.ensures.mask
     c.in_ok-add_all-in-len1-up.ensures)
@@ -114,14 +114,14 @@ add_arms-returns-in_ok-add_all-in-len1-up t c =
 
 pub add_otherwise-returns-then-stands_nothing : goal.add_otherwise-returns-then-stands_nothing
 add_otherwise-returns-then-stands_nothing t c =
-    nothing_added c.args.place (stmts_of c.args.out.now.items)
+    nothing_added c.args.part (stmts_of c.args.out.now.items)
     (made_branches c.args.arm (branches_of c.args.rest.now) (is_no_action (actions_of c.args.otherwise.now)) (λ q. made q (actions_of c.args.otherwise.now)))
     (is_no_branch (branches_of c.args.rest.now) && is_no_action (actions_of c.args.otherwise.now)) (sym c.stands_nothing.ensures ∙ c.if-stands_nothing.true)
 
 pub add_otherwise-returns : goal.add_otherwise-returns
 add_otherwise-returns t c =
     subst (λ w. OnOk c.add_arms.result (stmts_of c.add_arms.new.out.items ≡ w))
-    (otherwise_added c.args.place (stmts_of c.args.out.now.items) (stmts_of c.begin_otherwise.new.out.items)
+    (otherwise_added c.args.part (stmts_of c.args.out.now.items) (stmts_of c.begin_otherwise.new.out.items)
     (made_branches c.args.arm (branches_of c.args.rest.now) (is_no_action (actions_of c.args.otherwise.now)) (λ q. made q (actions_of c.args.otherwise.now)))
     (is_no_branch (branches_of c.args.rest.now) && is_no_action (actions_of c.args.otherwise.now)) (sym c.stands_nothing.ensures ∙ c.if-stands_nothing.false)
     c.in_ok-begin_otherwise.ensures)

@@ -8,8 +8,8 @@ use Rattle.single_path.proofs.statements.+conversion.Given as goal
 
 abbrev pub invariant-add_all-loop-action : goal.invariant-add_all-loop-action
 invariant-add_all-loop-action l =
-    joined (stmts_of l.out.items) (made l.place (actions_of (drop l.action-index l.actions)))
-    ≡ joined (stmts_of l.initial.out.items) (made l.place (actions_of l.actions))
+    joined (stmts_of l.out.items) (made l.part (actions_of (drop l.action-index l.actions)))
+    ≡ joined (stmts_of l.initial.out.items) (made l.part (actions_of l.actions))
 
 abbrev pub decreases-add_action : goal.decreases-add_action
 decreases-add_action l = action_size (plain_action l.action.now)

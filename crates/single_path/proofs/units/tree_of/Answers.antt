@@ -4,8 +4,7 @@ use Rattle.c_tree.specs.Plain.{plain, plain_item}
 use Rattle.c_tree.specs.Valid.{words_in}
 use Rattle.c_tree.specs.declared.limits.TheConstants.{MOST_PRIVATE_WORDS}
 use Rattle.c_tree.proofs.Faultless.{private_fits}
-use Rattle.c_meaning.specs.Shown.{bodies_of}
-use Rattle.single_path.specs.Single.{parameters_in}
+use Rattle.c_meaning.specs.Shown.{counts_of, bodies_of}
 use Rattle.single_path.proofs.Formed.{frames_fit}
 use Rattle.single_path.proofs.Whole.{entry_small, input_small}
 use Rattle.single_path.proofs.units.tree_of.Goals as goal
@@ -20,9 +19,8 @@ pub functions-requires : goal.functions-requires
 functions-requires c =
     let program = c.args.program.now in
     frames_fit program.place.cores program.place.core (plain program.unit) program.place.in_range.cores_most program.valid program.layout
-    c.as_slice.result.now (bodies_of c.as_slice-2.result.now) program.laid
-    (c.as_slice.ensures.value ∙ c.in_ok-counts.ensures ∙ ap (λ items. parameters_in (map plain_item items)) c.as_slice-items.ensures)
-    (ap bodies_of c.as_slice-2.ensures ∙ c.in_ok-resolved.ensures.routines)
+    (counts_of c.as_slice.result.now) (bodies_of c.as_slice.result.now) program.laid
+    (ap counts_of c.as_slice.ensures ∙ c.in_ok-resolved.ensures.parameters) (ap bodies_of c.as_slice.ensures ∙ c.in_ok-resolved.ensures.routines)
 
 pub entry_of-entry-requires : goal.entry_of-entry-requires
 entry_of-entry-requires c =

@@ -1,10 +1,10 @@
 use Rattle.std.proofs.Common.{◌≡◌, zero, suc, ◌+◌, ◌-◌, List, drop, map, slice_index, slice_set, length, ap, sym, ◌∙◌, subst, arith}
 use Rattle.shared_order.proofs.Words.{words_put}
 use Rattle.c_world.specs.Shown.{shown}
-use Rattle.sp_tree.specs.Formed.{place_formed, result_formed, stmts_formed}
+use Rattle.sp_tree.specs.Formed.{target_formed, result_formed, stmts_formed}
 use Rattle.sp_tree.specs.Plain.{plain_sp}
 use Rattle.sp_tree.specs.Ran.{state_of, HasGiven}
-use Rattle.sp_tree.specs.Shown.{plain_stmt, plain_place, plain_function, stmts_of, functions_of}
+use Rattle.sp_tree.specs.Shown.{plain_stmt, plain_sp_target, plain_function, stmts_of, functions_of}
 use Rattle.sp_tree.specs.Sizes.{stmts_size}
 use Rattle.sp_tree.specs.Straight.{State, worth, args_worth, with_slot, call_done, stmt_done, stmts_done, times, serves}
 use Rattle.sp_tree.specs.declared.statements.SpStmt.{SpStmt, Send}
@@ -19,8 +19,8 @@ act-bounds-frame-slot t c =
 
 pub act-write-requires-clause-formed : goal.act-write-requires-clause-formed
 act-write-requires-clause-formed t c =
-    ap (λ n. place_formed n (plain_place c.in-Write.place)) c.requires.frame
-    ∙ write_part (functions_of c.args.functions.now) c.args.known 128 c.args.t.now c.in-Write.mask c.in-Write.place c.in-Write.e c.in-Write.is c.requires.formed
+    ap (λ n. target_formed n (plain_sp_target c.in-Write.target)) c.requires.frame
+    ∙ write_part (functions_of c.args.functions.now) c.args.known 128 c.args.t.now c.in-Write.mask c.in-Write.target c.in-Write.e c.in-Write.is c.requires.formed
 
 pub act-called-given-requires : goal.act-called-given-requires
 act-called-given-requires t c =

@@ -5,7 +5,7 @@ use Rattle.shared_order.specs.Course.{IsCourse}
 use Rattle.patmos_model.specs.Cycle.{turn}
 use Rattle.global_step.specs.Loaded.{Machine}
 use Rattle.global_step.specs.Machine.{core_among, all_operations}
-use Rattle.global_step.specs.Range.{IsOfWords, board_words}
+use Rattle.global_step.specs.Range.{board_words}
 use Rattle.global_step.proofs.MachineRanges.{machine_course}
 use Rattle.tc_run.proofs.making.board_of.Goals as goal
 

@@ -1,6 +1,5 @@
 use Rattle.std.proofs.Common.{rules, ◌≡◌, ◌++◌, [], length, ap, ◌∙◌, subst, arith, append-nil}
 use Rattle.std.proofs.lemmas.List.{length-append}
-use Rattle.clock_board.specs.Board.{BoardFace}
 use Rattle.tc_run.specs.Carried.{Carries, workers_in}
 use Rattle.tc_run.proofs.Carried.{flat_last, same_carried, carried_on, last_taken}
 use Rattle.tc_run.proofs.one_thread.all_of.Goals as goal

@@ -1,4 +1,4 @@
-use Rattle.std.proofs.Common.{ℕ, ◌+◌, ◌≤◌, ◌++◌, length, vec_len, vec_capacity}
+use Rattle.std.proofs.Common.{◌+◌, ◌≤◌, ◌++◌, length, vec_len, vec_capacity}
 use Rattle.clock_board.specs.Board.{BoardFace}
 use Rattle.tc_run.specs.Carried.{Carries, workers_in}
 use Rattle.tc_run.proofs.one_thread.all_of.Given as goal

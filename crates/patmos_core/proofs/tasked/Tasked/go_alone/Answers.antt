@@ -1,8 +1,11 @@
-use Rattle.std.proofs.Common.{arith}
+use Rattle.std.proofs.Common.{◌+◌, ◌*◌, ◌<◌, rules, sym, subst, arith}
 use Rattle.patmos_step.specs.Alone.{ComesAlone}
 use Rattle.patmos_step.specs.Shown.{core_of}
 use Rattle.patmos_core.proofs.SecondPhase.{on_moved}
+use Rattle.patmos_core.specs.Progress.{IsStillIn}
+use Rattle.patmos_step.specs.Ready.{IsUpTo}
 use Rattle.patmos_core.proofs.AloneOn.{there_alone}
+use Rattle.patmos_core.proofs.Stillness.{up_to_cycle}
 use Rattle.patmos_core.proofs.tasked.Tasked.go_alone.Goals as goal
 
 pub returns-clause-goes_on : goal.returns-clause-goes_on
@@ -16,3 +19,18 @@ returns-clause-goes_on c = record {
   frame = c.run_alone-self.ensures.frame;
   phases = omega (arith, c.run_alone-self.ensures.from);
 }
+
+pub returns-clause-alone : goal.returns-clause-alone
+returns-clause-alone c = λ is.
+    let below : c.run_alone-self.result < c.still_until-until.result = search rules in
+    let up : IsUpTo (2 * c.args.self.now.cycle) c.args.self.now.body.ni = up_to_cycle c.args.self.now.body.ni c.args.self.now.cycle c.args.self.now.phase c.requires.delivery c.args.self.now.sound.ni in
+    record {
+      still = subst (λ s. IsStillIn s.interface c.run_alone-self.result) (sym c.run_alone-self.ensures.ni)
+          (c.still_until-until.ensures.still c.run_alone-self.result c.run_alone-self.ensures.from below);
+      ni = subst (IsUpTo (2 * c.run_alone-self.result + 2)) (sym c.run_alone-self.ensures.ni) (record {
+        after = omega (arith, up.after, c.run_alone-self.ensures.from);
+        past = λ half from acts. omega (arith, below, c.still_until-until.ensures.nothing half from acts);
+        some = up.some;
+      });
+      due = c.run_alone-self.ensures.due below;
+    }

@@ -1,7 +1,14 @@
 use Rattle.std.proofs.Common.{◌∙◌, arith}
+use Rattle.patmos_step.specs.Alone.{ComesAlone}
 use Rattle.patmos_step.specs.Shown.{core_of}
-use Rattle.patmos_step.proofs.OwnWords.{comes_further}
+use Rattle.patmos_step.proofs.OwnWords.{comes_on, comes_further}
 use Rattle.patmos_step.proofs.body.Body.run_alone.Goals as goal
+
+pub returns-then-self-gt0-clause-alone : goal.returns-then-self-gt0-clause-alone
+returns-then-self-gt0-clause-alone c = λ h shows.
+    let before : ComesAlone c.args.from c.loop-cycle.cycle (core_of c.args.self.now h) c.loop-cycle.self = c.loop-cycle.invariant.alone h shows in
+    comes_on c.args.from c.loop-cycle.cycle c.run_bundles-next.result (core_of c.args.self.now h) c.loop-cycle.self c.run_bundles-next.new.self before
+    (c.run_bundles-next.ensures.alone before.seen before.shows) c.loop-cycle.invariant.from c.run_bundles-next.ensures.from
 
 pub returns-then-after-next-clause-alone : goal.returns-then-after-next-clause-alone
 returns-then-after-next-clause-alone c = λ h shows.

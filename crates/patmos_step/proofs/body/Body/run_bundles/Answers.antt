@@ -43,3 +43,6 @@ returns-then-not-can_begin-2-clause-alone c = λ h shows.
     let before : ComesAlone c.args.from c.loop-cycle.cycle (core_of c.args.self.now h) c.loop-cycle.self = c.loop-cycle.invariant.alone h shows in
     comes_on c.args.from c.loop-cycle.cycle c.in-Until.next (core_of c.args.self.now h) c.loop-cycle.self c.do_next.new.self before (c.in-Until.ensures.went.2 before.seen before.shows)
     c.loop-cycle.invariant.from (omega (arith, c.in-Until.ensures.went.0))
+
+pub returns-then-not-can_begin-2-clause-due : goal.returns-then-not-can_begin-2-clause-due
+returns-then-not-can_begin-2-clause-due c = λ further. c.in-Until.ensures.went.3

@@ -21,6 +21,7 @@ returns-clause-went c = (
       (c.finish_store.ensures.plain ∙ ap (finished_store mem.M c.args.width c.args.address c.args.value c.args.cycle) (c.go_through.ensures.plain c.requires.next.bundle c.requires.next.fetched))
       (ap (λ s. s.interface) (c.finish_store.ensures.ni ∙ c.go_through.ensures.ni)))
       (λ h shows. c.finish_store.ensures.shows h (c.go_through.ensures.shows h shows)) c.wait_until.ensures.alone c.wait_until.ensures.from,
+  c.wait_until.ensures.due,
 )
 
 pub wait_until-requires-clause-first : goal.wait_until-requires-clause-first

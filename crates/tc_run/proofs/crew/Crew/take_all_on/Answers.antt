@@ -8,14 +8,14 @@ use Rattle.tc_run.proofs.crew.Crew.take_all_on.Goals as goal
 
 pub take_on-requires-clause-on : goal.take_on-requires-clause-on
 take_on-requires-clause-on g c κs within =
-    let gs = c.loop-group.groups.items in let rest = c.pop.new.self.items in let b = c.args.board.now in
+    let gs = c.loop-group.groups.items in let rest = c.pop.new.self.items in let b = c.args.common.board.now in
     all_back (IsOn b) (workers_in rest) c.in-Some.group.items
     (subst (All (IsOn b)) (flat_last (λ ws. ws.items) gs rest c.in-Some.group c.in-Some.ensures.items)
     (all_back (IsOn b) (workers_of c.loop-group.self) (workers_in gs) c.loop-group.invariant.ready.on))
 
 pub loop-group-preserved-then-not-is_empty : goal.loop-group-preserved-then-not-is_empty
 loop-group-preserved-then-not-is_empty g c =
-    let b = c.args.board.now in let was = c.loop-group.invariant in let gs = c.loop-group.groups.items in let rest = c.pop.new.self.items in
+    let b = c.args.common.board.now in let was = c.loop-group.invariant in let gs = c.loop-group.groups.items in let rest = c.pop.new.self.items in
     let crew = workers_of c.loop-group.self in let crew' = workers_of c.take_on.new.self in
     let step : Carries b (crew ++ workers_in gs) (crew' ++ workers_in rest) =
     last_taken b (λ ws. ws.items) crew crew' gs rest c.in-Some.group c.in-Some.ensures.items c.take_on.ensures.carries in
@@ -32,7 +32,7 @@ loop-group-preserved-then-not-is_empty g c =
 
 pub loop-group-preserved : goal.loop-group-preserved
 loop-group-preserved g c =
-    let b = c.args.board.now in let was = c.loop-group.invariant in let gs = c.loop-group.groups.items in let rest = c.pop.new.self.items in
+    let b = c.args.common.board.now in let was = c.loop-group.invariant in let gs = c.loop-group.groups.items in let rest = c.pop.new.self.items in
     let crew = workers_of c.loop-group.self in
     let none : c.in-Some.group.items ≡ [] = nil_from_length c.in-Some.group.items (search rules) in
     let is : workers_in gs ≡ workers_in rest =

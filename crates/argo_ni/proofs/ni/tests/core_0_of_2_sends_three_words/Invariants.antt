@@ -1,8 +1,0 @@
-use Rattle.std.proofs.Common.{◌<◌}
-use Rattle.argo_ni.proofs.ni.tests.core_0_of_2_sends_three_words.Given as goal
-
-abbrev pub invariant-loop-want : goal.invariant-loop-want
-invariant-loop-want g l = record {
-  cores : 0 < l.ni.interface.cores;
-  begun : 0 < l.ni.from;
-}

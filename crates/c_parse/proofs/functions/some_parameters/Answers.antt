@@ -1,0 +1,24 @@
+use Rattle.std.proofs.Common.{arith, ◌∷◌}
+use Rattle.std.proofs.lemmas.Grind.{common_steps}
+use Rattle.c_parse.proofs.Declared.{parameters_grown, parameter_passed}
+use Rattle.c_parse.proofs.Growing.{not_empty}
+use Rattle.c_parse.specs.Expected.{MoreParameters}
+use Rattle.c_parse.proofs.Starts.{parameters_next, parameters_done, no_more_parameters}
+use Rattle.c_parse.proofs.functions.some_parameters.Goals as goal
+
+pub loop-behind-preserved : goal.loop-behind-preserved
+loop-behind-preserved c = record {
+  written = parameters_grown _ _ _ _ _ _ _ c.loop-behind.invariant.written c.loop-behind.invariant.some c.in_ok-push-2.ensures.items c.in-Some.ensures c.in_ok-further.ensures.written;
+  some = not_empty _ _ _ c.in_ok-push-2.ensures.items;
+  passes = λ xs. parameter_passed _ _ _ _ _ xs _ (c.loop-behind.invariant.passes xs) c.in-Some.ensures (c.in_ok-further.ensures.passes (MoreParameters ∷ xs));
+  shorter = grind (arith, common_steps);
+}
+
+pub returns-in_err-further-clause-refuses : goal.returns-in_err-further-clause-refuses
+returns-in_err-further-clause-refuses c = grind (arith, common_steps, parameters_next)
+
+pub returns-in_err-rest-clause-refuses : goal.returns-in_err-rest-clause-refuses
+returns-in_err-rest-clause-refuses c = grind (arith, common_steps, no_more_parameters)
+
+pub returns-clause-passes : goal.returns-clause-passes
+returns-clause-passes c = grind (arith, common_steps, parameters_done)

@@ -1,0 +1,13 @@
+use Rattle.std.proofs.Common.{arith}
+use Rattle.std.proofs.lemmas.Grind.{common_steps}
+use Rattle.c_parse.proofs.Steps.{sign_read, no_sign}
+use Rattle.c_parse.proofs.simple.set_element.Goals as goal
+
+pub returns-in_err-behind-clause-refuses : goal.returns-in_err-behind-clause-refuses
+returns-in_err-behind-clause-refuses c = grind (arith, common_steps, no_sign)
+
+pub returns-in_err-right-clause-refuses : goal.returns-in_err-right-clause-refuses
+returns-in_err-right-clause-refuses c = grind (arith, common_steps, sign_read)
+
+pub returns-clause-passes : goal.returns-clause-passes
+returns-clause-passes c = grind (arith, common_steps, sign_read)

@@ -1,0 +1,65 @@
+-- To be believed. The words of a function's frame that decide what has an effect, and what they are set to. Such a word
+-- is a mask: what stands under it has an effect exactly where it is 1.
+use Rattle.std.specs.Prelude.{ℕ, ◌+◌, ◌==◌, if◌then◌else◌}
+use Rattle.sp_tree.specs.declared.operators.SpBinary.TheVariants as binary
+use Rattle.sp_tree.specs.declared.operators.SpUnary.TheVariants as unary
+use Rattle.sp_tree.specs.Plain.{PlainSp, constant, frame_word, before_one, between_two}
+use Rattle.single_path.specs.declared.part_words.PartWords.{PartWords}
+
+-- the words of an arm, and of a loop's body, inside a part
+abbrev pub in_arm : PartWords → PartWords
+in_arm p = record p { own = p.free; free = p.free + 1 }
+
+abbrev pub in_loop : PartWords → PartWords
+in_loop p = record p { turn = p.free; own = p.free; free = p.free + 1 }
+
+-- the words of a function's body, after its first so many words
+abbrev pub outermost : ℕ → PartWords
+outermost words = record { result = words; function = words + 1; turn = words + 1; own = words + 1; free = words + 2 }
+
+-- ---- words that masks are set to
+
+abbrev pub both : PlainSp → PlainSp → PlainSp
+both a b = between_two binary.BitAnd a b
+
+abbrev pub less_by : PlainSp → PlainSp → PlainSp
+less_by a b = between_two binary.Minus a b
+
+abbrev pub not_zero : PlainSp → PlainSp
+not_zero e = between_two binary.NotEqual e (constant 0)
+
+-- whether a mask is 1, of the words 0, 1 and 2
+abbrev pub bit_of : ℕ → PlainSp
+bit_of mask = both (frame_word mask) (constant 1)
+
+-- a mask, where a condition holds besides
+abbrev pub where_so : ℕ → PlainSp → PlainSp
+where_so mask condition = both (frame_word mask) (not_zero condition)
+
+-- the mask of what stands after `else`: its part goes on, and the arm was not taken
+abbrev pub where_not_taken : PartWords → PlainSp
+where_not_taken p = both (bit_of p.turn) (between_two binary.BitXor (frame_word p.own) (frame_word p.free))
+
+-- the mask of a part, after an arm or a loop in which the turn may have ended
+abbrev pub where_on : PartWords → PlainSp
+where_on p = both (frame_word p.own) (frame_word p.turn)
+
+-- the mask of a loop, after one inside it in which the function may have returned
+abbrev pub where_not_returned : PartWords → PlainSp
+where_not_returned p = both (frame_word p.turn) (before_one unary.Minus (frame_word p.function))
+
+-- `break` takes 1 from the loop's mask, and `continue` adds 1
+abbrev pub broken : PartWords → PlainSp
+broken p = less_by (frame_word p.turn) (bit_of p.own)
+
+abbrev pub continued : PartWords → PlainSp
+continued p = between_two binary.Plus (frame_word p.turn) (bit_of p.own)
+
+-- `return` takes 1 from the function's mask and from the loop's, where its own is 1; that one may be 2 only where it is
+-- the loop's
+abbrev pub returned_function : PartWords → PlainSp
+returned_function p = less_by (frame_word p.function) (if p.own == p.turn then bit_of p.own else frame_word p.own)
+
+abbrev pub returned_loop : PartWords → PlainSp
+returned_loop p =
+    if p.own == p.turn then both (frame_word p.turn) (constant 2) else less_by (frame_word p.turn) (frame_word p.own)
