@@ -73,35 +73,27 @@ fn expr(names: &Names<'_>, walk: &mut Walk, e: &Expr) -> Result<(), OutOfMemory>
     match e {
         Expr::Chain { first, rest, .. } => {
             expr(names, walk, first)?;
-            steps(names, walk, rest.as_slice())?;
-            Ok(())
+            steps(names, walk, rest.as_slice())
         }
         Expr::Unary { ops, of } => {
             walk.pass(ops.as_slice().len())?;
-            expr(names, walk, of)?;
-            Ok(())
+            expr(names, walk, of)
         }
-        Expr::Number { .. } => {
-            walk.pass(1)?;
-            Ok(())
-        }
+        Expr::Number { .. } => walk.pass(1),
         Expr::Name { name } => {
             scalar(names, walk, name);
-            walk.pass(1)?;
-            Ok(())
+            walk.pass(1)
         }
         Expr::Element { name, index } => {
             array(names, walk, name);
             walk.pass(2)?;
             expr(names, walk, index)?;
-            walk.pass(1)?;
-            Ok(())
+            walk.pass(1)
         }
         Expr::Paren { inner } => {
             walk.pass(1)?;
             expr(names, walk, inner)?;
-            walk.pass(1)?;
-            Ok(())
+            walk.pass(1)
         }
     }
 }
@@ -128,8 +120,7 @@ pub fn whole(names: &Names<'_>, walk: &mut Walk, e: &Expr) -> Result<(), OutOfMe
         ≡ least_with walk.old.least (faults.whole_faults (names_of names.now) walk.old.at (plain_expr e.now))) }
 {
     walk.note_if(is_deep(e), CheckFault::Deep);
-    expr(names, walk, e)?;
-    Ok(())
+    expr(names, walk, e)
 }
 
 /// An argument, and the token after it.
@@ -139,8 +130,7 @@ pub fn argument(names: &Names<'_>, walk: &mut Walk, e: &Expr) -> Result<(), OutO
         ≡ least_with walk.old.least (faults.whole_faults (names_of names.now) walk.old.at (plain_expr e.now))) }
 {
     whole(names, walk, e)?;
-    walk.pass(1)?;
-    Ok(())
+    walk.pass(1)
 }
 
 // arguments, and one token after each
@@ -173,8 +163,7 @@ pub fn call(
     callee(names, walk, is_right, name, args.len());
     walk.pass(2)?;
     if args.is_empty() {
-        walk.pass(1)?;
-        return Ok(());
+        return walk.pass(1);
     }
     arguments(names, walk, args)?;
     Ok(())
@@ -187,13 +176,7 @@ pub fn right(names: &Names<'_>, walk: &mut Walk, r: &Right) -> Result<(), OutOfM
         ≡ least_with walk.old.least (faults.right_faults (names_of names.now) walk.old.at (plain_right r.now))) }
 {
     match r {
-        Right::Value { of } => {
-            whole(names, walk, of)?;
-            Ok(())
-        }
-        Right::Call { name, args } => {
-            call(names, walk, true, name, args.as_slice())?;
-            Ok(())
-        }
+        Right::Value { of } => whole(names, walk, of),
+        Right::Call { name, args } => call(names, walk, true, name, args.as_slice()),
     }
 }

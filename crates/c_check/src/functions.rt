@@ -92,12 +92,10 @@ fn between<'a>(
     parameters(outer, names, walk, f.parameters.as_slice())?;
     if f.void_word {
         walk.at = start;
-        walk.pass(2)?;
-        return Ok(());
+        return walk.pass(2);
     }
     if f.parameters.as_slice().is_empty() {
-        walk.pass(1)?;
-        return Ok(());
+        return walk.pass(1);
     }
     Ok(())
 }
@@ -130,8 +128,7 @@ fn inner<'a>(
     walk.pass(1)?;
     statements(&within, names, walk, f.body.as_slice())?;
     names.close(outer);
-    walk.pass(1)?;
-    Ok(())
+    walk.pass(1)
 }
 
 /// A function.
@@ -155,6 +152,5 @@ pub fn function<'a>(
     names.declare(f.name.as_str(), meaning(f, true))?;
     inner(place, names, walk, f)?;
     names.close(outer);
-    names.declare(f.name.as_str(), meaning(f, false))?;
-    Ok(())
+    names.declare(f.name.as_str(), meaning(f, false))
 }

@@ -1,5 +1,5 @@
 //! Faults of statements.
-ghost use Rattle.std.specs.Prelude.{◌≡◌, ◌+◌, length, take, map, option_map, OnOk};
+ghost use Rattle.std.specs.Prelude.{◌≡◌, ◌+◌, length, take, option_map, OnOk};
 ghost use Rattle.c_tree.specs.Least.{least_with};
 ghost use Rattle.c_tree.specs.Plain.{plain_expr, plain_right, plain_head, plain_stmt};
 ghost use Rattle.c_tree.specs.Sizes.{expr_size, argument_size, bound_size, head_size, stmt_size, arms_size, block_size};
@@ -75,15 +75,11 @@ fn declare<'a>(
     twice(outer, names, walk, name);
     names.declare(name.as_str(), Meaning::Scalar)?;
     match value {
-        None => {
-            walk.pass(2)?;
-            Ok(())
-        }
+        None => walk.pass(2),
         Some(value) => {
             walk.pass(2)?;
             right(names, walk, value)?;
-            walk.pass(1)?;
-            Ok(())
+            walk.pass(1)
         }
     }
 }
@@ -98,8 +94,7 @@ fn set(names: &Names<'_>, walk: &mut Walk, name: &Text, value: &Right) -> Result
     scalar(names, walk, name);
     walk.pass(2)?;
     right(names, walk, value)?;
-    walk.pass(1)?;
-    Ok(())
+    walk.pass(1)
 }
 
 #[tactic(auto, using(c_tree::proofs::Leasts::least_of_both), unfolding(c_tree::specs::Sizes::stmt_size, c_tree::specs::Plain::plain_stmt))]
@@ -121,8 +116,15 @@ fn set_element(
     whole(names, walk, index)?;
     walk.pass(2)?;
     right(names, walk, value)?;
-    walk.pass(1)?;
-    Ok(())
+    walk.pass(1)
+}
+
+/// What a send takes: the words' source, their target, and how many they are.
+#[derive(Drop)]
+struct Range<'a> {
+    source: &'a Expr,
+    target: &'a Expr,
+    count: &'a Expr,
 }
 
 // what a send is told, from its first word on
@@ -132,17 +134,15 @@ fn send(
     names: &Names<'_>,
     walk: &mut Walk,
     core: u32,
-    source: &Expr,
-    target: &Expr,
-    count: &Expr,
+    range: &Range<'_>,
 ) -> Result<(), OutOfMemory>
     ensures at { OnOk result (walk.new.at
-        ≡ walk.old.at + 4 + argument_size (plain_expr source.now) + argument_size (plain_expr target.now)
-        + argument_size (plain_expr count.now)) }
+        ≡ walk.old.at + 4 + argument_size (plain_expr range.now.source.now)
+        + argument_size (plain_expr range.now.target.now) + argument_size (plain_expr range.now.count.now)) }
     ensures least { OnOk result (walk.new.least
         ≡ least_with walk.old.least (faults.send_faults within.now.cores within.now.own
-        (names_of names.now) walk.old.at core (plain_expr source.now) (plain_expr target.now)
-        (plain_expr count.now))) }
+        (names_of names.now) walk.old.at core (plain_expr range.now.source.now) (plain_expr range.now.target.now)
+        (plain_expr range.now.count.now))) }
 {
     walk.pass(2)?;
     walk.note_if(
@@ -150,10 +150,9 @@ fn send(
         CheckFault::Target,
     );
     walk.pass(2)?;
-    argument(names, walk, source)?;
-    argument(names, walk, target)?;
-    argument(names, walk, count)?;
-    Ok(())
+    argument(names, walk, range.source)?;
+    argument(names, walk, range.target)?;
+    argument(names, walk, range.count)
 }
 
 // a bound, or the loop's keyword where there is none
@@ -171,8 +170,7 @@ fn bound(walk: &mut Walk, bound: Option<Bound>) -> Result<(), OutOfMemory>
                 bound.max < bound.min || bound.max > MOST_TURNS,
                 CheckFault::BoundRange,
             );
-            walk.pass(1)?;
-            Ok(())
+            walk.pass(1)
         }
     }
 }
@@ -187,8 +185,7 @@ fn assigned(names: &Names<'_>, walk: &mut Walk, name: &Text, e: &Expr) -> Result
 {
     scalar(names, walk, name);
     walk.pass(2)?;
-    whole(names, walk, e)?;
-    Ok(())
+    whole(names, walk, e)
 }
 
 #[tactic(auto, using(c_tree::proofs::Leasts::least_of_both))]
@@ -201,8 +198,7 @@ fn head(names: &Names<'_>, walk: &mut Walk, h: &Head) -> Result<(), OutOfMemory>
         Head::While { condition } => {
             walk.pass(2)?;
             whole(names, walk, condition)?;
-            walk.pass(1)?;
-            Ok(())
+            walk.pass(1)
         }
         Head::For {
             first,
@@ -217,8 +213,7 @@ fn head(names: &Names<'_>, walk: &mut Walk, h: &Head) -> Result<(), OutOfMemory>
             whole(names, walk, condition)?;
             walk.pass(1)?;
             assigned(names, walk, step, to)?;
-            walk.pass(1)?;
-            Ok(())
+            walk.pass(1)
         }
     }
 }
@@ -238,15 +233,13 @@ fn returned(
     match value {
         None => {
             walk.note_if(gives, CheckFault::WrongType);
-            walk.pass(2)?;
-            Ok(())
+            walk.pass(2)
         }
         Some(value) => {
             walk.note_if(!gives, CheckFault::WrongType);
             walk.pass(1)?;
             whole(names, walk, value)?;
-            walk.pass(1)?;
-            Ok(())
+            walk.pass(1)
         }
     }
 }
@@ -264,8 +257,7 @@ fn loop_head(
         (faults.head_faults (names_of names.now) (walk.old.at + bound_size b) (plain_head h.now))) }
 {
     bound(walk, b)?;
-    head(names, walk, h)?;
-    Ok(())
+    head(names, walk, h)
 }
 
 /// A statement.
@@ -285,21 +277,13 @@ fn stmt<'a>(
 {
     match s {
         Stmt::Declare { kind, name, right } => {
-            declare(within.outer, names, walk, *kind, name, right)?;
-            Ok(())
+            declare(within.outer, names, walk, *kind, name, right)
         }
-        Stmt::Set { name, right } => {
-            set(names, walk, name, right)?;
-            Ok(())
-        }
-        Stmt::SetElement { name, index, right } => {
-            set_element(names, walk, name, index, right)?;
-            Ok(())
-        }
+        Stmt::Set { name, right } => set(names, walk, name, right),
+        Stmt::SetElement { name, index, right } => set_element(names, walk, name, index, right),
         Stmt::Call { name, args } => {
             call(names, walk, false, name, args.as_slice())?;
-            walk.pass(1)?;
-            Ok(())
+            walk.pass(1)
         }
         Stmt::Send {
             core,
@@ -308,20 +292,19 @@ fn stmt<'a>(
             count,
             ..
         } => {
-            send(within, names, walk, *core, source, target, count)?;
-            walk.pass(1)?;
-            Ok(())
+            let range = Range {
+                source,
+                target,
+                count,
+            };
+            send(within, names, walk, *core, &range)?;
+            walk.pass(1)
         }
         Stmt::If { arms, otherwise } => {
             branches(within, names, walk, arms.as_slice())?;
             match otherwise {
                 None => Ok(()),
-                Some(body) => {
-                    walk.pass(1)?;
-                    let inner = opened(within, names.len());
-                    block(&inner, names, walk, body.as_slice())?;
-                    Ok(())
-                }
+                Some(body) => last(within, names, walk, body.as_slice()),
             }
         }
         Stmt::Loop {
@@ -331,22 +314,16 @@ fn stmt<'a>(
         } => {
             loop_head(names, walk, *b, h)?;
             let inner = looped(within, names.len());
-            block(&inner, names, walk, body.as_slice())?;
-            Ok(())
+            block(&inner, names, walk, body.as_slice())
         }
         Stmt::Break | Stmt::Continue => {
             walk.note_if(!within.in_loop, CheckFault::WrongType);
-            walk.pass(2)?;
-            Ok(())
+            walk.pass(2)
         }
-        Stmt::Return { value } => {
-            returned(within.gives, names, walk, value)?;
-            Ok(())
-        }
+        Stmt::Return { value } => returned(within.gives, names, walk, value),
         Stmt::Inner { body } => {
             let inner = opened(within, names.len());
-            block(&inner, names, walk, body.as_slice())?;
-            Ok(())
+            block(&inner, names, walk, body.as_slice())
         }
     }
 }
@@ -390,8 +367,7 @@ fn block<'a>(
     walk.pass(1)?;
     statements(within, names, walk, body)?;
     names.close(open_names);
-    walk.pass(1)?;
-    Ok(())
+    walk.pass(1)
 }
 
 // an arm, from its `if`
@@ -416,8 +392,7 @@ fn branch<'a>(
     whole(names, walk, &arm.condition)?;
     walk.pass(1)?;
     let inner = opened(within, names.len());
-    block(&inner, names, walk, arm.body.as_slice())?;
-    Ok(())
+    block(&inner, names, walk, arm.body.as_slice())
 }
 
 // arms, with `else` between them
@@ -444,4 +419,23 @@ fn branches<'a>(
         walk.back();
     }
     Ok(())
+}
+
+// `else` and its block
+#[cycle(statement)]
+fn last<'a>(
+    within: &Within,
+    names: &mut Names<'a>,
+    walk: &mut Walk,
+    body: &'a [Stmt],
+) -> Result<(), OutOfMemory>
+    ensures at { OnOk result (walk.new.at ≡ walk.old.at + (3 + block_size (block_of body.now))) }
+    ensures least { OnOk result (walk.new.least
+        ≡ least_with walk.old.least (faults.block_faults (faults.opened within.now (length (names_of names.old)))
+        (names_of names.old) (walk.old.at + 1 + 1) (block_of body.now))) }
+    ensures names { OnOk result (names_of names.new ≡ names_of names.old) }
+{
+    walk.pass(1)?;
+    let inner = opened(within, names.len());
+    block(&inner, names, walk, body)
 }

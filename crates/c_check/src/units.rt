@@ -58,8 +58,7 @@ fn shape(walk: &mut Walk, g: &Global) -> Result<(), OutOfMemory>
     } else {
         walk.pass(6)?;
     }
-    constants(walk, values)?;
-    Ok(())
+    constants(walk, values)
 }
 
 // how many tokens stand before the name
@@ -125,14 +124,8 @@ fn item<'a>(
     ensures names { OnOk result (names_of names.new ≡ valid.with_item (names_of names.old) (plain_item i.now)) }
 {
     match i {
-        Item::Global { global: g } => {
-            global(names, walk, g)?;
-            Ok(())
-        }
-        Item::Function { function: f } => {
-            function(place, names, walk, f)?;
-            Ok(())
-        }
+        Item::Global { global: g } => global(names, walk, g),
+        Item::Function { function: f } => function(place, names, walk, f),
     }
 }
 

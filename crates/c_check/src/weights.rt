@@ -105,14 +105,14 @@ fn stmt(s: &Stmt) -> u32
 {
     match s {
         Stmt::Declare { right: None, .. } => 16,
-        Stmt::Declare { right: Some(r), .. } | Stmt::Set { right: r, .. } => {
-            right(r).saturating_add(12)
-        }
+        Stmt::Declare { right: Some(r), .. } | Stmt::Set { right: r, .. } => right(
+            r,
+        ).saturating_add(12),
         Stmt::SetElement {
             index,
             right: r,
             ..
-        } => { expr(index).saturating_add(right(r)).saturating_add(28) }
+        } => expr(index).saturating_add(right(r)).saturating_add(28),
         Stmt::Call { args, .. } => call(args.as_slice()),
         Stmt::Send {
             source,

@@ -8,8 +8,8 @@ ghost use Rattle.tc_link.specs.Fits.{FitsImage};
 
 /// A task that gives 9: its frame is reserved, and the mask inverted beside that; the mask and the place to which
 /// it returns are kept; 9 is set and stored; the two words of the place are loaded, each waited for, and the flag is
-/// set beside the second; the result is loaded; it returns, and frees its frame in the first delay slot. The words are the
-/// assembler's for these bundles, written by hand.
+/// set beside the second; the result is loaded; it returns, and frees its frame in the first delay slot. The words are
+/// the assembler's for these bundles, written by hand.
 #[tactic(auto, using(crate::proofs::Example::nine_fits), unfolding(patmos_code::specs::Codes::code))]
 pub fn worked_image()
     ensures formed { is_formed nine ≡ true }

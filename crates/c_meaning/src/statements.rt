@@ -222,33 +222,30 @@ fn set_element(
     add_right(alloc, scope, None, out, target, right)
 }
 
+// a send of words to another core
 #[tactic(auto, unfolding(crate::specs::Shown::plain_action))]
-fn send(
+fn sent(
     alloc: Global,
     scope: &Scope<'_>,
-    out: &mut Vec<Action>,
     core: u32,
     source: &Expr,
     target: &Expr,
     count: &Expr,
-) -> Result<(), OutOfMemory>
-    ensures { OnOk result (actions_of out.new.items ≡ joined (actions_of out.old.items)
-        (one (plain.transfers core (resolve.resolved (names_of scope.now) None (plain_expr source.now))
+) -> Result<Action, OutOfMemory>
+    ensures { IfOk result (λ a. plain_action a
+        ≡ plain.transfers core (resolve.resolved (names_of scope.now) None (plain_expr source.now))
         (resolve.resolved (names_of scope.now) None (plain_expr target.now))
-        (resolve.resolved (names_of scope.now) None (plain_expr count.now))))) }
+        (resolve.resolved (names_of scope.now) None (plain_expr count.now))) }
 {
     let source = value_of(alloc, scope, source)?;
     let target = value_of(alloc, scope, target)?;
     let count = value_of(alloc, scope, count)?;
-    add(
-        out,
-        Action::Send {
-            core,
-            source,
-            target,
-            count,
-        },
-    )
+    Ok(Action::Send {
+        core,
+        source,
+        target,
+        count,
+    })
 }
 
 // actions after others
@@ -285,7 +282,7 @@ fn add_choice(
 
 /// A statement.
 #[cycle(statement)]
-#[tactic(auto, using(crate::proofs::Fitting::set_fits, crate::proofs::Fitting::set_element_fits))]
+#[tactic(auto, using(crate::proofs::Fitting::set_fits, crate::proofs::Fitting::set_element_fits, crate::proofs::StmtParts::set_named, crate::proofs::StmtParts::set_element_named, crate::proofs::StmtParts::call_named, crate::proofs::StmtParts::send_named, crate::proofs::StmtParts::if_named, crate::proofs::StmtParts::loop_named, crate::proofs::StmtParts::break_named, crate::proofs::StmtParts::continue_named, crate::proofs::StmtParts::return_named))]
 fn stmt<'a>(
     alloc: Global,
     scope: &mut Scope<'a>,
@@ -299,23 +296,17 @@ fn stmt<'a>(
     ensures functions { OnOk result (functions_of scope.new ≡ functions_of scope.old) }
 {
     match s {
-        Stmt::Declare { kind, name, right } => {
-            declare(alloc, scope, out, *kind, name, right)?;
-            Ok(())
-        }
+        Stmt::Declare { kind, name, right } => declare(alloc, scope, out, *kind, name, right),
         Stmt::Set { name, right } => {
             let target = variable_target(scope.find(name.as_str()));
-            add_right(alloc, scope, None, out, target, right)?;
-            Ok(())
+            add_right(alloc, scope, None, out, target, right)
         }
         Stmt::SetElement { name, index, right } => {
-            set_element(alloc, scope, out, name, index, right)?;
-            Ok(())
+            set_element(alloc, scope, out, name, index, right)
         }
         Stmt::Call { name, args } => {
             let args = arguments(alloc, scope, None, args.as_slice())?;
-            add_call(out, scope.function(name.as_str()), args, None)?;
-            Ok(())
+            add_call(out, scope.function(name.as_str()), args, None)
         }
         Stmt::Send {
             core,
@@ -324,40 +315,27 @@ fn stmt<'a>(
             count,
             ..
         } => {
-            send(alloc, scope, out, *core, source, target, count)?;
-            Ok(())
+            let action = sent(alloc, scope, *core, source, target, count)?;
+            add(out, action)
         }
         Stmt::If { arms, otherwise } => {
             let branches = branches(alloc, scope, arms.as_slice())?;
             match otherwise {
-                None => {
-                    let otherwise = List::of(Vec::new(alloc));
-                    add_choice(out, branches, otherwise)?;
-                    Ok(())
-                }
+                None => add_choice(out, branches, List::of(Vec::new(alloc))),
                 Some(body) => {
                     let otherwise = block(alloc, scope, body.as_slice())?;
-                    add_choice(out, branches, otherwise)?;
-                    Ok(())
+                    add_choice(out, branches, otherwise)
                 }
             }
         }
         Stmt::Loop { bound, head, body } => {
-            repeat(alloc, scope, out, *bound, head, body.as_slice())?;
-            Ok(())
+            repeat(alloc, scope, out, *bound, head, body.as_slice())
         }
-        Stmt::Break => {
-            add(out, Action::Break)?;
-            Ok(())
-        }
-        Stmt::Continue => {
-            add(out, Action::Continue)?;
-            Ok(())
-        }
+        Stmt::Break => add(out, Action::Break),
+        Stmt::Continue => add(out, Action::Continue),
         Stmt::Return { value } => {
             let value = returned(alloc, scope, value)?;
-            add(out, Action::Return { value })?;
-            Ok(())
+            add(out, Action::Return { value })
         }
         Stmt::Inner { body } => {
             let outer = scope.len();
@@ -400,8 +378,7 @@ fn repeat<'a>(
             body,
             step,
         },
-    )?;
-    Ok(())
+    )
 }
 
 /// Statements one after another. The names that they declare stay open.

@@ -17,6 +17,3 @@ mod worked;
 
 pub use whole::generate;
 pub use worked::{limits, worked_draws};
-
-#[cfg(test)]
-mod tests;

@@ -197,7 +197,6 @@ fn add_call(
 
 #[tactic(auto, unfolding(sp_tree::specs::Shown::plain_stmt))]
 fn add_send(
-    alloc: Global,
     out: &mut Vec<SpStmt>,
     mask: u32,
     core: u32,
@@ -209,6 +208,7 @@ fn add_send(
         ≡ joined (stmts_of out.old.items)
         (one (tree.transfers mask core (plain_sp source.now) (plain_sp target.now) (plain_sp count.now)))) }
 {
+    let alloc = *out.allocator();
     let source = copied(alloc, source)?;
     let target = copied(alloc, target)?;
     let count = copied(alloc, count)?;
@@ -449,7 +449,7 @@ fn add_action(
             source,
             target,
             count,
-        } => add_send(alloc, out, part.own, *core, source, target, count),
+        } => add_send(out, part.own, *core, source, target, count),
         Action::Choose {
             branches,
             otherwise,
@@ -459,7 +459,7 @@ fn add_action(
             condition,
             body,
             step,
-        } => add_repeated(alloc, part, out, *max, condition, body.as_slice(), step),
+        } => add_repeated(part, out, *max, condition, body.as_slice(), step),
         Action::Break => add_break(alloc, part, out),
         Action::Continue => add_continue(alloc, part, out),
         Action::Return { value } => add_return(alloc, part, out, value),
@@ -565,7 +565,6 @@ fn add_otherwise(
 #[cycle(conversion)]
 #[tactic(auto)]
 fn add_repeated(
-    alloc: Global,
     part: PartWords,
     out: &mut Vec<SpStmt>,
     max: u32,
@@ -578,6 +577,7 @@ fn add_repeated(
         (specs.made_action part (plain.turns max (plain_sp condition.now) (actions_of body.now)
         (option_map plain_assignment step.now)))) }
 {
+    let alloc = *out.allocator();
     if max == 0 {
         return add_flag(alloc, out, part.own, condition);
     }

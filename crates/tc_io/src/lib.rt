@@ -36,6 +36,3 @@ pub use sure_bytes::SureBytes;
 pub use sure_gather::SureGather;
 pub use text::{put_decimal, put_hex8, put_number};
 pub use write_all_bytes::{Stopped, write_all};
-
-#[cfg(test)]
-mod tests;

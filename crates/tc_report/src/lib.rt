@@ -28,6 +28,3 @@ pub use lines::{
 pub use rows::{Row, RowState, Rows};
 pub use whole::report;
 pub use worked::report_worked;
-
-#[cfg(test)]
-mod tests;

@@ -3,7 +3,7 @@
 //!
 //! - [`run_machine`] leaves a [`Final`]: for every interleaving of the workers each core is the one that the
 //!   machine has at its limit, and so is each word of the board. Want of memory comes before the first step, or
-//!   not at all.
+//!   not at all. [`run_waiting`] is the same over what its workers wait with, for who asks which clocks are awaited.
 //! - [`run_by_turns`] and [`run_plain`] leave the same in the calling thread alone: its workers by turns, or without a
 //!   board, always the event of the least stamp.
 //! - [`outcome_of`], [`accesses_of`], [`dropped_of`] and [`own_word_of`] tell what such a core is in the
@@ -26,12 +26,10 @@ mod machine;
 mod making;
 mod one_thread;
 mod reporting;
-#[cfg(test)]
-mod tests;
 mod threads;
 
 pub use ending::Final;
 pub use in_words::loaded_with_words;
-pub use machine::run_machine;
+pub use machine::{run_machine, run_waiting};
 pub use one_thread::{run_by_turns, run_plain};
 pub use reporting::{accesses_of, dropped_of, outcome_of, own_word_of};

@@ -33,8 +33,8 @@ pub fn run_machine<R: Threads + Wait + Sync, G: Gate + Sync>(
     run_waiting(alloc, rt, machine, &waiting, gate)
 }
 
-/// The same, with what its workers share to wait for one another.
-pub(crate) fn run_waiting<R: Threads + Wait + Sync, G: Gate + Sync>(
+/// [`run_machine`] over what its workers share to wait for one another.
+pub fn run_waiting<R: Threads + Wait + Sync, G: Gate + Sync>(
     alloc: Global,
     rt: &R,
     machine: &Loaded,

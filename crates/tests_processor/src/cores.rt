@@ -1,7 +1,11 @@
+ghost use Rattle.std.specs.Prelude.{[], ◌∷◌};
+ghost use Rattle.patmos_code.specs.Images.{IsImage, parts};
+
 use local_store::Cell;
 use patmos_code::Image;
 use patmos_core::{Core, CoreState, Next, core_is_at_its_place};
 use slot_arbiter::{Access, Place, WordOp};
+use std::alloc::{AllocError, Global};
 use std::test::Fail;
 use tc_word::List;
 
@@ -29,14 +33,28 @@ fn store(word: u32, value: u32) -> WordOp {
     }
 }
 
-// r1 = 7 and a return: six words are fetched in the slots at 0 and 6, and five bundles follow
+/// The image of one function: its words, the size first.
+pub(crate) fn image_of(alloc: Global, words: &[u32]) -> Result<Image, AllocError>
+    requires { IsImage (parts words.now (1 ∷ []) [] 4 0) }
+{
+    let words = List::of(Vec::from_slice(alloc, words)?);
+    let starts = List::of(vec![in alloc; 1]?);
+    Ok(Image::of(words, starts, List::of(Vec::new(alloc)), 4, 0))
+}
+
+/// `addi r1 = r0, 7; ret; nop; nop; nop`, with 3 in the first of its data words and an input of two.
+fn seven(alloc: Global) -> Result<Image, AllocError> {
+    let words = List::of(Vec::from_slice(alloc, &[5, 0x0002_0007, 0x0540_0000, 0, 0, 0])?);
+    let starts = List::of(vec![in alloc; 1]?);
+    let initial = List::of(vec![in alloc; 3]?);
+    Ok(Image::of(words, starts, initial, 5, 2))
+}
+
+// six words are fetched in the slots at 0 and 6, and five bundles follow
 #[test]
 fn a_task_runs_to_its_end(rt: HostRuntime) -> Result<(), Fail> {
     let alloc = rt.alloc();
-    let words = List::of(vec![in alloc; 5, 0x0002_0007, 0x0540_0000, 0, 0, 0]?);
-    let starts = List::of(vec![in alloc; 1]?);
-    let initial = List::of(vec![in alloc; 3]?);
-    let image = Image::of(words, starts, initial, 5, 2);
+    let image = seven(alloc)?;
     let place = Place::new(1, 0, 6, 0).expect(&rt, "a place");
     let mut core = Core::new(alloc, place, &image, &[8, 9, 10], 4)?;
     assert_eq!(rt; core.next(16), Next::Limit);
@@ -47,13 +65,12 @@ fn a_task_runs_to_its_end(rt: HostRuntime) -> Result<(), Fail> {
         flag: 0,
         cycles: 17,
     };
-    assert_eq!(rt; core.state(), done);
+    assert_eq!(rt; (core.state(), core.dropped()), (done, 0));
     let trace = [transaction(0, false, 4), transaction(6, false, 2)];
     assert_eq!(rt; core.trace(), trace.as_slice());
-    assert_eq!(rt; core.dropped(), 0);
-    let first = core.word(Cell::Private(4));
-    let input = (core.word(Cell::Private(5)), core.word(Cell::Private(6)));
-    assert_eq!(rt; (first, input, core.word(Cell::Private(7))), (3, (8, 9), 0));
+    for (word, value) in [(4, 3), (5, 8), (6, 9), (7, 0)] {
+        assert_eq!(rt; core.word(Cell::Private(word)), value, "word {word}");
+    }
     Ok(())
 }
 
@@ -74,23 +91,24 @@ fn an_idle_core_does_nothing(rt: HostRuntime) {
     );
 }
 
+// `addl r2 = r0, 0x01000000; addi r3 = r0, 0x11; sbm [r2 + 0] = r3; ret; nop; nop; nop`
+static STORE_BYTE: [u32; 9] = [
+    8,
+    0x8584_0000,
+    0x0100_0000,
+    0x0006_0011,
+    0x0456_2180,
+    0x0540_0000,
+    0,
+    0,
+    0,
+];
+
 // a byte is stored in the first word of shared memory: the word is loaded and then stored, at one stamp, in two events
 #[test]
 fn a_byte_is_stored_in_two_events(rt: HostRuntime) -> Result<(), Fail> {
     let alloc = rt.alloc();
-    let words = List::of(vec![in alloc;
-        8,
-        0x8584_0000,
-        0x0100_0000,
-        0x0006_0011,
-        0x0456_2180,
-        0x0540_0000,
-        0,
-        0,
-        0,
-    ]?);
-    let starts = List::of(vec![in alloc; 1]?);
-    let image = Image::of(words, starts, List::of(Vec::new(alloc)), 4, 0);
+    let image = image_of(alloc, &STORE_BYTE)?;
     let place = Place::new(1, 0, 6, 0).expect(&rt, "a place");
     let mut core = Core::new(alloc, place, &image, &[], 0)?;
     let Next::Event(first) = core.next(40) else {

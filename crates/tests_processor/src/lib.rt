@@ -1,5 +1,5 @@
 //! Tests of the crates of a processor: instructions, their words, what a bundle does, a core and what it is made of,
-//! and the machine of all cores.
+//! its pipeline, and the machine of all cores.
 //!
 //! A crate with tests is proved twice, with them and without. So the tests of several crates stand here, over their
 //! public calls alone, and have no part in the program. What a command shows is a case of `cases/` at the top instead.
@@ -19,6 +19,8 @@ mod machines;
 mod models;
 #[cfg(test)]
 mod operations;
+#[cfg(test)]
+mod pipelines;
 #[cfg(test)]
 mod stacks;
 #[cfg(test)]

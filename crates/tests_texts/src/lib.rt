@@ -21,4 +21,6 @@ mod meanings;
 #[cfg(test)]
 mod mentions;
 #[cfg(test)]
+mod names;
+#[cfg(test)]
 mod schedules;

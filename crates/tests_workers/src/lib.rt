@@ -1,4 +1,5 @@
-//! Tests of the crates whose threads wait for one another: the board of published clocks, and the worker of a core.
+//! Tests of the crates whose threads wait for one another: the board of published clocks, the worker of a core, and
+//! the run of a machine.
 //!
 //! A crate with tests is proved twice, with them and without. So the tests of several crates stand here, over their
 //! public calls alone, and have no part in the program. What a command shows is a case of `cases/` at the top instead.
@@ -6,5 +7,7 @@
 
 #[cfg(test)]
 mod boards;
+#[cfg(test)]
+mod machines;
 #[cfg(test)]
 mod workers;

@@ -1,5 +1,5 @@
 use Rattle.std.proofs.Common.{◌≡◌, ◌+◌, List, None, length, drop, subst, ap, ap₂, sym, ◌∙◌, arith}
-use Rattle.std.specs.Prelude.{option_map}
+use Rattle.std.specs.Prelude.{option_map, OnOk}
 use Rattle.std.proofs.Math.ListN.{length-map}
 use Rattle.std.proofs.lemmas.List.{drop_all}
 use Rattle.c_tree.specs.declared.statements.Stmt.{Stmt}
@@ -19,7 +19,7 @@ use Rattle.c_meaning.specs.Fits.{BlockFits, ArmsFit}
 use Rattle.c_tree.specs.Sizes.{block_size, arms_size}
 use Rattle.c_tree.proofs.StmtSizes.{inner_sized, loop_sized}
 use Rattle.c_meaning.proofs.StmtFalls.{if_size, else_size, stmt_in_block, block_in_arms}
-use Rattle.c_meaning.proofs.StmtParts.{declare_resolved, set_resolved, set_element_resolved, call_resolved, send_resolved, if_resolved, if_else_resolved, loop_resolved, break_resolved, continue_resolved, return_resolved, inner_resolved, declare_named, set_named, set_element_named, call_named, send_named, if_named, loop_named, break_named, continue_named, return_named, inner_named, block_next, arms_next, kept_after}
+use Rattle.c_meaning.proofs.StmtParts.{declare_resolved, set_resolved, set_element_resolved, call_resolved, send_resolved, if_resolved, if_else_resolved, loop_resolved, break_resolved, continue_resolved, return_resolved, inner_resolved, declare_named, inner_named, block_next, arms_next, kept_after}
 use Rattle.c_meaning.proofs.statements.+statement.Goals as goal
 
 -- ---- what fits a statement fits its parts
@@ -95,88 +95,59 @@ branches-block-requires t c =
 
 -- ---- what they are resolved to
 
-pub stmt-returns-in_ok-declare-in-Declare-clause-actions : goal.stmt-returns-in_ok-declare-in-Declare-clause-actions
-stmt-returns-in_ok-declare-in-Declare-clause-actions t c =
-    let part = declare_resolved (functions_of c.args.scope.now) (names_of c.args.scope.now) c.args.s.now c.in-Declare.kind c.in-Declare.name c.in-Declare.right c.in-Declare.is in
-    cc (part, c.in_ok-declare-in-Declare.ensures.actions)
+pub stmt-returns-in-Declare-clause-actions : goal.stmt-returns-in-Declare-clause-actions
+stmt-returns-in-Declare-clause-actions t c =
+    subst (λ a. OnOk c.declare.result (actions_of c.declare.new.out.items ≡ joined (actions_of c.args.out.now.items) a))
+    (sym (declare_resolved (functions_of c.args.scope.now) (names_of c.args.scope.now) c.args.s.now c.in-Declare.kind c.in-Declare.name c.in-Declare.right c.in-Declare.is)) c.declare.ensures.actions
 
-pub stmt-returns-in_ok-declare-in-Declare-clause-names : goal.stmt-returns-in_ok-declare-in-Declare-clause-names
-stmt-returns-in_ok-declare-in-Declare-clause-names t c =
-    let part = declare_named (names_of c.args.scope.now) c.args.s.now c.in-Declare.kind c.in-Declare.name c.in-Declare.right c.in-Declare.is in
-    cc (part, c.in_ok-declare-in-Declare.ensures.names)
+pub stmt-returns-in-Declare-clause-names : goal.stmt-returns-in-Declare-clause-names
+stmt-returns-in-Declare-clause-names t c =
+    subst (λ n. OnOk c.declare.result (names_of c.declare.new.scope ≡ n))
+    (sym (declare_named (names_of c.args.scope.now) c.args.s.now c.in-Declare.kind c.in-Declare.name c.in-Declare.right c.in-Declare.is)) c.declare.ensures.names
 
-pub stmt-returns-in_ok-add_right-in-Set-clause-actions : goal.stmt-returns-in_ok-add_right-in-Set-clause-actions
-stmt-returns-in_ok-add_right-in-Set-clause-actions t c =
+pub stmt-returns-in-Set-clause-actions : goal.stmt-returns-in-Set-clause-actions
+stmt-returns-in-Set-clause-actions t c =
     let part = set_resolved (functions_of c.args.scope.now) (names_of c.args.scope.now) c.args.s.now c.in-Set.name c.in-Set.right c.in-Set.is in
     let target = c.variable_target-target.ensures ∙ ap variable_target (c.find.ensures.shown ∙ ap (named (names_of c.args.scope.now)) c.as_str.ensures) in
-    c.in_ok-add_right-in-Set.ensures
-    ∙ ap (λ t. joined (actions_of c.args.out.now.items) (resolved_right (functions_of c.args.scope.now) (names_of c.args.scope.now) None t (plain_right c.in-Set.right))) target
-    ∙ ap (joined (actions_of c.args.out.now.items)) (sym part)
+    subst (λ a. OnOk c.add_right.result (actions_of c.add_right.new.out.items ≡ joined (actions_of c.args.out.now.items) a))
+    (ap (λ t. resolved_right (functions_of c.args.scope.now) (names_of c.args.scope.now) None t (plain_right c.in-Set.right)) target ∙ sym part) c.add_right.ensures
 
-pub stmt-returns-in_ok-add_right-in-Set-clause-names : goal.stmt-returns-in_ok-add_right-in-Set-clause-names
-stmt-returns-in_ok-add_right-in-Set-clause-names t c =
-    let part = set_named (names_of c.args.scope.now) c.args.s.now c.in-Set.name c.in-Set.right c.in-Set.is in
-    cc (part)
+pub stmt-returns-in-SetElement-clause-actions : goal.stmt-returns-in-SetElement-clause-actions
+stmt-returns-in-SetElement-clause-actions t c =
+    subst (λ a. OnOk c.set_element.result (actions_of c.set_element.new.out.items ≡ joined (actions_of c.args.out.now.items) a))
+    (sym (set_element_resolved (functions_of c.args.scope.now) (names_of c.args.scope.now) c.args.s.now c.in-SetElement.name c.in-SetElement.index c.in-SetElement.right c.in-SetElement.is)) c.set_element.ensures
 
-pub stmt-returns-in_ok-set_element-in-SetElement-clause-actions : goal.stmt-returns-in_ok-set_element-in-SetElement-clause-actions
-stmt-returns-in_ok-set_element-in-SetElement-clause-actions t c =
-    let part = set_element_resolved (functions_of c.args.scope.now) (names_of c.args.scope.now) c.args.s.now c.in-SetElement.name c.in-SetElement.index c.in-SetElement.right c.in-SetElement.is in
-    c.in_ok-set_element-in-SetElement.ensures ∙ ap (joined (actions_of c.args.out.now.items)) (sym part)
-
-pub stmt-returns-in_ok-set_element-in-SetElement-clause-names : goal.stmt-returns-in_ok-set_element-in-SetElement-clause-names
-stmt-returns-in_ok-set_element-in-SetElement-clause-names t c =
-    let part = set_element_named (names_of c.args.scope.now) c.args.s.now c.in-SetElement.name c.in-SetElement.index c.in-SetElement.right c.in-SetElement.is in
-    cc (part)
-
-pub stmt-returns-in_ok-add_call-in-Call-clause-actions : goal.stmt-returns-in_ok-add_call-in-Call-clause-actions
-stmt-returns-in_ok-add_call-in-Call-clause-actions t c =
+pub stmt-returns-in_ok-args-in-Call-clause-actions : goal.stmt-returns-in_ok-args-in-Call-clause-actions
+stmt-returns-in_ok-args-in-Call-clause-actions t c =
     let part = call_resolved (functions_of c.args.scope.now) (names_of c.args.scope.now) c.args.s.now c.in-Call.name c.in-Call.args c.in-Call.is in
-    cc (part, c.in_ok-add_call-in-Call.ensures, c.in_ok-args-in-Call.ensures.values, c.function.ensures.number, c.as_str-in-Call.ensures, c.as_slice.ensures)
+    subst (λ a. OnOk c.add_call.result (actions_of c.add_call.new.out.items ≡ joined (actions_of c.args.out.now.items) a))
+    (cc (part, c.in_ok-args-in-Call.ensures.values, c.function.ensures.number, c.as_str-in-Call.ensures, c.as_slice.ensures)) c.add_call.ensures
 
-pub stmt-returns-in_ok-add_call-in-Call-clause-names : goal.stmt-returns-in_ok-add_call-in-Call-clause-names
-stmt-returns-in_ok-add_call-in-Call-clause-names t c =
-    let part = call_named (names_of c.args.scope.now) c.args.s.now c.in-Call.name c.in-Call.args c.in-Call.is in
-    cc (part)
-
-pub stmt-returns-in_ok-send-in-Send-clause-actions : goal.stmt-returns-in_ok-send-in-Send-clause-actions
-stmt-returns-in_ok-send-in-Send-clause-actions t c =
+pub stmt-returns-in_ok-action-in-Send-clause-actions : goal.stmt-returns-in_ok-action-in-Send-clause-actions
+stmt-returns-in_ok-action-in-Send-clause-actions t c =
     let part = send_resolved (functions_of c.args.scope.now) (names_of c.args.scope.now) c.args.s.now c.in-Send.core c.in-Send.core_unsigned c.in-Send.source c.in-Send.target c.in-Send.count c.in-Send.is in
-    c.in_ok-send-in-Send.ensures ∙ ap (joined (actions_of c.args.out.now.items)) (sym part)
+    subst (λ a. OnOk c.add.result (actions_of c.add.new.out.items ≡ joined (actions_of c.args.out.now.items) a))
+    (cc (part, c.in_ok-action-in-Send.ensures)) c.add.ensures
 
-pub stmt-returns-in_ok-send-in-Send-clause-names : goal.stmt-returns-in_ok-send-in-Send-clause-names
-stmt-returns-in_ok-send-in-Send-clause-names t c =
-    let part = send_named (names_of c.args.scope.now) c.args.s.now c.in-Send.core c.in-Send.core_unsigned c.in-Send.source c.in-Send.target c.in-Send.count c.in-Send.is in
-    cc (part)
-
-pub stmt-returns-in_ok-add_choice-in-None-clause-actions : goal.stmt-returns-in_ok-add_choice-in-None-clause-actions
-stmt-returns-in_ok-add_choice-in-None-clause-actions t c =
+pub stmt-returns-in-None-clause-actions : goal.stmt-returns-in-None-clause-actions
+stmt-returns-in-None-clause-actions t c =
     let part = if_resolved (functions_of c.args.scope.now) (names_of c.args.scope.now) c.args.s.now c.in-If.arms c.in-If.otherwise c.in-If.is c.in-None.is in
     let branches = c.in_ok-branches-in-If.ensures.branches ∙ ap (λ arms. resolved_arms (functions_of c.args.scope.now) (names_of c.args.scope.now) (arms_of arms)) c.as_slice-in-If.ensures in
-    let plain = ap₂ choice branches (ap actions_of (c.of-otherwise.ensures ∙ c.new.ensures.items)) in
-    c.in_ok-add_choice-in-None.ensures ∙ ap (joined (actions_of c.args.out.now.items)) plain ∙ ap (joined (actions_of c.args.out.now.items)) (sym part)
+    subst (λ a. OnOk c.add_choice.result (actions_of c.add_choice.new.out.items ≡ joined (actions_of c.args.out.now.items) a))
+    (ap₂ choice branches (ap actions_of (c.of.ensures ∙ c.new.ensures.items)) ∙ sym part) c.add_choice.ensures
 
-pub stmt-returns-in_ok-add_choice-in-None-clause-names : goal.stmt-returns-in_ok-add_choice-in-None-clause-names
-stmt-returns-in_ok-add_choice-in-None-clause-names t c =
-    let part = if_named (names_of c.args.scope.now) c.args.s.now c.in-If.arms c.in-If.otherwise c.in-If.is in
-    cc (part, c.in_ok-branches-in-If.ensures.names)
-
-pub stmt-returns-in_ok-add_choice-in-Some-clause-actions : goal.stmt-returns-in_ok-add_choice-in-Some-clause-actions
-stmt-returns-in_ok-add_choice-in-Some-clause-actions t c =
+pub stmt-returns-in_ok-otherwise-in-Some-clause-actions : goal.stmt-returns-in_ok-otherwise-in-Some-clause-actions
+stmt-returns-in_ok-otherwise-in-Some-clause-actions t c =
     let part = if_else_resolved (functions_of c.args.scope.now) (names_of c.args.scope.now) c.args.s.now c.in-If.arms c.in-If.otherwise c.in-Some.body c.in-If.is c.in-Some.is in
     let branches = c.in_ok-branches-in-If.ensures.branches ∙ ap (λ arms. resolved_arms (functions_of c.args.scope.now) (names_of c.args.scope.now) (arms_of arms)) c.as_slice-in-If.ensures in
     let scope = ap₂ (λ f n. resolved_block f n (block_of c.in-Some.body)) c.in_ok-branches-in-If.ensures.functions c.in_ok-branches-in-If.ensures.names in
     let body = c.in_ok-otherwise-in-Some.ensures.actions
     ∙ ap (λ ss. resolved_block (functions_of c.branches.new.scope) (names_of c.branches.new.scope) (block_of ss)) c.as_slice-in-Some.ensures ∙ scope in
-    let plain = ap₂ choice branches body in
-    c.in_ok-add_choice-in-Some.ensures ∙ ap (joined (actions_of c.args.out.now.items)) plain ∙ ap (joined (actions_of c.args.out.now.items)) (sym part)
+    subst (λ a. OnOk c.add_choice-in-Some.result (actions_of c.add_choice-in-Some.new.out.items ≡ joined (actions_of c.args.out.now.items) a))
+    (ap₂ choice branches body ∙ sym part) c.add_choice-in-Some.ensures
 
-pub stmt-returns-in_ok-add_choice-in-Some-clause-names : goal.stmt-returns-in_ok-add_choice-in-Some-clause-names
-stmt-returns-in_ok-add_choice-in-Some-clause-names t c =
-    let part = if_named (names_of c.args.scope.now) c.args.s.now c.in-If.arms c.in-If.otherwise c.in-If.is in
-    cc (part, c.in_ok-branches-in-If.ensures.names, c.in_ok-otherwise-in-Some.ensures.names)
-
-pub stmt-returns-in_ok-repeat-in-Loop-clause-actions : goal.stmt-returns-in_ok-repeat-in-Loop-clause-actions
-stmt-returns-in_ok-repeat-in-Loop-clause-actions t c =
+pub stmt-returns-in-Loop-clause-actions : goal.stmt-returns-in-Loop-clause-actions
+stmt-returns-in-Loop-clause-actions t c =
     let fs = functions_of c.args.scope.now in
     let names = names_of c.args.scope.now in
     let head = plain_head c.in-Loop.head in
@@ -184,46 +155,27 @@ stmt-returns-in_ok-repeat-in-Loop-clause-actions t c =
     let loop : List Stmt → PlainActions = λ body.
     joined (maybe_sets (resolved_begin names head))
     (one (turns (most_turns c.in-Loop.bound) (resolved_condition names head) (resolved_block fs names (block_of body)) (resolved_next names head))) in
-    c.in_ok-repeat-in-Loop.ensures.actions ∙ ap (λ body. joined (actions_of c.args.out.now.items) (loop body)) c.as_slice-in-Loop.ensures
-    ∙ ap (joined (actions_of c.args.out.now.items)) (sym part)
+    subst (λ a. OnOk c.repeat.result (actions_of c.repeat.new.out.items ≡ joined (actions_of c.args.out.now.items) a))
+    (ap loop c.as_slice-in-Loop.ensures ∙ sym part) c.repeat.ensures.actions
 
-pub stmt-returns-in_ok-repeat-in-Loop-clause-names : goal.stmt-returns-in_ok-repeat-in-Loop-clause-names
-stmt-returns-in_ok-repeat-in-Loop-clause-names t c =
-    let part = loop_named (names_of c.args.scope.now) c.args.s.now c.in-Loop.bound c.in-Loop.head c.in-Loop.body c.in-Loop.is in
-    cc (part, c.in_ok-repeat-in-Loop.ensures.names)
-
-pub stmt-returns-in_ok-add-in-Break-clause-actions : goal.stmt-returns-in_ok-add-in-Break-clause-actions
+pub stmt-returns-in-Break-clause-actions : goal.stmt-returns-in-Break-clause-actions
 unfolding plain_action
-stmt-returns-in_ok-add-in-Break-clause-actions t c =
-    let part = break_resolved (functions_of c.args.scope.now) (names_of c.args.scope.now) c.args.s.now c.in-Break.is in
-    c.in_ok-add-in-Break.ensures ∙ ap (joined (actions_of c.args.out.now.items)) (sym part)
+stmt-returns-in-Break-clause-actions t c =
+    subst (λ a. OnOk c.add-in-Break.result (actions_of c.add-in-Break.new.out.items ≡ joined (actions_of c.args.out.now.items) a))
+    (sym (break_resolved (functions_of c.args.scope.now) (names_of c.args.scope.now) c.args.s.now c.in-Break.is)) c.add-in-Break.ensures
 
-pub stmt-returns-in_ok-add-in-Break-clause-names : goal.stmt-returns-in_ok-add-in-Break-clause-names
-stmt-returns-in_ok-add-in-Break-clause-names t c =
-    let part = break_named (names_of c.args.scope.now) c.args.s.now c.in-Break.is in
-    cc (part)
-
-pub stmt-returns-in_ok-add-in-Continue-clause-actions : goal.stmt-returns-in_ok-add-in-Continue-clause-actions
+pub stmt-returns-in-Continue-clause-actions : goal.stmt-returns-in-Continue-clause-actions
 unfolding plain_action
-stmt-returns-in_ok-add-in-Continue-clause-actions t c =
-    let part = continue_resolved (functions_of c.args.scope.now) (names_of c.args.scope.now) c.args.s.now c.in-Continue.is in
-    c.in_ok-add-in-Continue.ensures ∙ ap (joined (actions_of c.args.out.now.items)) (sym part)
+stmt-returns-in-Continue-clause-actions t c =
+    subst (λ a. OnOk c.add-in-Continue.result (actions_of c.add-in-Continue.new.out.items ≡ joined (actions_of c.args.out.now.items) a))
+    (sym (continue_resolved (functions_of c.args.scope.now) (names_of c.args.scope.now) c.args.s.now c.in-Continue.is)) c.add-in-Continue.ensures
 
-pub stmt-returns-in_ok-add-in-Continue-clause-names : goal.stmt-returns-in_ok-add-in-Continue-clause-names
-stmt-returns-in_ok-add-in-Continue-clause-names t c =
-    let part = continue_named (names_of c.args.scope.now) c.args.s.now c.in-Continue.is in
-    cc (part)
-
-pub stmt-returns-in_ok-add-in-Return-clause-actions : goal.stmt-returns-in_ok-add-in-Return-clause-actions
+pub stmt-returns-in_ok-value-in-Return-clause-actions : goal.stmt-returns-in_ok-value-in-Return-clause-actions
 unfolding plain_action
-stmt-returns-in_ok-add-in-Return-clause-actions t c =
+stmt-returns-in_ok-value-in-Return-clause-actions t c =
     let part = return_resolved (functions_of c.args.scope.now) (names_of c.args.scope.now) c.args.s.now c.in-Return.value c.in-Return.is in
-    c.in_ok-add-in-Return.ensures ∙ ap (λ e. joined (actions_of c.args.out.now.items) (one (returns e))) c.in_ok-value-in-Return.ensures ∙ ap (joined (actions_of c.args.out.now.items)) (sym part)
-
-pub stmt-returns-in_ok-add-in-Return-clause-names : goal.stmt-returns-in_ok-add-in-Return-clause-names
-stmt-returns-in_ok-add-in-Return-clause-names t c =
-    let part = return_named (names_of c.args.scope.now) c.args.s.now c.in-Return.value c.in-Return.is in
-    cc (part)
+    subst (λ a. OnOk c.add-in-Return.result (actions_of c.add-in-Return.new.out.items ≡ joined (actions_of c.args.out.now.items) a))
+    (ap (λ e. one (returns e)) c.in_ok-value-in-Return.ensures ∙ sym part) c.add-in-Return.ensures
 
 pub stmt-returns-in_ok-statements-in-Inner-clause-actions : goal.stmt-returns-in_ok-statements-in-Inner-clause-actions
 stmt-returns-in_ok-statements-in-Inner-clause-actions t c =
@@ -252,7 +204,8 @@ repeat-returns-clause-actions t c =
     ∙ ap₂ (λ m e. turns m e (actions_of c.in_ok-body.body) (option_map plain_assignment c.in_ok-step.step)) c.most_turns-max.ensures c.in_ok-condition.ensures
     ∙ ap₂ (λ b n. turns (most_turns c.args.bound) (resolved_condition names head) b n) c.in_ok-body.ensures.actions c.in_ok-step.ensures in
     let begun = c.in_ok-add_set.ensures ∙ ap (λ f. joined (actions_of c.args.out.now.items) (maybe_sets f)) c.in_ok-first.ensures in
-    c.in_ok-add.ensures ∙ ap₂ (λ xs a. joined xs (one a)) begun plain ∙ joined_joined (actions_of c.args.out.now.items) first (one loop)
+    subst (λ all. OnOk c.add.result (actions_of c.add.new.out.items ≡ all))
+    (ap₂ (λ xs a. joined xs (one a)) begun plain ∙ joined_joined (actions_of c.args.out.now.items) first (one loop)) c.add.ensures
 
 pub statements-loop-s-preserved : goal.statements-loop-s-preserved
 statements-loop-s-preserved t c =

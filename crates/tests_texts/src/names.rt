@@ -1,5 +1,5 @@
 //! That names can be opened, which no clause can say: want of memory may come at any time.
-use crate::Names;
+use c_names::Names;
 use std::test::Fail;
 
 #[test]

@@ -1,7 +1,10 @@
-use super::*;
 use std::alloc::Global;
 use std::io::Cursor;
 use std::test::Fail;
+use tc_io::{
+    Bytes, FreeGate, Gate, Gather, ReadError, StdSink, StdSource, Stopped, SureBytes, SureGather,
+    put_decimal, put_hex8, read_all, write_all,
+};
 
 fn listed(alloc: Global, number: u32) -> Result<Vec<u32>, Fail> {
     Ok(Vec::from_slice(alloc, &[number])?)

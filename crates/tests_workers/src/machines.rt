@@ -1,5 +1,7 @@
-use super::*;
-use crate::machine::run_waiting;
+ghost use Rattle.std.specs.Prelude.{[], ◌∷◌, IfSome};
+ghost use Rattle.std.specs.Option.{option_copied};
+ghost use Rattle.patmos_code.specs.Images.{IsImage, parts};
+
 use core_worker::Waiting;
 use global_step::{Loaded, LoadedCore};
 use local_store::Cell;
@@ -12,6 +14,10 @@ use std::sync::atomic::{AtomicBool, Ordering};
 use std::test::Fail;
 use std::thread::yield_now;
 use tc_io::{FreeGate, Gate};
+use tc_run::{
+    accesses_of, dropped_of, outcome_of, own_word_of, run_by_turns, run_machine, run_plain,
+    run_waiting,
+};
 use tc_word::List;
 
 /// The task of a core.
@@ -21,13 +27,43 @@ enum Task {
     Idle,
     /// `addi r1 = r0, 7; ret; nop; nop; nop`.
     Seven,
-    /// `addl r2 = r0, 0x01000000; addi r3 = r0, 5; swm [r2 + 0] = r3; ret; nop; nop; nop` from a cycle on: it stores
-    /// 5 in the first word of shared memory.
+    /// `addl r2 = r0, SHARED; addi r3 = r0, 5; swm [r2 + 0] = r3; ret; nop; nop; nop` from a cycle on: it stores 5 in
+    /// the first word of shared memory.
     Store { start: u64 },
-    /// `addl r2 = r0, 0x01000000; lwm r3 = [r2 + 0]; nop; lwm r4 = [r2 + 0]; ret; sli r3 = r3, 4; add r1 = r3, r4;
-    /// nop`: it loads that word twice, and the first value counts sixteen times in its result.
+    /// `addl r2 = r0, SHARED; lwm r3 = [r2 + 0]; nop; lwm r4 = [r2 + 0]; ret; sli r3 = r3, 4; add r1 = r3, r4; nop`:
+    /// it loads that word twice, and the first value counts sixteen times in its result.
     TwoLoads,
 }
+
+/// Shared memory begins here, and the tasks that use it have its place in r2.
+const SHARED: u32 = 0x0100_0000;
+
+static SEVEN: [u32; 6] = [5, 0x0002_0007, 0x0540_0000, 0, 0, 0];
+
+static STORE: [u32; 9] = [
+    8,
+    0x8584_0000,
+    SHARED,
+    0x0006_0005,
+    0x0446_2180,
+    0x0540_0000,
+    0,
+    0,
+    0,
+];
+
+static TWO_LOADS: [u32; 10] = [
+    9,
+    0x8584_0000,
+    SHARED,
+    0x0406_2180,
+    0,
+    0x0408_2180,
+    0x0540_0000,
+    0x00c6_3004,
+    0x0202_3200,
+    0,
+];
 
 impl Task {
     fn start(self) -> u64 {
@@ -37,53 +73,27 @@ impl Task {
         }
     }
 
-    fn image(self, alloc: Global) -> Result<Option<Image>, AllocError> {
+    /// The words of its function, the size first.
+    fn words(self) -> Option<&'static [u32]>
+        ensures { IfSome (option_copied result) (λ words. IsImage (parts words (1 ∷ []) [] 4 0)) }
+    {
         match self {
-            Task::Idle => Ok(None),
-            Task::Seven => Ok(Some(seven(alloc)?)),
-            Task::Store { .. } => Ok(Some(store(alloc)?)),
-            Task::TwoLoads => Ok(Some(two_loads(alloc)?)),
+            Task::Idle => None,
+            Task::Seven => Some(SEVEN.as_slice()),
+            Task::Store { .. } => Some(STORE.as_slice()),
+            Task::TwoLoads => Some(TWO_LOADS.as_slice()),
         }
     }
-}
 
-fn seven(alloc: Global) -> Result<Image, AllocError> {
-    let words = List::of(vec![in alloc; 5, 0x0002_0007, 0x0540_0000, 0, 0, 0]?);
-    let starts = List::of(vec![in alloc; 1]?);
-    Ok(Image::of(words, starts, List::of(Vec::new(alloc)), 4, 0))
-}
-
-fn store(alloc: Global) -> Result<Image, AllocError> {
-    let words = List::of(vec![in alloc;
-        8,
-        0x8584_0000,
-        0x0100_0000,
-        0x0006_0005,
-        0x0446_2180,
-        0x0540_0000,
-        0,
-        0,
-        0,
-    ]?);
-    let starts = List::of(vec![in alloc; 1]?);
-    Ok(Image::of(words, starts, List::of(Vec::new(alloc)), 4, 0))
-}
-
-fn two_loads(alloc: Global) -> Result<Image, AllocError> {
-    let words = List::of(vec![in alloc;
-        9,
-        0x8584_0000,
-        0x0100_0000,
-        0x0406_2180,
-        0,
-        0x0408_2180,
-        0x0540_0000,
-        0x00c6_3004,
-        0x0202_3200,
-        0,
-    ]?);
-    let starts = List::of(vec![in alloc; 1]?);
-    Ok(Image::of(words, starts, List::of(Vec::new(alloc)), 4, 0))
+    fn image(self, alloc: Global) -> Result<Option<Image>, AllocError> {
+        let Some(words) = self.words() else {
+            return Ok(None);
+        };
+        let words = List::of(Vec::from_slice(alloc, words)?);
+        let starts = List::of(vec![in alloc; 1]?);
+        let image = Image::of(words, starts, List::of(Vec::new(alloc)), 4, 0);
+        Ok(Some(image))
+    }
 }
 
 /// The machine of cores with these tasks, of which there are so many, with slots of 6 cycles, a limit of 20,000 cycles,
@@ -126,9 +136,6 @@ fn outcomes_of(alloc: Global, cores: &[Core]) -> Result<Vec<CoreState>, AllocErr
     }
     Ok(outcomes)
 }
-
-/// Shared memory begins here, and the tasks that use it have its place in r2.
-const SHARED: u32 = 0x0100_0000;
 
 #[test]
 fn threads_turns_and_the_plain_run_end_alike(rt: HostRuntime) -> Result<(), Fail> {

@@ -1,7 +1,7 @@
-use super::*;
 use slot_arbiter::Access;
 use std::alloc::{AllocError, Global};
 use std::test::Fail;
+use tc_report::{Row, RowState, Rows, report};
 use tc_word::List;
 
 /// A core in a state, of which nothing else is told.

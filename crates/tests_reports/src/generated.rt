@@ -1,4 +1,4 @@
-use super::*;
+use job_gen::generate;
 use std::test::Fail;
 
 /// How every job begins, down to its first function.
