@@ -74,3 +74,6 @@ paren_faulted least names at e b is = ap (λ x. least_with least (expr_faults na
 pub paren_sized : (e : Expr) (b : Box Expr Global) → e ≡ Paren b → expr_size (plain_expr e) ≡ expr_size (plain_expr b.value) + 2
 unfolding expr_size plain_expr
 paren_sized e b is = ap (λ x. expr_size (plain_expr x)) is
+
+-- all of them
+pub ruleset expression_rows = (chain_faulted, chain_sized, unary_faulted, unary_sized, number_faulted, number_sized, name_faulted, name_sized, element_faulted, element_sized, paren_faulted, paren_sized)

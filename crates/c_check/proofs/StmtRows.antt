@@ -18,6 +18,7 @@ use Rattle.c_tree.specs.Least.{least_with, where_so}
 use Rattle.c_tree.specs.Names.{Named, declared}
 use Rattle.c_tree.specs.Plain.{PlainExpr, plain_expr, plain_right, plain_head, plain_stmt}
 use Rattle.c_tree.specs.Sizes.{expr_size, argument_size, call_size, bound_size, head_size, stmt_size, arms_size, block_size, otherwise_size}
+use Rattle.c_tree.proofs.StmtSizes.{inner_sized, loop_sized}
 use Rattle.c_tree.proofs.Leasts.{least_of_both}
 use Rattle.c_tree.proofs.Plains.{block_of, arms_of, plain_inner, plain_loop, plain_if}
 
@@ -189,3 +190,6 @@ send_told least cores own names at core a b c =
     ∙ least_of_both (least_with least (target_faults cores own (at + 2) core)) (whole_faults names (at + 2 + 2) a) _
     ∙ least_of_both _ (whole_faults names (at + 2 + 2 + argument_size a) b) _
     ∙ least_of_both _ (whole_faults names (at + 2 + 2 + argument_size a + argument_size b) c) []
+
+-- all that the walk over statements asks for
+pub ruleset statement_rows = (declare_faulted, declare_sized, declare_named, set_faulted, set_sized, set_named, set_element_faulted, set_element_sized, set_element_named, call_faulted, call_sized, call_named, send_faulted, send_sized, send_named, loop_faulted, loop_sized, loop_named, break_faulted, break_sized, break_named, continue_faulted, continue_sized, continue_named, return_faulted, return_sized, return_named, inner_faulted, inner_sized, inner_named, if_faulted, if_else_faulted, if_sized, if_else_sized, if_named)

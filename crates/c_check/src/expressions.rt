@@ -64,7 +64,7 @@ fn callee(names: &Names<'_>, walk: &mut Walk, is_right: bool, name: &Text, argum
 }
 
 #[cycle(expression)]
-#[tactic(auto, using(crate::proofs::ExprRows::chain_faulted, crate::proofs::ExprRows::chain_sized, crate::proofs::ExprRows::unary_faulted, crate::proofs::ExprRows::unary_sized, crate::proofs::ExprRows::number_faulted, crate::proofs::ExprRows::number_sized, crate::proofs::ExprRows::name_faulted, crate::proofs::ExprRows::name_sized, crate::proofs::ExprRows::element_faulted, crate::proofs::ExprRows::element_sized, crate::proofs::ExprRows::paren_faulted, crate::proofs::ExprRows::paren_sized))]
+#[tactic(auto, using(crate::proofs::ExprRows::expression_rows))]
 fn expr(names: &Names<'_>, walk: &mut Walk, e: &Expr) -> Result<(), OutOfMemory>
     ensures at { OnOk result (walk.new.at ≡ walk.old.at + expr_size (plain_expr e.now)) }
     ensures least { OnOk result (walk.new.least

@@ -262,7 +262,7 @@ fn loop_head(
 
 /// A statement.
 #[cycle(statement)]
-#[tactic(auto, using(crate::proofs::StmtRows::declare_faulted, crate::proofs::StmtRows::declare_sized, crate::proofs::StmtRows::declare_named, crate::proofs::StmtRows::set_faulted, crate::proofs::StmtRows::set_sized, crate::proofs::StmtRows::set_named, crate::proofs::StmtRows::set_element_faulted, crate::proofs::StmtRows::set_element_sized, crate::proofs::StmtRows::set_element_named, crate::proofs::StmtRows::call_faulted, crate::proofs::StmtRows::call_sized, crate::proofs::StmtRows::call_named, crate::proofs::StmtRows::send_faulted, crate::proofs::StmtRows::send_sized, crate::proofs::StmtRows::send_named, crate::proofs::StmtRows::loop_faulted, c_tree::proofs::StmtSizes::loop_sized, crate::proofs::StmtRows::loop_named, crate::proofs::StmtRows::break_faulted, crate::proofs::StmtRows::break_sized, crate::proofs::StmtRows::break_named, crate::proofs::StmtRows::continue_faulted, crate::proofs::StmtRows::continue_sized, crate::proofs::StmtRows::continue_named, crate::proofs::StmtRows::return_faulted, crate::proofs::StmtRows::return_sized, crate::proofs::StmtRows::return_named, crate::proofs::StmtRows::inner_faulted, c_tree::proofs::StmtSizes::inner_sized, crate::proofs::StmtRows::inner_named, crate::proofs::StmtRows::if_faulted, crate::proofs::StmtRows::if_else_faulted, crate::proofs::StmtRows::if_sized, crate::proofs::StmtRows::if_else_sized, crate::proofs::StmtRows::if_named))]
+#[tactic(auto, using(crate::proofs::StmtRows::statement_rows))]
 fn stmt<'a>(
     within: &Within,
     names: &mut Names<'a>,

@@ -4,7 +4,8 @@ use Rattle.c_tree.specs.declared.tokens.Token.{Token}
 use Rattle.c_tree.specs.Tokens.{items_tokens}
 use Rattle.c_tree.specs.Fits.{most_open, open_after}
 use Rattle.c_tree.specs.Places.{CanGoOn, IsPlace}
-use Rattle.c_parse.specs.Expected.{Expected, Items, Move, taken, passed, refused, moved, followed, next, read_on, drive, drive_to, room_to}
+use Rattle.c_parse.specs.Expected.{Expected, Items, Move, taken, passed, refused, moved, followed, next, read_on, drive, drive_to}
+use Rattle.c_parse.specs.Sorts.{room_to}
 use Rattle.c_parse.proofs.Limits.{taken_fits, left_within}
 use Rattle.c_parse.proofs.Refused.{no_more}
 use Rattle.c_parse.proofs.Written.{Written, Through, IsItems}

@@ -4,7 +4,9 @@ use Rattle.c_tree.specs.declared.tokens.Token.{Token}
 use Rattle.c_tree.specs.declared.tokens.Token.TheVariants as token
 use Rattle.c_tree.specs.declared.tokens.Sign.TheVariants as sign
 use Rattle.c_tree.specs.declared.units.Const.{Const}
-use Rattle.c_parse.specs.Expected.{Expected, Name, Outside, Variable, Items, MoreParameters, begins, may_open, room_at, may_end, drive, drive_to}
+use Rattle.c_parse.specs.Expected.{Expected, Name, Outside, Variable, Items, MoreParameters, may_end, drive, drive_to}
+use Rattle.c_parse.specs.Readers.{begins, room_at}
+use Rattle.c_parse.specs.Sorts.{may_open}
 use Rattle.c_parse.specs.Expected as expected
 use Rattle.c_parse.proofs.Steps.{name_read}
 use Rattle.c_parse.proofs.Starts.{outside_variable, parameters_next}

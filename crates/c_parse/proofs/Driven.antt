@@ -14,7 +14,9 @@ use Rattle.c_tree.specs.declared.statements.Right.{Right as RightSide}
 use Rattle.c_tree.specs.declared.statements.Right.TheVariants as right
 use Rattle.c_tree.specs.Tokens.{right_tokens, expr_tokens, steps_tokens, args_tokens, one, binary_sign, unary_sign}
 use Rattle.c_tree.specs.Fits.{ExprFits, RightFits, StepsFit, most_open, open_after}
-use Rattle.c_parse.specs.Expected.{Expected, Operand, Tail, Only, Right, Arguments, MoreArguments, drive_to, begins, is_sign, is_name, level_ahead, level_at, opens_none}
+use Rattle.c_parse.specs.Expected.{Expected, Operand, Tail, Only, Right, Arguments, MoreArguments, drive_to}
+use Rattle.c_parse.specs.Readers.{begins, level_ahead}
+use Rattle.c_parse.specs.Sorts.{is_sign, is_name, level_at, opens_none}
 use Rattle.c_parse.proofs.Tests.{may_not_open}
 use Rattle.c_parse.proofs.Steps.{sign_read, operand_number, operand_name, operand_paren, operand_prefix, index_bracket, no_index, tail_operator, no_tail}
 use Rattle.c_parse.proofs.Starts.{right_name, right_call, right_read, right_operand, arguments_end, arguments_next, arguments_done, arguments_operand}

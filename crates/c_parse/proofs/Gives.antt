@@ -1,6 +1,5 @@
 -- What a token makes of a place, kept: where what is then to come is written, the place is written, with the token first.
-use Rattle.std.proofs.Common.{◌≡◌, ℕ, Bool, true, false, ◌&&◌, nat_lt, nat_eq, List, [], ◌∷◌, ◌++◌, if◌then◌else◌, refl, ap, sym, subst, ◌∙◌, arith}
-use Rattle.std.proofs.lemmas.Grind.{common_steps}
+use Rattle.std.proofs.Common.{◌≡◌, ℕ, Bool, true, false, ◌&&◌, nat_lt, List, [], ◌∷◌, ◌++◌, if◌then◌else◌, refl, sym, subst}
 use Rattle.c_tree.specs.declared.tokens.Token.{Token}
 use Rattle.c_tree.specs.declared.tokens.Token.TheVariants as token
 use Rattle.c_tree.specs.declared.tokens.Keyword.{Keyword}
@@ -11,39 +10,29 @@ use Rattle.c_tree.specs.declared.expressions.BinaryOp.TheVariants as binary
 use Rattle.c_tree.specs.declared.expressions.UnaryOp.{UnaryOp}
 use Rattle.c_tree.specs.declared.expressions.UnaryOp.TheVariants as unary
 use Rattle.c_tree.specs.Tokens.{one, word, unary_sign, binary_sign}
-use Rattle.c_parse.specs.Expected.{Expected, Move, taken, passed, refused, and_then, is_sign, is_keyword, is_name, is_number, is_bound, is_prefix, may_open, level_at, sign_number, keyword_number}
-use Rattle.c_parse.proofs.Tests.{numbered_sign, sign_again, numbered_keyword, keyword_again}
+use Rattle.c_parse.specs.Expected.{Expected, Move, taken, passed, refused, and_then}
+use Rattle.c_parse.specs.Sorts.{is_sign, is_keyword, is_name, is_number, is_bound, is_prefix, may_open, level_at, opens_none, a_sign, is_a}
+use Rattle.c_parse.proofs.Tests.{sign_is, keyword_is}
 use Rattle.c_parse.proofs.Starts.{stays}
 use Rattle.c_parse.proofs.Written.{Through}
 
 -- ---- what a token is that passes a test
 
-same_number : (m n : ℕ) → nat_eq m n ≡ true → m ≡ n
-same_number m n h = grind (arith, common_steps)
-
-sign_is : (s : Sign) (t : Token) → is_sign s t ≡ true → t ≡ one s
-unfolding is_sign
-sign_is s (token.Sign u) h = ap one (sym (sign_again u) ∙ ap numbered_sign (sym (same_number (sign_number s) (sign_number u) h)) ∙ sign_again s)
-sign_is s (token.Word w) h = absurd (cc)
-sign_is s (token.Number v u) h = absurd (cc)
-sign_is s (token.Bound a b) h = absurd (cc)
-sign_is s (token.Keyword k) h = absurd (cc)
-
-keyword_is : (k : Keyword) (t : Token) → is_keyword k t ≡ true → t ≡ word k
-unfolding is_keyword
-keyword_is k (token.Keyword u) h = ap word (sym (keyword_again u) ∙ ap numbered_keyword (sym (same_number (keyword_number k) (keyword_number u) h)) ∙ keyword_again k)
-keyword_is k (token.Word w) h = absurd (cc)
-keyword_is k (token.Number v u) h = absurd (cc)
-keyword_is k (token.Bound a b) h = absurd (cc)
-keyword_is k (token.Sign s) h = absurd (cc)
-
-pub open_is : (room : Bool) (s : Sign) (t : Token) → may_open room s t ≡ true → t ≡ one s
+open_is : (room : Bool) (s : Sign) (t : Token) → may_open room s t ≡ true → t ≡ one s
 unfolding may_open
 open_is room s t h = sign_is s t (first (is_sign s t) room h)
   where
     first : (a b : Bool) → (a && b) ≡ true → a ≡ true
     first true b h = refl
     first false b h = h
+
+-- this sign, where it opens a bracket or not
+pub this_is : (room : Bool) (s : Sign) (t : Token) → is_a room (a_sign s) t ≡ true → t ≡ one s
+this_is room s t h = by_kind (opens_none s) h
+  where
+    by_kind : (b : Bool) → (if b then is_sign s t else may_open room s t) ≡ true → t ≡ one s
+    by_kind true h = sign_is s t h
+    by_kind false h = open_is room s t h
 
 -- ---- what is kept
 
@@ -67,7 +56,7 @@ module _ (P : List Token → List Token → Type 0) where
   pub none : (t : Token) → Gives P t refused
   none t = record { given = tt }
 
-  by_test : (t : Token) (b : Bool) {m n : Move} → (b ≡ true → Gives P t m) → Gives P t n → Gives P t (if b then m else n)
+  pub by_test : (t : Token) (b : Bool) {m n : Move} → (b ≡ true → Gives P t m) → Gives P t n → Gives P t (if b then m else n)
   by_test t true f g = f refl
   by_test t false f g = g
 

@@ -21,7 +21,8 @@ use Rattle.c_tree.specs.declared.statements.Bound.{Bound}
 use Rattle.c_tree.proofs.Blocks.{loop_tokens, inner_tokens, tokens_of_further, tokens_of_arms, tokens_otherwise, if_tokens, if_fits, ArmFits, OtherwiseFitting}
 use Rattle.c_parse.specs.declared.faults.Stop.{Stop}
 use Rattle.c_parse.specs.declared.faults.Stop.TheVariants.{Syntax, Memory}
-use Rattle.c_parse.specs.Expected.{three_tokens, Expected, Condition, Block, Else, Branch, PassesTo, Refuses, drive}
+use Rattle.c_parse.specs.Expected.{Expected, Condition, Block, Else, Branch, drive}
+use Rattle.c_parse.specs.Readers.{three_tokens, PassesTo, Refuses}
 use Rattle.c_tree.specs.Tokens.{bound_tokens, braced, body_tokens, arm_tokens, stmt_tokens, word, assigned_tokens, head_tokens, expr_tokens, args_tokens, one, binary_sign, unary_sign}
 use Rattle.c_tree.specs.Fits.{ExprFits, StmtFits, rank, level_of}
 use Rattle.c_parse.proofs.Starts.{else_more, branch_if}

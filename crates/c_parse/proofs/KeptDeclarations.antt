@@ -1,5 +1,5 @@
 -- What a token makes of a declaration outside functions and of its parts, kept.
-use Rattle.std.proofs.Common.{◌≡◌, ℕ, ◌≤◌, Bool, true, false, List, [], ◌∷◌, ◌++◌, length, Option, None, Some, if◌then◌else◌, refl, ap, ◌∙◌, append_assoc, lit≤}
+use Rattle.std.proofs.Common.{◌≡◌, ℕ, ◌≤◌, Bool, true, false, List, [], ◌∷◌, ◌++◌, length, Option, None, Some, refl, ap, ◌∙◌, append_assoc, lit≤}
 use Rattle.c_tree.specs.declared.tokens.Token.{Token}
 use Rattle.c_tree.specs.declared.tokens.Token.TheVariants as token
 use Rattle.c_tree.specs.declared.tokens.Keyword.TheVariants as keyword
@@ -12,8 +12,9 @@ use Rattle.c_tree.specs.declared.units.Parameter.{Parameter}
 use Rattle.c_tree.specs.declared.units.Item.TheVariants as item
 use Rattle.c_tree.specs.Tokens.{body_tokens, kind_tokens, braced, ended, const_tokens, consts_tokens, initials_tokens, shape_tokens, parameters_tokens, gives_tokens, item_tokens, items_tokens, one, word}
 use Rattle.c_tree.specs.Fits.{GlobalFits}
-use Rattle.c_parse.specs.Expected.{Only, Open, Name, Number, PerhapsInt, Block, Items, Kind, Outside, Variable, Elements, Constant, MoreConstants, Parameters, MoreParameters, taken, refused, moved, kind_moved, variable_moved, is_keyword, listed, scratch_tokens}
-use Rattle.c_parse.proofs.Starts.{stays}
+use Rattle.c_parse.specs.Expected.{Only, Name, Number, PerhapsInt, Block, Items, Kind, Outside, Variable, Elements, Constant, MoreConstants, Parameters, MoreParameters, moved, moved_by, kind as kind_rule, variable}
+use Rattle.c_parse.specs.Readers.{listed, scratch_tokens}
+use Rattle.c_parse.proofs.Starts.{stays_by}
 use Rattle.c_parse.proofs.Written.{Written, Through, IsKind, IsItem, IsItems, IsShape, IsElements, IsConstant, IsMoreConstants, IsParameters, IsMoreParameters}
 use Rattle.c_parse.proofs.Gives.{Gives, takes, stays_empty, none, on_sign, on_open, on_word, on_number, gives_then, gives_as, moved_along}
 use Rattle.c_parse.proofs.KeptExpressions.{one_more}
@@ -27,18 +28,10 @@ perhaps_int_kept room t =
     on_word P keyword.Int t (takes P (λ ts rest h. record { kind = kind.UnsignedInt; written = ap (λ l. word keyword.Unsigned ∷ word keyword.Int ∷ l) h }))
     (stays_empty P t (λ ts. record { kind = kind.Unsigned; written = refl }))
 
-pub kind_kept : (t : Token) → Gives IsKind t (kind_moved t)
-kind_kept t =
+pub kind_kept : (room : Bool) (t : Token) → Gives IsKind t (moved_by room kind_rule t)
+kind_kept room t =
     on_word IsKind keyword.Int t (takes IsKind (λ ts rest h. record { kind = kind.Int; written = ap (λ l. word keyword.Int ∷ l) h }))
     (on_word IsKind keyword.Unsigned t (takes IsKind (λ ts rest h. moved_along IsKind refl h.1 h.2)) (none IsKind t))
-
-kind_stays : (t : Token) → stays (kind_moved t)
-kind_stays t = chosen (is_keyword keyword.Int t) (is_keyword keyword.Unsigned t)
-  where
-    chosen : (a b : Bool) → stays (if a then taken [] else (if b then taken (PerhapsInt ∷ []) else refused))
-    chosen true b = tt
-    chosen false true = tt
-    chosen false false = tt
 
 -- ---- constants, and what is after a variable's name
 
@@ -71,7 +64,7 @@ elements_kept room t =
     on_sign IsElements sign.Assign t (takes IsElements filled)
     (on_sign IsElements sign.Semicolon t (takes IsElements (λ ts rest h. record { values = []; written = ap (λ l. one sign.Semicolon ∷ l) h })) (none IsElements t))
   where
-    filled : (ts rest : List Token) → Through (Open sign.OpenBrace ∷ Constant ∷ MoreConstants ∷ Only sign.Semicolon ∷ []) ts rest → IsElements (one sign.Assign ∷ ts) rest
+    filled : (ts rest : List Token) → Through (Only sign.OpenBrace ∷ Constant ∷ MoreConstants ∷ Only sign.Semicolon ∷ []) ts rest → IsElements (one sign.Assign ∷ ts) rest
     filled ts rest (t1, a, (t2, c, (t3, m, (t4, b, e)))) =
         let more : IsMoreConstants c.value t2 t3 = m c.value in
         record { values = c.value ∷ more.values; written = ap (λ l. one sign.Assign ∷ l) (joined (consts_tokens (c.value ∷ more.values)) (c.written ∙ more.written)) }
@@ -79,7 +72,7 @@ elements_kept room t =
         joined : (cs : List Token) → t1 ≡ cs ++ one sign.CloseBrace ∷ t3 → ts ≡ braced cs ++ one sign.Semicolon ∷ rest
         joined cs c = simp (a, c, b, e, append_assoc)
 
-pub variable_kept : (room : Bool) (t : Token) → Gives IsShape t (variable_moved room t)
+pub variable_kept : (room : Bool) (t : Token) → Gives IsShape t (moved_by room variable t)
 variable_kept room t =
     on_open IsShape room sign.OpenBracket t (takes IsShape array)
     (on_sign IsShape sign.Assign t (takes IsShape first)
@@ -118,7 +111,7 @@ parameters_kept room t =
       none = λ n. refl;
       written = ap (λ l. word keyword.Void ∷ l) (h.1 ∙ ap (λ l. one sign.CloseParenthesis ∷ l) h.2);
     }))
-    (gives_then IsKind IsParameters t (kind_moved t) (Name ∷ MoreParameters ∷ []) (kind_stays t) some (kind_kept t)))
+    (gives_then IsKind IsParameters t (moved_by room kind_rule t) (Name ∷ MoreParameters ∷ []) (stays_by room kind_rule t refl) some (kind_kept room t)))
   where
     some : (ts mid rest : List Token) → IsKind ts mid → Through (Name ∷ MoreParameters ∷ []) mid rest → IsParameters ts rest
     some ts mid rest k (t1, (w, a), (t2, m, e)) =
@@ -188,7 +181,7 @@ pub outside_kept : (room : Bool) (t : Token) → Gives (Written Outside) t (move
 unfolding moved
 outside_kept room t =
     let P : List Token → List Token → Type 0 = Written Outside in
-    on_open P room sign.OpenParenthesis t (takes P begun) (gives_as IsShape P t (variable_moved room t) (λ ts rest s k w. global false k w ts rest s) (variable_kept room t))
+    on_open P room sign.OpenParenthesis t (takes P begun) (gives_as IsShape P t (moved_by room variable t) (λ ts rest s k w. global false k w ts rest s) (variable_kept room t))
   where
     begun : (ts rest : List Token) → Through (Parameters ∷ Block ∷ []) ts rest → (k : KindOf) (w : List ℕ) → IsItem (kind_tokens k ++ token.Word w ∷ one sign.OpenParenthesis ∷ ts) rest
     begun ts rest (t1, p, (t2, b, e)) k w = moved_along IsItem refl (function (Some k) w ts t1 t2 p b) e
@@ -223,6 +216,6 @@ items_kept room t =
     scratchpad ts rest (t1, k, (t2, (w, a), (t3, s, (t4, is, e)))) =
         more_items _ _ t3 t4 rest (ap (λ l. word keyword.Scratchpad ∷ l) (k.written ∙ ap (λ l. kind_tokens k.kind ++ l) a)) (global true k.kind w t2 t3 s) is e
 
-    gives_nothing : (ts rest : List Token) → Through (Name ∷ Open sign.OpenParenthesis ∷ Parameters ∷ Block ∷ Items ∷ []) ts rest → IsItems (word keyword.Void ∷ ts) rest
+    gives_nothing : (ts rest : List Token) → Through (Name ∷ Only sign.OpenParenthesis ∷ Parameters ∷ Block ∷ Items ∷ []) ts rest → IsItems (word keyword.Void ∷ ts) rest
     gives_nothing ts rest (t1, (w, a), (t2, b, (t3, p, (t4, body, (t5, is, e))))) =
         more_items _ _ t4 t5 rest (ap (λ l. word keyword.Void ∷ l) (a ∙ ap (λ l. token.Word w ∷ l) b)) (function None w t2 t3 t4 p body) is e

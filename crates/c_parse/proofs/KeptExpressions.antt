@@ -1,5 +1,5 @@
 -- What a token makes of an operand, of what is after one, of arguments and of right sides, kept.
-use Rattle.std.proofs.Common.{◌≡◌, ℕ, ◌≤◌, Bool, true, false, List, [], ◌∷◌, ◌++◌, if◌then◌else◌, refl, ap, ◌∙◌, append_assoc, arith, lit≤}
+use Rattle.std.proofs.Common.{◌≡◌, ℕ, ◌≤◌, Bool, List, [], ◌∷◌, ◌++◌, refl, ap, ◌∙◌, append_assoc, arith, lit≤}
 use Rattle.c_tree.specs.declared.tokens.Token.{Token}
 use Rattle.c_tree.specs.declared.tokens.Token.TheVariants as token
 use Rattle.c_tree.specs.declared.tokens.Sign.TheVariants as sign
@@ -10,11 +10,11 @@ use Rattle.c_tree.specs.declared.expressions.Expr.TheViews.{Unary, Element, Pare
 use Rattle.c_tree.specs.declared.statements.Right.TheVariants as right
 use Rattle.c_tree.specs.Tokens.{expr_tokens, args_tokens, one, unary_sign, binary_sign}
 use Rattle.c_tree.specs.Fits.{ExprFits, rank}
-use Rattle.c_parse.specs.Expected.{Expected, Only, Operand, Index, Tail, Right, RightName, Arguments, MoreArguments, taken, passed, moved, and_then, or_else, operand_moved, index_moved, tail_moved, may_open}
-use Rattle.c_parse.proofs.Starts.{operand_stays}
+use Rattle.c_parse.specs.Expected.{Expected, Only, Operand, Index, Tail, Right, RightName, Arguments, MoreArguments, moved, moved_by, operand}
+use Rattle.c_parse.proofs.Starts.{stays_by}
 use Rattle.c_parse.proofs.Pushed.{boxed, Fitting, pushed}
 use Rattle.c_parse.proofs.Written.{Written, Through, IsExpr, IsRight, IsArguments, IsMoreArguments}
-use Rattle.c_parse.proofs.Gives.{Gives, takes, stays_empty, none, at_token, open_is, on_sign, on_open, on_name, on_number, on_prefix, on_operator, gives_then, moved_along}
+use Rattle.c_parse.proofs.Gives.{Gives, takes, stays_empty, none, on_sign, on_open, on_name, on_number, on_prefix, on_operator, gives_then, moved_along}
 
 -- an expression and what is after it
 pub tailed : (least : ℕ) (ts mid rest : List Token) → IsExpr least ts mid → Written Tail mid rest → IsExpr 0 ts rest
@@ -68,7 +68,7 @@ prefixed op ts mid rest e h =
     let d : (d : Expr) × (11 ≤ rank d) × ExprFits d × (one (unary_sign op) ∷ expr_tokens e.expr ≡ expr_tokens d) = signed op e.expr e.above e.fits in
     record { expr = d.0; above = d.1; fits = d.2; written = ap (λ l. one (unary_sign op) ∷ l) (e.written ∙ ap (λ l. expr_tokens e.expr ++ l) h) ∙ ap (λ l. l ++ rest) d.3 }
 
-pub operand_kept : (room : Bool) (t : Token) → Gives (IsExpr 11) t (operand_moved room t)
+pub operand_kept : (room : Bool) (t : Token) → Gives (IsExpr 11) t (moved_by room operand t)
 operand_kept room t =
     let P : List Token → List Token → Type 0 = IsExpr 11 in
     on_number P t (λ v u. takes P (number v u)) (on_name P t (λ w. takes P (λ ts rest h. indexed w ts h.0 rest (h.1 w) h.2))
@@ -79,7 +79,8 @@ operand_kept room t =
     indexed : (w : List ℕ) (ts mid rest : List Token) → IsExpr 12 (token.Word w ∷ ts) mid → mid ≡ rest → IsExpr 11 (token.Word w ∷ ts) rest
     indexed w ts mid rest e h = record { expr = e.expr; above = omega (arith, e.above); fits = e.fits; written = e.written ∙ ap (λ l. expr_tokens e.expr ++ l) h }
 
-pub index_kept : (room : Bool) (t : Token) → Gives (Written Index) t (index_moved room t)
+pub index_kept : (room : Bool) (t : Token) → Gives (Written Index) t (moved room Index t)
+unfolding moved
 index_kept room t =
     let P : List Token → List Token → Type 0 = Written Index in
     on_open P room sign.OpenBracket t (takes P (λ ts rest h w. let e : (mid : List Token) × IsExpr 0 ts mid × Through (Only sign.CloseBracket ∷ []) mid rest = whole (Only sign.CloseBracket ∷ []) ts rest h in
@@ -95,8 +96,9 @@ operated op e f ts mid rest x g =
     same : (es xs ps : List Token) → ts ≡ xs ++ mid → ps ≡ es ++ one (binary_sign op) ∷ xs → es ++ one (binary_sign op) ∷ ts ≡ ps ++ mid
     same es xs ps a b = simp (a, b, append_assoc)
 
-pub tail_kept : (t : Token) → Gives (Written Tail) t (tail_moved t)
-tail_kept t =
+pub tail_kept : (room : Bool) (t : Token) → Gives (Written Tail) t (moved room Tail t)
+unfolding moved
+tail_kept room t =
     let P : List Token → List Token → Type 0 = Written Tail in
     on_operator P t (λ op. takes P (λ ts rest h e f. moved_along (IsExpr 0) refl (operated op e f ts h.0 h.2.0 h.1 h.2.1) h.2.2))
     (stays_empty P t (λ ts e f. record { expr = e; above = omega arith; fits = f; written = refl }))
@@ -117,23 +119,22 @@ pub right_name_kept : (room : Bool) (t : Token) → Gives (Written RightName) t 
 unfolding moved
 right_name_kept room t =
     let P : List Token → List Token → Type 0 = Written RightName in
-    on_open P room sign.OpenParenthesis t (takes P (λ ts rest h w. called w ts h.0 rest h.1 h.2)) (by_index (may_open room sign.OpenBracket t) (open_is room sign.OpenBracket t))
+    on_open P room sign.OpenParenthesis t (takes P (λ ts rest h w. called w ts h.0 rest h.1 h.2))
+    (on_open P room sign.OpenBracket t (takes P indexed)
+    (on_operator P t (λ op. takes P (λ ts rest h w. let n : IsExpr 12 (token.Word w ∷ one (binary_sign op) ∷ ts) (one (binary_sign op) ∷ ts) = name w (one (binary_sign op) ∷ ts) (one (binary_sign op) ∷ ts) refl in
+    valued (token.Word w ∷ one (binary_sign op) ∷ ts) rest (tailed 12 (token.Word w ∷ one (binary_sign op) ∷ ts) (one (binary_sign op) ∷ ts) rest n (λ e f. moved_along (IsExpr 0) refl (operated op e f ts h.0 h.2.0 h.1 h.2.1) h.2.2))))
+    (stays_empty P t (λ ts w. valued (token.Word w ∷ ts) ts (tailed 12 (token.Word w ∷ ts) ts ts (name w ts ts refl) (λ e f. record { expr = e; above = omega arith; fits = f; written = refl }))))))
   where
-    by_index : (b : Bool) → (b ≡ true → t ≡ one sign.OpenBracket)
-        → Gives (Written RightName) t (or_else (and_then (if b then taken (Operand ∷ Tail ∷ Only sign.CloseBracket ∷ []) else passed) (Tail ∷ [])) (tail_moved t))
-    by_index true e = at_token (Written RightName) (e refl) (takes (Written RightName) (λ ts rest h w.
+    indexed : (ts rest : List Token) → Through (Operand ∷ Tail ∷ Only sign.CloseBracket ∷ Tail ∷ []) ts rest → (w : List ℕ) → IsRight (token.Word w ∷ one sign.OpenBracket ∷ ts) rest
+    indexed ts rest h w =
         let i : (mid : List Token) × IsExpr 0 ts mid × Through (Only sign.CloseBracket ∷ Tail ∷ []) mid rest = whole (Only sign.CloseBracket ∷ Tail ∷ []) ts rest h in
-        moved_along IsRight refl (valued (token.Word w ∷ one sign.OpenBracket ∷ ts) i.2.2.0 (tailed 12 (token.Word w ∷ one sign.OpenBracket ∷ ts) i.2.0 i.2.2.0 (element w ts i.0 i.2.0 i.2.0 i.1 i.2.1 refl) i.2.2.1)) i.2.2.2))
-    by_index false e = let P : List Token → List Token → Type 0 = Written RightName in
-        on_operator P t (λ op. takes P (λ ts rest h w. let n : IsExpr 12 (token.Word w ∷ one (binary_sign op) ∷ ts) (one (binary_sign op) ∷ ts) = name w (one (binary_sign op) ∷ ts) (one (binary_sign op) ∷ ts) refl in
-        valued (token.Word w ∷ one (binary_sign op) ∷ ts) rest (tailed 12 (token.Word w ∷ one (binary_sign op) ∷ ts) (one (binary_sign op) ∷ ts) rest n (λ e f. moved_along (IsExpr 0) refl (operated op e f ts h.0 h.2.0 h.1 h.2.1) h.2.2))))
-        (stays_empty P t (λ ts w. valued (token.Word w ∷ ts) ts (tailed 12 (token.Word w ∷ ts) ts ts (name w ts ts refl) (λ e f. record { expr = e; above = omega arith; fits = f; written = refl }))))
+        moved_along IsRight refl (valued (token.Word w ∷ one sign.OpenBracket ∷ ts) i.2.2.0 (tailed 12 (token.Word w ∷ one sign.OpenBracket ∷ ts) i.2.0 i.2.2.0 (element w ts i.0 i.2.0 i.2.0 i.1 i.2.1 refl) i.2.2.1)) i.2.2.2
 
 pub right_kept : (room : Bool) (t : Token) → Gives IsRight t (moved room Right t)
 unfolding moved
 right_kept room t =
     on_name IsRight t (λ w. takes IsRight (λ ts rest h. moved_along IsRight refl (h.1 w) h.2))
-    (gives_then (IsExpr 11) IsRight t (operand_moved room t) (Tail ∷ []) (operand_stays room t)
+    (gives_then (IsExpr 11) IsRight t (moved_by room operand t) (Tail ∷ []) (stays_by room operand t refl)
     (λ ts mid rest e h. moved_along IsRight refl (valued ts h.0 (tailed 11 ts mid h.0 e h.1)) h.2) (operand_kept room t))
 
 -- ---- arguments
@@ -142,7 +143,7 @@ pub arguments_kept : (room : Bool) (t : Token) → Gives IsArguments t (moved ro
 unfolding moved
 arguments_kept room t =
     on_sign IsArguments sign.CloseParenthesis t (takes IsArguments (λ ts rest h. record { args = []; fits = tt; written = ap (λ l. one sign.CloseParenthesis ∷ l) h }))
-    (gives_then (IsExpr 11) IsArguments t (operand_moved room t) (Tail ∷ MoreArguments ∷ []) (operand_stays room t)
+    (gives_then (IsExpr 11) IsArguments t (moved_by room operand t) (Tail ∷ MoreArguments ∷ []) (stays_by room operand t refl)
     (λ ts mid rest e h. let x : IsExpr 0 ts h.0 = tailed 11 ts mid h.0 e h.1 in
     let m : IsMoreArguments x.expr h.0 h.2.0 = h.2.1 x.expr x.fits in
     moved_along IsArguments x.written (record { args = x.expr ∷ m.args; fits = (x.fits, m.fits); written = m.written }) h.2.2) (operand_kept room t))

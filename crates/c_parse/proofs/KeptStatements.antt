@@ -14,8 +14,8 @@ use Rattle.c_tree.specs.declared.statements.Stmt.TheViews.{If, Loop, Inner}
 use Rattle.c_tree.specs.Tokens.{expr_tokens, right_tokens, args_tokens, stmt_tokens, body_tokens, kind_tokens, assigned_tokens, arm_tokens, braced, ended, one, word}
 use Rattle.c_tree.specs.Fits.{StmtFits}
 use Rattle.c_tree.proofs.Blocks.{tokens_of_further, tokens_otherwise, if_fits, inner_fits, loop_fits}
-use Rattle.c_parse.specs.Expected.{Only, Open, Name, Number, Operand, Tail, Right, Arguments, Statements, PerhapsInt, Initial, AfterName, Condition, Block, Assigned, Test, Further, Loop as LoopHere, Given, Else, Branch, moved, operand_moved, statement_moved, loop_moved}
-use Rattle.c_parse.proofs.Starts.{operand_stays, statement_stays}
+use Rattle.c_parse.specs.Expected.{Only, Name, Number, Operand, Tail, Right, Arguments, Statements, PerhapsInt, Initial, AfterName, Condition, Block, Assigned, Test, Further, Loop as LoopHere, Given, Else, Branch, moved, moved_by, operand, statement, loop}
+use Rattle.c_parse.proofs.Starts.{stays_by}
 use Rattle.c_parse.proofs.Growing.{three_written, sent_written, for_written, if_written, loop_written, inner_written}
 use Rattle.c_parse.proofs.Written.{Written, Through, IsExpr, IsStmt, IsBody, IsLoop, IsElse}
 use Rattle.c_parse.proofs.Gives.{Gives, takes, stays_empty, none, on_sign, on_open, on_word, on_name, on_bound, gives_then, gives_as, moved_along}
@@ -103,7 +103,7 @@ call ts rest (t1, x, (t2, a, e)) = λ w. record {
     joined : (xs : List Token) → ts ≡ xs ++ one sign.CloseParenthesis ∷ t1 → ts ≡ ended (xs ++ one sign.CloseParenthesis ∷ []) ++ rest
     joined xs x = simp (x, a, e, append_assoc)
 
-sending : (ts rest : List Token) → Through (Open sign.OpenParenthesis ∷ Number ∷ Further ∷ Further ∷ Further ∷ Only sign.CloseParenthesis ∷ Only sign.Semicolon ∷ []) ts rest
+sending : (ts rest : List Token) → Through (Only sign.OpenParenthesis ∷ Number ∷ Further ∷ Further ∷ Further ∷ Only sign.CloseParenthesis ∷ Only sign.Semicolon ∷ []) ts rest
     → IsStmt (word keyword.Send ∷ ts) rest
 unfolding StmtFits
 sending ts rest (t1, a, (t2, (v, u, b), (t3, (source, f, c), (t4, (target, g, d), (t5, (count, h, i), (t6, j, (t7, k, e))))))) = record {
@@ -183,7 +183,7 @@ while_loop ts rest (t1, (c, f, a), (t2, (body, g, b), e)) = record {
         → word keyword.While ∷ ts ≡ (word keyword.While ∷ one sign.OpenParenthesis ∷ (cs ++ one sign.CloseParenthesis ∷ [])) ++ (braced bs ++ rest)
     joined cs bs a b = simp (a, b, e, append_assoc)
 
-for_loop : (ts rest : List Token) → Through (Open sign.OpenParenthesis ∷ Assigned ∷ Test ∷ Assigned ∷ Only sign.CloseParenthesis ∷ Block ∷ []) ts rest → IsLoop (word keyword.For ∷ ts) rest
+for_loop : (ts rest : List Token) → Through (Only sign.OpenParenthesis ∷ Assigned ∷ Test ∷ Assigned ∷ Only sign.CloseParenthesis ∷ Block ∷ []) ts rest → IsLoop (word keyword.For ∷ ts) rest
 for_loop ts rest (t1, a, (t2, (first, from, f, b), (t3, (test, g, c), (t4, (step, to, h, d), (t5, i, (t6, (body, j, k), e)))))) = record {
   head = head.For first from test step to;
   body = body;
@@ -217,10 +217,10 @@ inner ts rest (t1, b, e) = record {
 
 -- ---- what a token makes of these places
 
-pub loop_kept : (t : Token) → Gives IsLoop t (loop_moved t)
-loop_kept t = on_word IsLoop keyword.While t (takes IsLoop while_loop) (on_word IsLoop keyword.For t (takes IsLoop for_loop) (none IsLoop t))
+pub loop_kept : (room : Bool) (t : Token) → Gives IsLoop t (moved_by room loop t)
+loop_kept room t = on_word IsLoop keyword.While t (takes IsLoop while_loop) (on_word IsLoop keyword.For t (takes IsLoop for_loop) (none IsLoop t))
 
-pub statement_kept : (room : Bool) (t : Token) → Gives IsStmt t (statement_moved room t)
+pub statement_kept : (room : Bool) (t : Token) → Gives IsStmt t (moved_by room statement t)
 statement_kept room t =
     on_word IsStmt keyword.Int t (takes IsStmt int_declared)
     (on_word IsStmt keyword.Unsigned t (takes IsStmt unsigned_declared)
@@ -232,7 +232,7 @@ statement_kept room t =
     (on_word IsStmt keyword.Continue t (takes IsStmt continuing)
     (on_word IsStmt keyword.Return t (takes IsStmt (λ ts rest h. moved_along IsStmt refl h.1 h.2))
     (on_open IsStmt room sign.OpenBrace t (takes IsStmt inner)
-    (gives_as IsLoop IsStmt t (loop_moved t) free_loop (loop_kept t)))))))))))
+    (gives_as IsLoop IsStmt t (moved_by room loop t) free_loop (loop_kept room t)))))))))))
   where
     int_declared : (ts rest : List Token) → Through (Name ∷ Initial ∷ []) ts rest → IsStmt (word keyword.Int ∷ ts) rest
     int_declared ts rest (t1, (w, a), (t2, f, e)) = moved_along IsStmt (ap (λ l. word keyword.Int ∷ l) a) (f kind.Int w) e
@@ -244,7 +244,7 @@ pub statements_kept : (room : Bool) (t : Token) → Gives IsBody t (moved room S
 unfolding moved
 statements_kept room t =
     on_sign IsBody sign.CloseBrace t (takes IsBody (λ ts rest h. record { body = []; fits = tt; written = ap (λ l. one sign.CloseBrace ∷ l) h }))
-    (gives_then IsStmt IsBody t (statement_moved room t) (Statements ∷ []) (statement_stays room t) more (statement_kept room t))
+    (gives_then IsStmt IsBody t (moved_by room statement t) (Statements ∷ []) (stays_by room statement t refl) more (statement_kept room t))
   where
     more : (ts mid rest : List Token) → IsStmt ts mid → Through (Statements ∷ []) mid rest → IsBody ts rest
     more ts mid rest s (t1, b, e) = record { body = s.stmt ∷ b.body; fits = (s.fits, b.fits); written = joined (stmt_tokens s.stmt) (body_tokens b.body) s.written b.written }
@@ -288,7 +288,7 @@ pub given_kept : (room : Bool) (t : Token) → Gives (Written Given) t (moved ro
 unfolding moved
 given_kept room t =
     let P : List Token → List Token → Type 0 = Written Given in
-    on_sign P sign.Semicolon t (takes P returning) (gives_then (IsExpr 11) P t (operand_moved room t) (Tail ∷ Only sign.Semicolon ∷ []) (operand_stays room t) given (operand_kept room t))
+    on_sign P sign.Semicolon t (takes P returning) (gives_then (IsExpr 11) P t (moved_by room operand t) (Tail ∷ Only sign.Semicolon ∷ []) (stays_by room operand t refl) given (operand_kept room t))
 
 pub else_kept : (room : Bool) (t : Token) → Gives IsElse t (moved room Else t)
 unfolding moved

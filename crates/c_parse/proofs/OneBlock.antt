@@ -12,7 +12,8 @@ use Rattle.c_tree.specs.declared.statements.Stmt.{Stmt, Declare, Set, SetElement
 use Rattle.c_tree.specs.declared.statements.Stmt.TheBlock.{Held-Stmt-If-1, None', Some', Row_of-Stmt, end_of-Stmt, more_of-Stmt, Row_of-Arm, end_of-Arm, more_of-Arm}
 use Rattle.c_tree.specs.Tokens.{expr_tokens, head_tokens, bound_tokens, stmt_tokens, block_tokens, arms_tokens, further_tokens, otherwise_tokens, arm_tokens, one, word}
 use Rattle.c_tree.specs.Fits.{ExprFits, HeadFits, StmtFits, BlockFits, ArmsFit, OtherwiseFits, has_arm}
-use Rattle.c_parse.specs.Expected.{begins, is_sign, is_keyword}
+use Rattle.c_parse.specs.Readers.{begins}
+use Rattle.c_parse.specs.Sorts.{is_sign, is_keyword}
 use Rattle.c_parse.proofs.Stated.{NoElse, stmt_begins, stmt_no_else, closing_no_else}
 use Rattle.c_parse.proofs.OneExpression.{behind_parenthesis}
 use Rattle.c_parse.proofs.OneStatement.{differ, OneStmt, whole_one, behind_semicolon, sort_of, one_sort, declare_one, set_one, set_element_one, call_one, send_one, break_one, continue_one, return_one}

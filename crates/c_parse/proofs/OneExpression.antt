@@ -12,7 +12,8 @@ use Rattle.c_tree.specs.declared.expressions.Expr.{Expr, Chain', Unary', Element
 use Rattle.c_tree.specs.declared.expressions.Expr.TheBlock.{Row_of-Step, end_of-Step, more_of-Step}
 use Rattle.c_tree.specs.Tokens.{expr_tokens, steps_tokens, one, unary_sign, binary_sign}
 use Rattle.c_tree.specs.Fits.{ExprFits, StepsFit, has_step, rank, level_of}
-use Rattle.c_parse.specs.Expected.{begins, is_sign, level_at, level_ahead}
+use Rattle.c_parse.specs.Readers.{begins, level_ahead}
+use Rattle.c_parse.specs.Sorts.{is_sign, level_at}
 use Rattle.c_parse.proofs.Driven.{operator_no_bracket}
 use Rattle.c_tree.specs.Plain.{chain, no_step, plain_expr, plain_steps}
 

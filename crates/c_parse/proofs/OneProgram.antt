@@ -19,7 +19,7 @@ use Rattle.c_tree.specs.declared.units.Item.TheVariants as item
 use Rattle.c_tree.specs.declared.units.Unit.{Unit as Program}
 use Rattle.c_tree.specs.Tokens.{kind_tokens, const_tokens, consts_tokens, shape_tokens, parameters_tokens, gives_tokens, stmt_tokens, body_tokens, global_tokens, function_tokens, item_tokens, items_tokens, tokens_of, braced, one, word}
 use Rattle.c_tree.specs.Fits.{StmtFits, FunctionFits, ItemFits, Fits}
-use Rattle.c_parse.specs.Expected.{listed, scratch_tokens}
+use Rattle.c_parse.specs.Readers.{listed, scratch_tokens}
 use Rattle.c_parse.proofs.OneStatement.{kind_one}
 use Rattle.c_parse.proofs.OneBlock.{stmt_one, stmt_opens}
 use Rattle.c_tree.specs.Plain.{plain_stmt, plain_item, plain}

@@ -17,7 +17,8 @@ use Rattle.c_tree.specs.declared.statements.Stmt.{Stmt, Declare, Set, SetElement
 use Rattle.c_tree.specs.declared.statements.Stmt.TheBlock.{Row_of-Arm, end_of-Arm, more_of-Arm}
 use Rattle.c_tree.specs.Tokens.{expr_tokens, steps_tokens, args_tokens, right_tokens, kind_tokens, stmt_tokens, arms_tokens, otherwise_tokens, one}
 use Rattle.c_tree.specs.Fits.{ExprFits, RightFits, StmtFits, has_arm}
-use Rattle.c_parse.specs.Expected.{begins, is_sign, level_at}
+use Rattle.c_parse.specs.Readers.{begins}
+use Rattle.c_parse.specs.Sorts.{is_sign, level_at}
 use Rattle.c_parse.proofs.Driven.{expr_begins, end_parenthesis, end_semicolon, steps_no_call}
 use Rattle.c_parse.proofs.Stated.{NoElse}
 use Rattle.c_parse.proofs.OneExpression.{Behind, expr_one, some_rank, behind_bracket, behind_parenthesis}

@@ -16,7 +16,9 @@ use Rattle.c_tree.specs.declared.units.Item.TheVariants as item
 use Rattle.c_tree.specs.declared.units.Unit.{Unit as Program}
 use Rattle.c_tree.specs.Tokens.{kind_tokens, const_tokens, consts_tokens, initials_tokens, shape_tokens, ended, parameters_tokens, gives_tokens, body_tokens, stmt_tokens, function_tokens, item_tokens, items_tokens, tokens_of, one, word}
 use Rattle.c_tree.specs.Fits.{StmtFits, FunctionFits, ItemFits, GrammarFits, most_open}
-use Rattle.c_parse.specs.Expected.{Expected, Only, Name, Statements, Block, Items, Kind, Variable, Elements, Constant, MoreConstants, Parameters, MoreParameters, drive_to, may_end, begins, is_sign, is_keyword}
+use Rattle.c_parse.specs.Expected.{Expected, Only, Name, Statements, Block, Items, Kind, Variable, Elements, Constant, MoreConstants, Parameters, MoreParameters, drive_to, may_end}
+use Rattle.c_parse.specs.Readers.{begins}
+use Rattle.c_parse.specs.Sorts.{is_sign, is_keyword}
 use Rattle.std.specs.Prelude.{⊤, if◌then◌else◌}
 use Rattle.c_parse.proofs.Tests.{may_not_open}
 use Rattle.c_parse.proofs.Steps.{sign_read, bracket_read, name_read, number_read}
@@ -43,7 +45,7 @@ constants_go c (d ∷ cs) limit n xs rest =
 elements_go : (cs : List Const) (limit n : ℕ) (xs : List Expected) (rest : List Token) → Goes limit n (Elements ∷ xs) (initials_tokens cs ++ one sign.Semicolon ∷ rest) n xs rest
 elements_go [] limit n xs rest = step (elements_end limit n rest xs)
 elements_go (c ∷ cs) limit n xs rest =
-    along (simp append_assoc) (and_on (step (elements_assign limit n _ xs)) (and_on (open_step (one sign.OpenBrace) refl (bracket_read limit n sign.OpenBrace _ _))
+    along (simp append_assoc) (and_on (step (elements_assign limit n _ xs)) (and_on (open_step (one sign.OpenBrace) refl (bracket_read limit n sign.OpenBrace _ _ refl))
     (and_on (open_again (back n) (constants_go c cs limit (n + 1) (Only sign.Semicolon ∷ xs) _)) (semicolon limit n xs rest))))
 
 shape_goes : (l : Option Length) (cs : List Const) → (l ≡ None → length cs ≤ 1) → (limit n : ℕ) (xs : List Expected) (rest : List Token)
@@ -139,7 +141,7 @@ item_goes limit (item.Function g) f rest = along (function_whole g rest) (given 
     given : (k : Option KindOf) → Goes limit 0 (Items ∷ []) (gives_tokens k ++ token.Word g.name ∷ one sign.OpenParenthesis
         ∷ ((if g.void_word then word keyword.Void ∷ [] else parameters_tokens g.parameters) ++ one sign.CloseParenthesis ∷ one sign.OpenBrace
         ∷ (body_tokens g.body ++ one sign.CloseBrace ∷ rest))) 0 (Items ∷ []) rest
-    given None = and_on (step (items_void limit 0 _ [])) (and_on (step (name_read limit 0 g.name _ _)) (and_on (open_step (one sign.OpenParenthesis) refl (bracket_read limit 0 sign.OpenParenthesis _ _))
+    given None = and_on (step (items_void limit 0 _ [])) (and_on (step (name_read limit 0 g.name _ _)) (and_on (open_step (one sign.OpenParenthesis) refl (bracket_read limit 0 sign.OpenParenthesis _ _ refl))
         (function_goes g f limit 0 (Items ∷ []) rest)))
     given (Some k) = and_on (kind_go k g.name _ (items_kind limit 0 k _ [])) (and_on (step (name_read limit 0 g.name _ _))
         (and_on (open_step (one sign.OpenParenthesis) refl (outside_function limit 0 _ (Items ∷ []))) (function_goes g f limit 0 (Items ∷ []) rest)))

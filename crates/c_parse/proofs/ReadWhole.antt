@@ -5,7 +5,8 @@ use Rattle.c_tree.specs.Tokens.{items_tokens}
 use Rattle.c_tree.specs.Fits.{open_after, BracketsFit}
 use Rattle.c_tree.specs.Places.{IsProgram, IsPlace}
 use Rattle.c_parse.specs.Answers.{place_of}
-use Rattle.c_parse.specs.Expected.{Expected, Items, may_be_empty, may_end, next, read_on, drive, drive_to, room_to}
+use Rattle.c_parse.specs.Expected.{Expected, Items, may_be_empty, may_end, next, read_on, drive, drive_to}
+use Rattle.c_parse.specs.Sorts.{room_to}
 use Rattle.c_parse.proofs.Limits.{brackets_fit}
 use Rattle.c_parse.proofs.Written.{Through, IsItems}
 use Rattle.c_parse.proofs.Shortest.{stays_empty}

@@ -5,7 +5,8 @@ use Rattle.c_tree.specs.declared.tokens.Token.TheVariants as token
 use Rattle.c_tree.specs.declared.tokens.Keyword.TheVariants as keyword
 use Rattle.c_tree.specs.declared.tokens.Sign.TheVariants as sign
 use Rattle.c_tree.specs.Tokens.{one, word}
-use Rattle.c_parse.specs.Expected.{Expected, Only, Open, Name, Number, Operand, Index, Tail, Right, RightName, Arguments, MoreArguments, Statements, Statement, PerhapsInt, Initial, AfterName, Condition, Block, Assigned, Test, Further, Loop, Given, Else, Branch, Items, Kind, Outside, Variable, Elements, Constant, MoreConstants, Parameters, MoreParameters, Move, taken, passed, moved, may_open, is_sign, is_keyword, is_name, is_number, is_bound, is_prefix, level_at, may_be_empty}
+use Rattle.c_parse.specs.Expected.{Expected, Only, Name, Number, Operand, Index, Tail, Right, RightName, Arguments, MoreArguments, Statements, Statement, PerhapsInt, Initial, AfterName, Condition, Block, Assigned, Test, Further, Loop, Given, Else, Branch, Items, Kind, Outside, Variable, Elements, Constant, MoreConstants, Parameters, MoreParameters, Move, taken, passed, moved, may_be_empty}
+use Rattle.c_parse.specs.Sorts.{may_open, is_sign, is_keyword, is_name, is_number, is_bound, is_prefix, level_at}
 use Rattle.c_parse.proofs.Written.{Written, Through}
 use Rattle.c_parse.proofs.Gives.{Gives}
 use Rattle.c_parse.proofs.Kept.{kept}
@@ -84,7 +85,6 @@ called = behind Arguments (Only sign.Semicolon ∷ []) (by Arguments (one sign.C
 pub shortest : (x : Expected) → (rest : List Token) → (ts : List Token) × Written x ts rest
 unfolding moved may_open is_sign is_keyword is_name is_number is_bound is_prefix level_at nought
 shortest (Only s) = only s
-shortest (Open s) = λ rest. (one s ∷ rest, refl)
 shortest Name = λ rest. (token.Word [] ∷ rest, ([], refl))
 shortest Number = λ rest. (nought ∷ rest, (0, false, refl))
 shortest Operand = operand

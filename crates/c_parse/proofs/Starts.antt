@@ -6,12 +6,13 @@ use Rattle.c_tree.specs.declared.tokens.Keyword.TheVariants as keyword
 use Rattle.c_tree.specs.declared.tokens.Sign.TheVariants as sign
 use Rattle.c_tree.specs.Tokens.{one, word}
 use Rattle.c_tree.specs.Fits.{open_after}
+use Rattle.c_parse.specs.Expected.{AfterName, Arguments, Assigned, Block, Branch, Condition, Constant, Elements, Else, Expected, Further, Given, Index, Initial, Items, Kind, Loop, MoreArguments, MoreConstants, MoreParameters, Move, Name, Number, Only, Operand, Outside, Parameters, PerhapsInt, Right, RightName, Rule, Statement, Statements, Tail, Test, Variable, and_then, as_in, drive_to, empty_by, followed, may_end, moved, moved_by, next, nothing_else, operand, or_empty, passed, read_on, refused, statement, taken, ◌⇒◌∣◌}
+use Rattle.c_parse.specs.Readers.{KindEnds, begins}
+use Rattle.c_parse.specs.Sorts.{is_a, is_bound, is_keyword, is_name, is_number, is_prefix, is_sign, level_at, may_open, room_to}
 use Rattle.c_parse.proofs.Tests.{opens_itself}
-use Rattle.c_parse.specs.Expected.{Expected, Only, Open, Name, Number, Operand, Index, Tail, Right, RightName, Arguments, MoreArguments, Statements, Statement, PerhapsInt, Initial, AfterName, Loop, Given, Else, Branch, Items, Kind, Outside, Variable, Elements, Constant, MoreConstants, Parameters, MoreParameters, Move, taken, passed, refused, moved, next, followed, read_on, drive_to, may_end, is_sign, is_keyword, is_name, is_number, is_prefix, is_bound, may_open, room_to, level_at, begins, operand_moved, and_then, or_else}
 use Rattle.c_tree.specs.declared.statements.Kind.{Kind as KindOf}
 use Rattle.c_tree.specs.declared.statements.Kind.TheVariants as kind
 use Rattle.c_tree.specs.Tokens.{kind_tokens}
-use Rattle.c_parse.specs.Expected.{statement_moved, Condition, Block, Assigned, Test, Further, KindEnds}
 use Rattle.c_parse.proofs.Steps.{refuses, passes, takes}
 
 -- a parenthesis is no bracket
@@ -56,9 +57,9 @@ pub statement_name : (limit n : ℕ) (w : List ℕ) (ts : List Token) (xs : List
 unfolding moved is_keyword is_sign is_name is_number is_bound may_open is_prefix
 statement_name limit n w ts xs = takes limit n Statement (token.Word w) ts xs (AfterName ∷ []) refl
 
-pub statement_send : (limit n : ℕ) (ts : List Token) (xs : List Expected) → drive_to limit n (Statement ∷ xs) (word keyword.Send ∷ ts) ≡ drive_to limit n (Open sign.OpenParenthesis ∷ Number ∷ Further ∷ Further ∷ Further ∷ Only sign.CloseParenthesis ∷ Only sign.Semicolon ∷ xs) ts
+pub statement_send : (limit n : ℕ) (ts : List Token) (xs : List Expected) → drive_to limit n (Statement ∷ xs) (word keyword.Send ∷ ts) ≡ drive_to limit n (Only sign.OpenParenthesis ∷ Number ∷ Further ∷ Further ∷ Further ∷ Only sign.CloseParenthesis ∷ Only sign.Semicolon ∷ xs) ts
 unfolding moved is_keyword is_sign is_name is_number is_bound may_open is_prefix
-statement_send limit n ts xs = takes limit n Statement (word keyword.Send) ts xs (Open sign.OpenParenthesis ∷ Number ∷ Further ∷ Further ∷ Further ∷ Only sign.CloseParenthesis ∷ Only sign.Semicolon ∷ []) refl
+statement_send limit n ts xs = takes limit n Statement (word keyword.Send) ts xs (Only sign.OpenParenthesis ∷ Number ∷ Further ∷ Further ∷ Further ∷ Only sign.CloseParenthesis ∷ Only sign.Semicolon ∷ []) refl
 
 pub statement_if : (limit n : ℕ) (ts : List Token) (xs : List Expected) → drive_to limit n (Statement ∷ xs) (word keyword.If ∷ ts) ≡ drive_to limit n (Condition ∷ Block ∷ Else ∷ xs) ts
 unfolding moved is_keyword is_sign is_name is_number is_bound may_open is_prefix
@@ -84,9 +85,9 @@ pub statement_while : (limit n : ℕ) (ts : List Token) (xs : List Expected) →
 unfolding moved is_keyword is_sign is_name is_number is_bound may_open is_prefix
 statement_while limit n ts xs = takes limit n Statement (word keyword.While) ts xs (Condition ∷ Block ∷ []) refl
 
-pub statement_for : (limit n : ℕ) (ts : List Token) (xs : List Expected) → drive_to limit n (Statement ∷ xs) (word keyword.For ∷ ts) ≡ drive_to limit n (Open sign.OpenParenthesis ∷ Assigned ∷ Test ∷ Assigned ∷ Only sign.CloseParenthesis ∷ Block ∷ xs) ts
+pub statement_for : (limit n : ℕ) (ts : List Token) (xs : List Expected) → drive_to limit n (Statement ∷ xs) (word keyword.For ∷ ts) ≡ drive_to limit n (Only sign.OpenParenthesis ∷ Assigned ∷ Test ∷ Assigned ∷ Only sign.CloseParenthesis ∷ Block ∷ xs) ts
 unfolding moved is_keyword is_sign is_name is_number is_bound may_open is_prefix
-statement_for limit n ts xs = takes limit n Statement (word keyword.For) ts xs (Open sign.OpenParenthesis ∷ Assigned ∷ Test ∷ Assigned ∷ Only sign.CloseParenthesis ∷ Block ∷ []) refl
+statement_for limit n ts xs = takes limit n Statement (word keyword.For) ts xs (Only sign.OpenParenthesis ∷ Assigned ∷ Test ∷ Assigned ∷ Only sign.CloseParenthesis ∷ Block ∷ []) refl
 
 pub statement_brace : (limit n : ℕ) (ts : List Token) (xs : List Expected) → n < limit → drive_to limit n (Statement ∷ xs) (one sign.OpenBrace ∷ ts) ≡ drive_to limit (n + 1) (Statements ∷ xs) ts
 unfolding moved is_keyword is_sign is_name is_number is_bound
@@ -96,9 +97,9 @@ pub loop_while : (limit n : ℕ) (ts : List Token) (xs : List Expected) → driv
 unfolding moved is_keyword is_sign is_name is_number is_bound may_open is_prefix
 loop_while limit n ts xs = takes limit n Loop (word keyword.While) ts xs (Condition ∷ Block ∷ []) refl
 
-pub loop_for : (limit n : ℕ) (ts : List Token) (xs : List Expected) → drive_to limit n (Loop ∷ xs) (word keyword.For ∷ ts) ≡ drive_to limit n (Open sign.OpenParenthesis ∷ Assigned ∷ Test ∷ Assigned ∷ Only sign.CloseParenthesis ∷ Block ∷ xs) ts
+pub loop_for : (limit n : ℕ) (ts : List Token) (xs : List Expected) → drive_to limit n (Loop ∷ xs) (word keyword.For ∷ ts) ≡ drive_to limit n (Only sign.OpenParenthesis ∷ Assigned ∷ Test ∷ Assigned ∷ Only sign.CloseParenthesis ∷ Block ∷ xs) ts
 unfolding moved is_keyword is_sign is_name is_number is_bound may_open is_prefix
-loop_for limit n ts xs = takes limit n Loop (word keyword.For) ts xs (Open sign.OpenParenthesis ∷ Assigned ∷ Test ∷ Assigned ∷ Only sign.CloseParenthesis ∷ Block ∷ []) refl
+loop_for limit n ts xs = takes limit n Loop (word keyword.For) ts xs (Only sign.OpenParenthesis ∷ Assigned ∷ Test ∷ Assigned ∷ Only sign.CloseParenthesis ∷ Block ∷ []) refl
 
 pub initial_assign : (limit n : ℕ) (ts : List Token) (xs : List Expected) → drive_to limit n (Initial ∷ xs) (one sign.Assign ∷ ts) ≡ drive_to limit n (Right ∷ Only sign.Semicolon ∷ xs) ts
 unfolding moved is_keyword is_sign is_name is_number is_bound may_open is_prefix
@@ -140,9 +141,9 @@ pub items_scratch : (limit n : ℕ) (ts : List Token) (xs : List Expected) → d
 unfolding moved is_keyword is_sign is_name is_number is_bound may_open is_prefix
 items_scratch limit n ts xs = takes limit n Items (word keyword.Scratchpad) ts xs (Kind ∷ Name ∷ Variable ∷ Items ∷ []) refl
 
-pub items_void : (limit n : ℕ) (ts : List Token) (xs : List Expected) → drive_to limit n (Items ∷ xs) (word keyword.Void ∷ ts) ≡ drive_to limit n (Name ∷ Open sign.OpenParenthesis ∷ Parameters ∷ Block ∷ Items ∷ xs) ts
+pub items_void : (limit n : ℕ) (ts : List Token) (xs : List Expected) → drive_to limit n (Items ∷ xs) (word keyword.Void ∷ ts) ≡ drive_to limit n (Name ∷ Only sign.OpenParenthesis ∷ Parameters ∷ Block ∷ Items ∷ xs) ts
 unfolding moved is_keyword is_sign is_name is_number is_bound may_open is_prefix
-items_void limit n ts xs = takes limit n Items (word keyword.Void) ts xs (Name ∷ Open sign.OpenParenthesis ∷ Parameters ∷ Block ∷ Items ∷ []) refl
+items_void limit n ts xs = takes limit n Items (word keyword.Void) ts xs (Name ∷ Only sign.OpenParenthesis ∷ Parameters ∷ Block ∷ Items ∷ []) refl
 
 pub outside_function : (limit n : ℕ) (ts : List Token) (xs : List Expected) → n < limit → drive_to limit n (Outside ∷ xs) (one sign.OpenParenthesis ∷ ts) ≡ drive_to limit (n + 1) (Parameters ∷ Block ∷ xs) ts
 unfolding moved is_keyword is_sign is_name is_number is_bound
@@ -160,9 +161,9 @@ pub variable_end : (limit n : ℕ) (ts : List Token) (xs : List Expected) → dr
 unfolding moved is_keyword is_sign is_name is_number is_bound may_open is_prefix
 variable_end limit n ts xs = takes limit n Variable (one sign.Semicolon) ts xs [] refl
 
-pub elements_assign : (limit n : ℕ) (ts : List Token) (xs : List Expected) → drive_to limit n (Elements ∷ xs) (one sign.Assign ∷ ts) ≡ drive_to limit n (Open sign.OpenBrace ∷ Constant ∷ MoreConstants ∷ Only sign.Semicolon ∷ xs) ts
+pub elements_assign : (limit n : ℕ) (ts : List Token) (xs : List Expected) → drive_to limit n (Elements ∷ xs) (one sign.Assign ∷ ts) ≡ drive_to limit n (Only sign.OpenBrace ∷ Constant ∷ MoreConstants ∷ Only sign.Semicolon ∷ xs) ts
 unfolding moved is_keyword is_sign is_name is_number is_bound may_open is_prefix
-elements_assign limit n ts xs = takes limit n Elements (one sign.Assign) ts xs (Open sign.OpenBrace ∷ Constant ∷ MoreConstants ∷ Only sign.Semicolon ∷ []) refl
+elements_assign limit n ts xs = takes limit n Elements (one sign.Assign) ts xs (Only sign.OpenBrace ∷ Constant ∷ MoreConstants ∷ Only sign.Semicolon ∷ []) refl
 
 pub elements_end : (limit n : ℕ) (ts : List Token) (xs : List Expected) → drive_to limit n (Elements ∷ xs) (one sign.Semicolon ∷ ts) ≡ drive_to limit n xs ts
 unfolding moved is_keyword is_sign is_name is_number is_bound may_open is_prefix
@@ -230,7 +231,7 @@ unfolding drive_to moved may_end
 no_block limit n [] xs a = refl
 no_block limit n (t ∷ ts) xs a = refuses limit n Block t ts xs (rw a)
 
-pub no_assigned : (limit n : ℕ) (ts : List Token) (xs : List Expected) → begins (is_name) ts ≡ false → drive_to limit n (Assigned ∷ xs) ts ≡ Some (length ts)
+pub no_assigned : (limit n : ℕ) (ts : List Token) (xs : List Expected) → begins is_name ts ≡ false → drive_to limit n (Assigned ∷ xs) ts ≡ Some (length ts)
 unfolding drive_to moved may_end
 no_assigned limit n [] xs a = refl
 no_assigned limit n (t ∷ ts) xs a = refuses limit n Assigned t ts xs (rw a)
@@ -266,12 +267,12 @@ items_kind limit n kind.Unsigned ts xs h = takes limit n Items (word keyword.Uns
 items_kind limit n kind.UnsignedInt ts xs h = takes limit n Items (word keyword.Unsigned) (word keyword.Int ∷ ts) xs (PerhapsInt ∷ Name ∷ Outside ∷ Items ∷ []) refl
     ∙ takes limit n PerhapsInt (word keyword.Int) ts (Name ∷ Outside ∷ Items ∷ xs) [] refl
 
-pub kind_kind : (limit n : ℕ) (k : KindOf) (ts : List Token) (xs : List Expected) → KindEnds k ts → drive_to limit n (Kind ∷ xs) (kind_tokens k ++ ts) ≡ drive_to limit n (xs) ts
+pub kind_kind : (limit n : ℕ) (k : KindOf) (ts : List Token) (xs : List Expected) → KindEnds k ts → drive_to limit n (Kind ∷ xs) (kind_tokens k ++ ts) ≡ drive_to limit n xs ts
 unfolding moved is_keyword is_sign
-kind_kind limit n kind.Int ts xs h = takes limit n Kind (word keyword.Int) ts xs ([]) refl
-kind_kind limit n kind.Unsigned ts xs h = takes limit n Kind (word keyword.Unsigned) ts xs (PerhapsInt ∷ []) refl ∙ no_int limit n ts (xs) h
+kind_kind limit n kind.Int ts xs h = takes limit n Kind (word keyword.Int) ts xs [] refl
+kind_kind limit n kind.Unsigned ts xs h = takes limit n Kind (word keyword.Unsigned) ts xs (PerhapsInt ∷ []) refl ∙ no_int limit n ts xs h
 kind_kind limit n kind.UnsignedInt ts xs h = takes limit n Kind (word keyword.Unsigned) (word keyword.Int ∷ ts) xs (PerhapsInt ∷ []) refl
-    ∙ takes limit n PerhapsInt (word keyword.Int) ts (xs) [] refl
+    ∙ takes limit n PerhapsInt (word keyword.Int) ts xs [] refl
 
 pub parameters_kind : (limit n : ℕ) (k : KindOf) (ts : List Token) (xs : List Expected) → KindEnds k ts → drive_to limit n (Parameters ∷ xs) (kind_tokens k ++ ts) ≡ drive_to limit n (Name ∷ MoreParameters ∷ xs) ts
 unfolding moved is_keyword is_sign
@@ -287,7 +288,7 @@ unfolding drive_to moved may_end
 no_more_arguments limit n [] xs a b = refl
 no_more_arguments limit n (t ∷ ts) xs a b = refuses limit n MoreArguments t ts xs (rw (a, b))
 
-pub no_statement : (limit n : ℕ) (ts : List Token) (xs : List Expected) → begins (is_keyword keyword.Int) ts ≡ false → begins (is_keyword keyword.Unsigned) ts ≡ false → begins (is_name) ts ≡ false → begins (is_keyword keyword.Send) ts ≡ false → begins (is_keyword keyword.If) ts ≡ false → begins (is_bound) ts ≡ false → begins (is_keyword keyword.Break) ts ≡ false → begins (is_keyword keyword.Continue) ts ≡ false → begins (is_keyword keyword.Return) ts ≡ false → begins (may_open (room_to limit n) sign.OpenBrace) ts ≡ false → begins (is_keyword keyword.While) ts ≡ false → begins (is_keyword keyword.For) ts ≡ false → drive_to limit n (Statement ∷ xs) ts ≡ Some (length ts)
+pub no_statement : (limit n : ℕ) (ts : List Token) (xs : List Expected) → begins (is_keyword keyword.Int) ts ≡ false → begins (is_keyword keyword.Unsigned) ts ≡ false → begins is_name ts ≡ false → begins (is_keyword keyword.Send) ts ≡ false → begins (is_keyword keyword.If) ts ≡ false → begins is_bound ts ≡ false → begins (is_keyword keyword.Break) ts ≡ false → begins (is_keyword keyword.Continue) ts ≡ false → begins (is_keyword keyword.Return) ts ≡ false → begins (may_open (room_to limit n) sign.OpenBrace) ts ≡ false → begins (is_keyword keyword.While) ts ≡ false → begins (is_keyword keyword.For) ts ≡ false → drive_to limit n (Statement ∷ xs) ts ≡ Some (length ts)
 unfolding drive_to moved may_end
 no_statement limit n [] xs a b c d e f g h i j k l = refl
 no_statement limit n (t ∷ ts) xs a b c d e f g h i j k l = refuses limit n Statement t ts xs (rw (a, b, c, d, e, f, g, h, i, j, k, l))
@@ -332,7 +333,7 @@ unfolding drive_to moved may_end
 no_elements limit n [] xs a b = refl
 no_elements limit n (t ∷ ts) xs a b = refuses limit n Elements t ts xs (rw (a, b))
 
-pub no_constant : (limit n : ℕ) (ts : List Token) (xs : List Expected) → begins (is_number) ts ≡ false → begins (is_sign sign.Minus) ts ≡ false → drive_to limit n (Constant ∷ xs) ts ≡ Some (length ts)
+pub no_constant : (limit n : ℕ) (ts : List Token) (xs : List Expected) → begins is_number ts ≡ false → begins (is_sign sign.Minus) ts ≡ false → drive_to limit n (Constant ∷ xs) ts ≡ Some (length ts)
 unfolding drive_to moved may_end
 no_constant limit n [] xs a b = refl
 no_constant limit n (t ∷ ts) xs a b = refuses limit n Constant t ts xs (rw (a, b))
@@ -362,48 +363,44 @@ alike limit n x y t ts xs zs e s =
     ap (λ m. read_on (length ts) (λ ys. drive_to limit (open_after t n) ys ts) (followed m xs (next (room_to limit n) xs t))) e
     ∙ ap (read_on (length ts) (λ ys. drive_to limit (open_after t n) ys ts)) (gone (moved (room_to limit n) y t) zs xs (next (room_to limit n) xs t) (next (room_to limit n) (zs ++ xs) t) s)
 
-pub operand_stays : (room : Bool) (t : Token) → stays (operand_moved room t)
-operand_stays room t = chosen (is_number t) (is_name t) (may_open room sign.OpenParenthesis t) (is_prefix t)
-  where
-    chosen : (a b c d : Bool) → stays (if a then taken [] else (if b then taken (Index ∷ []) else (if c then taken (Operand ∷ Tail ∷ Only sign.CloseParenthesis ∷ []) else (if d then taken (Operand ∷ []) else refused))))
-    chosen true b c d = tt
-    chosen false true c d = tt
-    chosen false false true d = tt
-    chosen false false false true = tt
-    chosen false false false false = tt
-
-pub right_operand : (limit n : ℕ) (ts : List Token) (xs : List Expected) → begins (is_name) ts ≡ false → drive_to limit n (Right ∷ xs) ts ≡ drive_to limit n (Operand ∷ Tail ∷ xs) ts
-unfolding drive_to moved may_end
-right_operand limit n [] xs h = refl
-right_operand limit n (t ∷ ts) xs h = alike limit n Right Operand t ts xs (Tail ∷ []) (rw h) (operand_stays (room_to limit n) t)
-
-pub arguments_operand : (limit n : ℕ) (ts : List Token) (xs : List Expected) → begins (is_sign sign.CloseParenthesis) ts ≡ false → drive_to limit n (Arguments ∷ xs) ts ≡ drive_to limit n (Operand ∷ Tail ∷ MoreArguments ∷ xs) ts
-unfolding drive_to moved may_end
-arguments_operand limit n [] xs h = refl
-arguments_operand limit n (t ∷ ts) xs h = alike limit n Arguments Operand t ts xs (Tail ∷ MoreArguments ∷ []) (rw h) (operand_stays (room_to limit n) t)
-
-pub given_operand : (limit n : ℕ) (ts : List Token) (xs : List Expected) → begins (is_sign sign.Semicolon) ts ≡ false → drive_to limit n (Given ∷ xs) ts ≡ drive_to limit n (Operand ∷ Tail ∷ Only sign.Semicolon ∷ xs) ts
-unfolding drive_to moved may_end
-given_operand limit n [] xs h = refl
-given_operand limit n (t ∷ ts) xs h = alike limit n Given Operand t ts xs (Tail ∷ Only sign.Semicolon ∷ []) (rw h) (operand_stays (room_to limit n) t)
+stays_then : (m : Move) (xs : List Expected) → stays m → stays (and_then m xs)
+stays_then (taken ys) xs s = tt
+stays_then passed xs s = s
+stays_then refused xs s = tt
 
 stays_if : (b : Bool) (xs : List Expected) (m : Move) → stays m → stays (if b then taken xs else m)
 stays_if true xs m h = tt
 stays_if false xs m h = h
 
-pub statement_stays : (room : Bool) (t : Token) → stays (statement_moved room t)
-statement_stays room t =
-    stays_if (is_keyword keyword.Int t) _ _ (stays_if (is_keyword keyword.Unsigned t) _ _ (stays_if (is_name t) _ _ (stays_if (is_keyword keyword.Send t) _ _
-    (stays_if (is_keyword keyword.If t) _ _ (stays_if (is_bound t) _ _ (stays_if (is_keyword keyword.Break t) _ _ (stays_if (is_keyword keyword.Continue t) _ _
-    (stays_if (is_keyword keyword.Return t) _ _ (stays_if (may_open room sign.OpenBrace t) _ _ (stays_if (is_keyword keyword.While t) _ _ (stays_if (is_keyword keyword.For t) _ refused tt)))))))))))
+-- where the place may not stay empty
+pub stays_by : (room : Bool) (r : Rule) (t : Token) → empty_by r ≡ false → stays (moved_by room r t)
+stays_by room (sort ⇒ xs ∣ r) t e = stays_if (is_a room sort t) xs (moved_by room r t) (stays_by room r t e)
+stays_by room (as_in r xs) t e = stays_then (moved_by room r t) xs (stays_by room r t e)
+stays_by room or_empty t e = absurd (cc)
+stays_by room nothing_else t e = tt
+
+pub right_operand : (limit n : ℕ) (ts : List Token) (xs : List Expected) → begins is_name ts ≡ false → drive_to limit n (Right ∷ xs) ts ≡ drive_to limit n (Operand ∷ Tail ∷ xs) ts
+unfolding drive_to moved may_end
+right_operand limit n [] xs h = refl
+right_operand limit n (t ∷ ts) xs h = alike limit n Right Operand t ts xs (Tail ∷ []) (rw h) (stays_by (room_to limit n) operand t refl)
+
+pub arguments_operand : (limit n : ℕ) (ts : List Token) (xs : List Expected) → begins (is_sign sign.CloseParenthesis) ts ≡ false → drive_to limit n (Arguments ∷ xs) ts ≡ drive_to limit n (Operand ∷ Tail ∷ MoreArguments ∷ xs) ts
+unfolding drive_to moved may_end
+arguments_operand limit n [] xs h = refl
+arguments_operand limit n (t ∷ ts) xs h = alike limit n Arguments Operand t ts xs (Tail ∷ MoreArguments ∷ []) (rw h) (stays_by (room_to limit n) operand t refl)
+
+pub given_operand : (limit n : ℕ) (ts : List Token) (xs : List Expected) → begins (is_sign sign.Semicolon) ts ≡ false → drive_to limit n (Given ∷ xs) ts ≡ drive_to limit n (Operand ∷ Tail ∷ Only sign.Semicolon ∷ xs) ts
+unfolding drive_to moved may_end
+given_operand limit n [] xs h = refl
+given_operand limit n (t ∷ ts) xs h = alike limit n Given Operand t ts xs (Tail ∷ Only sign.Semicolon ∷ []) (rw h) (stays_by (room_to limit n) operand t refl)
 
 pub statements_statement : (limit n : ℕ) (ts : List Token) (xs : List Expected) → begins (is_sign sign.CloseBrace) ts ≡ false → drive_to limit n (Statements ∷ xs) ts ≡ drive_to limit n (Statement ∷ Statements ∷ xs) ts
 unfolding drive_to moved may_end
 statements_statement limit n [] xs h = refl
-statements_statement limit n (t ∷ ts) xs h = alike limit n Statements Statement t ts xs (Statements ∷ []) (rw h) (statement_stays (room_to limit n) t)
+statements_statement limit n (t ∷ ts) xs h = alike limit n Statements Statement t ts xs (Statements ∷ []) (rw h) (stays_by (room_to limit n) statement t refl)
 
 right_chosen : (a b : Bool) (xs : List Expected) (later : Option (List Expected))
-    → followed (or_else (and_then (if a then taken (Operand ∷ Tail ∷ Only sign.CloseBracket ∷ []) else passed) (Tail ∷ [])) (if b then taken (Operand ∷ Tail ∷ []) else passed)) xs later
+    → followed (if a then taken (Operand ∷ Tail ∷ Only sign.CloseBracket ∷ Tail ∷ []) else (if b then taken (Operand ∷ Tail ∷ []) else passed)) xs later
     ≡ followed (if a then taken (Operand ∷ Tail ∷ Only sign.CloseBracket ∷ []) else passed) (Tail ∷ xs) (followed (if b then taken (Operand ∷ Tail ∷ []) else passed) xs later)
 right_chosen true b xs later = refl
 right_chosen false true xs later = refl
@@ -432,3 +429,41 @@ pub branch_block : (limit n : ℕ) (ts : List Token) (xs : List Expected) → be
 unfolding drive_to moved may_end
 branch_block limit n [] xs h = refl
 branch_block limit n (t ∷ ts) xs h = same_move limit n Branch Block t ts xs (rw h)
+
+-- ---- the starts that each reader asks for
+
+pub ruleset parameters_starts = (parameters_end, parameters_void, parameters_kind, no_parameters)
+
+pub ruleset constant_starts = (constant_number, constant_minus, no_constant)
+
+pub ruleset constants_starts = (constants_next, constants_done, no_more_constants)
+
+pub ruleset shape_starts = (variable_array, variable_assign, variable_end, no_variable)
+
+pub ruleset elements_starts = (elements_assign, elements_end, no_elements)
+
+pub ruleset assigned_starts = (assigned_name, no_assigned)
+
+pub ruleset head_starts = (loop_while, loop_for, no_loop)
+
+pub ruleset at_loop_starts = (statement_while, loop_while, statement_for, loop_for)
+
+pub ruleset arguments_starts = (arguments_end, arguments_next, arguments_done, arguments_operand, no_more_arguments)
+
+pub ruleset right_starts = (right_name, right_call, right_operand, right_read)
+
+pub ruleset simple_starts = (statement_kind, statement_name, statement_send, statement_break, statement_continue, statement_return, no_statement)
+
+pub ruleset declaration_starts = (initial_assign, initial_end, no_initial)
+
+pub ruleset named_starts = (after_name_assign, after_name_bracket, after_name_call, no_after_name)
+
+pub ruleset given_starts = (given_none, given_operand)
+
+pub ruleset conditional_starts = (else_more, branch_if, branch_block, no_else)
+
+pub ruleset statement_starts = (statement_if, statement_bound, statement_brace)
+
+pub ruleset item_starts = (items_kind, items_scratch, items_void, no_items)
+
+pub ruleset outside_starts = (outside_function, outside_variable)

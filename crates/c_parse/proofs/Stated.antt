@@ -15,7 +15,9 @@ use Rattle.c_tree.specs.declared.statements.Stmt.{Stmt, Declare, Set, SetElement
 use Rattle.c_tree.specs.declared.statements.Stmt.TheBlock.{Held-Stmt-If-1, None', Some', Row_of-Stmt, end_of-Stmt, more_of-Stmt, Row_of-Arm, end_of-Arm, more_of-Arm}
 use Rattle.c_tree.specs.Tokens.{expr_tokens, stmt_tokens, block_tokens, arms_tokens, further_tokens, otherwise_tokens, right_tokens, assigned_tokens, head_tokens, kind_tokens, braced, one}
 use Rattle.c_tree.specs.Fits.{ExprFits, RightFits, HeadFits, StmtFits, BlockFits, ArmsFit, OtherwiseFits, has_arm, open_after}
-use Rattle.c_parse.specs.Expected.{Expected, Only, Open, Operand, Tail, Right, Statements, Statement, Initial, Condition, Block, Assigned, Test, Further, Loop, Else, drive_to, begins, is_sign, is_keyword, opens_none, KindEnds}
+use Rattle.c_parse.specs.Expected.{Expected, Only, Operand, Tail, Right, Statements, Statement, Initial, Condition, Block, Assigned, Test, Further, Loop, Else, drive_to}
+use Rattle.c_parse.specs.Readers.{begins, KindEnds}
+use Rattle.c_parse.specs.Sorts.{is_sign, is_keyword, opens_none}
 use Rattle.c_parse.proofs.Steps.{sign_read, bracket_read, name_read, number_read}
 use Rattle.c_parse.proofs.Starts.{statements_end, statements_statement, statement_kind, statement_name, statement_send, statement_if, statement_bound, statement_break, statement_continue, statement_return, statement_while, statement_for, statement_brace, loop_while, loop_for, initial_assign, initial_end, after_name_assign, after_name_bracket, after_name_call, given_none, given_operand, else_more, branch_if, branch_brace, condition_open, block_open, assigned_name, test_semicolon, further_comma, no_else}
 use Rattle.c_parse.proofs.Driven.{Goes, and_on, along, stay, step, open_step, closes, back, Ends, ends_parenthesis, ends_bracket, ends_semicolon, ends_comma, whole_goes, right_goes, args_go, expr_begins, end_semicolon}
@@ -50,11 +52,11 @@ further_goes e f limit n xs ts ends = and_on (step (further_comma limit n _ xs))
 
 -- the head of a `for`, after that word
 for_goes : (first step_name : List ℕ) (from condition to : Expr) → ExprFits from → ExprFits condition → ExprFits to → (limit n : ℕ) (xs : List Expected) (ts : List Token)
-    → Goes limit n (Open sign.OpenParenthesis ∷ Assigned ∷ Test ∷ Assigned ∷ Only sign.CloseParenthesis ∷ xs)
+    → Goes limit n (Only sign.OpenParenthesis ∷ Assigned ∷ Test ∷ Assigned ∷ Only sign.CloseParenthesis ∷ xs)
     (one sign.OpenParenthesis ∷ (assigned_tokens first (expr_tokens from) ++ one sign.Semicolon ∷ (expr_tokens condition
     ++ one sign.Semicolon ∷ (assigned_tokens step_name (expr_tokens to) ++ one sign.CloseParenthesis ∷ ts)))) n xs ts
 for_goes first step_name from condition to a b c limit n xs ts =
-    and_on (open_step (one sign.OpenParenthesis) refl (bracket_read limit n sign.OpenParenthesis _ _))
+    and_on (open_step (one sign.OpenParenthesis) refl (bracket_read limit n sign.OpenParenthesis _ _ refl))
     (and_on (assigned_goes first from a limit (n + 1) _ _ (ends_semicolon _))
     (and_on (step (test_semicolon limit (n + 1) _ _))
     (and_on (whole_goes condition b limit (n + 1) _ _ (ends_semicolon _))
@@ -194,7 +196,7 @@ mutual
       along (simp append_assoc) (and_on (step (statement_name limit n name _ xs)) (and_on (open_step (one sign.OpenParenthesis) refl (after_name_call limit n _ xs))
       (and_on (args_go args f limit n (Only sign.Semicolon ∷ xs) _) (semicolon limit n xs rest))))
   stmt_goes (Send core u source target count) f limit n xs rest h =
-      along (simp append_assoc) (and_on (step (statement_send limit n _ xs)) (and_on (open_step (one sign.OpenParenthesis) refl (bracket_read limit n sign.OpenParenthesis _ _))
+      along (simp append_assoc) (and_on (step (statement_send limit n _ xs)) (and_on (open_step (one sign.OpenParenthesis) refl (bracket_read limit n sign.OpenParenthesis _ _ refl))
       (and_on (step (number_read limit (n + 1) core u _ _)) (and_on (further_goes source f.0 limit (n + 1) _ _ (ends_comma _)) (and_on (further_goes target f.1 limit (n + 1) _ _ (ends_comma _))
       (and_on (further_goes count f.2 limit (n + 1) _ _ (ends_parenthesis _)) (and_on (closes limit n sign.CloseParenthesis _ _ (back n) refl) (semicolon limit n xs rest))))))))
   stmt_goes (If' l arms otherwise) f limit n xs rest h =

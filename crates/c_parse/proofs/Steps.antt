@@ -1,5 +1,5 @@
 -- One token more: what is to come, before and after it.
-use Rattle.std.proofs.Common.{◌≡◌, ◌≢◌, ℕ, suc, ◌+◌, ◌<◌, Bool, true, false, nat_lt, List, [], ◌∷◌, ◌++◌, length, Some, refl, ap, arith, lit<}
+use Rattle.std.proofs.Common.{◌≡◌, ◌≢◌, ℕ, suc, ◌+◌, ◌<◌, Bool, true, false, nat_lt, List, [], ◌∷◌, ◌++◌, length, Some, refl, ap, arith, lit<, if◌then◌else◌}
 use Rattle.std.proofs.lemmas.Grind.{common_steps}
 use Rattle.c_tree.specs.declared.tokens.Token.{Token}
 use Rattle.c_tree.specs.declared.tokens.Token.TheVariants as token
@@ -11,8 +11,10 @@ use Rattle.c_tree.specs.declared.expressions.UnaryOp.{UnaryOp}
 use Rattle.c_tree.specs.declared.expressions.UnaryOp.TheVariants as unary
 use Rattle.c_tree.specs.Tokens.{one, binary_sign, unary_sign}
 use Rattle.c_tree.specs.Fits.{open_after}
-use Rattle.c_parse.proofs.Tests.{is_itself, opens_itself}
-use Rattle.c_parse.specs.Expected.{Expected, Only, Open, Name, Number, Operand, Index, Tail, taken, passed, refused, moved, next, followed, read_on, drive_to, may_end, is_sign, is_name, is_number, is_prefix, may_open, opens_none, room_to, level_at, level_ahead, sign_level, begins}
+use Rattle.c_parse.proofs.Tests.{opens_itself, not_this, not_opened, this_sign, this_bracket}
+use Rattle.c_parse.specs.Expected.{Expected, Only, Name, Number, Operand, Index, Tail, taken, passed, refused, moved, next, followed, read_on, drive_to, may_end}
+use Rattle.c_parse.specs.Readers.{level_ahead, begins}
+use Rattle.c_parse.specs.Sorts.{is_sign, is_name, is_number, is_prefix, may_open, opens_none, room_to, level_at, sign_level}
 
 -- What cannot stand here, and where nothing cannot, is refused.
 pub refuses : (limit n : ℕ) (x : Expected) (t : Token) (ts : List Token) (xs : List Expected) → moved (room_to limit n) x t ≡ refused → drive_to limit n (x ∷ xs) (t ∷ ts) ≡ Some (suc (length ts))
@@ -34,12 +36,12 @@ takes limit n x t ts xs ys h = ap (λ m. read_on (length ts) (λ zs. drive_to li
 pub no_sign : (limit n : ℕ) (s : Sign) (ts : List Token) (xs : List Expected) → begins (is_sign s) ts ≡ false → drive_to limit n (Only s ∷ xs) ts ≡ Some (length ts)
 unfolding drive_to moved may_end
 no_sign limit n s [] xs h = refl
-no_sign limit n s (t ∷ ts) xs h = refuses limit n (Only s) t ts xs (rw h)
+no_sign limit n s (t ∷ ts) xs h = refuses limit n (Only s) t ts xs (ap (λ b. if b then taken [] else refused) (not_this (room_to limit n) s t h))
 
-pub no_bracket : (limit n : ℕ) (s : Sign) (ts : List Token) (xs : List Expected) → begins (may_open (room_to limit n) s) ts ≡ false → drive_to limit n (Open s ∷ xs) ts ≡ Some (length ts)
+pub no_bracket : (limit n : ℕ) (s : Sign) (ts : List Token) (xs : List Expected) → opens_none s ≡ false → begins (may_open (room_to limit n) s) ts ≡ false → drive_to limit n (Only s ∷ xs) ts ≡ Some (length ts)
 unfolding drive_to moved may_end
-no_bracket limit n s [] xs h = refl
-no_bracket limit n s (t ∷ ts) xs h = refuses limit n (Open s) t ts xs (rw h)
+no_bracket limit n s [] xs o h = refl
+no_bracket limit n s (t ∷ ts) xs o h = refuses limit n (Only s) t ts xs (ap (λ b. if b then taken [] else refused) (not_opened (room_to limit n) s t o h))
 
 pub no_name : (limit n : ℕ) (ts : List Token) (xs : List Expected) → begins is_name ts ≡ false → drive_to limit n (Name ∷ xs) ts ≡ Some (length ts)
 unfolding drive_to moved may_end
@@ -53,11 +55,11 @@ no_number limit n (t ∷ ts) xs h = refuses limit n Number t ts xs (rw h)
 
 pub sign_read : (limit n : ℕ) (s : Sign) (ts : List Token) (xs : List Expected) → opens_none s ≡ true → drive_to limit n (Only s ∷ xs) (one s ∷ ts) ≡ drive_to limit (open_after (one s) n) xs ts
 unfolding moved
-sign_read limit n s ts xs h = takes limit n (Only s) (one s) ts xs [] (rw is_itself (rw h))
+sign_read limit n s ts xs o = takes limit n (Only s) (one s) ts xs [] (ap (λ b. if b then taken [] else refused) (this_sign (room_to limit n) s o))
 
-pub bracket_read : (limit n : ℕ) (s : Sign) (ts : List Token) (xs : List Expected) → n < limit → drive_to limit n (Open s ∷ xs) (one s ∷ ts) ≡ drive_to limit (open_after (one s) n) xs ts
+pub bracket_read : (limit n : ℕ) (s : Sign) (ts : List Token) (xs : List Expected) → opens_none s ≡ false → n < limit → drive_to limit n (Only s ∷ xs) (one s ∷ ts) ≡ drive_to limit (open_after (one s) n) xs ts
 unfolding moved
-bracket_read limit n s ts xs h = takes limit n (Open s) (one s) ts xs [] (rw opens_itself)
+bracket_read limit n s ts xs o h = takes limit n (Only s) (one s) ts xs [] (ap (λ b. if b then taken [] else refused) (this_bracket limit n s o h))
 
 pub name_read : (limit n : ℕ) (w : List ℕ) (ts : List Token) (xs : List Expected) → drive_to limit n (Name ∷ xs) (token.Word w ∷ ts) ≡ drive_to limit n xs ts
 unfolding moved is_name
@@ -180,3 +182,15 @@ pub none_behind : (limit n : ℕ) (ts : List Token) → ts ≢ [] → drive_to l
 unfolding drive_to next
 none_behind limit n [] h = absurd (h refl)
 none_behind limit n (t ∷ ts) h = refl
+
+-- ---- a token that is read, and one that is refused
+
+pub ruleset sign_steps = (sign_read, no_sign)
+
+pub ruleset primary_steps = (operand_number, operand_name, operand_paren, no_operand)
+
+pub ruleset number_steps = (number_read, no_number)
+
+pub ruleset bracket_steps = (bracket_read, no_bracket)
+
+pub ruleset name_steps = (name_read, no_name)

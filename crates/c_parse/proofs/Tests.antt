@@ -2,18 +2,20 @@
 use Rattle.std.proofs.Common.{◌≡◌, ℕ, ◌<◌, ◌≤◌, ◌==◌, Bool, true, false, ◌&&◌, nat_lt, nat_eq, List, [], ◌∷◌, if◌then◌else◌, IsTrue, ◌↔◌, refl, ap, sym, ◌∙◌, arith}
 use Rattle.std.proofs.lemmas.Grind.{common_steps}
 use Rattle.c_tree.specs.declared.tokens.Token.{Token}
+use Rattle.c_tree.specs.declared.tokens.Token.TheVariants as token
 use Rattle.c_tree.specs.declared.tokens.Keyword.{Keyword}
 use Rattle.c_tree.specs.declared.tokens.Keyword.TheVariants as keyword
 use Rattle.c_tree.specs.declared.tokens.Sign.{Sign}
 use Rattle.c_tree.specs.declared.tokens.Sign.TheVariants as sign
 use Rattle.c_tree.specs.Tokens.{one, word}
-use Rattle.c_parse.specs.Expected.{sign_number, keyword_number, is_sign, is_keyword, may_open, room_to, begins}
+use Rattle.c_parse.specs.Readers.{begins}
+use Rattle.c_parse.specs.Sorts.{sign_number, keyword_number, is_sign, is_keyword, may_open, room_to, opens_none, a_sign, is_a}
 
 -- the sign of a number
-abbrev pub numbered_sign : ℕ → Sign
+abbrev numbered_sign : ℕ → Sign
 numbered_sign n = (if n == 0 then sign.OpenParenthesis else (if n == 1 then sign.CloseParenthesis else (if n == 2 then sign.OpenBracket else (if n == 3 then sign.CloseBracket else (if n == 4 then sign.OpenBrace else (if n == 5 then sign.CloseBrace else (if n == 6 then sign.Semicolon else (if n == 7 then sign.Comma else (if n == 8 then sign.Assign else (if n == 9 then sign.Or else (if n == 10 then sign.And else (if n == 11 then sign.BitOr else (if n == 12 then sign.BitXor else (if n == 13 then sign.BitAnd else (if n == 14 then sign.Equal else (if n == 15 then sign.NotEqual else (if n == 16 then sign.Less else (if n == 17 then sign.Greater else (if n == 18 then sign.LessEqual else (if n == 19 then sign.GreaterEqual else (if n == 20 then sign.ShiftLeft else (if n == 21 then sign.ShiftRight else (if n == 22 then sign.Plus else (if n == 23 then sign.Minus else (if n == 24 then sign.Star else (if n == 25 then sign.Slash else (if n == 26 then sign.Percent else (if n == 27 then sign.Tilde else sign.Exclamation))))))))))))))))))))))))))))
 
-pub sign_again : (s : Sign) → numbered_sign (sign_number s) ≡ s
+sign_again : (s : Sign) → numbered_sign (sign_number s) ≡ s
 sign_again sign.OpenParenthesis = refl
 sign_again sign.CloseParenthesis = refl
 sign_again sign.OpenBracket = refl
@@ -44,10 +46,10 @@ sign_again sign.Percent = refl
 sign_again sign.Tilde = refl
 sign_again sign.Exclamation = refl
 
-abbrev pub numbered_keyword : ℕ → Keyword
+abbrev numbered_keyword : ℕ → Keyword
 numbered_keyword n = (if n == 0 then keyword.Int else (if n == 1 then keyword.Unsigned else (if n == 2 then keyword.Void else (if n == 3 then keyword.Scratchpad else (if n == 4 then keyword.Send else (if n == 5 then keyword.If else (if n == 6 then keyword.Else else (if n == 7 then keyword.While else (if n == 8 then keyword.For else (if n == 9 then keyword.Break else (if n == 10 then keyword.Continue else (if n == 11 then keyword.Return else keyword.Other))))))))))))
 
-pub keyword_again : (k : Keyword) → numbered_keyword (keyword_number k) ≡ k
+keyword_again : (k : Keyword) → numbered_keyword (keyword_number k) ≡ k
 keyword_again keyword.Int = refl
 keyword_again keyword.Unsigned = refl
 keyword_again keyword.Void = refl
@@ -95,7 +97,7 @@ none_open limit n s (t ∷ ts) h = no_more (is_sign s t) n h
     no_more true n h = grind (arith, common_steps)
     no_more false n h = refl
 
-pub is_itself : (s : Sign) → is_sign s (one s) ≡ true
+is_itself : (s : Sign) → is_sign s (one s) ≡ true
 unfolding is_sign
 is_itself s = itself (sign_number s)
   where
@@ -108,3 +110,43 @@ opens_itself limit n s h = rw is_itself (fewer n h)
   where
     fewer : (n : ℕ) → n < limit → nat_lt n limit ≡ true
     fewer n h = grind (arith, common_steps)
+
+-- ---- what a token is that passes a test
+
+same_number : (m n : ℕ) → nat_eq m n ≡ true → m ≡ n
+same_number m n h = grind (arith, common_steps)
+
+pub sign_is : (s : Sign) (t : Token) → is_sign s t ≡ true → t ≡ one s
+unfolding is_sign
+sign_is s (token.Sign u) h = ap one (sym (sign_again u) ∙ ap numbered_sign (sym (same_number (sign_number s) (sign_number u) h)) ∙ sign_again s)
+sign_is s (token.Word w) h = absurd (cc)
+sign_is s (token.Number v u) h = absurd (cc)
+sign_is s (token.Bound a b) h = absurd (cc)
+sign_is s (token.Keyword k) h = absurd (cc)
+
+pub keyword_is : (k : Keyword) (t : Token) → is_keyword k t ≡ true → t ≡ word k
+unfolding is_keyword
+keyword_is k (token.Keyword u) h = ap word (sym (keyword_again u) ∙ ap numbered_keyword (sym (same_number (keyword_number k) (keyword_number u) h)) ∙ keyword_again k)
+keyword_is k (token.Word w) h = absurd (cc)
+keyword_is k (token.Number v u) h = absurd (cc)
+keyword_is k (token.Bound a b) h = absurd (cc)
+keyword_is k (token.Sign s) h = absurd (cc)
+
+-- ---- this sign, where it opens a bracket or not
+
+pub not_this : (room : Bool) (s : Sign) (t : Token) → is_sign s t ≡ false → is_a room (a_sign s) t ≡ false
+unfolding may_open
+not_this room s t h = by_kind (opens_none s) (is_sign s t) h
+  where
+    by_kind : (b c : Bool) → c ≡ false → (if b then c else (c && room)) ≡ false
+    by_kind true c h = h
+    by_kind false c h = ap (λ d. d && room) h
+
+pub not_opened : (room : Bool) (s : Sign) (t : Token) → opens_none s ≡ false → may_open room s t ≡ false → is_a room (a_sign s) t ≡ false
+not_opened room s t o h = ap (λ b. if b then is_sign s t else may_open room s t) o ∙ h
+
+pub this_sign : (room : Bool) (s : Sign) → opens_none s ≡ true → is_a room (a_sign s) (one s) ≡ true
+this_sign room s o = ap (λ b. if b then is_sign s (one s) else may_open room s (one s)) o ∙ is_itself s
+
+pub this_bracket : (limit n : ℕ) (s : Sign) → opens_none s ≡ false → n < limit → is_a (room_to limit n) (a_sign s) (one s) ≡ true
+this_bracket limit n s o h = ap (λ b. if b then is_sign s (one s) else may_open (room_to limit n) s (one s)) o ∙ opens_itself limit n s h

@@ -8,7 +8,8 @@ use Rattle.c_tree.specs.Fits.{ItemFits, Fits, BracketsFit}
 use Rattle.c_tree.specs.Places.{IsProgram}
 use Rattle.c_parse.specs.declared.faults.Stop.{Stop}
 use Rattle.c_parse.specs.declared.faults.Stop.TheVariants.{Syntax}
-use Rattle.c_parse.specs.Expected.{Items, StopsAt, drive}
+use Rattle.c_parse.specs.Expected.{Items, drive}
+use Rattle.c_parse.specs.Readers.{StopsAt}
 use Rattle.c_parse.proofs.Limits.{brackets_fit, left_within}
 use Rattle.c_parse.proofs.Programs.{program_read}
 

@@ -18,7 +18,8 @@ use Rattle.c_tree.specs.declared.units.Item.{Item}
 use Rattle.c_tree.specs.Tokens.{expr_tokens, right_tokens, args_tokens, stmt_tokens, body_tokens, head_tokens, kind_tokens, assigned_tokens, braced, const_tokens, consts_tokens, initials_tokens, shape_tokens, parameters_tokens, item_tokens, items_tokens, one, word}
 use Rattle.c_tree.specs.Fits.{ExprFits, RightFits, HeadFits, StmtFits, ItemFits, rank}
 use Rattle.c_tree.proofs.Blocks.{tokens_of_further, tokens_otherwise, ArmFits, OtherwiseFitting}
-use Rattle.c_parse.specs.Expected.{Expected, Only, Open, Name, Number, Operand, Index, Tail, Right, RightName, Arguments, MoreArguments, Statements, Statement, PerhapsInt, Initial, AfterName, Condition, Block, Assigned, Test, Further, Loop, Given, Else, Branch, Items, Kind, Outside, Variable, Elements, Constant, MoreConstants, Parameters, MoreParameters, listed}
+use Rattle.c_parse.specs.Expected.{Expected, Only, Name, Number, Operand, Index, Tail, Right, RightName, Arguments, MoreArguments, Statements, Statement, PerhapsInt, Initial, AfterName, Condition, Block, Assigned, Test, Further, Loop, Given, Else, Branch, Items, Kind, Outside, Variable, Elements, Constant, MoreConstants, Parameters, MoreParameters}
+use Rattle.c_parse.specs.Readers.{listed}
 
 -- ---- parts of trees, and the tokens up to a rest
 
@@ -120,7 +121,6 @@ pub record IsMoreParameters (kind : KindOf) (name : List ℕ) (ts rest : List To
 -- What stands in a place up to a rest. After what was read before, it is a part of a tree with that.
 abbrev pub Written : Expected → List Token → List Token → Type 0
 Written (Only s) ts rest = ts ≡ one s ∷ rest
-Written (Open s) ts rest = ts ≡ one s ∷ rest
 Written Name ts rest = (w : List ℕ) × (ts ≡ token.Word w ∷ rest)
 Written Number ts rest = (v : ℕ) × (u : Bool) × (ts ≡ token.Number v u ∷ rest)
 Written Operand ts rest = IsExpr 11 ts rest

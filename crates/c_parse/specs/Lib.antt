@@ -1,2 +1,4 @@
 pub mod Answers
 pub mod Expected
+pub mod Readers
+pub mod Sorts

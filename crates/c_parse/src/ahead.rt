@@ -1,8 +1,9 @@
-ghost use Rattle.std.specs.Prelude.{◌≡◌, [], ◌∷◌, ◌<◌, ℕ, length, false, true, MatchOption, IfOk, IfErr};
+ghost use Rattle.std.specs.Prelude.{◌≡◌, [], ◌∷◌, ◌<◌, length, false, true, MatchOption, IfOk, IfErr};
 ghost use Rattle.c_tree.specs.Tokens.{one, word as word_token};
 ghost use Rattle.c_tree.specs.declared.tokens.Token.TheVariants as token;
 ghost use Rattle.c_parse.specs.declared.faults.Stop.TheVariants as stops;
-ghost use Rattle.c_parse.specs.Expected.{begins, is_sign, is_keyword, is_name, is_number, is_bound, may_open, room_at};
+ghost use Rattle.c_parse.specs.Readers.{begins, room_at};
+ghost use Rattle.c_parse.specs.Sorts.{is_sign, is_keyword, is_name, is_number, is_bound, may_open};
 
 use crate::faults::Stop;
 use c_tree::{Bound, Keyword, Sign, Token};
@@ -15,7 +16,7 @@ pub const LIMIT: u32 = 64;
 /// What was read, and the tokens after it.
 pub type Read<'t, T> = Result<(T, &'t [Token]), Stop>;
 
-#[tactic(auto, using(crate::proofs::Tests::sign_tested, crate::proofs::Tests::sign_found), unfolding(crate::specs::Expected::is_sign))]
+#[tactic(auto, using(crate::proofs::Tests::sign_tested, crate::proofs::Tests::sign_found), unfolding(crate::specs::Sorts::is_sign))]
 fn is_sign(sign: Sign, token: &Token) -> bool
     ensures is { result ≡ is_sign sign token.now }
     ensures found { result ≡ true → token.now ≡ one sign }
@@ -26,7 +27,7 @@ fn is_sign(sign: Sign, token: &Token) -> bool
     }
 }
 
-#[tactic(auto, using(crate::proofs::Tests::keyword_tested, crate::proofs::Tests::keyword_found), unfolding(crate::specs::Expected::is_keyword))]
+#[tactic(auto, using(crate::proofs::Tests::keyword_tested, crate::proofs::Tests::keyword_found), unfolding(crate::specs::Sorts::is_keyword))]
 fn is_keyword(word: Keyword, token: &Token) -> bool
     ensures is { result ≡ is_keyword word token.now }
     ensures found { result ≡ true → token.now ≡ word_token word }
@@ -80,7 +81,7 @@ pub fn after_word(word: Keyword, tokens: &[Token]) -> Option<&[Token]>
 }
 
 /// The name that comes next, and what is after it.
-#[tactic(auto, unfolding(crate::specs::Expected::is_name))]
+#[tactic(auto, unfolding(crate::specs::Sorts::is_name))]
 pub fn name_at(tokens: &[Token]) -> Option<(&Text, &[Token])>
     ensures { MatchOption result (begins is_name tokens.now ≡ false) (λ r. tokens.now ≡ token.Word r.0.now ∷ r.1.now) }
 {
@@ -94,7 +95,7 @@ pub fn name_at(tokens: &[Token]) -> Option<(&Text, &[Token])>
 }
 
 /// The number that comes next, whether it is unsigned, and what is after it.
-#[tactic(auto, unfolding(crate::specs::Expected::is_number))]
+#[tactic(auto, unfolding(crate::specs::Sorts::is_number))]
 pub fn number_at(tokens: &[Token]) -> Option<(u32, bool, &[Token])>
     ensures { MatchOption result (begins is_number tokens.now ≡ false) (λ r. tokens.now
         ≡ token.Number r.0 r.1 ∷ r.2.now) }
@@ -109,7 +110,7 @@ pub fn number_at(tokens: &[Token]) -> Option<(u32, bool, &[Token])>
 }
 
 /// The bound that comes next, and what is after it.
-#[tactic(auto, unfolding(crate::specs::Expected::is_bound))]
+#[tactic(auto, unfolding(crate::specs::Sorts::is_bound))]
 pub fn bound_at(tokens: &[Token]) -> Option<(Bound, &[Token])>
     ensures { MatchOption result (begins is_bound tokens.now ≡ false) (λ r. tokens.now
         ≡ token.Bound r.0.min r.0.max ∷ r.1.now) }

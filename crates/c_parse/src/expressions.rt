@@ -1,15 +1,15 @@
 ghost use Rattle.std.specs.Prelude.{◌≡◌, ◌+◌, ◌<◌, ◌≤◌, [], ◌∷◌, ◌++◌, length, true, false, IfOk, IfErr};
-ghost use Rattle.std.specs.List.{AllByRecursion as Each};
-ghost use Rattle.c_tree.specs.Tokens.{expr_tokens, args_tokens, call_tokens, right_tokens, one};
-ghost use Rattle.c_tree.specs.Fits.{ExprFits, RightFits, rank, open_after};
+ghost use Rattle.c_tree.specs.Tokens.{expr_tokens, one};
+ghost use Rattle.c_tree.specs.Fits.{ExprFits, rank, open_after};
 ghost use Rattle.c_tree.specs.declared.tokens.Sign.TheVariants as sign;
 ghost use Rattle.c_tree.specs.declared.tokens.Token.TheVariants as token;
-ghost use Rattle.c_parse.specs.Expected as expected;
-ghost use Rattle.c_parse.specs.Expected.{Operand, Tail, Index, Only, Passes, PassesTo, Refuses, begins, is_prefix, level_ahead, opens_none};
+ghost use Rattle.c_parse.specs.Expected.{Operand, Tail, Index, Only};
+ghost use Rattle.c_parse.specs.Readers.{Passes, PassesTo, Refuses, begins, level_ahead};
+ghost use Rattle.c_parse.specs.Sorts.{is_prefix, opens_none};
 
 use crate::ahead::{Read, after, copy, name_at, number_at, opened, sign, stop};
 use crate::operators::{operator_at, prefix_at};
-use c_tree::{Expr, Right, Sign, Step, Token};
+use c_tree::{Expr, Sign, Step, Token};
 use std::alloc::Global;
 use tc_word::{List, Text};
 
@@ -113,7 +113,7 @@ fn operand(alloc: Global, depth: u32, tokens: &[Token]) -> Read<'_, Expr>
 
 // a number, a variable, an element of an array, or an expression in parentheses
 #[cycle(expression)]
-#[tactic(auto, using(crate::proofs::Steps::operand_number, crate::proofs::Steps::operand_name, crate::proofs::Steps::operand_paren, crate::proofs::Steps::no_operand, crate::proofs::Steps::sign_read, crate::proofs::Steps::no_sign), unfolding(c_tree::specs::Tokens::expr_tokens, c_tree::specs::Fits::ExprFits))]
+#[tactic(auto, using(crate::proofs::Steps::sign_steps, crate::proofs::Steps::primary_steps), unfolding(c_tree::specs::Tokens::expr_tokens, c_tree::specs::Fits::ExprFits))]
 fn primary(alloc: Global, depth: u32, tokens: &[Token]) -> Read<'_, Expr>
     requires { begins is_prefix tokens.now ≡ false }
     ensures written { IfOk result (λ r. tokens.now ≡ expr_tokens r.0 ++ r.1.now) }

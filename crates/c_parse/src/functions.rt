@@ -1,13 +1,12 @@
 ghost use Rattle.std.specs.Prelude.{◌≡◌, ◌+◌, ◌-◌, ◌<◌, [], ◌∷◌, ◌++◌, length, IsTrue, IfOk, IfErr};
-ghost use Rattle.std.specs.List.{AllByRecursion as Each};
-ghost use Rattle.c_tree.specs.Tokens.{kind_tokens, parameters_tokens, gives_tokens, function_tokens, one, word};
+ghost use Rattle.c_tree.specs.Tokens.{kind_tokens, parameters_tokens, gives_tokens, function_tokens, one};
 ghost use Rattle.c_tree.specs.Fits.{FunctionFits};
-ghost use Rattle.c_tree.specs.declared.tokens.Keyword.TheVariants as keyword;
 ghost use Rattle.c_tree.specs.declared.tokens.Sign.TheVariants as sign;
 ghost use Rattle.c_tree.specs.declared.tokens.Token.TheVariants as token;
-ghost use Rattle.c_parse.specs.Expected.{Kind as kind_here, Name, Parameters, MoreParameters, Block, Passes, PassesTo, Refuses, listed};
+ghost use Rattle.c_parse.specs.Expected.{Kind as kind_here, Name, Parameters, MoreParameters, Block};
+ghost use Rattle.c_parse.specs.Readers.{Passes, PassesTo, Refuses, listed};
 
-use crate::ahead::{Read, after, after_word, bracket, copy, name, sign, stop};
+use crate::ahead::{Read, after, after_word, copy, name, sign, stop};
 use crate::kinds::kind_at;
 use crate::statements::block;
 use c_tree::{Function, Keyword, Kind, Parameter, Sign, Token};
@@ -44,7 +43,7 @@ fn parameter(alloc: Global, depth: u32, kind: Kind, tokens: &[Token]) -> Read<'_
 
 /// The parameters of a function, after their parenthesis, and the closing one. The first part says whether `void`
 /// stands for them.
-#[tactic(auto, using(crate::proofs::Starts::parameters_end, crate::proofs::Starts::parameters_void, crate::proofs::Starts::parameters_kind, crate::proofs::Starts::no_parameters, crate::proofs::Steps::sign_read, crate::proofs::Steps::no_sign))]
+#[tactic(auto, using(crate::proofs::Starts::parameters_starts, crate::proofs::Steps::sign_steps))]
 fn parameters(alloc: Global, depth: u32, tokens: &[Token]) -> Read<'_, (bool, List<Parameter>)>
     ensures none { IfOk result (λ r. IsTrue r.0.0 → r.0.1 ≡ []) }
     ensures written { IfOk result (λ r. tokens.now ≡ listed r.0.0 r.0.1 ++ one sign.CloseParenthesis ∷ r.1.now) }

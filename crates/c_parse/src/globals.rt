@@ -1,7 +1,8 @@
 ghost use Rattle.std.specs.Prelude.{◌≡◌, ◌+◌, ◌-◌, ◌<◌, ◌≤◌, [], ◌∷◌, ◌++◌, length, Some, None, IfOk, IfErr};
 ghost use Rattle.c_tree.specs.Tokens.{const_tokens, consts_tokens, initials_tokens, shape_tokens, ended, one};
 ghost use Rattle.c_tree.specs.declared.tokens.Sign.TheVariants as sign;
-ghost use Rattle.c_parse.specs.Expected.{Only, Open, Number, Variable, Elements, Constant, MoreConstants, Passes, PassesTo, Refuses};
+ghost use Rattle.c_parse.specs.Expected.{Only, Number, Variable, Elements, Constant, MoreConstants};
+ghost use Rattle.c_parse.specs.Readers.{Passes, PassesTo, Refuses};
 
 use crate::ahead::{Read, after, bracket, number, number_at, opened, sign, stop};
 use c_tree::{Const, Length, Sign, Token};
@@ -12,7 +13,7 @@ use tc_word::List;
 pub type Shape = (Option<Length>, List<Const>);
 
 // a constant with its sign
-#[tactic(auto, using(crate::proofs::Starts::constant_number, crate::proofs::Starts::constant_minus, crate::proofs::Starts::no_constant, crate::proofs::Steps::number_read, crate::proofs::Steps::no_number))]
+#[tactic(auto, using(crate::proofs::Starts::constant_starts, crate::proofs::Steps::number_steps))]
 fn constant(depth: u32, tokens: &[Token]) -> Read<'_, Const>
     ensures written { IfOk result (λ r. tokens.now ≡ const_tokens r.0 ++ r.1.now) }
     ensures passes { IfOk result (λ r. Passes depth (Constant ∷ []) tokens.now [] r.1.now) }
@@ -40,7 +41,7 @@ fn constant(depth: u32, tokens: &[Token]) -> Read<'_, Const>
 }
 
 // the first values of an array, after their brace, and the closing one
-#[tactic(auto, using(crate::proofs::Starts::constants_next, crate::proofs::Starts::constants_done, crate::proofs::Starts::no_more_constants))]
+#[tactic(auto, using(crate::proofs::Starts::constants_starts))]
 fn constants(alloc: Global, depth: u32, tokens: &[Token]) -> Read<'_, List<Const>>
     ensures some { IfOk result (λ r. 1 ≤ length r.0) }
     ensures written { IfOk result (λ r. tokens.now ≡ consts_tokens r.0 ++ one sign.CloseBrace ∷ r.1.now) }
@@ -62,7 +63,7 @@ fn constants(alloc: Global, depth: u32, tokens: &[Token]) -> Read<'_, List<Const
 }
 
 /// What is after a global's name, up to its semicolon.
-#[tactic(auto, using(crate::proofs::Starts::variable_array, crate::proofs::Starts::variable_assign, crate::proofs::Starts::variable_end, crate::proofs::Starts::no_variable))]
+#[tactic(auto, using(crate::proofs::Starts::shape_starts))]
 pub fn shape(alloc: Global, depth: u32, tokens: &[Token]) -> Read<'_, Shape>
     ensures written { IfOk result (λ r. tokens.now ≡ ended (shape_tokens r.0.0 r.0.1) ++ r.1.now) }
     ensures passes { IfOk result (λ r. Passes depth (Variable ∷ []) tokens.now [] r.1.now) }
@@ -83,7 +84,7 @@ pub fn shape(alloc: Global, depth: u32, tokens: &[Token]) -> Read<'_, Shape>
 }
 
 // the length of an array, after its bracket, and its first values
-#[tactic(auto, using(crate::proofs::Steps::sign_read, crate::proofs::Steps::no_sign, crate::proofs::Steps::number_read, crate::proofs::Steps::no_number))]
+#[tactic(auto, using(crate::proofs::Steps::sign_steps, crate::proofs::Steps::number_steps))]
 fn array(alloc: Global, depth: u32, tokens: &[Token]) -> Read<'_, Shape>
     requires { depth < 64 }
     ensures written { IfOk result (λ r. one sign.OpenBracket ∷ tokens.now
@@ -117,7 +118,7 @@ fn first_value(alloc: Global, depth: u32, tokens: &[Token]) -> Read<'_, Shape>
 }
 
 // the first values of an array, up to its semicolon
-#[tactic(auto, using(crate::proofs::Starts::elements_assign, crate::proofs::Starts::elements_end, crate::proofs::Starts::no_elements))]
+#[tactic(auto, using(crate::proofs::Starts::elements_starts))]
 fn elements(alloc: Global, depth: u32, tokens: &[Token]) -> Read<'_, List<Const>>
     ensures written { IfOk result (λ r. tokens.now ≡ ended (initials_tokens r.0) ++ r.1.now) }
     ensures passes { IfOk result (λ r. Passes depth (Elements ∷ []) tokens.now [] r.1.now) }
@@ -134,12 +135,12 @@ fn elements(alloc: Global, depth: u32, tokens: &[Token]) -> Read<'_, List<Const>
 }
 
 // the first values of an array in braces, and the semicolon after them
-#[tactic(auto, using(crate::proofs::Steps::sign_read, crate::proofs::Steps::no_sign, crate::proofs::Steps::bracket_read, crate::proofs::Steps::no_bracket, crate::proofs::Declared::initials_some))]
+#[tactic(auto, using(crate::proofs::Steps::sign_steps, crate::proofs::Steps::bracket_steps, crate::proofs::Declared::initials_some))]
 fn filled(alloc: Global, depth: u32, tokens: &[Token]) -> Read<'_, List<Const>>
     ensures written { IfOk result (λ r. one sign.Assign ∷ tokens.now ≡ ended (initials_tokens r.0) ++ r.1.now) }
-    ensures passes { IfOk result (λ r. Passes depth (Open sign.OpenBrace ∷ Constant ∷ MoreConstants
+    ensures passes { IfOk result (λ r. Passes depth (Only sign.OpenBrace ∷ Constant ∷ MoreConstants
         ∷ Only sign.Semicolon ∷ []) tokens.now [] r.1.now) }
-    ensures refuses { IfErr result (Refuses depth (Open sign.OpenBrace ∷ Constant ∷ MoreConstants
+    ensures refuses { IfErr result (Refuses depth (Only sign.OpenBrace ∷ Constant ∷ MoreConstants
         ∷ Only sign.Semicolon ∷ []) tokens.now) }
     ensures shorter { IfOk result (λ r. length r.1.now < length tokens.now) }
 {

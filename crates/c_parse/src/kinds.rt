@@ -1,7 +1,8 @@
 ghost use Rattle.std.specs.Prelude.{◌≡◌, ◌++◌, false, IfSome, IfNone};
 ghost use Rattle.c_tree.specs.Tokens.{kind_tokens};
 ghost use Rattle.c_tree.specs.declared.tokens.Keyword.TheVariants as keyword;
-ghost use Rattle.c_parse.specs.Expected.{KindEnds, begins, is_keyword};
+ghost use Rattle.c_parse.specs.Readers.{KindEnds, begins};
+ghost use Rattle.c_parse.specs.Sorts.{is_keyword};
 
 use crate::ahead::after_word;
 use c_tree::{Keyword, Kind, Token};

@@ -6,8 +6,9 @@
 //! of the first tokens that can go on. [`reading_is_the_grammar`] says the same of reading token after token.
 //!
 //! It reads by recursive descent, in time linear in the tokens. The recursion is as deep as brackets are open, times
-//! the levels; chains, signs, `else if` and statements are loops. `specs/Expected.antt` says what may come next at
-//! each point of a text: each reader's contract says how far that is read, and with which token it stops.
+//! the levels; chains, signs, `else if` and statements are loops. `specs/Expected.antt` is the grammar as it is read
+//! from left to right: what may come next at each point of a text. Each reader's contract says, in the words of
+//! `specs/Readers.antt`, how far that is read, and with which token it stops.
 #![tactic(auto)]
 
 mod ahead;

@@ -3,7 +3,9 @@ ghost use Rattle.c_tree.specs.Tokens.{expr_tokens, assigned_tokens, head_tokens,
 ghost use Rattle.c_tree.specs.Fits.{ExprFits, HeadFits};
 ghost use Rattle.c_tree.specs.declared.tokens.Keyword.TheVariants as keyword;
 ghost use Rattle.c_tree.specs.declared.tokens.Sign.TheVariants as sign;
-ghost use Rattle.c_parse.specs.Expected.{Statement, Loop, Condition, Block, Assigned, Test, Open, Only, Passes, PassesTo, Refuses, begins, is_keyword};
+ghost use Rattle.c_parse.specs.Expected.{Statement, Loop, Condition, Block, Assigned, Test, Only};
+ghost use Rattle.c_parse.specs.Readers.{Passes, PassesTo, Refuses, begins};
+ghost use Rattle.c_parse.specs.Sorts.{is_keyword};
 
 use crate::ahead::{Read, after_word, bracket, copy, name, sign, stop};
 use crate::expressions::{expression, up_to};
@@ -26,7 +28,7 @@ pub fn condition(alloc: Global, depth: u32, tokens: &[Token]) -> Read<'_, Expr>
 }
 
 /// An assignment in the head of a `for`.
-#[tactic(auto, using(crate::proofs::Starts::assigned_name, crate::proofs::Starts::no_assigned, crate::proofs::Steps::sign_read, crate::proofs::Steps::no_sign))]
+#[tactic(auto, using(crate::proofs::Starts::assigned_starts, crate::proofs::Steps::sign_steps))]
 fn assigned(alloc: Global, depth: u32, tokens: &[Token]) -> Read<'_, (Text, Expr)>
     ensures written { IfOk result (λ r. tokens.now ≡ assigned_tokens r.0.0 (expr_tokens r.0.1) ++ r.1.now) }
     ensures fits { IfOk result (λ r. ExprFits r.0.1) }
@@ -71,10 +73,10 @@ fn middle(alloc: Global, depth: u32, tokens: &[Token]) -> Read<'_, Expr>
 fn for_head(alloc: Global, depth: u32, tokens: &[Token]) -> Read<'_, Head>
     ensures written { IfOk result (λ r. word keyword.For ∷ tokens.now ≡ head_tokens r.0 ++ r.1.now) }
     ensures fits { IfOk result (λ r. HeadFits r.0) }
-    ensures passes { IfOk result (λ r. Passes depth (Open sign.OpenParenthesis ∷ Assigned ∷ Test ∷ Assigned
+    ensures passes { IfOk result (λ r. Passes depth (Only sign.OpenParenthesis ∷ Assigned ∷ Test ∷ Assigned
         ∷ Only sign.CloseParenthesis ∷ []) tokens.now [] r.1.now) }
     ensures refuses { IfErr result
-        (Refuses depth (Open sign.OpenParenthesis ∷ Assigned ∷ Test ∷ Assigned ∷ Only sign.CloseParenthesis
+        (Refuses depth (Only sign.OpenParenthesis ∷ Assigned ∷ Test ∷ Assigned ∷ Only sign.CloseParenthesis
         ∷ []) tokens.now) }
     ensures shorter { IfOk result (λ r. length r.1.now < length tokens.now) }
 {
@@ -127,7 +129,7 @@ fn last(alloc: Global, depth: u32, tokens: &[Token]) -> Read<'_, (Text, Expr)>
 }
 
 /// The head of a loop.
-#[tactic(auto, using(crate::proofs::Starts::loop_while, crate::proofs::Starts::loop_for, crate::proofs::Starts::no_loop))]
+#[tactic(auto, using(crate::proofs::Starts::head_starts))]
 pub fn head(alloc: Global, depth: u32, tokens: &[Token]) -> Read<'_, Head>
     ensures written { IfOk result (λ r. tokens.now ≡ head_tokens r.0 ++ r.1.now) }
     ensures fits { IfOk result (λ r. HeadFits r.0) }
@@ -145,7 +147,7 @@ pub fn head(alloc: Global, depth: u32, tokens: &[Token]) -> Read<'_, Head>
 }
 
 /// Whether a loop without a bound comes next: as a statement it goes on as a loop does.
-#[tactic(auto, using(crate::proofs::Starts::statement_while, crate::proofs::Starts::loop_while, crate::proofs::Starts::statement_for, crate::proofs::Starts::loop_for))]
+#[tactic(auto, using(crate::proofs::Starts::at_loop_starts))]
 pub fn at_loop(tokens: &[Token]) -> bool
     ensures same { result ≡ true → (n : ℕ) → Passes n (Statement ∷ []) tokens.now (Loop ∷ []) tokens.now }
     ensures no_while { result ≡ false → begins (is_keyword keyword.While) tokens.now ≡ false }

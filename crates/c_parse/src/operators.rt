@@ -1,7 +1,8 @@
 ghost use Rattle.std.specs.Prelude.{◌≡◌, ◌∷◌, ◌≢◌, ◌≤◌, false, MatchOption};
 ghost use Rattle.c_tree.specs.Tokens.{one, binary_sign, unary_sign};
 ghost use Rattle.c_tree.specs.Fits.{level_of};
-ghost use Rattle.c_parse.specs.Expected.{begins, is_prefix, is_prefix_sign, sign_level, level_at, level_ahead};
+ghost use Rattle.c_parse.specs.Readers.{begins, level_ahead};
+ghost use Rattle.c_parse.specs.Sorts.{is_prefix, is_prefix_sign, sign_level, level_at};
 
 use c_tree::{BinaryOp, Sign, Token, UnaryOp};
 
@@ -40,7 +41,7 @@ pub fn level_of(op: BinaryOp) -> u8
     }
 }
 
-#[tactic(auto, unfolding(crate::specs::Expected::level_at))]
+#[tactic(auto, unfolding(crate::specs::Sorts::level_at))]
 fn operator_in(token: &Token) -> Option<BinaryOp>
     ensures { MatchOption result (level_at token.now ≡ 0)
         (λ op. (token.now ≡ one (binary_sign op)) × (level_of op ≡ level_at token.now)) }
@@ -51,7 +52,7 @@ fn operator_in(token: &Token) -> Option<BinaryOp>
     }
 }
 
-#[tactic(auto, unfolding(crate::specs::Expected::is_prefix))]
+#[tactic(auto, unfolding(crate::specs::Sorts::is_prefix))]
 fn prefix_in(token: &Token) -> Option<UnaryOp>
     ensures { MatchOption result (is_prefix token.now ≡ false) (λ op. token.now ≡ one (unary_sign op)) }
 {

@@ -1,9 +1,10 @@
 ghost use Rattle.std.specs.Prelude.{◌≡◌, ◌-◌, ◌<◌, [], ◌∷◌, ◌++◌, length, IfOk, IfErr};
 ghost use Rattle.std.specs.List.{AllByRecursion as Each};
-ghost use Rattle.c_tree.specs.Tokens.{expr_tokens, args_tokens, call_tokens, right_tokens, one};
+ghost use Rattle.c_tree.specs.Tokens.{args_tokens, right_tokens, one};
 ghost use Rattle.c_tree.specs.Fits.{ExprFits, RightFits};
 ghost use Rattle.c_tree.specs.declared.tokens.Sign.TheVariants as sign;
-ghost use Rattle.c_parse.specs.Expected.{Operand, Tail, Right as right_side, Arguments, Passes, Refuses, PassesTo};
+ghost use Rattle.c_parse.specs.Expected.{Operand, Tail, Right as right_side, Arguments};
+ghost use Rattle.c_parse.specs.Readers.{Passes, Refuses, PassesTo};
 
 use crate::ahead::{Read, after, copy, name_at, opened, sign};
 use crate::expressions::expression;
@@ -12,7 +13,7 @@ use std::alloc::Global;
 use tc_word::List;
 
 /// The arguments of a call, after its parenthesis, and the closing one.
-#[tactic(auto, using(crate::proofs::Starts::arguments_end, crate::proofs::Starts::arguments_next, crate::proofs::Starts::arguments_done, crate::proofs::Starts::arguments_operand, crate::proofs::Starts::no_more_arguments))]
+#[tactic(auto, using(crate::proofs::Starts::arguments_starts))]
 pub fn arguments(alloc: Global, depth: u32, tokens: &[Token]) -> Read<'_, List<Expr>>
     ensures written { IfOk result (λ r. tokens.now ≡ args_tokens r.0 ++ one sign.CloseParenthesis ∷ r.1.now) }
     ensures fits { IfOk result (λ r. Each ExprFits r.0) }
@@ -36,7 +37,7 @@ pub fn arguments(alloc: Global, depth: u32, tokens: &[Token]) -> Read<'_, List<E
 }
 
 /// What is assigned.
-#[tactic(auto, using(crate::proofs::Starts::right_name, crate::proofs::Starts::right_call, crate::proofs::Starts::right_operand, crate::proofs::Starts::right_read, crate::proofs::Steps::operand_name))]
+#[tactic(auto, using(crate::proofs::Starts::right_starts, crate::proofs::Steps::operand_name))]
 pub fn right(alloc: Global, depth: u32, tokens: &[Token]) -> Read<'_, Right>
     ensures written { IfOk result (λ r. tokens.now ≡ right_tokens r.0 ++ r.1.now) }
     ensures fits { IfOk result (λ r. RightFits r.0) }

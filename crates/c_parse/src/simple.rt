@@ -4,7 +4,9 @@ ghost use Rattle.c_tree.specs.Fits.{StmtFits, ExprFits, RightFits};
 ghost use Rattle.c_tree.specs.declared.tokens.Keyword.TheVariants as keyword;
 ghost use Rattle.c_tree.specs.declared.tokens.Sign.TheVariants as sign;
 ghost use Rattle.c_tree.specs.declared.tokens.Token.TheVariants as token;
-ghost use Rattle.c_parse.specs.Expected.{three_tokens, Statement, Name, Number, Operand, Tail, Right as right_side, Arguments, Initial, AfterName, Given, Further, Open, Only, Passes, PassesTo, Refuses, begins, is_keyword, is_bound, may_open, room_at};
+ghost use Rattle.c_parse.specs.Expected.{Statement, Name, Number, Operand, Tail, Right as right_side, Arguments, Initial, AfterName, Given, Further, Only};
+ghost use Rattle.c_parse.specs.Readers.{three_tokens, Passes, PassesTo, Refuses, begins, room_at};
+ghost use Rattle.c_parse.specs.Sorts.{is_keyword, is_bound, may_open};
 
 use crate::ahead::{
     Read, after, after_word, bracket, copy, name, name_at, number, opened, sign, stop,
@@ -17,7 +19,7 @@ use std::alloc::Global;
 use tc_word::Text;
 
 /// A statement that holds no other.
-#[tactic(auto, using(crate::proofs::Starts::statement_kind, crate::proofs::Starts::statement_name, crate::proofs::Starts::statement_send, crate::proofs::Starts::statement_break, crate::proofs::Starts::statement_continue, crate::proofs::Starts::statement_return, crate::proofs::Starts::no_statement, crate::proofs::Steps::sign_read, crate::proofs::Steps::no_sign), unfolding(c_tree::specs::Tokens::stmt_tokens, c_tree::specs::Fits::StmtFits))]
+#[tactic(auto, using(crate::proofs::Starts::simple_starts, crate::proofs::Steps::sign_steps), unfolding(c_tree::specs::Tokens::stmt_tokens, c_tree::specs::Fits::StmtFits))]
 pub fn simple(alloc: Global, depth: u32, tokens: &[Token]) -> Read<'_, Stmt>
     requires no_if { begins (is_keyword keyword.If) tokens.now ≡ false }
     requires no_bound { begins is_bound tokens.now ≡ false }
@@ -54,7 +56,7 @@ pub fn simple(alloc: Global, depth: u32, tokens: &[Token]) -> Read<'_, Stmt>
 }
 
 // a variable of a block, after its kind
-#[tactic(auto, using(crate::proofs::Starts::initial_assign, crate::proofs::Starts::initial_end, crate::proofs::Starts::no_initial, crate::proofs::Steps::name_read, crate::proofs::Steps::no_name), unfolding(c_tree::specs::Tokens::stmt_tokens, c_tree::specs::Fits::StmtFits))]
+#[tactic(auto, using(crate::proofs::Starts::declaration_starts, crate::proofs::Steps::name_steps), unfolding(c_tree::specs::Tokens::stmt_tokens, c_tree::specs::Fits::StmtFits))]
 fn declaration(alloc: Global, depth: u32, kind: Kind, tokens: &[Token]) -> Read<'_, Stmt>
     ensures written { IfOk result (λ r. kind_tokens kind ++ tokens.now ≡ stmt_tokens r.0 ++ r.1.now) }
     ensures fits { IfOk result (λ r. StmtFits r.0) }
@@ -117,7 +119,7 @@ fn value(alloc: Global, depth: u32, tokens: &[Token]) -> Read<'_, Right>
 }
 
 // a statement that begins with this name
-#[tactic(auto, using(crate::proofs::Starts::after_name_assign, crate::proofs::Starts::after_name_bracket, crate::proofs::Starts::after_name_call, crate::proofs::Starts::no_after_name))]
+#[tactic(auto, using(crate::proofs::Starts::named_starts))]
 fn named<'t>(alloc: Global, depth: u32, text: &Text, tokens: &'t [Token]) -> Read<'t, Stmt>
     ensures written { IfOk result (λ r. token.Word text.now ∷ tokens.now ≡ stmt_tokens r.0 ++ r.1.now) }
     ensures fits { IfOk result (λ r. StmtFits r.0) }
@@ -153,7 +155,7 @@ fn set<'t>(alloc: Global, depth: u32, text: &Text, tokens: &'t [Token]) -> Read<
 }
 
 // the index of an element of the array of this name, and what is assigned to it, after the bracket
-#[tactic(auto, using(crate::proofs::Steps::sign_read, crate::proofs::Steps::no_sign), unfolding(c_tree::specs::Tokens::stmt_tokens, c_tree::specs::Fits::StmtFits))]
+#[tactic(auto, using(crate::proofs::Steps::sign_steps), unfolding(c_tree::specs::Tokens::stmt_tokens, c_tree::specs::Fits::StmtFits))]
 fn set_element<'t>(alloc: Global, depth: u32, text: &Text, tokens: &'t [Token]) -> Read<'t, Stmt>
     requires { depth < 64 }
     ensures written { IfOk result (λ r. token.Word text.now ∷ one sign.OpenBracket ∷ tokens.now
@@ -173,7 +175,7 @@ fn set_element<'t>(alloc: Global, depth: u32, text: &Text, tokens: &'t [Token]) 
 }
 
 // the arguments of a call of the function of this name, after the parenthesis
-#[tactic(auto, using(crate::proofs::Steps::sign_read, crate::proofs::Steps::no_sign), unfolding(c_tree::specs::Tokens::stmt_tokens, c_tree::specs::Fits::StmtFits))]
+#[tactic(auto, using(crate::proofs::Steps::sign_steps), unfolding(c_tree::specs::Tokens::stmt_tokens, c_tree::specs::Fits::StmtFits))]
 fn call<'t>(alloc: Global, depth: u32, text: &Text, tokens: &'t [Token]) -> Read<'t, Stmt>
     requires { depth < 64 }
     ensures written { IfOk result (λ r. token.Word text.now ∷ one sign.OpenParenthesis ∷ tokens.now
@@ -243,14 +245,14 @@ fn three(alloc: Global, depth: u32, tokens: &[Token]) -> Read<'_, (Expr, Expr, E
 }
 
 // a sending, after its word
-#[tactic(auto, using(crate::proofs::Steps::bracket_read, crate::proofs::Steps::no_bracket, crate::proofs::Steps::number_read, crate::proofs::Steps::no_number), unfolding(c_tree::specs::Tokens::stmt_tokens, c_tree::specs::Fits::StmtFits))]
+#[tactic(auto, using(crate::proofs::Steps::number_steps, crate::proofs::Steps::bracket_steps), unfolding(c_tree::specs::Tokens::stmt_tokens, c_tree::specs::Fits::StmtFits))]
 fn sent(alloc: Global, depth: u32, tokens: &[Token]) -> Read<'_, Stmt>
     ensures written { IfOk result (λ r. word keyword.Send ∷ tokens.now ≡ stmt_tokens r.0 ++ r.1.now) }
     ensures fits { IfOk result (λ r. StmtFits r.0) }
-    ensures passes { IfOk result (λ r. Passes depth (Open sign.OpenParenthesis ∷ Number ∷ Further ∷ Further ∷ Further
+    ensures passes { IfOk result (λ r. Passes depth (Only sign.OpenParenthesis ∷ Number ∷ Further ∷ Further ∷ Further
         ∷ Only sign.CloseParenthesis ∷ Only sign.Semicolon ∷ []) tokens.now [] r.1.now) }
     ensures refuses { IfErr result
-        (Refuses depth (Open sign.OpenParenthesis ∷ Number ∷ Further ∷ Further ∷ Further ∷ Only sign.CloseParenthesis
+        (Refuses depth (Only sign.OpenParenthesis ∷ Number ∷ Further ∷ Further ∷ Further ∷ Only sign.CloseParenthesis
         ∷ Only sign.Semicolon ∷ []) tokens.now) }
     ensures shorter { IfOk result (λ r. length r.1.now < length tokens.now) }
 {
@@ -270,7 +272,7 @@ fn sent(alloc: Global, depth: u32, tokens: &[Token]) -> Read<'_, Stmt>
 }
 
 // what a function gives, after `return`
-#[tactic(auto, using(crate::proofs::Starts::given_none, crate::proofs::Starts::given_operand), unfolding(c_tree::specs::Tokens::stmt_tokens, c_tree::specs::Fits::StmtFits))]
+#[tactic(auto, using(crate::proofs::Starts::given_starts), unfolding(c_tree::specs::Tokens::stmt_tokens, c_tree::specs::Fits::StmtFits))]
 fn given(alloc: Global, depth: u32, tokens: &[Token]) -> Read<'_, Stmt>
     ensures written { IfOk result (λ r. word keyword.Return ∷ tokens.now ≡ stmt_tokens r.0 ++ r.1.now) }
     ensures fits { IfOk result (λ r. StmtFits r.0) }

@@ -4,7 +4,8 @@ ghost use Rattle.c_tree.specs.Tokens.{stmt_tokens, body_tokens, arm_tokens, boun
 ghost use Rattle.c_tree.specs.Fits.{StmtFits, ExprFits};
 ghost use Rattle.c_tree.specs.declared.tokens.Keyword.TheVariants as keyword;
 ghost use Rattle.c_tree.specs.declared.tokens.Sign.TheVariants as sign;
-ghost use Rattle.c_parse.specs.Expected.{Statement, Statements, Else, Condition, Block, Loop, Passes, PassesTo, Refuses};
+ghost use Rattle.c_parse.specs.Expected.{Statement, Statements, Else, Condition, Block, Loop};
+ghost use Rattle.c_parse.specs.Readers.{Passes, PassesTo, Refuses};
 
 use crate::ahead::{Read, after, after_word, bound_at, bracket, opened};
 use crate::loops::{at_loop, condition, head};
@@ -68,7 +69,7 @@ fn arm(alloc: Global, depth: u32, tokens: &[Token]) -> Read<'_, Arm>
 
 // an `if` with all that is after it
 #[cycle(statement)]
-#[tactic(auto, using(crate::proofs::Starts::else_more, crate::proofs::Starts::branch_if, crate::proofs::Starts::branch_block, crate::proofs::Starts::no_else, c_tree::proofs::Blocks::if_tokens))]
+#[tactic(auto, using(crate::proofs::Starts::conditional_starts, c_tree::proofs::Blocks::if_tokens))]
 fn conditional(alloc: Global, depth: u32, tokens: &[Token]) -> Read<'_, Stmt>
     ensures written { IfOk result (λ r. word keyword.If ∷ tokens.now ≡ stmt_tokens r.0 ++ r.1.now) }
     ensures fits { IfOk result (λ r. StmtFits r.0) }
@@ -134,7 +135,7 @@ fn inner(alloc: Global, depth: u32, tokens: &[Token]) -> Read<'_, Stmt>
 }
 
 #[cycle(statement)]
-#[tactic(auto, using(crate::proofs::Starts::statement_if, crate::proofs::Starts::statement_bound, crate::proofs::Starts::statement_brace))]
+#[tactic(auto, using(crate::proofs::Starts::statement_starts))]
 fn statement(alloc: Global, depth: u32, tokens: &[Token]) -> Read<'_, Stmt>
     ensures written { IfOk result (λ r. tokens.now ≡ stmt_tokens r.0 ++ r.1.now) }
     ensures fits { IfOk result (λ r. StmtFits r.0) }

@@ -4,7 +4,8 @@ ghost use Rattle.c_tree.specs.Tokens.{item_tokens, items_tokens, kind_tokens, wo
 ghost use Rattle.c_tree.specs.Fits.{ItemFits};
 ghost use Rattle.c_tree.specs.declared.tokens.Keyword.TheVariants as keyword;
 ghost use Rattle.c_tree.specs.declared.tokens.Sign.TheVariants as sign;
-ghost use Rattle.c_parse.specs.Expected.{Items, Name, Open, Outside, Parameters, Block, Kind as kind_here, Variable as variable_here, Passes, Refuses, StopsAt, drive, scratch_tokens};
+ghost use Rattle.c_parse.specs.Expected.{Items, Name, Only, Outside, Parameters, Block, Kind as kind_here, Variable as variable_here, drive};
+ghost use Rattle.c_parse.specs.Readers.{Passes, Refuses, StopsAt, scratch_tokens};
 
 use crate::ahead::{Read, after_word, bracket, copy, name, opened, stop};
 use crate::faults::Stop;
@@ -33,7 +34,7 @@ pub fn items(alloc: Global, tokens: &[Token]) -> Result<List<Item>, Stop>
 }
 
 // a declaration
-#[tactic(auto, using(crate::proofs::Starts::items_kind, crate::proofs::Starts::items_scratch, crate::proofs::Starts::items_void, crate::proofs::Starts::no_items, crate::proofs::Steps::none_behind))]
+#[tactic(auto, using(crate::proofs::Starts::item_starts, crate::proofs::Steps::none_behind))]
 fn item(alloc: Global, tokens: &[Token]) -> Read<'_, Item>
     requires { tokens.now ≢ [] }
     ensures written { IfOk result (λ r. tokens.now ≡ item_tokens r.0 ++ r.1.now) }
@@ -68,14 +69,14 @@ fn scratch(alloc: Global, tokens: &[Token]) -> Read<'_, Item>
 }
 
 // a function that gives nothing, after `void`
-#[tactic(auto, using(crate::proofs::Steps::name_read, crate::proofs::Steps::no_name, crate::proofs::Steps::bracket_read, crate::proofs::Steps::no_bracket))]
+#[tactic(auto, using(crate::proofs::Steps::bracket_steps, crate::proofs::Steps::name_steps))]
 fn procedure(alloc: Global, tokens: &[Token]) -> Read<'_, Item>
     ensures written { IfOk result (λ r. word keyword.Void ∷ tokens.now ≡ item_tokens r.0 ++ r.1.now) }
     ensures fits { IfOk result (λ r. ItemFits r.0) }
-    ensures passes { IfOk result (λ r. Passes 0 (Name ∷ Open sign.OpenParenthesis ∷ Parameters ∷ Block
+    ensures passes { IfOk result (λ r. Passes 0 (Name ∷ Only sign.OpenParenthesis ∷ Parameters ∷ Block
         ∷ []) tokens.now [] r.1.now) }
     ensures refuses { IfErr result
-        (Refuses 0 (Name ∷ Open sign.OpenParenthesis ∷ Parameters ∷ Block ∷ []) tokens.now) }
+        (Refuses 0 (Name ∷ Only sign.OpenParenthesis ∷ Parameters ∷ Block ∷ []) tokens.now) }
     ensures shorter { IfOk result (λ r. length r.1.now < length tokens.now) }
 {
     let (text, behind) = name(tokens)?;
@@ -85,7 +86,7 @@ fn procedure(alloc: Global, tokens: &[Token]) -> Read<'_, Item>
 }
 
 // a variable or a function, after its kind
-#[tactic(auto, using(crate::proofs::Starts::outside_function, crate::proofs::Starts::outside_variable, crate::proofs::Steps::name_read, crate::proofs::Steps::no_name))]
+#[tactic(auto, using(crate::proofs::Starts::outside_starts, crate::proofs::Steps::name_steps))]
 fn outside(alloc: Global, kind: Kind, tokens: &[Token]) -> Read<'_, Item>
     ensures written { IfOk result (λ r. kind_tokens kind ++ tokens.now ≡ item_tokens r.0 ++ r.1.now) }
     ensures fits { IfOk result (λ r. ItemFits r.0) }

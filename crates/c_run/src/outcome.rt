@@ -86,15 +86,7 @@ fn first_called(
     let args = Arguments {
         values: List::of(Vec::new(alloc)),
     };
-    Ok(called(
-        function,
-        &args,
-        routines,
-        routines.len(),
-        &[],
-        &mut frames,
-        memory,
-    ))
+    Ok(called(function, &args, routines, &[], &mut frames, memory))
 }
 
 // the words of all variables and arrays

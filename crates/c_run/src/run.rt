@@ -46,7 +46,12 @@ fn act(
             function,
             args,
             target,
-        } => call(*function, args, target, routines, frame, rest, memory),
+        } => {
+            let given = called(*function as usize, args, routines, frame, rest, memory);
+            let location = result_location(target, frame, memory);
+            put(location, given, frame, memory);
+            Way::On
+        }
         Action::Send { .. } => Way::On,
         Action::Choose {
             branches,
@@ -63,7 +68,12 @@ fn act(
             step,
         } => {
             let body = body.as_slice();
-            turns(*max, condition, body, step, routines, frame, rest, memory)
+            let turning = Turning {
+                condition,
+                body,
+                step,
+            };
+            turns(*max, &turning, routines, frame, rest, memory)
         }
         Action::Break => Way::Broken,
         Action::Continue => Way::Continued,
@@ -71,35 +81,6 @@ fn act(
             value: value(e, frame, memory),
         },
     }
-}
-
-// a function is called, and what it gives is set, if anything: the location is found after the call
-#[cycle(run)]
-#[inline(always)]
-fn call(
-    function: u32,
-    args: &Arguments,
-    target: &Option<Target>,
-    routines: &[Routine],
-    frame: &mut [u32],
-    rest: &mut [u32],
-    memory: &mut Memory,
-) -> Way
-    requires frame { length frame.old ≡ MOST_LEVELS }
-    requires rest { MOST_LEVELS * length routines.now ≤ length rest.old }
-    requires rooms { rooms memory.old ≡ all_rooms }
-    ensures done { (sends : List Sending) → HasDone
-        (goes_on (given_done (option_map plain_target target.now) (state_of frame.old memory.old sends)
-        (served_by routines.now function
-        (args_worth (map plain_sp args.now.values) (state_of frame.old memory.old sends))
-        (shown memory.old sends)))) result frame.new memory.new }
-    ensures rooms { rooms memory.new ≡ all_rooms }
-{
-    let function = function as usize;
-    let given = served(function, args, routines, frame, rest, memory);
-    let location = result_location(target, frame, memory);
-    put(location, given, frame, memory);
-    Way::On
 }
 
 // actions one after another, up to one that goes elsewhere. The hints put the functions of single actions into this
@@ -207,14 +188,20 @@ fn turn(
     }
 }
 
+// what a loop asks and does in a turn
+#[derive(Clone, Copy)]
+struct Turning<'a> {
+    condition: &'a SpExpr,
+    body: &'a [Action],
+    step: &'a Option<Assignment>,
+}
+
 // so many turns at most
 #[cycle(run)]
 #[inline(always)]
 fn turns(
     max: u32,
-    condition: &SpExpr,
-    body: &[Action],
-    next: &Option<Assignment>,
+    turning: &Turning<'_>,
     routines: &[Routine],
     frame: &mut [u32],
     rest: &mut [u32],
@@ -224,28 +211,29 @@ fn turns(
     requires rest { MOST_LEVELS * length routines.now ≤ length rest.old }
     requires rooms { rooms memory.old ≡ all_rooms }
     ensures done { (sends : List Sending) → HasDone
-        (turns_done (holds (plain_sp condition.now)) (actions_done (served_by routines.now) (actions_of body.now))
-        (step_done (option_map plain_assignment next.now)) max
+        (turns_done (holds (plain_sp turning.now.condition.now))
+        (actions_done (served_by routines.now) (actions_of turning.now.body.now))
+        (step_done (option_map plain_assignment turning.now.step.now)) max
         (state_of frame.old memory.old sends)) result frame.new memory.new }
     ensures rooms { rooms memory.new ≡ all_rooms }
 {
     for _turned in 0..max {
-        if !is_held(condition, frame, memory) {
+        if !is_held(turning.condition, frame, memory) {
             return Way::On;
         }
-        match turn(body, next, routines, frame, rest, memory) {
+        match turn(turning.body, turning.step, routines, frame, rest, memory) {
             None => {}
             Some(way) => return way,
         }
     }
-    let held = is_held(condition, frame, memory);
+    let held = is_held(turning.condition, frame, memory);
     memory.overran(held);
     Way::On
 }
 
-// what a function gives: the one of this number, if it is one of these
+/// What a function gives: the one of this number, if it is one of these.
 #[cycle(run)]
-fn served(
+pub fn called(
     function: usize,
     args: &Arguments,
     routines: &[Routine],
@@ -270,28 +258,6 @@ fn served(
     let body = routines[function].body.as_slice();
     let way = all(body, earlier, own, further, memory);
     given_by(way)
-}
-
-/// What a function gives: the one of this number, if it is one of the first so many.
-pub fn called(
-    function: usize,
-    args: &Arguments,
-    routines: &[Routine],
-    known: usize,
-    frame: &[u32],
-    rest: &mut [u32],
-    memory: &mut Memory,
-) -> u32
-    requires rest { MOST_LEVELS * known ≤ length rest.old }
-    requires rooms { rooms memory.old ≡ all_rooms }
-    ensures given { (sends : List Sending) → HasGiven
-        (serves (bodies_of routines.now) known function
-        (args_worth (map plain_sp args.now.values) (state_of frame.now memory.old sends)) (shown memory.old sends))
-        result memory.new }
-    ensures rooms { rooms memory.new ≡ all_rooms }
-{
-    let (first, _others) = routines.split_at(known.min(routines.len()));
-    served(function, args, first, frame, rest, memory)
 }
 
 // what a function gives that ends so

@@ -3,7 +3,6 @@ ghost use Rattle.std.specs.Prelude.{◌≡◌, ◌<◌, All, [], Option, Ok, tru
 ghost use Rattle.argo_grid.specs.Report as grid;
 ghost use Rattle.job_gen.specs.Generator.{generated};
 ghost use Rattle.tc_job.specs.Job.{job_of};
-ghost use Rattle.tc_job.specs.Ranges.{KeepsRanges};
 ghost use Rattle.tcrest.specs.Answer as specs;
 ghost use Rattle.tcrest.specs.Command as words;
 ghost use Rattle.tcrest.specs.declared.command.JobCommand.TheVariants as variants;
@@ -17,6 +16,7 @@ use crate::listing::listings;
 use crate::loading::loaded_of;
 use crate::meanings::meanings;
 use crate::pipe::{PipeFault, fault_answer, is_lone, pipe_with};
+use crate::ranged::RangedJob;
 use crate::refusal::{Halt, refusal_answer};
 use crate::rows::{report_text_of, rows_of, status_of};
 use crate::tasks::{CodedTask, coded_tasks};
@@ -142,7 +142,7 @@ fn job_answer<R: Threads + Wait + Sync, G: Gate + Sync>(
     ensures told { IfOk result (λ _. TellsJob command bytes.now) }
 {
     match read_job(alloc, bytes) {
-        Ok(job) => answer_by(alloc, rt, command, &job, gate),
+        Ok(job) => answer_by(alloc, rt, command, &RangedJob::of(job), gate),
         Err(JobError::Fault { kind, task, key }) => no_job(alloc, kind, task, key.as_str()),
         Err(JobError::Memory) => Err(AllocError),
     }
@@ -170,16 +170,15 @@ fn answer_by<R: Threads + Wait + Sync, G: Gate + Sync>(
     alloc: Global,
     rt: &R,
     command: JobCommand,
-    job: &Job,
+    job: &RangedJob,
     gate: &G,
 ) -> Result<Answer, OutOfMemory>
-    requires { KeepsRanges job.now }
     ensures answer { IfOk result (λ answer. answer ≡ specs.answer_by command job.now) }
     ensures below { IfOk result (λ answer. answer.status < 5) }
     ensures told { IfOk result (λ _. (coded : prelude.List (Option Coded))
         → coded_from job.now 0 job.now.cores ≡ Ok coded → TellsOf command job.now coded) }
 {
-    if !is_taken(command, job) {
+    if !is_taken(command, job.job()) {
         return fault_answer(alloc, PipeFault::OneCore);
     }
     match coded_tasks(alloc, job) {
@@ -204,11 +203,10 @@ fn answer_with<R: Threads + Wait + Sync, G: Gate + Sync>(
     alloc: Global,
     rt: &R,
     command: JobCommand,
-    job: &Job,
+    job: &RangedJob,
     coded: Vec<Option<CodedTask<'_>>>,
     gate: &G,
 ) -> Result<Answer, OutOfMemory>
-    requires ranges { KeepsRanges job.now }
     requires count { length coded.items ≡ job.now.cores }
     requires among { All (IsAmong job.now.cores) coded.items }
     requires made { AreMade job.now (all_shown coded.items) }
@@ -220,7 +218,7 @@ fn answer_with<R: Threads + Wait + Sync, G: Gate + Sync>(
         JobCommand::Run => report_of(alloc, rt, job, coded, gate),
         JobCommand::Bound => Ok(whole(bounds_text(alloc, Bounds::Plain, job, &coded)?)),
         JobCommand::Asm => Ok(whole(listings(alloc, &coded)?)),
-        JobCommand::Mean => Ok(whole(meanings(alloc, job.cycles, &coded)?)),
+        JobCommand::Mean => Ok(whole(meanings(alloc, job.job().cycles, &coded)?)),
         JobCommand::Pipe => pipe_with(alloc, job, coded),
         JobCommand::Persist => Ok(whole(bounds_text(alloc, Bounds::Persistent, job, &coded)?)),
     }
@@ -230,17 +228,17 @@ fn answer_with<R: Threads + Wait + Sync, G: Gate + Sync>(
 fn report_of<R: Threads + Wait + Sync, G: Gate + Sync>(
     alloc: Global,
     rt: &R,
-    job: &Job,
+    job: &RangedJob,
     coded: Vec<Option<CodedTask<'_>>>,
     gate: &G,
 ) -> Result<Answer, OutOfMemory>
-    requires ranges { KeepsRanges job.now }
     requires count { length coded.items ≡ job.now.cores }
     requires among { All (IsAmong job.now.cores) coded.items }
     requires made { AreMade job.now (all_shown coded.items) }
     ensures answer { IfOk result (λ answer. answer ≡ specs.report_of job.now (all_shown coded.entry.items)) }
     ensures told { IfOk result (λ _. TellsTasks job.now (all_shown coded.entry.items)) }
 {
+    job.keeps_ranges();
     machine_keeps_ranges();
     let (loaded, tasks) = loaded_of(alloc, job, coded)?;
     loaded_with_words(&loaded);
@@ -250,8 +248,7 @@ fn report_of<R: Threads + Wait + Sync, G: Gate + Sync>(
 }
 
 // the report of rows, under their status
-fn reported(alloc: Global, job: &Job, rows: Vec<Row>) -> Result<Answer, OutOfMemory>
-    requires { KeepsRanges job.now }
+fn reported(alloc: Global, job: &RangedJob, rows: Vec<Row>) -> Result<Answer, OutOfMemory>
     ensures { IfOk result (λ answer. answer ≡ specs.reported job.now rows.items) }
 {
     let status = status_of(rows.as_slice());

@@ -1,14 +1,12 @@
 ghost use Rattle.std.specs.Prelude.{◌≡◌, ◌++◌, IfOk, OnOk};
-ghost use Rattle.tc_job.specs.Ranges.{KeepsRanges};
 ghost use Rattle.tcrest.specs.Bounds as specs;
 ghost use Rattle.tcrest.specs.Coding.{bounded, shown, all_shown};
 ghost use Rattle.tcrest.specs.Tasks.{told_from};
 
-use crate::rows::period_of;
+use crate::ranged::RangedJob;
 use crate::tasks::{CodedTask, Program};
 use std::alloc::Global;
 use tc_io::put_number;
-use tc_job::Job;
 use tc_report::{put_core_name, put_platform_line};
 use tc_word::OutOfMemory;
 
@@ -25,14 +23,14 @@ pub enum Bounds {
 pub fn bounds_text(
     alloc: Global,
     bounds: Bounds,
-    job: &Job,
+    job: &RangedJob,
     coded: &[Option<CodedTask<'_>>],
 ) -> Result<Vec<u8>, OutOfMemory>
-    requires { KeepsRanges job.now }
     ensures { IfOk result (λ text. text.items ≡ specs.bounds_text bounds job.now (all_shown coded.now)) }
 {
     let mut text = Vec::new(alloc);
-    put_platform_line(&mut text, job.cores, job.slot, period_of(job))?;
+    let read = job.job();
+    put_platform_line(&mut text, read.cores, read.slot, job.period())?;
     put_bounds(&mut text, bounds, coded)?;
     Ok(text)
 }

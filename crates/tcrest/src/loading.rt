@@ -1,8 +1,6 @@
 ghost use Rattle.std.specs.Prelude.{◌≡◌, ℕ, List, Option, All, ◌<◌, ◌≤◌, length, map, IfOk, IfSome};
-ghost use Rattle.patmos_code.specs.Images.{Parts};
-ghost use Rattle.patmos_model.specs.Apart.{site_of};
 ghost use Rattle.patmos_model.specs.Begin.{begun};
-ghost use Rattle.tc_job.specs.Ranges.{KeepsRanges, IsTaskAmong};
+ghost use Rattle.tc_job.specs.Ranges.{IsTaskAmong};
 ghost use Rattle.global_step.specs.Machine.{first_core};
 ghost use Rattle.global_step.specs.Loaded.{AreOnePlatform};
 ghost use Rattle.tcrest.specs.Machine as specs;
@@ -10,21 +8,20 @@ ghost use Rattle.tcrest.specs.Coding.{runs, shown, all_shown, IsAmong};
 ghost use Rattle.tcrest.specs.Loading.{IsLoadedFor, IsPlaced};
 ghost use Rattle.tcrest.specs.Tasks.{runs_on};
 
+use crate::ranged::RangedJob;
 use crate::tasks::{CodedTask, CoreTask};
 use global_step::{Loaded, LoadedCore};
 use patmos_code::Image;
-use slot_arbiter::{LATEST_START, Place, Table};
 use std::alloc::Global;
-use tc_job::{Job, Task};
+use tc_job::Task;
 use tc_word::{List, OutOfMemory};
 
 /// The machine of a job whose tasks are made to these, one of which may stand for each core, and what each core runs.
 pub fn loaded_of(
     alloc: Global,
-    job: &Job,
+    job: &RangedJob,
     coded: Vec<Option<CodedTask<'_>>>,
 ) -> Result<(Loaded, Vec<CoreTask>), OutOfMemory>
-    requires ranges { KeepsRanges job.now }
     requires count { length coded.items ≡ job.now.cores }
     requires among { All (IsAmong job.now.cores) coded.items }
     ensures tasks { IfOk result (λ r. length r.1.items ≡ job.now.cores) }
@@ -33,6 +30,7 @@ pub fn loaded_of(
     ensures runs { IfOk result (λ r. map runs r.1.items ≡ map runs_on (all_shown coded.entry.items)) }
 {
     let (cores, tasks) = cores_of(alloc, job, coded)?;
+    let job = job.job();
     match Loaded::new(List::of(cores), job.cycles, job.trace, job.workers) {
         Some(loaded) => Ok((loaded, tasks)),
         None => unreachable!(),
@@ -42,10 +40,9 @@ pub fn loaded_of(
 // its cores, and what each runs
 fn cores_of(
     alloc: Global,
-    job: &Job,
+    job: &RangedJob,
     coded: Vec<Option<CodedTask<'_>>>,
 ) -> Result<(Vec<LoadedCore>, Vec<CoreTask>), OutOfMemory>
-    requires ranges { KeepsRanges job.now }
     requires count { length coded.items ≡ job.now.cores }
     requires among { All (IsAmong job.now.cores) coded.items }
     ensures cores { IfOk result (λ r. map first_core r.0.items
@@ -55,6 +52,7 @@ fn cores_of(
     ensures platform { IfOk result (λ r. AreOnePlatform r.0.items) }
     ensures runs { IfOk result (λ r. map runs r.1.items ≡ map runs_on (all_shown coded.entry.items)) }
 {
+    job.keeps_ranges();
     let mut cores = Vec::new(alloc);
     let mut tasks = Vec::new(alloc);
     for one in coded {
@@ -69,11 +67,10 @@ fn cores_of(
 // a core with its task, if it has one, and what it runs
 fn core_with(
     alloc: Global,
-    job: &Job,
+    job: &RangedJob,
     core: u32,
     coded: Option<CodedTask<'_>>,
 ) -> Result<(LoadedCore, CoreTask), OutOfMemory>
-    requires ranges { KeepsRanges job.now }
     requires number { core < job.now.cores }
     requires among { IsAmong job.now.cores coded }
     ensures core { IfOk result (λ r. first_core r.0 ≡ specs.core_with job.now core (shown coded.entry)) }
@@ -88,14 +85,13 @@ fn core_with(
 }
 
 // a core without a task
-fn idle_on(alloc: Global, job: &Job, core: u32) -> LoadedCore
-    requires ranges { KeepsRanges job.now }
+fn idle_on(alloc: Global, job: &RangedJob, core: u32) -> LoadedCore
     requires among { core < job.now.cores }
     ensures core { first_core result ≡ specs.idle_on job.now core }
     ensures placed { IsPlaced job.now core result }
 {
     LoadedCore {
-        place: place_of(job, core, 0),
+        place: job.place_of(core, 0),
         image: None,
         input: List::of(Vec::new(alloc)),
     }
@@ -104,12 +100,11 @@ fn idle_on(alloc: Global, job: &Job, core: u32) -> LoadedCore
 // a core with a task of this image
 fn begun_on(
     alloc: Global,
-    job: &Job,
+    job: &RangedJob,
     core: u32,
     task: &Task,
     image: Image,
 ) -> Result<LoadedCore, OutOfMemory>
-    requires ranges { KeepsRanges job.now }
     requires number { core < job.now.cores }
     requires task { IsTaskAmong job.now.cores task.now }
     ensures core { IfOk result (λ l. first_core l
@@ -118,31 +113,8 @@ fn begun_on(
 {
     let input = List::of(Vec::from_slice(alloc, task.input.as_slice())?);
     Ok(LoadedCore {
-        place: place_of(job, core, task.start),
+        place: job.place_of(core, task.start),
         image: Some(image),
         input,
     })
-}
-
-// the place of a core whose task starts at a cycle
-#[tactic(auto, using(crate::proofs::CoresFound::same_site))]
-pub fn place_of(job: &Job, core: u32, start: u64) -> Place
-    requires ranges { KeepsRanges job.now }
-    requires among { core < job.now.cores }
-    requires start { start ≤ LATEST_START }
-    ensures site { (image : Parts) → site_of result image ≡ specs.site_on job.now core start image }
-    ensures cores { result.cores ≡ job.now.cores }
-    ensures core { result.core ≡ core }
-    ensures slot { result.slot ≡ job.now.slot }
-    ensures table { result.table ≡ job.now.table }
-    ensures placed { (image : Option Parts) (input : List ℕ)
-        → IsPlaced job.now core (record { place = result; image = image; input = input }) }
-{
-    let Some(table) = Table::new(job.table.as_slice(), job.cores) else {
-        unreachable!()
-    };
-    match Place::tabled(&table, job.cores, core, job.slot, start) {
-        Some(place) => place,
-        None => unreachable!(),
-    }
 }

@@ -16,6 +16,7 @@ mod loading;
 mod meanings;
 mod output;
 mod pipe;
+mod ranged;
 mod refusal;
 mod rows;
 mod tasks;

@@ -4,7 +4,6 @@ ghost use Rattle.patmos_model.specs.Begin.{begun};
 ghost use Rattle.patmos_model.specs.State.{Core};
 ghost use Rattle.pipe_five.specs.Pipe.{StandsFor, IsThrough, limit_of};
 ghost use Rattle.pipe_five.specs.Steps.{done_below};
-ghost use Rattle.tc_job.specs.Ranges.{KeepsRanges};
 ghost use Rattle.tcrest.specs.Answer as answers;
 ghost use Rattle.tc_report.specs.Report.{state_line};
 ghost use Rattle.tcrest.specs.Coding.{runs, shown, all_shown, IsAmong};
@@ -12,8 +11,8 @@ ghost use Rattle.tcrest.specs.Pipe as specs;
 ghost use Rattle.tcrest.specs.Rows as rows_specs;
 
 use crate::answers::Answer;
-use crate::loading::place_of;
-use crate::rows::{all_running, is_flagged, period_of, row_state, status_of};
+use crate::ranged::RangedJob;
+use crate::rows::{all_running, is_flagged, row_state, status_of};
 use crate::tasks::{CodedTask, CoreTask};
 use c_mentions::is_alone;
 use patmos_code::Image;
@@ -75,10 +74,9 @@ pub fn fault_answer(alloc: Global, fault: PipeFault) -> Result<Answer, OutOfMemo
 /// The answer about the five stages of the only core of a job, whose task is made, if it has one.
 pub fn pipe_with(
     alloc: Global,
-    job: &Job,
+    job: &RangedJob,
     coded: Vec<Option<CodedTask<'_>>>,
 ) -> Result<Answer, OutOfMemory>
-    requires ranges { KeepsRanges job.now }
     requires lone { job.now.cores ≡ 1 }
     requires count { length coded.items ≡ 1 }
     requires among { All (IsAmong job.now.cores) coded.items }
@@ -91,10 +89,9 @@ pub fn pipe_with(
 // the answer to a job whose only core has this task, if it has one
 fn core_answer(
     alloc: Global,
-    job: &Job,
+    job: &RangedJob,
     coded: Option<CodedTask<'_>>,
 ) -> Result<Answer, OutOfMemory>
-    requires ranges { KeepsRanges job.now }
     requires lone { job.now.cores ≡ 1 }
     requires among { IsAmong job.now.cores coded }
     ensures { IfOk result (λ answer. answer ≡ answers.pipe_with job.now (shown coded.entry ∷ [])) }
@@ -102,7 +99,7 @@ fn core_answer(
     let Some(CodedTask { task, made }) = coded else {
         return fault_answer(alloc, PipeFault::OneCore);
     };
-    let place = place_of(job, 0, task.start);
+    let place = job.place_of(0, task.start);
     let runs = CoreTask::of(made.program);
     stages_answer(alloc, job, place, &made.image, task.input.as_slice(), &runs)
 }
@@ -110,21 +107,21 @@ fn core_answer(
 // the answer about a task that begins so, and what its core runs
 fn stages_answer(
     alloc: Global,
-    job: &Job,
+    job: &RangedJob,
     place: Place,
     image: &Image,
     input: &[u32],
     task: &CoreTask,
 ) -> Result<Answer, OutOfMemory>
-    requires ranges { KeepsRanges job.now }
     requires alone { place.cores ≡ 1 }
     ensures { IfOk result (λ answer. answer
         ≡ specs.pipe_of job.now (runs task.now) (begun (site_of place image.now) input.now)) }
 {
+    let read = job.job();
     let mut core = PipeCore::new(alloc, place, image, input)?;
     let mut text = Vec::new(alloc);
-    put_platform_line(&mut text, job.cores, job.slot, period_of(job))?;
-    put_steps(&mut text, &mut core, job.cycles, job.trace)?;
+    put_platform_line(&mut text, read.cores, read.slot, job.period())?;
+    put_steps(&mut text, &mut core, read.cycles, read.trace)?;
     let row = end_row(alloc, task, core.state())?;
     ended(alloc, text, row)
 }

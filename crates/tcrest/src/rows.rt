@@ -1,8 +1,6 @@
 ghost use Rattle.std.specs.Prelude.{◌≡◌, ℕ, ◌+◌, ◌^◌, ◌<◌, ◌≤◌, length, map, IfOk, Some};
 ghost use Rattle.std.specs.List.{list_any};
-ghost use Rattle.slot_arbiter.specs.Slot.{period};
 ghost use Rattle.tc_report.specs.Report.{report_text};
-ghost use Rattle.tc_job.specs.Ranges.{KeepsRanges};
 ghost use Rattle.global_step.specs.Loaded.{Machine};
 ghost use Rattle.global_step.specs.Machine as machine;
 ghost use Rattle.global_step.specs.Machine.{at_limit};
@@ -14,12 +12,12 @@ ghost use Rattle.tcrest.specs.Meanings.{output_slot};
 ghost use Rattle.tcrest.specs.Rows as specs;
 
 use crate::output::{Output, output_in};
+use crate::ranged::RangedJob;
 use crate::tasks::{CoreTask, Program};
 use c_mentions as mentions;
 use c_mentions::is_alone;
 use patmos_core::{Core, CoreState};
 use std::alloc::Global;
-use tc_job::Job;
 use tc_report::{Row, RowState, Rows, report};
 use tc_run::{accesses_of, dropped_of, outcome_of};
 use tc_word::{List, OutOfMemory};
@@ -177,24 +175,19 @@ fn is_early(state: RowState) -> bool
 }
 
 /// The text of the report of the rows of all cores.
-pub fn report_text_of(alloc: Global, job: &Job, rows: Vec<Row>) -> Result<Vec<u8>, OutOfMemory>
-    requires { KeepsRanges job.now }
+pub fn report_text_of(
+    alloc: Global,
+    job: &RangedJob,
+    rows: Vec<Row>,
+) -> Result<Vec<u8>, OutOfMemory>
     ensures { IfOk result (λ text. text.items ≡ report_text (specs.report_rows job.now rows.items)) }
 {
+    let read = job.job();
     let rows = Rows {
-        cores: job.cores,
-        slot: job.slot,
-        period: period_of(job),
+        cores: read.cores,
+        slot: read.slot,
+        period: job.period(),
         rows: List::of(rows),
     };
     report(alloc, &rows)
-}
-
-/// How many cycles the period of a job's slot table has.
-#[tactic(auto, using(crate::proofs::Periods::few_entries))]
-pub fn period_of(job: &Job) -> u32
-    requires { KeepsRanges job.now }
-    ensures { result ≡ period job.now.table job.now.slot }
-{
-    job.table.as_slice().len() as u32 * job.slot
 }

@@ -2,13 +2,13 @@ ghost use Rattle.std.specs.Prelude.{◌≡◌, All, None, IfOk, IfSome, length, 
 ghost use Rattle.std.specs.List.{AllByRecursion as Each};
 ghost use Rattle.patmos_model.specs.Range.{IsWord};
 ghost use Rattle.patmos_asm.specs.Assembly.{code_of};
-ghost use Rattle.tc_job.specs.Ranges.{KeepsRanges, IsTaskAmong};
+ghost use Rattle.tc_job.specs.Ranges.{IsTaskAmong};
 ghost use Rattle.tcrest.specs.Tasks as specs;
 ghost use Rattle.tcrest.specs.Coding.{bounded, made_of, runs, shown, all_shown, IsAmong};
 ghost use Rattle.tcrest.specs.Gives.{Gives};
 ghost use Rattle.tcrest.specs.Telling.{IsCompiled, IsMadeOn, AreMade};
 
-use crate::loading::place_of;
+use crate::ranged::RangedJob;
 use crate::refusal::{CoreRefusal, Halt, Refusal};
 use c_compile::compile;
 use c_tree::Checked;
@@ -63,17 +63,17 @@ impl CoreTask {
 /// ends.
 pub fn coded_tasks(
     alloc: Global,
-    job: &Job,
+    job: &RangedJob,
 ) -> Result<Vec<Option<CodedTask<'_>>>, Halt<CoreRefusal>>
-    requires { KeepsRanges job.now }
     ensures coded { Gives (λ coded. all_shown coded.items) result (specs.coded_from job.now 0 job.now.cores) }
     ensures count { IfOk result (λ coded. length coded.items ≡ job.now.cores) }
     ensures among { IfOk result (λ coded. All (IsAmong job.now.cores) coded.items) }
     ensures made { IfOk result (λ coded. AreMade job.now (all_shown coded.items)) }
 {
+    let read = job.job();
     let mut coded = Vec::new(alloc);
-    for core in 0..job.cores {
-        let one = match coded_on(alloc, job, core, task_on(job.tasks.as_slice(), core)) {
+    for core in 0..read.cores {
+        let one = match coded_on(alloc, job, core, task_on(read, core)) {
             Ok(one) => one,
             Err(halt) => return Err(halt),
         };
@@ -85,20 +85,20 @@ pub fn coded_tasks(
 }
 
 /// The task of a core, if it has one.
-fn task_on(tasks: &[Task], core: u32) -> Option<&Task>
-    ensures { option_map (λ t. t.now) result ≡ specs.task_on tasks.now core }
+fn task_on(job: &Job, core: u32) -> Option<&Task>
+    ensures { option_map (λ t. t.now) result ≡ specs.task_on job.now.tasks core }
 {
+    let tasks = job.tasks.as_slice();
     tasks.iter().find(|task| task.core == core)
 }
 
 // a core's task, made, if it has one
 fn coded_on<'a>(
     alloc: Global,
-    job: &Job,
+    job: &RangedJob,
     core: u32,
     task: Option<&'a Task>,
 ) -> Result<Option<CodedTask<'a>>, Halt<CoreRefusal>>
-    requires ranges { KeepsRanges job.now }
     requires among { IfSome (option_map (λ t. t.now) task) (IsTaskAmong job.now.cores) }
     requires core { IfSome (option_map (λ t. t.now) task) (λ t. t.core ≡ core) }
     ensures coded { Gives shown result (specs.coded_on job.now core (option_map (λ t. t.now) task.entry)) }
@@ -122,8 +122,7 @@ fn words_fit(words: &[u32])
 {}
 
 // what a task is made to
-fn made_by(alloc: Global, job: &Job, task: &Task) -> Result<MadeTask, Halt<Refusal>>
-    requires ranges { KeepsRanges job.now }
+fn made_by(alloc: Global, job: &RangedJob, task: &Task) -> Result<MadeTask, Halt<Refusal>>
     requires among { IsTaskAmong job.now.cores task.now }
     ensures made { Gives made_of result (specs.made_by job.now task.now) }
     ensures compiled { IfOk result (λ m. IfSome (made_of m).program (IsCompiled job.now task.now.core m.image)) }
@@ -161,13 +160,12 @@ fn of_code(code: Code) -> MadeTask
 }
 
 // a C task
-fn compiled(alloc: Global, job: &Job, task: &Task) -> Result<MadeTask, Halt<Refusal>>
-    requires ranges { KeepsRanges job.now }
+fn compiled(alloc: Global, job: &RangedJob, task: &Task) -> Result<MadeTask, Halt<Refusal>>
     requires among { IsTaskAmong job.now.cores task.now }
     ensures made { Gives made_of result (specs.compiled job.now task.now.core task.now.source) }
     ensures compiled { IfOk result (λ m. IfSome (made_of m).program (IsCompiled job.now task.now.core m.image)) }
 {
-    let place = place_of(job, task.core, task.start);
+    let place = job.place_of(task.core, task.start);
     let compiled = compile(alloc, task.source.as_str(), &place)?;
     Ok(MadeTask {
         image: compiled.image,

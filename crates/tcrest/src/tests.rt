@@ -1,5 +1,7 @@
 use crate::top::tcrest;
 use std::alloc::Global;
+use std::fmt::Debug;
+use std::process::Abort;
 use std::sync::Wait;
 use std::test::Fail;
 use std::thread::Threads;
@@ -96,6 +98,26 @@ pub fn answer_under<R: Threads + Wait + Sync, G: Gate + Sync>(
     Ok((status, sink))
 }
 
+/// Ends the test, and shows both, where they are not the same. A comparison that stands in the test itself takes several
+/// times as long to prove.
+pub fn expect_same<T: PartialEq + Debug + Drop>(rt: &impl Abort, got: T, want: T) {
+    assert_eq!(rt; got, want);
+}
+
+/// Compares the status and the bytes written of these words with what is wanted.
+fn expect_answer<R: Threads + Wait + Sync + Abort>(
+    rt: &R,
+    alloc: Global,
+    given: &[&str],
+    input: &[u8],
+    status: u8,
+    text: &[u8],
+) -> Result<(), Fail> {
+    let (told, sink) = answer_to(rt, alloc, given, input)?;
+    expect_same(rt, (told, sink.kept()), (status, text));
+    Ok(())
+}
+
 /// The status and the bytes written of `run`, over an input that fails at one call and an output that
 /// takes `most` bytes a call and fails at one.
 fn run_failing<R: Threads + Wait + Sync>(
@@ -136,9 +158,7 @@ fn inputs_are_answered(rt: HostRuntime) -> Result<(), Fail> {
         ("mean", JOB, b""),
         ("mean", PROGRAMS, MEANINGS),
     ] {
-        let (status, sink) = answer_to(&rt, rt.alloc(), &[word], input)?;
-        assert_eq!(rt; status, 0);
-        assert_eq!(rt; sink.kept(), text);
+        expect_answer(&rt, rt.alloc(), &[word], input, 0, text)?;
     }
     Ok(())
 }
@@ -150,9 +170,7 @@ fn programs_are_refused_alike(rt: HostRuntime) -> Result<(), Fail> {
         (WIDE, b"core 0: Wide at 20\n"),
     ] {
         for word in ["run", "bound", "asm", "mean", "pipe", "persist"] {
-            let (status, sink) = answer_to(&rt, rt.alloc(), &[word], input)?;
-            assert_eq!(rt; status, 4);
-            assert_eq!(rt; sink.kept(), text);
+            expect_answer(&rt, rt.alloc(), &[word], input, 4, text)?;
         }
     }
     Ok(())
@@ -163,15 +181,12 @@ fn generated_jobs_are_run(rt: HostRuntime) -> Result<(), Fail> {
     for number in ["0", "4294967295"] {
         let (made, text) = answer_to(&rt, rt.alloc(), &["gen", number], b"")?;
         let (ran, report) = answer_to(&rt, rt.alloc(), &["run"], text.kept())?;
-        let (benched, same) = answer_to(&rt, rt.alloc(), &["bench", number], b"")?;
-        assert_eq!(rt; (made, ran, benched), (0, 0, 0));
-        assert_eq!(rt; same.kept(), report.kept());
+        expect_same(&rt, (made, ran), (0, 0));
+        expect_answer(&rt, rt.alloc(), &["bench", number], b"", 0, report.kept())?;
     }
     for number in ["", "-1", "+1", "1 ", "0x1", "00000000001", "4294967296"] {
         for word in ["gen", "bench"] {
-            let (status, sink) = answer_to(&rt, rt.alloc(), &[word, number], b"")?;
-            assert_eq!(rt; status, 1);
-            assert_eq!(rt; sink.kept(), USAGE);
+            expect_answer(&rt, rt.alloc(), &[word, number], b"", 1, USAGE)?;
         }
     }
     Ok(())
@@ -179,14 +194,12 @@ fn generated_jobs_are_run(rt: HostRuntime) -> Result<(), Fail> {
 
 #[test]
 fn stages_are_told_of_a_core_alone(rt: HostRuntime) -> Result<(), Fail> {
-    for (input, wanted, text) in [
+    for (input, status, text) in [
         (STAGES_JOB, 0, STAGES),
         (STOPPED_JOB, 3, STOPPED_STAGES),
         (SHARING, 2, b"job: OneCore\n"),
     ] {
-        let (status, sink) = answer_to(&rt, rt.alloc(), &["pipe"], input)?;
-        assert_eq!(rt; status, wanted);
-        assert_eq!(rt; sink.kept(), text);
+        expect_answer(&rt, rt.alloc(), &["pipe"], input, status, text)?;
     }
     Ok(())
 }
@@ -196,57 +209,48 @@ fn other_words_are_answered_with_usage(rt: HostRuntime) -> Result<(), Fail> {
     for word in [
         "gen", "bench", "bounds", "persists", "means", "run x", "Run", "--help",
     ] {
-        let (status, sink) = answer_to(&rt, rt.alloc(), &[word], JOB)?;
-        assert_eq!(rt; status, 1);
-        assert_eq!(rt; sink.kept(), USAGE);
+        expect_answer(&rt, rt.alloc(), &[word], JOB, 1, USAGE)?;
     }
-    let (two, _) = answer_to(&rt, rt.alloc(), &["run", "x"], JOB)?;
-    let (none, _) = answer_to(&rt, rt.alloc(), &[], JOB)?;
-    let (three, sink) = answer_to(&rt, rt.alloc(), &["gen", "1", "1"], JOB)?;
-    assert_eq!(rt; (two, none, three), (1, 1, 1));
-    assert_eq!(rt; sink.kept(), USAGE);
-    Ok(())
+    expect_answer(&rt, rt.alloc(), &["run", "x"], JOB, 1, USAGE)?;
+    expect_answer(&rt, rt.alloc(), &[], JOB, 1, USAGE)?;
+    expect_answer(&rt, rt.alloc(), &["gen", "1", "1"], JOB, 1, USAGE)
 }
 
 #[test]
 fn a_job_text_has_a_limit(rt: HostRuntime) -> Result<(), Fail> {
-    let spaces = vec![in rt.alloc(); b' '; 1_048_577]?;
-    let (status, sink) = answer_to(&rt, rt.alloc(), &["run"], spaces.as_slice())?;
-    assert_eq!(rt; status, 2);
-    assert_eq!(rt; sink.kept(), b"job: TooLong\n".as_slice());
-    let spaces = vec![in rt.alloc(); b' '; 1_048_576]?;
-    let (status, sink) = answer_to(&rt, rt.alloc(), &["run"], spaces.as_slice())?;
-    assert_eq!(rt; status, 2);
-    assert_eq!(rt; sink.kept(), b"job: Missing version\n".as_slice());
+    for (length, text) in [
+        (1_048_577, b"job: TooLong\n".as_slice()),
+        (1_048_576, b"job: Missing version\n"),
+    ] {
+        let spaces = vec![in rt.alloc(); b' '; length]?;
+        expect_answer(&rt, rt.alloc(), &["run"], spaces.as_slice(), 2, text)?;
+    }
     Ok(())
 }
 
 #[test]
 fn a_read_that_fails_is_answered(rt: HostRuntime) -> Result<(), Fail> {
-    for call in [0, 1] {
-        let (status, sink) = run_failing(&rt, rt.alloc(), call, 200, NEVER)?;
-        assert_eq!(rt; status, 5);
-        assert_eq!(rt; sink.kept(), b"read fault\n".as_slice());
+    for (read, most, write, status, text) in [
+        (0, 200, NEVER, 5, b"read fault\n".as_slice()),
+        (1, 200, NEVER, 5, b"read fault\n"),
+        (0, 4, 1, 6, b"read"),
+    ] {
+        let (told, sink) = run_failing(&rt, rt.alloc(), read, most, write)?;
+        expect_same(&rt, (told, sink.kept()), (status, text));
     }
-    let (status, sink) = run_failing(&rt, rt.alloc(), 0, 4, 1)?;
-    assert_eq!(rt; status, 6);
-    assert_eq!(rt; sink.kept(), b"read".as_slice());
     Ok(())
 }
 
 #[test]
 fn a_write_that_fails_leaves_a_prefix(rt: HostRuntime) -> Result<(), Fail> {
     let (status, sink) = run_failing(&rt, rt.alloc(), NEVER, 10, 1)?;
-    assert_eq!(rt; status, 6);
-    assert_eq!(rt; sink.kept(), b"platform c".as_slice());
+    expect_same(&rt, (status, sink.kept()), (6, b"platform c".as_slice()));
     for call in 0..103u32 {
         let (status, sink) = run_failing(&rt, rt.alloc(), NEVER, 1, call)?;
-        assert_eq!(rt; status, 6);
         let (prefix, _) = REPORT.split_at((call as usize).min(REPORT.len()));
-        assert_eq!(rt; sink.kept(), prefix);
+        expect_same(&rt, (status, sink.kept()), (6, prefix));
     }
     let (status, sink) = run_failing(&rt, rt.alloc(), NEVER, 1, 103)?;
-    assert_eq!(rt; status, 0);
-    assert_eq!(rt; sink.kept(), REPORT);
+    expect_same(&rt, (status, sink.kept()), (0, REPORT));
     Ok(())
 }

@@ -2,7 +2,7 @@ use crate::test_jobs::{
     LATE_LOADS, SENDING_REPORT, STORE, STORE_BYTE, STORE_BYTE_AND_LOAD, THREE, TWO, TWO_LOADS,
     job_of, late_load_job, late_load_report, sending_job,
 };
-use crate::tests::{SHARING, SHARING_REPORT, answer_under};
+use crate::tests::{SHARING, SHARING_REPORT, answer_under, expect_same};
 use std::alloc::Global;
 use std::sync::Wait;
 use std::sync::atomic::{AtomicBool, AtomicU32, Ordering};
@@ -195,10 +195,12 @@ const SPACED_REPORT: &[u8] =
 fn two_workers_meet(rt: HostRuntime) -> Result<(), Fail> {
     let meeting = Meeting::new(TURNS);
     let (status, sink) = run_under(&rt, rt.alloc(), SHARING, &meeting)?;
-    assert_eq!(rt; status, 0);
-    assert_eq!(rt; sink.kept(), SHARING_REPORT);
-    assert!(rt; !meeting.is_missed());
-    assert_eq!(rt; meeting.calls_of(), (1, 2));
+    expect_same(&rt, (status, sink.kept()), (0, SHARING_REPORT));
+    expect_same(
+        &rt,
+        (meeting.is_missed(), meeting.calls_of()),
+        (false, (1, 2)),
+    );
     Ok(())
 }
 
@@ -207,17 +209,19 @@ fn one_worker_does_not_meet(rt: HostRuntime) -> Result<(), Fail> {
     let meeting = Meeting::new(TURNS);
     let job = with_workers(rt.alloc(), 1, SHARING)?;
     let (status, sink) = run_under(&rt, rt.alloc(), job.as_slice(), &meeting)?;
-    assert_eq!(rt; status, 0);
-    assert_eq!(rt; sink.kept(), SHARING_REPORT);
-    assert!(rt; meeting.is_missed());
-    assert_eq!(rt; meeting.calls_of(), (1, 2));
+    expect_same(&rt, (status, sink.kept()), (0, SHARING_REPORT));
+    expect_same(
+        &rt,
+        (meeting.is_missed(), meeting.calls_of()),
+        (true, (1, 2)),
+    );
     Ok(())
 }
 
 #[test]
 fn shared_words_are_the_same_in_1000(rt: HostRuntime) -> Result<(), Fail> {
     let other = first_other_run(&rt, rt.alloc(), SHARING, &FreeGate, SHARING_REPORT)?;
-    assert_eq!(rt; other, None);
+    expect_same(&rt, other, None);
     Ok(())
 }
 
@@ -225,7 +229,7 @@ fn shared_words_are_the_same_in_1000(rt: HostRuntime) -> Result<(), Fail> {
 fn shared_words_are_the_same_in_1000_with_core_1_held(rt: HostRuntime) -> Result<(), Fail> {
     let gate = Delay::new(1, DELAY);
     let other = first_other_run(&rt, rt.alloc(), SHARING, &gate, SHARING_REPORT)?;
-    assert_eq!(rt; other, None);
+    expect_same(&rt, other, None);
     Ok(())
 }
 
@@ -233,7 +237,7 @@ fn shared_words_are_the_same_in_1000_with_core_1_held(rt: HostRuntime) -> Result
 fn shared_bytes_are_the_same_in_1000(rt: HostRuntime) -> Result<(), Fail> {
     let job = bytes_job(rt.alloc())?;
     let other = first_other_run(&rt, rt.alloc(), job.as_bytes(), &FreeGate, BYTES_REPORT)?;
-    assert_eq!(rt; other, None);
+    expect_same(&rt, other, None);
     Ok(())
 }
 
@@ -242,7 +246,7 @@ fn shared_bytes_are_the_same_in_1000_with_core_1_held(rt: HostRuntime) -> Result
     let job = bytes_job(rt.alloc())?;
     let gate = Delay::new(1, DELAY);
     let other = first_other_run(&rt, rt.alloc(), job.as_bytes(), &gate, BYTES_REPORT)?;
-    assert_eq!(rt; other, None);
+    expect_same(&rt, other, None);
     Ok(())
 }
 
@@ -250,7 +254,7 @@ fn shared_bytes_are_the_same_in_1000_with_core_1_held(rt: HostRuntime) -> Result
 fn a_late_load_is_the_same_with_core_0_held(rt: HostRuntime) -> Result<(), Fail> {
     let gate = Delay::new(0, DELAY);
     let other = first_other_start(&rt, rt.alloc(), &gate)?;
-    assert_eq!(rt; other, None);
+    expect_same(&rt, other, None);
     Ok(())
 }
 
@@ -258,7 +262,7 @@ fn a_late_load_is_the_same_with_core_0_held(rt: HostRuntime) -> Result<(), Fail>
 fn a_late_load_is_the_same_with_core_1_held(rt: HostRuntime) -> Result<(), Fail> {
     let gate = Delay::new(1, DELAY);
     let other = first_other_start(&rt, rt.alloc(), &gate)?;
-    assert_eq!(rt; other, None);
+    expect_same(&rt, other, None);
     Ok(())
 }
 
@@ -275,10 +279,9 @@ fn workers_make_no_difference(rt: HostRuntime) -> Result<(), Fail> {
         (spaced.as_bytes(), [1, 2, 3].as_slice(), SPACED_REPORT),
     ] {
         let (status, sink) = run_under(&rt, alloc, job, &FreeGate)?;
-        assert_eq!(rt; status, 0);
-        assert_eq!(rt; sink.kept(), report);
+        expect_same(&rt, (status, sink.kept()), (0, report));
         let other = first_other_crew(&rt, alloc, crews, job, report)?;
-        assert_eq!(rt; other, None);
+        expect_same(&rt, other, None);
     }
     Ok(())
 }
@@ -291,7 +294,7 @@ fn workers_make_no_difference_to_a_late_load(rt: HostRuntime) -> Result<(), Fail
         let report = late_load_report(alloc, value)?;
         let crews = [1, 2].as_slice();
         let other = first_other_crew(&rt, alloc, crews, job.as_bytes(), report.as_bytes())?;
-        assert_eq!(rt; other, None);
+        expect_same(&rt, other, None);
     }
     Ok(())
 }
@@ -300,7 +303,10 @@ fn workers_make_no_difference_to_a_late_load(rt: HostRuntime) -> Result<(), Fail
 fn a_job_has_at_most_a_worker_a_core(rt: HostRuntime) -> Result<(), Fail> {
     let job = with_workers(rt.alloc(), 3, SHARING)?;
     let (status, sink) = run_under(&rt, rt.alloc(), job.as_slice(), &FreeGate)?;
-    assert_eq!(rt; status, 2);
-    assert_eq!(rt; sink.kept(), b"job: Range workers\n".as_slice());
+    expect_same(
+        &rt,
+        (status, sink.kept()),
+        (2, b"job: Range workers\n".as_slice()),
+    );
     Ok(())
 }

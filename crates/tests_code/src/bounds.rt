@@ -6,6 +6,7 @@ ghost use Rattle.sp_shape.specs.Formed.{is_formed, part_formed, function_formed}
 ghost use Rattle.sp_shape.specs.Shown.{parts_of, plain_part, plain_shape};
 ghost use Rattle.sp_shape.specs.Small as small;
 
+use crate::expect::expect_same;
 use crate::making::{again, idle, leave, turns};
 use bound_persist::persist_bound_uncounted;
 use cycle_bound::{Long, bound_uncounted};
@@ -89,16 +90,25 @@ fn shape_of(
     })
 }
 
+// a shape of those two, of which the second has one bundle
+fn long_and_short(alloc: Global, entry: u32) -> Result<Shape, AllocError>
+    requires entry { entry < 2 }
+    ensures { IfOk result (λ s. is_formed (plain_shape s) ≡ true) }
+{
+    let long = five_loops(alloc)?;
+    let short = one_bundle(alloc)?;
+    shape_of(alloc, long, short, entry)
+}
+
 // Of the function that is run, 1 + 5 words are 2 transactions of 29 cycles, and 5 bundles are run. The other is never
 // called, and its bound of more than 10^30 cycles counts only where it is the one that is run.
 #[test]
 fn only_what_is_run_counts(rt: HostRuntime) -> Result<(), Fail> {
     let place = Place::new(4, 2, 6, 0).expect(&rt, "a place");
     for (entry, want) in [(0, Err(Long)), (1, Ok(63))] {
-        let long = five_loops(rt.alloc())?;
-        let short = one_bundle(rt.alloc())?;
-        let shape = shape_of(rt.alloc(), long, short, entry)?;
-        assert_eq!(rt; bound_uncounted(&shape, &place), want, "entry {entry}");
+        let shape = long_and_short(rt.alloc(), entry)?;
+        let bound = bound_uncounted(&shape, &place);
+        expect_same(&rt, (entry, bound), (entry, want));
     }
     Ok(())
 }
@@ -127,7 +137,7 @@ fn calling(alloc: Global) -> Result<Shape, AllocError>
 fn each_function_is_fetched_once(rt: HostRuntime) -> Result<(), Fail> {
     let place = Place::new(4, 2, 6, 0).expect(&rt, "a place");
     let shape = calling(rt.alloc())?;
-    assert_eq!(rt; persist_bound_uncounted(&shape, &place), Ok(182));
-    assert_eq!(rt; bound_uncounted(&shape, &place), Ok(559));
+    expect_same(&rt, persist_bound_uncounted(&shape, &place), Ok(182));
+    expect_same(&rt, bound_uncounted(&shape, &place), Ok(559));
     Ok(())
 }

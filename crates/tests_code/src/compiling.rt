@@ -1,5 +1,6 @@
 //! That the image of a task's tree is made where memory is there, which no clause can say.
 
+use crate::expect::expect_same;
 use crate::making::nine;
 use c_compile::code_of;
 use std::test::Fail;
@@ -36,7 +37,7 @@ fn words_are_the_assemblers(rt: HostRuntime) -> Result<(), Fail> {
         0,
         0,
     ];
-    assert_eq!(rt; code.image.words(), want.as_slice());
-    assert_eq!(rt; code.image.starts(), [1].as_slice());
+    expect_same(&rt, code.image.words(), &want);
+    expect_same(&rt, code.image.starts(), &[1]);
     Ok(())
 }

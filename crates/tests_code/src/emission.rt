@@ -1,5 +1,6 @@
 //! That code is made where memory is there, which no clause can say.
 
+use crate::expect::expect_same;
 use crate::making::{alone, nine};
 use patmos_instr::{AluFunc, Bundle, Imm7, Mem, Op, Reg, StoreWidth};
 use sp_emit::emit;
@@ -23,9 +24,9 @@ fn a_constant_is_stored(rt: HostRuntime) -> Result<(), Fail> {
     let unit = nine(rt.alloc())?;
     let shape = emit(rt.alloc(), &unit)?;
     let functions = shape.functions.as_slice();
-    assert_eq!(rt; functions.len(), 1);
+    expect_same(&rt, functions.len(), 1);
     let parts = functions.first().expect(&rt, "a function").as_slice();
-    assert_eq!(rt; parts.len(), 5);
+    expect_same(&rt, parts.len(), 5);
     let nine = alone(Op::AluLong {
         func: AluFunc::Add,
         rd: Reg::low(3),
@@ -39,7 +40,7 @@ fn a_constant_is_stored(rt: HostRuntime) -> Result<(), Fail> {
         rs: Reg::low(3),
         imm: Imm7::low(1),
     });
-    assert_eq!(rt; only(parts.get(1)), Some(nine));
-    assert_eq!(rt; only(parts.get(2)), Some(store));
+    expect_same(&rt, only(parts.get(1)), Some(nine));
+    expect_same(&rt, only(parts.get(2)), Some(store));
     Ok(())
 }

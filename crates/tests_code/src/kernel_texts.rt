@@ -6,7 +6,7 @@
 pub struct Kernel {
     pub text: &'static str,
     pub straight: u64,
-    pub runs: [Run; 3],
+    pub runs: &'static [Run],
 }
 
 /// An input and what it comes to. Words are told in decimal, with blanks between them.
@@ -16,7 +16,7 @@ pub struct Run {
     pub out: &'static str,
 }
 
-pub const KERNELS: [Kernel; 8] = [
+pub static KERNELS: [Kernel; 8] = [
     Kernel {
         text: r#"/* Binary search in a table of 64 squares; one answer for each key. */
 int in[8];
@@ -49,7 +49,7 @@ int main()
     return hits;
 }"#,
         straight: 52_501,
-        runs: [
+        runs: &[
             Run {
                 input: "",
                 value: 8,
@@ -99,7 +99,7 @@ int main()
     return out[0] ^ out[1];
 }"#,
         straight: 9_940,
-        runs: [
+        runs: &[
             Run {
                 input: "",
                 value: -65536,
@@ -158,7 +158,7 @@ int main()
     return out[1] == 0xCBF43926u;
 }"#,
         straight: 179_091,
-        runs: [
+        runs: &[
             Run {
                 input: "15 586154822 3349669638 1459014648 1365188252 627051118 1112989276 568527393 \
                     4290741827 2127220007 2164754614 2042656250 3875529725 2361789308 734703505 \
@@ -210,7 +210,7 @@ int main()
     return peak;
 }"#,
         straight: 140_480,
-        runs: [
+        runs: &[
             Run {
                 input: "",
                 value: 0,
@@ -278,7 +278,7 @@ int main()
     return state;
 }"#,
         straight: 21_043,
-        runs: [
+        runs: &[
             Run {
                 input: "",
                 value: 0,
@@ -322,7 +322,7 @@ int main()
     return moves;
 }"#,
         straight: 58_207,
-        runs: [
+        runs: &[
             Run {
                 input: "-3469 -19359 -24297 -12038 -28182 20761 18278 -29167 -25994 19160 13518 19538 -9896 \
                     -15645 -28685 481 9777 -31963 7256 30940",
@@ -387,7 +387,7 @@ int main()
     return s * 10 + same;
 }"#,
         straight: 296_397,
-        runs: [
+        runs: &[
             Run {
                 input: "",
                 value: 8,
@@ -434,7 +434,7 @@ int main()
     return changes;
 }"#,
         straight: 69_369,
-        runs: [
+        runs: &[
             Run {
                 input: "",
                 value: 0,

@@ -1,7 +1,8 @@
 //! Kernels in C as cores run their compiled tasks: what gcc gives for the same texts and inputs, at times that no input
 //! changes, within the bound; and texts that are refused.
 
-use crate::kernel_texts::{KERNELS, Kernel};
+use crate::expect::expect_same;
+use crate::kernel_texts::{KERNELS, Kernel, Run};
 use c_check::CheckError;
 use c_compile::{CompileFault, Compiled, compile};
 use c_lex::LexFault;
@@ -30,17 +31,18 @@ fn words(alloc: Global, text: &str) -> Result<Vec<u32>, Fail> {
     Ok(words)
 }
 
-/// A core that has run a task, and what its last step gave.
+/// A core that has run a task to its end.
 fn run(
+    rt: &impl Abort,
     alloc: Global,
     compiled: &Compiled,
     place: &Place,
     input: &str,
-) -> Result<(Core, Next), Fail> {
+) -> Result<Core, Fail> {
     let input = words(alloc, input)?;
     let mut core = Core::new(alloc, *place, &compiled.image, input.as_slice(), ROOM)?;
-    let last = core.next(MOST_CYCLES);
-    Ok((core, last))
+    expect_same(rt, core.next(MOST_CYCLES), Next::Ended);
+    Ok(core)
 }
 
 /// The words of the array `out` in private memory, as a core has them.
@@ -60,41 +62,89 @@ fn out_of(alloc: Global, program: &Checked, core: &Core) -> Result<Vec<u32>, Fai
     Ok(out)
 }
 
-/// Runs a kernel's task apart on each input, and compares. Its times are those without an input.
-fn compare(rt: &impl Abort, alloc: Global, place: &Place, kernel: &Kernel) -> Result<(), Fail> {
-    let compiled = compile(alloc, kernel.text, place)?;
-    assert!(rt; compiled.bound < kernel.straight);
-    let (without, _) = run(alloc, &compiled, place, "")?;
-    for told in &kernel.runs {
-        let (core, last) = run(alloc, &compiled, place, told.input)?;
-        assert_eq!(rt; last, Next::Ended);
-        let CoreState::Done {
+/// The value, the flag and the cycles with which a core's task has ended.
+fn end_of(core: &Core) -> Option<(u32, u32, u64)> {
+    match core.state() {
+        CoreState::Done {
             value,
             flag,
             cycles,
-        } = core.state()
-        else {
-            panic!(rt; "not at its end");
-        };
-        assert_eq!(rt; (value, flag), (told.value.cast_unsigned(), 0));
-        let out = out_of(alloc, &compiled.program, &core)?;
-        let wanted = words(alloc, told.out)?;
-        assert_eq!(rt; out.as_slice(), wanted.as_slice());
-        assert!(rt; cycles <= compiled.bound);
-        assert!(rt;
-            matches!(without.state(), CoreState::Done { cycles: same, .. } if same == cycles)
-        );
-        assert!(rt; core.trace().len() < ROOM as usize);
-        assert_eq!(rt; core.trace(), without.trace());
+        } => Some((value, flag, cycles)),
+        _ => None,
+    }
+}
+
+/// Compares the words of `out` that a core came to.
+fn expect_out(
+    rt: &impl Abort,
+    alloc: Global,
+    program: &Checked,
+    core: &Core,
+    told: &str,
+) -> Result<(), Fail> {
+    let out = out_of(alloc, program, core)?;
+    let wanted = words(alloc, told)?;
+    expect_same(rt, out.as_slice(), wanted.as_slice());
+    Ok(())
+}
+
+/// Compares the value that a core came to, and that its accesses and its end are those of the core without an input,
+/// the end within the bound.
+fn expect_end(rt: &impl Abort, without: &Core, core: &Core, bound: u64, told: i32) {
+    let (value, flag, cycles) = end_of(core).expect(rt, "its end");
+    let (_, _, same) = end_of(without).expect(rt, "the end without an input");
+    expect_same(rt, (value, flag), (told.cast_unsigned(), 0));
+    expect_same(rt, (cycles, cycles <= bound), (same, true));
+    expect_same(rt, core.trace().len() < ROOM as usize, true);
+    expect_same(rt, core.trace(), without.trace());
+}
+
+/// Runs a kernel's task apart on an input, and compares.
+fn expect_run(
+    rt: &impl Abort,
+    alloc: Global,
+    place: &Place,
+    compiled: &Compiled,
+    without: &Core,
+    told: &Run,
+) -> Result<(), Fail> {
+    let core = run(rt, alloc, compiled, place, told.input)?;
+    expect_end(rt, without, &core, compiled.bound, told.value);
+    expect_out(rt, alloc, &compiled.program, &core, told.out)
+}
+
+/// Runs a kernel's task apart on each input, and compares.
+fn expect_runs(
+    rt: &impl Abort,
+    alloc: Global,
+    place: &Place,
+    compiled: &Compiled,
+    runs: &[Run],
+) -> Result<(), Fail> {
+    let without = run(rt, alloc, compiled, place, "")?;
+    for told in runs {
+        expect_run(rt, alloc, place, compiled, &without, told)?;
     }
     Ok(())
+}
+
+/// Compiles a kernel, and compares its bound and its runs.
+fn expect_kernel(
+    rt: &impl Abort,
+    alloc: Global,
+    place: &Place,
+    kernel: &Kernel,
+) -> Result<(), Fail> {
+    let compiled = compile(alloc, kernel.text, place)?;
+    expect_same(rt, compiled.bound < kernel.straight, true);
+    expect_runs(rt, alloc, place, &compiled, kernel.runs)
 }
 
 #[test]
 fn cores_come_to_what_gcc_gives(rt: HostRuntime) -> Result<(), Fail> {
     let place = Place::new(1, 0, 6, 0).expect(&rt, "a place");
     for kernel in &KERNELS {
-        compare(&rt, rt.alloc(), &place, kernel)?;
+        expect_kernel(&rt, rt.alloc(), &place, kernel)?;
     }
     Ok(())
 }
@@ -113,7 +163,7 @@ const FILTER_STRAIGHT: u64 = 104_159;
 fn packed_code_has_a_lower_bound(rt: HostRuntime) -> Result<(), Fail> {
     let place = Place::new(4, 0, 6, 0).expect(&rt, "a place");
     let compiled = compile(rt.alloc(), FILTER, &place)?;
-    assert!(rt; compiled.bound < FILTER_STRAIGHT);
+    expect_same(&rt, compiled.bound < FILTER_STRAIGHT, true);
     Ok(())
 }
 
@@ -144,7 +194,7 @@ fn texts_are_refused(rt: HostRuntime) {
         ),
         (LONG, CompileFault::Long),
     ] {
-        let compiled = compile(rt.alloc(), text, &place);
-        assert_eq!(rt; compiled.err(), Some(want), "{text}");
+        let fault = compile(rt.alloc(), text, &place).err();
+        expect_same(&rt, (text, fault), (text, Some(want)));
     }
 }

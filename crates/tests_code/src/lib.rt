@@ -12,6 +12,8 @@ mod compiling;
 #[cfg(test)]
 mod emission;
 #[cfg(test)]
+mod expect;
+#[cfg(test)]
 mod kernel_texts;
 #[cfg(test)]
 mod kernels;

@@ -5,6 +5,7 @@ ghost use Rattle.sp_shape.specs.Shown.{parts_of, plain_part, plain_shape};
 ghost use Rattle.sp_shape.specs.Small as small;
 ghost use Rattle.tc_link.specs.Examples.{second_run};
 
+use crate::expect::expect_same;
 use crate::making::{alone, leave, turns};
 use patmos_instr::{Imm12, ImmFunc, Op, Reg};
 use sp_shape::{Part, Shape};
@@ -83,7 +84,7 @@ fn words_are_those_by_hand(rt: HostRuntime) -> Result<(), Fail> {
         0,
         0,
     ];
-    assert_eq!(rt; image.words(), want.as_slice());
-    assert_eq!(rt; image.starts(), [1, 15].as_slice());
+    expect_same(&rt, image.words(), &want);
+    expect_same(&rt, image.starts(), &[1, 15]);
     Ok(())
 }

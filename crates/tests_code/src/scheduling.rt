@@ -4,6 +4,7 @@ ghost use Rattle.sp_shape.specs.Parts.{part, straight};
 ghost use Rattle.sp_shape.specs.Shown.{plain_shape};
 ghost use Rattle.sp_shape.specs.Small as small;
 
+use crate::expect::expect_same;
 use crate::making::{alone, idle, leave};
 use bundle_sched::schedule;
 use patmos_instr::{Bundle, Imm7, Imm12, ImmFunc, Mem, Op, Reg, Width};
@@ -73,12 +74,12 @@ fn an_addition_fills_a_delay_slot(rt: HostRuntime) -> Result<(), Fail> {
     let shape = loading(rt.alloc())?;
     let shape = schedule(rt.alloc(), shape)?;
     let functions = shape.functions.as_slice();
-    assert_eq!(rt; functions.len(), 1);
+    expect_same(&rt, functions.len(), 1);
     let parts = functions.first().expect(&rt, "a function").as_slice();
-    assert_eq!(rt; parts.len(), 2);
+    expect_same(&rt, parts.len(), 2);
     let before = [load(), idle()];
-    assert_eq!(rt; bundles_of(parts.first()), Some(before.as_slice()));
+    expect_same(&rt, bundles_of(parts.first()), Some(before.as_slice()));
     let way = [alone(Op::Return), add(), idle(), idle()];
-    assert_eq!(rt; bundles_of(parts.get(1)), Some(way.as_slice()));
+    expect_same(&rt, bundles_of(parts.get(1)), Some(way.as_slice()));
     Ok(())
 }

@@ -5,6 +5,7 @@ ghost use Rattle.sp_tree.specs.Shown.{plain_unit, plain_function};
 ghost use Rattle.sp_tree.specs.Small as small;
 ghost use Rattle.sp_tree.specs.Statements.{one};
 
+use crate::expect::expect_same;
 use sp_tree::{
     Region, SpArray, SpBinary, SpCell, SpExpr, SpFunction, SpStmt, SpTarget, SpUnit, plain_straight,
 };
@@ -101,9 +102,8 @@ fn unit(alloc: Global) -> Result<SpUnit, AllocError>
 fn a_difference_comes_out(rt: HostRuntime) -> Result<(), Fail> {
     let unit = unit(rt.alloc())?;
     let outcome = plain_straight(rt.alloc(), &unit, &[9, 4])?;
-    assert_eq!(rt; outcome.value, 5);
-    assert!(rt; !outcome.overrun);
-    assert_eq!(rt; outcome.private.as_slice().get(4), Some(&5));
-    assert_eq!(rt; outcome.private.as_slice().get(5), Some(&9));
+    expect_same(&rt, (outcome.value, outcome.overrun), (5, false));
+    let private = outcome.private.as_slice();
+    expect_same(&rt, (private.get(4), private.get(5)), (Some(&5), Some(&9)));
     Ok(())
 }

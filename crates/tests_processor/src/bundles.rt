@@ -1,3 +1,4 @@
+use crate::expect::expect_same;
 use patmos_instr::{
     Addr22, AluFunc, Bundle, CmpFunc, Guard, Imm5, Imm7, Imm12, ImmFunc, Instr, Mem, Off22, Op,
     Pred, PredFunc, Reg, Special, StackFunc, StoreWidth, Width, WritableSpecial,
@@ -53,6 +54,12 @@ fn from_special(special: Special) -> Op {
     }
 }
 
+/// The word of a special register, brought into r3.
+fn word_of(regs: &mut Regs, special: Special) -> u32 {
+    run(regs, from_special(special));
+    regs.general(Reg::low(3))
+}
+
 fn to_special(special: WritableSpecial, ra: u32) -> Op {
     Op::ToSpecial {
         special,
@@ -94,8 +101,8 @@ fn operations_give_their_words(rt: HostRuntime) {
         let mut regs = begun();
         let (rd, ra, imm) = (Reg::low(3), Reg::low(ra), Imm12::low(imm));
         let effect = run(&mut regs, Op::AluImm { func, rd, ra, imm });
-        assert_eq!(rt; effect, Effect::Nothing);
-        assert_eq!(rt; regs.general(rd), value, "{func:?}");
+        expect_same(&rt, effect, Effect::Nothing);
+        expect_same(&rt, (func, regs.general(rd)), (func, value));
     }
     let long = [
         (AluFunc::Add, 2),
@@ -107,7 +114,7 @@ fn operations_give_their_words(rt: HostRuntime) {
         let mut regs = begun();
         let (rd, ra, rb) = (Reg::low(31), Reg::low(1), Reg::low(2));
         run(&mut regs, Op::AluReg { func, rd, ra, rb });
-        assert_eq!(rt; regs.general(rd), value, "{func:?}");
+        expect_same(&rt, (func, regs.general(rd)), (func, value));
     }
 }
 
@@ -126,14 +133,14 @@ fn compares_and_combinations_give_predicates(rt: HostRuntime) {
         let mut regs = begun();
         let (pd, ra, rb) = (Pred::low(7), Reg::low(ra), Reg::low(rb));
         run(&mut regs, Op::Cmp { func, pd, ra, rb });
-        assert_eq!(rt; regs.pred(pd), value, "{func:?}");
+        expect_same(&rt, (func, regs.pred(pd)), (func, value));
     }
     for (ra, imm, value) in [(1, 3, true), (1, 1, false), (2, 31, true)] {
         let mut regs = begun();
         let (pd, ra, imm) = (Pred::low(7), Reg::low(ra), Imm5::low(imm));
         let func = CmpFunc::Btest;
         run(&mut regs, Op::CmpImm { func, pd, ra, imm });
-        assert_eq!(rt; regs.pred(pd), value, "bit {imm:?}");
+        expect_same(&rt, (imm, regs.pred(pd)), (imm, value));
     }
     // p1 is true and p2 is false; 8 negates
     let combinations = [
@@ -148,23 +155,28 @@ fn compares_and_combinations_give_predicates(rt: HostRuntime) {
         let mut regs = begun();
         let (pd, a, b) = (Pred::low(7), Guard::low(a), Guard::low(b));
         run(&mut regs, Op::Comb { func, pd, a, b });
-        assert_eq!(rt; regs.pred(pd), value, "{func:?}");
+        expect_same(&rt, (func, regs.pred(pd)), (func, value));
     }
 }
 
 #[test]
 fn specials_are_read_and_written(rt: HostRuntime) {
     let mut regs = begun();
-    run(&mut regs, from_special(Special::St));
-    assert_eq!(rt; regs.general(Reg::low(3)), 196_640);
-    run(&mut regs, from_special(Special::Ss));
-    assert_eq!(rt; regs.general(Reg::low(3)), 12);
+    expect_same(&rt, word_of(&mut regs, Special::St), 196_640);
+    expect_same(&rt, word_of(&mut regs, Special::Ss), 12);
     // s0 is written with bit 0 clear and with bits past the eighth
     run(&mut regs, set(4, 0x184));
     run(&mut regs, to_special(WritableSpecial::S0, 4));
-    assert!(rt; regs.pred(Pred::low(0)) && !regs.pred(Pred::low(1)) && regs.pred(Pred::low(2)));
-    run(&mut regs, from_special(Special::S0));
-    assert_eq!(rt; regs.general(Reg::low(3)), 0x85);
+    expect_same(
+        &rt,
+        (
+            regs.pred(Pred::low(0)),
+            regs.pred(Pred::low(1)),
+            regs.pred(Pred::low(2)),
+        ),
+        (true, false, true),
+    );
+    expect_same(&rt, word_of(&mut regs, Special::S0), 0x85);
     let pairs = [
         (WritableSpecial::Sl, Special::Sl),
         (WritableSpecial::Sh, Special::Sh),
@@ -173,17 +185,16 @@ fn specials_are_read_and_written(rt: HostRuntime) {
     ];
     for (written, read) in pairs {
         run(&mut regs, to_special(written, 1));
-        run(&mut regs, from_special(read));
-        assert_eq!(rt; regs.general(Reg::low(3)), 12, "{read:?}");
+        expect_same(&rt, (read, word_of(&mut regs, read)), (read, 12));
         run(&mut regs, to_special(written, 0));
     }
     regs.set_return(70, 9);
-    assert_eq!(rt; (regs.srb(), regs.sro()), (70, 9));
+    expect_same(&rt, (regs.srb(), regs.sro()), (70, 9));
     let kind = FlowKind::Return {
         base: 70,
         offset: 9,
     };
-    assert_eq!(rt; run(&mut regs, Op::Return), Effect::Flow { kind });
+    expect_same(&rt, run(&mut regs, Op::Return), Effect::Flow { kind });
 }
 
 #[test]
@@ -193,13 +204,10 @@ fn products_are_seen_from_the_second_bundle_after(rt: HostRuntime) {
         let (ra, rb) = (Reg::low(1), Reg::low(2));
         run(&mut regs, Op::Mul { unsigned, ra, rb });
         let low = 0xffff_ff88;
-        assert_eq!(rt; regs.pending(), Pending::Product { low, high });
-        run(&mut regs, from_special(Special::Sl));
-        assert_eq!(rt; regs.general(Reg::low(3)), 0);
-        run(&mut regs, from_special(Special::Sl));
-        assert_eq!(rt; regs.general(Reg::low(3)), low);
-        run(&mut regs, from_special(Special::Sh));
-        assert_eq!(rt; regs.general(Reg::low(3)), high);
+        expect_same(&rt, regs.pending(), Pending::Product { low, high });
+        expect_same(&rt, word_of(&mut regs, Special::Sl), 0);
+        expect_same(&rt, word_of(&mut regs, Special::Sl), low);
+        expect_same(&rt, word_of(&mut regs, Special::Sh), high);
     }
     // an own write to sl wins over the product, and sh gets its half
     let mut regs = begun();
@@ -213,8 +221,7 @@ fn products_are_seen_from_the_second_bundle_after(rt: HostRuntime) {
         },
     );
     run(&mut regs, to_special(WritableSpecial::Sl, 1));
-    run(&mut regs, from_special(Special::Sl));
-    assert_eq!(rt; regs.general(Reg::low(3)), 12);
+    expect_same(&rt, word_of(&mut regs, Special::Sl), 12);
 }
 
 fn load() -> Op {
@@ -227,28 +234,32 @@ fn load() -> Op {
     }
 }
 
-#[test]
-fn loads_are_seen_from_the_second_bundle_after(rt: HostRuntime) {
-    let mut regs = begun();
-    let asked = Effect::Load {
+/// What that asks for, where r2 = -10.
+fn loaded() -> Effect {
+    Effect::Load {
         space: Mem::C,
         width: Width::Word,
         rd: Reg::low(4),
         address: 2,
-    };
-    assert_eq!(rt; run(&mut regs, load()), asked);
+    }
+}
+
+#[test]
+fn loads_are_seen_from_the_second_bundle_after(rt: HostRuntime) {
+    let mut regs = begun();
+    expect_same(&rt, run(&mut regs, load()), loaded());
     assert_eq!(rt; regs.pending(), Pending::Nothing);
     arrive(&mut regs, Reg::low(4), 77);
     run(&mut regs, add_short(5, 4, 1));
-    assert_eq!(rt; regs.general(Reg::low(5)), 1);
+    expect_same(&rt, regs.general(Reg::low(5)), 1);
     run(&mut regs, add_short(5, 4, 1));
-    assert_eq!(rt; regs.general(Reg::low(5)), 78);
+    expect_same(&rt, regs.general(Reg::low(5)), 78);
     // the next bundle's own write wins
-    assert_eq!(rt; run(&mut regs, load()), asked);
+    expect_same(&rt, run(&mut regs, load()), loaded());
     assert_eq!(rt; regs.pending(), Pending::Nothing);
     arrive(&mut regs, Reg::low(4), 88);
     run(&mut regs, add_short(4, 0, 5));
-    assert_eq!(rt; regs.general(Reg::low(4)), 5);
+    expect_same(&rt, regs.general(Reg::low(4)), 5);
 }
 
 #[test]
@@ -256,25 +267,29 @@ fn both_slots_read_the_state_before(rt: HostRuntime) -> Result<(), Fail> {
     let mut regs = begun();
     let swapped = Bundle::pair(always(add_short(1, 2, 0)), always(add_short(2, 1, 0)))?;
     exec(&mut regs, &swapped, ST, SS);
-    assert_eq!(rt; regs.general(Reg::low(2)), 12);
-    assert_eq!(rt; regs.general(Reg::low(1)), 0xffff_fff6);
+    expect_same(&rt, regs.general(Reg::low(2)), 12);
+    expect_same(&rt, regs.general(Reg::low(1)), 0xffff_fff6);
     let twice = Bundle::pair(always(add_short(6, 0, 1)), always(add_short(6, 0, 2)))?;
     exec(&mut regs, &twice, ST, SS);
-    assert_eq!(rt; regs.general(Reg::low(6)), 2);
+    expect_same(&rt, regs.general(Reg::low(6)), 2);
     // the second slot's guard is !p1, which is false, so the first slot's write stands
     let guarded = Bundle::pair(always(add_short(6, 0, 3)), when(9, add_short(6, 0, 4)))?;
     exec(&mut regs, &guarded, ST, SS);
-    assert_eq!(rt; regs.general(Reg::low(6)), 3);
+    expect_same(&rt, regs.general(Reg::low(6)), 3);
     let compared = Bundle::pair(when(9, is_zero(2, 0)), always(is_zero(0, 6)))?;
     exec(&mut regs, &compared, ST, SS);
-    assert!(rt; regs.pred(Pred::low(0)) && !regs.pred(Pred::low(2)));
+    expect_same(
+        &rt,
+        (regs.pred(Pred::low(0)), regs.pred(Pred::low(2))),
+        (true, false),
+    );
     exec(
         &mut regs,
         &Bundle::single(when(1, add_short(0, 0, 9))),
         ST,
         SS,
     );
-    assert_eq!(rt; regs.general(Reg::low(0)), 0);
+    expect_same(&rt, regs.general(Reg::low(0)), 0);
     Ok(())
 }
 
@@ -283,9 +298,10 @@ fn what_lies_outside_is_asked_for(rt: HostRuntime) {
     let mut regs = begun();
     let count = Imm12::low(100);
     let func = StackFunc::Sens;
-    assert_eq!(rt;
+    expect_same(
+        &rt,
         run(&mut regs, Op::Stack { func, count }),
-        Effect::StackOp { func, count: 100 }
+        Effect::StackOp { func, count: 100 },
     );
     // -10 and three units of the width
     let stores = [
@@ -307,7 +323,7 @@ fn what_lies_outside_is_asked_for(rt: HostRuntime) {
             address,
             value: 12,
         };
-        assert_eq!(rt; run(&mut regs, store), asked);
+        expect_same(&rt, run(&mut regs, store), asked);
     }
     let target = Addr22::low(500);
     let back = Off22::low(0x3f_fffe);
@@ -321,12 +337,12 @@ fn what_lies_outside_is_asked_for(rt: HostRuntime) {
         (Op::Return, FlowKind::Return { base: 0, offset: 0 }),
     ];
     for (op, kind) in flows {
-        assert_eq!(rt; run(&mut regs, op), Effect::Flow { kind });
+        expect_same(&rt, run(&mut regs, op), Effect::Flow { kind });
     }
     // under !p0 nothing is asked for
     for op in [Op::Call { target }, Op::Return, load()] {
         let bundle = Bundle::single(when(8, op));
-        assert_eq!(rt; exec(&mut regs, &bundle, ST, SS), Effect::Nothing);
+        expect_same(&rt, exec(&mut regs, &bundle, ST, SS), Effect::Nothing);
     }
 }
 
@@ -340,31 +356,31 @@ fn bytes_and_halves_are_picked_and_merged(rt: HostRuntime) {
     ];
     for (address, signed, unsigned, put) in bytes {
         let word = 0x11ff_3344;
-        assert_eq!(rt; pick(Width::Byte, address, word), signed, "at {address}");
-        assert_eq!(rt;
-            pick(Width::ByteUnsigned, address, word),
-            unsigned,
-            "at {address}"
-        );
-        assert_eq!(rt;
-            merge(StoreWidth::Byte, address, 0x1122_3344, 0xabcd_efff),
-            put,
-            "at {address}"
-        );
+        let picked = pick(Width::Byte, address, word);
+        expect_same(&rt, (address, picked), (address, signed));
+        let picked = pick(Width::ByteUnsigned, address, word);
+        expect_same(&rt, (address, picked), (address, unsigned));
+        let merged = merge(StoreWidth::Byte, address, 0x1122_3344, 0xabcd_efff);
+        expect_same(&rt, (address, merged), (address, put));
     }
-    let word = 0x11ff_3344;
-    assert_eq!(rt; pick(Width::HalfUnsigned, 0, word), 4607);
-    assert_eq!(rt; pick(Width::Half, 2, word), 13_124);
-    assert_eq!(rt; pick(Width::HalfUnsigned, 6, 0x11ff_8344), 0x8344);
-    assert_eq!(rt; pick(Width::Half, 6, 0x11ff_8344), 0xffff_8344);
-    assert_eq!(rt; pick(Width::Word, 8, word), word);
-    assert_eq!(rt;
-        merge(StoreWidth::Half, 0, 0x1122_3344, 0xabcd_efff),
-        0xefff_3344
-    );
-    assert_eq!(rt;
-        merge(StoreWidth::Half, 6, 0x1122_3344, 0xabcd_efff),
-        0x1122_efff
-    );
-    assert_eq!(rt; merge(StoreWidth::Word, 4, 0x1122_3344, 5), 5);
+    let picks = [
+        (Width::HalfUnsigned, 0, 0x11ff_3344, 4607),
+        (Width::Half, 2, 0x11ff_3344, 13_124),
+        (Width::HalfUnsigned, 6, 0x11ff_8344, 0x8344),
+        (Width::Half, 6, 0x11ff_8344, 0xffff_8344),
+        (Width::Word, 8, 0x11ff_3344, 0x11ff_3344),
+    ];
+    for (width, address, word, value) in picks {
+        let picked = pick(width, address, word);
+        expect_same(&rt, (width, address, picked), (width, address, value));
+    }
+    let merges = [
+        (StoreWidth::Half, 0, 0xabcd_efff, 0xefff_3344),
+        (StoreWidth::Half, 6, 0xabcd_efff, 0x1122_efff),
+        (StoreWidth::Word, 4, 5, 5),
+    ];
+    for (width, address, value, put) in merges {
+        let merged = merge(width, address, 0x1122_3344, value);
+        expect_same(&rt, (width, address, merged), (width, address, put));
+    }
 }

@@ -1,6 +1,8 @@
-ghost use Rattle.std.specs.Prelude.{[], ◌∷◌};
+ghost use Rattle.std.specs.Prelude.{◌≡◌, [], ◌∷◌, None, IfOk};
 ghost use Rattle.patmos_code.specs.Images.{IsImage, parts};
+ghost use Rattle.patmos_core.specs.Position.{waiting_of, limit_of};
 
+use crate::expect::expect_same;
 use local_store::Cell;
 use patmos_code::Image;
 use patmos_core::{Core, CoreState, Next, core_is_at_its_place};
@@ -50,26 +52,33 @@ fn seven(alloc: Global) -> Result<Image, AllocError> {
     Ok(Image::of(words, starts, initial, 5, 2))
 }
 
+/// A core with that task, to which three words are given.
+fn core_of_seven(alloc: Global, place: Place) -> Result<Core, AllocError>
+    ensures waiting { IfOk result (λ core. waiting_of core ≡ None) }
+    ensures limit { IfOk result (λ core. limit_of core ≡ 0) }
+{
+    let image = seven(alloc)?;
+    Core::new(alloc, place, &image, &[8, 9, 10], 4)
+}
+
 // six words are fetched in the slots at 0 and 6, and five bundles follow
 #[test]
 fn a_task_runs_to_its_end(rt: HostRuntime) -> Result<(), Fail> {
-    let alloc = rt.alloc();
-    let image = seven(alloc)?;
     let place = Place::new(1, 0, 6, 0).expect(&rt, "a place");
-    let mut core = Core::new(alloc, place, &image, &[8, 9, 10], 4)?;
+    let mut core = core_of_seven(rt.alloc(), place)?;
     assert_eq!(rt; core.next(16), Next::Limit);
-    assert_eq!(rt; core.state(), CoreState::Running);
-    assert_eq!(rt; core.next(17), Next::Ended);
+    expect_same(&rt, core.state(), CoreState::Running);
+    expect_same(&rt, core.next(17), Next::Ended);
     let done = CoreState::Done {
         value: 7,
         flag: 0,
         cycles: 17,
     };
-    assert_eq!(rt; (core.state(), core.dropped()), (done, 0));
+    expect_same(&rt, (core.state(), core.dropped()), (done, 0));
     let trace = [transaction(0, false, 4), transaction(6, false, 2)];
-    assert_eq!(rt; core.trace(), trace.as_slice());
+    expect_same(&rt, core.trace(), trace.as_slice());
     for (word, value) in [(4, 3), (5, 8), (6, 9), (7, 0)] {
-        assert_eq!(rt; core.word(Cell::Private(word)), value, "word {word}");
+        expect_same(&rt, (word, core.word(Cell::Private(word))), (word, value));
     }
     Ok(())
 }
@@ -79,15 +88,16 @@ fn an_idle_core_does_nothing(rt: HostRuntime) {
     core_is_at_its_place();
     let place = Place::new(2, 1, 6, 0).expect(&rt, "a place");
     let mut core = Core::idle(place);
-    assert_eq!(rt; core.next(20_000_000), Next::Ended);
-    assert_eq!(rt; core.state(), CoreState::Idle);
-    assert_eq!(rt;
+    expect_same(&rt, core.next(20_000_000), Next::Ended);
+    expect_same(&rt, core.state(), CoreState::Idle);
+    expect_same(
+        &rt,
         (
             core.trace().len(),
             core.dropped(),
-            core.word(Cell::Scratch(0))
+            core.word(Cell::Scratch(0)),
         ),
-        (0, 0, 0)
+        (0, 0, 0),
     );
 }
 
@@ -104,26 +114,38 @@ static STORE_BYTE: [u32; 9] = [
     0,
 ];
 
+/// A core with that task.
+fn core_of_store_byte(alloc: Global, place: Place) -> Result<Core, AllocError>
+    ensures waiting { IfOk result (λ core. waiting_of core ≡ None) }
+    ensures limit { IfOk result (λ core. limit_of core ≡ 0) }
+{
+    let image = image_of(alloc, &STORE_BYTE)?;
+    Core::new(alloc, place, &image, &[], 0)
+}
+
 // a byte is stored in the first word of shared memory: the word is loaded and then stored, at one stamp, in two events
 #[test]
 fn a_byte_is_stored_in_two_events(rt: HostRuntime) -> Result<(), Fail> {
-    let alloc = rt.alloc();
-    let image = image_of(alloc, &STORE_BYTE)?;
     let place = Place::new(1, 0, 6, 0).expect(&rt, "a place");
-    let mut core = Core::new(alloc, place, &image, &[], 0)?;
+    let mut core = core_of_store_byte(rt.alloc(), place)?;
     let Next::Event(first) = core.next(40) else {
         panic!(rt; "no event");
     };
-    assert_eq!(rt; (first.stamp, first.count, first.ops[0]), (49, 1, load(0)));
+    expect_same(
+        &rt,
+        (first.stamp, first.count, first.ops[0]),
+        (49, 1, load(0)),
+    );
     core.resume([0xaabb_ccdd, 0, 0, 0, 0, 0, 0, 0], first.count);
     let Next::Event(second) = core.next(40) else {
         panic!(rt; "no second event");
     };
-    assert_eq!(rt;
+    expect_same(
+        &rt,
         (second.stamp, second.count, second.ops[0]),
-        (49, 1, store(0, 0x11bb_ccdd))
+        (49, 1, store(0, 0x11bb_ccdd)),
     );
     core.resume([0; 8], second.count);
-    assert_eq!(rt; core.next(40), Next::Ended);
+    expect_same(&rt, core.next(40), Next::Ended);
     Ok(())
 }

@@ -10,6 +10,8 @@ mod bundles;
 #[cfg(test)]
 mod cores;
 #[cfg(test)]
+mod expect;
+#[cfg(test)]
 mod instructions;
 #[cfg(test)]
 mod interfaces;

@@ -1,3 +1,4 @@
+use crate::expect::expect_same;
 use global_step::{
     Loaded, LoadedCore, machine_is_a_course, machine_keeps_ranges, worked_network, worked_platform,
     worked_shared,
@@ -45,7 +46,7 @@ fn cores_of_one_platform_are_loaded(rt: HostRuntime) -> Result<(), Fail> {
     ] {
         let cores = idle_cores(rt.alloc(), places)?;
         let loaded = Loaded::new(cores, limit, trace, workers);
-        assert_eq!(rt; loaded.is_some(), want);
+        expect_same(&rt, loaded.is_some(), want);
     }
     Ok(())
 }

@@ -1,3 +1,4 @@
+use crate::expect::expect_same;
 use core_pace::{
     place_has_slots, worked_bundles, worked_events, worked_growth, worked_stack, worked_starts,
     worked_words,
@@ -17,9 +18,13 @@ fn laws_are_called_and_traps_have_their_numbers(rt: HostRuntime) {
     run_apart_is_followed();
     transfer_is_its_bursts();
     core_keeps_ranges();
-    assert_eq!(rt; (Trap::Access.number(), Trap::Align.number()), (1, 2));
-    assert_eq!(rt; (Trap::Decode.number(), Trap::Flow.number()), (3, 4));
-    assert_eq!(rt; (Trap::Stack.number(), Trap::Interface.number()), (5, 6));
+    expect_same(&rt, (Trap::Access.number(), Trap::Align.number()), (1, 2));
+    expect_same(&rt, (Trap::Decode.number(), Trap::Flow.number()), (3, 4));
+    expect_same(
+        &rt,
+        (Trap::Stack.number(), Trap::Interface.number()),
+        (5, 6),
+    );
 }
 
 #[test]

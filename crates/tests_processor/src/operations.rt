@@ -1,3 +1,4 @@
+use crate::expect::expect_same;
 use shared_order::{
     Operation, Ranged, core_goes_on, core_is_its_run_apart, core_skips, core_stands, event_is_next,
     machine_by_stamps, machine_is_a_course, merge_goes_on, merge_is_the_machines,
@@ -15,8 +16,7 @@ fn an_operation_is_its_stamp_and_act(rt: HostRuntime) {
     };
     let stored = Operation { stamp: 8, act };
     let (copy, later) = (stored, Operation { stamp: 10, act });
-    assert!(rt; copy == stored);
-    assert!(rt; later != stored);
+    expect_same(&rt, (copy == stored, later != stored), (true, true));
 }
 
 /// A core whose whole state is a word that it loaded.
@@ -34,7 +34,7 @@ impl Ranged for Held {
 #[test]
 fn laws_at_a_kind_of_core(rt: HostRuntime) {
     let held = Held { value: 7 };
-    assert_eq!(rt; held.value, 7);
+    expect_same(&rt, held.value, 7);
     program_is_heard_again::<Held>();
     turn_in_parts::<Held, Held>();
     machine_by_stamps::<Held>();

@@ -1,8 +1,10 @@
+use crate::expect::expect_same;
 use patmos_code::{Coded, Image, codes_differ, decode, decoding_is_exact, encode, worked_words};
 use patmos_instr::{
     Addr22, AluFunc, Bundle, CmpFunc, Guard, Imm5, Imm7, Imm12, ImmFunc, Instr, Mem, Off22, Op,
     Pred, PredFunc, Reg, Special, StackFunc, StoreWidth, Width, WritableSpecial,
 };
+use std::alloc::{AllocError, Global};
 use std::test::Fail;
 use tc_word::List;
 
@@ -34,6 +36,22 @@ fn store(space: Mem, width: StoreWidth, ra: u32, imm: u32, rs: u32) -> Op {
         ra: reg(ra),
         rs: reg(rs),
         imm: Imm7::low(imm),
+    }
+}
+
+fn one_word(first: u32) -> Coded {
+    Coded {
+        first,
+        second: 0,
+        two: false,
+    }
+}
+
+fn two_words(first: u32, second: u32) -> Coded {
+    Coded {
+        first,
+        second,
+        two: true,
     }
 }
 
@@ -183,24 +201,13 @@ fn operations_have_their_words(rt: HostRuntime) {
     ];
     for (guard, op, word) in cases {
         let bundle = alone(guard, op);
-        assert_eq!(rt;
-            encode(&bundle),
-            Coded {
-                first: word,
-                second: 0,
-                two: false
-            },
-            "{word}"
-        );
-        match decode(word, 0xffff_ffff) {
-            Some(found) => assert!(rt; found == bundle, "{word}"),
-            None => assert!(rt; false, "{word}"),
-        }
+        expect_same(&rt, (word, encode(&bundle)), (word, one_word(word)));
+        expect_same(&rt, (word, decode(word, 0xffff_ffff)), (word, Some(bundle)));
     }
 }
 
 #[test]
-fn two_words_have_a_mark(rt: HostRuntime) {
+fn two_words_have_a_mark(rt: HostRuntime) -> Result<(), Fail> {
     let long = alone(
         0,
         Op::AluLong {
@@ -210,15 +217,8 @@ fn two_words_have_a_mark(rt: HostRuntime) {
             constant: 0x0100_0000,
         },
     );
-    assert_eq!(rt;
-        encode(&long),
-        Coded {
-            first: 0x8584_0000,
-            second: 0x0100_0000,
-            two: true
-        }
-    );
-    assert!(rt; decode(0x8584_0000, 0x0100_0000) == Some(long));
+    expect_same(&rt, encode(&long), two_words(0x8584_0000, 0x0100_0000));
+    expect_same(&rt, decode(0x8584_0000, 0x0100_0000), Some(long));
     let first = Instr {
         guard: Guard::low(0),
         op: load(Mem::C, Width::Word, 1, 2, 3),
@@ -232,20 +232,10 @@ fn two_words_have_a_mark(rt: HostRuntime) {
             imm: Imm12::low(1),
         },
     };
-    match Bundle::pair(first, second) {
-        Ok(pair) => {
-            assert_eq!(rt;
-                encode(&pair),
-                Coded {
-                    first: 0x8402_2103,
-                    second: 0x0048_4001,
-                    two: true
-                }
-            );
-            assert!(rt; decode(0x8402_2103, 0x0048_4001) == Some(pair));
-        }
-        Err(_) => assert!(rt; false),
-    }
+    let pair = Bundle::pair(first, second)?;
+    expect_same(&rt, encode(&pair), two_words(0x8402_2103, 0x0048_4001));
+    expect_same(&rt, decode(0x8402_2103, 0x0048_4001), Some(pair));
+    Ok(())
 }
 
 #[test]
@@ -267,29 +257,29 @@ fn other_words_have_no_bundle(rt: HostRuntime) {
         ),
     ];
     for (first, second, what) in cases {
-        assert!(rt; decode(first, second).is_none(), "{what}");
+        expect_same(&rt, (what, decode(first, second)), (what, None));
     }
+}
+
+/// Functions of two words and of one, a data word, and an input of ten words from word 4 on.
+fn image_of_two(alloc: Global) -> Result<Image, AllocError> {
+    let words = List::of(vec![in alloc; 2, 0, 0, 1, 0x0540_0000]?);
+    let starts = List::of(vec![in alloc; 1, 4]?);
+    let initial = List::of(vec![in alloc; 7]?);
+    Ok(Image::of(words, starts, initial, 4, 10))
 }
 
 #[test]
 fn images_give_their_parts(rt: HostRuntime) -> Result<(), Fail> {
-    let alloc = rt.alloc();
-    let words = List::of(vec![in alloc; 2, 0, 0, 1, 0x0540_0000]?);
-    let starts = List::of(vec![in alloc; 1, 4]?);
-    let initial = List::of(vec![in alloc; 7]?);
-    let image = Image::of(words, starts, initial, 4, 10);
-    assert_eq!(rt; image.words(), [2, 0, 0, 1, 0x0540_0000].as_slice());
-    assert_eq!(rt; image.starts(), [1, 4].as_slice());
-    assert_eq!(rt; image.initial(), [7].as_slice());
-    assert_eq!(rt; (image.input_at(), image.input_room()), (4, 10));
-    assert_eq!(rt;
-        (image.function_size(1), image.function_size(4)),
-        (Some(2), Some(1))
-    );
-    assert_eq!(rt;
-        (image.function_size(0), image.function_size(2)),
-        (None, None)
-    );
+    let image = image_of_two(rt.alloc())?;
+    expect_same(&rt, image.words(), &[2, 0, 0, 1, 0x0540_0000]);
+    expect_same(&rt, image.starts(), &[1, 4]);
+    expect_same(&rt, image.initial(), &[7]);
+    expect_same(&rt, (image.input_at(), image.input_room()), (4, 10));
+    let sizes = (image.function_size(1), image.function_size(4));
+    expect_same(&rt, sizes, (Some(2), Some(1)));
+    let others = (image.function_size(0), image.function_size(2));
+    expect_same(&rt, others, (None, None));
     codes_differ();
     decoding_is_exact();
     worked_words();

@@ -1,3 +1,4 @@
+use crate::expect::expect_same;
 use job_gen::generate;
 use std::test::Fail;
 
@@ -46,9 +47,10 @@ fn jobs_are_those_of_the_rules(rt: HostRuntime) -> Result<(), Fail> {
         let alloc = rt.alloc();
         let text = generate(alloc, n)?;
         let begin = format!(in alloc; "{HEAD}{function}")?;
-        assert!(rt; text.as_slice().starts_with(begin.as_bytes()));
-        assert!(rt; text.as_slice().ends_with(input.as_bytes()));
-        assert_eq!(rt; (text.len(), checksum(text.as_slice())), (length, sum));
+        let begins = text.as_slice().starts_with(begin.as_bytes());
+        let ends = text.as_slice().ends_with(input.as_bytes());
+        expect_same(&rt, (n, begins, ends), (n, true, true));
+        expect_same(&rt, (text.len(), checksum(text.as_slice())), (length, sum));
     }
     Ok(())
 }

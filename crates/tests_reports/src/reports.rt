@@ -1,3 +1,4 @@
+use crate::expect::expect_same;
 use slot_arbiter::Access;
 use std::alloc::{AllocError, Global};
 use std::test::Fail;
@@ -29,33 +30,41 @@ fn reported(alloc: Global, row: Row) -> Result<Vec<u8>, AllocError> {
     report(alloc, &rows)
 }
 
-#[test]
-fn tells_the_transactions_of_a_core_of_four(rt: HostRuntime) -> Result<(), Fail> {
-    let alloc = rt.alloc();
-    let mut done = core_in(
-        alloc,
-        RowState::Done {
-            value: 7,
-            cycles: 47,
-        },
-    );
-    let fill = |cycle: u64, words: u32| Access {
+/// A fetch of so many words from a cycle on.
+fn fill(cycle: u64, words: u32) -> Access {
+    Access {
         cycle,
         write: false,
         words,
+    }
+}
+
+/// Four cores, of which one is done after two fetches, and the others have no task.
+fn one_of_four(alloc: Global) -> Result<Rows, AllocError> {
+    let ended = RowState::Done {
+        value: 7,
+        cycles: 47,
     };
-    done.accesses = List::of(vec![in alloc; fill(12, 4), fill(36, 2)]?);
-    let rows = Rows {
+    let mut done = core_in(alloc, ended);
+    done.accesses = List::of(Vec::from_slice(alloc, &[fill(12, 4), fill(36, 2)])?);
+    let idle = RowState::Idle;
+    let rows = vec![in alloc;
+        core_in(alloc, idle),
+        core_in(alloc, idle),
+        done,
+        core_in(alloc, idle),
+    ]?;
+    Ok(Rows {
         cores: 4,
         slot: 6,
         period: 24,
-        rows: List::of(vec![in alloc;
-            core_in(alloc, RowState::Idle),
-            core_in(alloc, RowState::Idle),
-            done,
-            core_in(alloc, RowState::Idle),
-        ]?),
-    };
+        rows: List::of(rows),
+    })
+}
+
+#[test]
+fn tells_the_transactions_of_a_core_of_four(rt: HostRuntime) -> Result<(), Fail> {
+    let rows = one_of_four(rt.alloc())?;
     let text = "platform cores 4 slot 6 period 24\n\
         core 0 idle\n\
         core 1 idle\n\
@@ -63,20 +72,18 @@ fn tells_the_transactions_of_a_core_of_four(rt: HostRuntime) -> Result<(), Fail>
         core 2 access 12 read 4\n\
         core 2 access 36 read 2\n\
         core 3 idle\n";
-    assert_eq!(rt; report(alloc, &rows)?.as_slice(), text.as_bytes());
+    let told = report(rt.alloc(), &rows)?;
+    expect_same(&rt, told.as_slice(), text.as_bytes());
     Ok(())
 }
 
-#[test]
-fn tells_what_was_dropped_before_the_transactions(rt: HostRuntime) -> Result<(), Fail> {
-    let alloc = rt.alloc();
-    let mut done = core_in(
-        alloc,
-        RowState::Done {
-            value: 0,
-            cycles: 40,
-        },
-    );
+/// A core that is done, which has stored a word once, and did so once more, which is not listed.
+fn storing(alloc: Global) -> Result<Row, AllocError> {
+    let ended = RowState::Done {
+        value: 0,
+        cycles: 40,
+    };
+    let mut done = core_in(alloc, ended);
     done.dropped = 1;
     let store = Access {
         cycle: 0,
@@ -84,11 +91,17 @@ fn tells_what_was_dropped_before_the_transactions(rt: HostRuntime) -> Result<(),
         words: 1,
     };
     done.accesses = List::of(vec![in alloc; store]?);
+    Ok(done)
+}
+
+#[test]
+fn tells_what_was_dropped_before_the_transactions(rt: HostRuntime) -> Result<(), Fail> {
     let text = "platform cores 1 slot 6 period 6\n\
         core 0 done 0 cycles 40\n\
         core 0 dropped 1\n\
         core 0 access 0 write 1\n";
-    assert_eq!(rt; reported(alloc, done)?.as_slice(), text.as_bytes());
+    let told = reported(rt.alloc(), storing(rt.alloc())?)?;
+    expect_same(&rt, told.as_slice(), text.as_bytes());
     Ok(())
 }
 
@@ -108,12 +121,25 @@ fn tells_a_task_that_is_not_done(rt: HostRuntime) -> Result<(), Fail> {
     for (state, line) in cases {
         let alloc = rt.alloc();
         let text = format!(in alloc; "platform cores 1 slot 6 period 6\n{line}")?;
-        assert_eq!(rt;
-            reported(alloc, core_in(alloc, state))?.as_slice(),
-            text.as_bytes()
-        );
+        let told = reported(alloc, core_in(alloc, state))?;
+        expect_same(&rt, told.as_slice(), text.as_bytes());
     }
     Ok(())
+}
+
+/// A task in C that is done after its loops were cut off, is alone, and has two words of `out`.
+fn program(alloc: Global, unsigned: bool) -> Result<Row, AllocError> {
+    let ended = RowState::Done {
+        value: 10,
+        cycles: 99,
+    };
+    let mut row = core_in(alloc, ended);
+    row.bound = Some(4_611_686_018_427_387_904);
+    row.alone = true;
+    row.overrun = true;
+    row.outs = List::of(vec![in alloc; 0xffff_fffd, 5]?);
+    row.outs_unsigned = unsigned;
+    Ok(row)
 }
 
 #[test]
@@ -124,35 +150,29 @@ fn tells_a_task_in_c(rt: HostRuntime) -> Result<(), Fail> {
     ];
     for (unsigned, outs) in cases {
         let alloc = rt.alloc();
-        let mut row = core_in(
-            alloc,
-            RowState::Done {
-                value: 10,
-                cycles: 99,
-            },
-        );
-        row.bound = Some(4_611_686_018_427_387_904);
-        row.alone = true;
-        row.overrun = true;
-        row.outs = List::of(vec![in alloc; 0xffff_fffd, 5]?);
-        row.outs_unsigned = unsigned;
+        let told = reported(alloc, program(alloc, unsigned)?)?;
         let text = format!(in alloc;
             "platform cores 1 slot 6 period 6\n\
             core 0 done 10 cycles 99 bound 4611686018427387904 alone overrun\n{outs}"
         )?;
-        assert_eq!(rt; reported(alloc, row)?.as_slice(), text.as_bytes());
+        expect_same(&rt, told.as_slice(), text.as_bytes());
     }
     Ok(())
 }
 
-#[test]
-fn tells_a_bound_of_a_task_that_is_not_done(rt: HostRuntime) -> Result<(), Fail> {
-    let alloc = rt.alloc();
+/// A task with a bound, an overrun and a word of `out` that is not done.
+fn cut_off(alloc: Global) -> Result<Row, AllocError> {
     let mut row = core_in(alloc, RowState::Limit);
     row.bound = Some(45);
     row.overrun = true;
     row.outs = List::of(vec![in alloc; 1]?);
+    Ok(row)
+}
+
+#[test]
+fn tells_a_bound_of_a_task_that_is_not_done(rt: HostRuntime) -> Result<(), Fail> {
+    let told = reported(rt.alloc(), cut_off(rt.alloc())?)?;
     let text = "platform cores 1 slot 6 period 6\ncore 0 limit bound 45\n";
-    assert_eq!(rt; reported(alloc, row)?.as_slice(), text.as_bytes());
+    expect_same(&rt, told.as_slice(), text.as_bytes());
     Ok(())
 }

@@ -1,3 +1,4 @@
+use crate::expect::expect_same;
 use std::alloc::Global;
 use std::io::Cursor;
 use std::test::Fail;
@@ -25,7 +26,7 @@ fn puts_decimals(rt: HostRuntime) -> Result<(), Fail> {
     for (value, want) in rows {
         let mut text = Vec::new(rt.alloc());
         put_decimal(&mut text, value)?;
-        assert_eq!(rt; text.as_slice(), want.as_bytes(), "at {value}");
+        expect_same(&rt, (value, text.as_slice()), (value, want.as_bytes()));
     }
     Ok(())
 }
@@ -39,7 +40,7 @@ fn puts_words(rt: HostRuntime) -> Result<(), Fail> {
     ] {
         let mut text = Vec::new(rt.alloc());
         put_hex8(&mut text, value)?;
-        assert_eq!(rt; text.as_slice(), want.as_bytes(), "at {value}");
+        expect_same(&rt, (value, text.as_slice()), (value, want.as_bytes()));
     }
     Ok(())
 }
@@ -47,41 +48,38 @@ fn puts_words(rt: HostRuntime) -> Result<(), Fail> {
 #[test]
 fn reads_up_to_the_limit(rt: HostRuntime) -> Result<(), Fail> {
     let alloc = rt.alloc();
-    let mut exact = SureBytes::new(letters(alloc)?);
-    assert_eq!(rt;
-        read_all(alloc, &mut exact, 5)?.as_slice(),
-        b"abcde".as_slice()
-    );
-    let mut passed = SureBytes::new(letters(alloc)?);
-    assert_eq!(rt;
-        read_all(alloc, &mut passed, 4).err(),
-        Some(ReadError::TooLong)
-    );
+    let exact = read_all(alloc, &mut SureBytes::new(letters(alloc)?), 5)?;
+    expect_same(&rt, exact.as_slice(), b"abcde");
+    let passed = read_all(alloc, &mut SureBytes::new(letters(alloc)?), 4);
+    expect_same(&rt, passed.err(), Some(ReadError::TooLong));
     let mut cursor = StdSource::new(Cursor::new(letters(alloc)?));
-    assert_eq!(rt;
-        read_all(alloc, &mut cursor, 5)?.as_slice(),
-        b"abcde".as_slice()
-    );
+    let whole = read_all(alloc, &mut cursor, 5)?;
+    expect_same(&rt, whole.as_slice(), b"abcde");
     Ok(())
+}
+
+/// The letters, where the read of a number fails.
+fn failing_source(alloc: Global, number: u32) -> Result<Bytes, Fail> {
+    Ok(Bytes::new(letters(alloc)?, listed(alloc, number)?))
 }
 
 #[test]
 fn fails_the_listed_reads(rt: HostRuntime) -> Result<(), Fail> {
     let alloc = rt.alloc();
     for number in [0, 1] {
-        let mut source = Bytes::new(letters(alloc)?, listed(alloc, number)?);
-        assert_eq!(rt;
-            read_all(alloc, &mut source, 5).err(),
-            Some(ReadError::ReadFault),
-            "call {number}"
-        );
+        let mut source = failing_source(alloc, number)?;
+        let fault = read_all(alloc, &mut source, 5).err();
+        expect_same(&rt, (number, fault), (number, Some(ReadError::ReadFault)));
     }
-    let mut source = Bytes::new(letters(alloc)?, listed(alloc, 2)?);
-    assert_eq!(rt;
-        read_all(alloc, &mut source, 5)?.as_slice(),
-        b"abcde".as_slice()
-    );
+    let mut source = failing_source(alloc, 2)?;
+    let whole = read_all(alloc, &mut source, 5)?;
+    expect_same(&rt, whole.as_slice(), b"abcde");
     Ok(())
+}
+
+/// A sink that takes one byte a call and so many in all, where the write of a number fails.
+fn failing_sink(alloc: Global, room: usize, number: u32) -> Result<Gather, Fail> {
+    Ok(Gather::new(alloc, 1, room, listed(alloc, number)?)?)
 }
 
 #[test]
@@ -89,20 +87,16 @@ fn fails_the_listed_writes(rt: HostRuntime) -> Result<(), Fail> {
     let alloc = rt.alloc();
     let text = b"abcde";
     for number in 0..5 {
-        let mut sink = Gather::new(alloc, 1, 9, listed(alloc, number)?)?;
+        let mut sink = failing_sink(alloc, 9, number)?;
         let written = number as usize;
-        assert_eq!(rt;
-            write_all(&mut sink, text),
-            Err(Stopped { written }),
-            "call {number}"
-        );
+        expect_same(&rt, write_all(&mut sink, text), Err(Stopped { written }));
         let (prefix, _) = text.split_at(written);
-        assert_eq!(rt; sink.kept(), prefix, "call {number}");
+        expect_same(&rt, (number, sink.kept()), (number, prefix));
     }
-    let mut sink = Gather::new(alloc, 1, 3, listed(alloc, 5)?)?;
-    assert_eq!(rt; write_all(&mut sink, text), Ok(()));
-    assert_eq!(rt; sink.kept(), b"abc".as_slice());
-    assert_eq!(rt; sink.rest(), 2);
+    let mut sink = failing_sink(alloc, 3, 5)?;
+    expect_same(&rt, write_all(&mut sink, text), Ok(()));
+    expect_same(&rt, sink.kept(), b"abc");
+    expect_same(&rt, sink.rest(), 2);
     Ok(())
 }
 
@@ -110,13 +104,13 @@ fn fails_the_listed_writes(rt: HostRuntime) -> Result<(), Fail> {
 fn writes_everything(rt: HostRuntime) -> Result<(), Fail> {
     let alloc = rt.alloc();
     let mut sink = SureGather::new(alloc, 5)?;
-    assert_eq!(rt; write_all(&mut sink, b"abcde"), Ok(()));
-    assert_eq!(rt; sink.kept(), b"abcde".as_slice());
-    assert_eq!(rt; sink.rest(), 0);
+    expect_same(&rt, write_all(&mut sink, b"abcde"), Ok(()));
+    expect_same(&rt, sink.kept(), b"abcde");
+    expect_same(&rt, sink.rest(), 0);
     let mut out = Vec::new(alloc);
     let mut writer = StdSink::new(&mut out);
-    assert_eq!(rt; write_all(&mut writer, b"abcde"), Ok(()));
-    assert_eq!(rt; out.as_slice(), b"abcde".as_slice());
+    expect_same(&rt, write_all(&mut writer, b"abcde"), Ok(()));
+    expect_same(&rt, out.as_slice(), b"abcde");
     FreeGate.at(0, 17);
     Ok(())
 }

@@ -1,4 +1,5 @@
-use patmos_asm::{AsmError, AsmFault, AsmKind, assemble, image_of, print};
+use crate::expect::expect_same;
+use patmos_asm::{AsmError, AsmFault, AsmKind, Code, assemble, image_of, print};
 use std::alloc::{AllocError, Global};
 use std::fmt::Write;
 use std::test::Fail;
@@ -14,82 +15,72 @@ fn refusal(alloc: Global, text: &str) -> Option<(AsmKind, u32)> {
     }
 }
 
-/// Whether the text's code is printed so.
-fn prints_as(alloc: Global, text: &str, printed: &str) -> bool {
+/// The code of a valid text that is not very long.
+fn assembled(alloc: Global, text: &str) -> Option<Code> {
     if text.len() > 1_000_000 {
-        return false;
+        return None;
     }
-    match assemble(alloc, text) {
-        Ok(code) => match print(alloc, &code) {
-            Ok(bytes) => bytes.as_slice() == printed.as_bytes(),
-            Err(_) => false,
-        },
-        Err(_) => false,
-    }
+    assemble(alloc, text).ok()
 }
 
-/// Whether the printed code of the text, assembled again, has the same words and starts, and is printed with
-/// the same names.
-fn comes_back(alloc: Global, text: &str) -> bool {
-    if text.len() > 1_000_000 {
-        return false;
-    }
-    let Ok(code) = assemble(alloc, text) else {
-        return false;
-    };
-    let Ok(bytes) = print(alloc, &code) else {
-        return false;
-    };
-    match str::from_utf8(bytes.as_slice()) {
-        Ok(printed) if printed.len() < 1_000_000 => match assemble(alloc, printed) {
-            Ok(again) => {
-                again.words() == code.words()
-                    && again.starts() == code.starts()
-                    && match print(alloc, &again) {
-                        Ok(twice) => twice.as_slice() == bytes.as_slice(),
-                        Err(_) => false,
-                    }
-            }
-            Err(_) => false,
-        },
-        _ => false,
-    }
+/// The printed code of a text.
+fn printed(alloc: Global, text: &str) -> Option<Vec<u8>> {
+    let code = assembled(alloc, text)?;
+    print(alloc, &code).ok()
+}
+
+/// A code, printed and assembled again.
+fn again(alloc: Global, code: &Code) -> Option<Code> {
+    let bytes = print(alloc, code).ok()?;
+    let text = str::from_utf8(bytes.as_slice()).ok()?;
+    assembled(alloc, text)
+}
+
+/// Whether two codes have the same words and starts, and are printed with the same names.
+fn are_alike(alloc: Global, one: &Code, other: &Code) -> Option<bool> {
+    let first = print(alloc, one).ok()?;
+    let second = print(alloc, other).ok()?;
+    let parts = (one.words(), one.starts(), first.as_slice());
+    Some(parts == (other.words(), other.starts(), second.as_slice()))
+}
+
+/// Whether the code of a text, printed and assembled again, is the same.
+fn comes_back(alloc: Global, text: &str) -> Option<bool> {
+    let code = assembled(alloc, text)?;
+    are_alike(alloc, &code, &again(alloc, &code)?)
 }
 
 #[test]
 fn codes_are_printed(rt: HostRuntime) {
-    let alloc = rt.alloc();
-    assert!(rt;
-        prints_as(
-            alloc,
+    let cases = [
+        (
             ".func f; top:x: nop; {(!p2) br top;addi r1=r0,0x1f}; call g; br end; end: .func g; ret",
             ".func f\nL0:\n  nop\n  { (!p2) br L0 ; addi r1 = r0, 31 }\n  call g\n  br L5\nL5:\n.func g\n  ret\n",
-        )
-    );
-    assert!(rt;
-        prints_as(
-            alloc,
+        ),
+        (
             ".func f; pand p1 = !p2, p3; mts sl = r4; mfs r5 = ss; lhum r1 = [r2]; sbm [r2 + 1] = r4; sens 9",
             ".func f\n  pand p1 = !p2, p3\n  mts sl = r4\n  mfs r5 = ss\n  lhum r1 = [r2 + 0]\n  sbm [r2 + 1] = r4\n  sens 9\n",
-        )
-    );
+        ),
+    ];
+    for (text, want) in cases {
+        let told = printed(rt.alloc(), text).expect(&rt, text);
+        expect_same(&rt, told.as_slice(), want.as_bytes());
+    }
 }
 
 #[test]
 fn printed_codes_come_back(rt: HostRuntime) {
-    let alloc = rt.alloc();
-    assert!(rt;
-        comes_back(
-            alloc,
-            ".func main; addl r2 = r0, 0x01000000; addl r3 = r0, 10000; top: subi r3 = r3, 1; cmpineq p1 = r3, 0; (p1) br top; nop; nop; lwm r1 = [r2 + 0]; ret; nop; nop; nop"
-        )
-    );
-    assert!(rt;
-        comes_back(
-            alloc,
-            ".func a; mul r1, r2; (p1) mulu r3, r4; { cmpult p3 = r1, r2 ; btesti p4 = r2, 7 }; brcf b; .func b; sres 4; swc [r1] = r2; (!p7) ret; br x; x:"
-        )
-    );
+    let texts = [
+        ".func main; addl r2 = r0, 0x01000000; addl r3 = r0, 10000; top: subi r3 = r3, 1; cmpineq p1 = r3, 0; (p1) br top; nop; nop; lwm r1 = [r2 + 0]; ret; nop; nop; nop",
+        ".func a; mul r1, r2; (p1) mulu r3, r4; { cmpult p3 = r1, r2 ; btesti p4 = r2, 7 }; brcf b; .func b; sres 4; swc [r1] = r2; (!p7) ret; br x; x:",
+    ];
+    for text in texts {
+        expect_same(
+            &rt,
+            (text, comes_back(rt.alloc(), text)),
+            (text, Some(true)),
+        );
+    }
 }
 
 /// A text of so many functions, each of so many bundles of one word.
@@ -104,33 +95,32 @@ fn long_text(alloc: Global, functions: u32, bundles: u32) -> Result<String, Allo
     Ok(text)
 }
 
+// eight functions of 4,095 words with their size words fill the image
 #[test]
 fn limits_of_functions_and_images(rt: HostRuntime) -> Result<(), Fail> {
-    let alloc = rt.alloc();
-    let most = long_text(alloc, 1, 4096)?;
-    assert_eq!(rt; refusal(alloc, most.as_str()), None);
-    let more = long_text(alloc, 1, 4097)?;
-    assert_eq!(rt;
-        refusal(alloc, more.as_str()),
-        Some((AsmKind::TooLarge, 4098))
-    );
-    // eight functions with their size words fill the image
-    let full = long_text(alloc, 8, 4095)?;
-    assert_eq!(rt; refusal(alloc, full.as_str()), None);
-    let over = long_text(alloc, 9, 4095)?;
-    assert_eq!(rt;
-        refusal(alloc, over.as_str()),
-        Some((AsmKind::TooLarge, 32769))
-    );
+    for (functions, bundles, fault) in [
+        (1, 4096, None),
+        (1, 4097, Some((AsmKind::TooLarge, 4098))),
+        (8, 4095, None),
+        (9, 4095, Some((AsmKind::TooLarge, 32769))),
+    ] {
+        let text = long_text(rt.alloc(), functions, bundles)?;
+        let refused = refusal(rt.alloc(), text.as_str());
+        expect_same(
+            &rt,
+            (functions, bundles, refused),
+            (functions, bundles, fault),
+        );
+    }
     Ok(())
 }
 
 #[test]
 fn images_of_codes(rt: HostRuntime) -> Result<(), Fail> {
     let code = assemble(rt.alloc(), ".func f; ret; .func g; ret")?;
-    assert_eq!(rt; code.names().len(), 2);
+    expect_same(&rt, code.names().len(), 2);
     let image = image_of(code);
-    assert_eq!(rt; image.starts(), [1, 3].as_slice());
-    assert_eq!(rt; image.input_room(), 4096);
+    expect_same(&rt, image.starts(), &[1, 3]);
+    expect_same(&rt, image.input_room(), 4096);
     Ok(())
 }

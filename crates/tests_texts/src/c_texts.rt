@@ -1,6 +1,7 @@
+use crate::expect::expect_same;
 use c_lex::{LexFault, every_text, lex, worked_texts};
 use c_parse::{ParseFault, parse};
-use c_tree::{Keyword, Sign, Token, Unit};
+use c_tree::{Token, Unit};
 use std::alloc::Global;
 use std::test::Fail;
 use tc_word::List;
@@ -13,42 +14,34 @@ fn tokens_of(alloc: Global, text: &str) -> Result<List<Token>, LexFault> {
     lex(alloc, text)
 }
 
+/// The tokens of a text, as they are shown.
+fn shown(alloc: Global, text: &str) -> Result<String, Fail> {
+    let tokens = tokens_of(alloc, text)?;
+    Ok(format!(in alloc; "{:?}", tokens.as_slice())?)
+}
+
 #[test]
 fn reads_tokens(rt: HostRuntime) -> Result<(), Fail> {
     worked_texts();
     every_text();
-    let loops = tokens_of(
-        rt.alloc(),
-        "/* a loop */\n\t#pragma loopbound  min 0\tmax 10 \r\nwhile (i <= 0x1Fu) sizeof // to here",
-    )?;
-    assert!(rt;
-        matches!(loops.as_slice(), [
-        Token::Bound { min: 0, max: 10 },
-        Token::Keyword { word: Keyword::While },
-        Token::Sign { sign: Sign::OpenParenthesis },
-        Token::Word { text },
-        Token::Sign { sign: Sign::LessEqual },
-        Token::Number { value: 31, unsigned: true },
-        Token::Sign { sign: Sign::CloseParenthesis },
-        Token::Keyword { word: Keyword::Other },
-    ] if text.as_str() == "i")
-    );
-    let chain = tokens_of(rt.alloc(), "_Pragma(\"loopbound min 1 max 2\")-1>>~_x9")?;
-    assert!(rt;
-        matches!(chain.as_slice(), [
-        Token::Bound { min: 1, max: 2 },
-        Token::Sign { sign: Sign::Minus },
-        Token::Number { value: 1, unsigned: false },
-        Token::Sign { sign: Sign::ShiftRight },
-        Token::Sign { sign: Sign::Tilde },
-        Token::Word { text },
-    ] if text.as_str() == "_x9")
-    );
-    assert!(rt;
-        tokens_of(rt.alloc(), " // nothing\n/**/")?
-            .as_slice()
-            .is_empty()
-    );
+    let cases = [
+        (
+            "/* a loop */\n\t#pragma loopbound  min 0\tmax 10 \r\nwhile (i <= 0x1Fu) sizeof // to here",
+            "[Bound { min: 0, max: 10 }, Keyword { word: While }, Sign { sign: OpenParenthesis }, \
+            Word { text: Text { text: \"i\" } }, Sign { sign: LessEqual }, Number { value: 31, unsigned: true }, \
+            Sign { sign: CloseParenthesis }, Keyword { word: Other }]",
+        ),
+        (
+            "_Pragma(\"loopbound min 1 max 2\")-1>>~_x9",
+            "[Bound { min: 1, max: 2 }, Sign { sign: Minus }, Number { value: 1, unsigned: false }, \
+            Sign { sign: ShiftRight }, Sign { sign: Tilde }, Word { text: Text { text: \"_x9\" } }]",
+        ),
+        (" // nothing\n/**/", "[]"),
+    ];
+    for (text, want) in cases {
+        let told = shown(rt.alloc(), text)?;
+        expect_same(&rt, told.as_str(), want);
+    }
     Ok(())
 }
 
@@ -75,7 +68,8 @@ fn reads_programs(rt: HostRuntime) {
         "int x = -5;",
     ];
     for text in texts {
-        assert!(rt; parsed(rt.alloc(), text).is_ok(), "{text}");
+        let fault = parsed(rt.alloc(), text).err();
+        expect_same(&rt, (text, fault), (text, None));
     }
 }
 
@@ -95,10 +89,10 @@ fn nested(alloc: Global, depth: usize) -> Result<String, Fail> {
 
 #[test]
 fn at_most_64_brackets_are_open(rt: HostRuntime) -> Result<(), Fail> {
-    let most = nested(rt.alloc(), 63)?;
-    assert!(rt; parsed(rt.alloc(), most.as_str()).is_ok());
-    let more = nested(rt.alloc(), 64)?;
-    let fault = parsed(rt.alloc(), more.as_str()).err();
-    assert_eq!(rt; fault, Some(ParseFault::Syntax { at: 69 }));
+    for (depth, fault) in [(63, None), (64, Some(ParseFault::Syntax { at: 69 }))] {
+        let text = nested(rt.alloc(), depth)?;
+        let refused = parsed(rt.alloc(), text.as_str()).err();
+        expect_same(&rt, (depth, refused), (depth, fault));
+    }
     Ok(())
 }

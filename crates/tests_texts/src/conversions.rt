@@ -1,16 +1,15 @@
 //! That valid texts are converted to single-path trees, which no clause can say: want of memory may come at any time.
 //! What the trees come to stands beside what the texts mean.
-use crate::kernels::KERNELS;
-use c_check::check;
-use c_lex::lex;
-use c_parse::parse;
+use crate::checks::checked;
+use crate::expect::expect_same;
+use crate::kernels::{KERNELS, Kernel};
 use c_run::{Outcome, mean};
 use c_tree::{Checked, Slot};
 use local_store::Cell;
 use single_path::convert;
-use slot_arbiter::Place;
 use sp_tree::{SpOutcome, plain_straight};
 use std::alloc::Global;
+use std::process::Abort;
 use std::test::Fail;
 use tc_word::List;
 
@@ -22,25 +21,17 @@ struct Compared {
     layout: List<Slot>,
 }
 
-fn checked(alloc: Global, text: &str) -> Option<Checked> {
-    if text.len() > 1_000_000 {
+/// What the tree of a program comes to.
+fn tree_of(alloc: Global, program: &Checked, input: &[u32]) -> Option<SpOutcome> {
+    let Ok(unit) = convert(alloc, program) else {
         return None;
-    }
-    let tokens = lex(alloc, text).ok()?;
-    if tokens.as_slice().len() > 1_000_000 {
-        return None;
-    }
-    let unit = parse(alloc, &tokens).ok()?;
-    let place = Place::new(4, 0, 10, 0)?;
-    check(alloc, unit, &place).ok()
+    };
+    plain_straight(alloc, &unit, input).ok()
 }
 
 fn compare(alloc: Global, text: &str, input: &[u32]) -> Option<Compared> {
     let program = checked(alloc, text)?;
-    let Ok(unit) = convert(alloc, &program) else {
-        return None;
-    };
-    let came = plain_straight(alloc, &unit, input).ok()?;
+    let came = tree_of(alloc, &program, input)?;
     let meant = mean(alloc, &program, input).ok()?;
     Some(Compared {
         meant,
@@ -121,8 +112,14 @@ const MASKED: &str =
 const CALLS: &str =
     "int g; int f(int a, int b) { if (a < b) { g = g + 1; return b - a; } return a - b; } int main() { int x = f(3, 8); int y = f(x, 2); g = y + g; if (g > 100) { x = f(1, 2); } return x * 100 + g; }";
 
+/// The value that the tree of a text comes to, whether it has an overrun, and whether all is as is meant.
+fn outcome(alloc: Global, text: &str, input: &[u32]) -> Option<(u32, bool, bool)> {
+    let both = compare(alloc, text, input)?;
+    Some((both.came.value, both.came.overrun, is_meant(&both)))
+}
+
 #[test]
-fn small_programs_come_to_what_they_mean(rt: HostRuntime) -> Result<(), Fail> {
+fn small_programs_come_to_what_they_mean(rt: HostRuntime) {
     for (text, input, value, overrun) in [
         (SUM, [0u32, 0], 45u32, false),
         (CUT_OFF, [0, 0], 10, true),
@@ -132,29 +129,24 @@ fn small_programs_come_to_what_they_mean(rt: HostRuntime) -> Result<(), Fail> {
         (MASKED, [9, 0], 0, false),
         (CALLS, [0, 0], 504, false),
     ] {
-        let Some(both) = compare(rt.alloc(), text, &input) else {
-            assert!(rt; false, "not converted: {text}");
-            return Ok(());
-        };
-        assert_eq!(rt; both.came.value, value);
-        assert_eq!(rt; both.came.overrun, overrun);
-        assert!(rt; is_meant(&both), "{text}");
+        let came = outcome(rt.alloc(), text, &input);
+        expect_same(&rt, (text, came), (text, Some((value, overrun, true))));
     }
-    Ok(())
+}
+
+/// Compares what the tree of a kernel comes to with what gcc gives, and with what is meant.
+fn expect_kernel(rt: &impl Abort, alloc: Global, kernel: &Kernel) {
+    let both = compare(alloc, kernel.text, kernel.input).expect(rt, kernel.text);
+    let came = (kernel.text, both.came.value, is_meant(&both));
+    expect_same(rt, came, (kernel.text, kernel.value, true));
+    expect_same(rt, out_of(&both), kernel.out);
 }
 
 #[test]
-fn kernels_come_to_what_gcc_gives(rt: HostRuntime) -> Result<(), Fail> {
+fn kernels_come_to_what_gcc_gives(rt: HostRuntime) {
     for kernel in &KERNELS {
-        let Some(both) = compare(rt.alloc(), kernel.text, kernel.input) else {
-            assert!(rt; false, "not converted: {}", kernel.text);
-            return Ok(());
-        };
-        assert_eq!(rt; both.came.value, kernel.value);
-        assert_eq!(rt; out_of(&both), kernel.out);
-        assert!(rt; is_meant(&both), "{}", kernel.text);
+        expect_kernel(&rt, rt.alloc(), kernel);
     }
-    Ok(())
 }
 
 /// Ways out of an arm in a loop, of an `else` in an inner loop, and after that loop.
@@ -186,10 +178,9 @@ fn exits_are_meant(alloc: Global, exits: [&str; 3]) -> Result<bool, Fail> {
     for bounds in [["4", "3"], ["2", "3"], ["4", "0"], ["0", "2"]] {
         let text = nested(alloc, exits, bounds)?;
         for input in [[0, 0, 0], [1, 2, 3], [2, 1, 1], [3, 4, 2], [9, 3, 9]] {
-            let came = compare(alloc, text.as_str(), &input);
-            if !came.is_some_and(|both| is_meant(&both)) {
+            let Some((_, _, true)) = outcome(alloc, text.as_str(), &input) else {
                 return Ok(false);
-            }
+            };
         }
     }
     Ok(true)
@@ -200,8 +191,9 @@ fn nested_exits_come_to_what_they_mean(rt: HostRuntime) -> Result<(), Fail> {
     for first in EXITS {
         for second in EXITS {
             for third in EXITS {
-                let meant = exits_are_meant(rt.alloc(), [first, second, third])?;
-                assert!(rt; meant, "{first} {second} {third}");
+                let exits = [first, second, third];
+                let meant = exits_are_meant(rt.alloc(), exits)?;
+                expect_same(&rt, (exits, meant), (exits, true));
             }
         }
     }

@@ -1,6 +1,7 @@
+use crate::expect::expect_same;
 use std::alloc::Global;
 use std::test::Fail;
-use tc_job::{Lang, read_job};
+use tc_job::{Job, Lang, read_job};
 use tc_toml::{JobError, put_fault};
 
 /// The line in which the fault of a text is told, or `a job`.
@@ -23,21 +24,32 @@ fn line_of(alloc: Global, error: &JobError) -> Result<Vec<u8>, JobError> {
 #[test]
 fn tells_a_fault_of_each_place(rt: HostRuntime) -> Result<(), Fail> {
     let cases = [
-        ("", "job: Missing version"),
-        ("zeta = 1\neta = 2\nversion = 3", "job: Key eta"),
+        ("", b"job: Missing version".as_slice()),
+        ("zeta = 1\neta = 2\nversion = 3", b"job: Key eta"),
         (
             "version = 1\ntask = [{ kore = 1 }]\ncores = 1\nslot = 6\ncycles = 1",
-            "job: Key task 0 kore",
+            b"job: Key task 0 kore",
         ),
     ];
-    for (text, line) in cases {
-        assert_eq!(rt;
-            reported(rt.alloc(), text)?.as_slice(),
-            line.as_bytes(),
-            "{text}"
-        );
+    for (text, want) in cases {
+        let line = reported(rt.alloc(), text)?;
+        expect_same(&rt, (text, line.as_slice()), (text, want));
     }
     Ok(())
+}
+
+/// The core, the language, the start, the text and the input of the only task of a job.
+fn only_task(job: &Job) -> Option<(u32, Lang, u64, &str, &[u32])> {
+    let [task] = job.tasks.as_slice() else {
+        return None;
+    };
+    Some((
+        task.core,
+        task.lang,
+        task.start,
+        task.source.as_str(),
+        task.input.as_slice(),
+    ))
 }
 
 /// A job of version 1 with one task, of core 1.
@@ -47,14 +59,11 @@ const ONE_TASK: &str =
 #[test]
 fn reads_a_job_of_version_1(rt: HostRuntime) -> Result<(), Fail> {
     let job = read_job(rt.alloc(), ONE_TASK.as_bytes())?;
-    assert_eq!(rt; (job.version, job.cores, job.slot), (1, 2, 6));
-    assert_eq!(rt; job.table.as_slice(), [0, 1].as_slice());
-    assert_eq!(rt; (job.cycles, job.trace, job.workers), (9, 0, 2));
-    assert_eq!(rt; job.tasks.as_slice().len(), 1);
-    let task = &job.tasks.as_slice()[0];
-    assert_eq!(rt; (task.core, task.lang, task.start), (1, Lang::C, 0));
-    assert_eq!(rt; task.source.as_str(), "");
-    assert!(rt; task.input.as_slice().is_empty());
+    expect_same(&rt, (job.version, job.cores, job.slot), (1, 2, 6));
+    expect_same(&rt, job.table.as_slice(), &[0, 1]);
+    expect_same(&rt, (job.cycles, job.trace, job.workers), (9, 0, 2));
+    let task = (1, Lang::C, 0, "", [].as_slice());
+    expect_same(&rt, only_task(&job), Some(task));
     Ok(())
 }
 
@@ -64,16 +73,14 @@ fn reads_a_job_of_version_2(rt: HostRuntime) -> Result<(), Fail> {
         "version = 2\ncores = 3\nslot = 64\ntable = [0, 1, 0, 2]\ncycles = 20_000_000\ntrace = 65536\nworkers = 1\n\
         [[task]]\ncore = 2\nlang = \"asm\"\nsource = \"ret\"\ninput = [-1, 7]\nstart = 12\n";
     let job = read_job(rt.alloc(), text.as_bytes())?;
-    assert_eq!(rt; (job.version, job.cores, job.slot), (2, 3, 64));
-    assert_eq!(rt; job.table.as_slice(), [0, 1, 0, 2].as_slice());
-    assert_eq!(rt;
+    expect_same(&rt, (job.version, job.cores, job.slot), (2, 3, 64));
+    expect_same(&rt, job.table.as_slice(), &[0, 1, 0, 2]);
+    expect_same(
+        &rt,
         (job.cycles, job.trace, job.workers),
-        (20_000_000, 65_536, 1)
+        (20_000_000, 65_536, 1),
     );
-    assert_eq!(rt; job.tasks.as_slice().len(), 1);
-    let task = &job.tasks.as_slice()[0];
-    assert_eq!(rt; (task.core, task.lang, task.start), (2, Lang::Asm, 12));
-    assert_eq!(rt; task.source.as_str(), "ret");
-    assert_eq!(rt; task.input.as_slice(), [0xffff_ffff, 7].as_slice());
+    let task = (2, Lang::Asm, 12, "ret", [0xffff_ffff, 7].as_slice());
+    expect_same(&rt, only_task(&job), Some(task));
     Ok(())
 }

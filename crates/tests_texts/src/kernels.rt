@@ -9,7 +9,7 @@ pub struct Kernel {
     pub out: &'static [u32],
 }
 
-pub const KERNELS: [Kernel; 8] = [
+pub static KERNELS: [Kernel; 8] = [
     Kernel {
         text: r#"/* Binary search in a table of 64 squares; one answer for each key. */
 int in[8];

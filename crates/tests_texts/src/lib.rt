@@ -13,6 +13,8 @@ mod checks;
 #[cfg(test)]
 mod conversions;
 #[cfg(test)]
+mod expect;
+#[cfg(test)]
 mod jobs;
 #[cfg(test)]
 mod kernels;

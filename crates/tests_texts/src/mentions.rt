@@ -1,5 +1,6 @@
 //! What is told of small programs, and of tasks that run them.
 use crate::c_texts::parsed;
+use crate::expect::expect_same;
 use c_mentions::{Program, Task, is_alone, mentions_of};
 use std::test::Fail;
 
@@ -13,9 +14,7 @@ const WRITER: &str = "int main() { if (0) { send(2, 0, 0, 1); } shared[0] = 5; r
 fn comm_is_mentioned_before_it_is_hidden(rt: HostRuntime) -> Result<(), Fail> {
     let unit = parsed(rt.alloc(), READER)?;
     let told = mentions_of(&unit);
-    assert!(rt; told.comm);
-    assert!(rt; !told.shared);
-    assert_eq!(rt; told.sends, 0);
+    expect_same(&rt, (told.comm, told.shared, told.sends), (true, false, 0));
     Ok(())
 }
 
@@ -23,12 +22,16 @@ fn comm_is_mentioned_before_it_is_hidden(rt: HostRuntime) -> Result<(), Fail> {
 fn shared_is_assigned_and_core_2_sent_to(rt: HostRuntime) -> Result<(), Fail> {
     let unit = parsed(rt.alloc(), WRITER)?;
     let told = mentions_of(&unit);
-    assert!(rt; told.shared);
-    assert!(rt; told.assigns_shared);
-    assert!(rt; !told.comm);
-    assert_eq!(rt; told.sends, 4);
-    assert!(rt; told.sends_to(2));
-    assert!(rt; !told.sends_to(0));
+    expect_same(
+        &rt,
+        (told.shared, told.assigns_shared, told.comm),
+        (true, true, false),
+    );
+    expect_same(
+        &rt,
+        (told.sends, told.sends_to(2), told.sends_to(0)),
+        (4, true, false),
+    );
     Ok(())
 }
 
@@ -48,9 +51,8 @@ fn a_reader_is_alone_until_its_core_is_sent_to(rt: HostRuntime) -> Result<(), Fa
         },
         Task::Idle,
     ];
-    assert!(rt; is_alone(0, &tasks));
-    assert!(rt; is_alone(1, &tasks));
-    assert!(rt; !is_alone(2, &tasks));
-    assert!(rt; !is_alone(3, &tasks));
+    for (core, alone) in [(0, true), (1, true), (2, false), (3, false)] {
+        expect_same(&rt, (core, is_alone(core, &tasks)), (core, alone));
+    }
     Ok(())
 }

@@ -8,6 +8,8 @@
 #[cfg(test)]
 mod boards;
 #[cfg(test)]
+mod expect;
+#[cfg(test)]
 mod machines;
 #[cfg(test)]
 mod workers;

@@ -2,6 +2,7 @@ ghost use Rattle.std.specs.Prelude.{[], ◌∷◌, IfSome};
 ghost use Rattle.std.specs.Option.{option_copied};
 ghost use Rattle.patmos_code.specs.Images.{IsImage, parts};
 
+use crate::expect::expect_same;
 use core_worker::Waiting;
 use global_step::{Loaded, LoadedCore};
 use local_store::Cell;
@@ -9,13 +10,14 @@ use patmos_code::Image;
 use patmos_core::{Core, CoreState};
 use slot_arbiter::{Access, Place};
 use std::alloc::{AllocError, Global};
+use std::process::Abort;
 use std::sync::Wait;
 use std::sync::atomic::{AtomicBool, Ordering};
 use std::test::Fail;
-use std::thread::yield_now;
+use std::thread::{Threads, yield_now};
 use tc_io::{FreeGate, Gate};
 use tc_run::{
-    accesses_of, dropped_of, outcome_of, own_word_of, run_by_turns, run_machine, run_plain,
+    Final, accesses_of, dropped_of, outcome_of, own_word_of, run_by_turns, run_machine, run_plain,
     run_waiting,
 };
 use tc_word::List;
@@ -96,6 +98,24 @@ impl Task {
     }
 }
 
+/// The core of a number with its task, if there is such a place.
+fn core_of(
+    alloc: Global,
+    count: u32,
+    core: u32,
+    task: &Task,
+) -> Result<Option<LoadedCore>, AllocError> {
+    let image = task.image(alloc)?;
+    let Some(place) = Place::new(count, core, 6, task.start()) else {
+        return Ok(None);
+    };
+    Ok(Some(LoadedCore {
+        place,
+        image,
+        input: List::of(Vec::new(alloc)),
+    }))
+}
+
 /// The machine of cores with these tasks, of which there are so many, with slots of 6 cycles, a limit of 20,000 cycles,
 /// and so many workers.
 fn machine_of(
@@ -106,14 +126,8 @@ fn machine_of(
 ) -> Result<Option<Loaded>, AllocError> {
     let mut cores = Vec::new(alloc);
     for (core, task) in (0..count).zip(tasks) {
-        let image = task.image(alloc)?;
-        if let Some(place) = Place::new(count, core, 6, task.start()) {
-            let input = List::of(Vec::new(alloc));
-            cores.push(LoadedCore {
-                place,
-                image,
-                input,
-            })?;
+        if let Some(core) = core_of(alloc, count, core, task)? {
+            cores.push(core)?;
         }
     }
     Ok(Loaded::new(List::of(cores), 20_000, 9, workers))
@@ -135,6 +149,45 @@ fn outcomes_of(alloc: Global, cores: &[Core]) -> Result<Vec<CoreState>, AllocErr
         outcomes.push(outcome_of(core))?;
     }
     Ok(outcomes)
+}
+
+/// A way in which a machine is run.
+#[derive(Clone, Copy, PartialEq, Debug)]
+enum Way {
+    Plain,
+    ByTurns,
+    InThreads,
+}
+
+impl Way {
+    fn run<R: Threads + Wait + Sync>(
+        self,
+        rt: &R,
+        alloc: Global,
+        machine: &Loaded,
+    ) -> Result<Final, AllocError> {
+        match self {
+            Way::Plain => run_plain(alloc, machine),
+            Way::ByTurns => run_by_turns(alloc, rt, machine, &FreeGate),
+            Way::InThreads => run_machine(alloc, rt, machine, &FreeGate),
+        }
+    }
+}
+
+/// Compares how the cores of a machine end, and the first word of shared memory.
+fn expect_end<R: Threads + Wait + Sync + Abort>(
+    rt: &R,
+    alloc: Global,
+    machine: &Loaded,
+    way: Way,
+    outcomes: &[CoreState],
+    shared: u32,
+) -> Result<(), AllocError> {
+    let end = way.run(rt, alloc, machine)?;
+    let ended = outcomes_of(alloc, end.cores.as_slice())?;
+    expect_same(rt, (way, ended.as_slice()), (way, outcomes));
+    expect_same(rt, end.words.as_slice().first(), Some(&shared));
+    Ok(())
 }
 
 #[test]
@@ -162,14 +215,8 @@ fn threads_turns_and_the_plain_run_end_alike(rt: HostRuntime) -> Result<(), Fail
         ),
     ] {
         let machine = machine_of(alloc, count, tasks, 1)?.expect(&rt, "a machine");
-        for end in [
-            run_plain(alloc, &machine)?,
-            run_by_turns(alloc, &rt, &machine, &FreeGate)?,
-            run_machine(alloc, &rt, &machine, &FreeGate)?,
-        ] {
-            let ended = outcomes_of(alloc, end.cores.as_slice())?;
-            assert_eq!(rt; ended.as_slice(), outcomes);
-            assert_eq!(rt; end.words.as_slice().first(), Some(&shared));
+        for way in [Way::Plain, Way::ByTurns, Way::InThreads] {
+            expect_end(&rt, alloc, &machine, way, outcomes, shared)?;
         }
     }
     Ok(())
@@ -197,30 +244,48 @@ impl<R: Wait> Gate for FirstHeld<'_, R> {
     }
 }
 
+/// How the cores of a machine end whose core 1 is held, and whether it came to its event.
+fn run_held<R: Threads + Wait + Sync>(
+    rt: &R,
+    alloc: Global,
+    machine: &Loaded,
+    peeks_first: bool,
+) -> Result<(Vec<CoreState>, bool), AllocError> {
+    let waiting = Waiting::new(peeks_first);
+    let gate = FirstHeld {
+        rt,
+        waiting: &waiting,
+        was_held: AtomicBool::new(false),
+    };
+    let end = run_waiting(alloc, rt, machine, &waiting, &gate)?;
+    let ended = outcomes_of(alloc, end.cores.as_slice())?;
+    Ok((ended, gate.was_held.load(Ordering::SeqCst)))
+}
+
 #[test]
 fn a_worker_that_sleeps_is_woken(rt: HostRuntime) -> Result<(), Fail> {
     let alloc = rt.alloc();
     let tasks = [Task::Store { start: 12 }, Task::TwoLoads];
     let machine = machine_of(alloc, 2, tasks.as_slice(), 2)?.expect(&rt, "a machine");
     for peeks_first in [false, true] {
-        let waiting = Waiting::new(peeks_first);
-        let gate = FirstHeld {
-            rt: &rt,
-            waiting: &waiting,
-            was_held: AtomicBool::new(false),
-        };
-        let end = run_waiting(alloc, &rt, &machine, &waiting, &gate)?;
-        let ended = outcomes_of(alloc, end.cores.as_slice())?;
-        assert_eq!(rt;
+        let (ended, was_held) = run_held(&rt, alloc, &machine, peeks_first)?;
+        expect_same(
+            &rt,
             ended.as_slice(),
-            [done(0, SHARED, 46), done(5, SHARED, 64)].as_slice()
+            &[done(0, SHARED, 46), done(5, SHARED, 64)],
         );
-        assert!(rt;
-            gate.was_held.load(Ordering::SeqCst),
-            "core 1 came to its event"
-        );
+        expect_same(&rt, (peeks_first, was_held), (peeks_first, true));
     }
     Ok(())
+}
+
+/// A fetch of so many words from a cycle on.
+fn fill(cycle: u64, words: u32) -> Access {
+    Access {
+        cycle,
+        write: false,
+        words,
+    }
 }
 
 #[test]
@@ -229,14 +294,9 @@ fn a_core_tells_of_its_run(rt: HostRuntime) -> Result<(), Fail> {
     let machine = machine_of(alloc, 2, &[Task::Idle, Task::Seven], 1)?.expect(&rt, "a machine");
     let end = run_machine(alloc, &rt, &machine, &FreeGate)?;
     let last = end.cores.as_slice().last().expect(&rt, "a core");
-    let fill = |cycle: u64, words: u32| Access {
-        cycle,
-        write: false,
-        words,
-    };
-    assert_eq!(rt; accesses_of(last), [fill(6, 4), fill(18, 2)].as_slice());
-    assert_eq!(rt; dropped_of(last), 0);
-    assert_eq!(rt; own_word_of(last, Cell::Private(4)), 0);
-    assert_eq!(rt; end.words.as_slice().len(), 4096 + 512 * 2);
+    expect_same(&rt, accesses_of(last), &[fill(6, 4), fill(18, 2)]);
+    expect_same(&rt, dropped_of(last), 0);
+    expect_same(&rt, own_word_of(last, Cell::Private(4)), 0);
+    expect_same(&rt, end.words.as_slice().len(), 4096 + 512 * 2);
     Ok(())
 }

@@ -2,7 +2,8 @@ use Rattle.std.proofs.Common.{◌≡◌, ◌<◌, ◌≤◌, [], ◌∷◌, ◌+
 use Rattle.c_tree.specs.Tokens.{expr_tokens, one, unary_sign}
 use Rattle.c_tree.specs.Fits.{ExprFits, rank}
 use Rattle.c_tree.proofs.Chains.{tokens_of_steps, AllStepsFit}
-use Rattle.c_parse.specs.Expected.{Operand, Tail, Passes, level_ahead}
+use Rattle.c_parse.specs.Expected.{Operand, Tail}
+use Rattle.c_parse.specs.Readers.{Passes, level_ahead}
 use Rattle.c_parse.proofs.expressions.+expression.Given as goal
 
 abbrev pub decreases-expression : goal.decreases-expression

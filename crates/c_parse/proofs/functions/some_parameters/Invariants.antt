@@ -1,6 +1,7 @@
 use Rattle.std.proofs.Common.{◌≡◌, ◌≢◌, ◌<◌, [], ◌∷◌, ◌++◌, length}
 use Rattle.c_tree.specs.Tokens.{kind_tokens, parameters_tokens}
-use Rattle.c_parse.specs.Expected.{Name, MoreParameters, Passes}
+use Rattle.c_parse.specs.Expected.{Name, MoreParameters}
+use Rattle.c_parse.specs.Readers.{Passes}
 use Rattle.c_parse.proofs.functions.some_parameters.Given as goal
 
 abbrev pub invariant-loop-behind : goal.invariant-loop-behind

@@ -1,6 +1,7 @@
 use Rattle.std.proofs.Common.{◌≡◌, ◌≢◌, ◌<◌, [], ◌∷◌, ◌++◌, length}
 use Rattle.c_tree.specs.Tokens.{consts_tokens}
-use Rattle.c_parse.specs.Expected.{Constant, MoreConstants, Passes}
+use Rattle.c_parse.specs.Expected.{Constant, MoreConstants}
+use Rattle.c_parse.specs.Readers.{Passes}
 use Rattle.c_parse.proofs.globals.constants.Given as goal
 
 abbrev pub invariant-loop-behind : goal.invariant-loop-behind

@@ -2,7 +2,8 @@ use Rattle.std.proofs.Common.{◌≡◌, ◌≢◌, ◌<◌, [], ◌∷◌, ◌+
 use Rattle.std.specs.List.{AllByRecursion as Each}
 use Rattle.c_tree.specs.Tokens.{args_tokens}
 use Rattle.c_tree.specs.Fits.{ExprFits}
-use Rattle.c_parse.specs.Expected.{Arguments, MoreArguments, Passes}
+use Rattle.c_parse.specs.Expected.{Arguments, MoreArguments}
+use Rattle.c_parse.specs.Readers.{Passes}
 use Rattle.c_parse.proofs.rights.arguments.Given as goal
 
 abbrev pub invariant-loop-behind : goal.invariant-loop-behind

@@ -4,7 +4,8 @@ use Rattle.c_tree.specs.Tokens.{body_tokens, word}
 use Rattle.c_tree.specs.Fits.{StmtFits}
 use Rattle.c_tree.specs.declared.tokens.Keyword.TheVariants as keyword
 use Rattle.c_tree.proofs.Blocks.{tokens_of_arms, ArmFits}
-use Rattle.c_parse.specs.Expected.{Statements, Else, Condition, Block, Passes}
+use Rattle.c_parse.specs.Expected.{Statements, Else, Condition, Block}
+use Rattle.c_parse.specs.Readers.{Passes}
 use Rattle.c_parse.proofs.statements.+statement.Given as goal
 
 abbrev pub decreases-statements : goal.decreases-statements

@@ -8,7 +8,7 @@ use Rattle.sp_tree.proofs.Runs.{sent_shown}
 use Rattle.c_meaning.specs.declared.actions.Action.{Action}
 use Rattle.c_meaning.specs.declared.actions.Routine.{Routine}
 use Rattle.c_meaning.specs.declared.ways.Way.TheVariants as way
-use Rattle.c_meaning.specs.Meaning.{Done, goes_on, turn_done, turns_done}
+use Rattle.c_meaning.specs.Meaning.{Done, Given, goes_on, turn_done, turns_done}
 use Rattle.c_meaning.specs.Resolved.{worth, args_worth, holds, step_done, given_done, action_done, actions_done, branches_done}
 use Rattle.c_meaning.specs.Shown.{plain_action, plain_target, plain_assignment, actions_of, branches_of, bodies_of}
 use Rattle.c_meaning.specs.Values.{State}
@@ -22,13 +22,10 @@ use Rattle.c_run.proofs.Falls.{call_size, total_grows}
 use Rattle.c_run.proofs.Runs.{has_done, along, reaches_first, reach_item, reach_end, next_action, left_by_break, left_by_continue, left_by_return, at_the_end, none_given, body_given, another_turn, not_held, next_turn, last_turn, all_turned}
 use Rattle.c_run.proofs.run.+run.Goals as goal
 
-pub act-call-requires : goal.act-call-requires
-act-call-requires t c =
+pub act-called-given-requires : goal.act-called-given-requires
+act-called-given-requires t c =
     let size = call_size c.args.action.now c.in-Call.function c.in-Call.args c.in-Call.target c.in-Call.is in
-    (omega (arith, c.decreases, size), (c.requires.frame, (c.requires.rest, c.requires.rooms)))
-
-pub call-served-given-requires : goal.call-served-given-requires
-call-served-given-requires t c = (omega (arith, c.decreases), (c.requires.rest, c.requires.rooms))
+    (omega (arith, c.decreases, size), (c.requires.rest, c.requires.rooms))
 
 pub act-choose-requires : goal.act-choose-requires
 act-choose-requires t c =
@@ -75,12 +72,13 @@ pub act-returns-in-Call-clause-done : goal.act-returns-in-Call-clause-done
 unfolding plain_action
 act-returns-in-Call-clause-done t c =
     λ sends.
-    let s : State = (state_of c.args.frame.now c.args.memory.now sends) in
-    along (action_done (served_by c.args.routines.now) (plain_action c.args.action.now) s)
-    (goes_on (given_done (option_map plain_target c.in-Call.target) s
-    (served_by c.args.routines.now c.in-Call.function (args_worth (map plain_sp c.in-Call.args.values) s) (shown c.args.memory.now sends))))
-    c.call.result c.call.new.frame c.call.new.memory
-    (ap (λ a. action_done (served_by c.args.routines.now) (plain_action a) s) c.in-Call.is) (c.call.ensures.done sends)
+    let s : State = state_of c.args.frame.now c.args.memory.now sends in
+    let result = option_map plain_target c.in-Call.target in
+    let g : Given = served_by c.args.routines.now c.in-Call.function (args_worth (map plain_sp c.in-Call.args.values) s) (shown c.args.memory.now sends) in
+    has_done (action_done (served_by c.args.routines.now) (plain_action c.args.action.now) s) way.On c.put.new.frame c.put.new.memory g.world.sends
+    (ap (λ a. action_done (served_by c.args.routines.now) (plain_action a) s) c.in-Call.is
+    ∙ ap (λ x. goes_on (given_done result s x)) (c.called-given.ensures.given sends).gives
+    ∙ ap goes_on (sym (c.result_location-location.ensures g.world.sends c.called-given.result) ∙ c.put.ensures.done g.world.sends))
 
 pub act-returns-in-Send-clause-done : goal.act-returns-in-Send-clause-done
 unfolding plain_action
@@ -205,7 +203,7 @@ pub turns-loop-turned-init : goal.turns-loop-turned-init
 turns-loop-turned-init t c =
     let none : c.args.max ≡ c.args.max - 0 = omega arith in
     record {
-      reaches = λ sends. another_turn (holds (plain_sp c.args.condition.now)) (actions_done (served_by c.args.routines.now) (actions_of c.args.body.now)) (step_done (option_map plain_assignment c.args.next.now)) (turns_done (holds (plain_sp c.args.condition.now)) (actions_done (served_by c.args.routines.now) (actions_of c.args.body.now)) (step_done (option_map plain_assignment c.args.next.now)) c.args.max (state_of c.args.frame.now c.args.memory.now sends)) c.args.max (c.args.max - 0) c.args.frame.now c.args.memory.now none (reaches_first (turns_done (holds (plain_sp c.args.condition.now)) (actions_done (served_by c.args.routines.now) (actions_of c.args.body.now)) (step_done (option_map plain_assignment c.args.next.now)) c.args.max) c.args.frame.now c.args.memory.now sends);
+      reaches = λ sends. another_turn (holds (plain_sp c.args.turning.now.condition.now)) (actions_done (served_by c.args.routines.now) (actions_of c.args.turning.now.body.now)) (step_done (option_map plain_assignment c.args.turning.now.step.now)) (turns_done (holds (plain_sp c.args.turning.now.condition.now)) (actions_done (served_by c.args.routines.now) (actions_of c.args.turning.now.body.now)) (step_done (option_map plain_assignment c.args.turning.now.step.now)) c.args.max (state_of c.args.frame.now c.args.memory.now sends)) c.args.max (c.args.max - 0) c.args.frame.now c.args.memory.now none (reaches_first (turns_done (holds (plain_sp c.args.turning.now.condition.now)) (actions_done (served_by c.args.routines.now) (actions_of c.args.turning.now.body.now)) (step_done (option_map plain_assignment c.args.turning.now.step.now)) c.args.max) c.args.frame.now c.args.memory.now sends);
       rooms = c.requires.rooms;
     }
 
@@ -213,13 +211,13 @@ pub turns-returns-then-not-is_held-clause-done : goal.turns-returns-then-not-is_
 turns-returns-then-not-is_held-clause-done t c =
     let left = c.args.max - (c.loop-turned._turned + 1) in
     let more : c.args.max - c.loop-turned._turned ≡ suc left = omega arith in
-    λ sends. not_held (holds (plain_sp c.args.condition.now)) (actions_done (served_by c.args.routines.now) (actions_of c.args.body.now)) (step_done (option_map plain_assignment c.args.next.now)) (turns_done (holds (plain_sp c.args.condition.now)) (actions_done (served_by c.args.routines.now) (actions_of c.args.body.now)) (step_done (option_map plain_assignment c.args.next.now)) c.args.max (state_of c.args.frame.now c.args.memory.now sends)) left c.loop-turned.frame c.loop-turned.memory (another_turn (holds (plain_sp c.args.condition.now)) (actions_done (served_by c.args.routines.now) (actions_of c.args.body.now)) (step_done (option_map plain_assignment c.args.next.now)) (turns_done (holds (plain_sp c.args.condition.now)) (actions_done (served_by c.args.routines.now) (actions_of c.args.body.now)) (step_done (option_map plain_assignment c.args.next.now)) c.args.max (state_of c.args.frame.now c.args.memory.now sends)) (c.args.max - c.loop-turned._turned) (suc left) c.loop-turned.frame c.loop-turned.memory more (c.loop-turned.invariant.reaches sends)) (λ x. sym (c.is_held.ensures x) ∙ c.if-not-is_held.true)
+    λ sends. not_held (holds (plain_sp c.args.turning.now.condition.now)) (actions_done (served_by c.args.routines.now) (actions_of c.args.turning.now.body.now)) (step_done (option_map plain_assignment c.args.turning.now.step.now)) (turns_done (holds (plain_sp c.args.turning.now.condition.now)) (actions_done (served_by c.args.routines.now) (actions_of c.args.turning.now.body.now)) (step_done (option_map plain_assignment c.args.turning.now.step.now)) c.args.max (state_of c.args.frame.now c.args.memory.now sends)) left c.loop-turned.frame c.loop-turned.memory (another_turn (holds (plain_sp c.args.turning.now.condition.now)) (actions_done (served_by c.args.routines.now) (actions_of c.args.turning.now.body.now)) (step_done (option_map plain_assignment c.args.turning.now.step.now)) (turns_done (holds (plain_sp c.args.turning.now.condition.now)) (actions_done (served_by c.args.routines.now) (actions_of c.args.turning.now.body.now)) (step_done (option_map plain_assignment c.args.turning.now.step.now)) c.args.max (state_of c.args.frame.now c.args.memory.now sends)) (c.args.max - c.loop-turned._turned) (suc left) c.loop-turned.frame c.loop-turned.memory more (c.loop-turned.invariant.reaches sends)) (λ x. sym (c.is_held.ensures x) ∙ c.if-not-is_held.true)
 
 pub turns-returns-in-Some-clause-done : goal.turns-returns-in-Some-clause-done
 turns-returns-in-Some-clause-done t c =
     let left = c.args.max - (c.loop-turned._turned + 1) in
     let more : c.args.max - c.loop-turned._turned ≡ suc left = omega arith in
-    λ sends. last_turn (holds (plain_sp c.args.condition.now)) (actions_done (served_by c.args.routines.now) (actions_of c.args.body.now)) (step_done (option_map plain_assignment c.args.next.now)) (turns_done (holds (plain_sp c.args.condition.now)) (actions_done (served_by c.args.routines.now) (actions_of c.args.body.now)) (step_done (option_map plain_assignment c.args.next.now)) c.args.max (state_of c.args.frame.now c.args.memory.now sends)) left c.loop-turned.frame c.loop-turned.memory c.in-Some.way c.turn.new.frame c.turn.new.memory (another_turn (holds (plain_sp c.args.condition.now)) (actions_done (served_by c.args.routines.now) (actions_of c.args.body.now)) (step_done (option_map plain_assignment c.args.next.now)) (turns_done (holds (plain_sp c.args.condition.now)) (actions_done (served_by c.args.routines.now) (actions_of c.args.body.now)) (step_done (option_map plain_assignment c.args.next.now)) c.args.max (state_of c.args.frame.now c.args.memory.now sends)) (c.args.max - c.loop-turned._turned) (suc left) c.loop-turned.frame c.loop-turned.memory more (c.loop-turned.invariant.reaches sends)) (λ x. sym (c.is_held.ensures x) ∙ c.if-not-is_held.false)
+    λ sends. last_turn (holds (plain_sp c.args.turning.now.condition.now)) (actions_done (served_by c.args.routines.now) (actions_of c.args.turning.now.body.now)) (step_done (option_map plain_assignment c.args.turning.now.step.now)) (turns_done (holds (plain_sp c.args.turning.now.condition.now)) (actions_done (served_by c.args.routines.now) (actions_of c.args.turning.now.body.now)) (step_done (option_map plain_assignment c.args.turning.now.step.now)) c.args.max (state_of c.args.frame.now c.args.memory.now sends)) left c.loop-turned.frame c.loop-turned.memory c.in-Some.way c.turn.new.frame c.turn.new.memory (another_turn (holds (plain_sp c.args.turning.now.condition.now)) (actions_done (served_by c.args.routines.now) (actions_of c.args.turning.now.body.now)) (step_done (option_map plain_assignment c.args.turning.now.step.now)) (turns_done (holds (plain_sp c.args.turning.now.condition.now)) (actions_done (served_by c.args.routines.now) (actions_of c.args.turning.now.body.now)) (step_done (option_map plain_assignment c.args.turning.now.step.now)) c.args.max (state_of c.args.frame.now c.args.memory.now sends)) (c.args.max - c.loop-turned._turned) (suc left) c.loop-turned.frame c.loop-turned.memory more (c.loop-turned.invariant.reaches sends)) (λ x. sym (c.is_held.ensures x) ∙ c.if-not-is_held.false)
     c.in-Some.ensures.turned
 
 pub turns-loop-turned-preserved : goal.turns-loop-turned-preserved
@@ -227,7 +225,7 @@ turns-loop-turned-preserved t c =
     let left = c.args.max - (c.loop-turned._turned + 1) in
     let more : c.args.max - c.loop-turned._turned ≡ suc left = omega arith in
     record {
-      reaches = λ sends. next_turn (holds (plain_sp c.args.condition.now)) (actions_done (served_by c.args.routines.now) (actions_of c.args.body.now)) (step_done (option_map plain_assignment c.args.next.now)) (turns_done (holds (plain_sp c.args.condition.now)) (actions_done (served_by c.args.routines.now) (actions_of c.args.body.now)) (step_done (option_map plain_assignment c.args.next.now)) c.args.max (state_of c.args.frame.now c.args.memory.now sends)) left c.loop-turned.frame c.loop-turned.memory c.turn.new.frame c.turn.new.memory (another_turn (holds (plain_sp c.args.condition.now)) (actions_done (served_by c.args.routines.now) (actions_of c.args.body.now)) (step_done (option_map plain_assignment c.args.next.now)) (turns_done (holds (plain_sp c.args.condition.now)) (actions_done (served_by c.args.routines.now) (actions_of c.args.body.now)) (step_done (option_map plain_assignment c.args.next.now)) c.args.max (state_of c.args.frame.now c.args.memory.now sends)) (c.args.max - c.loop-turned._turned) (suc left) c.loop-turned.frame c.loop-turned.memory more (c.loop-turned.invariant.reaches sends))
+      reaches = λ sends. next_turn (holds (plain_sp c.args.turning.now.condition.now)) (actions_done (served_by c.args.routines.now) (actions_of c.args.turning.now.body.now)) (step_done (option_map plain_assignment c.args.turning.now.step.now)) (turns_done (holds (plain_sp c.args.turning.now.condition.now)) (actions_done (served_by c.args.routines.now) (actions_of c.args.turning.now.body.now)) (step_done (option_map plain_assignment c.args.turning.now.step.now)) c.args.max (state_of c.args.frame.now c.args.memory.now sends)) left c.loop-turned.frame c.loop-turned.memory c.turn.new.frame c.turn.new.memory (another_turn (holds (plain_sp c.args.turning.now.condition.now)) (actions_done (served_by c.args.routines.now) (actions_of c.args.turning.now.body.now)) (step_done (option_map plain_assignment c.args.turning.now.step.now)) (turns_done (holds (plain_sp c.args.turning.now.condition.now)) (actions_done (served_by c.args.routines.now) (actions_of c.args.turning.now.body.now)) (step_done (option_map plain_assignment c.args.turning.now.step.now)) c.args.max (state_of c.args.frame.now c.args.memory.now sends)) (c.args.max - c.loop-turned._turned) (suc left) c.loop-turned.frame c.loop-turned.memory more (c.loop-turned.invariant.reaches sends))
           (λ x. sym (c.is_held.ensures x) ∙ c.if-not-is_held.false) c.in-None.ensures.turned;
       rooms = c.in-None.ensures.rooms;
     }
@@ -235,12 +233,12 @@ turns-loop-turned-preserved t c =
 pub turns-returns-clause-done : goal.turns-returns-clause-done
 turns-returns-clause-done t c =
     let none : c.args.max - c.loop-turned._turned ≡ zero = omega arith in
-    λ sends. all_turned (holds (plain_sp c.args.condition.now)) (actions_done (served_by c.args.routines.now) (actions_of c.args.body.now)) (step_done (option_map plain_assignment c.args.next.now)) (turns_done (holds (plain_sp c.args.condition.now)) (actions_done (served_by c.args.routines.now) (actions_of c.args.body.now)) (step_done (option_map plain_assignment c.args.next.now)) c.args.max (state_of c.args.frame.now c.args.memory.now sends)) c.loop-turned.frame c.loop-turned.memory c.is_held-held.result c.overran.new.self
-    (another_turn (holds (plain_sp c.args.condition.now)) (actions_done (served_by c.args.routines.now) (actions_of c.args.body.now)) (step_done (option_map plain_assignment c.args.next.now)) (turns_done (holds (plain_sp c.args.condition.now)) (actions_done (served_by c.args.routines.now) (actions_of c.args.body.now)) (step_done (option_map plain_assignment c.args.next.now)) c.args.max (state_of c.args.frame.now c.args.memory.now sends)) (c.args.max - c.loop-turned._turned) zero c.loop-turned.frame c.loop-turned.memory none (c.loop-turned.invariant.reaches sends))
+    λ sends. all_turned (holds (plain_sp c.args.turning.now.condition.now)) (actions_done (served_by c.args.routines.now) (actions_of c.args.turning.now.body.now)) (step_done (option_map plain_assignment c.args.turning.now.step.now)) (turns_done (holds (plain_sp c.args.turning.now.condition.now)) (actions_done (served_by c.args.routines.now) (actions_of c.args.turning.now.body.now)) (step_done (option_map plain_assignment c.args.turning.now.step.now)) c.args.max (state_of c.args.frame.now c.args.memory.now sends)) c.loop-turned.frame c.loop-turned.memory c.is_held-held.result c.overran.new.self
+    (another_turn (holds (plain_sp c.args.turning.now.condition.now)) (actions_done (served_by c.args.routines.now) (actions_of c.args.turning.now.body.now)) (step_done (option_map plain_assignment c.args.turning.now.step.now)) (turns_done (holds (plain_sp c.args.turning.now.condition.now)) (actions_done (served_by c.args.routines.now) (actions_of c.args.turning.now.body.now)) (step_done (option_map plain_assignment c.args.turning.now.step.now)) c.args.max (state_of c.args.frame.now c.args.memory.now sends)) (c.args.max - c.loop-turned._turned) zero c.loop-turned.frame c.loop-turned.memory none (c.loop-turned.invariant.reaches sends))
     c.is_held-held.ensures c.overran.ensures.world
 
-pub served-all-way-requires : goal.served-all-way-requires
-served-all-way-requires t c =
+pub called-all-way-requires : goal.called-all-way-requires
+called-all-way-requires t c =
     let rs = c.args.routines.now in
     let k = c.args.function in
     let within : k ≤ length rs = omega arith in
@@ -251,12 +249,12 @@ served-all-way-requires t c =
     let own = ap (λ as'. actions_size (actions_of as')) (c.as_slice-body.ensures ∙ ap (λ (r : Routine). r.body) (sym c.index-routines-function.is)) in
     (omega (arith, c.decreases, grows, earlier, body, own), (omega arith, (omega (arith, count), c.requires.rooms)))
 
-pub served-returns-then-function-routines-clause-given : goal.served-returns-then-function-routines-clause-given
-served-returns-then-function-routines-clause-given t c =
+pub called-returns-then-function-routines-clause-given : goal.called-returns-then-function-routines-clause-given
+called-returns-then-function-routines-clause-given t c =
     λ sends. none_given (bodies_of c.args.routines.now) c.args.function (length c.args.routines.now) (args_worth (map plain_sp c.args.args.now.values) (state_of c.args.frame.now c.args.memory.now sends)) c.args.memory.now sends (omega arith)
 
-pub served-returns-clause-given : goal.served-returns-clause-given
-served-returns-clause-given t c =
+pub called-returns-clause-given : goal.called-returns-clause-given
+called-returns-clause-given t c =
     λ sends.
     let rs = c.args.routines.now in
     let k = c.args.function in

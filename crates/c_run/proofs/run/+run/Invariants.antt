@@ -24,18 +24,15 @@ invariant-all-loop-action l = record {
 abbrev pub invariant-turns-loop-turned : goal.invariant-turns-loop-turned
 invariant-turns-loop-turned l = record {
   reaches : (sends : List Sending) → Reaches
-      (turns_done (holds (plain_sp l.condition)) (actions_done (served_by l.routines) (actions_of l.body))
-      (step_done (option_map plain_assignment l.next)) l.max (state_of l.initial.frame l.initial.memory sends))
-      (turns_done (holds (plain_sp l.condition)) (actions_done (served_by l.routines) (actions_of l.body))
-      (step_done (option_map plain_assignment l.next)) (l.max - l._turned)) l.frame l.memory;
+      (turns_done (holds (plain_sp l.turning.condition.now)) (actions_done (served_by l.routines) (actions_of l.turning.body.now))
+      (step_done (option_map plain_assignment l.turning.step.now)) l.max (state_of l.initial.frame l.initial.memory sends))
+      (turns_done (holds (plain_sp l.turning.condition.now)) (actions_done (served_by l.routines) (actions_of l.turning.body.now))
+      (step_done (option_map plain_assignment l.turning.step.now)) (l.max - l._turned)) l.frame l.memory;
   rooms : rooms l.memory ≡ all_rooms;
 }
 
 abbrev pub decreases-act : goal.decreases-act
 decreases-act l = total (bodies_of l.routines.now) (length l.routines.now) + action_size (plain_action l.action.now)
-
-abbrev pub decreases-call : goal.decreases-call
-decreases-call l = total (bodies_of l.routines.now) (length l.routines.now) + 2
 
 abbrev pub decreases-all : goal.decreases-all
 decreases-all l = total (bodies_of l.routines.now) (length l.routines.now) + actions_size (actions_of l.actions.now)
@@ -48,7 +45,7 @@ abbrev pub decreases-turn : goal.decreases-turn
 decreases-turn l = total (bodies_of l.routines.now) (length l.routines.now) + 1 + actions_size (actions_of l.body.now)
 
 abbrev pub decreases-turns : goal.decreases-turns
-decreases-turns l = total (bodies_of l.routines.now) (length l.routines.now) + 2 + actions_size (actions_of l.body.now)
+decreases-turns l = total (bodies_of l.routines.now) (length l.routines.now) + 2 + actions_size (actions_of l.turning.now.body.now)
 
-abbrev pub decreases-served : goal.decreases-served
-decreases-served l = total (bodies_of l.routines.now) (length l.routines.now) + 1
+abbrev pub decreases-called : goal.decreases-called
+decreases-called l = total (bodies_of l.routines.now) (length l.routines.now) + 1

@@ -23,4 +23,4 @@ returns-clause-told g c =
     let job = c.args.job.now in
     let coded = all_shown c.args.coded.items in
     let fits = begin_in_range job (cores_from job 0 coded) m (board_words m) c.in_ok-loaded.ensures.loaded (λ core. c.machine_keeps_ranges.ensures.cores m 0 core c.loaded_with_words.ensures) in
-    always c.reported.result (report_tells job c.requires.ranges coded c.requires.made (board_words m) fits)
+    always c.reported.result (report_tells job c.keeps_ranges.ensures coded c.requires.made (board_words m) fits)
