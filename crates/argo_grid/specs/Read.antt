@@ -2,10 +2,11 @@
 -- with the keys `columns`, `rows`, `length` and `entries`, whose faults are told as those of a job.
 use Rattle.std.specs.Prelude.{ℕ, ℤ, pos, negsuc, ◌*◌, Bool, ◌&&◌, ◌||◌, nat_le, if◌then◌else◌, List, [], ◌∷◌, length, codes, bytes_eq, Option, Some, None, Result, Ok, Err}
 use Rattle.std.specs.Option.{option_and_then}
-use Rattle.toml.specs.Data.{Data, Members, no_members, member, get_member, as_integer, as_array}
+use Rattle.toml.specs.Data.{Data, Members, get_member, as_integer, as_array}
 use Rattle.tc_toml.specs.declared.fault.JobFault.{JobFault}
 use Rattle.tc_toml.specs.declared.fault.JobFault.TheVariants as faults
 use Rattle.tc_toml.specs.Fault.{Fault, ◌>>=◌, at_key}
+use Rattle.tc_toml.specs.Keys as keys
 use Rattle.tc_toml.specs.Tree.{tree_of}
 use Rattle.tc_toml.specs.Values.{given, number_of, each_of, each_item, array_of}
 use Rattle.argo_grid.specs.declared.job.TheConstants.{MOST_ENTRIES, MOST_PERIOD}
@@ -17,12 +18,9 @@ is_key key =
     bytes_eq key (codes "columns") || bytes_eq key (codes "rows") || bytes_eq key (codes "length")
     || bytes_eq key (codes "entries")
 
--- Every key is one of these, or else the first that is not is at fault. Members stand in the order of their
--- keys' bytes, so that it is the least of them.
+-- every key is one of these, or else the least by bytes that is not is at fault
 abbrev pub known_keys : Members → Result (Unit {0}) Fault
-known_keys no_members = Ok tt
-known_keys (member key d others) = if is_key key then known_keys others
-    else Err (record { kind = faults.Key; task = None; key = key })
+known_keys ms = keys.known_keys is_key None ms
 
 -- rows that make a grid of 2 to 16 routers
 abbrev pub fitting_rows : ℕ → ℕ → Result ℕ JobFault

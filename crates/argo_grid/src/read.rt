@@ -41,7 +41,7 @@ fn grid_in(alloc: Global, table: &Table) -> Result<GridJob, JobError>
     })
 }
 
-/// Refuses the first key that a schedule does not have.
+/// Refuses the least key that a schedule does not have: the first, since keys rise.
 fn knows_keys(top: &Section<'_>) -> Result<(), JobError>
     requires { top.now.task ≡ None }
     ensures { Gives (λ _. tt) result (specs.known_keys (table_view top.now.table.now)) }

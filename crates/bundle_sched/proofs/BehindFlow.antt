@@ -24,10 +24,10 @@ use Rattle.sp_shape.specs.Run.{Run, Way, branches, calls, fills, returns, way_of
 use Rattle.sp_shape.specs.Formed.{is_flow, is_always}
 use Rattle.sp_shape.specs.Words.{is_late}
 use Rattle.bundle_sched.specs.Operands.{spares}
-use Rattle.bundle_sched.specs.Packed.{is_special, holds_special}
+use Rattle.bundle_sched.specs.Packed.{lone, is_special, holds_special}
 use Rattle.bundle_sched.specs.Packing.{can_move, spares_pred, spares_guard, lets_pass}
 use Rattle.bundle_sched.proofs.Once.{with_regs, early_once, settled_same, three, early_told}
-use Rattle.bundle_sched.proofs.Commute.{single, no_second, always_is}
+use Rattle.bundle_sched.proofs.Commute.{no_second, always_is}
 use Rattle.bundle_sched.proofs.Unwritten.{pred_kept, pred_spared, second_spared}
 
 abbrev with_ways : Run → List Way → Run
@@ -57,10 +57,10 @@ asked_late from flow true m = refl
 asked_late from flow false m = refl
 
 flow_late : (from : Sources) (x : Instr) (m : Run) → is_flow x.op ≡ true
-    → late from (single x) m ≡ (if holds m.regs x.guard then with_ways (with_settled m) (m.ways ++ way_asked x.op m.regs ∷ []) else with_settled m)
+    → late from (lone x) m ≡ (if holds m.regs x.guard then with_ways (with_settled m) (m.ways ++ way_asked x.op m.regs ∷ []) else with_settled m)
 flow_late from x m h = so x.op h
   where
-    so : (op : Op) → is_flow op ≡ true → late from (single (record { guard = x.guard; op = op })) m
+    so : (op : Op) → is_flow op ≡ true → late from (lone (record { guard = x.guard; op = op })) m
         ≡ (if holds m.regs x.guard then with_ways (with_settled m) (m.ways ++ way_asked op m.regs ∷ []) else with_settled m)
     so (Branch offset) h = asked_late from (flow_kind.Branch offset) (holds m.regs x.guard) m
     so (Call target) h = asked_late from (flow_kind.Call target) (holds m.regs x.guard) m

@@ -1,14 +1,13 @@
 -- Two bundles in one, and a bundle left out: what comes of them read at once is the same.
-use Rattle.std.proofs.Common.{◌≡◌, ℕ, zero, suc, ◌==◌, Bool, true, false, not, true≢false, if◌then◌else◌, Option, Some, None, [], ◌∷◌, refl, sym, ap, ◌∙◌, arith, ne_eqb, subst}
-use Rattle.std.specs.Prelude.{◌&&◌, ◌||◌, is_none}
+use Rattle.std.proofs.Common.{◌≡◌, ℕ, zero, suc, ◌==◌, Bool, true, false, not, true≢false, if◌then◌else◌, Option, Some, None, refl, sym, ap, ◌∙◌, arith, ne_eqb}
+use Rattle.std.specs.Prelude.{◌&&◌, is_none}
 use Rattle.std.proofs.lemmas.Bool.{and_parts, not-true}
 use Rattle.patmos_instr.specs.Bundles.{Slots}
-use Rattle.patmos_instr.specs.Instructions.{is_long}
 use Rattle.patmos_instr.specs.declared.guards.Guard.{Guard}
 use Rattle.patmos_instr.specs.declared.instructions.Instr.{Instr}
 use Rattle.patmos_instr.specs.declared.instructions.Op.{Op}
 use Rattle.patmos_instr.specs.declared.instructions.Op.TheVariants.{AluImm, AluReg, AluLong, Mul, Cmp, CmpImm, Comb, Load}
-use Rattle.patmos_sem.specs.Bundles.{slot_write, slot_asked}
+use Rattle.patmos_sem.specs.Bundles.{slot_write, second_write}
 use Rattle.patmos_sem.specs.Effects.{asked}
 use Rattle.patmos_sem.specs.Registers.{Registers, holds}
 use Rattle.patmos_sem.specs.declared.effects.Effect.TheVariants as effect
@@ -17,19 +16,16 @@ use Rattle.patmos_sem.specs.declared.pending.Pending.TheVariants as pending
 use Rattle.patmos_sem.specs.declared.writes.Write.{Write}
 use Rattle.patmos_sem.specs.declared.writes.Write.TheVariants as write
 use Rattle.patmos_sem.proofs.Told.{after_writes-append}
-use Rattle.sp_shape.proofs.Whole.{with_pending, once_whole}
+use Rattle.sp_shape.proofs.Whole.{with_pending}
 use Rattle.sp_shape.specs.Run.{Run, IsWhole, Sources, effected, once}
 use Rattle.sp_shape.specs.Bundles.{is_idle_op, is_idle}
 use Rattle.sp_shape.specs.Formed.{is_always}
 use Rattle.sp_shape.specs.Small.{always, idle}
 use Rattle.sp_shape.specs.Words.{is_late}
-use Rattle.bundle_sched.specs.Operands.{reads, tests, results, lacks, apart, spares}
-use Rattle.bundle_sched.specs.Packed.{can_pair, pair}
 use Rattle.bundle_sched.specs.Ordered.{is_plain_op}
-use Rattle.bundle_sched.proofs.TwoInOne.{pairs}
+use Rattle.bundle_sched.specs.Packed.{lone}
 use Rattle.bundle_sched.proofs.Once.{with_regs, early_once, idle_settles, settled_same, three, early_told}
-use Rattle.bundle_sched.proofs.Reading.{plain_slot}
-use Rattle.bundle_sched.proofs.Unwritten.{alone, after_one, word_kept, pred_kept, register_spared, pred_spared, spares_each}
+use Rattle.bundle_sched.proofs.Unwritten.{alone, after_one}
 
 -- ---- a bundle that does nothing, left out
 
@@ -39,10 +35,7 @@ idle_once from m whole =
 
 -- ---- two in one
 
-abbrev pub single : Instr → Slots
-single x = record { first = x; second = None }
-
-abbrev both_of : Instr → Instr → Slots
+abbrev pub both_of : Instr → Instr → Slots
 both_of x y = record { first = x; second = Some y }
 
 -- a plain instruction asks for nothing, and its value does not come late
@@ -61,46 +54,22 @@ plain_asked true (CmpImm func pd ra imm) regs plain = refl
 plain_asked true (Comb func pd a b) regs plain = refl
 plain_asked true _ regs plain = absurd (true≢false (sym plain))
 
-pub plain_once : (from : Sources) (x : Instr) (m : Run) → IsWhole m → is_plain_op x.op ≡ true → once from (single x) m ≡ with_regs m (after_one (slot_write m.st m.ss m.regs x) m.regs)
-plain_once from x m whole plain =
-    early_told from (single x) m whole (plain_early x.op plain)
-    ∙ ap (λ e. with_regs (effected from e m) (after_one (slot_write m.st m.ss m.regs x) m.regs)) (plain_asked (holds m.regs x.guard) x.op m.regs plain)
+pub plain_once : (from : Sources) (b : Slots) (m : Run) → IsWhole m → is_plain_op b.first.op ≡ true
+    → once from b m ≡ with_regs m (three (slot_write m.st m.ss m.regs b.first) (second_write m.st m.ss m.regs b.second) write.Nothing m.regs)
+plain_once from b m whole plain =
+    early_told from b m whole (plain_early b.first.op plain)
+    ∙ ap (λ e. with_regs (effected from e m) (three (slot_write m.st m.ss m.regs b.first) (second_write m.st m.ss m.regs b.second) write.Nothing m.regs)) (plain_asked (holds m.regs b.first.guard) b.first.op m.regs plain)
 
 -- two writes at once, and one after the other
-two_writes : (v w : Write) (regs : Registers) → after_one w (after_one v regs) ≡ three v w write.Nothing regs
+pub two_writes : (v w : Write) (regs : Registers) → after_one w (after_one v regs) ≡ three v w write.Nothing regs
 two_writes v w regs = ap (λ r. with_pending r pending.Nothing) (after_writes-append (alone v) (alone w) regs)
 
-singles_once : (from : Sources) (x y : Instr) (m : Run) → IsWhole m → is_late x.op ≡ false → is_plain_op y.op ≡ true → apart (results x.op) (reads y.op) ≡ true → spares x.op (tests y) ≡ true
-    → once from (both_of x y) m ≡ once from (single y) (once from (single x) m)
-singles_once from x y m whole early plain free tested =
-    let on = holds m.regs x.guard in
-    let v = slot_write m.st m.ss m.regs x in
-    let w = slot_write m.st m.ss m.regs y in
-    let out = effected from (slot_asked m.regs x) m in
-    let t = with_regs out (after_one v m.regs) in
-    let x_is = early_told from (single x) m whole early in
-    let whole_t = subst IsWhole x_is (once_whole from (single x) m whole) in
-    let word = λ (r : ℕ) (h : lacks (results x.op) r ≡ true). word_kept (alone v) m.regs r whole.fits (λ z. register_spared on x.op m.st m.ss m.regs r z h) in
-    let pred = λ (p : ℕ) (h : spares x.op (p ∷ []) ≡ true). pred_kept (alone v) m.regs p whole.fits (λ z. pred_spared on x.op m.st m.ss m.regs p [] z h) in
-    let same = plain_slot m.regs (after_one v m.regs) (lacks (results x.op)) (λ p. spares x.op (p ∷ [])) word pred m.st m.ss out.st out.ss y plain free (spares_each x.op (tests y) tested) in
-    early_told from (both_of x y) m whole early
-    ∙ ap (with_regs out) (sym (two_writes v w m.regs) ∙ ap (λ u. after_one u (after_one v m.regs)) (sym same))
-    ∙ sym (plain_once from y t whole_t plain)
-    ∙ ap (once from (single y)) (sym x_is)
-
-pub no_second : (b : Slots) → is_none b.second ≡ true → b ≡ single b.first
+pub no_second : (b : Slots) → is_none b.second ≡ true → b ≡ lone b.first
 no_second b none = so b.second none
   where
-    so : (o : Option Instr) → is_none o ≡ true → record { first = b.first; second = o } ≡ single b.first
+    so : (o : Option Instr) → is_none o ≡ true → record { first = b.first; second = o } ≡ lone b.first
     so None h = refl
     so (Some i) h = absurd (true≢false (sym h))
-
-pub pair_once : (from : Sources) (a b : Slots) (m : Run) → IsWhole m → can_pair a b ≡ true → once from (pair a b) m ≡ once from b (once from a m)
-pair_once from a b m whole h =
-    let p = pairs a b h in
-    let a_is = no_second a p.first_alone in
-    let b_is = no_second b p.second_alone in
-    singles_once from a.first b.first m whole p.early (ap (λ second. second || is_long b.first.op) p.kind) p.reads_none p.tests_none ∙ (λ k. once from (sym b_is k) (once from (sym a_is k) m))
 
 -- ---- the bundle that does nothing
 
@@ -115,7 +84,7 @@ always_is g h =
     let n = not-true g.negated both.1 in
     λ k. record { negated = n k; pred = p k }
 
-idle_op_is : (op : Op) → is_idle_op op ≡ true → op ≡ idle.first.op
+pub idle_op_is : (op : Op) → is_idle_op op ≡ true → op ≡ idle.first.op
 idle_op_is (AluImm imm.Add rd ra n) h =
     let one = and_parts (rd == 0) ((ra == 0) && (n == 0)) h in
     let two = and_parts (ra == 0) (n == 0) one.1 in
@@ -131,4 +100,4 @@ idle_is b h =
     let two = and_parts (is_idle_op b.first.op) (is_none b.second) one.1 in
     let g = always_is b.first.guard one.0 in
     let o = idle_op_is b.first.op two.0 in
-    no_second b two.1 ∙ (λ k. single (record { guard = g k; op = o k }))
+    no_second b two.1 ∙ (λ k. lone (record { guard = g k; op = o k }))

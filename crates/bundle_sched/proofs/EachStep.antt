@@ -1,44 +1,81 @@
--- Code is packed step by step: a bundle that does nothing is left out, two neighbours become one, or change places.
+-- Code is packed step by step: a bundle that does nothing is left out, a second instruction that does nothing too, two
+-- neighbours become one, or change places.
 -- What holds of each step holds of all.
 use mathlib.Core.List.{reverse_aux, reverse_aux-eq}
-use Rattle.std.proofs.Common.{◌≡◌, ℕ, zero, suc, ◌<◌, true, false, if◌then◌else◌, Option, Some, None, IfSome, List, [], ◌∷◌, ◌++◌, length, reverse, refl, sym, ap, ◌∙◌, subst, arith, append_assoc, append-nil}
-use Rattle.std.specs.Prelude.{◌&&◌, ◌||◌}
+use Rattle.std.proofs.Common.{◌≡◌, ℕ, zero, suc, Bool, true, false, not, if◌then◌else◌, Option, Some, None, IfSome, List, [], ◌∷◌, ◌++◌, length, reverse, refl, sym, ap, ◌∙◌, subst, append_assoc, append-nil}
+use Rattle.std.specs.Prelude.{◌&&◌, ◌||◌, is_none, slice_set}
 use Rattle.std.proofs.lemmas.Bool.{and_parts}
 use Rattle.std.proofs.lemmas.List.{length-reverse, reverse-reverse}
 use Rattle.patmos_instr.specs.Bundles.{Slots}
 use Rattle.sp_shape.specs.Bundles.{is_idle}
-use Rattle.bundle_sched.specs.Ordered.{is_plain, lets_by, fills_time, has_place, place, beside, put_at, stood, put, ordered_behind, ordered}
-use Rattle.bundle_sched.specs.Packed.{can_pair, pair}
+use Rattle.sp_shape.specs.Small.{idle}
+use Rattle.sp_shape.specs.Words.{is_late}
+use Rattle.bundle_sched.specs.Ordered.{goes_by, is_too_early, has_place, place, row_with, stood_last, stood, without_nop, put, put_unless_idle, ordered_behind, ordered}
+use Rattle.bundle_sched.specs.Packed.{can_join, can_pair, pair}
 use Rattle.bundle_sched.specs.Packing.{paired, in_pairs, packed}
 use Rattle.bundle_sched.specs.declared.ordering.TheConstants.{WINDOW}
-use Rattle.bundle_sched.proofs.Putting.{place_within}
+use Rattle.bundle_sched.proofs.TwoInOne.{pair_idle}
 
 pub record AtEachStep (P : List Slots → List Slots → Type 0) : Type 0 where
   pub same : (bs : List Slots) → P bs bs
   pub through : (xs ys zs : List Slots) → P xs ys → P ys zs → P xs zs
   pub behind : (b : Slots) (xs ys : List Slots) → P xs ys → P (b ∷ xs) (b ∷ ys)
   pub left_out : (b : Slots) (bs : List Slots) → is_idle b ≡ true → P (b ∷ bs) bs
-  pub joined : (a b : Slots) (bs : List Slots) → is_idle b ≡ false → can_pair a b ≡ true → P (a ∷ b ∷ bs) (pair a b ∷ bs)
-  pub swapped : (b x : Slots) (bs : List Slots) → is_plain x ≡ true → lets_by b x ≡ true → P (b ∷ x ∷ bs) (x ∷ b ∷ bs)
+  pub emptied : (b : Slots) (bs : List Slots) → P (b ∷ bs) (without_nop b ∷ bs)
+  pub joined : (a b : Slots) (bs : List Slots) → is_idle b ≡ false → can_join a b ≡ true → P (a ∷ b ∷ bs) (pair a b ∷ bs)
+  pub swapped : (b x : Slots) (bs : List Slots) → goes_by b x ≡ true → P (b ∷ x ∷ bs) (x ∷ b ∷ bs)
 
--- ---- a bundle that is put at one of a number
+-- ---- another bundle at a number
 
-at_number : (front rest : List Slots) (b x : Slots) → put_at (length front) x (front ++ b ∷ rest) ≡ front ++ (beside b x ++ rest)
-at_number [] rest b x = refl
-at_number (c ∷ cs) rest b x = ap (λ ys. c ∷ ys) (at_number cs rest b x)
+at_number : (front rest : List Slots) (b y : Slots) → slice_set (front ++ b ∷ rest) (length front) y ≡ front ++ y ∷ rest
+at_number [] rest b y = refl
+at_number (c ∷ cs) rest b y = ap (λ ys. c ∷ ys) (at_number cs rest b y)
 
-put_back : (others rest : List Slots) (b x : Slots) → put_at (length others) x (reverse_aux others (b ∷ rest)) ≡ reverse_aux others (beside b x ++ rest)
-put_back others rest b x =
-    ap (put_at (length others) x) (reverse_aux-eq others (b ∷ rest)) ∙ ap (λ n. put_at n x (reverse others ++ b ∷ rest)) (sym (length-reverse others))
-    ∙ at_number (reverse others) rest b x ∙ sym (reverse_aux-eq others (beside b x ++ rest))
-
-put_before : (bs rest : List Slots) (n : ℕ) (x : Slots) → n < length bs → put_at n x (bs ++ rest) ≡ put_at n x bs ++ rest
-put_before [] rest n x within = absurd (omega (arith, within))
-put_before (b ∷ bs) rest zero x within = sym (append_assoc (beside b x) bs rest)
-put_before (b ∷ bs) rest (suc n) x within = ap (λ ys. b ∷ ys) (put_before bs rest n x (omega (arith, within)))
+set_back : (others rest : List Slots) (b y : Slots) → slice_set (reverse_aux others (b ∷ rest)) (length others) y ≡ reverse_aux others (y ∷ rest)
+set_back others rest b y =
+    ap (λ xs. slice_set xs (length others) y) (reverse_aux-eq others (b ∷ rest)) ∙ ap (λ n. slice_set (reverse others ++ b ∷ rest) n y) (sym (length-reverse others))
+    ∙ at_number (reverse others) rest b y ∙ sym (reverse_aux-eq others (y ∷ rest))
 
 twice : (bs ys : List Slots) → reverse_aux (reverse bs) ys ≡ bs ++ ys
 twice bs ys = reverse_aux-eq (reverse bs) ys ∙ ap (λ xs. xs ++ ys) (reverse-reverse bs)
+
+-- ---- without what does nothing
+
+abbrev pub cleaned : List Slots → List Slots
+cleaned [] = []
+cleaned (b ∷ bs) = if is_idle b then cleaned bs else b ∷ cleaned bs
+
+cleaned_busy : (b : Slots) (bs : List Slots) → is_idle b ≡ false → cleaned (b ∷ bs) ≡ b ∷ cleaned bs
+cleaned_busy b bs busy = ap (λ idles. if idles then cleaned bs else b ∷ cleaned bs) busy
+
+cleaned_idle : (b : Slots) (bs : List Slots) → is_idle b ≡ true → cleaned (b ∷ bs) ≡ cleaned bs
+cleaned_idle b bs is = ap (λ idles. if idles then cleaned bs else b ∷ cleaned bs) is
+
+cleaned_append : (xs ys : List Slots) → cleaned (xs ++ ys) ≡ cleaned xs ++ cleaned ys
+cleaned_append [] ys = refl
+cleaned_append (x ∷ xs) ys =
+    elim (is_idle x) as (λ idles. (if idles then cleaned (xs ++ ys) else x ∷ cleaned (xs ++ ys)) ≡ (if idles then cleaned xs else x ∷ cleaned xs) ++ cleaned ys) [
+      | true ↦ cleaned_append xs ys
+      | false ↦ ap (λ zs. x ∷ zs) (cleaned_append xs ys)
+    ]
+
+paired_cleaned : (a : Slots) (bs : List Slots) → paired a (cleaned bs) ≡ paired a bs
+paired_cleaned a [] = refl
+paired_cleaned a (b ∷ bs) =
+    elim (is_idle b) as (λ idles. is_idle b ≡ idles → paired a (if idles then cleaned bs else b ∷ cleaned bs) ≡ (if idles then paired a bs else (if can_pair a b then paired (pair a b) bs else a ∷ paired b bs))) [
+      | true ↦ λ is. paired_cleaned a bs
+      | false ↦ λ busy.
+          ap (λ idles. if idles then paired a (cleaned bs) else (if can_pair a b then paired (pair a b) (cleaned bs) else a ∷ paired b (cleaned bs))) busy
+          ∙ (λ k. if can_pair a b then paired_cleaned (pair a b) bs k else a ∷ paired_cleaned b bs k)
+    ] refl
+
+pub pairs_cleaned : (bs : List Slots) → in_pairs (cleaned bs) ≡ in_pairs bs
+pairs_cleaned [] = refl
+pairs_cleaned (b ∷ bs) =
+    elim (is_idle b) as (λ idles. is_idle b ≡ idles → in_pairs (if idles then cleaned bs else b ∷ cleaned bs) ≡ (if idles then in_pairs bs else paired b bs)) [
+      | true ↦ λ is. pairs_cleaned bs
+      | false ↦ λ busy. ap (λ idles. if idles then in_pairs (cleaned bs) else paired b (cleaned bs)) busy ∙ paired_cleaned b bs
+    ] refl
 
 module _ (P : List Slots → List Slots → Type 0) (step : AtEachStep P) where
   -- ---- neighbours in one
@@ -49,7 +86,7 @@ module _ (P : List Slots → List Slots → Type 0) (step : AtEachStep P) where
       elim (is_idle b) as (λ idles. is_idle b ≡ idles → P (a ∷ b ∷ bs) (if idles then paired a bs else (if can_pair a b then paired (pair a b) bs else a ∷ paired b bs))) [
         | true ↦ λ is. step.through (a ∷ b ∷ bs) (a ∷ bs) (paired a bs) (step.behind a (b ∷ bs) bs (step.left_out b bs is)) (paired_steps a bs)
         | false ↦ λ busy. elim (can_pair a b) as (λ can. can_pair a b ≡ can → P (a ∷ b ∷ bs) (if can then paired (pair a b) bs else a ∷ paired b bs)) [
-          | true ↦ λ can. step.through (a ∷ b ∷ bs) (pair a b ∷ bs) (paired (pair a b) bs) (step.joined a b bs busy can) (paired_steps (pair a b) bs)
+          | true ↦ λ can. step.through (a ∷ b ∷ bs) (pair a b ∷ bs) (paired (pair a b) bs) (step.joined a b bs busy (and_parts (not (is_late a.first.op)) (can_join a b) can).1) (paired_steps (pair a b) bs)
           | false ↦ λ can. step.behind a (b ∷ bs) (paired b bs) (paired_steps b bs)
         ] refl
       ] refl
@@ -62,71 +99,136 @@ module _ (P : List Slots → List Slots → Type 0) (step : AtEachStep P) where
         | false ↦ λ busy. paired_steps b bs
       ] refl
 
-  -- ---- ordered code
+  -- ---- one more bundle
 
-  onto_steps : (bs xs ys : List Slots) → P xs ys → P (reverse_aux bs xs) (reverse_aux bs ys)
-  onto_steps [] xs ys h = h
-  onto_steps (b ∷ bs) xs ys h = onto_steps bs (b ∷ xs) (b ∷ ys) (step.behind b xs ys h)
+  behind_cleaned : (b : Slots) (xs ys : List Slots) → P (cleaned xs) (cleaned ys) → P (cleaned (b ∷ xs)) (cleaned (b ∷ ys))
+  behind_cleaned b xs ys h =
+      elim (is_idle b) as (λ idles. P (if idles then cleaned xs else b ∷ cleaned xs) (if idles then cleaned ys else b ∷ cleaned ys)) [ true ↦ h | false ↦ step.behind b (cleaned xs) (cleaned ys) h ]
 
+  onto_cleaned : (bs xs ys : List Slots) → P (cleaned xs) (cleaned ys) → P (cleaned (reverse_aux bs xs)) (cleaned (reverse_aux bs ys))
+  onto_cleaned [] xs ys h = h
+  onto_cleaned (b ∷ bs) xs ys h = onto_cleaned bs (b ∷ xs) (b ∷ ys) (behind_cleaned b xs ys h)
+
+  module _ (x : Slots) (busy : is_idle x ≡ false) where
+    -- two that stand together
+    two_cleaned : (b : Slots) (rest : List Slots) → is_idle b ≡ false → cleaned (b ∷ x ∷ rest) ≡ b ∷ x ∷ cleaned rest
+    two_cleaned b rest other = cleaned_busy b (x ∷ rest) other ∙ ap (λ ys. b ∷ ys) (cleaned_busy x rest busy)
+
+    stands_steps : (b : Slots) (rest : List Slots) → has_place b x ≡ true → P (cleaned (b ∷ x ∷ rest)) (cleaned (row_with b x ∷ rest))
+    stands_steps b rest here =
+        elim (is_idle b) as (λ idles. is_idle b ≡ idles → (idles || (can_join b x || (goes_by b x && can_join x b))) ≡ true
+        → P (cleaned (b ∷ x ∷ rest)) (cleaned ((if idles then x else (if can_join b x then pair b x else pair x b)) ∷ rest))) [
+          | true ↦ λ is h. subst (λ ys. P ys (cleaned (x ∷ rest))) (sym (cleaned_idle b (x ∷ rest) is)) (step.same (cleaned (x ∷ rest)))
+          | false ↦ λ other h. subst (λ ys. P ys (cleaned ((if can_join b x then pair b x else pair x b) ∷ rest))) (sym (two_cleaned b rest other)) (beside b rest other h)
+        ] refl here
+      where
+        beside : (b : Slots) (rest : List Slots) → is_idle b ≡ false → (can_join b x || (goes_by b x && can_join x b)) ≡ true
+            → P (b ∷ x ∷ cleaned rest) (cleaned ((if can_join b x then pair b x else pair x b) ∷ rest))
+        beside b rest other here =
+            elim (can_join b x) as (λ can. can_join b x ≡ can → (can || (goes_by b x && can_join x b)) ≡ true → P (b ∷ x ∷ cleaned rest) (cleaned ((if can then pair b x else pair x b) ∷ rest))) [
+              | true ↦ λ can h. subst (P (b ∷ x ∷ cleaned rest)) (sym (cleaned_busy (pair b x) rest (pair_idle b x))) (step.joined b x (cleaned rest) busy can)
+              | false ↦ λ can h.
+                  let both = and_parts (goes_by b x) (can_join x b) h in
+                  subst (P (b ∷ x ∷ cleaned rest)) (sym (cleaned_busy (pair x b) rest (pair_idle x b)))
+                  (step.through (b ∷ x ∷ cleaned rest) (x ∷ b ∷ cleaned rest) (pair x b ∷ cleaned rest) (step.swapped b x (cleaned rest) both.0) (step.joined x b (cleaned rest) other both.1))
+            ] refl here
+
+    goes_steps : (b : Slots) (rest : List Slots) → (is_idle b || goes_by b x) ≡ true → P (cleaned (b ∷ x ∷ rest)) (cleaned (x ∷ b ∷ rest))
+    goes_steps b rest goes =
+        elim (is_idle b) as (λ idles. is_idle b ≡ idles → (idles || goes_by b x) ≡ true → P (cleaned (b ∷ x ∷ rest)) (cleaned (x ∷ b ∷ rest))) [
+          | true ↦ λ is h.
+              let back = cleaned_busy x (b ∷ rest) busy ∙ ap (λ ys. x ∷ ys) (cleaned_idle b rest is) in
+              let front = cleaned_idle b (x ∷ rest) is ∙ cleaned_busy x rest busy in
+              subst (λ ys. P ys (cleaned (x ∷ b ∷ rest))) (sym front) (subst (P (x ∷ cleaned rest)) (sym back) (step.same (x ∷ cleaned rest)))
+          | false ↦ λ other by.
+              let back = cleaned_busy x (b ∷ rest) busy ∙ ap (λ ys. x ∷ ys) (cleaned_busy b rest other) in
+              subst (λ ys. P ys (cleaned (x ∷ b ∷ rest))) (sym (two_cleaned b rest other)) (subst (P (b ∷ x ∷ cleaned rest)) (sym back) (step.swapped b x (cleaned rest) by))
+        ] refl goes
+
+    module _ (all : List Slots) where
+      abbrev Stands : ℕ × Slots → Type 0
+      Stands at = P (cleaned (all ++ x ∷ [])) (cleaned (slice_set all at.0 at.1))
+
+      back_steps : (n : ℕ) (others rest : List Slots) (found : Option (ℕ × Slots)) → reverse_aux others rest ≡ all → P (cleaned (all ++ x ∷ [])) (cleaned (reverse_aux others (x ∷ rest))) → IfSome found Stands
+          → IfSome (place n x others found) Stands
+      back_steps zero others rest found is moved claim = claim
+      back_steps (suc n) [] rest found is moved claim = claim
+      back_steps (suc n) (b ∷ others) rest found is moved claim =
+          let here = if not (is_too_early others x) && has_place b x then Some (length others, row_with b x) else found in
+          let now = now_steps (not (is_too_early others x) && has_place b x) refl in
+          elim (is_idle b || goes_by b x) as (λ goes. (is_idle b || goes_by b x) ≡ goes → IfSome (if goes then place n x others here else here) Stands) [
+            | true ↦ λ goes. back_steps n others (b ∷ rest) here is
+                (step.through (cleaned (all ++ x ∷ [])) (cleaned (reverse_aux others (b ∷ x ∷ rest))) (cleaned (reverse_aux others (x ∷ b ∷ rest))) moved (onto_cleaned others (b ∷ x ∷ rest) (x ∷ b ∷ rest) (goes_steps b rest goes))) now
+            | false ↦ λ goes. now
+          ] refl
+        where
+          now_steps : (t : Bool) → (not (is_too_early others x) && has_place b x) ≡ t → IfSome (if t then Some (length others, row_with b x) else found) Stands
+          now_steps false is_not = claim
+          now_steps true here =
+              subst (λ ys. P (cleaned (all ++ x ∷ [])) (cleaned ys)) (sym (set_back others rest b (row_with b x)) ∙ ap (λ ys. slice_set ys (length others) (row_with b x)) is)
+              (step.through (cleaned (all ++ x ∷ [])) (cleaned (reverse_aux others (b ∷ x ∷ rest))) (cleaned (reverse_aux others (row_with b x ∷ rest))) moved
+              (onto_cleaned others (b ∷ x ∷ rest) (row_with b x ∷ rest) (stands_steps b rest (and_parts (not (is_too_early others x)) (has_place b x) here).1)))
+
+    last_cleaned : (bs : List Slots) → cleaned (stood_last x bs) ≡ cleaned (bs ++ x ∷ [])
+    last_cleaned bs =
+        elim (is_too_early (reverse bs) x) as (λ early. cleaned (bs ++ (if early then idle ∷ x ∷ [] else x ∷ [])) ≡ cleaned (bs ++ x ∷ [])) [
+          | true ↦ cleaned_append bs (idle ∷ x ∷ []) ∙ sym (cleaned_append bs (x ∷ []))
+          | false ↦ refl
+        ]
+
+    pub put_steps : (bs : List Slots) → P (cleaned bs ++ x ∷ []) (cleaned (put x bs))
+    put_steps bs =
+        subst (λ ys. P ys (cleaned (put x bs))) (cleaned_append bs (x ∷ []) ∙ ap (λ ys. cleaned bs ++ ys) (cleaned_busy x [] busy))
+        (elim (is_none x.second) as (λ alone. P (cleaned (bs ++ x ∷ [])) (cleaned (stood x bs (if alone then place WINDOW x (reverse bs) None else None)))) [
+          | true ↦ so (place WINDOW x (reverse bs) None)
+              (back_steps bs WINDOW (reverse bs) [] None (twice bs [] ∙ append-nil bs) (subst (λ ys. P (cleaned (bs ++ x ∷ [])) (cleaned ys)) (sym (twice bs (x ∷ []))) (step.same (cleaned (bs ++ x ∷ [])))) tt)
+          | false ↦ at_end
+        ])
+      where
+        at_end : P (cleaned (bs ++ x ∷ [])) (cleaned (stood_last x bs))
+        at_end = subst (P (cleaned (bs ++ x ∷ []))) (sym (last_cleaned bs)) (step.same (cleaned (bs ++ x ∷ [])))
+
+        so : (o : Option (ℕ × Slots)) → IfSome o (λ at. P (cleaned (bs ++ x ∷ [])) (cleaned (slice_set bs at.0 at.1))) → P (cleaned (bs ++ x ∷ [])) (cleaned (stood x bs o))
+        so None h = at_end
+        so (Some at) h = h
+
+-- ---- the same with code after it
+
+suffixed : (P : List Slots → List Slots → Type 0) → AtEachStep P → AtEachStep (λ xs ys. (rest : List Slots) → P (xs ++ rest) (ys ++ rest))
+suffixed P step = record {
+  same = λ bs rest. step.same (bs ++ rest);
+  through = λ xs ys zs f g rest. step.through (xs ++ rest) (ys ++ rest) (zs ++ rest) (f rest) (g rest);
+  behind = λ b xs ys f rest. step.behind b (xs ++ rest) (ys ++ rest) (f rest);
+  left_out = λ b bs is rest. step.left_out b (bs ++ rest) is;
+  emptied = λ b bs rest. step.emptied b (bs ++ rest);
+  joined = λ a b bs busy can rest. step.joined a b (bs ++ rest) busy can;
+  swapped = λ b x bs by rest. step.swapped b x (bs ++ rest) by;
+}
+
+module _ (P : List Slots → List Slots → Type 0) (step : AtEachStep P) where
   front_steps : (bs xs ys : List Slots) → P xs ys → P (bs ++ xs) (bs ++ ys)
   front_steps [] xs ys h = h
   front_steps (b ∷ bs) xs ys h = step.behind b (bs ++ xs) (bs ++ ys) (front_steps bs xs ys h)
 
-  module _ (x : Slots) (busy : is_idle x ≡ false) (plain : is_plain x ≡ true) where
-    found_steps : (b : Slots) (others rest : List Slots) → has_place others b x ≡ true → P (b ∷ x ∷ rest) (beside b x ++ rest)
-    found_steps b others rest here =
-        elim (can_pair b x) as (λ can. can_pair b x ≡ can → (can || (lets_by b x && fills_time others b x)) ≡ true → P (b ∷ x ∷ rest) ((if can then pair b x ∷ [] else x ∷ b ∷ []) ++ rest)) [
-          | true ↦ λ can h. step.joined b x rest busy can
-          | false ↦ λ can h. step.swapped b x rest plain (and_parts (lets_by b x) (fills_time others b x) h).0
-        ] refl here
+  one_steps : (x : Slots) (bs rest : List Slots) → is_idle x ≡ false → P (cleaned bs ++ x ∷ rest) (cleaned (put x bs) ++ rest)
+  one_steps x bs rest busy =
+      subst (λ ys. P ys (cleaned (put x bs) ++ rest)) (append_assoc (cleaned bs) (x ∷ []) rest) (put_steps (λ xs ys. (rest : List Slots) → P (xs ++ rest) (ys ++ rest)) (suffixed P step) x busy bs rest)
 
-    back_steps : (n : ℕ) (others rest : List Slots) → IfSome (place n x others) (λ k. P (reverse_aux others (x ∷ rest)) (put_at k x (reverse_aux others rest)))
-    back_steps zero others rest = tt
-    back_steps (suc n) [] rest = tt
-    back_steps (suc n) (b ∷ others) rest =
-        elim (has_place others b x) as (λ here. has_place others b x ≡ here → IfSome (if here then Some (length others) else (if lets_by b x then place n x others else None))
-        (λ k. P (reverse_aux others (b ∷ x ∷ rest)) (put_at k x (reverse_aux others (b ∷ rest))))) [
-          | true ↦ λ here. subst (P (reverse_aux others (b ∷ x ∷ rest))) (sym (put_back others rest b x))
-              (onto_steps others (b ∷ x ∷ rest) (beside b x ++ rest) (found_steps b others rest here))
-          | false ↦ λ none. elim (lets_by b x) as (λ by. lets_by b x ≡ by → IfSome (if by then place n x others else None)
-              (λ k. P (reverse_aux others (b ∷ x ∷ rest)) (put_at k x (reverse_aux others (b ∷ rest))))) [
-                | true ↦ λ by. swap_steps (place n x others) by (back_steps n others (b ∷ rest))
-                | false ↦ λ by. tt
-              ] refl
-        ] refl
-      where
-        swap_steps : (o : Option ℕ) → lets_by b x ≡ true → IfSome o (λ k. P (reverse_aux others (x ∷ b ∷ rest)) (put_at k x (reverse_aux others (b ∷ rest))))
-            → IfSome o (λ k. P (reverse_aux others (b ∷ x ∷ rest)) (put_at k x (reverse_aux others (b ∷ rest))))
-        swap_steps None by h = tt
-        swap_steps (Some k) by h =
-            step.through (reverse_aux others (b ∷ x ∷ rest)) (reverse_aux others (x ∷ b ∷ rest)) (put_at k x (reverse_aux others (b ∷ rest)))
-            (onto_steps others (b ∷ x ∷ rest) (x ∷ b ∷ rest) (step.swapped b x rest plain by)) h
-
-  last_steps : (x : Slots) (bs rest : List Slots) → P (bs ++ x ∷ rest) ((bs ++ x ∷ []) ++ rest)
-  last_steps x bs rest = subst (P (bs ++ x ∷ rest)) (sym (append_assoc bs (x ∷ []) rest)) (step.same (bs ++ x ∷ rest))
-
-  put_steps : (x : Slots) (bs rest : List Slots) → is_idle x ≡ false → P (bs ++ x ∷ rest) (put x bs ++ rest)
-  put_steps x bs rest busy =
-      elim (is_plain x) as (λ plain. is_plain x ≡ plain → P (bs ++ x ∷ rest) (stood x bs (if plain then place WINDOW x (reverse bs) else None) ++ rest)) [
-        | true ↦ λ plain. so (place WINDOW x (reverse bs)) (place_within (place WINDOW x (reverse bs)) WINDOW x bs refl) (back_steps x busy plain WINDOW (reverse bs) rest)
-        | false ↦ λ plain. last_steps x bs rest
-      ] refl
-    where
-      so : (o : Option ℕ) → IfSome o (λ k. k < length bs) → IfSome o (λ k. P (reverse_aux (reverse bs) (x ∷ rest)) (put_at k x (reverse_aux (reverse bs) rest)))
-          → P (bs ++ x ∷ rest) (stood x bs o ++ rest)
-      so None within h = last_steps x bs rest
-      so (Some k) within h = subst (λ xs. P xs (put_at k x bs ++ rest)) (twice bs (x ∷ rest)) (subst (P (reverse_aux (reverse bs) (x ∷ rest))) (ap (put_at k x) (twice bs rest) ∙ put_before bs rest k x within) h)
-
-  behind_steps : (done bs : List Slots) → P (done ++ bs) (ordered_behind done bs)
-  behind_steps done [] = subst (λ xs. P xs done) (sym (append-nil done)) (step.same done)
+  behind_steps : (done bs : List Slots) → P (cleaned done ++ bs) (cleaned (ordered_behind done bs))
+  behind_steps done [] = subst (λ xs. P xs (cleaned done)) (sym (append-nil (cleaned done))) (step.same (cleaned done))
   behind_steps done (b ∷ bs) =
-      elim (is_idle b) as (λ idles. is_idle b ≡ idles → P (done ++ b ∷ bs) (ordered_behind (if idles then done else put b done) bs)) [
-        | true ↦ λ is. step.through (done ++ b ∷ bs) (done ++ bs) (ordered_behind done bs) (front_steps done (b ∷ bs) bs (step.left_out b bs is)) (behind_steps done bs)
-        | false ↦ λ busy. step.through (done ++ b ∷ bs) (put b done ++ bs) (ordered_behind (put b done) bs) (put_steps b done bs busy) (behind_steps (put b done) bs)
-      ] refl
+      let c = without_nop b in
+      step.through (cleaned done ++ b ∷ bs) (cleaned done ++ c ∷ bs) (cleaned (ordered_behind (put_unless_idle c done) bs)) (front_steps (cleaned done) (b ∷ bs) (c ∷ bs) (step.emptied b bs))
+      (elim (is_idle c) as (λ idles. is_idle c ≡ idles → P (cleaned done ++ c ∷ bs) (cleaned (ordered_behind (if idles then done else put c done) bs))) [
+        | true ↦ λ is. step.through (cleaned done ++ c ∷ bs) (cleaned done ++ bs) (cleaned (ordered_behind done bs)) (front_steps (cleaned done) (c ∷ bs) bs (step.left_out c bs is)) (behind_steps done bs)
+        | false ↦ λ busy. step.through (cleaned done ++ c ∷ bs) (cleaned (put c done) ++ bs) (cleaned (ordered_behind (put c done) bs)) (one_steps c done bs busy) (behind_steps (put c done) bs)
+      ] refl)
 
-  pub ordered_steps : (bs : List Slots) → P bs (ordered bs)
+  -- what is ordered, but for what does nothing
+  pub ordered_steps : (bs : List Slots) → P bs (cleaned (ordered bs))
   ordered_steps bs = behind_steps [] bs
 
   pub packed_steps : (bs : List Slots) → P bs (packed bs)
-  packed_steps bs = step.through bs (ordered bs) (packed bs) (ordered_steps bs) (pairs_steps (ordered bs))
+  packed_steps bs =
+      subst (P bs) (pairs_cleaned (ordered bs))
+      (step.through bs (cleaned (ordered bs)) (in_pairs (cleaned (ordered bs))) (ordered_steps bs) (pairs_steps P step (cleaned (ordered bs))))

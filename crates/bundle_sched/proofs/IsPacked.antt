@@ -1,15 +1,14 @@
 -- Packed code that is spaced is packed.
 use Rattle.patmos_instr.specs.declared.instructions.Op.TheVariants.{Call, Return}
-use Rattle.std.proofs.Common.{◌≡◌, ℕ, Bool, true, false, not, true≢false, if◌then◌else◌, Option, Some, None, List, [], ◌∷◌, ◌++◌, refl, sym, ap, ◌∙◌}
-use Rattle.std.specs.Prelude.{◌&&◌, ◌||◌, is_none, nat_lt}
+use Rattle.std.proofs.Common.{◌≡◌, ℕ, zero, suc, Bool, true, false, not, true≢false, if◌then◌else◌, Option, Some, None, List, [], ◌∷◌, ◌++◌, refl, sym, ap, ◌∙◌, subst}
+use Rattle.std.specs.Prelude.{◌&&◌, ◌||◌, is_none}
 use Rattle.std.specs.List.{list_all}
 use Rattle.std.proofs.lemmas.Bool.{and_parts, and_from, not-true}
 use Rattle.std.proofs.Math.Bool.{and-true}
-use Rattle.std.proofs.lemmas.List.Folds.{list_all-append}
-use Rattle.patmos_instr.specs.Bundles.{Slots}
-use Rattle.patmos_instr.specs.Instructions.{is_second_kind}
-use Rattle.sp_shape.specs.Bundles.{is_idle_op, is_idle, way_idles, turn_idles, parts_all, parts_idle}
-use Rattle.sp_shape.specs.Formed.{is_call, is_return, is_flow, is_always, are_calm, are_delay_slots, is_turn, is_way, part_formed, parts_formed, function_formed}
+use Rattle.patmos_instr.specs.Bundles.{Slots, is_legal}
+use Rattle.patmos_instr.specs.Instructions.{is_long, is_second_kind}
+use Rattle.sp_shape.specs.Bundles.{is_idle_op, is_idle, way_idles, turn_idles, parts_idle}
+use Rattle.sp_shape.specs.Formed.{is_branch, is_call, is_return, is_fill, is_flow, is_always, are_calm, are_delay_slots, is_turn, is_way}
 use Rattle.sp_shape.specs.Parts.{PlainPart, straight, repeats, calls_to, leaves, PlainParts, no_part, part}
 use Rattle.sp_shape.specs.Small.{idle}
 use Rattle.sp_shape.specs.Words.{is_late}
@@ -21,12 +20,15 @@ use Rattle.bundle_sched.proofs.PackedFormed.{calm_packed}
 use Rattle.bundle_sched.proofs.SpacedAll.{awaited_late}
 use Rattle.bundle_sched.proofs.SpacedFormed.{none_awaited}
 use Rattle.bundle_sched.specs.Placed.{is_awaited, spaced, parts_placed}
-use Rattle.bundle_sched.specs.Ordered.{ordered}
-use Rattle.bundle_sched.specs.Packed.{is_small, is_free, can_pair, mergeable, none_mergeable, pair, is_nop, is_filled, holds_special, last_or, slot_used, is_used, can_follow, some_bundle, part_packed, parts_packed}
-use Rattle.bundle_sched.specs.Packing.{paired, in_pairs, packed, can_move, spares_guard, lets_pass, has_room, filled, but_last, goes_down, kept, way, before_branch, from_branch, turn_packed, straights, parts_merged}
-use Rattle.bundle_sched.proofs.EachStep.{ordered_steps}
-use Rattle.bundle_sched.proofs.TwoInOne.{pairs}
-use Rattle.bundle_sched.proofs.Merged.{all_steps, all_but_last, all_kept, all_way, all_split}
+use Rattle.bundle_sched.specs.Ordered.{without_nop, put, ordered_behind, ordered}
+use Rattle.bundle_sched.specs.Packed.{is_small, can_join, can_pair, mergeable, none_mergeable, first_apart, pair, is_nop, is_filled, holds_special, last_or, slot_used, is_used, can_follow, some_bundle, part_packed, parts_packed, lone}
+use Rattle.bundle_sched.specs.Legal.{has_legal_flow, parts_legal}
+use Rattle.bundle_sched.specs.Packing.{paired, in_pairs, packed, can_move, spares_guard, lets_pass, has_room, filled, but_last, goes_down, kept_by_one, way_by_one, kept_after, way_after, can_leave, freed, kept, way, before_branch, from_branch, turn_packed, straights, left_over, parts_merged}
+use Rattle.bundle_sched.specs.declared.slots.TheConstants.{MOST_SLOTS}
+use Rattle.bundle_sched.proofs.EachStep.{cleaned, pairs_cleaned, put_steps}
+use Rattle.bundle_sched.proofs.Shaped.{parts_shaped}
+use Rattle.bundle_sched.proofs.TwoInOne.{pairs, second_false, pair_idle}
+use Rattle.bundle_sched.proofs.Merged.{all_steps, all_but_last, all_kept, all_way}
 
 -- a bundle of one instruction
 abbrev pub is_alone : Slots → Bool
@@ -39,7 +41,7 @@ pairless (a ∷ b ∷ bs) = not (can_pair a b) && pairless (b ∷ bs)
 pairless _ = true
 
 pair_full : (z a b : Slots) → can_pair z (pair a b) ≡ false
-pair_full z a b = elim (is_small z) as (λ small. (small && false) ≡ false) [ true ↦ refl | false ↦ refl ]
+pair_full z a b = second_false (not (is_late z.first.op)) (is_small z && false) (second_false (is_small z) false refl)
 
 behind_paired : (z a : Slots) (bs : List Slots) → can_pair z a ≡ false → pairless (z ∷ paired a bs) ≡ true
 behind_paired z a [] apart = and_from (not (can_pair z a)) true (ap not apart) refl
@@ -77,9 +79,13 @@ front_pairless b (c ∷ d ∷ ds) h =
     let both = and_parts (not (can_pair b c)) (pairless (c ∷ d ∷ ds)) h in
     and_from (not (can_pair b c)) (pairless (but_last c (d ∷ ds))) both.0 (front_pairless c (d ∷ ds) both.1)
 
-kept_pairless : (bs tail : List Slots) → pairless bs ≡ true → pairless (kept bs tail) ≡ true
-kept_pairless [] tail h = refl
-kept_pairless (b ∷ bs) tail h = elim (goes_down (b ∷ bs) tail) as (λ down. pairless (if down then but_last b bs else b ∷ bs) ≡ true) [ true ↦ front_pairless b bs h | false ↦ h ]
+one_pairless : (bs tail : List Slots) → pairless bs ≡ true → pairless (kept_by_one bs tail) ≡ true
+one_pairless [] tail h = refl
+one_pairless (b ∷ bs) tail h = elim (goes_down (b ∷ bs) tail) as (λ down. pairless (if down then but_last b bs else b ∷ bs) ≡ true) [ true ↦ front_pairless b bs h | false ↦ h ]
+
+kept_pairless : (n : ℕ) (bs tail : List Slots) → pairless bs ≡ true → pairless (kept_after n bs tail) ≡ true
+kept_pairless zero bs tail h = h
+kept_pairless (suc n) bs tail h = kept_pairless n (kept_by_one bs tail) (way_by_one bs tail) (one_pairless bs tail h)
 
 -- ---- spaced, no three are mergeable
 
@@ -89,16 +95,8 @@ merge_from x a b bs apart h = and_from (not (mergeable x a b)) (none_mergeable (
 after_late : (x : Slots) → is_late x.first.op ≡ true → (a b : Slots) → mergeable x a b ≡ false
 after_late x late a b = ap (λ l. not l && can_pair a b) late
 
-second_false : (x y : Bool) → y ≡ false → (x && y) ≡ false
-second_false true y h = h
-second_false false y h = refl
-
 late_alone : (x a b : Slots) → is_late a.first.op ≡ true → mergeable x a b ≡ false
-late_alone x a b late =
-    second_false (not (is_late x.first.op)) (can_pair a b)
-    (second_false (is_small a) (is_small b && (is_second_kind b.first.op && (not (is_late a.first.op) && is_free a.first b.first)))
-    (second_false (is_small b) (is_second_kind b.first.op && (not (is_late a.first.op) && is_free a.first b.first))
-    (second_false (is_second_kind b.first.op) (not (is_late a.first.op) && is_free a.first b.first) (ap (λ l. not l && is_free a.first b.first) late))))
+late_alone x a b late = second_false (not (is_late x.first.op)) (can_pair a b) (ap (λ l. not l && can_join a b) late)
 
 -- three of which the first or the second is late, or the two after cannot be one
 before_any : (x a : Slots) (ys : List Slots) → ((b : Slots) → mergeable x a b ≡ false) → none_mergeable (a ∷ ys) ≡ true → none_mergeable (x ∷ a ∷ ys) ≡ true
@@ -138,6 +136,21 @@ spaced_none (b ∷ bs) h =
     rest_pairless b [] h = refl
     rest_pairless b (c ∷ cs) h = (and_parts (not (can_pair b c)) (pairless (c ∷ cs)) h).1
 
+-- nor the first two
+first_spaced : (bs : List Slots) → pairless bs ≡ true → first_apart (spaced bs) ≡ true
+first_spaced [] h = refl
+first_spaced (b ∷ bs) h =
+    elim (is_awaited b bs) as (λ awaited. is_awaited b bs ≡ awaited → first_apart ((if awaited then b ∷ idle ∷ [] else b ∷ []) ++ spaced bs) ≡ true) [
+      | true ↦ λ is. ap (λ late. not (not late && can_join b idle)) (awaited_late b bs is)
+      | false ↦ λ is. so bs h
+    ] refl
+  where
+    so : (bs : List Slots) → pairless (b ∷ bs) ≡ true → first_apart (b ∷ spaced bs) ≡ true
+    so [] h = refl
+    so (c ∷ cs) h =
+        let first = (and_parts (not (can_pair b c)) (pairless (c ∷ cs)) h).0 in
+        elim (is_awaited c cs) as (λ awaited. first_apart (b ∷ ((if awaited then c ∷ idle ∷ [] else c ∷ []) ++ spaced cs)) ≡ true) [ true ↦ first | false ↦ first ]
+
 -- ---- no bundle of packed code does nothing, alone or in its second slot
 
 abbrev is_busy : Slots → Bool
@@ -162,10 +175,10 @@ abbrev is_good : Slots → Bool
 is_good b = is_filled b && is_busy b
 
 pair_busy : (a b : Slots) → is_busy (pair a b) ≡ true
-pair_busy a b = ap not (second_false (is_always a.first.guard) (is_idle_op a.first.op && false) (second_false (is_idle_op a.first.op) false refl))
+pair_busy a b = ap not (pair_idle a b)
 
 -- the second of a pair does something
-pair_filled : (a b : Slots) → is_idle b ≡ false → can_pair a b ≡ true → is_filled (pair a b) ≡ true
+pair_filled : (a b : Slots) → is_idle b ≡ false → can_join a b ≡ true → is_filled (pair a b) ≡ true
 pair_filled a b busy can = ap not (busy_nop b (pairs a b can).second_alone busy)
 
 good_paired : (a : Slots) (bs : List Slots) → is_good a ≡ true → list_all is_filled bs ≡ true → list_all is_good (paired a bs) ≡ true
@@ -175,7 +188,7 @@ good_paired a (b ∷ bs) ha h =
     elim (is_idle b) as (λ idles. is_idle b ≡ idles → list_all is_good (if idles then paired a bs else (if can_pair a b then paired (pair a b) bs else a ∷ paired b bs)) ≡ true) [
       | true ↦ λ is. good_paired a bs ha both.1
       | false ↦ λ is. elim (can_pair a b) as (λ can. can_pair a b ≡ can → list_all is_good (if can then paired (pair a b) bs else a ∷ paired b bs) ≡ true) [
-        | true ↦ λ can. good_paired (pair a b) bs (and_from (is_filled (pair a b)) (is_busy (pair a b)) (pair_filled a b is can) (pair_busy a b)) both.1
+        | true ↦ λ can. good_paired (pair a b) bs (and_from (is_filled (pair a b)) (is_busy (pair a b)) (pair_filled a b is (and_parts (not (is_late a.first.op)) (can_join a b) can).1) (pair_busy a b)) both.1
         | false ↦ λ can. and_from (is_good a) (list_all is_good (paired b bs)) ha (good_paired b bs (and_from (is_filled b) (is_busy b) both.0 (ap not is)) both.1)
       ] refl
     ] refl
@@ -189,11 +202,32 @@ good_pairs (b ∷ bs) h =
       | false ↦ λ is. good_paired b bs (and_from (is_filled b) (is_busy b) both.0 (ap not is)) both.1
     ] refl
 
-good_packed : (bs : List Slots) → list_all is_alone bs ≡ true → list_all is_good (packed bs) ≡ true
-good_packed bs alone =
-    good_pairs (ordered bs)
-    (ordered_steps (λ xs ys. list_all is_filled xs ≡ true → list_all is_filled ys ≡ true) (all_steps is_filled (λ a b busy can ha hb. pair_filled a b busy can)) bs
-    (all_weaker is_alone is_filled alone_filled bs alone))
+-- ordered code is filled, since what comes in has no second instruction that does nothing
+nop_filled : (b : Slots) → is_filled (without_nop b) ≡ true
+nop_filled b = so b.second refl
+  where
+    so : (o : Option Instr) → b.second ≡ o → is_filled (elim o as (λ _. Slots) [ None ↦ b | Some i ↦ if is_nop i then lone b.first else b ]) ≡ true
+    so None is = ap (λ o. elim o as (λ _. Bool) [ None ↦ true | Some i ↦ not (is_nop i) ]) is
+    so (Some i) is =
+        elim (is_nop i) as (λ nop. is_nop i ≡ nop → is_filled (if nop then lone b.first else b) ≡ true) [
+          | true ↦ λ nop. refl
+          | false ↦ λ busy. ap (λ o. elim o as (λ _. Bool) [ None ↦ true | Some i ↦ not (is_nop i) ]) is ∙ ap not busy
+        ] refl
+
+behind_filled : (done bs : List Slots) → list_all is_filled (cleaned done) ≡ true → list_all is_filled (cleaned (ordered_behind done bs)) ≡ true
+behind_filled done [] h = h
+behind_filled done (b ∷ bs) h =
+    let c = without_nop b in
+    elim (is_idle c) as (λ idles. is_idle c ≡ idles → list_all is_filled (cleaned (ordered_behind (if idles then done else put c done) bs)) ≡ true) [
+      | true ↦ λ is. behind_filled done bs h
+      | false ↦ λ busy.
+          behind_filled (put c done) bs
+          (put_steps (λ xs ys. list_all is_filled xs ≡ true → list_all is_filled ys ≡ true) (all_steps is_filled (λ b h. refl) (λ a b busy can ha hb. pair_filled a b busy can)) c busy done
+          (all_append is_filled (cleaned done) (c ∷ []) h (and_from (is_filled c) true (nop_filled b) refl)))
+    ] refl
+
+good_packed : (bs : List Slots) → list_all is_good (packed bs) ≡ true
+good_packed bs = ap (list_all is_good) (sym (pairs_cleaned (ordered bs))) ∙ good_pairs (cleaned (ordered bs)) (behind_filled [] bs refl)
 
 filled_spaced : (bs : List Slots) → list_all is_filled bs ≡ true → list_all is_filled (spaced bs) ≡ true
 filled_spaced [] h = refl
@@ -218,9 +252,10 @@ straights_packed : (bs : List Slots) (rest : PlainParts) → list_all is_good bs
 straights_packed [] rest good apart follows h = h
 straights_packed (b ∷ bs) rest good apart follows h =
     let cs = spaced (b ∷ bs) in
-    and_from (some_bundle cs && (list_all is_filled cs && none_mergeable cs)) (can_follow (straight cs) (parts_placed rest) && parts_packed (parts_placed rest))
-    (and_from (some_bundle cs) (list_all is_filled cs && none_mergeable cs) (some_spaced b bs)
-    (and_from (list_all is_filled cs) (none_mergeable cs) (filled_spaced (b ∷ bs) (all_weaker is_good is_filled good_fills (b ∷ bs) good)) (spaced_none (b ∷ bs) apart)))
+    and_from (some_bundle cs && (list_all is_filled cs && (first_apart cs && none_mergeable cs))) (can_follow (straight cs) (parts_placed rest) && parts_packed (parts_placed rest))
+    (and_from (some_bundle cs) (list_all is_filled cs && (first_apart cs && none_mergeable cs)) (some_spaced b bs)
+    (and_from (list_all is_filled cs) (first_apart cs && none_mergeable cs) (filled_spaced (b ∷ bs) (all_weaker is_good is_filled good_fills (b ∷ bs) good))
+    (and_from (first_apart cs) (none_mergeable cs) (first_spaced (b ∷ bs) apart) (spaced_none (b ∷ bs) apart))))
     (and_from (can_follow (straight cs) (parts_placed rest)) (parts_packed (parts_placed rest)) follows h)
 
 -- ---- the first delay slot
@@ -249,14 +284,54 @@ last_spaced z c (d ∷ ds) =
       | false ↦ last_spaced c d ds
     ]
 
-slot_spaced : (b : Slots) (tail : List Slots) → has_room b tail ≡ true → is_busy b ≡ true → slot_used (spaced (filled b tail)) ≡ true
-slot_spaced b [] room busy = absurd (true≢false (sym room))
-slot_spaced b (t ∷ []) room busy = absurd (true≢false (sym room))
-slot_spaced b (t ∷ slot ∷ slots) room busy =
-    let both = and_parts (lets_pass t b) (is_idle slot) room in
-    let early = flow_early t.first.op (and_parts (is_flow t.first.op) (is_none t.second && spares_guard b t.first.guard) both.0).0 in
-    ap (λ awaited. slot_used ((if awaited then t ∷ idle ∷ [] else t ∷ []) ++ spaced (b ∷ slots))) (none_awaited t (b ∷ slots) early)
-    ∙ elim (is_awaited b slots) as (λ awaited. slot_used (t ∷ ((if awaited then b ∷ idle ∷ [] else b ∷ []) ++ spaced slots)) ≡ true) [ true ↦ busy | false ↦ busy ]
+-- a flow, and after it a bundle that does something
+abbrev slot_busy : List Slots → Bool
+slot_busy (t ∷ slot ∷ slots) = is_flow t.first.op && is_busy slot
+slot_busy _ = false
+
+slot_spaced : (tail : List Slots) → slot_busy tail ≡ true → slot_used (spaced tail) ≡ true
+slot_spaced [] h = absurd (true≢false (sym h))
+slot_spaced (t ∷ []) h = absurd (true≢false (sym h))
+slot_spaced (t ∷ b ∷ slots) h =
+    let both = and_parts (is_flow t.first.op) (is_busy b) h in
+    ap (λ awaited. slot_used ((if awaited then t ∷ idle ∷ [] else t ∷ []) ++ spaced (b ∷ slots))) (none_awaited t (b ∷ slots) (flow_early t.first.op both.0))
+    ∙ elim (is_awaited b slots) as (λ awaited. slot_used (t ∷ ((if awaited then b ∷ idle ∷ [] else b ∷ []) ++ spaced slots)) ≡ true) [ true ↦ both.1 | false ↦ both.1 ]
+
+filled_busy : (b : Slots) (tail : List Slots) → has_room b tail ≡ true → is_busy b ≡ true → slot_busy (filled b tail) ≡ true
+filled_busy b [] room busy = absurd (true≢false (sym room))
+filled_busy b (t ∷ []) room busy = absurd (true≢false (sym room))
+filled_busy b (t ∷ slot ∷ slots) room busy =
+    let both = and_parts (lets_pass t b) (is_idle (last_or slot slots)) room in
+    and_from (is_flow t.first.op) (is_busy b) (and_parts (is_flow t.first.op) (is_none t.second && spares_guard b t.first.guard) both.0).0 busy
+
+last_good : (b : Slots) (bs : List Slots) → list_all is_good (b ∷ bs) ≡ true → is_busy (last_or b bs) ≡ true
+last_good b bs good = (and_parts (is_filled (last_or b bs)) (is_busy (last_or b bs)) (all_but_last is_good b bs good).1).1
+
+-- it stays so
+one_busy : (bs tail : List Slots) → list_all is_good bs ≡ true → slot_busy tail ≡ true → slot_busy (way_by_one bs tail) ≡ true
+one_busy [] tail good h = h
+one_busy (b ∷ bs) tail good h =
+    elim (goes_down (b ∷ bs) tail) as (λ down. goes_down (b ∷ bs) tail ≡ down → slot_busy (if down then filled (last_or b bs) tail else tail) ≡ true) [
+      | true ↦ λ is. filled_busy (last_or b bs) tail (and_parts (can_move (last_or b bs)) (has_room (last_or b bs) tail) is).1 (last_good b bs good)
+      | false ↦ λ is. h
+    ] refl
+
+way_busy : (n : ℕ) (bs tail : List Slots) → list_all is_good bs ≡ true → slot_busy tail ≡ true → slot_busy (way_after n bs tail) ≡ true
+way_busy zero bs tail good h = h
+way_busy (suc n) bs tail good h = way_busy n (kept_by_one bs tail) (way_by_one bs tail) (all_kept is_good 1 bs tail good) (one_busy bs tail good h)
+
+-- where the last does not go, none goes
+none_goes : (n : ℕ) (b : Slots) (bs tail : List Slots) → goes_down (b ∷ bs) tail ≡ false → (kept_after n (b ∷ bs) tail ≡ b ∷ bs) × (way_after n (b ∷ bs) tail ≡ tail)
+none_goes zero b bs tail up = (refl, refl)
+none_goes (suc n) b bs tail up =
+    let front = ap (λ down. if down then but_last b bs else b ∷ bs) up in
+    let back = ap (λ down. if down then filled (last_or b bs) tail else tail) up in
+    let others = none_goes n b bs tail up in
+    ((λ k. kept_after n (front k) (back k)) ∙ others.0, (λ k. way_after n (front k) (back k)) ∙ others.1)
+
+none_before : (n : ℕ) (tail : List Slots) → kept_after n [] tail ≡ []
+none_before zero tail = refl
+none_before (suc n) tail = none_before n tail
 
 -- what cannot move is late, or holds a special register's write
 stays_put : (b : Slots) → can_move b ≡ false → is_flow b.first.op ≡ false → (z : Slots) → z ≡ (if is_late b.first.op then idle else b) → (is_idle z || holds_special z) ≡ true
@@ -275,33 +350,94 @@ calm_last : (b : Slots) (bs : List Slots) → are_calm (b ∷ bs) ≡ true → i
 calm_last b [] h = not-true (is_flow b.first.op) (and_parts (not (is_flow b.first.op)) true h).0
 calm_last b (c ∷ cs) h = calm_last c cs (and_parts (not (is_flow b.first.op)) (are_calm (c ∷ cs)) h).1
 
-way_used : (bs tail : List Slots) → are_calm bs ≡ true → list_all is_good bs ≡ true → ((b : Slots) → has_room b tail ≡ true) → is_used (spaced (kept bs tail)) (spaced (way bs tail)) ≡ true
-way_used [] tail calm good room = refl
-way_used (b ∷ bs) tail calm good room =
+way_used : (n : ℕ) (bs tail : List Slots) → are_calm bs ≡ true → list_all is_good bs ≡ true → ((b : Slots) → has_room b tail ≡ true) → is_used (spaced (kept_after (suc n) bs tail)) (spaced (way_after (suc n) bs tail)) ≡ true
+way_used n [] tail calm good room = ap (λ xs. is_used (spaced xs) (spaced (way_after n [] tail))) (none_before n tail)
+way_used n (b ∷ bs) tail calm good room =
     let last = last_or b bs in
-    let busy = (and_parts (is_filled last) (is_busy last) (all_but_last is_good b bs good).1).1 in
     elim (goes_down (b ∷ bs) tail) as (λ down. goes_down (b ∷ bs) tail ≡ down
-    → is_used (spaced (if down then but_last b bs else b ∷ bs)) (spaced (if down then filled last tail else tail)) ≡ true) [
-      | true ↦ λ is. used_by_slot (spaced (but_last b bs)) (spaced (filled last tail)) (slot_spaced last tail (room last) busy)
-      | false ↦ λ is. used_by_last idle (spaced (b ∷ bs)) (spaced tail)
+    → is_used (spaced (kept_after n (if down then but_last b bs else b ∷ bs) (if down then filled last tail else tail))) (spaced (way_after n (if down then but_last b bs else b ∷ bs) (if down then filled last tail else tail))) ≡ true) [
+      | true ↦ λ is.
+          used_by_slot (spaced (kept_after n (but_last b bs) (filled last tail))) (spaced (way_after n (but_last b bs) (filled last tail)))
+          (slot_spaced (way_after n (but_last b bs) (filled last tail)) (way_busy n (but_last b bs) (filled last tail) (all_but_last is_good b bs good).0 (filled_busy last tail (room last) (last_good b bs good))))
+      | false ↦ λ is.
+          let same = none_goes n b bs tail is in
+          (λ k. is_used (spaced (same.0 k)) (spaced (same.1 k)))
+          ∙ used_by_last idle (spaced (b ∷ bs)) (spaced tail)
           (stays_put last (sym (and-true (can_move last)) ∙ ap (λ r. can_move last && r) (sym (room last)) ∙ is) (calm_last b bs calm) (last_or idle (spaced (b ∷ bs))) (last_spaced idle b bs))
     ] refl
 
--- a tail of one instruction a bundle, whose delay slots do nothing, has room
-room_from : (is_it : Op → Bool) → ((op : Op) → is_it op ≡ true → is_flow op ≡ true) → (tail : List Slots) → is_way is_it tail ≡ true → way_idles tail ≡ true → list_all is_alone tail ≡ true
-    → (b : Slots) → has_room b tail ≡ true
-room_from is_it flows [] h idles alone b = absurd (true≢false (sym h))
-room_from is_it flows (t ∷ []) h idles alone b =
-    let one = and_parts (is_it t.first.op) (is_always t.first.guard && are_delay_slots 3 []) h in
-    absurd (true≢false (sym (and_parts (is_always t.first.guard) (are_delay_slots 3 []) one.1).1))
-room_from is_it flows (t ∷ slot ∷ slots) h idles alone b =
-    let one = and_parts (is_it t.first.op) (is_always t.first.guard && are_delay_slots 3 (slot ∷ slots)) h in
-    let two = and_parts (is_always t.first.guard) (are_delay_slots 3 (slot ∷ slots)) one.1 in
-    let lone = and_parts (is_alone t) (list_all is_alone (slot ∷ slots)) alone in
-    and_from (lets_pass t b) (is_idle slot)
-    (and_from (is_flow t.first.op) (is_none t.second && spares_guard b t.first.guard) (flows t.first.op one.0)
-    (and_from (is_none t.second) (spares_guard b t.first.guard) lone.0 (or_first (is_always t.first.guard) _ two.0)))
-    (and_parts (is_idle slot) (list_all is_idle slots) idles).0
+-- ---- a tail whose delay slots do nothing
+
+idle_filled : (b : Slots) → is_idle b ≡ true → is_filled b ≡ true
+idle_filled b h = alone_filled b (and_parts (is_idle_op b.first.op) (is_none b.second) (and_parts (is_always b.first.guard) (is_idle_op b.first.op && is_none b.second) h).1).1
+
+-- what is said of it once its flow stands alone: no second slot does nothing, and it has room for what spares the flow's guard
+record FlowAlone (flow : Slots) (tail : List Slots) : Type 0 where
+  pub filled : list_all is_filled tail ≡ true
+  pub room : (b : Slots) → spares_guard b flow.first.guard ≡ true → has_room b tail ≡ true
+
+flow_alone : (flow slot other : Slots) (slots : List Slots) → is_flow flow.first.op ≡ true → is_legal flow.first flow.second ≡ true → list_all is_idle (slot ∷ other ∷ slots) ≡ true → FlowAlone flow (freed (flow ∷ slot ∷ other ∷ slots))
+flow_alone flow slot other slots flows legal idles = so flow.second refl legal
+  where
+    last : Slots
+    last = last_or slot (other ∷ slots)
+
+    parts : (list_all is_idle (but_last slot (other ∷ slots)) ≡ true) × (is_idle last ≡ true)
+    parts = all_but_last is_idle slot (other ∷ slots) idles
+
+    lets : (b t : Slots) → t.first ≡ flow.first → is_none t.second ≡ true → spares_guard b flow.first.guard ≡ true → lets_pass t b ≡ true
+    lets b t same alone spares =
+        and_from (is_flow t.first.op) (is_none t.second && spares_guard b t.first.guard) (ap (λ i. is_flow i.op) same ∙ flows)
+        (and_from (is_none t.second) (spares_guard b t.first.guard) alone (ap (λ i. spares_guard b i.guard) same ∙ spares))
+
+    so : (o : Option Instr) → flow.second ≡ o → is_legal flow.first o ≡ true
+        → FlowAlone flow (elim o as (λ _. List Slots) [ None ↦ flow ∷ slot ∷ other ∷ slots | Some i ↦ if can_leave flow i last then lone flow.first ∷ lone i ∷ but_last slot (other ∷ slots) else flow ∷ slot ∷ other ∷ slots ])
+    so None is h =
+        let alone = ap is_none is in
+        record {
+          filled = and_from (is_filled flow) (list_all is_filled (slot ∷ other ∷ slots)) (alone_filled flow alone) (all_weaker is_idle is_filled idle_filled (slot ∷ other ∷ slots) idles);
+          room = λ b spares. and_from (lets_pass flow b) (is_idle last) (lets b flow refl alone spares) parts.1;
+        }
+    so (Some i) is h =
+        let kind = (and_parts (not (is_long flow.first.op)) (is_second_kind i.op) h).1 in
+        let can = and_from (is_flow flow.first.op) (is_second_kind i.op && is_idle last) flows (and_from (is_second_kind i.op) (is_idle last) kind parts.1) in
+        subst (λ out. FlowAlone flow (if out then lone flow.first ∷ lone i ∷ but_last slot (other ∷ slots) else flow ∷ slot ∷ other ∷ slots)) (sym can) (record {
+          filled = all_weaker is_idle is_filled idle_filled (but_last slot (other ∷ slots)) parts.0;
+          room = λ b spares. and_from (lets_pass (lone flow.first) b) (is_idle (last_or slot (but_last other slots))) (lets b (lone flow.first) refl refl spares) (all_but_last is_idle slot (but_last other slots) parts.0).1;
+        })
+
+-- of the tail of a call or a return
+way_alone : (is_it : Op → Bool) → ((op : Op) → is_it op ≡ true → is_flow op ≡ true) → (tail : List Slots) → is_way is_it tail ≡ true → way_idles tail ≡ true → has_legal_flow tail ≡ true
+    → (list_all is_filled (freed tail) ≡ true) × ((b : Slots) → has_room b (freed tail) ≡ true)
+way_alone is_it flows [] h idles legal = absurd (true≢false (sym h))
+way_alone is_it flows (t ∷ slots) h idles legal =
+    let one = and_parts (is_it t.first.op) (is_always t.first.guard && are_delay_slots 3 slots) h in
+    let two = and_parts (is_always t.first.guard) (are_delay_slots 3 slots) one.1 in
+    so slots idles two.1 (flows t.first.op one.0) two.0
+  where
+    so : (slots : List Slots) → list_all is_idle slots ≡ true → are_delay_slots 3 slots ≡ true → is_flow t.first.op ≡ true → is_always t.first.guard ≡ true
+        → (list_all is_filled (freed (t ∷ slots)) ≡ true) × ((b : Slots) → has_room b (freed (t ∷ slots)) ≡ true)
+    so [] idles three flow always = absurd (true≢false (sym three))
+    so (slot ∷ []) idles three flow always = absurd (true≢false (sym three))
+    so (slot ∷ other ∷ more) idles three flow always =
+        let alone = flow_alone t slot other more flow legal idles in
+        (alone.filled, λ b. alone.room b (or_first (is_always t.first.guard) _ always))
+
+-- of a branch
+turn_alone : (tail : List Slots) → is_turn tail ≡ true → turn_idles tail ≡ true → has_legal_flow (from_branch tail) ≡ true → list_all is_filled (freed (from_branch tail)) ≡ true
+turn_alone [] h idles legal = refl
+turn_alone (t ∷ slots) h idles legal =
+    elim (is_branch t.first.op) as (λ back. is_branch t.first.op ≡ back → (if back then are_delay_slots 2 slots else (not (is_flow t.first.op) && is_turn slots)) ≡ true
+    → (if back then list_all is_idle slots else turn_idles slots) ≡ true → has_legal_flow (if back then t ∷ slots else from_branch slots) ≡ true
+    → list_all is_filled (freed (if back then t ∷ slots else from_branch slots)) ≡ true) [
+      | true ↦ λ is two idles legal. so slots idles two (ap (λ back. if back then true else (if is_call t.first.op then true else (if is_return t.first.op then true else is_fill t.first.op))) is) legal
+      | false ↦ λ is turn idles legal. turn_alone slots (and_parts (not (is_flow t.first.op)) (is_turn slots) turn).1 idles legal
+    ] refl h idles legal
+  where
+    so : (slots : List Slots) → list_all is_idle slots ≡ true → are_delay_slots 2 slots ≡ true → is_flow t.first.op ≡ true → is_legal t.first t.second ≡ true → list_all is_filled (freed (t ∷ slots)) ≡ true
+    so [] idles two flow legal = absurd (true≢false (sym two))
+    so (slot ∷ []) idles two flow legal = absurd (true≢false (sym two))
+    so (slot ∷ other ∷ more) idles two flow legal = (flow_alone t slot other more flow legal idles).filled
 
 call_flows : (op : Op) → is_call op ≡ true → is_flow op ≡ true
 call_flows (Call target) h = refl
@@ -311,98 +447,58 @@ return_flows : (op : Op) → is_return op ≡ true → is_flow op ≡ true
 return_flows Return h = refl
 return_flows _ h = absurd (true≢false (sym h))
 
--- ---- parts whose straight code is calm and whose ways are ways
-
-abbrev mutual
-  pub part_shaped : PlainPart → Bool
-  part_shaped (straight bs) = are_calm bs
-  part_shaped (repeats count body tail) = parts_shaped body
-  part_shaped (calls_to k tail) = is_way is_call tail
-  part_shaped (leaves tail) = is_way is_return tail
-
-  pub parts_shaped : PlainParts → Bool
-  parts_shaped no_part = true
-  parts_shaped (part p rest) = part_shaped p && parts_shaped rest
-
-mutual
-  part_is_shaped : (n : ℕ) (p : PlainPart) → part_formed n p ≡ true → part_shaped p ≡ true
-  part_is_shaped n (straight bs) h = h
-  part_is_shaped n (repeats count body tail) h =
-      parts_are_shaped n body (and_parts (parts_formed n body) (is_turn tail) (and_parts (nat_lt 0 count) (parts_formed n body && is_turn tail) h).1).0
-  part_is_shaped n (calls_to k tail) h = (and_parts (nat_lt k n) (is_way is_call tail) h).1
-  part_is_shaped n (leaves tail) h = absurd (true≢false (sym h))
-
-  parts_are_shaped : (n : ℕ) (ps : PlainParts) → parts_formed n ps ≡ true → parts_shaped ps ≡ true
-  parts_are_shaped n no_part h = refl
-  parts_are_shaped n (part p rest) h =
-      let both = and_parts (part_formed n p) (parts_formed n rest) h in
-      and_from (part_shaped p) (parts_shaped rest) (part_is_shaped n p both.0) (parts_are_shaped n rest both.1)
-
-pub function_is_shaped : (n : ℕ) (ps : PlainParts) → function_formed n ps ≡ true → parts_shaped ps ≡ true
-function_is_shaped n no_part h = refl
-function_is_shaped n (part (leaves tail) no_part) h = and_from (is_way is_return tail) true h refl
-function_is_shaped n (part (leaves tail) (part p rest)) h = absurd (true≢false (sym h))
-function_is_shaped n (part (straight bs) rest) h =
-    let both = and_parts (part_formed n (straight bs)) (function_formed n rest) h in
-    and_from (part_shaped (straight bs)) (parts_shaped rest) (part_is_shaped n (straight bs) both.0) (function_is_shaped n rest both.1)
-function_is_shaped n (part (repeats count body tail) rest) h =
-    let both = and_parts (part_formed n (repeats count body tail)) (function_formed n rest) h in
-    and_from (part_shaped (repeats count body tail)) (parts_shaped rest) (part_is_shaped n (repeats count body tail) both.0) (function_is_shaped n rest both.1)
-function_is_shaped n (part (calls_to k tail) rest) h =
-    let both = and_parts (part_formed n (calls_to k tail)) (function_formed n rest) h in
-    and_from (part_shaped (calls_to k tail)) (parts_shaped rest) (part_is_shaped n (calls_to k tail) both.0) (function_is_shaped n rest both.1)
-
 -- ---- parts
 
 -- after what is no straight code
 then_packed : (p : PlainPart) (rest : PlainParts) → part_packed p ≡ true → can_follow p rest ≡ true → parts_packed rest ≡ true → parts_packed (part p rest) ≡ true
 then_packed p rest hp follows h = and_from (part_packed p) (can_follow p rest && parts_packed rest) hp (and_from (can_follow p rest) (parts_packed rest) follows h)
 
-turn_filled : (tail : List Slots) → list_all is_alone tail ≡ true → list_all is_filled (spaced (turn_packed tail)) ≡ true
-turn_filled tail alone =
-    let p = packed (before_branch tail) in
+turn_filled : (held tail : List Slots) → list_all is_filled (freed (from_branch tail)) ≡ true → list_all is_filled (spaced (turn_packed held tail)) ≡ true
+turn_filled held tail filled =
+    let p = packed (held ++ before_branch tail) in
     let back = from_branch tail in
-    let own = all_split is_alone tail alone in
-    let front = all_weaker is_good is_filled good_fills p (good_packed (before_branch tail) own.0) in
-    filled_spaced (turn_packed tail)
-    (all_append is_filled (kept p back) (way p back) (all_kept is_filled p back front) (all_way is_filled p back front (all_weaker is_alone is_filled alone_filled back own.1)))
+    let front = all_weaker is_good is_filled good_fills p (good_packed (held ++ before_branch tail)) in
+    filled_spaced (turn_packed held tail)
+    (all_append is_filled (kept p back) (way p back) (all_kept is_filled MOST_SLOTS p (freed back) front) (all_way is_filled MOST_SLOTS p (freed back) front filled))
 
-way_filled : (bs tail : List Slots) → list_all is_good bs ≡ true → list_all is_alone tail ≡ true → list_all is_filled (spaced (way bs tail)) ≡ true
-way_filled bs tail good alone =
-    filled_spaced (way bs tail) (all_way is_filled bs tail (all_weaker is_good is_filled good_fills bs good) (all_weaker is_alone is_filled alone_filled tail alone))
+way_filled : (bs tail : List Slots) → list_all is_good bs ≡ true → list_all is_filled (freed tail) ≡ true → list_all is_filled (spaced (way bs tail)) ≡ true
+way_filled bs tail good filled = filled_spaced (way bs tail) (all_way is_filled MOST_SLOTS bs (freed tail) (all_weaker is_good is_filled good_fills bs good) filled)
 
-pub merged_packed : (held : List Slots) (ps : PlainParts) → are_calm held ≡ true → list_all is_alone held ≡ true → parts_shaped ps ≡ true → parts_idle ps ≡ true → parts_all is_alone ps ≡ true
-    → parts_packed (parts_placed (parts_merged held ps)) ≡ true
-merged_packed held no_part calm alone shaped idles all = straights_packed (packed held) no_part (good_packed held alone) (packed_pairless held) refl refl
-merged_packed held (part (straight bs) rest) calm alone shaped idles all =
+pub merged_packed : (held : List Slots) (ps : PlainParts) → are_calm held ≡ true → parts_shaped ps ≡ true → parts_idle ps ≡ true → parts_legal ps ≡ true → parts_packed (parts_placed (parts_merged held ps)) ≡ true
+merged_packed held no_part calm shaped idles legal = refl
+merged_packed held (part (straight bs) rest) calm shaped idles legal =
     let s = and_parts (are_calm bs) (parts_shaped rest) shaped in
-    let a = and_parts (list_all is_alone bs) (parts_all is_alone rest) all in
-    merged_packed (held ++ bs) rest (calm_append held bs calm s.0) (list_all-append is_alone held bs ∙ and_from (list_all is_alone held) (list_all is_alone bs) alone a.0) s.1 idles a.1
-merged_packed held (part (repeats count body tail) rest) calm alone shaped idles all =
-    let s = and_parts (parts_shaped body) (parts_shaped rest) shaped in
+    merged_packed (held ++ bs) rest (calm_append held bs calm s.0) s.1 idles legal
+merged_packed held (part (repeats count body tail) rest) calm shaped idles legal =
+    let s = and_parts (parts_shaped body && is_turn tail) (parts_shaped rest) shaped in
+    let own_s = and_parts (parts_shaped body) (is_turn tail) s.0 in
     let i = and_parts (parts_idle body && turn_idles tail) (parts_idle rest) idles in
-    let a = and_parts (parts_all is_alone body && list_all is_alone tail) (parts_all is_alone rest) all in
-    let own = and_parts (parts_all is_alone body) (list_all is_alone tail) a.0 in
-    straights_packed (packed held) (part (repeats count (parts_merged [] body) (turn_packed tail)) (parts_merged [] rest)) (good_packed held alone) (packed_pairless held) refl
-    (then_packed (repeats count (parts_placed (parts_merged [] body)) (spaced (turn_packed tail))) (parts_placed (parts_merged [] rest))
-    (and_from (parts_packed (parts_placed (parts_merged [] body))) (list_all is_filled (spaced (turn_packed tail)))
-    (merged_packed [] body refl refl s.0 (and_parts (parts_idle body) (turn_idles tail) i.0).0 own.0) (turn_filled tail own.1))
-    refl (merged_packed [] rest refl refl s.1 i.1 a.1))
-merged_packed held (part (calls_to k tail) rest) calm alone shaped idles all =
+    let own_i = and_parts (parts_idle body) (turn_idles tail) i.0 in
+    let l = and_parts (parts_legal body && has_legal_flow (from_branch tail)) (parts_legal rest) legal in
+    let own_l = and_parts (parts_legal body) (has_legal_flow (from_branch tail)) l.0 in
+    let left = left_over [] body in
+    straights_packed (packed held) (part (repeats count (parts_merged [] body) (turn_packed left tail)) (parts_merged [] rest)) (good_packed held) (packed_pairless held) refl
+    (then_packed (repeats count (parts_placed (parts_merged [] body)) (spaced (turn_packed left tail))) (parts_placed (parts_merged [] rest))
+    (and_from (parts_packed (parts_placed (parts_merged [] body))) (list_all is_filled (spaced (turn_packed left tail)))
+    (merged_packed [] body refl own_s.0 own_i.0 own_l.0) (turn_filled left tail (turn_alone tail own_s.1 own_i.1 own_l.1)))
+    refl (merged_packed [] rest refl s.1 i.1 l.1))
+merged_packed held (part (calls_to k tail) rest) calm shaped idles legal =
     let s = and_parts (is_way is_call tail) (parts_shaped rest) shaped in
     let i = and_parts (way_idles tail) (parts_idle rest) idles in
-    let a = and_parts (list_all is_alone tail) (parts_all is_alone rest) all in
+    let l = and_parts (has_legal_flow tail) (parts_legal rest) legal in
+    let alone = way_alone is_call call_flows tail s.0 i.0 l.0 in
     let p = packed held in
-    let good = good_packed held alone in
-    straights_packed (kept p tail) (part (calls_to k (way p tail)) (parts_merged [] rest)) (all_kept is_good p tail good) (kept_pairless p tail (packed_pairless held))
-    (way_used p tail (calm_packed held calm) good (room_from is_call call_flows tail s.0 i.0 a.0))
-    (then_packed (calls_to k (spaced (way p tail))) (parts_placed (parts_merged [] rest)) (way_filled p tail good a.0) refl (merged_packed [] rest refl refl s.1 i.1 a.1))
-merged_packed held (part (leaves tail) rest) calm alone shaped idles all =
+    let good = good_packed held in
+    straights_packed (kept p tail) (part (calls_to k (way p tail)) (parts_merged [] rest)) (all_kept is_good MOST_SLOTS p (freed tail) good) (kept_pairless MOST_SLOTS p (freed tail) (packed_pairless held))
+    (way_used 2 p (freed tail) (calm_packed held calm) good alone.1)
+    (then_packed (calls_to k (spaced (way p tail))) (parts_placed (parts_merged [] rest)) (way_filled p tail good alone.0) refl (merged_packed [] rest refl s.1 i.1 l.1))
+merged_packed held (part (leaves tail) rest) calm shaped idles legal =
     let s = and_parts (is_way is_return tail) (parts_shaped rest) shaped in
     let i = and_parts (way_idles tail) (parts_idle rest) idles in
-    let a = and_parts (list_all is_alone tail) (parts_all is_alone rest) all in
+    let l = and_parts (has_legal_flow tail) (parts_legal rest) legal in
+    let alone = way_alone is_return return_flows tail s.0 i.0 l.0 in
     let p = packed held in
-    let good = good_packed held alone in
-    straights_packed (kept p tail) (part (leaves (way p tail)) (parts_merged [] rest)) (all_kept is_good p tail good) (kept_pairless p tail (packed_pairless held))
-    (way_used p tail (calm_packed held calm) good (room_from is_return return_flows tail s.0 i.0 a.0))
-    (then_packed (leaves (spaced (way p tail))) (parts_placed (parts_merged [] rest)) (way_filled p tail good a.0) refl (merged_packed [] rest refl refl s.1 i.1 a.1))
+    let good = good_packed held in
+    straights_packed (kept p tail) (part (leaves (way p tail)) (parts_merged [] rest)) (all_kept is_good MOST_SLOTS p (freed tail) good) (kept_pairless MOST_SLOTS p (freed tail) (packed_pairless held))
+    (way_used 2 p (freed tail) (calm_packed held calm) good alone.1)
+    (then_packed (leaves (spaced (way p tail))) (parts_placed (parts_merged [] rest)) (way_filled p tail good alone.0) refl (merged_packed [] rest refl s.1 i.1 l.1))

@@ -1,8 +1,10 @@
 pub mod Alike
 pub mod AllPacked
 pub mod BehindFlow
+pub mod Beside
 pub mod Commute
 pub mod EachStep
+pub mod Freed
 pub mod IsPacked
 pub mod Kept
 pub mod LastBundle
@@ -18,6 +20,7 @@ pub mod Placing
 pub mod Putting
 pub mod Reading
 pub mod Runs
+pub mod Shaped
 pub mod SpacedAll
 pub mod SpacedFormed
 pub mod SpacedRuns
@@ -26,5 +29,5 @@ pub mod Swapping
 pub mod Turns
 pub mod TwoInOne
 pub mod Unwritten
-pub mod WellFormed
 pub mod Waiting
+pub mod WellFormed

@@ -12,11 +12,14 @@ use Rattle.sp_shape.specs.Parts.{straight, repeats, calls_to, leaves, PlainPart,
 use Rattle.sp_shape.specs.Words.{is_late}
 use Rattle.sp_tree.specs.declared.limits.TheConstants.{MOST_FUNCTIONS}
 use Rattle.sp_shape.proofs.Functions.{function_then}
-use Rattle.sp_shape.proofs.Lists.{calm_append}
-use Rattle.bundle_sched.specs.Packed.{last_or, holds_special}
-use Rattle.bundle_sched.specs.Packing.{packed, can_move, has_room, filled, but_last, goes_down, kept, way, before_branch, from_branch, turn_packed, straights, parts_merged, merged}
-use Rattle.bundle_sched.proofs.Merged.{all_packed, all_kept}
+use Rattle.sp_shape.proofs.Lists.{calm_append, all_append}
+use Rattle.bundle_sched.specs.Packed.{lone, last_or, holds_special}
+use Rattle.bundle_sched.specs.Packing.{packed, can_move, has_room, filled, but_last, goes_down, kept_by_one, way_by_one, kept_after, way_after, freed, kept, way, before_branch, from_branch, turn_packed, straights, left_over, parts_merged, function_merged, merged}
+use Rattle.bundle_sched.specs.declared.slots.TheConstants.{MOST_SLOTS}
+use Rattle.bundle_sched.proofs.Merged.{all_packed, all_but_last, all_kept}
 use Rattle.bundle_sched.proofs.Alike.{merged_at}
+use Rattle.bundle_sched.proofs.Freed.{freed_holds}
+use Rattle.bundle_sched.proofs.Shaped.{parts_shaped, parts_are_shaped, left_calm, function_same}
 use Rattle.bundle_sched.proofs.SpacedFormed.{is_prompt, turn_prompt, way_prompt, parts_prompt, idle_early, turn_front}
 
 -- ---- delay slots that do nothing are prompt
@@ -39,7 +42,7 @@ each_calm [] = refl
 each_calm (b ∷ bs) = ap (λ others. is_calm b && others) (each_calm bs)
 
 pub calm_packed : (bs : List Slots) → are_calm bs ≡ true → are_calm (packed bs) ≡ true
-calm_packed bs h = each_calm (packed bs) ∙ all_packed is_calm (λ a b busy can ha hb. ha) bs (sym (each_calm bs) ∙ h)
+calm_packed bs h = each_calm (packed bs) ∙ all_packed is_calm (λ b h. h) (λ a b busy can ha hb. ha) bs (sym (each_calm bs) ∙ h)
 
 calm_front : (b : Slots) (bs : List Slots) → are_calm (b ∷ bs) ≡ true → are_calm (but_last b bs) ≡ true
 calm_front b [] h = refl
@@ -47,10 +50,14 @@ calm_front b (c ∷ cs) h =
     let both = and_parts (not (is_flow b.first.op)) (are_calm (c ∷ cs)) h in
     and_from (not (is_flow b.first.op)) (are_calm (but_last c cs)) both.0 (calm_front c cs both.1)
 
-pub calm_kept : (bs tail : List Slots) → are_calm bs ≡ true → are_calm (kept bs tail) ≡ true
-calm_kept [] tail h = refl
-calm_kept (b ∷ bs) tail h =
+calm_once : (bs tail : List Slots) → are_calm bs ≡ true → are_calm (kept_by_one bs tail) ≡ true
+calm_once [] tail h = refl
+calm_once (b ∷ bs) tail h =
     elim (goes_down (b ∷ bs) tail) as (λ down. are_calm (if down then but_last b bs else b ∷ bs) ≡ true) [ true ↦ calm_front b bs h | false ↦ h ]
+
+pub calm_kept : (n : ℕ) (bs tail : List Slots) → are_calm bs ≡ true → are_calm (kept_after n bs tail) ≡ true
+calm_kept zero bs tail h = h
+calm_kept (suc n) bs tail h = calm_kept n (kept_by_one bs tail) (way_by_one bs tail) (calm_once bs tail h)
 
 -- a bundle that can move is calm and prompt
 move_parts : (b : Slots) → can_move b ≡ true → (not (is_late b.first.op) ≡ true) × (not (is_flow b.first.op) ≡ true)
@@ -58,41 +65,59 @@ move_parts b h =
     let both = and_parts (not (is_late b.first.op)) (not (is_flow b.first.op) && not (holds_special b)) h in
     (both.0, (and_parts (not (is_flow b.first.op)) (not (holds_special b)) both.1).0)
 
+-- as many delay slots, and calm, with another for the last
+slots_filled : (n : ℕ) (b slot : Slots) (slots : List Slots) → can_move b ≡ true → are_delay_slots n (slot ∷ slots) ≡ true → are_delay_slots n (b ∷ but_last slot slots) ≡ true
+slots_filled n b slot slots can h =
+    let both = and_parts (length (slot ∷ slots) == n) (are_calm (slot ∷ slots)) h in
+    and_from (length (b ∷ but_last slot slots) == n) (are_calm (b ∷ but_last slot slots)) (ap (λ k. suc k == n) (length_front slot slots) ∙ both.0)
+    (and_from (not (is_flow b.first.op)) (are_calm (but_last slot slots)) (move_parts b can).1 (calm_front slot slots both.1))
+  where
+    length_front : (slot : Slots) (slots : List Slots) → length (but_last slot slots) ≡ length slots
+    length_front slot [] = refl
+    length_front slot (c ∷ cs) = ap suc (length_front c cs)
+
 filled_way : (is_it : Op → Bool) (b : Slots) (tail : List Slots) → can_move b ≡ true → is_way is_it tail ≡ true → is_way is_it (filled b tail) ≡ true
 filled_way is_it b [] can h = h
 filled_way is_it b (t ∷ []) can h = h
 filled_way is_it b (t ∷ slot ∷ slots) can h =
     let one = and_parts (is_it t.first.op) (is_always t.first.guard && are_delay_slots 3 (slot ∷ slots)) h in
     let two = and_parts (is_always t.first.guard) (are_delay_slots 3 (slot ∷ slots)) one.1 in
-    let three = and_parts (length (slot ∷ slots) == 3) (are_calm (slot ∷ slots)) two.1 in
-    let calm = and_from (not (is_flow b.first.op)) (are_calm slots) (move_parts b can).1 (and_parts (not (is_flow slot.first.op)) (are_calm slots) three.1).1 in
-    and_from (is_it t.first.op) (is_always t.first.guard && are_delay_slots 3 (b ∷ slots)) one.0
-    (and_from (is_always t.first.guard) (are_delay_slots 3 (b ∷ slots)) two.0 (and_from (length (b ∷ slots) == 3) (are_calm (b ∷ slots)) three.0 calm))
+    and_from (is_it t.first.op) (is_always t.first.guard && are_delay_slots 3 (b ∷ but_last slot slots)) one.0
+    (and_from (is_always t.first.guard) (are_delay_slots 3 (b ∷ but_last slot slots)) two.0 (slots_filled 3 b slot slots can two.1))
+
+-- what holds of a tail after each bundle that goes into it
+module _ (holds : List Slots → Bool) (fills : (b : Slots) (tail : List Slots) → can_move b ≡ true → holds tail ≡ true → holds (filled b tail) ≡ true) where
+  one_holds : (bs tail : List Slots) → holds tail ≡ true → holds (way_by_one bs tail) ≡ true
+  one_holds [] tail h = h
+  one_holds (b ∷ bs) tail h =
+      elim (goes_down (b ∷ bs) tail) as (λ down. goes_down (b ∷ bs) tail ≡ down → holds (if down then filled (last_or b bs) tail else tail) ≡ true) [
+        | true ↦ λ is. fills (last_or b bs) tail (and_parts (can_move (last_or b bs)) (has_room (last_or b bs) tail) is).0 h
+        | false ↦ λ is. h
+      ] refl
+
+  way_holds : (n : ℕ) (bs tail : List Slots) → holds tail ≡ true → holds (way_after n bs tail) ≡ true
+  way_holds zero bs tail h = h
+  way_holds (suc n) bs tail h = way_holds n (kept_by_one bs tail) (way_by_one bs tail) (one_holds bs tail h)
+
+-- what holds of a tail, by the first instructions of its bundles, holds of it with bundles in all its delay slots
+slots_hold : (holds : List Slots → Bool) → ((b : Slots) (tail : List Slots) → can_move b ≡ true → holds tail ≡ true → holds (filled b tail) ≡ true)
+    → ((flow : Slots) (slots : List Slots) → holds (flow ∷ slots) ≡ true → holds (lone flow.first ∷ slots) ≡ true) → (bs tail : List Slots) → holds tail ≡ true → holds (way bs tail) ≡ true
+slots_hold holds fills alone bs tail h = way_holds holds fills MOST_SLOTS bs (freed tail) (freed_holds holds fills alone tail h)
 
 pub way_formed : (is_it : Op → Bool) (bs tail : List Slots) → is_way is_it tail ≡ true → is_way is_it (way bs tail) ≡ true
-way_formed is_it [] tail h = h
-way_formed is_it (b ∷ bs) tail h =
-    elim (goes_down (b ∷ bs) tail) as (λ down. goes_down (b ∷ bs) tail ≡ down → is_way is_it (if down then filled (last_or b bs) tail else tail) ≡ true) [
-      | true ↦ λ is. filled_way is_it (last_or b bs) tail (and_parts (can_move (last_or b bs)) (has_room (last_or b bs) tail) is).0 h
-      | false ↦ λ is. h
-    ] refl
+way_formed is_it = slots_hold (is_way is_it) (filled_way is_it) (λ flow slots h. h)
 
-filled_prompt : (b : Slots) (tail : List Slots) → can_move b ≡ true → way_idles tail ≡ true → way_prompt (filled b tail) ≡ true
+filled_prompt : (b : Slots) (tail : List Slots) → can_move b ≡ true → way_prompt tail ≡ true → way_prompt (filled b tail) ≡ true
 filled_prompt b [] can h = refl
 filled_prompt b (t ∷ []) can h = refl
-filled_prompt b (t ∷ slot ∷ slots) can h = and_from (is_prompt b) (list_all is_prompt slots) (move_parts b can).0 (idles_prompt slots (and_parts (is_idle slot) (list_all is_idle slots) h).1)
+filled_prompt b (t ∷ slot ∷ slots) can h = and_from (is_prompt b) (list_all is_prompt (but_last slot slots)) (move_parts b can).0 (all_but_last is_prompt slot slots h).0
 
 idle_way : (tail : List Slots) → way_idles tail ≡ true → way_prompt tail ≡ true
 idle_way [] h = refl
 idle_way (t ∷ slots) h = idles_prompt slots h
 
 pub prompt_way : (bs tail : List Slots) → way_idles tail ≡ true → way_prompt (way bs tail) ≡ true
-prompt_way [] tail h = idle_way tail h
-prompt_way (b ∷ bs) tail h =
-    elim (goes_down (b ∷ bs) tail) as (λ down. goes_down (b ∷ bs) tail ≡ down → way_prompt (if down then filled (last_or b bs) tail else tail) ≡ true) [
-      | true ↦ λ is. filled_prompt (last_or b bs) tail (and_parts (can_move (last_or b bs)) (has_room (last_or b bs) tail) is).0 h
-      | false ↦ λ is. idle_way tail h
-    ] refl
+prompt_way bs tail h = slots_hold way_prompt filled_prompt (λ flow slots h. h) bs tail (idle_way tail h)
 
 -- ---- tails of loops
 
@@ -140,27 +165,43 @@ idle_turn (b ∷ bs) h =
       | false ↦ λ idles. idle_turn bs idles
     ] h
 
-filled_prompt_turn : (b : Slots) (tail : List Slots) → can_move b ≡ true → at_branch tail ≡ true → turn_idles tail ≡ true → turn_prompt (filled b tail) ≡ true
-filled_prompt_turn b [] can at h = refl
-filled_prompt_turn b (t ∷ []) can at h = idle_turn (t ∷ []) h
-filled_prompt_turn b (t ∷ slot ∷ slots) can at h =
-    let idles = ap (λ back. if back then list_all is_idle (slot ∷ slots) else turn_idles (slot ∷ slots)) (sym at) ∙ h in
-    ap (λ back. if back then list_all is_prompt (b ∷ slots) else turn_prompt (b ∷ slots)) at
-    ∙ and_from (is_prompt b) (list_all is_prompt slots) (move_parts b can).0 (idles_prompt slots (and_parts (is_idle slot) (list_all is_idle slots) idles).1)
+-- the branch first, and then slots of which something holds
+abbrev at_prompt : List Slots → Bool
+at_prompt tail = at_branch tail && turn_prompt tail
+
+abbrev at_turn : List Slots → Bool
+at_turn tail = at_branch tail && is_turn tail
+
+filled_prompt_turn : (b : Slots) (tail : List Slots) → can_move b ≡ true → at_prompt tail ≡ true → at_prompt (filled b tail) ≡ true
+filled_prompt_turn b [] can h = h
+filled_prompt_turn b (t ∷ []) can h = h
+filled_prompt_turn b (t ∷ slot ∷ slots) can h =
+    let both = and_parts (is_branch t.first.op) (turn_prompt (t ∷ slot ∷ slots)) h in
+    let own = ap (λ back. if back then list_all is_prompt (slot ∷ slots) else turn_prompt (slot ∷ slots)) (sym both.0) ∙ both.1 in
+    and_from (is_branch t.first.op) (turn_prompt (t ∷ b ∷ but_last slot slots)) both.0
+    (ap (λ back. if back then list_all is_prompt (b ∷ but_last slot slots) else turn_prompt (b ∷ but_last slot slots)) both.0
+    ∙ and_from (is_prompt b) (list_all is_prompt (but_last slot slots)) (move_parts b can).0 (all_but_last is_prompt slot slots own).0)
 
 way_prompt_turn : (bs tail : List Slots) → at_branch tail ≡ true → turn_idles tail ≡ true → turn_prompt (way bs tail) ≡ true
-way_prompt_turn [] tail at h = idle_turn tail h
-way_prompt_turn (b ∷ bs) tail at h =
-    elim (goes_down (b ∷ bs) tail) as (λ down. goes_down (b ∷ bs) tail ≡ down → turn_prompt (if down then filled (last_or b bs) tail else tail) ≡ true) [
-      | true ↦ λ is. filled_prompt_turn (last_or b bs) tail (and_parts (can_move (last_or b bs)) (has_room (last_or b bs) tail) is).0 at h
-      | false ↦ λ is. idle_turn tail h
-    ] refl
+way_prompt_turn bs tail at h =
+    (and_parts (at_branch (way bs tail)) (turn_prompt (way bs tail)) (slots_hold at_prompt filled_prompt_turn (λ flow slots h. h) bs tail (and_from (at_branch tail) (turn_prompt tail) at (idle_turn tail h)))).1
 
-prompt_turn : (tail : List Slots) → turn_idles tail ≡ true → turn_prompt (turn_packed tail) ≡ true
-prompt_turn tail h =
-    let p = packed (before_branch tail) in
+calm_branch : (op : Op) → is_flow op ≡ false → is_branch op ≡ false
+calm_branch op h = elim (is_branch op) as (λ back. (if back then true else (if is_call op then true else (if is_return op then true else is_fill op))) ≡ false → back ≡ false) [ true ↦ λ x. x | false ↦ λ x. refl ] h
+
+calm_plain : (bs : List Slots) → are_calm bs ≡ true → list_all is_plain bs ≡ true
+calm_plain [] h = refl
+calm_plain (b ∷ bs) h =
+    let both = and_parts (not (is_flow b.first.op)) (are_calm bs) h in
+    and_from (is_plain b) (list_all is_plain bs) (ap not (calm_branch b.first.op (not-true (is_flow b.first.op) both.0))) (calm_plain bs both.1)
+
+prompt_turn : (before tail : List Slots) → are_calm before ≡ true → turn_idles tail ≡ true → turn_prompt (turn_packed before tail) ≡ true
+prompt_turn before tail calm h =
+    let all = before ++ before_branch tail in
+    let p = packed all in
     let back = from_branch tail in
-    plain_then (kept p back) (way p back) (all_kept is_plain p back (all_packed is_plain (λ a b busy can ha hb. ha) (before_branch tail) (before_plain tail)))
+    plain_then (kept p back) (way p back)
+    (all_kept is_plain MOST_SLOTS p (freed back) (all_packed is_plain (λ b h. h) (λ a b busy can ha hb. ha) all (all_append is_plain before (before_branch tail) (calm_plain before calm) (before_plain tail))))
     (way_prompt_turn p back (from_at tail) (from_idles tail h))
 
 calm_before : (tail : List Slots) → is_turn tail ≡ true → are_calm (before_branch tail) ≡ true
@@ -182,37 +223,31 @@ from_turn (b ∷ bs) h =
       | false ↦ λ is turn. from_turn bs (and_parts (not (is_flow b.first.op)) (is_turn bs) turn).1
     ] refl h
 
-calm_branch : (op : Op) → is_flow op ≡ false → is_branch op ≡ false
-calm_branch op h = elim (is_branch op) as (λ back. (if back then true else (if is_call op then true else (if is_return op then true else is_fill op))) ≡ false → back ≡ false) [ true ↦ λ x. x | false ↦ λ x. refl ] h
-
 calm_turn : (xs ys : List Slots) → are_calm xs ≡ true → is_turn ys ≡ true → is_turn (xs ++ ys) ≡ true
 calm_turn [] ys calm h = h
 calm_turn (x ∷ xs) ys calm h =
     let both = and_parts (not (is_flow x.first.op)) (are_calm xs) calm in
     turn_front x (xs ++ ys) (calm_branch x.first.op (not-true (is_flow x.first.op) both.0)) both.0 (calm_turn xs ys both.1 h)
 
-filled_turn : (b : Slots) (tail : List Slots) → can_move b ≡ true → at_branch tail ≡ true → is_turn tail ≡ true → is_turn (filled b tail) ≡ true
-filled_turn b [] can at h = h
-filled_turn b (t ∷ []) can at h = h
-filled_turn b (t ∷ slot ∷ slots) can at h =
-    let two = ap (λ back. if back then are_delay_slots 2 (slot ∷ slots) else (not (is_flow t.first.op) && is_turn (slot ∷ slots))) (sym at) ∙ h in
-    let three = and_parts (length (slot ∷ slots) == 2) (are_calm (slot ∷ slots)) two in
-    let calm = and_from (not (is_flow b.first.op)) (are_calm slots) (move_parts b can).1 (and_parts (not (is_flow slot.first.op)) (are_calm slots) three.1).1 in
-    ap (λ back. if back then are_delay_slots 2 (b ∷ slots) else (not (is_flow t.first.op) && is_turn (b ∷ slots))) at ∙ and_from (length (b ∷ slots) == 2) (are_calm (b ∷ slots)) three.0 calm
+filled_turn : (b : Slots) (tail : List Slots) → can_move b ≡ true → at_turn tail ≡ true → at_turn (filled b tail) ≡ true
+filled_turn b [] can h = h
+filled_turn b (t ∷ []) can h = h
+filled_turn b (t ∷ slot ∷ slots) can h =
+    let both = and_parts (is_branch t.first.op) (is_turn (t ∷ slot ∷ slots)) h in
+    let own = ap (λ back. if back then are_delay_slots 2 (slot ∷ slots) else (not (is_flow t.first.op) && is_turn (slot ∷ slots))) (sym both.0) ∙ both.1 in
+    and_from (is_branch t.first.op) (is_turn (t ∷ b ∷ but_last slot slots)) both.0
+    (ap (λ back. if back then are_delay_slots 2 (b ∷ but_last slot slots) else (not (is_flow t.first.op) && is_turn (b ∷ but_last slot slots))) both.0 ∙ slots_filled 2 b slot slots can own)
 
 way_turn : (bs tail : List Slots) → at_branch tail ≡ true → is_turn tail ≡ true → is_turn (way bs tail) ≡ true
-way_turn [] tail at h = h
-way_turn (b ∷ bs) tail at h =
-    elim (goes_down (b ∷ bs) tail) as (λ down. goes_down (b ∷ bs) tail ≡ down → is_turn (if down then filled (last_or b bs) tail else tail) ≡ true) [
-      | true ↦ λ is. filled_turn (last_or b bs) tail (and_parts (can_move (last_or b bs)) (has_room (last_or b bs) tail) is).0 at h
-      | false ↦ λ is. h
-    ] refl
+way_turn bs tail at h =
+    (and_parts (at_branch (way bs tail)) (is_turn (way bs tail)) (slots_hold at_turn filled_turn (λ flow slots h. h) bs tail (and_from (at_branch tail) (is_turn tail) at h))).1
 
-turn_formed : (tail : List Slots) → is_turn tail ≡ true → is_turn (turn_packed tail) ≡ true
-turn_formed tail h =
-    let p = packed (before_branch tail) in
+turn_formed : (before tail : List Slots) → are_calm before ≡ true → is_turn tail ≡ true → is_turn (turn_packed before tail) ≡ true
+turn_formed before tail calm h =
+    let all = before ++ before_branch tail in
+    let p = packed all in
     let back = from_branch tail in
-    calm_turn (kept p back) (way p back) (calm_kept p back (calm_packed (before_branch tail) (calm_before tail h))) (way_turn p back (from_at tail) (from_turn tail h))
+    calm_turn (kept p back) (way p back) (calm_kept MOST_SLOTS p (freed back) (calm_packed all (calm_append before (before_branch tail) calm (calm_before tail h)))) (way_turn p back (from_at tail) (from_turn tail h))
 
 -- ---- parts
 
@@ -220,30 +255,35 @@ prompt_straights : (bs : List Slots) (rest : PlainParts) → parts_prompt rest �
 prompt_straights [] rest h = h
 prompt_straights (b ∷ bs) rest h = h
 
-pub merged_prompt : (held : List Slots) (ps : PlainParts) → parts_idle ps ≡ true → parts_prompt (parts_merged held ps) ≡ true
-merged_prompt held no_part h = prompt_straights (packed held) no_part refl
-merged_prompt held (part (straight bs) rest) h = merged_prompt (held ++ bs) rest h
-merged_prompt held (part (repeats count body tail) rest) h =
+pub merged_prompt : (held : List Slots) (ps : PlainParts) → parts_shaped ps ≡ true → parts_idle ps ≡ true → parts_prompt (parts_merged held ps) ≡ true
+merged_prompt held no_part shaped h = refl
+merged_prompt held (part (straight bs) rest) shaped h = merged_prompt (held ++ bs) rest (and_parts (are_calm bs) (parts_shaped rest) shaped).1 h
+merged_prompt held (part (repeats count body tail) rest) shaped h =
+    let s = and_parts (parts_shaped body && is_turn tail) (parts_shaped rest) shaped in
+    let body_shaped = (and_parts (parts_shaped body) (is_turn tail) s.0).0 in
     let both = and_parts (parts_idle body && turn_idles tail) (parts_idle rest) h in
     let own = and_parts (parts_idle body) (turn_idles tail) both.0 in
-    prompt_straights (packed held) (part (repeats count (parts_merged [] body) (turn_packed tail)) (parts_merged [] rest))
-    (and_from (parts_prompt (parts_merged [] body) && turn_prompt (turn_packed tail)) (parts_prompt (parts_merged [] rest))
-    (and_from (parts_prompt (parts_merged [] body)) (turn_prompt (turn_packed tail)) (merged_prompt [] body own.0) (prompt_turn tail own.1)) (merged_prompt [] rest both.1))
-merged_prompt held (part (calls_to k tail) rest) h =
+    let left = left_over [] body in
+    prompt_straights (packed held) (part (repeats count (parts_merged [] body) (turn_packed left tail)) (parts_merged [] rest))
+    (and_from (parts_prompt (parts_merged [] body) && turn_prompt (turn_packed left tail)) (parts_prompt (parts_merged [] rest))
+    (and_from (parts_prompt (parts_merged [] body)) (turn_prompt (turn_packed left tail)) (merged_prompt [] body body_shaped own.0) (prompt_turn left tail (left_calm [] body refl body_shaped) own.1)) (merged_prompt [] rest s.1 both.1))
+merged_prompt held (part (calls_to k tail) rest) shaped h =
+    let s = and_parts (is_way is_call tail) (parts_shaped rest) shaped in
     let both = and_parts (way_idles tail) (parts_idle rest) h in
     prompt_straights (kept (packed held) tail) (part (calls_to k (way (packed held) tail)) (parts_merged [] rest))
-    (and_from (way_prompt (way (packed held) tail)) (parts_prompt (parts_merged [] rest)) (prompt_way (packed held) tail both.0) (merged_prompt [] rest both.1))
-merged_prompt held (part (leaves tail) rest) h =
+    (and_from (way_prompt (way (packed held) tail)) (parts_prompt (parts_merged [] rest)) (prompt_way (packed held) tail both.0) (merged_prompt [] rest s.1 both.1))
+merged_prompt held (part (leaves tail) rest) shaped h =
+    let s = and_parts (is_way is_return tail) (parts_shaped rest) shaped in
     let both = and_parts (way_idles tail) (parts_idle rest) h in
     prompt_straights (kept (packed held) tail) (part (leaves (way (packed held) tail)) (parts_merged [] rest))
-    (and_from (way_prompt (way (packed held) tail)) (parts_prompt (parts_merged [] rest)) (prompt_way (packed held) tail both.0) (merged_prompt [] rest both.1))
+    (and_from (way_prompt (way (packed held) tail)) (parts_prompt (parts_merged [] rest)) (prompt_way (packed held) tail both.0) (merged_prompt [] rest s.1 both.1))
 
 formed_straights : (n : ℕ) (bs : List Slots) (rest : PlainParts) → are_calm bs ≡ true → parts_formed n rest ≡ true → parts_formed n (straights bs rest) ≡ true
 formed_straights n [] rest hb h = h
 formed_straights n (b ∷ bs) rest hb h = and_from (are_calm (b ∷ bs)) (parts_formed n rest) hb h
 
 pub merged_formed : (n : ℕ) (held : List Slots) (ps : PlainParts) → are_calm held ≡ true → parts_formed n ps ≡ true → parts_formed n (parts_merged held ps) ≡ true
-merged_formed n held no_part hh h = formed_straights n (packed held) no_part (calm_packed held hh) refl
+merged_formed n held no_part hh h = refl
 merged_formed n held (part (straight bs) rest) hh h =
     let both = and_parts (are_calm bs) (parts_formed n rest) h in
     merged_formed n (held ++ bs) rest (calm_append held bs hh both.0) both.1
@@ -251,14 +291,14 @@ merged_formed n held (part (repeats count body tail) rest) hh h =
     let both = and_parts (part_formed n (repeats count body tail)) (parts_formed n rest) h in
     let some = and_parts (nat_lt 0 count) (parts_formed n body && is_turn tail) both.0 in
     let own = and_parts (parts_formed n body) (is_turn tail) some.1 in
-    formed_straights n (packed held) (part (repeats count (parts_merged [] body) (turn_packed tail)) (parts_merged [] rest)) (calm_packed held hh)
-    (and_from (part_formed n (repeats count (parts_merged [] body) (turn_packed tail))) (parts_formed n (parts_merged [] rest))
-    (and_from (nat_lt 0 count) (parts_formed n (parts_merged [] body) && is_turn (turn_packed tail)) some.0 (and_from (parts_formed n (parts_merged [] body)) (is_turn (turn_packed tail)) (merged_formed n [] body refl own.0) (turn_formed tail own.1)))
+    formed_straights n (packed held) (part (repeats count (parts_merged [] body) (turn_packed (left_over [] body) tail)) (parts_merged [] rest)) (calm_packed held hh)
+    (and_from (part_formed n (repeats count (parts_merged [] body) (turn_packed (left_over [] body) tail))) (parts_formed n (parts_merged [] rest))
+    (and_from (nat_lt 0 count) (parts_formed n (parts_merged [] body) && is_turn (turn_packed (left_over [] body) tail)) some.0 (and_from (parts_formed n (parts_merged [] body)) (is_turn (turn_packed (left_over [] body) tail)) (merged_formed n [] body refl own.0) (turn_formed (left_over [] body) tail (left_calm [] body refl (parts_are_shaped n body own.0)) own.1)))
     (merged_formed n [] rest refl both.1))
 merged_formed n held (part (calls_to k tail) rest) hh h =
     let both = and_parts (nat_lt k n && is_way is_call tail) (parts_formed n rest) h in
     let own = and_parts (nat_lt k n) (is_way is_call tail) both.0 in
-    formed_straights n (kept (packed held) tail) (part (calls_to k (way (packed held) tail)) (parts_merged [] rest)) (calm_kept (packed held) tail (calm_packed held hh))
+    formed_straights n (kept (packed held) tail) (part (calls_to k (way (packed held) tail)) (parts_merged [] rest)) (calm_kept MOST_SLOTS (packed held) (freed tail) (calm_packed held hh))
     (and_from (nat_lt k n && is_way is_call (way (packed held) tail)) (parts_formed n (parts_merged [] rest))
     (and_from (nat_lt k n) (is_way is_call (way (packed held) tail)) own.0 (way_formed is_call (packed held) tail own.1)) (merged_formed n [] rest refl both.1))
 merged_formed n held (part (leaves tail) rest) hh h = absurd (true≢false (sym h))
@@ -278,34 +318,34 @@ merged_function n held (part (repeats count body tail) rest) hh h =
     let both = and_parts (part_formed n (repeats count body tail)) (function_formed n rest) h in
     let some = and_parts (nat_lt 0 count) (parts_formed n body && is_turn tail) both.0 in
     let own = and_parts (parts_formed n body) (is_turn tail) some.1 in
-    function_straights n (packed held) (repeats count (parts_merged [] body) (turn_packed tail)) (parts_merged [] rest) (calm_packed held hh)
-    (function_then n (repeats count (parts_merged [] body) (turn_packed tail)) (parts_merged [] rest)
-    (and_from (nat_lt 0 count) (parts_formed n (parts_merged [] body) && is_turn (turn_packed tail)) some.0 (and_from (parts_formed n (parts_merged [] body)) (is_turn (turn_packed tail)) (merged_formed n [] body refl own.0) (turn_formed tail own.1)))
+    function_straights n (packed held) (repeats count (parts_merged [] body) (turn_packed (left_over [] body) tail)) (parts_merged [] rest) (calm_packed held hh)
+    (function_then n (repeats count (parts_merged [] body) (turn_packed (left_over [] body) tail)) (parts_merged [] rest)
+    (and_from (nat_lt 0 count) (parts_formed n (parts_merged [] body) && is_turn (turn_packed (left_over [] body) tail)) some.0 (and_from (parts_formed n (parts_merged [] body)) (is_turn (turn_packed (left_over [] body) tail)) (merged_formed n [] body refl own.0) (turn_formed (left_over [] body) tail (left_calm [] body refl (parts_are_shaped n body own.0)) own.1)))
     (merged_function n [] rest refl both.1))
 merged_function n held (part (calls_to k tail) rest) hh h =
     let both = and_parts (nat_lt k n && is_way is_call tail) (function_formed n rest) h in
     let own = and_parts (nat_lt k n) (is_way is_call tail) both.0 in
-    function_straights n (kept (packed held) tail) (calls_to k (way (packed held) tail)) (parts_merged [] rest) (calm_kept (packed held) tail (calm_packed held hh))
+    function_straights n (kept (packed held) tail) (calls_to k (way (packed held) tail)) (parts_merged [] rest) (calm_kept MOST_SLOTS (packed held) (freed tail) (calm_packed held hh))
     (function_then n (calls_to k (way (packed held) tail)) (parts_merged [] rest)
     (and_from (nat_lt k n) (is_way is_call (way (packed held) tail)) own.0 (way_formed is_call (packed held) tail own.1)) (merged_function n [] rest refl both.1))
 merged_function n held (part (leaves tail) no_part) hh h =
-    function_straights n (kept (packed held) tail) (leaves (way (packed held) tail)) no_part (calm_kept (packed held) tail (calm_packed held hh)) (way_formed is_return (packed held) tail h)
+    function_straights n (kept (packed held) tail) (leaves (way (packed held) tail)) no_part (calm_kept MOST_SLOTS (packed held) (freed tail) (calm_packed held hh)) (way_formed is_return (packed held) tail h)
 merged_function n held (part (leaves tail) (part p rest)) hh h = absurd (true≢false (sym h))
 
-merged_functions : (fs : List PlainParts) (n : ℕ) → functions_formed fs n ≡ true → functions_formed (map (parts_merged []) fs) n ≡ true
+merged_functions : (fs : List PlainParts) (n : ℕ) → functions_formed fs n ≡ true → functions_formed (map function_merged fs) n ≡ true
 merged_functions fs zero h = refl
 merged_functions fs (suc n) h =
     let f = slice_index_or fs n no_part in
     let both = and_parts (functions_formed fs n) (function_formed n f) h in
-    and_from (functions_formed (map (parts_merged []) fs) n) (function_formed n (slice_index_or (map (parts_merged []) fs) n no_part)) (merged_functions fs n both.0)
-    (ap (function_formed n) (merged_at fs n) ∙ merged_function n [] f refl both.1)
+    and_from (functions_formed (map function_merged fs) n) (function_formed n (slice_index_or (map function_merged fs) n no_part)) (merged_functions fs n both.0)
+    (ap (function_formed n) (merged_at fs n ∙ function_same n f both.1) ∙ merged_function n [] f refl both.1)
 
 pub merged_is_formed : (s : PlainShape) → is_formed s ≡ true → is_formed (merged s) ≡ true
 merged_is_formed s h =
-    let fs = map (parts_merged []) s.functions in
+    let fs = map function_merged s.functions in
     let count = length s.functions in
     let few = and_parts (nat_le count MOST_FUNCTIONS) (functions_formed s.functions count && nat_lt s.entry count) h in
     let both = and_parts (functions_formed s.functions count) (nat_lt s.entry count) few.1 in
-    ap (λ n. nat_le n MOST_FUNCTIONS && (functions_formed fs n && nat_lt s.entry n)) (length-map s.functions (parts_merged []))
+    ap (λ n. nat_le n MOST_FUNCTIONS && (functions_formed fs n && nat_lt s.entry n)) (length-map s.functions function_merged)
     ∙ and_from (nat_le count MOST_FUNCTIONS) (functions_formed fs count && nat_lt s.entry count) few.0
     (and_from (functions_formed fs count) (nat_lt s.entry count) (merged_functions s.functions count both.0) both.1)

@@ -6,7 +6,7 @@ use Rattle.patmos_instr.specs.Bundles.{Slots}
 use Rattle.sp_shape.specs.Parts.{PlainPart, straight, repeats, calls_to, leaves, PlainParts, no_part, part, PlainShape}
 use Rattle.sp_shape.specs.Run.{Run, IsWhole, Back, Sources, branches, returns, run_late, run}
 use Rattle.sp_shape.specs.Trail.{Step, begins, all_done, part_trail, trails}
-use Rattle.sp_shape.specs.Turning.{AllTurns, PartTurns, PartsTurn, back_of, FunctionsTurn, ShapeTurns}
+use Rattle.sp_shape.specs.Turning.{Returns, AllTurns, PartGoes, PartsGo, back_of, FunctionsGo, ShapeTurns, ShapeLoops}
 use Rattle.bundle_sched.specs.Placed.{spaced, part_placed, parts_placed, placed}
 use Rattle.bundle_sched.proofs.SpacedRuns.{Same, same_nothing, same_then, same_begun, same_bundles, same_part, same_parts, same_functions, placed_at}
 
@@ -32,24 +32,24 @@ turns_same {from} {xs} {us} Inside Late tail a inside (suc (suc n)) m whole h =
 -- ---- parts, over functions whose trails are the same and that make their turns
 
 module _ (from : Sources) (f g : ℕ → List Step) (Called Late : ℕ → Run → Type 0) (each : (k : ℕ) → Same from (g k) (f k))
-    (called : (k : ℕ) (m : Run) → IsWhole m → Called k m → Late k m) (back : Back) where
+    (called : (k : ℕ) (m : Run) → IsWhole m → Called k m → Late k m) (AtReturn AtNewReturn : List Slots → Run → Type 0) (at_return : (tail : List Slots) (m : Run) → IsWhole m → AtReturn tail m → AtNewReturn (spaced tail) m) where
   mutual
-    part_turns : (p : PlainPart) (m : Run) → IsWhole m → PartTurns (run from) f Called back p m → PartTurns (run_late from) g Late back (part_placed p) m
+    part_turns : (p : PlainPart) (m : Run) → IsWhole m → PartGoes (run from) f Called AtReturn p m → PartGoes (run_late from) g Late AtNewReturn (part_placed p) m
     part_turns (straight bs) m whole h = tt
     part_turns (repeats count body tail) m whole h =
-        turns_same (λ t. PartsTurn (run from) f Called back body t) (λ t. PartsTurn (run_late from) g Late back (parts_placed body) t) tail (same_parts f g each body)
+        turns_same (λ t. PartsGo (run from) f Called AtReturn body t) (λ t. PartsGo (run_late from) g Late AtNewReturn (parts_placed body) t) tail (same_parts f g each body)
         (λ t whole h. parts_turn body t whole h) count m whole h
     part_turns (calls_to k tail) m whole h =
         let way = same_then (same_bundles from tail) (same_begun (same_nothing from)) in
         subst (Late k) (sym (way.runs m whole)) (called k (run from (all_done tail ++ begins ∷ []) m) (way.whole m whole) h)
-    part_turns (leaves tail) m whole h = subst (λ t. t.ways ≡ m.ways ++ returns back.base back.offset ∷ []) (sym ((same_bundles from tail).runs m whole)) h
+    part_turns (leaves tail) m whole h = at_return tail m whole h
 
-    pub parts_turn : (ps : PlainParts) (m : Run) → IsWhole m → PartsTurn (run from) f Called back ps m → PartsTurn (run_late from) g Late back (parts_placed ps) m
+    pub parts_turn : (ps : PlainParts) (m : Run) → IsWhole m → PartsGo (run from) f Called AtReturn ps m → PartsGo (run_late from) g Late AtNewReturn (parts_placed ps) m
     parts_turn no_part m whole h = tt
     parts_turn (part p rest) m whole h =
         let before = same_part f g each p in (
           part_turns p m whole h.0,
-          subst (PartsTurn (run_late from) g Late back (parts_placed rest)) (sym (before.runs m whole)) (parts_turn rest (run from (part_trail f p) m) (before.whole m whole) h.1),
+          subst (PartsGo (run_late from) g Late AtNewReturn (parts_placed rest)) (sym (before.runs m whole)) (parts_turn rest (run from (part_trail f p) m) (before.whole m whole) h.1),
         )
 
 -- ---- functions and shapes
@@ -59,19 +59,31 @@ pub chosen : {A B C D : Type 0} (b : Bool) → (A → C) → (B → D) → Match
 chosen true here there h = here h
 chosen false here there h = there h
 
-functions_turn : (from : Sources) (fs : List PlainParts) (n k : ℕ) (m : Run) → IsWhole m → FunctionsTurn (run from) fs n k m
-    → FunctionsTurn (run_late from) (map parts_placed fs) n k m
-functions_turn from fs zero k m whole h = tt
-functions_turn from fs (suc n) k m whole h =
-    let gs = map parts_placed fs in
-    let own = λ (own : PartsTurn (run from) (trails fs n) (FunctionsTurn (run from) fs n) (back_of m) (slice_index_or fs n no_part) m).
-    subst (λ ps. PartsTurn (run_late from) (trails gs n) (FunctionsTurn (run_late from) gs n) (back_of m) ps m) (sym (placed_at fs n))
-    (parts_turn from (trails fs n) (trails gs n) (FunctionsTurn (run from) fs n) (FunctionsTurn (run_late from) gs n) (same_functions from fs n)
-    (λ j t whole h. functions_turn from fs n j t whole h) (back_of m) (slice_index_or fs n no_part) m whole own) in
-    chosen (k == n) own (λ other. functions_turn from fs n k m whole other) h
+-- a return goes where it went
+returns_left : (from : Sources) (back : Back) (tail : List Slots) (m : Run) → IsWhole m → Returns (run from) tail back m → Returns (run_late from) (spaced tail) back m
+returns_left from back tail m whole h = subst (λ t. t.ways ≡ m.ways ++ returns back.base back.offset ∷ []) (sym ((same_bundles from tail).runs m whole)) h
+
+module _ (from : Sources) (AtReturn AtNewReturn : Run → List Slots → Run → Type 0) (at_return : (begun : Run) (tail : List Slots) (m : Run) → IsWhole m → AtReturn begun tail m → AtNewReturn begun (spaced tail) m) where
+  functions_go : (fs : List PlainParts) (n k : ℕ) (m : Run) → IsWhole m → FunctionsGo (run from) AtReturn fs n k m → FunctionsGo (run_late from) AtNewReturn (map parts_placed fs) n k m
+  functions_go fs zero k m whole h = tt
+  functions_go fs (suc n) k m whole h =
+      let gs = map parts_placed fs in
+      let own = λ (own : PartsGo (run from) (trails fs n) (FunctionsGo (run from) AtReturn fs n) (AtReturn m) (slice_index_or fs n no_part) m).
+      subst (λ ps. PartsGo (run_late from) (trails gs n) (FunctionsGo (run_late from) AtNewReturn gs n) (AtNewReturn m) ps m) (sym (placed_at fs n))
+      (parts_turn from (trails fs n) (trails gs n) (FunctionsGo (run from) AtReturn fs n) (FunctionsGo (run_late from) AtNewReturn gs n) (same_functions from fs n)
+      (λ j t whole h. functions_go fs n j t whole h) (AtReturn m) (AtNewReturn m) (at_return m) (slice_index_or fs n no_part) m whole own) in
+      chosen (k == n) own (λ other. functions_go fs n k m whole other) h
+
+  shape_goes : (s t : PlainShape) → t ≡ placed s → (m : Run) → IsWhole m → FunctionsGo (run from) AtReturn s.functions (length s.functions) s.entry m
+      → FunctionsGo (run_late from) AtNewReturn t.functions (length t.functions) t.entry m
+  shape_goes s t told m whole h =
+      subst (λ (x : PlainShape). FunctionsGo (run_late from) AtNewReturn x.functions (length x.functions) x.entry m) (sym told)
+      (subst (λ n. FunctionsGo (run_late from) AtNewReturn (map parts_placed s.functions) n s.entry m) (sym (length-map s.functions parts_placed))
+      (functions_go s.functions (length s.functions) s.entry m whole h))
 
 pub spaced_turns : (s t : PlainShape) → t ≡ placed s → (from : Sources) (m : Run) → IsWhole m → ShapeTurns (run from) s m → ShapeTurns (run_late from) t m
 spaced_turns s t told from m whole h =
-    subst (λ x. ShapeTurns (run_late from) x m) (sym told)
-    (subst (λ n. FunctionsTurn (run_late from) (map parts_placed s.functions) n s.entry m) (sym (length-map s.functions parts_placed))
-    (functions_turn from s.functions (length s.functions) s.entry m whole h))
+    shape_goes from (λ begun tail t. Returns (run from) tail (back_of begun) t) (λ begun tail t. Returns (run_late from) tail (back_of begun) t) (λ begun. returns_left from (back_of begun)) s t told m whole h
+
+pub spaced_loops : (s t : PlainShape) → t ≡ placed s → (from : Sources) (m : Run) → IsWhole m → ShapeLoops (run from) s m → ShapeLoops (run_late from) t m
+spaced_loops s t told from m whole h = shape_goes from (λ begun tail t. Unit {0}) (λ begun tail t. Unit {0}) (λ begun tail t whole h. tt) s t told m whole h

@@ -178,8 +178,8 @@ unread_behind from a b m h = let both = and_parts (ignores a.first.op b.first.op
 -- ---- bundles
 
 -- where what comes late of a bundle is not waited for, the next one does the same before it has come and after
-goes_on : (from : Sources) (a b : Slots) (bs : List Slots) (m : Run) → IsWhole m → is_awaited a (b ∷ bs) ≡ false → late from b (late from a m) ≡ late from b (once from a m)
-goes_on from a b bs m whole none = so (is_late a.first.op) refl
+can_pass : (from : Sources) (a b : Slots) (bs : List Slots) (m : Run) → IsWhole m → is_awaited a (b ∷ bs) ≡ false → late from b (late from a m) ≡ late from b (once from a m)
+can_pass from a b bs m whole none = so (is_late a.first.op) refl
   where
     so : (is : Bool) → is_late a.first.op ≡ is → late from b (late from a m) ≡ late from b (once from a m)
     so false early = ap (late from b) (early_once from a m whole early)
@@ -198,7 +198,7 @@ by_first from b bs m n same =
 -- the code after a bundle
 rest_runs : (from : Sources) (a : Slots) (bs : List Slots) (m : Run) → IsWhole m → is_awaited a bs ≡ false → run_late from (all_done (spaced bs)) (late from a m) ≡ run_late from (all_done (spaced bs)) (once from a m)
 rest_runs from a [] m whole none = early_once from a m whole none
-rest_runs from a (b ∷ bs) m whole none = by_first from b bs (late from a m) (once from a m) (goes_on from a b bs m whole none)
+rest_runs from a (b ∷ bs) m whole none = by_first from b bs (late from a m) (once from a m) (can_pass from a b bs m whole none)
 
 pub in_time : (from : Sources) (bs : List Slots) (m : Run) → IsWhole m → run_late from (all_done (spaced bs)) m ≡ run from (all_done bs) m
 in_time from [] m whole = refl

@@ -1,3 +1,4 @@
+pub mod Legal
 pub mod Operands
 pub mod Ordered
 pub mod Packed

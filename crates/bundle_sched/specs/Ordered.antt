@@ -1,12 +1,14 @@
--- To be believed. Code in an order in which more of it becomes one and less of it waits: a plain instruction goes
--- back over bundles that have nothing in common with it.
-use Rattle.std.specs.Prelude.{ℕ, zero, suc, Bool, true, false, not, ◌&&◌, ◌||◌, Option, None, Some, is_none, List, [], ◌∷◌, ◌++◌, length, reverse, if◌then◌else◌}
+-- To be believed. Straight code in an order in which more of it becomes one and less of it waits (list scheduling).
+-- The bundles that are ordered are rows, and each instruction, in its order, goes back over rows that have nothing in
+-- common with it to the first that has room for it.
+use Rattle.std.specs.Prelude.{ℕ, suc, Bool, true, false, not, ◌&&◌, ◌||◌, Option, None, Some, is_none, List, [], ◌∷◌, ◌++◌, length, reverse, slice_set, if◌then◌else◌}
 use Rattle.patmos_instr.specs.Bundles.{Slots}
 use Rattle.patmos_instr.specs.Instructions.{is_long, is_second_kind}
 use Rattle.patmos_instr.specs.declared.instructions.Instr.{Instr}
 use Rattle.patmos_instr.specs.declared.instructions.Op.{Op}
 use Rattle.sp_shape.specs.Bundles.{is_idle}
-use Rattle.bundle_sched.specs.Packed.{is_free, can_pair, pair}
+use Rattle.sp_shape.specs.Small.{idle}
+use Rattle.bundle_sched.specs.Packed.{is_free, can_join, pair, lone, is_nop}
 use Rattle.bundle_sched.specs.Placed.{waits_for}
 use Rattle.bundle_sched.specs.declared.ordering.TheConstants.{WINDOW}
 
@@ -16,9 +18,9 @@ use Rattle.bundle_sched.specs.declared.ordering.TheConstants.{WINDOW}
 abbrev pub is_plain_op : Op → Bool
 is_plain_op op = is_second_kind op || is_long op
 
--- one such instruction
-abbrev pub is_plain : Slots → Bool
-is_plain b = is_none b.second && is_plain_op b.first.op
+-- no other in its slots
+abbrev pub all_plain : Slots → Bool
+all_plain b = is_plain_op b.first.op && elim b.second as (λ _. Bool) [ None ↦ true | Some i ↦ is_plain_op i.op ]
 
 -- neither reads or writes what the other writes
 abbrev pub are_free : Instr → Instr → Bool
@@ -28,49 +30,60 @@ are_free a b = is_free a b && is_free b a
 abbrev pub lets_by : Slots → Slots → Bool
 lets_by b x = are_free b.first x.first && elim b.second as (λ _. Bool) [ None ↦ true | Some i ↦ are_free i x.first ]
 
--- ---- where it goes. What stands before it is told nearest first
+-- one instruction goes back over a bundle: they have nothing in common, and one of them is plain. So loads, stores,
+-- products, special registers and operations on the stack keep their order
+abbrev pub goes_by : Slots → Slots → Bool
+goes_by b x = is_none x.second && (lets_by b x && (is_plain_op x.first.op || all_plain b))
 
--- before a bundle it fills the time in which that one waits for the one before it
-abbrev pub fills_time : List Slots → Slots → Slots → Bool
-fills_time [] b x = false
-fills_time (a ∷ before) b x = waits_for b a && not (waits_for x a)
+-- ---- where it goes. Rows are told nearest first. Where a value is waited for, the row is empty: it does nothing
 
--- it can be one with a bundle, or go by it to where it fills its time
-abbrev pub has_place : List Slots → Slots → Slots → Bool
-has_place before b x = can_pair b x || (lets_by b x && fills_time before b x)
+-- the row directly before gives a late value that it reads
+abbrev pub is_too_early : List Slots → Slots → Bool
+is_too_early [] x = false
+is_too_early (a ∷ before) x = waits_for x a
 
--- the number of the first bundle at which it has a place. It looks back at so many at most, and goes by
--- those alone that have nothing in common with it
-abbrev pub place : ℕ → Slots → List Slots → Option ℕ
-place (suc n) x (b ∷ before) =
-    if has_place before b x then Some (length before) else (if lets_by b x then place n x before else None)
-place _ x bs = None
+-- a row has room for it: it is empty, or it takes it in its second slot, or in its first
+abbrev pub has_place : Slots → Slots → Bool
+has_place b x = is_idle b || (can_join b x || (goes_by b x && can_join x b))
+
+-- the row with it
+abbrev pub row_with : Slots → Slots → Slots
+row_with b x = if is_idle b then x else (if can_join b x then pair b x else pair x b)
+
+-- the number of the first row that has room for it, and the row with it; or what was found nearer. It looks at so many
+-- rows at most, and goes by those alone that are empty or let it by
+abbrev pub place : ℕ → Slots → List Slots → Option (ℕ × Slots) → Option (ℕ × Slots)
+place (suc n) x (b ∷ before) found =
+    let here = if not (is_too_early before x) && has_place b x then Some (length before, row_with b x) else found in
+    if is_idle b || goes_by b x then place n x before here else here
+place _ x bs found = found
 
 -- ---- ordered code
 
--- at a bundle: in it, or before it
-abbrev pub beside : Slots → Slots → List Slots
-beside b x = if can_pair b x then pair b x ∷ [] else x ∷ b ∷ []
+-- without a second instruction that does nothing
+abbrev pub without_nop : Slots → Slots
+without_nop b = elim b.second as (λ _. Slots) [ None ↦ b | Some i ↦ if is_nop i then lone b.first else b ]
 
--- at the bundle of a number
-abbrev pub put_at : ℕ → Slots → List Slots → List Slots
-put_at _ x [] = x ∷ []
-put_at zero x (b ∷ bs) = beside b x ++ bs
-put_at (suc n) x (b ∷ bs) = b ∷ put_at n x bs
+-- after all rows, and after an empty one where it reads the late value of the last
+abbrev pub stood_last : Slots → List Slots → List Slots
+stood_last x bs = bs ++ (if is_too_early (reverse bs) x then idle ∷ x ∷ [] else x ∷ [])
 
--- or after them all
-abbrev pub stood : Slots → List Slots → Option ℕ → List Slots
-stood x bs None = bs ++ x ∷ []
-stood x bs (Some n) = put_at n x bs
+abbrev pub stood : Slots → List Slots → Option (ℕ × Slots) → List Slots
+stood x bs None = stood_last x bs
+stood x bs (Some at) = slice_set bs at.0 at.1
 
--- one more bundle: a plain instruction goes back to where it has a place, and all else stands last
+-- one more bundle: one instruction goes to the first row that has room, and two stand last
 abbrev pub put : Slots → List Slots → List Slots
-put x bs = stood x bs (if is_plain x then place WINDOW x (reverse bs) else None)
+put x bs = stood x bs (if is_none x.second then place WINDOW x (reverse bs) None else None)
 
--- bundles after those that are ordered, one by one; what does nothing is left out
+-- where it does something
+abbrev pub put_unless_idle : Slots → List Slots → List Slots
+put_unless_idle b bs = if is_idle b then bs else put b bs
+
+-- bundles after those that are ordered, one by one, without what does nothing
 abbrev pub ordered_behind : List Slots → List Slots → List Slots
 ordered_behind done [] = done
-ordered_behind done (b ∷ bs) = ordered_behind (if is_idle b then done else put b done) bs
+ordered_behind done (b ∷ bs) = ordered_behind (put_unless_idle (without_nop b) done) bs
 
 abbrev pub ordered : List Slots → List Slots
 ordered bs = ordered_behind [] bs

@@ -1,5 +1,5 @@
--- To be believed. Packed code: no two neighbouring bundles stand apart that could be one, and no delay slot of a call
--- or a return does nothing that the bundle before could fill (our own profile TP1).
+-- To be believed. Packed code: no two neighbouring bundles stand apart that could be one, no second slot does nothing,
+-- and no first delay slot of a call or a return does nothing that the bundle before could fill (our own profile TP1).
 use Rattle.std.specs.Prelude.{Bool, true, false, not, ◌&&◌, ◌||◌, Some, None, is_none, List, [], ◌∷◌}
 use Rattle.std.specs.List.{list_all}
 use Rattle.patmos_instr.specs.Bundles.{Slots}
@@ -25,14 +25,21 @@ is_free a b =
     apart (results a.op) (reads b.op)
     && (spares a.op (tests b) && (apart (results a.op) (results b.op) && spares a.op (flags b.op)))
 
--- two that can be one: no value of the first comes late
+-- two that can be one
+abbrev pub can_join : Slots → Slots → Bool
+can_join a b = is_small a && (is_small b && (is_second_kind b.first.op && is_free a.first b.first))
+
+-- no value of the first comes late
 abbrev pub can_pair : Slots → Slots → Bool
-can_pair a b =
-    is_small a && (is_small b && (is_second_kind b.first.op && (not (is_late a.first.op) && is_free a.first b.first)))
+can_pair a b = not (is_late a.first.op) && can_join a b
 
 -- two in one
 abbrev pub pair : Slots → Slots → Slots
 pair a b = record { first = a.first; second = Some b.first }
+
+-- one alone
+abbrev pub lone : Instr → Slots
+lone i = record { first = i; second = None }
 
 -- a and b can be one after x: no value of x comes late, so none comes in a
 abbrev pub mergeable : Slots → Slots → Slots → Bool
@@ -42,6 +49,11 @@ mergeable x a b = not (is_late x.first.op) && can_pair a b
 abbrev pub none_mergeable : List Slots → Bool
 none_mergeable (x ∷ a ∷ b ∷ bs) = not (mergeable x a b) && none_mergeable (a ∷ b ∷ bs)
 none_mergeable _ = true
+
+-- nor the first two, which stand after none
+abbrev pub first_apart : List Slots → Bool
+first_apart (a ∷ b ∷ bs) = not (can_pair a b)
+first_apart _ = true
 
 -- ---- bundles of two
 
@@ -93,10 +105,11 @@ abbrev pub some_bundle : List Slots → Bool
 some_bundle [] = false
 some_bundle (b ∷ bs) = true
 
--- of a part, of parts one after another, and of a shape
+-- of a part, and of parts one after another
 abbrev mutual
   pub part_packed : PlainPart → Bool
-  part_packed (straight bs) = some_bundle bs && (list_all is_filled bs && none_mergeable bs)
+  part_packed (straight bs) =
+      some_bundle bs && (list_all is_filled bs && (first_apart bs && none_mergeable bs))
   part_packed (repeats count body tail) = parts_packed body && list_all is_filled tail
   part_packed (calls_to k tail) = list_all is_filled tail
   part_packed (leaves tail) = list_all is_filled tail
@@ -104,6 +117,8 @@ abbrev mutual
   pub parts_packed : PlainParts → Bool
   parts_packed no_part = true
   parts_packed (part p rest) = part_packed p && (can_follow p rest && parts_packed rest)
+
+-- ---- shapes
 
 abbrev pub is_packed : PlainShape → Bool
 is_packed s = list_all parts_packed s.functions

@@ -1,15 +1,19 @@
 -- To be believed. Code that is packed, before its values come in time: straight code is ordered, neighbours that can be
--- one become one, left to right, and the last bundle before a flow goes into its first delay slot where it can.
-use Rattle.std.specs.Prelude.{ℕ, Bool, false, not, ◌&&◌, ◌||◌, Option, Some, None, is_none, List, [], ◌∷◌, ◌++◌, map, if◌then◌else◌, true}
+-- one become one, left to right, and the last bundles before a flow go into its delay slots where they can (delay slot
+-- filling).
+use Rattle.std.specs.Prelude.{ℕ, zero, suc, Bool, false, not, ◌&&◌, ◌||◌, Option, Some, None, is_none, List, [], ◌∷◌, ◌++◌, map, if◌then◌else◌, true}
 use Rattle.patmos_instr.specs.Bundles.{Slots}
+use Rattle.patmos_instr.specs.Instructions.{is_second_kind}
 use Rattle.patmos_instr.specs.declared.guards.Guard.{Guard}
+use Rattle.patmos_instr.specs.declared.instructions.Instr.{Instr}
 use Rattle.sp_shape.specs.Bundles.{is_idle}
 use Rattle.sp_shape.specs.Formed.{is_branch, is_flow, is_always}
-use Rattle.sp_shape.specs.Parts.{straight, repeats, calls_to, leaves, PlainParts, no_part, part, PlainShape}
+use Rattle.sp_shape.specs.Parts.{straight, repeats, calls_to, leaves, PlainParts, no_part, part, joined, PlainShape}
 use Rattle.sp_shape.specs.Words.{is_late}
 use Rattle.bundle_sched.specs.Operands.{spares}
 use Rattle.bundle_sched.specs.Ordered.{ordered}
-use Rattle.bundle_sched.specs.Packed.{can_pair, pair, holds_special, last_or}
+use Rattle.bundle_sched.specs.Packed.{can_pair, pair, lone, holds_special, last_or}
+use Rattle.bundle_sched.specs.declared.slots.TheConstants.{MOST_SLOTS}
 
 -- ---- bundles
 
@@ -51,39 +55,73 @@ spares_guard b g = is_always g || spares_pred b g.pred
 abbrev pub lets_pass : Slots → Slots → Bool
 lets_pass flow b = is_flow flow.first.op && (is_none flow.second && spares_guard b flow.first.guard)
 
--- the tail begins with such a flow, whose first delay slot does nothing
+-- the tail begins with such a flow, whose last delay slot does nothing
 abbrev pub has_room : Slots → List Slots → Bool
-has_room b (flow ∷ slot ∷ slots) = lets_pass flow b && is_idle slot
+has_room b (flow ∷ slot ∷ slots) = lets_pass flow b && is_idle (last_or slot slots)
 has_room b _ = false
 
 -- a bundle can go into the first delay slot of the tail after it
 abbrev pub fills : Slots → List Slots → Bool
 fills b tail = can_move b && has_room b tail
 
--- the bundle in the first delay slot
-abbrev pub filled : Slots → List Slots → List Slots
-filled b (flow ∷ slot ∷ slots) = flow ∷ b ∷ slots
-filled b bs = bs
-
 -- all but the last of some bundles
 abbrev pub but_last : Slots → List Slots → List Slots
 but_last b [] = []
 but_last b (c ∷ cs) = b ∷ but_last c cs
+
+-- the bundle in the first delay slot, and those that stood there after it: the last goes, which does nothing
+abbrev pub filled : Slots → List Slots → List Slots
+filled b (flow ∷ slot ∷ slots) = flow ∷ b ∷ but_last slot slots
+filled b bs = bs
 
 -- the last of some bundles goes there
 abbrev pub goes_down : List Slots → List Slots → Bool
 goes_down [] tail = false
 goes_down (b ∷ bs) tail = fills (last_or b bs) tail
 
--- the bundles that stay before the tail
-abbrev pub kept : List Slots → List Slots → List Slots
-kept [] tail = []
-kept (b ∷ bs) tail = if goes_down (b ∷ bs) tail then but_last b bs else b ∷ bs
+-- the bundles that stay before the tail where the last of them goes
+abbrev pub kept_by_one : List Slots → List Slots → List Slots
+kept_by_one [] tail = []
+kept_by_one (b ∷ bs) tail = if goes_down (b ∷ bs) tail then but_last b bs else b ∷ bs
 
--- the tail after them
+-- and the tail then
+abbrev pub way_by_one : List Slots → List Slots → List Slots
+way_by_one [] tail = tail
+way_by_one (b ∷ bs) tail = if goes_down (b ∷ bs) tail then filled (last_or b bs) tail else tail
+
+-- the same for so many bundles
+abbrev pub kept_after : ℕ → List Slots → List Slots → List Slots
+kept_after zero bs tail = bs
+kept_after (suc n) bs tail = kept_after n (kept_by_one bs tail) (way_by_one bs tail)
+
+abbrev pub way_after : ℕ → List Slots → List Slots → List Slots
+way_after zero bs tail = tail
+way_after (suc n) bs tail = way_after n (kept_by_one bs tail) (way_by_one bs tail)
+
+-- ---- all delay slots
+
+-- the instruction beside a flow can stand in the first delay slot, since the last one does nothing
+abbrev pub can_leave : Slots → Instr → Slots → Bool
+can_leave flow i last = is_flow flow.first.op && (is_second_kind i.op && is_idle last)
+
+-- a tail whose flow stands alone in its bundle: what stood beside it comes into the first delay slot
+abbrev pub freed : List Slots → List Slots
+freed (flow ∷ slot ∷ slots) =
+    elim flow.second as (λ _. List Slots) [
+      | None ↦ flow ∷ slot ∷ slots
+      | Some i ↦
+          if can_leave flow i (last_or slot slots)
+          then filled (lone i) (lone flow.first ∷ slot ∷ slots)
+          else flow ∷ slot ∷ slots
+    ]
+freed bs = bs
+
+-- so for as many bundles as a flow can have delay slots, once the flow stands alone
+abbrev pub kept : List Slots → List Slots → List Slots
+kept bs tail = kept_after MOST_SLOTS bs (freed tail)
+
 abbrev pub way : List Slots → List Slots → List Slots
-way [] tail = tail
-way (b ∷ bs) tail = if goes_down (b ∷ bs) tail then filled (last_or b bs) tail else tail
+way bs tail = way_after MOST_SLOTS bs (freed tail)
 
 -- ---- tails of loops
 
@@ -100,9 +138,9 @@ from_branch (b ∷ bs) = if is_branch b.first.op then b ∷ bs else from_branch 
 abbrev pub turned : List Slots → List Slots → List Slots
 turned front back = kept front back ++ way front back
 
--- what stands before the branch is packed too
-abbrev pub turn_packed : List Slots → List Slots
-turn_packed tail = turned (packed (before_branch tail)) (from_branch tail)
+-- straight code that is held, and what stands before the branch, are packed as one piece
+abbrev pub turn_packed : List Slots → List Slots → List Slots
+turn_packed held tail = turned (packed (held ++ before_branch tail)) (from_branch tail)
 
 -- ---- parts
 
@@ -111,17 +149,31 @@ abbrev pub straights : List Slots → PlainParts → PlainParts
 straights [] rest = rest
 straights (b ∷ bs) rest = part (straight (b ∷ bs)) rest
 
--- parts after straight code: it is packed with the straight code that follows it
+-- the straight code at the end of parts, after straight code that is held
+abbrev pub left_over : List Slots → PlainParts → List Slots
+left_over held no_part = held
+left_over held (part (straight bs) rest) = left_over (held ++ bs) rest
+left_over held (part p rest) = left_over [] rest
+
+-- parts after straight code, but for what is left over: straight code is packed with the straight code that follows it,
+-- and at the end of a loop's body with what stands before the branch
 abbrev pub parts_merged : List Slots → PlainParts → PlainParts
-parts_merged held no_part = straights (packed held) no_part
+parts_merged held no_part = no_part
 parts_merged held (part (straight bs) rest) = parts_merged (held ++ bs) rest
 parts_merged held (part (repeats count body tail) rest) =
-    straights (packed held) (part (repeats count (parts_merged [] body) (turn_packed tail)) (parts_merged [] rest))
+    straights (packed held)
+    (part (repeats count (parts_merged [] body) (turn_packed (left_over [] body) tail)) (parts_merged [] rest))
 parts_merged held (part (calls_to k tail) rest) =
     straights (kept (packed held) tail) (part (calls_to k (way (packed held) tail)) (parts_merged [] rest))
 parts_merged held (part (leaves tail) rest) =
     straights (kept (packed held) tail) (part (leaves (way (packed held) tail)) (parts_merged [] rest))
 
+-- a function's parts, and what is left over at their end
+abbrev pub function_merged : PlainParts → PlainParts
+function_merged ps = joined (parts_merged [] ps) (straights (packed (left_over [] ps)) no_part)
+
+-- ---- shapes
+
 -- each function so
 abbrev pub merged : PlainShape → PlainShape
-merged s = record s { functions = map (parts_merged []) s.functions }
+merged s = record s { functions = map function_merged s.functions }

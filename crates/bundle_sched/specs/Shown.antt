@@ -4,7 +4,7 @@ use Rattle.patmos_instr.specs.Bundles.{Slots}
 use Rattle.patmos_instr.specs.declared.instructions.Op.TheVariants.{AluImm, CmpImm, Return}
 use Rattle.patmos_instr.specs.declared.functions.CmpFunc.TheVariants as cmp
 use Rattle.patmos_instr.specs.declared.functions.ImmFunc.TheVariants as imm
-use Rattle.sp_shape.specs.Parts.{PlainParts, part, one, straight, repeats, leaves}
+use Rattle.sp_shape.specs.Parts.{PlainParts, no_part, part, one, straight, repeats, leaves}
 use Rattle.sp_shape.specs.Small as small
 use Rattle.bundle_sched.specs.Packed.{pair}
 
@@ -34,11 +34,12 @@ turning =
     part (repeats 3 (one (straight (add_to 2 ∷ small.idle ∷ add_to 3 ∷ []))) (test ∷ small.load ∷ add_to 4
     ∷ small.again)) small.empty
 
--- the last bundle before the branch stands in its first delay slot, and the branch fills the time of the load
+-- all of the turn is one piece: the last bundle before the branch stands in its first delay slot, and the branch fills
+-- the time of the load
 abbrev pub packed_turning : PlainParts
 packed_turning =
-    part (repeats 3 (one (straight (pair (add_to 2) (add_to 3) ∷ []))) (test ∷ small.load
-    ∷ small.under small.p1 small.branch ∷ add_to 4 ∷ small.idle ∷ [])) small.empty
+    part (repeats 3 no_part (pair (add_to 2) (add_to 3) ∷ test ∷ small.load ∷ small.under small.p1 small.branch
+    ∷ add_to 4 ∷ small.idle ∷ [])) small.empty
 
 -- ---- to be ordered
 
@@ -54,7 +55,9 @@ set_on r = small.under small.p1 (AluImm imm.Add r 0 1)
 abbrev pub waiting : PlainParts
 waiting = part (straight (add_to 2 ∷ small.load ∷ small.square ∷ set 3 ∷ set 4 ∷ [])) small.empty
 
--- the first of the two fills the time of the load, and the second stands beside it
+-- the first of the two stands beside the addition, and the second beside the load
 abbrev pub ordered_waiting : PlainParts
 ordered_waiting =
-    part (straight (add_to 2 ∷ small.load ∷ pair (set 3) (set 4) ∷ small.square ∷ small.idle ∷ [])) small.empty
+    part
+    (straight (pair (add_to 2) (set 3) ∷ pair small.load (set 4) ∷ small.idle ∷ small.square ∷ small.idle ∷ []))
+    small.empty

@@ -16,8 +16,8 @@ pub fn is_late(op: &Op) -> bool
     matches!(op, Op::Load { .. } | Op::Mul { .. })
 }
 
-// the bundle that does nothing
-fn idle() -> Bundle
+/// The bundle that does nothing.
+pub fn idle() -> Bundle
     ensures { result ≡ small.idle }
 {
     Bundle::single(Instr::nop())

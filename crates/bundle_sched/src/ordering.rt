@@ -1,17 +1,18 @@
 //! Straight code in an order in which more of it becomes one and less of it waits.
-ghost use Rattle.std.specs.Prelude.{◌≡◌, ◌<◌, IfOk, IfSome, OnOk, length, reverse};
+ghost use Rattle.std.specs.Prelude.{◌≡◌, ◌<◌, not, ◌&&◌, ◌||◌, if◌then◌else◌, Some, None, true, false, IfOk, IfSome, IsNone, OnOk, length, reverse};
 ghost use Rattle.bundle_sched.specs.Ordered as specs;
 ghost use Rattle.bundle_sched.specs.Packing.{packed};
+ghost use Rattle.sp_shape.specs.Bundles.{is_idle};
 
-use crate::bundles::waits_for;
+use crate::bundles::{idle, waits_for};
 use crate::operands::is_free;
-use crate::pairs::{can_pair, does_nothing, in_pairs, joined};
+use crate::pairs::{does_nothing, in_pairs, joined, without_nop};
 use patmos_instr::{Bundle, Instr, Op};
 use std::alloc::Global;
 use tc_word::{List, OutOfMemory};
 
-/// At how many bundles an instruction looks back at most.
-pub const WINDOW: usize = 8;
+/// At how many rows an instruction looks back at most.
+pub const WINDOW: usize = 16;
 
 // whether it works on registers or on predicates alone, and its value does not come late
 fn is_plain_op(op: &Op) -> bool
@@ -20,11 +21,15 @@ fn is_plain_op(op: &Op) -> bool
     op.is_second_kind() || op.is_long()
 }
 
-// whether the bundle is one such instruction
-fn is_plain(bundle: &Bundle) -> bool
-    ensures { result ≡ specs.is_plain bundle.now }
+// whether its instructions are such
+fn all_plain(bundle: &Bundle) -> bool
+    ensures { result ≡ specs.all_plain bundle.now }
 {
-    bundle.second().is_none() && is_plain_op(&bundle.first().op)
+    let first = is_plain_op(&bundle.first().op);
+    match bundle.second() {
+        Some(second) => first && is_plain_op(&second.op),
+        None => first,
+    }
 }
 
 // whether neither reads or writes what the other writes
@@ -35,94 +40,146 @@ fn are_free(a: &Instr, b: &Instr) -> bool
 }
 
 // whether a bundle has nothing in common with an instruction that stands alone
-fn lets_by(bundle: &Bundle, plain: &Bundle) -> bool
-    ensures { result ≡ specs.lets_by bundle.now plain.now }
+fn lets_by(bundle: &Bundle, one: &Bundle) -> bool
+    ensures { result ≡ specs.lets_by bundle.now one.now }
 {
-    let first = are_free(&bundle.first(), &plain.first());
+    let first = are_free(&bundle.first(), &one.first());
     match bundle.second() {
-        Some(second) => first && are_free(&second, &plain.first()),
+        Some(second) => first && are_free(&second, &one.first()),
         None => first,
     }
 }
 
-// whether before a bundle it fills the time in which that one waits for the one before it
-#[tactic(auto, using(crate::proofs::Putting::last_fills, crate::proofs::Putting::none_fills))]
-fn fills_time(before: &[Bundle], bundle: &Bundle, plain: &Bundle) -> bool
-    ensures { result ≡ specs.fills_time (reverse before.now) bundle.now plain.now }
+// whether one instruction goes back over a bundle
+fn goes_by(bundle: &Bundle, one: &Bundle) -> bool
+    ensures { result ≡ specs.goes_by bundle.now one.now }
+{
+    one.second().is_none()
+        && (lets_by(bundle, one) && (is_plain_op(&one.first().op) || all_plain(bundle)))
+}
+
+// whether the row directly before gives a late value that it reads
+#[tactic(auto, using(crate::proofs::Putting::last_too_early, crate::proofs::Putting::none_too_early))]
+fn is_too_early(before: &[Bundle], one: &Bundle) -> bool
+    ensures { result ≡ specs.is_too_early (reverse before.now) one.now }
 {
     match before.split_last() {
-        Some((last, _)) => waits_for(bundle, last) && !waits_for(plain, last),
+        Some((last, _)) => waits_for(one, last),
         None => false,
     }
 }
 
-// whether it can be one with a bundle, or go by it to where it fills its time
-fn has_place(before: &[Bundle], bundle: &Bundle, plain: &Bundle) -> bool
-    ensures { result ≡ specs.has_place (reverse before.now) bundle.now plain.now }
+// the row with it, where the row has room
+fn row_with(row: &Bundle, one: &Bundle) -> Option<Bundle>
+    ensures some { IfSome result (λ b.
+        (specs.has_place row.now one.now ≡ true) × (b ≡ specs.row_with row.now one.now)) }
+    ensures none { IsNone result → specs.has_place row.now one.now ≡ false }
 {
-    can_pair(bundle, plain) || (lets_by(bundle, plain) && fills_time(before, bundle, plain))
+    if does_nothing(row) {
+        return Some(*one);
+    }
+    if let Some(both) = joined(row, one) {
+        return Some(both);
+    }
+    if goes_by(row, one) {
+        joined(one, row)
+    } else {
+        None
+    }
 }
 
-// the number of the first bundle at which it has a place, going back from the last one
-fn place(bundles: &[Bundle], plain: &Bundle) -> Option<usize>
-    ensures number { result ≡ specs.place WINDOW plain.now (reverse bundles.now) }
-    ensures within { IfSome result (λ n. n < length bundles.now) }
+// the number of the row after some, and the row with it, where it has room; or what was found nearer
+fn earlier_row(
+    before: &[Bundle],
+    row: &Bundle,
+    one: &Bundle,
+    found: Option<(usize, Bundle)>,
+) -> Option<(usize, Bundle)>
+    ensures { result ≡ (if not (specs.is_too_early (reverse before.now) one.now) && specs.has_place row.now one.now
+        then Some (length before.now, specs.row_with row.now one.now) else found) }
 {
+    if is_too_early(before, one) {
+        return found;
+    }
+    match row_with(row, one) {
+        Some(both) => Some((before.len(), both)),
+        None => found,
+    }
+}
+
+// whether it may go by a row
+fn can_pass(row: &Bundle, one: &Bundle) -> bool
+    ensures { result ≡ (is_idle row.now || specs.goes_by row.now one.now) }
+{
+    does_nothing(row) || goes_by(row, one)
+}
+
+// the number of the first row that has room for it, going back from the last one, and the row with it
+fn place(bundles: &[Bundle], one: &Bundle) -> Option<(usize, Bundle)>
+    ensures number { result ≡ specs.place WINDOW one.now (reverse bundles.now) None }
+    ensures within { IfSome result (λ at. at.0 < length bundles.now) }
+{
+    let mut found = None;
     let mut others = bundles;
     for gone in 0..WINDOW {
         let Some((last, before)) = others.split_last() else {
-            return None;
+            return found;
         };
-        if has_place(before, last, plain) {
-            return Some(before.len());
-        }
-        if !lets_by(last, plain) {
-            return None;
+        found = earlier_row(before, last, one, found);
+        if !can_pass(last, one) {
+            return found;
         }
         others = before;
     }
-    None
+    found
 }
 
-// it stands at the bundle of a number: in it, or before it
-#[tactic(auto, using(crate::proofs::Putting::stands_in, crate::proofs::Putting::stands_before))]
-fn put_at(bundles: &mut Vec<Bundle>, number: usize, plain: &Bundle) -> Result<(), OutOfMemory>
-    requires { number < length bundles.old.items }
-    ensures { OnOk result (bundles.new.items ≡ specs.put_at number plain.now bundles.old.items) }
+// after all rows, and after an empty one where it reads the late value of the last
+fn put_last(bundles: &mut Vec<Bundle>, bundle: &Bundle) -> Result<(), OutOfMemory>
+    ensures { OnOk result (bundles.new.items ≡ specs.stood_last bundle.now bundles.old.items) }
 {
-    match joined(&bundles[number], plain) {
-        Some(both) => bundles[number] = both,
-        None => bundles.insert(number, *plain)?,
+    if is_too_early(bundles.as_slice(), bundle) {
+        bundles.push(idle())?;
     }
+    bundles.push(*bundle)?;
     Ok(())
 }
 
-// one more bundle: a plain instruction goes back to where it has a place, and all else stands last
+// one more bundle that does something: one instruction goes to the first row that has room, and two stand last
 fn put(bundles: &mut Vec<Bundle>, bundle: &Bundle) -> Result<(), OutOfMemory>
     ensures { OnOk result (bundles.new.items ≡ specs.put bundle.now bundles.old.items) }
 {
-    let number = if is_plain(bundle) {
+    let at = if bundle.second().is_none() {
         place(bundles.as_slice(), bundle)
     } else {
         None
     };
-    match number {
-        Some(number) => put_at(bundles, number, bundle)?,
-        None => bundles.push(*bundle)?,
+    match at {
+        Some((number, both)) => bundles[number] = both,
+        None => put_last(bundles, bundle)?,
     }
     Ok(())
 }
 
+// one more bundle, where it does something
+fn put_unless_idle(bundles: &mut Vec<Bundle>, bundle: &Bundle) -> Result<(), OutOfMemory>
+    ensures { OnOk result (bundles.new.items ≡ specs.put_unless_idle bundle.now bundles.old.items) }
+{
+    if does_nothing(bundle) {
+        Ok(())
+    } else {
+        put(bundles, bundle)
+    }
+}
+
 // bundles in their new order, without those that do nothing
-#[tactic(auto, using(crate::proofs::Putting::bundle_put, crate::proofs::Putting::bundle_left, crate::proofs::Putting::bundles_put))]
+#[tactic(auto, using(crate::proofs::Putting::bundle_put, crate::proofs::Putting::bundles_put))]
 fn ordered(alloc: Global, bundles: &[Bundle]) -> Result<List<Bundle>, OutOfMemory>
     ensures { IfOk result (λ list. list ≡ specs.ordered bundles.now) }
 {
     let mut list = Vec::new(alloc);
     for bundle in bundles {
-        if !does_nothing(bundle) {
-            put(&mut list, bundle)?;
-        }
+        put_unless_idle(&mut list, &without_nop(bundle))?;
     }
     Ok(List::of(list))
 }

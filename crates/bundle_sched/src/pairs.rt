@@ -1,5 +1,6 @@
 //! Two bundles in one.
 ghost use Rattle.std.specs.Prelude.{◌≡◌, not, ◌&&◌, ◌++◌, true, false, IfOk, IfSome, IsNone, List, ◌∷◌};
+ghost use Rattle.bundle_sched.specs.Ordered as ordered;
 ghost use Rattle.bundle_sched.specs.Packed as specs;
 ghost use Rattle.bundle_sched.specs.Packing as packing;
 ghost use Rattle.patmos_instr.specs.Bundles.{Slots};
@@ -36,6 +37,29 @@ pub fn is_always(guard: &Guard) -> bool
     guard.pred.number() == 0 && !guard.negated
 }
 
+// whether it is the instruction that does nothing
+fn is_nop(instr: &Instr) -> bool
+    ensures { result ≡ specs.is_nop instr.now }
+{
+    is_always(&instr.guard) && is_idle_op(&instr.op)
+}
+
+/// The bundle without a second instruction that does nothing.
+pub fn without_nop(bundle: &Bundle) -> Bundle
+    ensures { result ≡ ordered.without_nop bundle.now }
+{
+    match bundle.second() {
+        Some(second) => {
+            if is_nop(&second) {
+                Bundle::single(bundle.first())
+            } else {
+                *bundle
+            }
+        }
+        None => *bundle,
+    }
+}
+
 /// Whether the bundle does nothing.
 pub fn does_nothing(bundle: &Bundle) -> bool
     ensures { result ≡ is_idle bundle.now }
@@ -53,27 +77,39 @@ fn is_small(bundle: &Bundle) -> bool
 
 // whether the second can stand beside the first, by their instructions
 fn go_together(a: &Instr, b: &Instr) -> bool
-    ensures { result ≡ (is_second_kind b.now.op && (not (is_late a.now.op) && specs.is_free a.now b.now)) }
+    ensures { result ≡ (is_second_kind b.now.op && specs.is_free a.now b.now) }
 {
-    b.op.is_second_kind() && (!is_late(&a.op) && is_free(a, b))
+    b.op.is_second_kind() && is_free(a, b)
 }
 
-/// Whether two bundles can be one.
-pub fn can_pair(a: &Bundle, b: &Bundle) -> bool
-    ensures { result ≡ specs.can_pair a.now b.now }
+// whether two bundles can be one
+fn can_join(a: &Bundle, b: &Bundle) -> bool
+    ensures { result ≡ specs.can_join a.now b.now }
 {
     is_small(a) && (is_small(b) && go_together(&a.first(), &b.first()))
 }
 
 /// Two bundles in one, where they can be one.
 pub fn joined(a: &Bundle, b: &Bundle) -> Option<Bundle>
-    ensures some { IfSome result (λ both. (specs.can_pair a.now b.now ≡ true) × (both ≡ specs.pair a.now b.now)) }
-    ensures none { IsNone result → specs.can_pair a.now b.now ≡ false }
+    ensures some { IfSome result (λ both. (specs.can_join a.now b.now ≡ true) × (both ≡ specs.pair a.now b.now)) }
+    ensures none { IsNone result → specs.can_join a.now b.now ≡ false }
 {
-    if can_pair(a, b) {
+    if can_join(a, b) {
         Bundle::pair(a.first(), b.first()).ok()
     } else {
         None
+    }
+}
+
+// the same where no value of the first comes late
+fn paired(a: &Bundle, b: &Bundle) -> Option<Bundle>
+    ensures some { IfSome result (λ both. (specs.can_pair a.now b.now ≡ true) × (both ≡ specs.pair a.now b.now)) }
+    ensures none { IsNone result → specs.can_pair a.now b.now ≡ false }
+{
+    if is_late(&a.first().op) {
+        None
+    } else {
+        joined(a, b)
     }
 }
 
@@ -92,7 +128,7 @@ fn held(
     let Some(before) = before else {
         return Ok(Some(*bundle));
     };
-    if let Some(both) = joined(&before, bundle) {
+    if let Some(both) = paired(&before, bundle) {
         return Ok(Some(both));
     }
     out.push(before)?;

@@ -1,5 +1,6 @@
-//! The first delay slot of a call, a return or a branch.
-ghost use Rattle.std.specs.Prelude.{◌≡◌, ◌≤◌, IfOk, OnOk, length, take, drop};
+//! The delay slots of a call, a return or a branch.
+ghost use Rattle.std.specs.Prelude.{◌≡◌, ◌≤◌, true, ◌∷◌, IfOk, IfSome, IsNone, OnOk, length, take, drop};
+ghost use Rattle.bundle_sched.specs.Legal as legal;
 ghost use Rattle.bundle_sched.specs.Packed as specs;
 ghost use Rattle.bundle_sched.specs.Packing as packing;
 ghost use Rattle.sp_shape.specs.Formed.{is_branch, is_flow};
@@ -8,9 +9,12 @@ use crate::bundles::is_late;
 use crate::operands::lacks_pred;
 use crate::ordering::packed;
 use crate::pairs::{does_nothing, is_always};
-use patmos_instr::{Bundle, Guard, Op, Pred};
+use patmos_instr::{Bundle, Guard, Instr, Op, Pred};
 use std::alloc::Global;
 use tc_word::{List, OutOfMemory};
+
+/// The most delay slots of a flow.
+pub const MOST_SLOTS: usize = 3;
 
 // whether it asks for a flow
 fn is_flow(op: &Op) -> bool
@@ -74,13 +78,17 @@ fn lets_pass(flow: &Bundle, bundle: &Bundle) -> bool
     is_flow(&first.op) && (flow.second().is_none() && spares_guard(bundle, &first.guard))
 }
 
-// whether the tail begins with such a flow, whose first delay slot does nothing
+// whether the tail begins with such a flow, whose last delay slot does nothing
+#[tactic(auto, using(crate::proofs::LastBundle::room_at, crate::proofs::LastBundle::room_none))]
 fn has_room(bundle: &Bundle, tail: &[Bundle]) -> bool
     ensures { result ≡ packing.has_room bundle.now tail.now }
 {
-    match tail {
-        [flow, slot, ..] => lets_pass(flow, bundle) && does_nothing(slot),
-        _ => false,
+    let [flow, slots @ ..] = tail else {
+        return false;
+    };
+    match slots.split_last() {
+        Some((last, _)) => lets_pass(flow, bundle) && does_nothing(last),
+        None => false,
     }
 }
 
@@ -102,8 +110,71 @@ fn goes_down(bundles: &[Bundle], tail: &[Bundle]) -> bool
     }
 }
 
-/// The tail after some bundles: the last of them leaves for its first delay slot, where it goes there.
+// the last of some bundles goes into the first delay slot of a tail, where it can
 #[tactic(auto, using(crate::proofs::LastBundle::room_below, crate::proofs::LastBundle::kept_down, crate::proofs::LastBundle::way_down, crate::proofs::LastBundle::kept_up, crate::proofs::LastBundle::way_up))]
+fn move_last(bundles: &mut Vec<Bundle>, slots: &mut Vec<Bundle>) -> Result<(), OutOfMemory>
+    ensures kept { OnOk result (bundles.new.items ≡ packing.kept_by_one bundles.old.items slots.old.items) }
+    ensures way { OnOk result (slots.new.items ≡ packing.way_by_one bundles.old.items slots.old.items) }
+{
+    if goes_down(bundles.as_slice(), slots.as_slice()) {
+        if let Some(last) = bundles.pop() {
+            slots.pop();
+            slots.insert(1, last)?;
+        }
+    }
+    Ok(())
+}
+
+// whether the instruction beside a flow can stand in the first delay slot, since the last one does nothing
+fn can_leave(flow: &Bundle, instr: &Instr, last: &Bundle) -> bool
+    ensures { result ≡ packing.can_leave flow.now instr.now last.now }
+{
+    is_flow(&flow.first().op) && (instr.op.is_second_kind() && does_nothing(last))
+}
+
+// the flow of a tail, what stands beside it, each alone, and the delay slots but the last, where what stands beside it
+// can stand in the first of them
+#[tactic(auto, using(crate::proofs::LastBundle::no_flow, crate::proofs::LastBundle::no_slot, crate::proofs::LastBundle::flow_lone, crate::proofs::LastBundle::flow_stays, crate::proofs::LastBundle::flow_left, crate::proofs::LastBundle::flow_legal))]
+fn flow_apart(tail: &[Bundle]) -> Option<(Bundle, Bundle, &[Bundle])>
+    ensures some { IfSome result (λ x. packing.freed tail.now ≡ x.0 ∷ x.1 ∷ x.2.now) }
+    ensures none { IsNone result → packing.freed tail.now ≡ tail.now }
+    ensures legal { legal.has_legal_flow tail.now ≡ true }
+{
+    let [flow, slots @ ..] = tail else {
+        return None;
+    };
+    let Some(beside) = flow.second() else {
+        return None;
+    };
+    let Some((last, others)) = slots.split_last() else {
+        return None;
+    };
+    if can_leave(flow, &beside, last) {
+        Some((Bundle::single(flow.first()), Bundle::single(beside), others))
+    } else {
+        None
+    }
+}
+
+// a tail whose flow stands alone
+fn freed(alloc: Global, tail: &[Bundle]) -> Result<Vec<Bundle>, OutOfMemory>
+    ensures tail { IfOk result (λ list. list.items ≡ packing.freed tail.now) }
+    ensures legal { IfOk result (λ list. legal.has_legal_flow tail.now ≡ true) }
+{
+    let mut list = Vec::new(alloc);
+    match flow_apart(tail) {
+        Some((flow, beside, others)) => {
+            list.push(flow)?;
+            list.push(beside)?;
+            list.extend_from_slice(others)?;
+        }
+        None => list.extend_from_slice(tail)?,
+    }
+    Ok(list)
+}
+
+/// The tail after some bundles: its flow stands alone, and the last of the bundles leave for its delay slots, as many
+/// as go there.
 pub fn way(
     alloc: Global,
     bundles: &mut Vec<Bundle>,
@@ -111,13 +182,11 @@ pub fn way(
 ) -> Result<List<Bundle>, OutOfMemory>
     ensures kept { OnOk result (bundles.new.items ≡ packing.kept bundles.old.items tail.now) }
     ensures way { IfOk result (λ slots. slots ≡ packing.way bundles.old.items tail.now) }
+    ensures legal { IfOk result (λ slots. legal.has_legal_flow tail.now ≡ true) }
 {
-    let down = goes_down(bundles.as_slice(), tail);
-    let mut slots = Vec::from_slice(alloc, tail)?;
-    if down {
-        if let Some(last) = bundles.pop() {
-            slots[1] = last;
-        }
+    let mut slots = freed(alloc, tail)?;
+    for filled in 0..MOST_SLOTS {
+        move_last(bundles, &mut slots)?;
     }
     Ok(List::of(slots))
 }
@@ -146,13 +215,19 @@ fn branch_at(tail: &[Bundle]) -> usize
     at
 }
 
-/// The tail of a loop's turn: what stands before the branch packed, and the last of it in the branch's first delay slot
-/// where it goes there.
-pub fn turn(alloc: Global, tail: &[Bundle]) -> Result<List<Bundle>, OutOfMemory>
-    ensures { IfOk result (λ list. list ≡ packing.turn_packed tail.now) }
+/// The tail of a loop's turn: straight code that is held, and what stands before the branch, packed as one piece, and
+/// the last of it in the branch's delay slots where it goes there.
+pub fn turn(
+    alloc: Global,
+    mut held: Vec<Bundle>,
+    tail: &[Bundle],
+) -> Result<List<Bundle>, OutOfMemory>
+    ensures turn { IfOk result (λ list. list ≡ packing.turn_packed held.items tail.now) }
+    ensures legal { IfOk result (λ list. legal.has_legal_flow (packing.from_branch tail.now) ≡ true) }
 {
     let (front, back) = tail.split_at(branch_at(tail));
-    let mut bundles = packed(alloc, front)?.into_vec();
+    held.extend_from_slice(front)?;
+    let mut bundles = packed(alloc, held.as_slice())?.into_vec();
     let slots = way(alloc, &mut bundles, back)?;
     bundles.extend_from_slice(slots.as_slice())?;
     Ok(List::of(bundles))

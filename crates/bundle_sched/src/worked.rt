@@ -24,49 +24,58 @@ pub fn worked_places()
     ensures call { part_placed (calls_to 1 small.call) ≡ calls_to 1 small.call }
 {}
 
-/// Neighbours become one where the second is free of the first, and else stand apart; what does nothing is left out; a
-/// load's value still comes in time; and the last bundle goes into a return's first delay slot.
+/// Neighbours become one where the second is free of the first, and else stand apart; what does nothing is left out, in
+/// a second slot too; a load's value still comes in time; the last bundles go into a return's delay slots, as many as
+/// there are; and what stands beside the return comes into the first.
 pub fn worked_packing()
     ensures pair { packed (add_to 2 ∷ add_to 3 ∷ []) ≡ pair (add_to 2) (add_to 3) ∷ [] }
     ensures reads { packed (small.add 1 ∷ small.add 2 ∷ []) ≡ small.add 1 ∷ small.add 2 ∷ [] }
     ensures writes { packed (add_to 2 ∷ add_to 2 ∷ []) ≡ add_to 2 ∷ add_to 2 ∷ [] }
     ensures idle { packed (add_to 2 ∷ small.idle ∷ add_to 3 ∷ []) ≡ pair (add_to 2) (add_to 3) ∷ [] }
+    ensures nop { packed (pair (add_to 2) small.idle ∷ []) ≡ add_to 2 ∷ [] }
     ensures late { packed (small.load ∷ add_to 2 ∷ []) ≡ small.load ∷ add_to 2 ∷ [] }
     ensures slot { way (add_to 2 ∷ []) small.return
         ≡ small.under small.always Return ∷ add_to 2 ∷ small.idle ∷ small.idle ∷ [] }
+    ensures slots { way (set 1 ∷ set 2 ∷ set 3 ∷ set 4 ∷ []) small.return
+        ≡ small.under small.always Return ∷ set 2 ∷ set 3 ∷ set 4 ∷ [] }
+    ensures some_slots { way (set 1 ∷ small.load ∷ set 2 ∷ []) small.return
+        ≡ small.under small.always Return ∷ set 2 ∷ small.idle ∷ small.idle ∷ [] }
     ensures stays { way (small.load ∷ []) small.return ≡ small.return }
+    ensures beside { way (set 2 ∷ [])
+        (pair (small.under small.always Return) (add_to 3) ∷ small.idle ∷ small.idle ∷ small.idle ∷ [])
+        ≡ small.under small.always Return ∷ set 2 ∷ add_to 3 ∷ small.idle ∷ [] }
     ensures function { scheduled (small.shape_of (ready ∷ []) 0) ≡ small.shape_of (packed_ready ∷ []) 0 }
 {}
 
-/// A plain instruction goes back to where it fills the time of a load, or stands beside another. It goes by none that
-/// gives what it reads, reads what it writes, or sets the predicate that its guard asks for, and looks back at eight
-/// bundles at most.
+/// An instruction goes back to the first row that has room for it: where one waits for a load, or beside another. It
+/// goes by none that gives what it reads, reads what it writes, or sets the predicate that its guard asks for, and
+/// looks back at sixteen rows at most.
 pub fn worked_ordering()
     ensures time { ordered (small.load ∷ small.square ∷ set 2 ∷ [])
-        ≡ small.load ∷ set 2 ∷ small.square ∷ [] }
+        ≡ pair small.load (set 2) ∷ small.idle ∷ small.square ∷ [] }
     ensures slot { ordered (add_to 2 ∷ small.load ∷ set 3 ∷ []) ≡ pair (add_to 2) (set 3) ∷ small.load ∷ [] }
     ensures reads { ordered (add_to 2 ∷ small.load ∷ small.add 1 ∷ [])
-        ≡ add_to 2 ∷ small.load ∷ small.add 1 ∷ [] }
-    ensures read { ordered (add_to 2 ∷ small.square ∷ set 1 ∷ []) ≡ add_to 2 ∷ small.square ∷ set 1 ∷ [] }
-    ensures guard { ordered (test ∷ small.load ∷ set_on 3 ∷ []) ≡ test ∷ small.load ∷ set_on 3 ∷ [] }
-    ensures near { ordered (add_to 2 ∷ (replicate 7 small.load ++ set 3 ∷ []))
-        ≡ pair (add_to 2) (set 3) ∷ replicate 7 small.load }
-    ensures far { ordered (add_to 2 ∷ (replicate 8 small.load ++ set 3 ∷ []))
-        ≡ add_to 2 ∷ (replicate 8 small.load ++ set 3 ∷ []) }
+        ≡ add_to 2 ∷ small.load ∷ small.idle ∷ small.add 1 ∷ [] }
+    ensures read { ordered (add_to 2 ∷ small.square ∷ set 1 ∷ []) ≡ pair small.square (add_to 2) ∷ set 1 ∷ [] }
+    ensures guard { ordered (test ∷ small.load ∷ set_on 3 ∷ []) ≡ test ∷ pair small.load (set_on 3) ∷ [] }
+    ensures near { ordered (add_to 2 ∷ (replicate 15 small.load ++ set 3 ∷ []))
+        ≡ pair (add_to 2) (set 3) ∷ replicate 15 small.load }
+    ensures far { ordered (add_to 2 ∷ (replicate 16 small.load ++ set 3 ∷ []))
+        ≡ add_to 2 ∷ (pair small.load (set 3) ∷ replicate 15 small.load) }
     ensures function { scheduled (small.shape_of (waiting ∷ []) 0) ≡ small.shape_of (ordered_waiting ∷ []) 0 }
 {}
 
-/// What stands before a loop's branch becomes one too, and the last of it goes into the branch's first delay slot, but
-/// not where it sets the predicate that the branch asks for.
+/// The straight code at the end of a loop's body is one piece with what stands before its branch, and the last of it
+/// goes into the branch's delay slots, but not where it sets the predicate that the branch asks for.
 pub fn worked_loops()
-    ensures slot { turn_packed (test ∷ small.load ∷ add_to 2 ∷ small.again)
+    ensures slot { turn_packed [] (test ∷ small.load ∷ add_to 2 ∷ small.again)
         ≡ test ∷ small.load ∷ small.under small.p1 small.branch ∷ add_to 2 ∷ small.idle ∷ [] }
-    ensures guard { turn_packed (add_to 2 ∷ test ∷ small.again) ≡ pair (add_to 2) test ∷ small.again }
+    ensures guard { turn_packed [] (add_to 2 ∷ test ∷ small.again) ≡ pair (add_to 2) test ∷ small.again }
     ensures function { scheduled (small.shape_of (turning ∷ []) 0) ≡ small.shape_of (packed_turning ∷ []) 0 }
 {}
 
-/// What is packed and what is not: two neighbours that could be one, a delay slot that the bundle before could fill,
-/// and two neighbours after a load, whose value comes in the first of them.
+/// What is packed and what is not: two neighbours that could be one, the first two of a piece too, a delay slot that the
+/// bundle before could fill, and two neighbours after a load, whose value comes in the first of them.
 pub fn worked_packed()
     ensures straight { is_packed (scheduled (small.shape_of (ready ∷ []) 0)) ≡ true }
     ensures turning { is_packed (scheduled (small.shape_of (turning ∷ []) 0)) ≡ true }
@@ -76,4 +85,6 @@ pub fn worked_packed()
         (part (straight (small.load ∷ small.idle ∷ add_to 2 ∷ small.idle ∷ [])) small.empty ∷ []) 0) ≡ false }
     ensures behind_load { is_packed
         (small.shape_of (part (straight (small.load ∷ small.idle ∷ [])) small.empty ∷ []) 0) ≡ true }
+    ensures first_two { is_packed (small.shape_of
+        (part (straight (add_to 2 ∷ add_to 3 ∷ small.load ∷ small.idle ∷ [])) small.empty ∷ []) 0) ≡ false }
 {}

@@ -18,9 +18,10 @@ use Rattle.sp_emit.specs.Functions.{emitted}
 use Rattle.sp_emit.specs.Means.{HoldsWords}
 use Rattle.sp_emit.specs.Ran.{begun_memory}
 use Rattle.sp_emit.specs.Serving.{Answers}
-use Rattle.bundle_sched.proofs.Kept.{none_lost, word_dropped, word_paired}
+use Rattle.bundle_sched.proofs.Kept.{none_lost, word_dropped, word_paired, word_apart}
 use Rattle.bundle_sched.proofs.Runs.{runs_as}
 use Rattle.bundle_sched.proofs.Turns.{turns_as}
+use Rattle.sp_emit.proofs.Formed.{emitted_formed}
 use Rattle.tc_link.proofs.Constants.{function_words_fit}
 use Rattle.tc_link.proofs.Followed.{shape_followed}
 use Rattle.tc_link.specs.Backs.{backs_of}
@@ -41,7 +42,7 @@ words_at s fits k = elim (cases_lt k (length s.functions)) [
 ]
 
 code_words : (u : PlainUnit) → Fit (code_of u) → (k : ℕ) → parts_all has_word (slice_index_or (emitted u).functions k no_part) ≡ true
-code_words u fits k = none_lost has_word word_dropped word_paired (emitted u) k (words_at (code_of u) fits k)
+code_words u fits k = none_lost has_word word_dropped word_paired word_apart (emitted u) k (words_at (code_of u) fits k)
 
 begun_whole : (u : PlainUnit) (input : List ℕ) (shared comm : ℕ → ℕ) → IsWhole (begun_run u input shared comm)
 begun_whole u input shared comm = record { fits = record { count = refl; pred_count = refl; zero = refl; always = refl }; pending = refl }
@@ -53,7 +54,7 @@ carried_out u formed well_formed small fits input shared comm words =
     let whole = begun_whole u input shared comm in
     let backs = backs_of (code_of u) in
     let turns = task_turns u by_words (begun_memory u input shared comm) [] backs refl formed (counts_are_words u (code_words u fits)) in
-    let follows = shape_followed (code_of u) by_words m well_formed small fits whole.fits refl (turns_as (emitted u) (code_of u) refl by_words m whole turns) in
+    let follows = shape_followed (code_of u) by_words m well_formed small fits whole.fits refl (turns_as (emitted u) (code_of u) refl (emitted_formed u formed) by_words m whole turns) in
     let does = task_does u input shared comm backs formed (constants_are_words u (code_words u fits)) words in
     let same = follows.run ∙ runs_as (emitted u) (code_of u) refl by_words m whole in
     record { follows = follows; answers = subst (Answers (straight u input shared comm) m) (sym same) does }

@@ -1,4 +1,4 @@
--- For proofs. The open names as they are kept: each with the number of the one that it
+-- To be believed. The open names as they are kept: each with the number of the one that it
 -- hides, and the number of the last of each name.
 use Rattle.std.specs.Prelude.{◌≡◌, ℕ, ◌<◌, List, length, take, map, slice_index_or, Option, bytes_eq}
 use Rattle.std.specs.HashMap.{HashMap, get_by}

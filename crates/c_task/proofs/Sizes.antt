@@ -2,7 +2,6 @@
 use Rattle.std.proofs.Common.{◌≡◌, ℕ, zero, suc, ◌+◌, ◌<◌, ◌≤◌, nat_le, true, List, [], ◌∷◌, ◌++◌, length, map, slice_index, slice_index_or, refl, ap, ◌∙◌, arith}
 use Rattle.std.specs.Prelude.{IsTrue, nat_lt}
 use Rattle.std.proofs.lemmas.Bool.{and_parts, leb-true}
-use Rattle.std.proofs.lemmas.List.{length-map}
 use Rattle.std.proofs.lemmas.List.Sums.{sum_by-cons}
 use Rattle.c_tree.specs.declared.checks.CheckFault.TheVariants as fault
 use Rattle.c_tree.specs.declared.limits.TheConstants.{MOST_FRAME_WORDS, MOST_FUNCTION_WEIGHT, MOST_PARAMETERS}
@@ -24,7 +23,8 @@ use Rattle.sp_tree.specs.Statements.{PlainUnit, no_function}
 use Rattle.sp_shape.specs.Formed as shape
 use Rattle.sp_shape.specs.Parts.{no_part}
 use Rattle.sp_shape.specs.Bundles.{parts_idle}
-use Rattle.sp_emit.specs.Functions.{function_code, emitted}
+use Rattle.sp_emit.specs.Functions.{emitted}
+use Rattle.sp_emit.proofs.Codes.{codes_length}
 use Rattle.sp_emit.proofs.Formed as emit_formed
 use Rattle.sp_emit.proofs.Kept as emit
 use Rattle.bundle_sched.proofs.Kept as schedule
@@ -94,10 +94,10 @@ words_within size ws (suc n) each =
 -- ---- the code of a tree
 
 code_length : (u : PlainUnit) → length (code_of u).functions ≡ length u.functions
-code_length u = schedule.functions_stay (emitted u) ∙ length-map u.functions function_code
+code_length u = schedule.functions_stay (emitted u) ∙ codes_length u.functions
 
 idle_slots : (u : PlainUnit) (k : ℕ) → k < length (emitted u).functions → parts_idle (slice_index_or (emitted u).functions k no_part) ≡ true
-idle_slots u k below = emit.idle_as (emitted u) u refl k (omega (arith, below, length-map u.functions function_code))
+idle_slots u k below = emit.idle_as (emitted u) u refl k (omega (arith, below, codes_length u.functions))
 
 code_formed : (u : PlainUnit) → tree.is_formed u ≡ true → shape.is_formed (code_of u) ≡ true
 code_formed u formed = schedule_formed.formed_as (emitted u) (code_of u) refl (emit_formed.formed_as (emitted u) u refl formed) (idle_slots u)

@@ -19,6 +19,7 @@ use Rattle.task_core.proofs.Behaving.{link, asking, behaves}
 use Rattle.task_machine.specs.Machines.{machine_after}
 use Rattle.task_machine.specs.Told.{task_operations}
 use Rattle.task_machine.proofs.Alone.{slotted, zeros_fit}
+use Rattle.task_machine.proofs.Among.{task_whole}
 use Rattle.task_machine.proofs.Told.{times_there, meaning_there}
 use Rattle.c_task.specs.Programs.{task_of, task_on}
 use Rattle.c_task.specs.Telling.{HasProgram, Tells}
@@ -51,6 +52,7 @@ tells items place input words cores tasks cycles h =
     record {
       keeps = times_there (single items) place input words cores cycles h.task;
       within = program_within place items h.valid h.task.code;
+      own = task_whole (single items) place input cores cycles place.in_range.among h.task.begins;
       meaning = λ world holds fits enough. program_meaning place items h.valid input world cycles own (m.cores place.core)
           (meaning_there (single items) place input words cores cycles h.task world (world_held (single items) place input world h.task.code.initial h.task.given holds) enough fits);
       alone = λ is. zeros_fit (single items) place input words cores cycles h.task (λ k. task_of (task_on tasks k)) h.begin (alone_by_texts items place.cores place.core tasks h.said is);

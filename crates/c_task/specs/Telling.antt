@@ -8,7 +8,7 @@ use Rattle.c_tree.specs.Valid.{IsValid}
 use Rattle.c_mentions.specs.Alone.{Running, program, is_alone}
 use Rattle.patmos_model.specs.State.{Core}
 use Rattle.task_machine.specs.Machines.{BeginsAs, HasTask}
-use Rattle.task_machine.specs.Told.{task_operations, HasTimes}
+use Rattle.task_machine.specs.Told.{task_operations, AreAllItsOwn, HasTimes}
 use Rattle.c_task.specs.Programs.{HasProgramMeaning, task_of, task_on}
 use Rattle.c_task.specs.Translation.{IsWorld, translation, times, bound}
 
@@ -25,11 +25,17 @@ pub record HasProgram (items : List PlainItem) (place : Place) (input : List ℕ
 abbrev pub FitsWorld : List PlainItem → Place → List ℕ → State Core → ℕ → (ℕ → ℕ) → Type 0
 FitsWorld items place input m cycles world = Sees world (task_operations (translation items).tree place input m cycles)
 
+-- the task's own operations, of which `FitsWorld` speaks, are those of its core in what the machine made, without those of
+-- the core's interface: all of them, in their order
+abbrev pub OwnsOperations : List PlainItem → Place → List ℕ → State Core → ℕ → Type 0
+OwnsOperations items place input m cycles = AreAllItsOwn (translation items).tree place input m cycles
+
 -- After so many cycles the core has the program's times, which are within its bound; from their end on it has what the
 -- text means from each world that fits; and where the task is alone with its data, the world of zeros does
 pub record Tells (items : List PlainItem) (place : Place) (input : List ℕ) (tasks : List Running) (m : State Core) (cycles : ℕ) : Type 0 where
   pub keeps : HasTimes (translation items).tree place cycles (m.cores place.core)
   pub within : (times place items).end ≤ place.start + bound place items
+  pub own : OwnsOperations items place input m cycles
   pub meaning : (world : ℕ → ℕ) → IsWorld world → FitsWorld items place input m cycles world
       → (times place items).end ≤ cycles
       → HasProgramMeaning items place input world cycles

@@ -1,6 +1,6 @@
 -- Parts that act: under masks that are 1 they do what their actions do, and leave the masks as the way on says.
 use Rattle.std.proofs.Common.{◌≡◌, ◌≢◌, ℕ, ◌≤◌, Bool, true, false, if◌then◌else◌, Some, None, refl, ap, sym, arith, subst, inl}
-use Rattle.std.specs.Prelude.{◌&&◌}
+use Rattle.std.specs.Prelude.{◌&&◌, ◌||◌}
 use Rattle.c_world.specs.Numbers.{is_true}
 use Rattle.sp_tree.specs.Statements.{PlainSpTarget, to_slot, PlainStmt, masks, writes, overruns, PlainStmts, no_stmt, stmt, one, joined}
 use Rattle.sp_tree.specs.Statements as tree
@@ -15,16 +15,16 @@ use Rattle.c_meaning.specs.Resolved as resolved
 use Rattle.c_meaning.specs.Values as values
 use Rattle.single_path.specs.declared.part_words.PartWords.{PartWords}
 use Rattle.single_path.specs.PartWords.{in_arm, in_loop, where_so, where_not_taken, where_not_returned, bit_of, not_zero, broken, continued, returned_function, returned_loop}
-use Rattle.single_path.specs.PartWords as mask
-use Rattle.single_path.specs.Made.{made, made_action, made_branches, made_assignment, made_arm, made_otherwise, is_no_branch, is_no_action, ends}
+use Rattle.single_path.specs.Made.{made, made_action, made_branches, made_assignment, made_arm, made_otherwise, made_after, any_exit, by_continue, by_return, actions_exit, branches_exit, is_no_branch, is_no_action, ends}
 use Rattle.single_path.specs.Widths.{action_words, words, branches_words}
 use Rattle.single_path.proofs.Fits.{FitsAction, Fits, FitsBranches}
+use Rattle.single_path.proofs.Exiting.{on_only, no_continue, action_avoids, actions_avoid}
 use Rattle.single_path.proofs.Frames.{Order, Still}
 use Rattle.single_path.proofs.Idle.{Quiet, Dead, order_arm, order_loop, dead, dead_branches}
 use Rattle.single_path.proofs.Agreeing.{Agrees, assignment_set, worth_same}
 use Rattle.single_path.proofs.Ways.{Acted, Live, Went, low_acted, set_acted, went_live, went_on, went_still}
 use Rattle.single_path.proofs.Calling.{Serving, given_set, level_set, nothing_set, sent}
-use Rattle.single_path.proofs.Leaving.{Nest, broken_acted, continued_acted, on_acted, returned_acted}
+use Rattle.single_path.proofs.Leaving.{Nest, broken_acted, continued_acted, after_acted, returned_acted}
 use Rattle.single_path.proofs.Arming.{skipped_went, taken_went}
 use Rattle.single_path.proofs.Looping.{loop_acted}
 
@@ -104,10 +104,15 @@ mutual
         idles = λ q t. dead g serving.quiet n otherwise q t;
         empty = λ m. nothing_done gc otherwise m;
       }) p s l o nest (omega (arith, within)) fits.0 live h in
-      subst (λ u. Acted (chooses branches otherwise) n p s d u) (sym (joined_done g arms (one (masks p.own (mask.where_on p))) s))
-      (on_acted (chooses branches otherwise) g n p s d (stmts_done g arms s) refl o went)
+      let exits = branches_exit any_exit branches || actions_exit any_exit otherwise in
+      subst (λ u. Acted (chooses branches otherwise) n p s d u) (sym (joined_done g arms (made_after p exits) s))
+      (after_acted (chooses branches otherwise) g n p s d (stmts_done g arms s) exits refl o
+      (λ none. on_only d.way (action_avoids gc any_exit (chooses branches otherwise) l none)) went)
   live_action Fit gc g serving n (turns most condition body step) inside p s l o nest within fits live h =
-      loop_acted (turns most condition body step) g n p most condition (made (in_loop p) body) step (resolved.actions_done gc body) s l refl o
+      loop_acted (turns most condition body step) g n p most condition (actions_exit by_return body) (actions_exit by_continue body) (made (in_loop p) body) step
+      (resolved.actions_done gc body) s l refl
+      (λ none. on_only (resolved.action_done gc (turns most condition body step) l).way (action_avoids gc any_exit (turns most condition body step) l none))
+      (λ none m. no_continue (resolved.actions_done gc body m).way (actions_avoid gc by_continue body m none)) o
       (omega (arith, within)) (omega (arith, within)) (record {
         acts = λ t m live' h'. live_all Fit gc g serving n body true (in_loop p) t m (order_loop n p o) (nest_loop n p o) (omega (arith, within)) fits live' h';
         idles = λ t. dead g serving.quiet n body (in_loop p) t (order_loop n p o);
@@ -141,7 +146,9 @@ mutual
       → Went n p s (resolved.branches_done gc bs meant l) (stmts_done g (made_branches p bs nothing otherwise) s)
   live_branches Fit gc g serving n no_branch inside nothing otherwise meant last p s l o nest within fits live h = last.acts p s l o nest live h
   live_branches Fit gc g serving n (branch condition body rest) inside nothing otherwise meant last p s l o nest within fits live h =
-      by (resolved.holds condition l) (ap is_true (worth_same n condition s l h (omega (arith, within))))
+      let on : actions_exit any_exit body ≡ false → (resolved.actions_done gc body l).way ≡ way.On = λ none.
+      on_only (resolved.actions_done gc body l).way (actions_avoid gc any_exit body l none) in
+      by on (resolved.holds condition l) (ap is_true (worth_same n condition s l h (omega (arith, within))))
       (λ t live' h'. live_all Fit gc g serving n body inside (in_arm p) t l (order_arm n p o) nest (omega (arith, within)) fits.0 live' h')
       (λ t live' h'. live_branches Fit gc g serving n rest inside nothing otherwise meant last (in_arm p) t l (order_arm n p o) nest (omega (arith, within)) fits.1 live' h')
     where
@@ -151,15 +158,15 @@ mutual
       others : PlainStmts
       others = made_branches (in_arm p) rest nothing otherwise
 
-      by : (holds : Bool) → is_true (worth condition s) ≡ holds
+      by : (actions_exit any_exit body ≡ false → (resolved.actions_done gc body l).way ≡ way.On) → (holds : Bool) → is_true (worth condition s) ≡ holds
           → ((t : State) → Live (in_arm p) t → Agrees n t l → Went n (in_arm p) t (resolved.actions_done gc body l) (stmts_done g arm t))
           → ((t : State) → Live (in_arm p) t → Agrees n t l → Went n (in_arm p) t (resolved.branches_done gc rest meant l) (stmts_done g others t))
           → Went n p s (elim holds as (λ _. Done) [ true ↦ resolved.actions_done gc body l | false ↦ resolved.branches_done gc rest meant l ])
-          (stmts_done g (made_arm p condition arm (made_otherwise p (is_no_branch rest && nothing) others)) s)
-      by true is inner further =
-          taken_went g n p condition arm (is_no_branch rest && nothing) others s l (resolved.actions_done gc body l) o live h is inner
+          (stmts_done g (made_arm p condition arm (made_otherwise p (actions_exit any_exit body) (is_no_branch rest && nothing) others)) s)
+      by on true is inner further =
+          taken_went g n p condition arm (actions_exit any_exit body) (is_no_branch rest && nothing) others s l (resolved.actions_done gc body l) o live h is on inner
           (λ t. dead_branches g serving.quiet n rest nothing otherwise last.idles (in_arm p) t (order_arm n p o))
-      by false is inner further =
-          skipped_went g n p condition arm (is_no_branch rest && nothing) others s l (resolved.branches_done gc rest meant l) o live h is
+      by on false is inner further =
+          skipped_went g n p condition arm (actions_exit any_exit body) (is_no_branch rest && nothing) others s l (resolved.branches_done gc rest meant l) o live h is
           (λ t. dead g serving.quiet n body (in_arm p) t (order_arm n p o)) further
           (no_otherwise gc rest nothing meant l last.empty)

@@ -1,8 +1,8 @@
 -- Arms that are taken, and that are not.
-use Rattle.std.proofs.Common.{◌≡◌, ℕ, ◌+◌, ◌<◌, Bool, true, false, refl, ap, sym, ◌∙◌, arith, ap₂, subst, inl}
+use Rattle.std.proofs.Common.{◌≡◌, ℕ, ◌+◌, ◌<◌, ◌==◌, Bool, true, false, if◌then◌else◌, refl, ap, sym, ◌∙◌, arith, ap₂, subst, inl}
 use Rattle.std.specs.Prelude.{bit_and, bit_xor}
 use Rattle.c_world.specs.Numbers.{flag, is_true}
-use Rattle.sp_tree.specs.Plain.{PlainSp}
+use Rattle.sp_tree.specs.Plain.{PlainSp, frame_word}
 use Rattle.sp_tree.specs.Statements.{PlainStmts}
 use Rattle.sp_tree.specs.Straight.{State, Serves, with_slot, worth, stmts_done}
 use Rattle.sp_tree.proofs.Joins.{joined_done}
@@ -11,8 +11,9 @@ use Rattle.c_meaning.specs.declared.ways.Way.TheVariants as way
 use Rattle.c_meaning.specs.Meaning.{Done, goes_on}
 use Rattle.c_meaning.specs.Values as values
 use Rattle.single_path.specs.declared.part_words.PartWords.{PartWords}
-use Rattle.single_path.specs.PartWords.{in_arm, where_so, where_not_taken}
+use Rattle.single_path.specs.PartWords.{in_arm, where_so, where_not_taken, where_other, bit_of}
 use Rattle.single_path.specs.Made.{made_arm, made_otherwise}
+use Rattle.single_path.proofs.Truths.{truth_worth}
 use Rattle.single_path.proofs.Frames.{put_here, Order, Still, still_on, fewer, set_behind}
 use Rattle.single_path.proofs.Idle.{Idle, left, armed, waits, gone, Dead}
 use Rattle.single_path.proofs.Agreeing.{Agrees, still_agrees}
@@ -46,43 +47,61 @@ idle_armed way.Broken = left
 idle_armed way.Continued = waits
 idle_armed (way.Returned v) = gone
 
+-- where the arm did not go elsewhere, both masks are 1
+other_word : (p : PartWords) (u : State) (own free : ℕ) → u.frame p.own ≡ own → u.frame p.free ≡ free → bit_and own 1 ≡ own
+    → worth (where_other p) u ≡ bit_xor own free
+other_word p u own free is_own is_free small = ap₂ bit_xor (by (p.own == p.turn)) is_free
+  where
+    by : (alone : Bool) → worth (if alone then bit_of p.own else frame_word p.own) u ≡ own
+    by true = ap (λ a. bit_and a 1) is_own ∙ small
+    by false = is_own
+
 -- what stands after `else`, where the arm was taken
-otherwise_idle : (g : Serves) (n : ℕ) (p : PartWords) (nothing : Bool) (rest : PlainStmts) (s : State) (d : Done) (u : State) → Order n p
+otherwise_idle : (g : Serves) (n : ℕ) (p : PartWords) (exits nothing : Bool) (rest : PlainStmts) (s : State) (d : Done) (u : State) → Order n p
+    → (exits ≡ false → d.way ≡ way.On)
     → ((t : State) → Dead (in_arm p) t → Still (p.free + 1) t (stmts_done g rest t)) → Went n p s d u → (d.way ≡ way.On → u.frame p.free ≡ 1)
-    → Went n p s d (stmts_done g (made_otherwise p nothing rest) u)
-otherwise_idle g n p true rest s d u o each h free_on = h
-otherwise_idle g n p false rest s d u o each h free_on =
-    let v = with_slot p.free (worth (where_not_taken p) u) u in
-    let begun = set_behind p.free p.free (worth (where_not_taken p) u) u (omega arith) in
-    let value : worth (where_not_taken p) u ≡ 0 =
-    ap (λ b. bit_and (bit_and b 1) (bit_xor (u.frame p.own) (u.frame p.free))) h.loop
-    ∙ not_taken d.way (u.frame p.own) (u.frame p.free) (went_own n p s d u h) free_on in
-    let idle_there : Dead (in_arm p) v = record {
-      own_word = 0;
-      loop_word = loop_of d.way;
-      function_word = function_of d.way;
-      idle = idle_armed d.way;
-      own = put_here p.free (worth (where_not_taken p) u) u.frame ∙ value;
-      loop = begun.frame p.turn (omega (arith, o.own, o.free)) ∙ h.loop;
-      function = begun.frame p.function (omega (arith, o.loop, o.own, o.free)) ∙ h.function;
-      alone = λ two. absurd (omega (arith, two));
-    } in
-    went_still n p s d u (stmts_done g rest v) o h
-    (still_on p.free u v (stmts_done g rest v) begun (fewer (p.free + 1) p.free v (stmts_done g rest v) (omega arith) (each v idle_there)))
+    → Went n p s d (stmts_done g (made_otherwise p exits nothing rest) u)
+otherwise_idle g n p exits true rest s d u o on each h free_on = h
+otherwise_idle g n p exits false rest s d u o on each h free_on = by exits on
+  where
+    by : (exits : Bool) → (exits ≡ false → d.way ≡ way.On)
+        → Went n p s d (stmts_done g rest (with_slot p.free (worth (if exits then where_not_taken p else where_other p) u) u))
+    by exits on =
+        let w = worth (if exits then where_not_taken p else where_other p) u in
+        let v = with_slot p.free w u in
+        let begun = set_behind p.free p.free w u (omega arith) in
+        let idle_there : Dead (in_arm p) v = record {
+          own_word = 0;
+          loop_word = loop_of d.way;
+          function_word = function_of d.way;
+          idle = idle_armed d.way;
+          own = put_here p.free w u.frame ∙ value exits on;
+          loop = begun.frame p.turn (omega (arith, o.own, o.free)) ∙ h.loop;
+          function = begun.frame p.function (omega (arith, o.loop, o.own, o.free)) ∙ h.function;
+          alone = λ two. absurd (omega (arith, two));
+        } in
+        went_still n p s d u (stmts_done g rest v) o h
+        (still_on p.free u v (stmts_done g rest v) begun (fewer (p.free + 1) p.free v (stmts_done g rest v) (omega arith) (each v idle_there)))
+      where
+        value : (exits : Bool) → (exits ≡ false → d.way ≡ way.On) → worth (if exits then where_not_taken p else where_other p) u ≡ 0
+        value true on =
+            ap (λ b. bit_and (bit_and b 1) (bit_xor (u.frame p.own) (u.frame p.free))) h.loop
+            ∙ not_taken d.way (u.frame p.own) (u.frame p.free) (went_own n p s d u h) free_on
+        value false on = other_word p u 1 1 (went_own n p s d u h (on refl)) (free_on (on refl)) refl
 
 -- the mask of an arm
 pub tested : (p : PartWords) (condition : PlainSp) (holds : Bool) (s : State) → s.frame p.own ≡ 1 → is_true (worth condition s) ≡ holds
     → worth (where_so p.own condition) s ≡ flag holds
-tested p condition true s is held = ap₂ (λ a b. bit_and a (flag b)) is held
-tested p condition false s is held = ap₂ (λ a b. bit_and a (flag b)) is held
+tested p condition true s is held = ap₂ bit_and is (truth_worth condition s ∙ ap flag held)
+tested p condition false s is held = ap₂ bit_and is (truth_worth condition s ∙ ap flag held)
 
 -- the arm is taken
-pub taken_went : (g : Serves) (n : ℕ) (p : PartWords) (condition : PlainSp) (arm : PlainStmts) (nothing : Bool) (rest : PlainStmts) (s : State) (l : values.State) (d : Done)
-    → Order n p → Live p s → Agrees n s l → is_true (worth condition s) ≡ true
+pub taken_went : (g : Serves) (n : ℕ) (p : PartWords) (condition : PlainSp) (arm : PlainStmts) (exits nothing : Bool) (rest : PlainStmts) (s : State) (l : values.State) (d : Done)
+    → Order n p → Live p s → Agrees n s l → is_true (worth condition s) ≡ true → (exits ≡ false → d.way ≡ way.On)
     → ((t : State) → Live (in_arm p) t → Agrees n t l → Went n (in_arm p) t d (stmts_done g arm t))
     → ((t : State) → Dead (in_arm p) t → Still (p.free + 1) t (stmts_done g rest t))
-    → Went n p s d (stmts_done g (made_arm p condition arm (made_otherwise p nothing rest)) s)
-taken_went g n p condition arm nothing rest s l d o live h holds acts idles =
+    → Went n p s d (stmts_done g (made_arm p condition arm (made_otherwise p exits nothing rest)) s)
+taken_went g n p condition arm exits nothing rest s l d o live h holds on acts idles =
     let t = with_slot p.free (worth (where_so p.own condition) s) s in
     let begun = set_behind p.free p.free (worth (where_so p.own condition) s) s (omega arith) in
     let live_there : Live (in_arm p) t = record {
@@ -94,18 +113,18 @@ taken_went g n p condition arm nothing rest s l d o live h holds acts idles =
     let u = stmts_done g arm t in
     let inner = acts t live_there (still_agrees n p.free s t l (omega (arith, o.result, o.function, o.loop, o.own, o.free)) begun h) in
     let went = arm_went n p s t d u o live begun.frame inner in
-    subst (λ v. Went n p s d v) (sym (joined_done g arm (made_otherwise p nothing rest) t))
-    (otherwise_idle g n p nothing rest s d u o idles went (went_own n (in_arm p) t d u inner))
+    subst (λ v. Went n p s d v) (sym (joined_done g arm (made_otherwise p exits nothing rest) t))
+    (otherwise_idle g n p exits nothing rest s d u o on idles went (went_own n (in_arm p) t d u inner))
 
 -- the arm is not taken
-pub skipped_went : (g : Serves) (n : ℕ) (p : PartWords) (condition : PlainSp) (arm : PlainStmts) (nothing : Bool) (rest : PlainStmts) (s : State) (l : values.State) (d : Done)
+pub skipped_went : (g : Serves) (n : ℕ) (p : PartWords) (condition : PlainSp) (arm : PlainStmts) (exits nothing : Bool) (rest : PlainStmts) (s : State) (l : values.State) (d : Done)
     → Order n p → Live p s → Agrees n s l → is_true (worth condition s) ≡ false
     → ((t : State) → Dead (in_arm p) t → Still (p.free + 1) t (stmts_done g arm t))
     → ((t : State) → Live (in_arm p) t → Agrees n t l → Went n (in_arm p) t d (stmts_done g rest t))
     → (nothing ≡ true → d ≡ goes_on l)
-    → Went n p s d (stmts_done g (made_arm p condition arm (made_otherwise p nothing rest)) s)
-skipped_went g n p condition arm nothing rest s l d o live h holds idles acts no_more =
-    subst (λ v. Went n p s d v) (sym (joined_done g arm (made_otherwise p nothing rest) t)) (by nothing no_more)
+    → Went n p s d (stmts_done g (made_arm p condition arm (made_otherwise p exits nothing rest)) s)
+skipped_went g n p condition arm exits nothing rest s l d o live h holds idles acts no_more =
+    subst (λ v. Went n p s d v) (sym (joined_done g arm (made_otherwise p exits nothing rest) t)) (by nothing no_more)
   where
     t : State
     t = with_slot p.free (worth (where_so p.own condition) s) s
@@ -152,7 +171,14 @@ skipped_went g n p condition arm nothing rest s l d o live h holds idles acts no
     result_there : u.frame p.result ≡ 0
     result_there = so_far.frame p.result (omega (arith, o.function, o.loop, o.own, o.free)) ∙ live.result
 
-    by : (nothing : Bool) → (nothing ≡ true → d ≡ goes_on l) → Went n p s d (stmts_done g (made_otherwise p nothing rest) u)
+    free_there : u.frame p.free ≡ 0
+    free_there = skipped.frame p.free (omega arith) ∙ off_there
+
+    value : (exits : Bool) → worth (if exits then where_not_taken p else where_other p) u ≡ 1
+    value true = ap₂ (λ b a. bit_and (bit_and b 1) (bit_xor a (u.frame p.free))) loop_there own_there ∙ ap (λ f. bit_and 1 (bit_xor 1 f)) free_there
+    value false = other_word p u 1 0 own_there free_there refl
+
+    by : (nothing : Bool) → (nothing ≡ true → d ≡ goes_on l) → Went n p s d (stmts_done g (made_otherwise p exits nothing rest) u)
     by true no_more = subst (λ e. Went n p s e u) (sym (no_more refl)) (record {
       same = agrees;
       result = result_there;
@@ -162,13 +188,11 @@ skipped_went g n p condition arm nothing rest s l d o live h holds idles acts no
       others = λ x behind below r f q w. so_far.frame x below;
     })
     by false no_more =
-        let v = with_slot p.free (worth (where_not_taken p) u) u in
-        let again = set_behind p.free p.free (worth (where_not_taken p) u) u (omega arith) in
-        let free_there : u.frame p.free ≡ 0 = skipped.frame p.free (omega arith) ∙ off_there in
-        let value : worth (where_not_taken p) u ≡ 1 =
-        ap₂ (λ b a. bit_and (bit_and b 1) (bit_xor a (u.frame p.free))) loop_there own_there ∙ ap (λ f. bit_and 1 (bit_xor 1 f)) free_there in
+        let other = worth (if exits then where_not_taken p else where_other p) u in
+        let v = with_slot p.free other u in
+        let again = set_behind p.free p.free other u (omega arith) in
         let live_there : Live (in_arm p) v = record {
-          own = put_here p.free (worth (where_not_taken p) u) u.frame ∙ value;
+          own = put_here p.free other u.frame ∙ value exits;
           loop = again.frame p.turn (omega (arith, o.own, o.free)) ∙ loop_there;
           function = again.frame p.function (omega (arith, o.loop, o.own, o.free)) ∙ function_there;
           result = again.frame p.result (omega (arith, o.function, o.loop, o.own, o.free)) ∙ result_there;

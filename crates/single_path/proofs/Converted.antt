@@ -14,9 +14,9 @@ use Rattle.sp_tree.specs.declared.expressions.SpExpr.{SpExpr}
 use Rattle.sp_tree.specs.Plain.{plain_sp}
 use Rattle.sp_tree.specs.Statements.{PlainStmts, no_stmt, masks, one, joined}
 use Rattle.single_path.specs.declared.part_words.PartWords.{PartWords}
-use Rattle.single_path.specs.Made.{made, made_action, made_branches, made_otherwise, is_no_branch, is_no_action, ends}
+use Rattle.single_path.specs.Made.{made, made_action, made_branches, made_otherwise, any_exit, actions_exit, is_no_branch, is_no_action, ends}
 use Rattle.single_path.specs.Widths as width
-use Rattle.single_path.specs.PartWords.{in_arm, where_so, where_not_taken}
+use Rattle.single_path.specs.PartWords.{in_arm, where_so, where_not_taken, where_other}
 use Rattle.c_meaning.specs.Sizes.{actions_size, branches_size}
 use Rattle.single_path.proofs.Stated.{joined_none, joined_joined}
 
@@ -80,35 +80,40 @@ branches_split (x ∷ branches) b some is =
     ap₂ (λ y ys. branch (plain_sp y.condition) (actions_of y.body) (branches_of ys)) (sym is) (sym (take_all (length (x ∷ branches) - 1) branches (omega arith)))
 
 -- one arm more, and what stands after it
-pub arm_added : (p arm : PartWords) (old first second : PlainStmts) (branches rest : List Branch) (b : Branch) (body : List Action) (nothing : Bool)
-    (otherwise : PartWords → PlainStmts) → 1 ≤ length branches → b ≡ get_or branches 0 b → rest ≡ take (length branches - 1) (drop 1 branches) → body ≡ b.body
+pub arm_added : (p arm : PartWords) (old first second : PlainStmts) (branches rest : List Branch) (b : Branch) (body body' : List Action) (exits nothing : Bool)
+    (otherwise : PartWords → PlainStmts) → 1 ≤ length branches → b ≡ get_or branches 0 b → rest ≡ take (length branches - 1) (drop 1 branches) → body ≡ b.body → body' ≡ b.body → exits ≡ actions_exit any_exit (actions_of body')
     → arm ≡ in_arm p → first ≡ joined old (one (masks p.free (where_so p.own (plain_sp b.condition)))) → second ≡ joined first (made arm (actions_of body))
-    → joined second (made_otherwise p (is_no_branch (branches_of rest) && nothing) (made_branches arm (branches_of rest) nothing otherwise))
+    → joined second (made_otherwise p exits (is_no_branch (branches_of rest) && nothing) (made_branches arm (branches_of rest) nothing otherwise))
     ≡ joined old (made_branches p (branches_of branches) nothing otherwise)
-arm_added p arm old first second branches rest b body nothing otherwise some is is_rest is_body is_arm is_first is_second =
-    ap (λ xs. joined xs (behind arm rest)) (is_second ∙ ap₂ (λ xs q. joined xs (made q (actions_of body))) is_first is_arm)
-    ∙ ap (λ ys. joined (joined (joined old mask) (made (in_arm p) (actions_of ys))) (behind arm rest)) is_body
-    ∙ ap₂ (λ q rs. joined (joined (joined old mask) (made (in_arm p) (actions_of b.body))) (behind q rs)) is_arm is_rest
-    ∙ joined_joined (joined old mask) (made (in_arm p) (actions_of b.body)) (behind (in_arm p) (take (length branches - 1) (drop 1 branches)))
-    ∙ joined_joined old mask (joined (made (in_arm p) (actions_of b.body)) (behind (in_arm p) (take (length branches - 1) (drop 1 branches))))
+arm_added p arm old first second branches rest b body body' exits nothing otherwise some is is_rest is_body is_body' is_exits is_arm is_first is_second =
+    ap (λ e. joined second (behind e arm rest)) (is_exits ∙ ap (λ ys. actions_exit any_exit (actions_of ys)) is_body')
+    ∙ ap (λ xs. joined xs (behind own arm rest)) (is_second ∙ ap₂ (λ xs q. joined xs (made q (actions_of body))) is_first is_arm)
+    ∙ ap (λ ys. joined (joined (joined old mask) (made (in_arm p) (actions_of ys))) (behind own arm rest)) is_body
+    ∙ ap₂ (λ q rs. joined (joined (joined old mask) (made (in_arm p) (actions_of b.body))) (behind own q rs)) is_arm is_rest
+    ∙ joined_joined (joined old mask) (made (in_arm p) (actions_of b.body)) (behind own (in_arm p) (take (length branches - 1) (drop 1 branches)))
+    ∙ joined_joined old mask (joined (made (in_arm p) (actions_of b.body)) (behind own (in_arm p) (take (length branches - 1) (drop 1 branches))))
     ∙ ap (λ bs. joined old (made_branches p bs nothing otherwise)) (sym (branches_split branches b some is))
   where
-    behind : PartWords → List Branch → PlainStmts
-    behind q rs = made_otherwise p (is_no_branch (branches_of rs) && nothing) (made_branches q (branches_of rs) nothing otherwise)
+    own : Bool
+    own = actions_exit any_exit (actions_of b.body)
+
+    behind : Bool → PartWords → List Branch → PlainStmts
+    behind e q rs = made_otherwise p e (is_no_branch (branches_of rs) && nothing) (made_branches q (branches_of rs) nothing otherwise)
 
     mask : PlainStmts
     mask = one (masks p.free (where_so p.own (plain_sp b.condition)))
 
 -- what stands after an arm
-pub nothing_added : (p : PartWords) (old behind : PlainStmts) (nothing : Bool) → nothing ≡ true → old ≡ joined old (made_otherwise p nothing behind)
-nothing_added p old behind nothing is =
-    sym (joined_none old) ∙ ap (λ b. joined old (made_otherwise p b behind)) (sym is)
+pub nothing_added : (p : PartWords) (old behind : PlainStmts) (exits nothing : Bool) → nothing ≡ true → old ≡ joined old (made_otherwise p exits nothing behind)
+nothing_added p old behind exits nothing is =
+    sym (joined_none old) ∙ ap (λ b. joined old (made_otherwise p exits b behind)) (sym is)
 
-pub otherwise_added : (p : PartWords) (old first behind : PlainStmts) (nothing : Bool) → nothing ≡ false → first ≡ joined old (one (masks p.free (where_not_taken p)))
-    → joined first behind ≡ joined old (made_otherwise p nothing behind)
-otherwise_added p old first behind nothing is is_first =
-    ap (λ xs. joined xs behind) is_first ∙ joined_joined old (one (masks p.free (where_not_taken p))) behind
-    ∙ ap (λ b. joined old (made_otherwise p b behind)) (sym is)
+pub otherwise_added : (p : PartWords) (old first behind : PlainStmts) (exits nothing : Bool) → nothing ≡ false
+    → first ≡ joined old (one (masks p.free (if exits then where_not_taken p else where_other p)))
+    → joined first behind ≡ joined old (made_otherwise p exits nothing behind)
+otherwise_added p old first behind exits nothing is is_first =
+    ap (λ xs. joined xs behind) is_first ∙ joined_joined old (one (masks p.free (if exits then where_not_taken p else where_other p))) behind
+    ∙ ap (λ b. joined old (made_otherwise p exits b behind)) (sym is)
 
 -- ---- parts are smaller
 

@@ -1,6 +1,6 @@
 -- The code of what is made of a function takes at most as many words as the function weighs.
 use Rattle.std.proofs.Common.{◌≡◌, ℕ, zero, suc, ◌+◌, ◌*◌, ◌≤◌, ◌==◌, Bool, true, false, if◌then◌else◌, List, [], ◌∷◌, length, sum_by, Option, None, Some, arith}
-use Rattle.std.specs.Prelude.{◌&&◌}
+use Rattle.std.specs.Prelude.{◌&&◌, ◌||◌}
 use Rattle.std.proofs.lemmas.List.Sums.{sum_by-cons}
 use Rattle.c_tree.specs.declared.expressions.BinaryOp.{BinaryOp}
 use Rattle.c_tree.specs.declared.expressions.UnaryOp.{UnaryOp}
@@ -9,6 +9,7 @@ use Rattle.c_tree.specs.Plain.{PlainExpr, PlainSteps, PlainRight, PlainHead, Pla
 use Rattle.c_tree.specs.Plain as plain
 use Rattle.c_tree.specs.Weight.{operator_weight, expr_weight, steps_weight, right_weight, head_weight, stmt_weight, block_weight, arms_weight, otherwise_weight, body_weight, function_weight}
 use Rattle.sp_tree.specs.declared.operators.SpBinary.{SpBinary}
+use Rattle.sp_tree.specs.declared.operators.SpBinary.TheVariants as binary
 use Rattle.sp_tree.specs.Cost.{binary_cost, is_held, expr_cost, args_cost, target_cost, stmts_cost, cost}
 use Rattle.sp_tree.specs.Plain.{PlainSp, constant, frame_word, between_two}
 use Rattle.sp_tree.specs.Statements.{PlainStmts, no_stmt, stmt, joined, masks}
@@ -24,8 +25,8 @@ use Rattle.c_meaning.specs.Scope.{Stands, level, outside}
 use Rattle.c_meaning.specs.Scope as scope
 use Rattle.c_meaning.specs.Values.{Names, named, expr_unsigned}
 use Rattle.single_path.specs.declared.part_words.PartWords.{PartWords}
-use Rattle.single_path.specs.PartWords.{in_arm, in_loop, outermost, both, less_by, bit_of, where_not_taken, where_on, not_zero, returned_function, returned_loop}
-use Rattle.single_path.specs.Made.{is_zero, made_target, made_step, made_result, made_return, ends, is_no_action, is_no_branch, made_arm, made_otherwise, made_turn, made_loop, made_action, made, made_branches}
+use Rattle.single_path.specs.PartWords.{in_arm, in_loop, outermost, both, less_by, bit_of, is_truth, where_so, where_not_taken, where_other, where_on, where_not_returned, not_zero, returned_function, returned_loop}
+use Rattle.single_path.specs.Made.{is_zero, made_target, made_step, made_result, made_return, ends, is_no_action, is_no_branch, made_arm, made_otherwise, made_on, made_after, made_behind, made_again, any_exit, by_continue, by_return, actions_exit, branches_exit, made_turn, made_loop, made_action, made, made_branches}
 use Rattle.single_path.specs.Single.{variables, made_function}
 
 -- ---- expressions and arguments
@@ -189,15 +190,60 @@ made_step_cost : (mask : ℕ) (step : Option PlainAssignment) → stmts_cost (ma
 made_step_cost mask None = omega arith
 made_step_cost mask (Some a) = omega arith
 
-turn_cost : (p : PartWords) (condition : PlainSp) (body : PlainStmts) (step : Option PlainAssignment)
-    → stmts_cost (made_turn p condition body step) ≤ 13 + expr_cost condition + stmts_cost body + step_cost step
-turn_cost p condition body step =
-    omega (arith, joined_cost body (stmt (masks p.free (not_zero (frame_word p.free))) (made_step p.free step)), made_step_cost p.free step)
+-- a mask where a condition holds besides
+so_cost : (mask : ℕ) (condition : PlainSp) → expr_cost (where_so mask condition) ≤ 6 + expr_cost condition
+so_cost mask condition = by (is_truth condition)
+  where
+    held : (small : Bool) → (if small then 0 else expr_cost condition) ≤ expr_cost condition
+    held true = omega arith
+    held false = omega arith
 
-loop_cost : (p : PartWords) (most : ℕ) (condition : PlainSp) (turn : PlainStmts)
-    → stmts_cost (made_loop p most condition turn) ≤ 34 + expr_cost condition + stmts_cost turn
-loop_cost p zero condition turn = omega arith
-loop_cost p (suc n) condition turn = omega arith
+    by : (b : Bool) → expr_cost (both (frame_word mask) (if b then condition else not_zero condition)) ≤ 6 + expr_cost condition
+    by true = let own = held (is_held binary.BitAnd condition) in omega (arith, own)
+    by false = omega arith
+
+-- masks that are repaired, where they may be others
+on_cost : (p : PartWords) → stmts_cost (made_on p) ≤ 6
+on_cost p = omega (arith, ended_cost (p.own == p.turn) (tree.one (masks p.own (where_on p))))
+
+after_cost : (p : PartWords) (exits : Bool) → stmts_cost (made_after p exits) ≤ 6
+after_cost p true = on_cost p
+after_cost p false = omega arith
+
+behind_cost : (p : PartWords) (exits : Bool) → stmts_cost (made_behind p exits) ≤ 13
+behind_cost p false = omega arith
+behind_cost p true =
+    let outer = tree.one (masks p.turn (where_not_returned p)) in
+    omega (arith, joined_cost (if p.function == p.turn then no_stmt else outer) (made_on p), ended_cost (p.function == p.turn) outer, on_cost p)
+
+again_cost : (p : PartWords) (exits : Bool) → stmts_cost (made_again p exits) ≤ 6
+again_cost p true = omega arith
+again_cost p false = omega arith
+
+other_cost : (p : PartWords) (exits : Bool) → expr_cost (if exits then where_not_taken p else where_other p) ≤ 9
+other_cost p true = omega arith
+other_cost p false = by (p.own == p.turn)
+  where
+    by : (alone : Bool) → expr_cost (between_two binary.BitXor (if alone then bit_of p.own else frame_word p.own) (frame_word p.free)) ≤ 9
+    by true = omega arith
+    by false = omega arith
+
+turn_cost : (p : PartWords) (condition : PlainSp) (exits : Bool) (body : PlainStmts) (step : Option PlainAssignment)
+    → stmts_cost (made_turn p condition exits body step) ≤ 13 + expr_cost condition + stmts_cost body + step_cost step
+turn_cost p condition exits body step =
+    omega (
+      arith,
+      joined_cost body (joined (made_again p exits) (made_step p.free step)),
+      joined_cost (made_again p exits) (made_step p.free step),
+      so_cost p.free condition,
+      again_cost p exits,
+      made_step_cost p.free step,
+    )
+
+loop_cost : (p : PartWords) (most : ℕ) (condition : PlainSp) (exits : Bool) (turn : PlainStmts)
+    → stmts_cost (made_loop p most condition exits turn) ≤ 34 + expr_cost condition + stmts_cost turn
+loop_cost p zero condition exits turn = omega arith
+loop_cost p (suc n) condition exits turn = omega (arith, behind_cost p exits)
 
 assignment_cost : (names : Names) (text : List ℕ) (e : PlainExpr) → step_cost (resolved_assignment names text e) ≤ 7 + expr_weight e
 assignment_cost names text e = by (variable_target (named names text)) (variable_target_cost (named names text))
@@ -234,10 +280,12 @@ choice_cost : (p : PartWords) (branches : PlainBranches) (otherwise : PlainActio
 choice_cost p no_branch otherwise = omega arith
 choice_cost p (branch condition body rest) otherwise =
     let all = branch condition body rest in
+    let exits = branches_exit any_exit all || actions_exit any_exit otherwise in
     omega (
       arith,
       one_cost p (chooses all otherwise),
-      joined_cost (made_branches p all (is_no_action otherwise) (λ q. made q otherwise)) (tree.one (masks p.own (where_on p))),
+      joined_cost (made_branches p all (is_no_action otherwise) (λ q. made q otherwise)) (made_after p exits),
+      after_cost p exits,
     )
 
 -- an arm takes 7 words less than it weighs, of which 6 are for that mask
@@ -249,10 +297,16 @@ repair_spared : (fs : List (List ℕ)) (names : Names) (arms : PlainArms) → re
 repair_spared fs names plain.no_arm = omega arith
 repair_spared fs names (plain.arm condition body rest) = omega arith
 
-arm_cost : (p : PartWords) (condition : PlainSp) (arm : PlainStmts) (nothing : Bool) (rest : PlainStmts)
-    → stmts_cost (made_arm p condition arm (made_otherwise p nothing rest)) ≤ 17 + expr_cost condition + stmts_cost arm + stmts_cost rest
-arm_cost p condition arm nothing rest =
-    omega (arith, joined_cost arm (made_otherwise p nothing rest), ended_cost nothing (stmt (masks p.free (where_not_taken p)) rest))
+arm_cost : (p : PartWords) (condition : PlainSp) (arm : PlainStmts) (exits nothing : Bool) (rest : PlainStmts)
+    → stmts_cost (made_arm p condition arm (made_otherwise p exits nothing rest)) ≤ 17 + expr_cost condition + stmts_cost arm + stmts_cost rest
+arm_cost p condition arm exits nothing rest =
+    omega (
+      arith,
+      joined_cost arm (made_otherwise p exits nothing rest),
+      so_cost p.own condition,
+      other_cost p exits,
+      ended_cost nothing (stmt (masks p.free (if exits then where_not_taken p else where_other p)) rest),
+    )
 
 mutual
   unfolding stmt_weight block_weight arms_weight otherwise_weight
@@ -284,14 +338,15 @@ mutual
       let condition = resolved_condition names head in
       let inside = resolved_block fs names body in
       let step = resolved_next names head in
-      let turn = made_turn p condition (made (in_loop p) inside) step in
+      let again = actions_exit by_continue inside in
+      let turn = made_turn p condition again (made (in_loop p) inside) step in
       let within = block_within fs names body (in_loop p) in
       omega (
         arith,
         within,
         head_cost names head p,
-        turn_cost p condition (made (in_loop p) inside) step,
-        loop_cost p (most_turns bound) condition turn,
+        turn_cost p condition again (made (in_loop p) inside) step,
+        loop_cost p (most_turns bound) condition (actions_exit by_return inside) turn,
         one_cost p (turns (most_turns bound) condition inside step),
         made_joined_cost p (maybe_sets (resolved_begin names head)) (one (turns (most_turns bound) condition inside step)),
       )
@@ -326,7 +381,7 @@ mutual
         inside,
         more,
         resolved_cost names None condition,
-        arm_cost p test arm (is_no_branch others && nothing) (made_branches (in_arm p) others nothing otherwise),
+        arm_cost p test arm (actions_exit any_exit (resolved_block fs names body)) (is_no_branch others && nothing) (made_branches (in_arm p) others nothing otherwise),
       )
 
   otherwise_within : (fs : List (List ℕ)) (names : Names) (otherwise : PlainOtherwise) (p : PartWords)

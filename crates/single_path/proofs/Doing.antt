@@ -1,9 +1,10 @@
 -- What actions do with memories, and that what is made of them does no more: a property that all uses of a program's actions
 -- have is one of all uses of its tree.
 use Rattle.std.proofs.Common.{ℕ, zero, suc, ◌==◌, Bool, true, false, if◌then◌else◌, List, [], ◌∷◌, ◌++◌, Option, None, Some, subst, sym}
-use Rattle.std.specs.Prelude.{⊤, ◌&&◌}
+use Rattle.std.specs.Prelude.{⊤, ◌&&◌, ◌||◌}
 use Rattle.std.specs.List.{AllByRecursion as Each}
 use Rattle.shared_order.proofs.Lists.{each-append}
+use Rattle.sp_tree.specs.declared.operators.SpBinary.TheVariants as binary
 use Rattle.sp_tree.specs.Plain.{PlainSp, constant, frame_word, cell_word, array_word, before_one, between_two}
 use Rattle.sp_tree.specs.Statements.{PlainStmt, PlainStmts, no_stmt, stmt, joined, masks}
 use Rattle.sp_tree.specs.Statements as tree
@@ -11,8 +12,8 @@ use Rattle.sp_tree.specs.Uses.{Use, reads_cell, reads_array, writes_cell, writes
 use Rattle.sp_tree.proofs.Joins.{joined_uses}
 use Rattle.c_meaning.specs.Actions.{PlainTarget, to_level, to_cell, to_array, PlainAssignment, PlainAction, sets, calls, transfers, chooses, turns, breaks, continues, returns, PlainActions, no_action, action, PlainBranches, no_branch, branch}
 use Rattle.single_path.specs.declared.part_words.PartWords.{PartWords}
-use Rattle.single_path.specs.PartWords.{in_arm, in_loop, outermost, both, less_by, bit_of, not_zero, where_so, where_not_taken, where_on, where_not_returned, returned_function, returned_loop}
-use Rattle.single_path.specs.Made.{is_zero, made_target, made_assignment, made_step, made_call, made_result, made_return, ends, is_no_action, is_no_branch, made_arm, made_otherwise, made_turn, made_loop, made_action, made, made_branches}
+use Rattle.single_path.specs.PartWords.{in_arm, in_loop, outermost, both, less_by, bit_of, not_zero, is_truth, where_so, where_not_taken, where_other, where_on, where_not_returned, returned_function, returned_loop}
+use Rattle.single_path.specs.Made.{is_zero, made_target, made_assignment, made_step, made_call, made_result, made_return, ends, is_no_action, is_no_branch, made_arm, made_otherwise, made_on, made_after, made_behind, made_again, any_exit, by_continue, by_return, actions_exit, branches_exit, made_turn, made_loop, made_action, made, made_branches}
 use Rattle.single_path.specs.Single.{variables, begun_mask, made_functions}
 
 -- ---- actions whose uses all have a property
@@ -145,28 +146,60 @@ return_does P p e does =
     by true = ((tt, (tt, tt)), (tt, tt))
     by false = ((tt, tt), (tt, tt))
 
-arm_does : (P : Use → Type 0) (p : PartWords) (condition : PlainSp) (arm : PlainStmts) (nothing : Bool) (rest : PlainStmts)
-    → ExprDoes P condition → StmtsDo P arm → StmtsDo P rest → StmtsDo P (made_arm p condition arm (made_otherwise p nothing rest))
-arm_does P p condition arm nothing rest test inside more =
-    mask_then P p.free (where_so p.own condition) (joined arm (made_otherwise p nothing rest)) (tt, (test, tt))
-    (joined_do P arm (made_otherwise p nothing rest) inside
-    (unless_do P nothing (stmt (masks p.free (where_not_taken p)) rest) (mask_then P p.free (where_not_taken p) rest ((tt, tt), (tt, tt)) more)))
+-- a mask names no memory but where a condition does
+so_does : (P : Use → Type 0) (mask : ℕ) (condition : PlainSp) → ExprDoes P condition → ExprDoes P (where_so mask condition)
+so_does P mask condition test = by (is_truth condition)
+  where
+    by : (b : Bool) → ExprDoes P (both (frame_word mask) (if b then condition else not_zero condition))
+    by true = (tt, test)
+    by false = (tt, (test, tt))
 
-turn_does : (P : Use → Type 0) (p : PartWords) (condition : PlainSp) (body : PlainStmts) (step : Option PlainAssignment)
-    → ExprDoes P condition → StmtsDo P body → StepDoes P step → StmtsDo P (made_turn p condition body step)
-turn_does P p condition body step test inside stepped =
-    let behind = stmt (masks p.free (not_zero (frame_word p.free))) (made_step p.free step) in
-    mask_then P p.free (where_so p.free condition) (joined body behind) (tt, (test, tt))
-    (joined_do P body behind inside
-    (mask_then P p.free (not_zero (frame_word p.free)) (made_step p.free step) (tt, tt) (step_do P p.free step stepped)))
+other_does : (P : Use → Type 0) (p : PartWords) (exits : Bool) → ExprDoes P (if exits then where_not_taken p else where_other p)
+other_does P p true = ((tt, tt), (tt, tt))
+other_does P p false = by (p.own == p.turn)
+  where
+    by : (alone : Bool) → ExprDoes P (between_two binary.BitXor (if alone then bit_of p.own else frame_word p.own) (frame_word p.free))
+    by true = ((tt, tt), tt)
+    by false = (tt, tt)
 
-loop_does : (P : Use → Type 0) (p : PartWords) (most : ℕ) (condition : PlainSp) (turn : PlainStmts) → ExprDoes P condition → StmtsDo P turn
-    → StmtsDo P (made_loop p most condition turn)
-loop_does P p zero condition turn test inside = only P (tree.overruns p.own condition) (expr_each P condition test)
-loop_does P p (suc n) condition turn test inside =
-    let left = stmt (masks p.turn (where_not_returned p)) (tree.one (masks p.own (where_on p))) in
-    first_then P (tree.turns (suc n) turn) (stmt (tree.overruns p.free condition) left) inside
-    (first_then P (tree.overruns p.free condition) left (expr_each P condition test) tt)
+on_does : (P : Use → Type 0) (p : PartWords) → StmtsDo P (made_on p)
+on_does P p = unless_do P (p.own == p.turn) (tree.one (masks p.own (where_on p))) tt
+
+after_does : (P : Use → Type 0) (p : PartWords) (exits : Bool) → StmtsDo P (made_after p exits)
+after_does P p true = on_does P p
+after_does P p false = tt
+
+behind_does : (P : Use → Type 0) (p : PartWords) (exits : Bool) → StmtsDo P (made_behind p exits)
+behind_does P p false = tt
+behind_does P p true =
+    let outer = tree.one (masks p.turn (where_not_returned p)) in
+    joined_do P (if p.function == p.turn then no_stmt else outer) (made_on p) (unless_do P (p.function == p.turn) outer tt) (on_does P p)
+
+again_does : (P : Use → Type 0) (p : PartWords) (exits : Bool) → StmtsDo P (made_again p exits)
+again_does P p true = tt
+again_does P p false = tt
+
+arm_does : (P : Use → Type 0) (p : PartWords) (condition : PlainSp) (arm : PlainStmts) (exits nothing : Bool) (rest : PlainStmts)
+    → ExprDoes P condition → StmtsDo P arm → StmtsDo P rest → StmtsDo P (made_arm p condition arm (made_otherwise p exits nothing rest))
+arm_does P p condition arm exits nothing rest test inside more =
+    let other = if exits then where_not_taken p else where_other p in
+    mask_then P p.free (where_so p.own condition) (joined arm (made_otherwise p exits nothing rest)) (so_does P p.own condition test)
+    (joined_do P arm (made_otherwise p exits nothing rest) inside
+    (unless_do P nothing (stmt (masks p.free other) rest) (mask_then P p.free other rest (other_does P p exits) more)))
+
+turn_does : (P : Use → Type 0) (p : PartWords) (condition : PlainSp) (exits : Bool) (body : PlainStmts) (step : Option PlainAssignment)
+    → ExprDoes P condition → StmtsDo P body → StepDoes P step → StmtsDo P (made_turn p condition exits body step)
+turn_does P p condition exits body step test inside stepped =
+    let behind = joined (made_again p exits) (made_step p.free step) in
+    mask_then P p.free (where_so p.free condition) (joined body behind) (so_does P p.free condition test)
+    (joined_do P body behind inside (joined_do P (made_again p exits) (made_step p.free step) (again_does P p exits) (step_do P p.free step stepped)))
+
+loop_does : (P : Use → Type 0) (p : PartWords) (most : ℕ) (condition : PlainSp) (exits : Bool) (turn : PlainStmts) → ExprDoes P condition → StmtsDo P turn
+    → StmtsDo P (made_loop p most condition exits turn)
+loop_does P p zero condition exits turn test inside = only P (tree.overruns p.own condition) (expr_each P condition test)
+loop_does P p (suc n) condition exits turn test inside =
+    first_then P (tree.turns (suc n) turn) (stmt (tree.overruns p.free condition) (made_behind p exits)) inside
+    (first_then P (tree.overruns p.free condition) (made_behind p exits) (expr_each P condition test) (behind_does P p exits))
 
 -- ---- all actions
 
@@ -181,11 +214,13 @@ mutual
             (each-append P (expr_uses target) (expr_uses count) (expr_each P target does.2) (expr_each P count does.3)),
       )
   action_does P p (chooses branches otherwise) does =
-      joined_do P (made_branches p branches (is_no_action otherwise) (λ q. made q otherwise)) (tree.one (masks p.own (where_on p)))
-      (branches_do P p branches (is_no_action otherwise) (λ q. made q otherwise) does.0 (λ q. made_does P q otherwise does.1)) tt
+      joined_do P (made_branches p branches (is_no_action otherwise) (λ q. made q otherwise))
+      (made_after p (branches_exit any_exit branches || actions_exit any_exit otherwise))
+      (branches_do P p branches (is_no_action otherwise) (λ q. made q otherwise) does.0 (λ q. made_does P q otherwise does.1))
+      (after_does P p (branches_exit any_exit branches || actions_exit any_exit otherwise))
   action_does P p (turns most condition body step) does =
-      loop_does P p most condition (made_turn p condition (made (in_loop p) body) step) does.0
-      (turn_does P p condition (made (in_loop p) body) step does.0 (made_does P (in_loop p) body does.1) does.2)
+      loop_does P p most condition (actions_exit by_return body) (made_turn p condition (actions_exit by_continue body) (made (in_loop p) body) step) does.0
+      (turn_does P p condition (actions_exit by_continue body) (made (in_loop p) body) step does.0 (made_does P (in_loop p) body does.1) does.2)
   action_does P p breaks does = tt
   action_does P p continues does = tt
   action_does P p (returns e) does = return_does P p e does
@@ -200,7 +235,7 @@ mutual
       → ((q : PartWords) → StmtsDo P (otherwise q)) → StmtsDo P (made_branches p bs nothing otherwise)
   branches_do P p no_branch nothing otherwise does last = last p
   branches_do P p (branch condition body rest) nothing otherwise does last =
-      arm_does P p condition (made (in_arm p) body) (is_no_branch rest && nothing) (made_branches (in_arm p) rest nothing otherwise) does.0
+      arm_does P p condition (made (in_arm p) body) (actions_exit any_exit body) (is_no_branch rest && nothing) (made_branches (in_arm p) rest nothing otherwise) does.0
       (made_does P (in_arm p) body does.1) (branches_do P (in_arm p) rest nothing otherwise does.2 last)
 
 -- ---- functions

@@ -70,11 +70,11 @@ record FunctionSound (parameters : ℕ) (body : PlainActions) : Type 0 where
   sound : AllSound body
 
 -- how many parameters and words of a frame the checks let through
-record FunctionSmall (parameters : List Parameter) (body : List PlainStmt) : Type 0 where
-  few : length parameters ≤ 6
-  frame : function_frame parameters body ≤ 120
+pub record FunctionSmall (parameters : List Parameter) (body : List PlainStmt) : Type 0 where
+  pub few : length parameters ≤ 6
+  pub frame : function_frame parameters body ≤ 120
 
-named_small : (names : List Named) (at : ℕ) (text : List ℕ) (parameters : List Parameter) (body : List PlainStmt)
+pub named_small : (names : List Named) (at : ℕ) (text : List ℕ) (parameters : List Parameter) (body : List PlainStmt)
     → IsTrue (has_none (named_faults names at text parameters body)) → FunctionSmall parameters body
 named_small names at text parameters body none =
     let many = where_so (nat_lt 6 (length parameters)) at fault.Params in

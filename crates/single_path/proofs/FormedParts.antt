@@ -2,21 +2,21 @@
 use Rattle.std.proofs.Common.{◌≡◌, ℕ, zero, suc, ◌+◌, ◌<◌, ◌≤◌, ◌==◌, Bool, true, false, if◌then◌else◌, List, length, Option, None, Some, refl, arith, lt-ltb}
 use Rattle.std.proofs.lemmas.Bool.{and_from}
 use Rattle.std.specs.List.{AllByRecursion as Each}
-use Rattle.std.specs.Prelude.{◌&&◌}
+use Rattle.std.specs.Prelude.{◌&&◌, ◌||◌}
 use Rattle.sp_tree.specs.Formed.{target_formed, result_formed, callee_formed, stmt_formed, stmts_formed}
 use Rattle.sp_tree.specs.Plain.{PlainSp, frame_word}
-use Rattle.sp_tree.specs.Statements.{PlainStmt, PlainStmts, no_stmt, stmt, PlainFunction, masks, writes, overruns}
+use Rattle.sp_tree.specs.Statements.{PlainStmt, PlainStmts, no_stmt, stmt, joined, PlainFunction, masks, writes, overruns}
 use Rattle.sp_tree.specs.Statements as tree
 use Rattle.c_meaning.specs.Actions.{PlainTarget, to_level, to_cell, to_array, PlainAssignment, PlainAction, sets, calls, transfers, chooses, turns, breaks, continues, returns, PlainActions, no_action, action, PlainBranches, no_branch, branch}
-use Rattle.single_path.specs.Made.{made_target, made_assignment, made_step, made_call, is_zero, made_result, made_return, ends, is_no_action, is_no_branch, made_arm, made_otherwise, made_turn, made_loop, made_action, made, made_branches}
+use Rattle.single_path.specs.Made.{made_target, made_assignment, made_step, made_call, is_zero, made_result, made_return, ends, is_no_action, is_no_branch, made_arm, made_otherwise, made_on, made_after, made_behind, made_again, any_exit, by_continue, by_return, actions_exit, branches_exit, made_turn, made_loop, made_action, made, made_branches}
 use Rattle.single_path.specs.declared.part_words.PartWords.{PartWords}
-use Rattle.single_path.specs.PartWords.{in_arm, in_loop, where_so, where_not_taken, where_on, bit_of, not_zero, returned_function, returned_loop}
+use Rattle.single_path.specs.PartWords.{in_arm, in_loop, where_so, where_not_taken, where_other, where_on, where_not_returned, bit_of, not_zero, returned_function, returned_loop}
 use Rattle.single_path.specs.Widths.{result_words, expr_words, args_words, target_words, assignment_words, step_words, words, action_words, branches_words, branches_masks}
 use Rattle.single_path.specs.Widths as width
 use Rattle.single_path.proofs.Fits.{FitsAction, Fits, FitsBranches}
 use Rattle.single_path.proofs.Frames.{Order}
 use Rattle.single_path.proofs.Idle.{order_arm, order_loop}
-use Rattle.single_path.proofs.MasksFormed.{Below, below, both_formed, broken_formed, condition_sound, continued_formed, mask_formed, more_formed, not_returned_formed, not_taken_formed, on_formed, returned_function_formed, returned_loop_formed, unless_formed, words_there}
+use Rattle.single_path.proofs.MasksFormed.{Below, below, both_formed, broken_formed, condition_sound, continued_formed, mask_formed, more_formed, not_returned_formed, on_formed, other_formed, so_words, returned_function_formed, returned_loop_formed, unless_formed, words_there}
 use Rattle.single_path.proofs.Needs.{Sound, sound_word, sound_formed, sound_args_formed}
 use Rattle.single_path.proofs.Sound.{SoundTarget, SoundResult, SoundStep, SoundAction, AllSound, SoundBranches}
 
@@ -93,40 +93,63 @@ return_formed fs number slots p e b sound within =
 
 -- ---- arms and loops
 
-arm_formed : (fs : List PlainFunction) (number slots : ℕ) (p : PartWords) (condition : PlainSp) (arm : PlainStmts) (nothing : Bool) (rest : PlainStmts)
-    → Below p slots → p.free < slots → Sound condition → expr_words condition ≤ slots → stmts_formed fs number slots arm ≡ true
-    → stmts_formed fs number slots rest ≡ true → stmts_formed fs number slots (made_arm p condition arm (made_otherwise p nothing rest)) ≡ true
-arm_formed fs number slots p condition arm nothing rest b free sound within here there =
-    let otherwise = stmt (masks p.free (where_not_taken p)) rest in
-    more_formed fs number slots (masks p.free (where_so p.own condition)) (tree.joined arm (made_otherwise p nothing rest))
-    (mask_formed fs number slots p.free (where_so p.own condition) free (condition_sound p.own condition sound) (omega (arith, within, b.own)))
-    (both_formed fs number slots arm (made_otherwise p nothing rest) here (unless_formed fs number slots nothing otherwise
-    (more_formed fs number slots (masks p.free (where_not_taken p)) rest (not_taken_formed fs number slots p b free) there)))
+on_made_formed : (fs : List PlainFunction) (number slots : ℕ) (p : PartWords) → Below p slots → stmts_formed fs number slots (made_on p) ≡ true
+on_made_formed fs number slots p b =
+    unless_formed fs number slots (p.own == p.turn) (tree.one (masks p.own (where_on p)))
+    (more_formed fs number slots (masks p.own (where_on p)) no_stmt (on_formed fs number slots p b) refl)
 
-turn_formed : (fs : List PlainFunction) (number slots : ℕ) (p : PartWords) (condition : PlainSp) (body : PlainStmts) (step : Option PlainAssignment)
+after_formed : (fs : List PlainFunction) (number slots : ℕ) (p : PartWords) (exits : Bool) → Below p slots → stmts_formed fs number slots (made_after p exits) ≡ true
+after_formed fs number slots p true b = on_made_formed fs number slots p b
+after_formed fs number slots p false b = refl
+
+behind_formed : (fs : List PlainFunction) (number slots : ℕ) (p : PartWords) (exits : Bool) → Below p slots → stmts_formed fs number slots (made_behind p exits) ≡ true
+behind_formed fs number slots p false b = refl
+behind_formed fs number slots p true b =
+    let outer = tree.one (masks p.turn (where_not_returned p)) in
+    both_formed fs number slots (if p.function == p.turn then no_stmt else outer) (made_on p)
+    (unless_formed fs number slots (p.function == p.turn) outer
+    (more_formed fs number slots (masks p.turn (where_not_returned p)) no_stmt (not_returned_formed fs number slots p b) refl))
+    (on_made_formed fs number slots p b)
+
+again_formed : (fs : List PlainFunction) (number slots : ℕ) (p : PartWords) (exits : Bool) → p.free < slots → stmts_formed fs number slots (made_again p exits) ≡ true
+again_formed fs number slots p false free = refl
+again_formed fs number slots p true free =
+    more_formed fs number slots (masks p.free (not_zero (frame_word p.free))) no_stmt
+    (mask_formed fs number slots p.free (not_zero (frame_word p.free)) free (record { ranged = (tt, tt); few = omega arith }) (omega (arith, free))) refl
+
+arm_formed : (fs : List PlainFunction) (number slots : ℕ) (p : PartWords) (condition : PlainSp) (arm : PlainStmts) (exits nothing : Bool) (rest : PlainStmts)
+    → Below p slots → p.free < slots → Sound condition → expr_words condition ≤ slots → stmts_formed fs number slots arm ≡ true
+    → stmts_formed fs number slots rest ≡ true → stmts_formed fs number slots (made_arm p condition arm (made_otherwise p exits nothing rest)) ≡ true
+arm_formed fs number slots p condition arm exits nothing rest b free sound within here there =
+    let other = if exits then where_not_taken p else where_other p in
+    let otherwise = stmt (masks p.free other) rest in
+    more_formed fs number slots (masks p.free (where_so p.own condition)) (tree.joined arm (made_otherwise p exits nothing rest))
+    (mask_formed fs number slots p.free (where_so p.own condition) free (condition_sound p.own condition sound) (omega (arith, within, b.own, so_words p.own condition)))
+    (both_formed fs number slots arm (made_otherwise p exits nothing rest) here (unless_formed fs number slots nothing otherwise
+    (more_formed fs number slots (masks p.free other) rest (other_formed fs number slots p exits b free) there)))
+
+turn_formed : (fs : List PlainFunction) (number slots : ℕ) (p : PartWords) (condition : PlainSp) (exits : Bool) (body : PlainStmts) (step : Option PlainAssignment)
     → p.free < slots → Sound condition → expr_words condition ≤ slots → SoundStep step → step_words step ≤ slots
-    → stmts_formed fs number slots body ≡ true → stmts_formed fs number slots (made_turn p condition body step) ≡ true
-turn_formed fs number slots p condition body step free sound within to of inside =
-    let again = stmt (masks p.free (not_zero (frame_word p.free))) (made_step p.free step) in
+    → stmts_formed fs number slots body ≡ true → stmts_formed fs number slots (made_turn p condition exits body step) ≡ true
+turn_formed fs number slots p condition exits body step free sound within to of inside =
+    let again = joined (made_again p exits) (made_step p.free step) in
     more_formed fs number slots (masks p.free (where_so p.free condition)) (tree.joined body again)
-    (mask_formed fs number slots p.free (where_so p.free condition) free (condition_sound p.free condition sound) (omega (arith, within, free)))
+    (mask_formed fs number slots p.free (where_so p.free condition) free (condition_sound p.free condition sound) (omega (arith, within, free, so_words p.free condition)))
     (both_formed fs number slots body again inside
-    (more_formed fs number slots (masks p.free (not_zero (frame_word p.free))) (made_step p.free step)
-    (mask_formed fs number slots p.free (not_zero (frame_word p.free)) free (record { ranged = (tt, tt); few = omega arith }) (omega (arith, free)))
+    (both_formed fs number slots (made_again p exits) (made_step p.free step) (again_formed fs number slots p exits free)
     (step_formed fs number slots p.free step free to of)))
 
 overrun_formed : (fs : List PlainFunction) (number slots mask : ℕ) (condition : PlainSp) → mask < slots → Sound condition
     → expr_words condition ≤ slots → stmt_formed fs number slots (overruns mask condition) ≡ true
 overrun_formed fs number slots mask condition there sound within = and_from _ _ (lt-ltb mask slots there) (sound_formed slots condition sound within)
 
-loop_formed : (fs : List PlainFunction) (number slots : ℕ) (p : PartWords) (n : ℕ) (condition : PlainSp) (turn : PlainStmts) → Below p slots
+loop_formed : (fs : List PlainFunction) (number slots : ℕ) (p : PartWords) (n : ℕ) (condition : PlainSp) (exits : Bool) (turn : PlainStmts) → Below p slots
     → p.free < slots → Sound condition → expr_words condition ≤ slots → stmts_formed fs number slots turn ≡ true
-    → stmts_formed fs number slots (made_loop p (suc n) condition turn) ≡ true
-loop_formed fs number slots p n condition turn b free sound within inside =
+    → stmts_formed fs number slots (made_loop p (suc n) condition exits turn) ≡ true
+loop_formed fs number slots p n condition exits turn b free sound within inside =
     and_from _ _ (mask_formed fs number slots p.free (bit_of p.own) free (record { ranged = (tt, tt); few = omega arith }) (omega (arith, b.own)))
     (and_from _ _ (and_from _ _ (lt-ltb 0 (suc n) (omega arith)) inside)
-    (and_from _ _ (overrun_formed fs number slots p.free condition free sound within)
-    (and_from _ _ (not_returned_formed fs number slots p b) (and_from _ _ (on_formed fs number slots p b) refl))))
+    (and_from _ _ (overrun_formed fs number slots p.free condition free sound within) (behind_formed fs number slots p exits b)))
 
 -- ---- all actions
 
@@ -158,12 +181,12 @@ mutual
       (and_from _ _ (sound_formed slots target sound.1.1.0 (omega (arith, within, more)))
       (sound_formed slots count sound.1.1.1 (omega (arith, within, more))))))) refl
   action_formed Fit fs number slots n each (chooses branches otherwise) inside p order within free fits sound =
-      both_formed fs number slots (made_branches p branches (is_no_action otherwise) (λ q. made q otherwise)) (tree.one (masks p.own (where_on p)))
+      both_formed fs number slots (made_branches p branches (is_no_action otherwise) (λ q. made q otherwise))
+      (made_after p (branches_exit any_exit branches || actions_exit any_exit otherwise))
       (branches_formed Fit fs number slots n each branches (is_no_action otherwise) (λ q. made q otherwise) (width.masks otherwise)
       (λ q there room. made_formed Fit fs number slots n each otherwise inside q there (omega (arith, within)) room fits.1 sound.1)
       inside p order (omega (arith, within)) free fits.0 sound.0)
-      (more_formed fs number slots (masks p.own (where_on p)) no_stmt
-      (on_formed fs number slots p (below n slots p order (omega (arith, free)))) refl)
+      (after_formed fs number slots p (branches_exit any_exit branches || actions_exit any_exit otherwise) (below n slots p order (omega (arith, free))))
   action_formed Fit fs number slots n each (turns zero condition body step) inside p order within free fits sound =
       let b = below n slots p order (omega (arith, free)) in
       let more = words_there n slots p order (omega (arith, free)) in
@@ -174,9 +197,9 @@ mutual
       let more = words_there n slots p order (omega (arith, free)) in
       let inner = made_formed Fit fs number slots n each body true (in_loop p) (order_loop n p order) (omega (arith, within)) (omega (arith, free))
       fits sound.1.0 in
-      loop_formed fs number slots p k condition (made_turn p condition (made (in_loop p) body) step) b (omega (arith, free)) sound.0
+      loop_formed fs number slots p k condition (actions_exit by_return body) (made_turn p condition (actions_exit by_continue body) (made (in_loop p) body) step) b (omega (arith, free)) sound.0
       (omega (arith, within, more))
-      (turn_formed fs number slots p condition (made (in_loop p) body) step (omega (arith, free)) sound.0 (omega (arith, within, more)) sound.1.1
+      (turn_formed fs number slots p condition (actions_exit by_continue body) (made (in_loop p) body) step (omega (arith, free)) sound.0 (omega (arith, within, more)) sound.1.1
       (omega (arith, within, more)) inner)
   action_formed Fit fs number slots n each breaks inside p order within free fits sound =
       and_from _ _ (broken_formed fs number slots p (below n slots p order (omega (arith, free)))) refl
@@ -205,7 +228,7 @@ mutual
   branches_formed Fit fs number slots n each no_branch nothing otherwise last behind inside p order within free fits sound = behind p order free
   branches_formed Fit fs number slots n each (branch condition body rest) nothing otherwise last behind inside p order within free fits sound =
       let more = words_there n slots p order (omega (arith, free)) in
-      arm_formed fs number slots p condition (made (in_arm p) body) (is_no_branch rest && nothing) (made_branches (in_arm p) rest nothing otherwise)
+      arm_formed fs number slots p condition (made (in_arm p) body) (actions_exit any_exit body) (is_no_branch rest && nothing) (made_branches (in_arm p) rest nothing otherwise)
       (below n slots p order (omega (arith, free))) (omega (arith, free)) sound.0 (omega (arith, within, more))
       (made_formed Fit fs number slots n each body inside (in_arm p) (order_arm n p order) (omega (arith, within))
       (omega (arith, free)) fits.0 sound.1.0)

@@ -1,6 +1,6 @@
 -- The frame of what is made of a function has at most as many words as the checks count for the function.
 use Rattle.std.proofs.Common.{◌≡◌, ℕ, zero, suc, ◌+◌, ◌-◌, ◌≤◌, ◌==◌, max, Bool, true, false, if◌then◌else◌, List, [], ◌∷◌, length, Option, None, Some, arith, length-append}
-use Rattle.std.specs.Prelude.{◌&&◌}
+use Rattle.std.specs.Prelude.{◌&&◌, ◌||◌}
 use Rattle.std.proofs.lemmas.List.Sums.{sum_by-cons}
 use Rattle.c_tree.specs.declared.layout.Slot.{Slot}
 use Rattle.c_tree.specs.declared.statements.Kind.{Kind}
@@ -10,7 +10,7 @@ use Rattle.c_tree.specs.Frame.{stmt_frame, block_frame, arms_frame, otherwise_fr
 use Rattle.c_tree.specs.Plain.{PlainExpr, PlainRight, PlainHead, PlainStmt, PlainBlock, PlainArms, PlainOtherwise}
 use Rattle.c_tree.specs.Plain as plain
 use Rattle.sp_tree.specs.Formed.{stmts_levels}
-use Rattle.sp_tree.specs.Plain.{PlainSp, constant, frame_word}
+use Rattle.sp_tree.specs.Plain.{PlainSp, constant}
 use Rattle.sp_tree.specs.Statements.{PlainStmts, no_stmt, stmt, joined, masks}
 use Rattle.sp_tree.specs.Statements as tree
 use Rattle.sp_tree.proofs.Joins.{joined_levels}
@@ -22,8 +22,8 @@ use Rattle.c_meaning.specs.Resolve.{resolved, resolved_args, variable_target, el
 use Rattle.c_meaning.specs.Values.{Names, named}
 use Rattle.c_meaning.proofs.Few.{parameters_open}
 use Rattle.single_path.specs.declared.part_words.PartWords.{PartWords}
-use Rattle.single_path.specs.PartWords.{in_arm, in_loop, outermost, where_not_taken, where_on, not_zero, returned_function, returned_loop}
-use Rattle.single_path.specs.Made.{is_zero, made_result, made_return, made_step, ends, is_no_action, is_no_branch, made_arm, made_otherwise, made_turn, made_loop, made_action, made, made_branches}
+use Rattle.single_path.specs.PartWords.{in_arm, in_loop, outermost, where_not_taken, where_other, where_on, where_not_returned, returned_function, returned_loop}
+use Rattle.single_path.specs.Made.{is_zero, made_result, made_return, made_step, ends, is_no_action, is_no_branch, made_arm, made_otherwise, made_on, made_after, made_behind, made_again, any_exit, by_continue, by_return, actions_exit, branches_exit, made_turn, made_loop, made_action, made, made_branches}
 use Rattle.single_path.specs.Single.{variables, made_function}
 use Rattle.single_path.specs.Widths.{expr_words, args_words, result_words, step_words, words, branches_words, branches_masks}
 use Rattle.single_path.specs.Widths as width
@@ -80,16 +80,36 @@ choice_masks : (branches : PlainBranches) (otherwise : PlainActions)
 choice_masks no_branch otherwise = omega arith
 choice_masks (branch condition body rest) otherwise = omega arith
 
+-- masks stand in no turns
+on_levels : (p : PartWords) → stmts_levels (made_on p) ≤ 0
+on_levels p = omega (arith, ended_levels (p.own == p.turn) (tree.one (masks p.own (where_on p))))
+
+after_levels : (p : PartWords) (exits : Bool) → stmts_levels (made_after p exits) ≤ 0
+after_levels p true = on_levels p
+after_levels p false = omega arith
+
+behind_levels : (p : PartWords) (exits : Bool) → stmts_levels (made_behind p exits) ≤ 0
+behind_levels p false = omega arith
+behind_levels p true =
+    let outer = tree.one (masks p.turn (where_not_returned p)) in
+    omega (arith, joined_levels (if p.function == p.turn then no_stmt else outer) (made_on p), ended_levels (p.function == p.turn) outer, on_levels p)
+
+again_levels : (p : PartWords) (exits : Bool) → stmts_levels (made_again p exits) ≤ 0
+again_levels p true = omega arith
+again_levels p false = omega arith
+
 -- a choice has the levels of its arms and of what stands after `else`
 choice_levels : (p : PartWords) (branches : PlainBranches) (otherwise : PlainActions)
     → stmts_levels (made p (choice branches otherwise)) ≤ stmts_levels (made_branches p branches (is_no_action otherwise) (λ q. made q otherwise))
 choice_levels p no_branch otherwise = omega arith
 choice_levels p (branch condition body rest) otherwise =
     let all = branch condition body rest in
+    let exits = branches_exit any_exit all || actions_exit any_exit otherwise in
     omega (
       arith,
       levels_one p (chooses all otherwise),
-      joined_levels (made_branches p all (is_no_action otherwise) (λ q. made q otherwise)) (tree.one (masks p.own (where_on p))),
+      joined_levels (made_branches p all (is_no_action otherwise) (λ q. made q otherwise)) (made_after p exits),
+      after_levels p exits,
     )
 
 -- the first may open variables, each of which takes a word
@@ -138,15 +158,21 @@ step_levels : (mask : ℕ) (step : Option PlainAssignment) → stmts_levels (mad
 step_levels mask None = omega arith
 step_levels mask (Some a) = omega arith
 
-turn_levels : (p : PartWords) (condition : PlainSp) (body : PlainStmts) (step : Option PlainAssignment)
-    → stmts_levels (made_turn p condition body step) ≤ stmts_levels body
-turn_levels p condition body step =
-    omega (arith, joined_levels body (stmt (masks p.free (not_zero (frame_word p.free))) (made_step p.free step)), step_levels p.free step)
+turn_levels : (p : PartWords) (condition : PlainSp) (exits : Bool) (body : PlainStmts) (step : Option PlainAssignment)
+    → stmts_levels (made_turn p condition exits body step) ≤ stmts_levels body
+turn_levels p condition exits body step =
+    omega (
+      arith,
+      joined_levels body (joined (made_again p exits) (made_step p.free step)),
+      joined_levels (made_again p exits) (made_step p.free step),
+      again_levels p exits,
+      step_levels p.free step,
+    )
 
-loop_levels : (p : PartWords) (most : ℕ) (condition : PlainSp) (turn : PlainStmts)
-    → stmts_levels (made_loop p most condition turn) ≤ 1 + stmts_levels turn
-loop_levels p zero condition turn = omega arith
-loop_levels p (suc n) condition turn = omega arith
+loop_levels : (p : PartWords) (most : ℕ) (condition : PlainSp) (exits : Bool) (turn : PlainStmts)
+    → stmts_levels (made_loop p most condition exits turn) ≤ 1 + stmts_levels turn
+loop_levels p zero condition exits turn = omega arith
+loop_levels p (suc n) condition exits turn = omega (arith, behind_levels p exits)
 
 -- a loop takes a word for its mask and one for its turns
 turns_within : (n room : ℕ) (p : PartWords) (most : ℕ) (condition : PlainSp) (body : PlainActions) (step : Option PlainAssignment)
@@ -154,15 +180,16 @@ turns_within : (n room : ℕ) (p : PartWords) (most : ℕ) (condition : PlainSp)
     → Within n (one (turns most condition body step)) p (2 + room)
 turns_within n room p zero condition body step of to within = omega (arith, of, to, within)
 turns_within n room p (suc k) condition body step of to within =
-    let turn = made_turn p condition (made (in_loop p) body) step in
+    let again = actions_exit by_continue body in
+    let turn = made_turn p condition again (made (in_loop p) body) step in
     omega (
       arith,
       of,
       to,
       within,
       levels_one p (turns (suc k) condition body step),
-      loop_levels p (suc k) condition turn,
-      turn_levels p condition (made (in_loop p) body) step,
+      loop_levels p (suc k) condition (actions_exit by_return body) turn,
+      turn_levels p condition again (made (in_loop p) body) step,
     )
 
 condition_words : (names : Names) (head : PlainHead) → expr_words (resolved_condition names head) ≤ length names.variables
@@ -186,10 +213,14 @@ next_words names (plain.turns_for first from condition to_set to) = by (variable
 
 -- ---- statements
 
-arm_levels : (p : PartWords) (condition : PlainSp) (arm : PlainStmts) (nothing : Bool) (rest : PlainStmts)
-    → stmts_levels (made_arm p condition arm (made_otherwise p nothing rest)) ≤ max (stmts_levels arm) (stmts_levels rest)
-arm_levels p condition arm nothing rest =
-    omega (arith, joined_levels arm (made_otherwise p nothing rest), ended_levels nothing (stmt (masks p.free (where_not_taken p)) rest))
+arm_levels : (p : PartWords) (condition : PlainSp) (arm : PlainStmts) (exits nothing : Bool) (rest : PlainStmts)
+    → stmts_levels (made_arm p condition arm (made_otherwise p exits nothing rest)) ≤ max (stmts_levels arm) (stmts_levels rest)
+arm_levels p condition arm exits nothing rest =
+    omega (
+      arith,
+      joined_levels arm (made_otherwise p exits nothing rest),
+      ended_levels nothing (stmt (masks p.free (if exits then where_not_taken p else where_other p)) rest),
+    )
 
 one_more : (names : Names) (kind : Kind) (text : List ℕ) → length (with_variable names kind text).variables ≡ length names.variables + 1
 one_more names kind text = length-append names.variables (record { name = text; unsigned = is_unsigned kind } ∷ [])
@@ -274,7 +305,7 @@ mutual
         first,
         more,
         resolved_words names None condition,
-        arm_levels p (resolved names None condition) arm (is_no_branch others && nothing) (made_branches (in_arm p) others nothing otherwise),
+        arm_levels p (resolved names None condition) arm (actions_exit any_exit (resolved_block fs names body)) (is_no_branch others && nothing) (made_branches (in_arm p) others nothing otherwise),
       )
 
   otherwise_within : (fs : List (List ℕ)) (names : Names) (otherwise : PlainOtherwise) (p : PartWords)

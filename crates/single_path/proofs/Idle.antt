@@ -1,7 +1,7 @@
 -- Parts that are not to act: under masks that say so they leave all words below the first free one, and all memories.
 use Rattle.std.proofs.Common.{◌≡◌, ◌≢◌, ℕ, zero, suc, ◌+◌, ◌<◌, ◌==◌, Bool, true, false, if◌then◌else◌, List, Option, Some, None, refl, ap, sym, ◌∙◌, arith, eq-eqb, eqb-true, ap₂, subst, true≢false}
-use Rattle.std.specs.Prelude.{bit_and, bit_xor, not, ◌&&◌}
-use Rattle.c_world.specs.Numbers.{flag, sum_of, difference_of}
+use Rattle.std.specs.Prelude.{bit_and, bit_xor, not, ◌&&◌, ◌||◌}
+use Rattle.c_world.specs.Numbers.{flag, is_true, sum_of, difference_of}
 use Rattle.c_world.specs.World.{World}
 use Rattle.sp_tree.specs.Plain.{PlainSp, constant, frame_word}
 use Rattle.sp_tree.specs.Statements.{PlainSpTarget, to_slot, PlainStmt, masks, writes, overruns, PlainStmts, no_stmt, stmt, one, joined}
@@ -12,9 +12,10 @@ use Rattle.sp_tree.proofs.Masks.{write_off, send_off, overrun_off, call_off}
 use Rattle.c_meaning.specs.Actions.{PlainTarget, to_level, PlainAssignment, PlainAction, sets, calls, transfers, chooses, turns, breaks, continues, returns, PlainActions, no_action, action, PlainBranches, no_branch, branch}
 use Rattle.c_meaning.specs.Actions as actions
 use Rattle.single_path.specs.declared.part_words.PartWords.{PartWords}
-use Rattle.single_path.specs.PartWords.{in_arm, in_loop, where_so, where_not_taken, where_not_returned, bit_of, not_zero, broken, continued, returned_function, returned_loop}
+use Rattle.single_path.specs.PartWords.{in_arm, in_loop, truth, where_so, where_not_taken, where_other, where_not_returned, bit_of, not_zero, broken, continued, returned_function, returned_loop}
 use Rattle.single_path.specs.PartWords as mask
-use Rattle.single_path.specs.Made.{made, made_action, made_branches, made_target, made_assignment, made_step, made_return, made_result, made_arm, made_otherwise, made_turn, made_loop, is_zero, is_no_branch, is_no_action, ends}
+use Rattle.single_path.specs.Made.{made, made_action, made_branches, made_target, made_assignment, made_step, made_return, made_result, made_arm, made_otherwise, made_on, made_after, made_behind, made_again, made_turn, made_loop, any_exit, by_continue, by_return, actions_exit, branches_exit, is_zero, is_no_branch, is_no_action, ends}
+use Rattle.single_path.proofs.Truths.{truth_worth}
 use Rattle.single_path.proofs.Frames.{put_here, Order, Still, still_here, still_on, fewer, set_behind, set_same, turns_still}
 
 -- a function under another mask than 1 changes no memory
@@ -282,56 +283,65 @@ pub again_still : (p : PartWords) (s : State) → Left p s → Still (p.free + 1
 again_still p s l = set_same (p.free + 1) p.free (worth (not_zero (frame_word p.free)) s) s (ap (λ a. flag (not (a == 0))) l.off ∙ sym l.off)
 
 pub tested_still : (p : PartWords) (condition : PlainSp) (s : State) → Left p s → Still (p.free + 1) s (with_slot p.free (worth (where_so p.free condition) s) s)
-tested_still p condition s l = set_same (p.free + 1) p.free (worth (where_so p.free condition) s) s (ap (λ a. bit_and a (worth (not_zero condition) s)) l.off ∙ sym l.off)
+tested_still p condition s l = set_same (p.free + 1) p.free (worth (where_so p.free condition) s) s (ap (λ a. bit_and a (worth (truth condition) s)) l.off ∙ sym l.off)
 
 -- the end of a turn
-pub ended_still : (g : Serves) (n : ℕ) (p : PartWords) (step : Option PlainAssignment) (s : State) → Order n p → Left p s
-    → Still (p.free + 1) s (stmts_done g (stmt (masks p.free (not_zero (frame_word p.free))) (made_step p.free step)) s)
-ended_still g n p step s o l =
+pub ended_still : (g : Serves) (n : ℕ) (p : PartWords) (exits : Bool) (step : Option PlainAssignment) (s : State) → Order n p → Left p s
+    → Still (p.free + 1) s (stmts_done g (joined (made_again p exits) (made_step p.free step)) s)
+ended_still g n p true step s o l =
     let t = with_slot p.free (worth (not_zero (frame_word p.free)) s) s in
     let again = again_still p s l in
     still_on (p.free + 1) s t (stmts_done g (made_step p.free step) t) again
     (step_still g (p.free + 1) p.free step t (left_off p t (left_on n p s t o again l)))
+ended_still g n p false step s o l = step_still g (p.free + 1) p.free step s (left_off p s l)
 
 -- a turn after its test
-pub behind_still : (g : Serves) (n : ℕ) (p : PartWords) (body : PlainStmts) (step : Option PlainAssignment) → Order n p
+pub behind_still : (g : Serves) (n : ℕ) (p : PartWords) (exits : Bool) (body : PlainStmts) (step : Option PlainAssignment) → Order n p
     → ((t : State) → Dead (in_loop p) t → Still (p.free + 1) t (stmts_done g body t)) → (s : State) → Left p s
-    → Still (p.free + 1) s (stmts_done g (joined body (stmt (masks p.free (not_zero (frame_word p.free))) (made_step p.free step))) s)
-behind_still g n p body step o each s l =
+    → Still (p.free + 1) s (stmts_done g (joined body (joined (made_again p exits) (made_step p.free step))) s)
+behind_still g n p exits body step o each s l =
     let turned = each s l.dead in
-    joined_still g (p.free + 1) body (stmt (masks p.free (not_zero (frame_word p.free))) (made_step p.free step)) s turned
-    (ended_still g n p step (stmts_done g body s) o (left_on n p s (stmts_done g body s) o turned l))
+    joined_still g (p.free + 1) body (joined (made_again p exits) (made_step p.free step)) s turned
+    (ended_still g n p exits step (stmts_done g body s) o (left_on n p s (stmts_done g body s) o turned l))
 
-turn_still : (g : Serves) (n : ℕ) (p : PartWords) (condition : PlainSp) (body : PlainStmts) (step : Option PlainAssignment) → Order n p
+turn_still : (g : Serves) (n : ℕ) (p : PartWords) (condition : PlainSp) (exits : Bool) (body : PlainStmts) (step : Option PlainAssignment) → Order n p
     → ((t : State) → Dead (in_loop p) t → Still (p.free + 1) t (stmts_done g body t))
-    → (s : State) → Left p s → Still (p.free + 1) s (stmts_done g (made_turn p condition body step) s)
-turn_still g n p condition body step o each s l =
+    → (s : State) → Left p s → Still (p.free + 1) s (stmts_done g (made_turn p condition exits body step) s)
+turn_still g n p condition exits body step o each s l =
     let t = with_slot p.free (worth (where_so p.free condition) s) s in
     let tested = tested_still p condition s l in
-    still_on (p.free + 1) s t (stmts_done g (joined body (stmt (masks p.free (not_zero (frame_word p.free))) (made_step p.free step))) t) tested
-    (behind_still g n p body step o each t (left_on n p s t o tested l))
+    still_on (p.free + 1) s t (stmts_done g (joined body (joined (made_again p exits) (made_step p.free step))) t) tested
+    (behind_still g n p exits body step o each t (left_on n p s t o tested l))
 
-pub turns_left : (g : Serves) (n : ℕ) (p : PartWords) (condition : PlainSp) (body : PlainStmts) (step : Option PlainAssignment) → Order n p
+pub turns_left : (g : Serves) (n : ℕ) (p : PartWords) (condition : PlainSp) (exits : Bool) (body : PlainStmts) (step : Option PlainAssignment) → Order n p
     → ((t : State) → Dead (in_loop p) t → Still (p.free + 1) t (stmts_done g body t))
-    → (k : ℕ) (s : State) → Left p s → Still (p.free + 1) s (times k (stmts_done g (made_turn p condition body step)) s)
-turns_left g n p condition body step o each k s l =
-    turns_still (p.free + 1) (stmts_done g (made_turn p condition body step)) (Left p)
-    (λ t h. turn_still g n p condition body step o each t h)
-    (λ t h. left_on n p t (stmts_done g (made_turn p condition body step) t) o (turn_still g n p condition body step o each t h) h) k s l
+    → (k : ℕ) (s : State) → Left p s → Still (p.free + 1) s (times k (stmts_done g (made_turn p condition exits body step)) s)
+turns_left g n p condition exits body step o each k s l =
+    turns_still (p.free + 1) (stmts_done g (made_turn p condition exits body step)) (Left p)
+    (λ t h. turn_still g n p condition exits body step o each t h)
+    (λ t h. left_on n p t (stmts_done g (made_turn p condition exits body step) t) o (turn_still g n p condition exits body step o each t h) h) k s l
 
 -- so many turns, and the flag after them
-pub flagged_still : (g : Serves) (n : ℕ) (p : PartWords) (condition : PlainSp) (body : PlainStmts) (step : Option PlainAssignment) → Order n p
+pub flagged_still : (g : Serves) (n : ℕ) (p : PartWords) (condition : PlainSp) (exits : Bool) (body : PlainStmts) (step : Option PlainAssignment) → Order n p
     → ((t : State) → Dead (in_loop p) t → Still (p.free + 1) t (stmts_done g body t)) → (k : ℕ) (s : State) → Left p s
-    → Still p.free s (stmt_done g (overruns p.free condition) (times k (stmts_done g (made_turn p condition body step)) s))
-flagged_still g n p condition body step o each k s l =
-    let t = times k (stmts_done g (made_turn p condition body step)) s in
-    let turned = turns_left g n p condition body step o each k s l in
+    → Still p.free s (stmt_done g (overruns p.free condition) (times k (stmts_done g (made_turn p condition exits body step)) s))
+flagged_still g n p condition exits body step o each k s l =
+    let t = times k (stmts_done g (made_turn p condition exits body step)) s in
+    let turned = turns_left g n p condition exits body step o each k s l in
     still_on p.free s t (stmt_done g (overruns p.free condition) t) (fewer (p.free + 1) p.free s t (omega arith) turned)
     (same_still p.free t (stmt_done g (overruns p.free condition) t) (overrun_off g p.free condition t (left_off p t (left_on n p s t o turned l))))
 
-on_still : (g : Serves) (p : PartWords) (s : State) → Dead p s → Still p.free s (stmts_done g (one (masks p.own (mask.where_on p))) s)
-on_still g p s d = set_same p.free p.own (worth (mask.where_on p) s) s
-    (ap₂ bit_and d.own d.loop ∙ idle_on d.own_word d.loop_word d.function_word d.idle ∙ sym d.own)
+on_still : (g : Serves) (p : PartWords) (s : State) → Dead p s → Still p.free s (stmts_done g (made_on p) s)
+on_still g p s d = by (p.own == p.turn)
+  where
+    by : (alone : Bool) → Still p.free s (stmts_done g (if alone then no_stmt else one (masks p.own (mask.where_on p))) s)
+    by true = still_here p.free s
+    by false = set_same p.free p.own (worth (mask.where_on p) s) s
+        (ap₂ bit_and d.own d.loop ∙ idle_on d.own_word d.loop_word d.function_word d.idle ∙ sym d.own)
+
+after_still : (g : Serves) (p : PartWords) (exits : Bool) (s : State) → Dead p s → Still p.free s (stmts_done g (made_after p exits) s)
+after_still g p true s d = on_still g p s d
+after_still g p false s d = still_here p.free s
 
 -- a loop begins where its part does not act
 pub loop_left : (n : ℕ) (p : PartWords) (s : State) → Order n p → Dead p s → Left p (with_slot p.free (worth (bit_of p.own) s) s)
@@ -341,25 +351,38 @@ loop_left n p s o d =
     put_here p.free (worth (bit_of p.own) s) s.frame ∙ ap (λ x. bit_and x 1) d.own ∙ idle_bit d.own_word d.loop_word d.function_word d.idle in
     record { dead = dead_loop n p s t o (set_behind p.free p.free (worth (bit_of p.own) s) s (omega arith)) off_there d; off = off_there }
 
--- after the turns the flag stands, and so do the masks
-loop_still : (g : Serves) (n : ℕ) (p : PartWords) (most : ℕ) (condition : PlainSp) (body : PlainStmts) (step : Option PlainAssignment) → Order n p
+-- after the turns the masks stand
+masked_still : (g : Serves) (n : ℕ) (p : PartWords) (exits : Bool) (s : State) → Order n p → Dead p s → Still p.free s (stmts_done g (made_behind p exits) s)
+masked_still g n p false s o d = still_here p.free s
+masked_still g n p true s o d =
+    joined_still g p.free (outer (p.function == p.turn)) (made_on p) s (repaired (p.function == p.turn))
+    (on_still g p u (still_dead n p s u o (repaired (p.function == p.turn)) d))
+  where
+    outer : Bool → PlainStmts
+    outer outside = if outside then no_stmt else one (masks p.turn (where_not_returned p))
+
+    u : State
+    u = stmts_done g (outer (p.function == p.turn)) s
+
+    repaired : (outside : Bool) → Still p.free s (stmts_done g (outer outside) s)
+    repaired true = still_here p.free s
+    repaired false = set_same p.free p.turn (worth (where_not_returned p) s) s
+        (ap₂ (λ b c. bit_and b (difference_of 0 c)) d.loop d.function
+        ∙ idle_not_returned d.own_word d.loop_word d.function_word d.idle ∙ sym d.loop)
+
+-- and so does the flag
+loop_still : (g : Serves) (n : ℕ) (p : PartWords) (most : ℕ) (condition : PlainSp) (returned exits : Bool) (body : PlainStmts) (step : Option PlainAssignment) → Order n p
     → ((t : State) → Dead (in_loop p) t → Still (p.free + 1) t (stmts_done g body t))
-    → (s : State) → Dead p s → Still p.free s (stmts_done g (made_loop p most condition (made_turn p condition body step)) s)
-loop_still g n p zero condition body step o each s d =
+    → (s : State) → Dead p s → Still p.free s (stmts_done g (made_loop p most condition returned (made_turn p condition exits body step)) s)
+loop_still g n p zero condition returned exits body step o each s d =
     same_still p.free s (stmt_done g (overruns p.own condition) s) (overrun_off g p.own condition s (off p s d))
-loop_still g n p (suc k) condition body step o each s d =
+loop_still g n p (suc k) condition returned exits body step o each s d =
     let t = with_slot p.free (worth (bit_of p.own) s) s in
     let begun = set_behind p.free p.free (worth (bit_of p.own) s) s (omega arith) in
     let left_there = loop_left n p s o d in
-    let v = stmt_done g (overruns p.free condition) (times (suc k) (stmts_done g (made_turn p condition body step)) t) in
-    let so_far = still_on p.free s t v begun (flagged_still g n p condition body step o each (suc k) t left_there) in
-    let w = with_slot p.turn (worth (where_not_returned p) v) v in
-    let d' = still_dead n p s v o so_far d in
-    let looped = set_same p.free p.turn (worth (where_not_returned p) v) v
-    (ap₂ (λ b c. bit_and b (difference_of 0 c)) d'.loop d'.function
-    ∙ idle_not_returned d'.own_word d'.loop_word d'.function_word d'.idle ∙ sym d'.loop) in
-    still_on p.free s v (stmts_done g (stmt (masks p.turn (where_not_returned p)) (one (masks p.own (mask.where_on p)))) v) so_far
-    (still_on p.free v w (stmts_done g (one (masks p.own (mask.where_on p))) w) looped (on_still g p w (still_dead n p v w o looped d')))
+    let v = stmt_done g (overruns p.free condition) (times (suc k) (stmts_done g (made_turn p condition exits body step)) t) in
+    let so_far = still_on p.free s t v begun (flagged_still g n p condition exits body step o each (suc k) t left_there) in
+    still_on p.free s v (stmts_done g (made_behind p returned) v) so_far (masked_still g n p returned v o (still_dead n p s v o so_far d))
 
 -- ---- arms
 
@@ -367,29 +390,39 @@ loop_still g n p (suc k) condition body step o each s d =
 pub arm_off : (p : PartWords) (condition : PlainSp) (s : State) → Dead p s → (with_slot p.free (worth (where_so p.own condition) s) s).frame p.free ≡ 0
 arm_off p condition s d =
     put_here p.free (worth (where_so p.own condition) s) s.frame
-    ∙ ap (λ a. bit_and a (flag (not (worth condition s == 0)))) d.own
-    ∙ idle_so d.own_word d.loop_word d.function_word d.idle (not (worth condition s == 0))
+    ∙ ap₂ bit_and d.own (truth_worth condition s)
+    ∙ idle_so d.own_word d.loop_word d.function_word d.idle (is_true (worth condition s))
 
-pub not_taken_still : (p : PartWords) (s : State) → Dead p s → s.frame p.free ≡ 0 → Still (p.free + 1) s (with_slot p.free (worth (where_not_taken p) s) s)
-not_taken_still p s d is = set_same (p.free + 1) p.free (worth (where_not_taken p) s) s
-    (ap₂ (λ b a. bit_and (bit_and b 1) (bit_xor a (s.frame p.free))) d.loop d.own
-    ∙ ap (λ f. bit_and (bit_and d.loop_word 1) (bit_xor d.own_word f)) is
-    ∙ idle_otherwise d.own_word d.loop_word d.function_word d.idle ∙ sym is)
+pub not_taken_still : (p : PartWords) (exits : Bool) (s : State) → Dead p s → s.frame p.free ≡ 0
+    → Still (p.free + 1) s (with_slot p.free (worth (if exits then where_not_taken p else where_other p) s) s)
+not_taken_still p exits s d is = set_same (p.free + 1) p.free (worth (if exits then where_not_taken p else where_other p) s) s (by exits)
+  where
+    own_off : (alone : Bool) → (p.own == p.turn) ≡ alone → worth (if alone then bit_of p.own else frame_word p.own) s ≡ 0
+    own_off true same = ap (λ a. bit_and a 1) d.own ∙ idle_bit d.own_word d.loop_word d.function_word d.idle
+    own_off false other =
+        d.own ∙ idle_apart d.own_word d.loop_word d.function_word d.idle (λ two. true≢false (sym (eq-eqb p.own p.turn (d.alone two)) ∙ other))
 
-otherwise_still : (g : Serves) (n : ℕ) (p : PartWords) (nothing : Bool) (rest : PlainStmts) → Order n p
+    by : (exits : Bool) → worth (if exits then where_not_taken p else where_other p) s ≡ s.frame p.free
+    by true =
+        ap₂ (λ b a. bit_and (bit_and b 1) (bit_xor a (s.frame p.free))) d.loop d.own
+        ∙ ap (λ f. bit_and (bit_and d.loop_word 1) (bit_xor d.own_word f)) is
+        ∙ idle_otherwise d.own_word d.loop_word d.function_word d.idle ∙ sym is
+    by false = ap₂ bit_xor (own_off (p.own == p.turn) refl) is ∙ sym is
+
+otherwise_still : (g : Serves) (n : ℕ) (p : PartWords) (exits nothing : Bool) (rest : PlainStmts) → Order n p
     → ((t : State) → Dead (in_arm p) t → Still (p.free + 1) t (stmts_done g rest t))
-    → (s : State) → Dead p s → Dead (in_arm p) s → s.frame p.free ≡ 0 → Still (p.free + 1) s (stmts_done g (made_otherwise p nothing rest) s)
-otherwise_still g n p true rest o each s d inner is = still_here (p.free + 1) s
-otherwise_still g n p false rest o each s d inner is =
-    let t = with_slot p.free (worth (where_not_taken p) s) s in
-    let tested = not_taken_still p s d is in
+    → (s : State) → Dead p s → Dead (in_arm p) s → s.frame p.free ≡ 0 → Still (p.free + 1) s (stmts_done g (made_otherwise p exits nothing rest) s)
+otherwise_still g n p exits true rest o each s d inner is = still_here (p.free + 1) s
+otherwise_still g n p exits false rest o each s d inner is =
+    let t = with_slot p.free (worth (if exits then where_not_taken p else where_other p) s) s in
+    let tested = not_taken_still p exits s d is in
     still_on (p.free + 1) s t (stmts_done g rest t) tested (each t (still_dead n (in_arm p) s t (order_arm n p o) tested inner))
 
-arm_still : (g : Serves) (n : ℕ) (p : PartWords) (condition : PlainSp) (arm : PlainStmts) (nothing : Bool) (rest : PlainStmts) → Order n p
+arm_still : (g : Serves) (n : ℕ) (p : PartWords) (condition : PlainSp) (arm : PlainStmts) (exits nothing : Bool) (rest : PlainStmts) → Order n p
     → ((t : State) → Dead (in_arm p) t → Still (p.free + 1) t (stmts_done g arm t))
     → ((t : State) → Dead (in_arm p) t → Still (p.free + 1) t (stmts_done g rest t))
-    → (s : State) → Dead p s → Still p.free s (stmts_done g (made_arm p condition arm (made_otherwise p nothing rest)) s)
-arm_still g n p condition arm nothing rest o inside behind s d =
+    → (s : State) → Dead p s → Still p.free s (stmts_done g (made_arm p condition arm (made_otherwise p exits nothing rest)) s)
+arm_still g n p condition arm exits nothing rest o inside behind s d =
     let t = with_slot p.free (worth (where_so p.own condition) s) s in
     let begun = set_behind p.free p.free (worth (where_so p.own condition) s) s (omega arith) in
     let off_there = arm_off p condition s d in
@@ -397,11 +430,11 @@ arm_still g n p condition arm nothing rest o inside behind s d =
     let u = stmts_done g arm t in
     let taken = inside t inner in
     let so_far = still_on p.free s t u begun (fewer (p.free + 1) p.free t u (omega arith) taken) in
-    let others = otherwise_still g n p nothing rest o behind u (still_dead n p s u o so_far d)
+    let others = otherwise_still g n p exits nothing rest o behind u (still_dead n p s u o so_far d)
     (still_dead n (in_arm p) t u (order_arm n p o) taken inner) (taken.frame p.free (omega arith) ∙ off_there) in
-    still_on p.free s t (stmts_done g (joined arm (made_otherwise p nothing rest)) t) begun
-    (fewer (p.free + 1) p.free t (stmts_done g (joined arm (made_otherwise p nothing rest)) t) (omega arith)
-    (joined_still g (p.free + 1) arm (made_otherwise p nothing rest) t taken others))
+    still_on p.free s t (stmts_done g (joined arm (made_otherwise p exits nothing rest)) t) begun
+    (fewer (p.free + 1) p.free t (stmts_done g (joined arm (made_otherwise p exits nothing rest)) t) (omega arith)
+    (joined_still g (p.free + 1) arm (made_otherwise p exits nothing rest) t taken others))
 
 -- ---- all actions
 
@@ -421,10 +454,11 @@ mutual
   dead_action g quiet n (chooses branches otherwise) p s o d =
       let arms = made_branches p branches (is_no_action otherwise) (λ q. made q otherwise) in
       let chosen = dead_branches g quiet n branches (is_no_action otherwise) (λ q. made q otherwise) (λ q t. dead g quiet n otherwise q t) p s o d in
-      joined_still g p.free arms (one (masks p.own (mask.where_on p))) s chosen
-      (on_still g p (stmts_done g arms s) (still_dead n p s (stmts_done g arms s) o chosen d))
+      let exits = branches_exit any_exit branches || actions_exit any_exit otherwise in
+      joined_still g p.free arms (made_after p exits) s chosen
+      (after_still g p exits (stmts_done g arms s) (still_dead n p s (stmts_done g arms s) o chosen d))
   dead_action g quiet n (turns most condition body step) p s o d =
-      loop_still g n p most condition (made (in_loop p) body) step o (λ t. dead g quiet n body (in_loop p) t (order_loop n p o)) s d
+      loop_still g n p most condition (actions_exit by_return body) (actions_exit by_continue body) (made (in_loop p) body) step o (λ t. dead g quiet n body (in_loop p) t (order_loop n p o)) s d
   dead_action g quiet n breaks p s o d = set_same p.free p.turn (worth (broken p) s) s
       (ap₂ (λ b a. difference_of b (bit_and a 1)) d.loop d.own ∙ idle_broken d.own_word d.loop_word d.function_word d.idle ∙ sym d.loop)
   dead_action g quiet n continues p s o d = set_same p.free p.turn (worth (continued p) s) s
@@ -449,6 +483,6 @@ mutual
       → (p : PartWords) (s : State) → Order n p → Dead p s → Still p.free s (stmts_done g (made_branches p bs nothing otherwise) s)
   dead_branches g quiet n no_branch nothing otherwise each p s o d = each p s o d
   dead_branches g quiet n (branch condition body rest) nothing otherwise each p s o d =
-      arm_still g n p condition (made (in_arm p) body) (is_no_branch rest && nothing) (made_branches (in_arm p) rest nothing otherwise) o
+      arm_still g n p condition (made (in_arm p) body) (actions_exit any_exit body) (is_no_branch rest && nothing) (made_branches (in_arm p) rest nothing otherwise) o
       (λ t. dead g quiet n body (in_arm p) t (order_arm n p o))
       (λ t. dead_branches g quiet n rest nothing otherwise each (in_arm p) t (order_arm n p o)) s d

@@ -1,7 +1,6 @@
 -- Ways on that are taken, and the masks that are repaired after arms and loops.
 use Rattle.std.proofs.Common.{◌≡◌, ◌≢◌, ℕ, ◌<◌, ◌≤◌, ◌==◌, Bool, true, false, if◌then◌else◌, refl, ap, sym, ◌∙◌, arith, eq-eqb, eqb-true, ap₂, subst, true≢false, ◌⊎◌, inl, inr}
 use Rattle.std.specs.Prelude.{bit_and}
-use Rattle.std.proofs.lemmas.Bool.{cases_eq}
 use Rattle.c_world.specs.Numbers.{sum_of, difference_of}
 use Rattle.sp_tree.specs.Plain.{PlainSp, constant, frame_word, cell_word, array_word, before_one, between_two}
 use Rattle.sp_tree.specs.Statements.{to_slot, masks, writes, no_stmt, stmt, one}
@@ -17,12 +16,12 @@ use Rattle.c_meaning.specs.Values as values
 use Rattle.single_path.specs.declared.part_words.PartWords.{PartWords}
 use Rattle.single_path.specs.PartWords.{in_arm, in_loop, where_so, where_not_taken, where_not_returned, bit_of, not_zero, broken, continued, returned_function, returned_loop}
 use Rattle.single_path.specs.PartWords as mask
-use Rattle.single_path.specs.Made.{made_action, made_result, is_zero, ends}
+use Rattle.single_path.specs.Made.{made_action, made_result, made_on, made_after, is_zero, ends}
 use Rattle.single_path.specs.Widths.{expr_words}
-use Rattle.single_path.proofs.Frames.{put_here, put_there, Order, set_behind, set_same}
+use Rattle.single_path.proofs.Frames.{put_here, put_there, Order, set_behind}
 use Rattle.single_path.proofs.Idle.{Idle, left, waits, skips, gone}
 use Rattle.single_path.proofs.Agreeing.{Agrees, still_agrees, worth_same}
-use Rattle.single_path.proofs.Ways.{Acted, Live, Went, function_of, loop_of, own_of, went_still}
+use Rattle.single_path.proofs.Ways.{Acted, Live, Went, function_of, loop_of, own_of}
 
 -- ---- ways on that are taken
 
@@ -175,12 +174,6 @@ repaired way.Continued own (inr is) = ap (λ a. bit_and a 2) is.0
 repaired (way.Returned v) own (inl is) = ap (λ a. bit_and a 0) is
 repaired (way.Returned v) own (inr is) = ap (λ a. bit_and a 0) is.0
 
-loop_itself : (w : Way) → bit_and (loop_of w) (loop_of w) ≡ loop_of w
-loop_itself way.On = refl
-loop_itself way.Broken = refl
-loop_itself way.Continued = refl
-loop_itself (way.Returned v) = refl
-
 -- the masks of an idle part after each way but on
 idle_apart : (w : Way) → w ≢ way.On → Idle (own_of w) (loop_of w) (function_of w)
 idle_apart way.On other = absurd (other refl)
@@ -206,9 +199,17 @@ own_small way.Broken = omega arith
 own_small way.Continued = omega arith
 own_small (way.Returned v) = omega arith
 
+-- what does not go elsewhere leaves masks that stand
+pub stays_acted : (a : PlainAction) (n : ℕ) (p : PartWords) (s : State) (d : Done) (t : State) → ends a ≡ false → d.way ≡ way.On → Went n p s d t → Acted a n p s d t
+stays_acted a n p s d t stays on h = record {
+  went = h;
+  ended = λ is. absurd (true≢false (sym is ∙ stays));
+  idle = λ is other. absurd (other on);
+}
+
 pub on_acted : (a : PlainAction) (g : Serves) (n : ℕ) (p : PartWords) (s : State) (d : Done) (t : State) → ends a ≡ false → Order n p → Went n p s d t
-    → Acted a n p s d (stmts_done g (one (masks p.own (mask.where_on p))) t)
-on_acted a g n p s d t stays o h = by (cases_eq p.own p.turn)
+    → Acted a n p s d (stmts_done g (made_on p) t)
+on_acted a g n p s d t stays o h = by (p.own == p.turn) refl
   where
     v : ℕ
     v = bit_and (t.frame p.own) (t.frame p.turn)
@@ -219,43 +220,37 @@ on_acted a g n p s d t stays o h = by (cases_eq p.own p.turn)
     there : (x : ℕ) → x ≢ p.own → u.frame x ≡ t.frame x
     there x other = put_there p.own v x t.frame (λ e. other (sym e))
 
-    same : Agrees n u d.state
-    same = still_agrees n p.own t u d.state (omega (arith, o.result, o.function, o.loop, o.own)) (set_behind p.own p.own v t (omega arith)) h.same
-
-    by : (p.own ≡ p.turn) ⊎ (p.own ≢ p.turn) → Acted a n p s d u
-    by (inl alone) =
-        let word : v ≡ t.frame p.own = ap₂ bit_and (ap t.frame alone ∙ h.loop) h.loop ∙ loop_itself d.way ∙ sym h.loop ∙ ap t.frame (sym alone) in
-        let still = set_same p.free p.own v t word in
-        let went = went_still n p s d t u o h still in
-        record {
-          went = went;
-          ended = λ is. absurd (true≢false (sym is ∙ stays));
-          idle = λ is other. record {
-            own_word = loop_of d.way;
-            loop_word = loop_of d.way;
-            function_word = function_of d.way;
-            idle = idle_alone d.way other;
-            own = ap u.frame alone ∙ went.loop;
-            loop = went.loop;
-            function = went.function;
-            alone = λ two. alone;
-          };
-        }
-    by (inr apart) =
+    by : (alone : Bool) → (p.own == p.turn) ≡ alone → Acted a n p s d (stmts_done g (if alone then no_stmt else one (masks p.own (mask.where_on p))) t)
+    by true is = let alone = eqb-true p.own p.turn is in record {
+      went = h;
+      ended = λ ended. absurd (true≢false (sym ended ∙ stays));
+      idle = λ ended other. record {
+        own_word = loop_of d.way;
+        loop_word = loop_of d.way;
+        function_word = function_of d.way;
+        idle = idle_alone d.way other;
+        own = ap t.frame alone ∙ h.loop;
+        loop = h.loop;
+        function = h.function;
+        alone = λ two. alone;
+      };
+    }
+    by false is =
+        let apart : p.own ≢ p.turn = λ e. true≢false (sym (eq-eqb p.own p.turn e) ∙ is) in
         let own : u.frame p.own ≡ own_of d.way = put_here p.own v t.frame ∙ ap (bit_and (t.frame p.own)) h.loop ∙ repaired d.way (t.frame p.own) (h.own apart) in
         let loop : u.frame p.turn ≡ loop_of d.way = there p.turn (λ e. apart (sym e)) ∙ h.loop in
         let function : u.frame p.function ≡ function_of d.way = there p.function (λ e. apart (omega (arith, o.loop, o.own, e))) ∙ h.function in
         record {
           went = record {
-            same = same;
+            same = still_agrees n p.own t u d.state (omega (arith, o.result, o.function, o.loop, o.own)) (set_behind p.own p.own v t (omega arith)) h.same;
             result = there p.result (omega (arith, o.function, o.loop, o.own)) ∙ h.result;
             function = function;
             loop = loop;
             own = λ other. subst (λ x. (x ≡ 1) ⊎ ((x ≡ 0) × (d.way ≢ way.On))) (sym own) (own_word d.way);
             others = λ x behind below r f q w. there x w ∙ h.others x behind below r f q w;
           };
-          ended = λ is. absurd (true≢false (sym is ∙ stays));
-          idle = λ is other. record {
+          ended = λ ended. absurd (true≢false (sym ended ∙ stays));
+          idle = λ ended other. record {
             own_word = own_of d.way;
             loop_word = loop_of d.way;
             function_word = function_of d.way;
@@ -266,3 +261,9 @@ on_acted a g n p s d t stays o h = by (cases_eq p.own p.turn)
             alone = λ two. absurd (own_small d.way two);
           };
         }
+
+-- after arms, where they go elsewhere only if one may
+pub after_acted : (a : PlainAction) (g : Serves) (n : ℕ) (p : PartWords) (s : State) (d : Done) (t : State) (exits : Bool) → ends a ≡ false → Order n p
+    → (exits ≡ false → d.way ≡ way.On) → Went n p s d t → Acted a n p s d (stmts_done g (made_after p exits) t)
+after_acted a g n p s d t true stays o on h = on_acted a g n p s d t stays o h
+after_acted a g n p s d t false stays o on h = stays_acted a n p s d t stays (on refl) h

@@ -1,4 +1,6 @@
 pub mod Frames
+pub mod Truths
+pub mod Exiting
 pub mod Idle
 pub mod Resting
 pub mod Fits

@@ -1,14 +1,14 @@
 -- Loops that act: turn by turn, up to their bound.
-use Rattle.std.proofs.Common.{◌≡◌, ◌≢◌, ℕ, zero, suc, ◌+◌, ◌<◌, ◌≤◌, ◌==◌, Bool, true, false, Option, refl, ap, sym, ◌∙◌, arith, eq-eqb, ap₂, subst, ◌⊎◌, inl, inr}
+use Rattle.std.proofs.Common.{◌≡◌, ◌≢◌, ℕ, zero, suc, ◌+◌, ◌<◌, ◌≤◌, ◌==◌, Bool, true, false, Option, refl, ap, sym, ◌∙◌, arith, eq-eqb, eqb-true, true≢false, if◌then◌else◌, ap₂, subst, ◌⊎◌, inl, inr}
 use Rattle.std.specs.Prelude.{bit_and, not}
 use Rattle.std.proofs.lemmas.Bool.{cases_eq}
 use Rattle.c_world.specs.Numbers.{flag, is_true, difference_of}
 use Rattle.c_world.specs.World.{with_overrun}
 use Rattle.sp_tree.specs.Plain.{PlainSp, frame_word}
-use Rattle.sp_tree.specs.Statements.{masks, overruns, PlainStmts, stmt}
+use Rattle.sp_tree.specs.Statements.{masks, overruns, PlainStmts, no_stmt, one, joined}
 use Rattle.sp_tree.specs.Straight.{State, Serves, with_slot, in_world, overrun_done, worth, times, stmt_done, stmts_done}
 use Rattle.sp_tree.proofs.Joins.{joined_done}
-use Rattle.sp_tree.proofs.Runs.{on}
+use Rattle.sp_tree.proofs.Runs.{on as on_mask}
 use Rattle.c_meaning.specs.Actions.{PlainAssignment, PlainAction}
 use Rattle.c_meaning.specs.declared.ways.Way.{Way}
 use Rattle.c_meaning.specs.declared.ways.Way.TheVariants as way
@@ -18,13 +18,13 @@ use Rattle.c_meaning.specs.Resolved as resolved
 use Rattle.c_meaning.specs.Values as values
 use Rattle.single_path.specs.declared.part_words.PartWords.{PartWords}
 use Rattle.single_path.specs.PartWords.{in_loop, where_so, where_not_returned, bit_of, not_zero}
-use Rattle.single_path.specs.Made.{made_step, made_turn, made_loop, ends}
+use Rattle.single_path.specs.Made.{made_step, made_again, made_on, made_behind, made_turn, made_loop, ends}
 use Rattle.single_path.specs.Widths.{expr_words, step_words}
-use Rattle.single_path.proofs.Frames.{put_here, put_there, Order, Still, still_on, fewer, set_behind}
+use Rattle.single_path.proofs.Frames.{put_here, put_there, Order, Still, still_here, still_on, fewer, set_behind}
 use Rattle.single_path.proofs.Idle.{Idle, left, gone, Dead, Left, order_loop, still_dead, behind_still, ended_still, flagged_still}
 use Rattle.single_path.proofs.Agreeing.{Agrees, step_set, still_agrees, worth_same}
 use Rattle.single_path.proofs.Ways.{Acted, Live, Went, function_of, loop_of, low_acted}
-use Rattle.single_path.proofs.Leaving.{on_acted}
+use Rattle.single_path.proofs.Leaving.{on_acted, stays_acted}
 use Rattle.single_path.proofs.Arming.{tested}
 
 -- after the turns of a loop and its flag: the loop has ended, and its part goes on or the function has returned; the masks
@@ -81,7 +81,7 @@ no_turn : (g : Serves) (n : ℕ) (p : PartWords) (condition : PlainSp) (s : Stat
     → Turned n p s (goes_on (meaning.in_world l (with_overrun (resolved.holds condition l) l.world))) (stmt_done g (overruns p.free condition) s)
 no_turn g n p condition s l live h within =
     let flagged : stmt_done g (overruns p.free condition) s ≡ in_world s (with_overrun (resolved.holds condition l) l.world) =
-    on p.free (overrun_done condition) s (eq-eqb (s.frame p.free) 1 live.own)
+    on_mask p.free (overrun_done condition) s (eq-eqb (s.frame p.free) 1 live.own)
     ∙ ap₂ (λ a w. in_world s (with_overrun (is_true a) w)) (worth_same n condition s l h within) h.world in
     subst (λ u. Turned n p s (goes_on (meaning.in_world l (with_overrun (resolved.holds condition l) l.world))) u) (sym flagged) (record {
       same = record { locals = h.locals; world = refl };
@@ -91,13 +91,13 @@ no_turn g n p condition s l live h within =
       others = λ x behind below r f. refl;
     })
 
-turned : (g : Serves) (n : ℕ) (p : PartWords) (condition : PlainSp) (body : PlainStmts) (step : Option PlainAssignment) (meant : values.State → Done)
-    → Order n p → expr_words condition ≤ n → step_words step ≤ n → Body g n p body meant → (k : ℕ) (s : State) (l : values.State) → Live (in_loop p) s → Agrees n s l
+turned : (g : Serves) (n : ℕ) (p : PartWords) (condition : PlainSp) (exits : Bool) (body : PlainStmts) (step : Option PlainAssignment) (meant : values.State → Done)
+    → (exits ≡ false → (m : values.State) → (meant m).way ≢ way.Continued) → Order n p → expr_words condition ≤ n → step_words step ≤ n → Body g n p body meant → (k : ℕ) (s : State) (l : values.State) → Live (in_loop p) s → Agrees n s l
     → Turned n p s (turns_done (resolved.holds condition) meant (resolved.step_done step) k l)
-    (stmt_done g (overruns p.free condition) (times k (stmts_done g (made_turn p condition body step)) s))
-turned g n p condition body step meant o within step_within b zero s l live h = no_turn g n p condition s l live h within
-turned g n p condition body step meant o within step_within b (suc k) s l live h =
-    tests (λ x m. turned g n p condition body step meant o within step_within b k x m) (resolved.holds condition l) refl
+    (stmt_done g (overruns p.free condition) (times k (stmts_done g (made_turn p condition exits body step)) s))
+turned g n p condition exits body step meant once o within step_within b zero s l live h = no_turn g n p condition s l live h within
+turned g n p condition exits body step meant once o within step_within b (suc k) s l live h =
+    tests (λ x m. turned g n p condition exits body step meant once o within step_within b k x m) (resolved.holds condition l) refl
   where
     t : State
     t = with_slot p.free (worth (where_so p.free condition) s) s
@@ -116,10 +116,10 @@ turned g n p condition body step meant o within step_within b (suc k) s l live h
     agrees = still_agrees n p.free s t l (omega (arith, o.result, o.function, o.loop, o.own, o.free)) begun h
 
     turn : State → State
-    turn = stmts_done g (made_turn p condition body step)
+    turn = stmts_done g (made_turn p condition exits body step)
 
     end_of_turn : PlainStmts
-    end_of_turn = stmt (masks p.free (not_zero (frame_word p.free))) (made_step p.free step)
+    end_of_turn = joined (made_again p exits) (made_step p.free step)
 
     more : values.State → Done
     more = turns_done (resolved.holds condition) meant (resolved.step_done step) k
@@ -136,9 +136,9 @@ turned g n p condition body step meant o within step_within b (suc k) s l live h
     over w m went is idle =
         let off_there = left_there n p t w m u is idle went in
         let v = stmts_done g end_of_turn u in
-        let ended = ended_still g n p step u o off_there in
+        let ended = ended_still g n p exits step u o off_there in
         still_on p.free u v (ends_as v) (fewer (p.free + 1) p.free u v (omega arith) ended)
-        (flagged_still g n p condition body step o b.idles k v (record {
+        (flagged_still g n p condition exits body step o b.idles k v (record {
           dead = still_dead n (in_loop p) u v (order_loop n p o) ended off_there.dead;
           off = ended.frame p.free (omega arith) ∙ off_there.off;
         }))
@@ -151,14 +151,11 @@ turned g n p condition body step meant o within step_within b (suc k) s l live h
     Rest : Type 0
     Rest = (x : State) (m : values.State) → Live (in_loop p) x → Agrees n x m → Turned n p x (more m) (ends_as x)
 
-    -- the next turn comes
-    goes_further : Rest → (w : Way) (m : values.State) → Went n (in_loop p) t (record { way = w; state = m }) u → not (loop_of w == 0) ≡ true → function_of w ≡ 1
-        → way_value w ≡ 0 → Turned n p s (more (resolved.step_done step m)) (ends_as (stmts_done g end_of_turn u))
-    goes_further further w m went is function value =
-        let v = with_slot p.free (worth (not_zero (frame_word p.free)) u) u in
-        let again = set_behind p.free p.free (worth (not_zero (frame_word p.free)) u) u (omega arith) in
-        let one_there : v.frame p.free ≡ 1 = put_here p.free (worth (not_zero (frame_word p.free)) u) u.frame
-        ∙ ap (λ a. flag (not (a == 0))) went.loop ∙ ap flag is in
+    -- the next turn comes, from where the loop's mask is 1
+    goes_further : Rest → (w : Way) (m : values.State) → Went n (in_loop p) t (record { way = w; state = m }) u → function_of w ≡ 1
+        → way_value w ≡ 0 → (v : State) → Still p.free u v → v.frame p.free ≡ 1
+        → Turned n p s (more (resolved.step_done step m)) (ends_as (stmts_done g (made_step p.free step) v))
+    goes_further further w m went function value v again one_there =
         let stepped = step_set g n p.free step v m one_there (still_agrees n p.free u v m (omega (arith, o.result, o.function, o.loop, o.own, o.free)) again went.same) step_within in
         let x = stmts_done g (made_step p.free step) v in
         let live_there : Live (in_loop p) x = record {
@@ -172,18 +169,29 @@ turned g n p condition body step meant o within step_within b (suc k) s l live h
         (λ y behind below r f. stepped.others y behind ∙ again.frame y below ∙ below_u (record { way = w; state = m }) went y behind below r f)
         (further x (resolved.step_done step m) live_there stepped.agrees)
 
-    by_way : Rest → (w : Way) (m : values.State) → Went n (in_loop p) t (record { way = w; state = m }) u
+    -- its mask is set to 1 where it may be 2
+    again_further : Rest → (w : Way) (m : values.State) → Went n (in_loop p) t (record { way = w; state = m }) u → not (loop_of w == 0) ≡ true → function_of w ≡ 1
+        → way_value w ≡ 0 → (again : Bool) → (again ≡ false → loop_of w ≡ 1)
+        → Turned n p s (more (resolved.step_done step m)) (ends_as (stmts_done g (joined (made_again p again) (made_step p.free step)) u))
+    again_further further w m went is function value true one_word =
+        let v = with_slot p.free (worth (not_zero (frame_word p.free)) u) u in
+        goes_further further w m went function value v (set_behind p.free p.free (worth (not_zero (frame_word p.free)) u) u (omega arith))
+        (put_here p.free (worth (not_zero (frame_word p.free)) u) u.frame ∙ ap (λ a. flag (not (a == 0))) went.loop ∙ ap flag is)
+    again_further further w m went is function value false one_word =
+        goes_further further w m went function value u (still_here p.free u) (went.loop ∙ one_word refl)
+
+    by_way : Rest → (w : Way) (m : values.State) → (exits ≡ false → w ≢ way.Continued) → Went n (in_loop p) t (record { way = w; state = m }) u
         → Turned n p s (turn_done more (resolved.step_done step) (record { way = w; state = m })) (ends_as (stmts_done g end_of_turn u))
-    by_way further way.On m went = goes_further further way.On m went refl refl refl
-    by_way further way.Continued m went = goes_further further way.Continued m went refl refl refl
-    by_way further way.Broken m went = turned_still n p s (goes_on m) u (ends_as (stmts_done g end_of_turn u)) o (record {
+    by_way further way.On m not_again went = again_further further way.On m went refl refl refl exits (λ none. refl)
+    by_way further way.Continued m not_again went = again_further further way.Continued m went refl refl refl exits (λ none. absurd (not_again none refl))
+    by_way further way.Broken m not_again went = turned_still n p s (goes_on m) u (ends_as (stmts_done g end_of_turn u)) o (record {
       same = went.same;
       result = went.result;
       function = went.function;
       settled = refl;
       others = below_u (record { way = way.Broken; state = m }) went;
     }) (over way.Broken m went refl left)
-    by_way further (way.Returned v) m went = turned_still n p s (record { way = way.Returned v; state = m }) u (ends_as (stmts_done g end_of_turn u)) o (record {
+    by_way further (way.Returned v) m not_again went = turned_still n p s (record { way = way.Returned v; state = m }) u (ends_as (stmts_done g end_of_turn u)) o (record {
       same = went.same;
       result = went.result;
       function = went.function;
@@ -201,7 +209,7 @@ turned g n p condition body step meant o within step_within b (suc k) s l live h
           result = begun.frame p.result (omega (arith, o.function, o.loop, o.own, o.free)) ∙ live.result;
         } in
         subst (λ v. Turned n p s (turn_done more (resolved.step_done step) (meant l)) (ends_as v)) (sym (joined_done g body end_of_turn t))
-        (by_way further (meant l).way (meant l).state (b.acts t l live_there agrees))
+        (by_way further (meant l).way (meant l).state (λ none. once none l) (b.acts t l live_there agrees))
     tests further false is =
         let off_there : Left p t = record {
           dead = record {
@@ -217,7 +225,7 @@ turned g n p condition body step meant o within step_within b (suc k) s l live h
           off = test_word false is;
         } in
         let v = turn s in
-        let turned_by = behind_still g n p body step o b.idles t off_there in
+        let turned_by = behind_still g n p exits body step o b.idles t off_there in
         let so_far = still_on p.free s t v begun (fewer (p.free + 1) p.free t v (omega arith) turned_by) in
         turned_still n p s (goes_on l) v (ends_as v) o (record {
           same = still_agrees n p.free s v l (omega (arith, o.result, o.function, o.loop, o.own, o.free)) so_far h;
@@ -226,33 +234,37 @@ turned g n p condition body step meant o within step_within b (suc k) s l live h
           settled = refl;
           others = λ x behind below r f. so_far.frame x below;
         })
-        (flagged_still g n p condition body step o b.idles k v (record {
+        (flagged_still g n p condition exits body step o b.idles k v (record {
           dead = still_dead n (in_loop p) t v (order_loop n p o) turned_by off_there.dead;
           off = turned_by.frame p.free (omega arith) ∙ off_there.off;
         }))
 
 -- after a loop its part's masks are repaired
-behind_loop : (n : ℕ) (p : PartWords) (s : State) (d : Done) (u : State) → Order n p → Live p s → Turned n p s d u
-    → Went n p s d (with_slot p.turn (worth (where_not_returned p) u) u)
-behind_loop n p s d u o live h = by (cases_eq p.function p.turn)
+behind_loop : (a : PlainAction) (g : Serves) (n : ℕ) (p : PartWords) (returned : Bool) (s : State) (d : Done) (u : State) → ends a ≡ false
+    → (returned ≡ false → d.way ≡ way.On) → Order n p → Live p s → Turned n p s d u → Acted a n p s d (stmts_done g (made_behind p returned) u)
+behind_loop a g n p returned s d u stays on o live h = by returned on
   where
-    v : ℕ
-    v = worth (where_not_returned p) u
+    own : p.own ≢ p.turn → u.frame p.own ≡ 1
+    own apart = h.others p.own (omega (arith, o.result, o.function, o.loop, o.own)) o.free (omega (arith, o.function, o.loop, o.own))
+        (λ e. apart (omega (arith, o.loop, o.own, e))) ∙ live.own
 
-    there : (x : ℕ) → x ≢ p.turn → (with_slot p.turn v u).frame x ≡ u.frame x
-    there x other = put_there p.turn v x u.frame (λ e. other (sym e))
+    loop_word : p.function ≢ p.turn → u.frame p.turn ≡ 1
+    loop_word nested = h.others p.turn (omega (arith, o.result, o.function, o.loop)) (omega (arith, o.own, o.free))
+        (omega (arith, o.function, o.loop)) (λ e. nested (sym e)) ∙ live.loop
 
-    same : Agrees n (with_slot p.turn v u) d.state
-    same = still_agrees n p.turn u (with_slot p.turn v u) d.state (omega (arith, o.result, o.function, o.loop)) (set_behind p.turn p.turn v u (omega arith)) h.same
+    -- where the loop's mask stands
+    went : u.frame p.turn ≡ loop_of d.way → Went n p s d u
+    went loop = record {
+      same = h.same;
+      result = h.result;
+      function = h.function;
+      loop = loop;
+      own = λ apart. inl (own apart);
+      others = λ x behind below r f q w. h.others x behind below r f;
+    }
 
-    result : (with_slot p.turn v u).frame p.result ≡ way_value d.way
-    result = there p.result (omega (arith, o.function, o.loop)) ∙ h.result
-
-    word_of : (w : Way) → bit_and (function_of w) (difference_of 0 (function_of w)) ≡ function_of w
-    word_of way.On = refl
-    word_of way.Broken = refl
-    word_of way.Continued = refl
-    word_of (way.Returned v) = refl
+    outer : Bool → PlainStmts
+    outer outside = if outside then no_stmt else one (masks p.turn (where_not_returned p))
 
     word_in : (w : Way) → bit_and 1 (difference_of 0 (function_of w)) ≡ function_of w
     word_in way.On = refl
@@ -260,50 +272,46 @@ behind_loop n p s d u o live h = by (cases_eq p.function p.turn)
     word_in way.Continued = refl
     word_in (way.Returned v) = refl
 
-    own : p.own ≢ p.turn → u.frame p.own ≡ 1
-    own apart = h.others p.own (omega (arith, o.result, o.function, o.loop, o.own)) o.free (omega (arith, o.function, o.loop, o.own))
-        (λ e. apart (omega (arith, o.loop, o.own, e))) ∙ live.own
-
-    others : (x : ℕ) → n ≤ x → x < p.free → x ≢ p.result → x ≢ p.function → x ≢ p.turn → x ≢ p.own → (with_slot p.turn v u).frame x ≡ s.frame x
-    others x behind below r f q w = there x q ∙ h.others x behind below r f
-
-    by : (p.function ≡ p.turn) ⊎ (p.function ≢ p.turn) → Went n p s d (with_slot p.turn v u)
-    by (inl alone) =
-        let word : (with_slot p.turn v u).frame p.turn ≡ function_of d.way = put_here p.turn v u.frame
-        ∙ ap₂ (λ b c. bit_and b (difference_of 0 c)) (ap u.frame (sym alone) ∙ h.function) h.function ∙ word_of d.way in
+    repaired : (outside : Bool) → (p.function == p.turn) ≡ outside → Went n p s d (stmts_done g (outer outside) u)
+    repaired true is = went (ap u.frame (sym (eqb-true p.function p.turn is)) ∙ h.function ∙ h.settled)
+    repaired false is =
+        let nested : p.function ≢ p.turn = λ e. true≢false (sym (eq-eqb p.function p.turn e) ∙ is) in
+        let v = worth (where_not_returned p) u in
+        let there : (x : ℕ) → x ≢ p.turn → (with_slot p.turn v u).frame x ≡ u.frame x = λ x other. put_there p.turn v x u.frame (λ e. other (sym e)) in
         record {
-          same = same;
-          result = result;
-          function = ap (with_slot p.turn v u).frame alone ∙ word;
-          loop = word ∙ h.settled;
-          own = λ apart. inl (there p.own apart ∙ own apart);
-          others = others;
-        }
-    by (inr nested) =
-        let loop_word : u.frame p.turn ≡ 1 = h.others p.turn (omega (arith, o.result, o.function, o.loop)) (omega (arith, o.own, o.free))
-        (omega (arith, o.function, o.loop)) (λ e. nested (sym e)) ∙ live.loop in
-        record {
-          same = same;
-          result = result;
+          same = still_agrees n p.turn u (with_slot p.turn v u) d.state (omega (arith, o.result, o.function, o.loop)) (set_behind p.turn p.turn v u (omega arith)) h.same;
+          result = there p.result (omega (arith, o.function, o.loop)) ∙ h.result;
           function = there p.function nested ∙ h.function;
-          loop = put_here p.turn v u.frame ∙ ap₂ (λ b c. bit_and b (difference_of 0 c)) loop_word h.function ∙ word_in d.way ∙ h.settled;
+          loop = put_here p.turn v u.frame ∙ ap₂ (λ b c. bit_and b (difference_of 0 c)) (loop_word nested) h.function ∙ word_in d.way ∙ h.settled;
           own = λ apart. inl (there p.own apart ∙ own apart);
-          others = others;
+          others = λ x behind below r f q w. there x q ∙ h.others x behind below r f;
         }
 
-pub loop_acted : (a : PlainAction) (g : Serves) (n : ℕ) (p : PartWords) (most : ℕ) (condition : PlainSp) (body : PlainStmts) (step : Option PlainAssignment)
-    (meant : values.State → Done) (s : State) (l : values.State) → ends a ≡ false → Order n p → expr_words condition ≤ n → step_words step ≤ n
+    stands : d.way ≡ way.On → (p.function ≡ p.turn) ⊎ (p.function ≢ p.turn) → u.frame p.turn ≡ loop_of d.way
+    stands on (inl alone) = ap u.frame (sym alone) ∙ h.function ∙ h.settled
+    stands on (inr nested) = loop_word nested ∙ sym (ap loop_of on)
+
+    by : (returned : Bool) → (returned ≡ false → d.way ≡ way.On) → Acted a n p s d (stmts_done g (made_behind p returned) u)
+    by true on =
+        subst (Acted a n p s d) (sym (joined_done g (outer (p.function == p.turn)) (made_on p) u))
+        (on_acted a g n p s d (stmts_done g (outer (p.function == p.turn)) u) stays o (repaired (p.function == p.turn) refl))
+    by false on = stays_acted a n p s d u stays (on refl) (went (stands (on refl) (cases_eq p.function p.turn)))
+
+pub loop_acted : (a : PlainAction) (g : Serves) (n : ℕ) (p : PartWords) (most : ℕ) (condition : PlainSp) (returned exits : Bool) (body : PlainStmts)
+    (step : Option PlainAssignment) (meant : values.State → Done) (s : State) (l : values.State) → ends a ≡ false
+    → (returned ≡ false → (turns_done (resolved.holds condition) meant (resolved.step_done step) most l).way ≡ way.On)
+    → (exits ≡ false → (m : values.State) → (meant m).way ≢ way.Continued) → Order n p → expr_words condition ≤ n → step_words step ≤ n
     → Body g n p body meant → Live p s → Agrees n s l
     → Acted a n p s (turns_done (resolved.holds condition) meant (resolved.step_done step) most l)
-    (stmts_done g (made_loop p most condition (made_turn p condition body step)) s)
-loop_acted a g n p zero condition body step meant s l stays o within step_within b live h =
+    (stmts_done g (made_loop p most condition returned (made_turn p condition exits body step)) s)
+loop_acted a g n p zero condition returned exits body step meant s l stays on once o within step_within b live h =
     let m = meaning.in_world l (with_overrun (resolved.holds condition l) l.world) in
     let flagged : stmt_done g (overruns p.own condition) s ≡ in_world s (with_overrun (resolved.holds condition l) l.world) =
-    on p.own (overrun_done condition) s (eq-eqb (s.frame p.own) 1 live.own)
+    on_mask p.own (overrun_done condition) s (eq-eqb (s.frame p.own) 1 live.own)
     ∙ ap₂ (λ v w. in_world s (with_overrun (is_true v) w)) (worth_same n condition s l h within) h.world in
     subst (λ u. Acted a n p s (goes_on m) u) (sym flagged) (low_acted a n p s (in_world s m.world) m stays o live
     (record { locals = h.locals; world = refl }) (λ x behind below. refl))
-loop_acted a g n p (suc k) condition body step meant s l stays o within step_within b live h =
+loop_acted a g n p (suc k) condition returned exits body step meant s l stays on once o within step_within b live h =
     let t = with_slot p.free (worth (bit_of p.own) s) s in
     let begun = set_behind p.free p.free (worth (bit_of p.own) s) s (omega arith) in
     let word : t.frame p.free ≡ 1 = put_here p.free (worth (bit_of p.own) s) s.frame ∙ ap (λ x. bit_and x 1) live.own in
@@ -314,8 +322,7 @@ loop_acted a g n p (suc k) condition body step meant s l stays o within step_wit
       result = begun.frame p.result (omega (arith, o.function, o.loop, o.own, o.free)) ∙ live.result;
     } in
     let d = turns_done (resolved.holds condition) meant (resolved.step_done step) (suc k) l in
-    let u = stmt_done g (overruns p.free condition) (times (suc k) (stmts_done g (made_turn p condition body step)) t) in
-    let there = turned g n p condition body step meant o within step_within b (suc k) t l live_there
+    let u = stmt_done g (overruns p.free condition) (times (suc k) (stmts_done g (made_turn p condition exits body step)) t) in
+    let there = turned g n p condition exits body step meant once o within step_within b (suc k) t l live_there
     (still_agrees n p.free s t l (omega (arith, o.result, o.function, o.loop, o.own, o.free)) begun h) in
-    on_acted a g n p s d (with_slot p.turn (worth (where_not_returned p) u) u) stays o
-    (behind_loop n p s d u o live (turned_from n p s t d u (λ x behind below r f. begun.frame x below) there))
+    behind_loop a g n p returned s d u stays on o live (turned_from n p s t d u (λ x behind below r f. begun.frame x below) there)

@@ -1,14 +1,15 @@
 -- The statements that set masks are well formed, where the words of their part are words of the frame.
-use Rattle.std.proofs.Common.{◌≡◌, ℕ, ◌<◌, ◌≤◌, ◌==◌, Bool, true, false, if◌then◌else◌, List, refl, ◌∙◌, arith, lt-ltb}
+use Rattle.std.proofs.Common.{◌≡◌, ℕ, ◌+◌, max, ◌<◌, ◌≤◌, ◌==◌, Bool, true, false, if◌then◌else◌, List, refl, ◌∙◌, arith, lt-ltb}
 use Rattle.std.proofs.lemmas.Bool.{and_from}
 use Rattle.sp_tree.specs.Formed.{stmt_formed, stmts_formed}
 use Rattle.sp_tree.specs.Need.{need}
-use Rattle.sp_tree.specs.Plain.{PlainSp, constant, frame_word}
+use Rattle.sp_tree.specs.declared.operators.SpBinary.TheVariants as binary
+use Rattle.sp_tree.specs.Plain.{PlainSp, constant, frame_word, between_two}
 use Rattle.sp_tree.specs.Statements.{PlainStmt, PlainStmts, no_stmt, stmt, PlainFunction, masks, writes, overruns}
 use Rattle.sp_tree.specs.Statements as tree
 use Rattle.sp_tree.proofs.Joins.{joined_formed}
 use Rattle.single_path.specs.declared.part_words.PartWords.{PartWords}
-use Rattle.single_path.specs.PartWords.{both, less_by, where_so, where_not_taken, where_on, where_not_returned, bit_of, not_zero, broken, continued, returned_function, returned_loop}
+use Rattle.single_path.specs.PartWords.{both, less_by, is_truth, where_so, where_not_taken, where_other, where_on, where_not_returned, bit_of, not_zero, broken, continued, returned_function, returned_loop}
 use Rattle.single_path.specs.Single.{begun_mask}
 use Rattle.single_path.specs.Widths.{expr_words}
 use Rattle.single_path.proofs.Frames.{Order}
@@ -58,10 +59,22 @@ pub mask_formed : (fs : List PlainFunction) (number slots slot : ℕ) (e : Plain
 mask_formed fs number slots slot e there sound within = and_from _ _ (lt-ltb slot slots there) (sound_formed slots e sound within)
 
 pub condition_sound : (mask : ℕ) (condition : PlainSp) → Sound condition → Sound (where_so mask condition)
-condition_sound mask condition sound = record {
-  ranged = (tt, (sound.ranged, tt));
-  few = omega (arith, sound.few, (both_needed (need condition) 1).0, (both_needed (need (not_zero condition)) 1).1);
-}
+condition_sound mask condition sound = by (is_truth condition)
+  where
+    by : (b : Bool) → Sound (both (frame_word mask) (if b then condition else not_zero condition))
+    by true = record { ranged = (tt, sound.ranged); few = omega (arith, sound.few, (both_needed (need condition) 1).1) }
+    by false = record {
+      ranged = (tt, (sound.ranged, tt));
+      few = omega (arith, sound.few, (both_needed (need condition) 1).0, (both_needed (need (not_zero condition)) 1).1);
+    }
+
+-- and it names no more words of a frame
+pub so_words : (mask : ℕ) (condition : PlainSp) → expr_words (where_so mask condition) ≤ max (mask + 1) (expr_words condition)
+so_words mask condition = by (is_truth condition)
+  where
+    by : (b : Bool) → expr_words (both (frame_word mask) (if b then condition else not_zero condition)) ≤ max (mask + 1) (expr_words condition)
+    by true = omega arith
+    by false = omega arith
 
 pub begun_formed : (fs : List PlainFunction) (number slots : ℕ) (p : PartWords) → Below p slots
     → stmt_formed fs number slots (masks p.function (begun_mask p)) ≡ true
@@ -94,6 +107,20 @@ pub not_taken_formed : (fs : List PlainFunction) (number slots : ℕ) (p : PartW
 not_taken_formed fs number slots p b free =
     mask_formed fs number slots p.free (where_not_taken p) free (record { ranged = ((tt, tt), (tt, tt)); few = omega arith })
     (omega (arith, b.own, b.loop, free))
+
+pub other_formed : (fs : List PlainFunction) (number slots : ℕ) (p : PartWords) (exits : Bool) → Below p slots → p.free < slots
+    → stmt_formed fs number slots (masks p.free (if exits then where_not_taken p else where_other p)) ≡ true
+other_formed fs number slots p true b free = not_taken_formed fs number slots p b free
+other_formed fs number slots p false b free = by (p.own == p.turn)
+  where
+    by : (alone : Bool)
+        → stmt_formed fs number slots (masks p.free (between_two binary.BitXor (if alone then bit_of p.own else frame_word p.own) (frame_word p.free))) ≡ true
+    by true =
+        mask_formed fs number slots p.free (between_two binary.BitXor (bit_of p.own) (frame_word p.free)) free
+        (record { ranged = ((tt, tt), tt); few = omega arith }) (omega (arith, b.own, free))
+    by false =
+        mask_formed fs number slots p.free (between_two binary.BitXor (frame_word p.own) (frame_word p.free)) free
+        (record { ranged = (tt, tt); few = omega arith }) (omega (arith, b.own, free))
 
 -- ---- masks after `return`: two ways to take from them, of which the part decides
 

@@ -1,7 +1,7 @@
 -- Parts that are not to act: each of their statements but masks stands under a mask that is not 1, so that of all words of
 -- a frame only masks are set.
 use Rattle.std.proofs.Common.{◌≡◌, ◌≢◌, ℕ, zero, suc, ◌+◌, ◌==◌, Bool, true, false, if◌then◌else◌, ◌||◌, List, Option, Some, None, refl, ap, sym, ◌∙◌, arith, eq-eqb, true≢false}
-use Rattle.std.specs.Prelude.{◌&&◌}
+use Rattle.std.specs.Prelude.{◌&&◌, ◌||◌}
 use Rattle.sp_tree.specs.Plain.{PlainSp, frame_word}
 use Rattle.sp_tree.specs.Statements.{PlainSpTarget, to_slot, PlainStmt, masks, writes, calls, transfers, overruns, turns, PlainStmts, no_stmt, stmt, one, joined}
 use Rattle.sp_tree.specs.Statements as tree
@@ -10,9 +10,9 @@ use Rattle.sp_tree.proofs.Masks.{write_off, send_off, overrun_off, call_off}
 use Rattle.c_meaning.specs.Actions.{to_level, PlainAssignment, PlainAction, PlainActions, no_action, action, PlainBranches, no_branch, branch}
 use Rattle.c_meaning.specs.Actions as actions
 use Rattle.single_path.specs.declared.part_words.PartWords.{PartWords}
-use Rattle.single_path.specs.PartWords.{in_arm, in_loop, where_so, where_not_taken, bit_of, not_zero, where_not_returned, returned_function, returned_loop}
+use Rattle.single_path.specs.PartWords.{in_arm, in_loop, where_so, where_not_taken, where_other, bit_of, not_zero, where_not_returned, returned_function, returned_loop}
 use Rattle.single_path.specs.PartWords as mask
-use Rattle.single_path.specs.Made.{made, made_action, made_branches, made_step, made_result, made_return, made_arm, made_otherwise, made_turn, made_loop, is_zero, is_no_branch, is_no_action, ends}
+use Rattle.single_path.specs.Made.{made, made_action, made_branches, made_step, made_result, made_return, made_arm, made_otherwise, made_on, made_after, made_behind, made_again, made_turn, made_loop, any_exit, by_continue, by_return, actions_exit, branches_exit, is_zero, is_no_branch, is_no_action, ends}
 use Rattle.single_path.specs.Masked.{stmt_masks, stmts_mask}
 use Rattle.single_path.proofs.Frames.{put_there, Order, Still, fewer, set_behind}
 use Rattle.single_path.proofs.Idle.{Quiet, Dead, Left, still_dead, dead_arm, order_arm, order_loop, off, call_still, left_on, left_off, again_still, tested_still, turns_left, loop_left, arm_off, not_taken_still, dead_action, dead}
@@ -57,7 +57,7 @@ mutual
       let both = neither (stmt_masks x t) (stmts_mask x ts) is in
       all_rest g x ts (stmt_done g t s) rest.1 both.1 ∙ rests g x t s rest.0 both.0
 
-joined_rest : (g : Serves) (xs ys : PlainStmts) (s : State) → AllRest g xs s → AllRest g ys (stmts_done g xs s) → AllRest g (joined xs ys) s
+pub joined_rest : (g : Serves) (xs ys : PlainStmts) (s : State) → AllRest g xs s → AllRest g ys (stmts_done g xs s) → AllRest g (joined xs ys) s
 joined_rest g no_stmt ys s first second = second
 joined_rest g (stmt t xs) ys s first second = (first.0, joined_rest g xs ys (stmt_done g t s) first.1 second)
 
@@ -91,51 +91,76 @@ return_rests g p e s d =
 
 -- ---- turns
 
-turn_rests : (g : Serves) (n : ℕ) (p : PartWords) (condition : PlainSp) (body : PlainStmts) (step : Option PlainAssignment) → Order n p
+ended_rests : (g : Serves) (n : ℕ) (p : PartWords) (exits : Bool) (step : Option PlainAssignment) (s : State) → Order n p → Left p s
+    → AllRest g (joined (made_again p exits) (made_step p.free step)) s
+ended_rests g n p true step s o l =
+    let t = with_slot p.free (worth (not_zero (frame_word p.free)) s) s in
+    (tt, step_rests g p.free step t (left_off p t (left_on n p s t o (again_still p s l) l)))
+ended_rests g n p false step s o l = step_rests g p.free step s (left_off p s l)
+
+turn_rests : (g : Serves) (n : ℕ) (p : PartWords) (condition : PlainSp) (exits : Bool) (body : PlainStmts) (step : Option PlainAssignment) → Order n p
     → ((t : State) → Dead (in_loop p) t → Still (p.free + 1) t (stmts_done g body t)) → ((t : State) → Dead (in_loop p) t → AllRest g body t)
-    → (s : State) → Left p s → AllRest g (made_turn p condition body step) s
-turn_rests g n p condition body step o still each s l =
+    → (s : State) → Left p s → AllRest g (made_turn p condition exits body step) s
+turn_rests g n p condition exits body step o still each s l =
     let t = with_slot p.free (worth (where_so p.free condition) s) s in
     let tested = left_on n p s t o (tested_still p condition s l) l in
     let u = stmts_done g body t in
-    let turned = left_on n p t u o (still t tested.dead) tested in
-    let v = with_slot p.free (worth (not_zero (frame_word p.free)) u) u in
-    let again = left_on n p u v o (again_still p u turned) turned in (
+    let turned = left_on n p t u o (still t tested.dead) tested in (
       tt,
-      joined_rest g body (stmt (masks p.free (not_zero (frame_word p.free))) (made_step p.free step)) t (each t tested.dead)
-          (tt, step_rests g p.free step v (left_off p v again)),
+      joined_rest g body (joined (made_again p exits) (made_step p.free step)) t (each t tested.dead) (ended_rests g n p exits step u o turned),
     )
 
-loop_rests : (g : Serves) (n : ℕ) (p : PartWords) (most : ℕ) (condition : PlainSp) (body : PlainStmts) (step : Option PlainAssignment) → Order n p
+on_rests : (g : Serves) (p : PartWords) (s : State) → AllRest g (made_on p) s
+on_rests g p s = by (p.own == p.turn)
+  where
+    by : (alone : Bool) → AllRest g (if alone then no_stmt else one (masks p.own (mask.where_on p))) s
+    by true = tt
+    by false = (tt, tt)
+
+after_rests : (g : Serves) (p : PartWords) (exits : Bool) (s : State) → AllRest g (made_after p exits) s
+after_rests g p true s = on_rests g p s
+after_rests g p false s = tt
+
+behind_rests : (g : Serves) (p : PartWords) (returned : Bool) (s : State) → AllRest g (made_behind p returned) s
+behind_rests g p false s = tt
+behind_rests g p true s = by (p.function == p.turn)
+  where
+    by : (outside : Bool) → AllRest g (joined (if outside then no_stmt else one (masks p.turn (where_not_returned p))) (made_on p)) s
+    by true = on_rests g p s
+    by false = (tt, on_rests g p (with_slot p.turn (worth (where_not_returned p) s) s))
+
+loop_rests : (g : Serves) (n : ℕ) (p : PartWords) (most : ℕ) (condition : PlainSp) (returned exits : Bool) (body : PlainStmts) (step : Option PlainAssignment) → Order n p
     → ((t : State) → Dead (in_loop p) t → Still (p.free + 1) t (stmts_done g body t)) → ((t : State) → Dead (in_loop p) t → AllRest g body t)
-    → (s : State) → Dead p s → AllRest g (made_loop p most condition (made_turn p condition body step)) s
-loop_rests g n p zero condition body step o still each s d = (off p s d, tt)
-loop_rests g n p (suc k) condition body step o still each s d =
+    → (s : State) → Dead p s → AllRest g (made_loop p most condition returned (made_turn p condition exits body step)) s
+loop_rests g n p zero condition returned exits body step o still each s d = (off p s d, tt)
+loop_rests g n p (suc k) condition returned exits body step o still each s d =
     let t = with_slot p.free (worth (bit_of p.own) s) s in
     let begun = loop_left n p s o d in
-    let left_there : (j : ℕ) → Left p (times j (stmts_done g (made_turn p condition body step)) t) =
-    λ j. left_on n p t (times j (stmts_done g (made_turn p condition body step)) t) o (turns_left g n p condition body step o still j t begun) begun in (
+    let turn = made_turn p condition exits body step in
+    let left_there : (j : ℕ) → Left p (times j (stmts_done g turn) t) =
+    λ j. left_on n p t (times j (stmts_done g turn) t) o (turns_left g n p condition exits body step o still j t begun) begun in
+    let v = times (suc k) (stmts_done g turn) t in (
       tt,
       (
-        (λ j. turn_rests g n p condition body step o still each (times j (stmts_done g (made_turn p condition body step)) t) (left_there j)),
-        (left_off p (times (suc k) (stmts_done g (made_turn p condition body step)) t) (left_there (suc k)), (tt, (tt, tt))),
+        (λ j. turn_rests g n p condition exits body step o still each (times j (stmts_done g turn) t) (left_there j)),
+        (left_off p v (left_there (suc k)), behind_rests g p returned (stmt_done g (overruns p.free condition) v)),
       ),
     )
 
 -- ---- arms
 
-otherwise_rests : (g : Serves) (n : ℕ) (p : PartWords) (nothing : Bool) (rest : PlainStmts) → Order n p → ((t : State) → Dead (in_arm p) t → AllRest g rest t)
-    → (s : State) → Dead p s → Dead (in_arm p) s → s.frame p.free ≡ 0 → AllRest g (made_otherwise p nothing rest) s
-otherwise_rests g n p true rest o each s d inner is = tt
-otherwise_rests g n p false rest o each s d inner is =
-    let t = with_slot p.free (worth (where_not_taken p) s) s in
-    (tt, each t (still_dead n (in_arm p) s t (order_arm n p o) (not_taken_still p s d is) inner))
+otherwise_rests : (g : Serves) (n : ℕ) (p : PartWords) (exits nothing : Bool) (rest : PlainStmts) → Order n p → ((t : State) → Dead (in_arm p) t → AllRest g rest t)
+    → (s : State) → Dead p s → Dead (in_arm p) s → s.frame p.free ≡ 0 → AllRest g (made_otherwise p exits nothing rest) s
+otherwise_rests g n p exits true rest o each s d inner is = tt
+otherwise_rests g n p exits false rest o each s d inner is =
+    let t = with_slot p.free (worth (if exits then where_not_taken p else where_other p) s) s in
+    (tt, each t (still_dead n (in_arm p) s t (order_arm n p o) (not_taken_still p exits s d is) inner))
 
-arm_rests : (g : Serves) (n : ℕ) (p : PartWords) (condition : PlainSp) (arm : PlainStmts) (nothing : Bool) (rest : PlainStmts) → Order n p
+arm_rests : (g : Serves) (n : ℕ) (p : PartWords) (condition : PlainSp) (arm : PlainStmts) (exits nothing : Bool) (rest : PlainStmts) → Order n p
     → ((t : State) → Dead (in_arm p) t → Still (p.free + 1) t (stmts_done g arm t)) → ((t : State) → Dead (in_arm p) t → AllRest g arm t)
     → ((t : State) → Dead (in_arm p) t → AllRest g rest t)
-    → (s : State) → Dead p s → AllRest g (made_arm p condition arm (made_otherwise p nothing rest)) s
-arm_rests g n p condition arm nothing rest o still inside behind s d =
+    → (s : State) → Dead p s → AllRest g (made_arm p condition arm (made_otherwise p exits nothing rest)) s
+arm_rests g n p condition arm exits nothing rest o still inside behind s d =
     let t = with_slot p.free (worth (where_so p.own condition) s) s in
     let begun = set_behind p.free p.free (worth (where_so p.own condition) s) s (omega arith) in
     let off_there = arm_off p condition s d in
@@ -144,8 +169,8 @@ arm_rests g n p condition arm nothing rest o still inside behind s d =
     let taken = still t inner in
     let part = still_dead n p t u o (fewer (p.free + 1) p.free t u (omega arith) taken) (still_dead n p s t o begun d) in (
       tt,
-      joined_rest g arm (made_otherwise p nothing rest) t (inside t inner)
-          (otherwise_rests g n p nothing rest o behind u part (still_dead n (in_arm p) t u (order_arm n p o) taken inner)
+      joined_rest g arm (made_otherwise p exits nothing rest) t (inside t inner)
+          (otherwise_rests g n p exits nothing rest o behind u part (still_dead n (in_arm p) t u (order_arm n p o) taken inner)
           (taken.frame p.free (omega arith) ∙ off_there)),
     )
 
@@ -161,10 +186,13 @@ mutual
       given_rests g quiet p k args (tree.to_array array index) s n o d
   action_rests g quiet n (actions.transfers core source target count) p s o d = (off p s d, tt)
   action_rests g quiet n (actions.chooses branches otherwise) p s o d =
-      joined_rest g (made_branches p branches (is_no_action otherwise) (λ q. made q otherwise)) (one (masks p.own (mask.where_on p))) s
-      (branches_rest g quiet n branches (is_no_action otherwise) (λ q. made q otherwise) (λ q t. actions_rest g quiet n otherwise q t) p s o d) (tt, tt)
+      joined_rest g (made_branches p branches (is_no_action otherwise) (λ q. made q otherwise))
+      (made_after p (branches_exit any_exit branches || actions_exit any_exit otherwise)) s
+      (branches_rest g quiet n branches (is_no_action otherwise) (λ q. made q otherwise) (λ q t. actions_rest g quiet n otherwise q t) p s o d)
+      (after_rests g p (branches_exit any_exit branches || actions_exit any_exit otherwise)
+      (stmts_done g (made_branches p branches (is_no_action otherwise) (λ q. made q otherwise)) s))
   action_rests g quiet n (actions.turns most condition body step) p s o d =
-      loop_rests g n p most condition (made (in_loop p) body) step o (λ t. dead g quiet n body (in_loop p) t (order_loop n p o))
+      loop_rests g n p most condition (actions_exit by_return body) (actions_exit by_continue body) (made (in_loop p) body) step o (λ t. dead g quiet n body (in_loop p) t (order_loop n p o))
       (λ t. actions_rest g quiet n body (in_loop p) t (order_loop n p o)) s d
   action_rests g quiet n actions.breaks p s o d = (tt, tt)
   action_rests g quiet n actions.continues p s o d = (tt, tt)
@@ -186,6 +214,6 @@ mutual
       → (p : PartWords) (s : State) → Order n p → Dead p s → AllRest g (made_branches p bs nothing otherwise) s
   branches_rest g quiet n no_branch nothing otherwise each p s o d = each p s o d
   branches_rest g quiet n (branch condition body rest) nothing otherwise each p s o d =
-      arm_rests g n p condition (made (in_arm p) body) (is_no_branch rest && nothing) (made_branches (in_arm p) rest nothing otherwise) o
+      arm_rests g n p condition (made (in_arm p) body) (actions_exit any_exit body) (is_no_branch rest && nothing) (made_branches (in_arm p) rest nothing otherwise) o
       (λ t. dead g quiet n body (in_arm p) t (order_arm n p o)) (λ t. actions_rest g quiet n body (in_arm p) t (order_arm n p o))
       (λ t. branches_rest g quiet n rest nothing otherwise each (in_arm p) t (order_arm n p o)) s d

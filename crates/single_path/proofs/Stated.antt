@@ -25,9 +25,7 @@ joined_one xs ys a = joined_joined xs ys (one a)
 pub joined_two : (xs ys : PlainStmts) (a b : PlainStmt) → joined (joined (joined xs ys) (one a)) (one b) ≡ joined xs (joined ys (stmt a (one b)))
 joined_two xs ys a b = joined_twice (joined xs ys) a b ∙ joined_joined xs ys (stmt a (one b))
 
-pub five_more : (xs : PlainStmts) (a b c d e : PlainStmt)
-    → joined (joined (joined (joined (joined xs (one a)) (one b)) (one c)) (one d)) (one e) ≡ joined xs (stmt a (stmt b (stmt c (stmt d (one e)))))
-five_more xs a b c d e =
-    let last : PlainStmts = stmt c (stmt d (one e)) in
-    joined_two (joined (joined xs (one a)) (one b)) (one c) d e
-    ∙ joined_joined (joined xs (one a)) (one b) last ∙ joined_joined xs (one a) (stmt b last)
+pub three_more : (xs ys : PlainStmts) (a b c : PlainStmt) → joined (joined (joined (joined xs (one a)) (one b)) (one c)) ys ≡ joined xs (stmt a (stmt b (stmt c ys)))
+three_more xs ys a b c =
+    joined_joined (joined (joined xs (one a)) (one b)) (one c) ys ∙ joined_joined (joined xs (one a)) (one b) (stmt c ys)
+    ∙ joined_joined xs (one a) (stmt b (stmt c ys))

@@ -1,13 +1,14 @@
 -- To be believed. The single-path statements that are made of actions (Puschner's single-path transformation):
 -- branches become masks, and each loop makes all its turns.
-use Rattle.std.specs.Prelude.{ℕ, zero, suc, ◌==◌, Bool, true, false, if◌then◌else◌, ◌&&◌, List, Option, None, Some}
+use Rattle.std.specs.Prelude.{ℕ, zero, suc, ◌==◌, Bool, true, false, if◌then◌else◌, ◌&&◌, ◌||◌, List, Option, None, Some}
 use Rattle.sp_tree.specs.Plain.{PlainSp, constant, frame_word}
 use Rattle.sp_tree.specs.Statements.{PlainSpTarget, to_slot, PlainStmt, masks, writes, overruns, PlainStmts, no_stmt, stmt, one, joined}
 use Rattle.sp_tree.specs.Statements as tree
 use Rattle.c_meaning.specs.Actions.{PlainTarget, to_level, PlainAssignment, PlainAction, sets, calls, transfers, chooses, turns, breaks, continues, returns, PlainActions, no_action, action, PlainBranches, no_branch, branch}
 use Rattle.c_meaning.specs.Actions as actions
+use Rattle.single_path.specs.declared.exits.Exits.{Exits}
 use Rattle.single_path.specs.declared.part_words.PartWords.{PartWords}
-use Rattle.single_path.specs.PartWords.{in_arm, in_loop, where_so, where_not_taken, where_on, where_not_returned, bit_of, not_zero, broken, continued, returned_function, returned_loop}
+use Rattle.single_path.specs.PartWords.{in_arm, in_loop, where_so, where_not_taken, where_other, where_on, where_not_returned, bit_of, not_zero, broken, continued, returned_function, returned_loop}
 
 -- ---- what is set
 
@@ -54,6 +55,60 @@ ends continues = true
 ends (returns e) = true
 ends _ = false
 
+-- ---- ways on that actions may take
+
+abbrev pub any_exit : Exits
+any_exit = record { breaks = true; continues = true; returns = true }
+
+-- those by which the turn that they stand in goes on to its end, and those by which a function is left
+abbrev pub by_continue : Exits
+by_continue = record { breaks = false; continues = true; returns = false }
+
+abbrev pub by_return : Exits
+by_return = record { breaks = false; continues = false; returns = true }
+
+-- of a loop's body only a return goes further than the loop
+abbrev pub out_of_loop : Exits → Exits
+out_of_loop q = record { breaks = false; continues = false; returns = q.returns }
+
+-- whether one of these ways on stands in them, before what always goes elsewhere
+abbrev mutual
+  pub action_exits : Exits → PlainAction → Bool
+  action_exits q (chooses branches otherwise) = branches_exit q branches || actions_exit q otherwise
+  action_exits q (turns most condition body step) = actions_exit (out_of_loop q) body
+  action_exits q breaks = q.breaks
+  action_exits q continues = q.continues
+  action_exits q (returns e) = q.returns
+  action_exits q _ = false
+
+  pub actions_exit : Exits → PlainActions → Bool
+  actions_exit q no_action = false
+  actions_exit q (action a rest) = action_exits q a || (if ends a then false else actions_exit q rest)
+
+  pub branches_exit : Exits → PlainBranches → Bool
+  branches_exit q no_branch = false
+  branches_exit q (branch condition body rest) = actions_exit q body || branches_exit q rest
+
+-- ---- masks that are repaired
+
+-- the mask of the part itself, where it is another than the loop's
+abbrev pub made_on : PartWords → PlainStmts
+made_on p = if p.own == p.turn then no_stmt else one (masks p.own (where_on p))
+
+-- after arms of which one may go elsewhere
+abbrev pub made_after : PartWords → Bool → PlainStmts
+made_after p exits = if exits then made_on p else no_stmt
+
+-- after a loop in which the function may return
+abbrev pub made_behind : PartWords → Bool → PlainStmts
+made_behind p exits =
+    if exits then joined (if p.function == p.turn then no_stmt else one (masks p.turn (where_not_returned p))) (made_on p)
+    else no_stmt
+
+-- at the end of a turn in which there may be a `continue` the mask is 1 again for the step
+abbrev pub made_again : PartWords → Bool → PlainStmts
+made_again p exits = if exits then one (masks p.free (not_zero (frame_word p.free))) else no_stmt
+
 -- ---- arms
 
 abbrev pub is_no_action : PlainActions → Bool
@@ -68,23 +123,23 @@ is_no_branch (branch condition body rest) = false
 abbrev pub made_arm : PartWords → PlainSp → PlainStmts → PlainStmts → PlainStmts
 made_arm p condition arm otherwise = stmt (masks p.free (where_so p.own condition)) (joined arm otherwise)
 
-abbrev pub made_otherwise : PartWords → Bool → PlainStmts → PlainStmts
-made_otherwise p nothing otherwise = if nothing then no_stmt else stmt (masks p.free (where_not_taken p)) otherwise
+abbrev pub made_otherwise : PartWords → Bool → Bool → PlainStmts → PlainStmts
+made_otherwise p exits nothing otherwise =
+    if nothing then no_stmt else stmt (masks p.free (if exits then where_not_taken p else where_other p)) otherwise
 
 -- ---- loops
 
--- a turn: where the condition doesn't hold, the loop is left; after `continue` the mask is 1 again for the step
-abbrev pub made_turn : PartWords → PlainSp → PlainStmts → Option PlainAssignment → PlainStmts
-made_turn p condition body step =
-    stmt (masks p.free (where_so p.free condition))
-    (joined body (stmt (masks p.free (not_zero (frame_word p.free))) (made_step p.free step)))
+-- a turn: where the condition doesn't hold, the loop is left
+abbrev pub made_turn : PartWords → PlainSp → Bool → PlainStmts → Option PlainAssignment → PlainStmts
+made_turn p condition exits body step =
+    stmt (masks p.free (where_so p.free condition)) (joined body (joined (made_again p exits) (made_step p.free step)))
 
 -- a loop that may not turn at all sets the flag where its condition holds
-abbrev pub made_loop : PartWords → ℕ → PlainSp → PlainStmts → PlainStmts
-made_loop p zero condition turn = one (overruns p.own condition)
-made_loop p (suc n) condition turn =
-    stmt (masks p.free (bit_of p.own)) (stmt (tree.turns (suc n) turn) (stmt (overruns p.free condition)
-    (stmt (masks p.turn (where_not_returned p)) (one (masks p.own (where_on p))))))
+abbrev pub made_loop : PartWords → ℕ → PlainSp → Bool → PlainStmts → PlainStmts
+made_loop p zero condition exits turn = one (overruns p.own condition)
+made_loop p (suc n) condition exits turn =
+    stmt (masks p.free (bit_of p.own))
+    (stmt (tree.turns (suc n) turn) (stmt (overruns p.free condition) (made_behind p exits)))
 
 -- ---- all actions
 
@@ -95,9 +150,10 @@ abbrev mutual
   made_action p (transfers core source target count) = one (tree.transfers p.own core source target count)
   made_action p (chooses branches otherwise) =
       joined (made_branches p branches (is_no_action otherwise) (λ q. made q otherwise))
-      (one (masks p.own (where_on p)))
+      (made_after p (branches_exit any_exit branches || actions_exit any_exit otherwise))
   made_action p (turns most condition body step) =
-      made_loop p most condition (made_turn p condition (made (in_loop p) body) step)
+      made_loop p most condition (actions_exit by_return body)
+      (made_turn p condition (actions_exit by_continue body) (made (in_loop p) body) step)
   made_action p breaks = one (masks p.turn (broken p))
   made_action p continues = one (masks p.turn (continued p))
   made_action p (returns e) = made_return p e
@@ -111,4 +167,4 @@ abbrev mutual
   made_branches p no_branch nothing otherwise = otherwise p
   made_branches p (branch condition body rest) nothing otherwise =
       made_arm p condition (made (in_arm p) body)
-      (made_otherwise p (is_no_branch rest && nothing) (made_branches (in_arm p) rest nothing otherwise))
+      (made_otherwise p (actions_exit any_exit body) (is_no_branch rest && nothing) (made_branches (in_arm p) rest nothing otherwise))

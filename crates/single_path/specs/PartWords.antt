@@ -1,7 +1,9 @@
 -- To be believed. The words of a function's frame that decide what has an effect, and what they are set to. Such a word
 -- is a mask: what stands under it has an effect exactly where it is 1.
-use Rattle.std.specs.Prelude.{ℕ, ◌+◌, ◌==◌, if◌then◌else◌}
+use Rattle.std.specs.Prelude.{ℕ, ◌+◌, ◌==◌, Bool, true, false, if◌then◌else◌}
+use Rattle.sp_tree.specs.declared.operators.SpBinary.{SpBinary}
 use Rattle.sp_tree.specs.declared.operators.SpBinary.TheVariants as binary
+use Rattle.sp_tree.specs.declared.operators.SpUnary.{SpUnary}
 use Rattle.sp_tree.specs.declared.operators.SpUnary.TheVariants as unary
 use Rattle.sp_tree.specs.Plain.{PlainSp, constant, frame_word, before_one, between_two}
 use Rattle.single_path.specs.declared.part_words.PartWords.{PartWords}
@@ -32,13 +34,43 @@ not_zero e = between_two binary.NotEqual e (constant 0)
 abbrev pub bit_of : ℕ → PlainSp
 bit_of mask = both (frame_word mask) (constant 1)
 
+-- operators whose value is 0 or 1
+abbrev pub is_test_before : SpUnary → Bool
+is_test_before unary.Not = true
+is_test_before _ = false
+
+abbrev pub is_test : SpBinary → Bool
+is_test binary.Or = true
+is_test binary.And = true
+is_test binary.Equal = true
+is_test binary.NotEqual = true
+is_test binary.Less = true
+is_test binary.LessUnsigned = true
+is_test binary.LessEqual = true
+is_test binary.LessEqualUnsigned = true
+is_test _ = false
+
+-- an expression whose value is 0 or 1 by its form
+abbrev pub is_truth : PlainSp → Bool
+is_truth (before_one op of) = is_test_before op
+is_truth (between_two op a b) = is_test op
+is_truth _ = false
+
+abbrev pub truth : PlainSp → PlainSp
+truth e = if is_truth e then e else not_zero e
+
 -- a mask, where a condition holds besides
 abbrev pub where_so : ℕ → PlainSp → PlainSp
-where_so mask condition = both (frame_word mask) (not_zero condition)
+where_so mask condition = both (frame_word mask) (truth condition)
 
 -- the mask of what stands after `else`: its part goes on, and the arm was not taken
 abbrev pub where_not_taken : PartWords → PlainSp
 where_not_taken p = both (bit_of p.turn) (between_two binary.BitXor (frame_word p.own) (frame_word p.free))
+
+-- the same after an arm that does not go elsewhere. The part's own mask may be 2 only where it is the loop's
+abbrev pub where_other : PartWords → PlainSp
+where_other p =
+    between_two binary.BitXor (if p.own == p.turn then bit_of p.own else frame_word p.own) (frame_word p.free)
 
 -- the mask of a part, after an arm or a loop in which the turn may have ended
 abbrev pub where_on : PartWords → PlainSp

@@ -15,6 +15,7 @@
 //! [the page on the compiler](../../../docs/COMPILER.md).
 #![tactic(auto)]
 
+mod exits;
 mod laws;
 mod masks;
 mod part_words;

@@ -1,5 +1,5 @@
 //! What masks are set to.
-ghost use Rattle.std.specs.Prelude.{◌≡◌, IfOk};
+ghost use Rattle.std.specs.Prelude.{◌≡◌, ◌==◌, if◌then◌else◌, IfOk};
 ghost use Rattle.sp_tree.specs.Plain.{plain_sp, constant, frame_word};
 ghost use Rattle.single_path.specs.PartWords as specs;
 ghost use Rattle.single_path.specs.Single.{begun_mask};
@@ -38,11 +38,56 @@ pub fn bit_of(alloc: Global, mask: u32) -> Result<SpExpr, OutOfMemory>
     between_operands(alloc, SpBinary::BitAnd, word(mask), number(1))
 }
 
+// operators whose value is 0 or 1
+fn is_test_before(op: SpUnary) -> bool
+    ensures { result ≡ specs.is_test_before op }
+{
+    matches!(op, SpUnary::Not)
+}
+
+fn is_test(op: SpBinary) -> bool
+    ensures { result ≡ specs.is_test op }
+{
+    matches!(
+        op,
+        SpBinary::Or
+            | SpBinary::And
+            | SpBinary::Equal
+            | SpBinary::NotEqual
+            | SpBinary::Less
+            | SpBinary::LessUnsigned
+            | SpBinary::LessEqual
+            | SpBinary::LessEqualUnsigned
+    )
+}
+
+// an expression whose value is 0 or 1 by its form
+#[tactic(auto, unfolding(sp_tree::specs::Plain::plain_sp))]
+fn is_truth(e: &SpExpr) -> bool
+    ensures { result ≡ specs.is_truth (plain_sp e.now) }
+{
+    match e {
+        SpExpr::Unary { op, .. } => is_test_before(*op),
+        SpExpr::Binary { op, .. } => is_test(*op),
+        _ => false,
+    }
+}
+
+/// Whether a word isn't 0, as a word that is 0 or 1.
+pub fn truth(alloc: Global, e: SpExpr) -> Result<SpExpr, OutOfMemory>
+    ensures { IfOk result (λ m. plain_sp m ≡ specs.truth (plain_sp e)) }
+{
+    if is_truth(&e) {
+        return Ok(e);
+    }
+    not_zero(alloc, e)
+}
+
 /// A mask, where a condition holds besides.
 pub fn where_so(alloc: Global, mask: u32, condition: SpExpr) -> Result<SpExpr, OutOfMemory>
     ensures { IfOk result (λ m. plain_sp m ≡ specs.where_so mask (plain_sp condition)) }
 {
-    let holds = not_zero(alloc, condition)?;
+    let holds = truth(alloc, condition)?;
     between_operands(alloc, SpBinary::BitAnd, word(mask), holds)
 }
 
@@ -60,6 +105,36 @@ pub fn where_not_taken(alloc: Global, part: PartWords) -> Result<SpExpr, OutOfMe
     let goes_on = bit_of(alloc, part.turn)?;
     let other = between_operands(alloc, SpBinary::BitXor, word(part.own), word(part.free))?;
     between_operands(alloc, SpBinary::BitAnd, goes_on, other)
+}
+
+// the part's own mask, of which the lowest bit alone counts where it is the loop's
+fn own_bit(alloc: Global, part: PartWords) -> Result<SpExpr, OutOfMemory>
+    ensures { IfOk result (λ m. plain_sp m
+        ≡ (if part.own == part.turn then specs.bit_of part.own else frame_word part.own)) }
+{
+    if part.own == part.turn {
+        return bit_of(alloc, part.own);
+    }
+    Ok(word(part.own))
+}
+
+/// The same after an arm that does not go elsewhere.
+pub fn where_other(alloc: Global, part: PartWords) -> Result<SpExpr, OutOfMemory>
+    ensures { IfOk result (λ m. plain_sp m ≡ specs.where_other part) }
+{
+    let own = own_bit(alloc, part)?;
+    between_operands(alloc, SpBinary::BitXor, own, word(part.free))
+}
+
+/// The mask of what stands after `else`, where the arm may go elsewhere or does not.
+pub fn otherwise_mask(alloc: Global, part: PartWords, exits: bool) -> Result<SpExpr, OutOfMemory>
+    ensures { IfOk result (λ m. plain_sp m
+        ≡ (if exits then specs.where_not_taken part else specs.where_other part)) }
+{
+    if exits {
+        return where_not_taken(alloc, part);
+    }
+    where_other(alloc, part)
 }
 
 /// The mask of a part, after an arm or a loop in which the turn may have ended.

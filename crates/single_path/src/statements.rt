@@ -1,8 +1,8 @@
 //! Statements, made of actions.
-ghost use Rattle.std.specs.Prelude.{◌≡◌, ◌&&◌, ◌+◌, ◌<◌, ◌^◌, Option, map, option_map, IfOk, OnOk};
+ghost use Rattle.std.specs.Prelude.{◌≡◌, ◌==◌, ◌&&◌, ◌+◌, ◌<◌, ◌^◌, if◌then◌else◌, Option, map, option_map, IfOk, OnOk};
 ghost use Rattle.sp_tree.specs.Plain.{plain_sp, frame_word};
 ghost use Rattle.sp_tree.specs.Shown.{plain_sp_target, plain_stmt, stmts_of};
-ghost use Rattle.sp_tree.specs.Statements.{masks, writes, calls, overruns, joined, one, stmt};
+ghost use Rattle.sp_tree.specs.Statements.{masks, writes, calls, overruns, joined, no_stmt, one, stmt};
 ghost use Rattle.sp_tree.specs.Statements as tree;
 ghost use Rattle.c_meaning.specs.Shown.{plain_target, plain_assignment, plain_action, actions_of, branches_of};
 ghost use Rattle.c_meaning.specs.Actions as plain;
@@ -10,9 +10,10 @@ ghost use Rattle.single_path.specs.Made as specs;
 ghost use Rattle.single_path.specs.PartWords as part_words;
 ghost use Rattle.single_path.specs.Widths as widths;
 
+use crate::exits::{any_exit, by_continue, by_return, choice_exits, ends, may_exit};
 use crate::masks::{
-    bit_of, broken, continued, not_zero, returned_function, returned_turn, where_not_returned,
-    where_not_taken, where_on, where_so, word,
+    bit_of, broken, continued, not_zero, otherwise_mask, returned_function, returned_turn,
+    where_not_returned, where_on, where_so, word,
 };
 use crate::part_words::PartWords;
 use c_meaning::{Action, Assignment, Branch, Target};
@@ -274,17 +275,6 @@ fn add_return(
     Ok(())
 }
 
-// nothing stands after a statement that always goes elsewhere
-#[tactic(auto, unfolding(c_meaning::specs::Shown::plain_action))]
-fn ends(action: &Action) -> bool
-    ensures { result ≡ specs.ends (plain_action action.now) }
-{
-    matches!(
-        action,
-        Action::Break | Action::Continue | Action::Return { .. }
-    )
-}
-
 #[tactic(auto)]
 fn add_break(alloc: Global, part: PartWords, out: &mut Vec<SpStmt>) -> Result<(), OutOfMemory>
     ensures { OnOk result (stmts_of out.new.items
@@ -324,11 +314,17 @@ fn begin_arm(
 }
 
 // the mask of what stands after `else`
-fn begin_otherwise(alloc: Global, part: PartWords, out: &mut Vec<SpStmt>) -> Result<(), OutOfMemory>
+fn begin_otherwise(
+    alloc: Global,
+    part: PartWords,
+    exits: bool,
+    out: &mut Vec<SpStmt>,
+) -> Result<(), OutOfMemory>
     ensures { OnOk result (stmts_of out.new.items
-        ≡ joined (stmts_of out.old.items) (one (masks part.free (part_words.where_not_taken part)))) }
+        ≡ joined (stmts_of out.old.items) (one (masks part.free
+        (if exits then part_words.where_not_taken part else part_words.where_other part)))) }
 {
-    let other = where_not_taken(alloc, part)?;
+    let other = otherwise_mask(alloc, part, exits)?;
     add_mask(out, part.free, other)
 }
 
@@ -340,16 +336,86 @@ fn stands_nothing(rest: &[Branch], otherwise: &[Action]) -> bool
     rest.is_empty() && otherwise.is_empty()
 }
 
-// the mask of a part after its arms
+// the mask of the part itself, where it is another than the loop's
+#[tactic(auto, using(crate::proofs::Stated::joined_none))]
 fn repair(alloc: Global, part: PartWords, out: &mut Vec<SpStmt>) -> Result<(), OutOfMemory>
     ensures { OnOk result (stmts_of out.new.items
-        ≡ joined (stmts_of out.old.items) (one (masks part.own (part_words.where_on part)))) }
+        ≡ joined (stmts_of out.old.items) (specs.made_on part)) }
 {
+    if part.own == part.turn {
+        return Ok(());
+    }
     let own = where_on(alloc, part)?;
     add_mask(out, part.own, own)
 }
 
+// after arms of which one may go elsewhere
+#[tactic(auto, using(crate::proofs::Stated::joined_none))]
+fn repair_after(
+    alloc: Global,
+    part: PartWords,
+    out: &mut Vec<SpStmt>,
+    exits: bool,
+) -> Result<(), OutOfMemory>
+    ensures { OnOk result (stmts_of out.new.items
+        ≡ joined (stmts_of out.old.items) (specs.made_after part exits)) }
+{
+    if !exits {
+        return Ok(());
+    }
+    repair(alloc, part, out)
+}
+
 // ---- loops
+
+// the mask of the loop around, where there is one
+#[tactic(auto, using(crate::proofs::Stated::joined_none))]
+fn repair_turn(alloc: Global, part: PartWords, out: &mut Vec<SpStmt>) -> Result<(), OutOfMemory>
+    ensures { OnOk result (stmts_of out.new.items ≡ joined (stmts_of out.old.items)
+        (if part.function == part.turn then no_stmt else one (masks part.turn (part_words.where_not_returned part)))) }
+{
+    if part.function == part.turn {
+        return Ok(());
+    }
+    let outer = where_not_returned(alloc, part)?;
+    add_mask(out, part.turn, outer)
+}
+
+// after a loop in which the function may return
+#[tactic(auto, using(crate::proofs::Stated::joined_none, crate::proofs::Stated::joined_joined))]
+fn repair_behind(
+    alloc: Global,
+    part: PartWords,
+    out: &mut Vec<SpStmt>,
+    exits: bool,
+) -> Result<(), OutOfMemory>
+    ensures { OnOk result (stmts_of out.new.items
+        ≡ joined (stmts_of out.old.items) (specs.made_behind part exits)) }
+{
+    if !exits {
+        return Ok(());
+    }
+    repair_turn(alloc, part, out)?;
+    repair(alloc, part, out)
+}
+
+// at the end of a turn in which there may be a `continue`
+#[tactic(auto, using(crate::proofs::Stated::joined_none))]
+fn add_again(
+    alloc: Global,
+    part: PartWords,
+    turn: &mut Vec<SpStmt>,
+    exits: bool,
+) -> Result<(), OutOfMemory>
+    ensures { OnOk result (stmts_of turn.new.items
+        ≡ joined (stmts_of turn.old.items) (specs.made_again part exits)) }
+{
+    if !exits {
+        return Ok(());
+    }
+    let again = not_zero(alloc, word(part.free))?;
+    add_mask(turn, part.free, again)
+}
 
 // the test of a turn
 fn begin_turn(
@@ -373,14 +439,14 @@ fn end_turn(
     alloc: Global,
     part: PartWords,
     turn: &mut Vec<SpStmt>,
+    exits: bool,
     step: &Option<Assignment>,
 ) -> Result<(), OutOfMemory>
     ensures { OnOk result (stmts_of turn.new.items ≡ joined (stmts_of turn.old.items)
-        (stmt (masks part.free (part_words.not_zero (frame_word part.free)))
+        (joined (specs.made_again part exits)
         (specs.made_step part.free (option_map plain_assignment step.now)))) }
 {
-    let again = not_zero(alloc, word(part.free))?;
-    add_mask(turn, part.free, again)?;
+    add_again(alloc, part, turn, exits)?;
     add_step(alloc, turn, part.free, step)
 }
 
@@ -399,28 +465,26 @@ fn add_flag(
 }
 
 // a loop that turns
-#[tactic(auto, using(crate::proofs::Stated::five_more))]
+#[tactic(auto, using(crate::proofs::Stated::three_more))]
 fn add_loop(
     alloc: Global,
     part: PartWords,
     out: &mut Vec<SpStmt>,
     max: u32,
     condition: &SpExpr,
+    exits: bool,
     turn: List<SpStmt>,
 ) -> Result<(), OutOfMemory>
     ensures { OnOk result (stmts_of out.new.items ≡ joined (stmts_of out.old.items)
         (stmt (masks part.free (part_words.bit_of part.own))
         (stmt (tree.turns max (stmts_of turn)) (stmt (overruns part.free (plain_sp condition.now))
-        (stmt (masks part.turn (part_words.where_not_returned part))
-        (one (masks part.own (part_words.where_on part)))))))) }
+        (specs.made_behind part exits))))) }
 {
     let on = bit_of(alloc, part.own)?;
     add_mask(out, part.free, on)?;
     add_turns(out, max, turn)?;
     add_flag(alloc, out, part.free, condition)?;
-    let outer = where_not_returned(alloc, part)?;
-    add_mask(out, part.turn, outer)?;
-    repair(alloc, part, out)
+    repair_behind(alloc, part, out, exits)
 }
 
 // ---- all actions
@@ -505,7 +569,8 @@ fn add_choice(
         (specs.made_action part (plain.chooses (branches_of branches.now) (actions_of otherwise.now)))) }
 {
     add_arms(alloc, part, out, branches, otherwise)?;
-    repair(alloc, part, out)
+    let exits = choice_exits(any_exit(), branches, otherwise);
+    repair_after(alloc, part, out, exits)
 }
 
 // arms, each with those that stand after its `else`
@@ -530,7 +595,8 @@ fn add_arms(
         [branch, rest @ ..] => {
             let arm = begin_arm(alloc, part, out, &branch.condition)?;
             add_all(alloc, arm, out, branch.body.as_slice())?;
-            add_otherwise(alloc, part, arm, out, rest, otherwise)
+            let exits = may_exit(any_exit(), branch.body.as_slice());
+            add_otherwise(alloc, part, arm, exits, out, rest, otherwise)
         }
     }
 }
@@ -542,6 +608,7 @@ fn add_otherwise(
     alloc: Global,
     part: PartWords,
     arm: PartWords,
+    exits: bool,
     out: &mut Vec<SpStmt>,
     rest: &[Branch],
     otherwise: &[Action],
@@ -549,7 +616,7 @@ fn add_otherwise(
     requires { arm.free + widths.branches_masks (branches_of rest.now) (widths.masks (actions_of otherwise.now))
         < 2 ^ 32 }
     ensures { OnOk result (stmts_of out.new.items ≡ joined (stmts_of out.old.items)
-        (specs.made_otherwise part (specs.is_no_branch (branches_of rest.now)
+        (specs.made_otherwise part exits (specs.is_no_branch (branches_of rest.now)
         && specs.is_no_action (actions_of otherwise.now))
         (specs.made_branches arm (branches_of rest.now) (specs.is_no_action (actions_of otherwise.now))
         (λ q. specs.made q (actions_of otherwise.now))))) }
@@ -557,7 +624,7 @@ fn add_otherwise(
     if stands_nothing(rest, otherwise) {
         return Ok(());
     }
-    begin_otherwise(alloc, part, out)?;
+    begin_otherwise(alloc, part, exits, out)?;
     add_arms(alloc, arm, out, rest, otherwise)
 }
 
@@ -584,6 +651,8 @@ fn add_repeated(
     let mut turn = begin_turn(alloc, part, condition)?;
     let inner = part.in_loop();
     add_all(alloc, inner, &mut turn, body)?;
-    end_turn(alloc, part, &mut turn, step)?;
-    add_loop(alloc, part, out, max, condition, List::of(turn))
+    let again = may_exit(by_continue(), body);
+    end_turn(alloc, part, &mut turn, again, step)?;
+    let returned = may_exit(by_return(), body);
+    add_loop(alloc, part, out, max, condition, returned, List::of(turn))
 }

@@ -18,6 +18,7 @@ use Rattle.sp_emit.specs.Holding.{held, Keeps}
 use Rattle.sp_emit.specs.Instructions.{always, stack_op}
 use Rattle.sp_emit.specs.Means.{HasArgsConstants, Follows}
 use Rattle.sp_emit.specs.Statements.{args_code}
+use Rattle.sp_emit.specs.Places.{args_least}
 use Rattle.sp_emit.proofs.Calm.{keeps_all, keeps_both, keeps_fewer}
 use Rattle.sp_emit.proofs.Masks.{ready, follows_still}
 use Rattle.sp_emit.proofs.Once.{behind_slot, slot_behind, unchanged, with_regs}
@@ -58,25 +59,25 @@ did_stack from func count m whole =
 
 -- ---- arguments
 
-pub record ArgumentsLeft (rd : ℕ) (given : List ℕ) (m t : Run) : Type 0 where
-  pub keeps : Keeps rd m t
+pub record ArgumentsLeft (homes : ℕ) (rd : ℕ) (given : List ℕ) (m t : Run) : Type 0 where
+  pub keeps : Keeps rd homes m t
   pub values : (i : ℕ) → i < length given → held (rd + i) t ≡ slice_index given i
 
-pub arguments_left : (f : ℕ → List Step) (slots : ℕ) (args : List PlainSp) (rd : ℕ) (s : State) (m : Run) → 1 ≤ rd → rd + length args ≤ 10 → slots ≤ 128 → args_formed slots args ≡ true → HasArgsConstants args → Follows slots s m
-    → ArgumentsLeft rd (args_worth args s) m (run by_words (parts_trail f (args_code args rd)) m)
-arguments_left f slots [] rd s m some few most formed constants x = record { keeps = keeps_all rd m x.whole; values = λ i lt. absurd (omega (arith, lt)) }
-arguments_left f slots (e ∷ args) rd s m some few most formed constants x =
+pub arguments_left : (homes : ℕ) (f : ℕ → List Step) (slots : ℕ) (args : List PlainSp) (rd : ℕ) (s : State) (m : Run) → 1 ≤ rd → rd + length args ≤ 10 → slots ≤ 128 → args_formed slots args ≡ true → HasArgsConstants args → args_least args rd ≤ homes → Follows homes slots s m
+    → ArgumentsLeft homes rd (args_worth args s) m (run by_words (parts_trail f (args_code homes args rd)) m)
+arguments_left homes f slots [] rd s m some few most formed constants free x = record { keeps = keeps_all rd homes m x.whole; values = λ i lt. absurd (omega (arith, lt)) }
+arguments_left homes f slots (e ∷ args) rd s m some few most formed constants free x =
     let parts = and_parts (expr_formed slots e) (args_formed slots args) formed in
-    let r = ready slots rd e s m some (omega (arith, few)) most parts.0 constants.0 x in
-    let n = behind f e rd m in
-    let k = expr_keeps by_words f e rd m (fits_of r) x.whole in
-    let rest = arguments_left f slots args (rd + 1) s n (omega arith) (omega (arith, few)) most parts.1 constants.1 (follows_still k x) in
-    let t = run by_words (parts_trail f (args_code args (rd + 1))) n in
-    subst (ArgumentsLeft rd (args_worth (e ∷ args) s) m) (sym (run_joined by_words f (expr_code e rd) (args_code args (rd + 1)) m)) (record {
+    let r = ready homes slots rd e s m some (omega (arith, few)) (omega (arith, free)) most parts.0 constants.0 x in
+    let n = behind homes f e rd m in
+    let k = expr_keeps homes by_words f e rd m (fits_of r) r.free x.whole in
+    let rest = arguments_left homes f slots args (rd + 1) s n (omega arith) (omega (arith, few)) most parts.1 constants.1 (omega (arith, free)) (follows_still k x) in
+    let t = run by_words (parts_trail f (args_code homes args (rd + 1))) n in
+    subst (ArgumentsLeft homes rd (args_worth (e ∷ args) s) m) (sym (run_joined by_words f (expr_code homes e rd) (args_code homes args (rd + 1)) m)) (record {
       keeps = keeps_both k (keeps_fewer rd (omega arith) rest.keeps);
       values = each t rest (value_left f e r);
     })
   where
-    each : (t : Run) → ArgumentsLeft (rd + 1) (args_worth args s) (behind f e rd m) t → held rd (behind f e rd m) ≡ worth e s → (i : ℕ) → i < length (worth e s ∷ args_worth args s) → held (rd + i) t ≡ slice_index (worth e s ∷ args_worth args s) i
+    each : (t : Run) → ArgumentsLeft homes (rd + 1) (args_worth args s) (behind homes f e rd m) t → held rd (behind homes f e rd m) ≡ worth e s → (i : ℕ) → i < length (worth e s ∷ args_worth args s) → held (rd + i) t ≡ slice_index (worth e s ∷ args_worth args s) i
     each t rest value zero lt = ap (λ n. held n t) (let e : rd + 0 ≡ rd = omega arith in e) ∙ rest.keeps.low rd (omega arith) ∙ value
     each t rest value (suc i) lt = ap (λ n. held n t) (let e : rd + suc i ≡ rd + 1 + i = omega arith in e) ∙ rest.values i (omega (arith, lt))

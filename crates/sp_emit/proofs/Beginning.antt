@@ -1,50 +1,132 @@
 -- What the code leaves with which a function begins: its frame holds the arguments and the mask, and 0 in all other words.
-use Rattle.std.proofs.Common.{◌≡◌, ℕ, zero, suc, ◌+◌, ◌-◌, ◌<◌, ◌≤◌, ◌⊎◌, inl, inr, if◌then◌else◌, List, length, slice_index, nat_lt, refl, sym, ap, ◌∙◌, subst, arith}
+use Rattle.std.proofs.Common.{◌≡◌, ℕ, zero, suc, ◌+◌, ◌-◌, ◌^◌, ◌<◌, ◌≤◌, ◌⊎◌, inl, inr, if◌then◌else◌, List, length, slice_index, nat_lt, refl, sym, ap, ◌∙◌, subst, arith}
 use Rattle.std.proofs.lemmas.Bool.{cases_lt, cases_eq, lt-ltb, le-ltb, le-leb}
 use Rattle.tc_word.proofs.Items.{past_all}
 use Rattle.shared_order.specs.Words.{put}
 use Rattle.patmos_instr.specs.declared.functions.StackFunc.TheVariants.{Sres}
-use Rattle.patmos_sem.specs.Registers.{word_in}
 use Rattle.sp_shape.proofs.Whole.{run_append}
 use Rattle.sp_shape.specs.Run.{Run, Sources, by_words, once, run, reserved, IsWhole}
 use Rattle.sp_shape.specs.Trail.{all_done}
 use Rattle.sp_shape.proofs.Lists.{done_append}
 use Rattle.sp_emit.specs.Functions.{argument_kept, arguments_kept}
-use Rattle.sp_emit.specs.Holding.{held}
-use Rattle.sp_emit.specs.Instructions.{always, stack_op, store_slot}
-use Rattle.sp_emit.specs.declared.registers.TheConstants.{FIRST}
+use Rattle.patmos_sem.specs.declared.writes.Write.TheVariants as write
+use Rattle.sp_emit.specs.Holding.{held, KeepsFrom}
+use Rattle.sp_emit.specs.Instructions.{always, stack_op}
+use Rattle.sp_emit.specs.Places.{word_of, set_word, word_cleared, words_cleared}
+use Rattle.sp_emit.specs.declared.registers.TheConstants.{FIRST, OVERRUN}
 use Rattle.sp_emit.proofs.Arguments.{did_stack}
-use Rattle.sp_emit.proofs.Frames.{put_same, put_other, put_behind}
-use Rattle.sp_emit.proofs.Storing.{did_store_slot}
+use Rattle.sp_emit.proofs.Frames.{put_same, put_other}
+use Rattle.sp_emit.proofs.Once.{with_written}
+use Rattle.sp_emit.proofs.WordPlaces.{with_word, Sets, did_set_word, sets_word, sets_register, word_cleared_is, in_stack}
 
 -- the first so many of some words, and 0 after them
 abbrev pub first_words : ℕ → List ℕ → ℕ → ℕ
 first_words count words x = if nat_lt x count then slice_index words x else 0
 
--- a frame was taken, and holds these words; all registers and memories are as they were, and so is the stack after it
-pub record Taken (frame : ℕ) (words : ℕ → ℕ) (m t : Run) : Type 0 where
+-- a frame was taken, whose first words are these; all memories are as they were, and so are the stack after it, the
+-- registers before the window and those after it
+pub record Taken (homes frame slots : ℕ) (words : ℕ → ℕ) (m t : Run) : Type 0 where
   pub whole : IsWhole t
-  pub regs : t.regs ≡ m.regs
   pub memory : t.memory ≡ m.memory
   pub st : t.st ≡ m.st - frame
-  pub frame_is : (x : ℕ) → x < frame → t.stack (t.st + x) ≡ words x
+  pub frame_is : (x : ℕ) → x < slots → word_of homes x t ≡ words x
   pub behind : (a : ℕ) → m.st ≤ a → t.stack a ≡ m.stack a
+  pub low : (r : ℕ) → 1 ≤ r → r < homes → r < 32 → held r t ≡ held r m
+  pub high : KeepsFrom (homes + slots) m t
+  pub flag : held OVERRUN t ≡ held OVERRUN m
 
 reserved_word : (st count word : ℕ) (stack : ℕ → ℕ) → st - count ≤ word → word < st → reserved st count stack word ≡ 0
 reserved_word st count word stack from below = rw (le-leb (st - count) word from, lt-ltb word st below) refl
 
-reserved_behind : (st count word : ℕ) (stack : ℕ → ℕ) → st ≤ word → reserved st count stack word ≡ stack word
+pub reserved_behind : (st count word : ℕ) (stack : ℕ → ℕ) → st ≤ word → reserved st count stack word ≡ stack word
 reserved_behind st count word stack above = rw (le-leb (st - count) word (omega (arith, above)), le-ltb word st above) refl
 
-pub takes_frame : (from : Sources) (frame : ℕ) (args : List ℕ) (m : Run) → IsWhole m → frame ≤ m.st → Taken frame (first_words 0 args) m (once from (stack_op Sres frame) m)
-takes_frame from frame args m whole enough = subst (Taken frame (first_words 0 args) m) (sym (did_stack from Sres frame m whole)) (record {
+-- the first so many words are 0 so far, and so are all of the stack
+record Clears (homes frame slots count : ℕ) (m t : Run) : Type 0 where
+  whole : IsWhole t
+  memory : t.memory ≡ m.memory
+  st : t.st ≡ m.st - frame
+  cleared : (x : ℕ) → x < count → word_of homes x t ≡ 0
+  zeros : (x : ℕ) → x < frame → t.stack (t.st + x) ≡ 0
+  behind : (a : ℕ) → m.st ≤ a → t.stack a ≡ m.stack a
+  low : (r : ℕ) → 1 ≤ r → r < homes → r < 32 → held r t ≡ held r m
+  high : KeepsFrom (homes + slots) m t
+  flag : held OVERRUN t ≡ held OVERRUN m
+
+takes_frame : (from : Sources) (homes frame slots : ℕ) (m : Run) → IsWhole m → frame ≤ m.st → Clears homes frame slots 0 m (once from (stack_op Sres frame) m)
+takes_frame from homes frame slots m whole enough = subst (Clears homes frame slots 0 m) (sym (did_stack from Sres frame m whole)) (record {
   whole = record { fits = whole.fits; pending = whole.pending };
-  regs = refl;
   memory = refl;
   st = refl;
-  frame_is = λ x lt. reserved_word m.st frame (m.st - frame + x) m.stack (omega arith) (omega (arith, lt, enough)) ∙ sym (rw (le-ltb x 0 (omega arith)) refl);
+  cleared = λ x lt. absurd (omega (arith, lt));
+  zeros = λ x lt. reserved_word m.st frame (m.st - frame + x) m.stack (omega arith) (omega (arith, lt, enough));
   behind = λ a above. reserved_behind m.st frame a m.stack above;
+  low = λ r some before few. refl;
+  high = λ r from lt. refl;
+  flag = refl;
 })
+
+clears_words : (from : Sources) (homes frame slots count : ℕ) (m t : Run) → 1 ≤ homes → slots ≤ frame → count ≤ slots → Clears homes frame slots 0 m t → Clears homes frame slots count m (run from (all_done (words_cleared homes count)) t)
+clears_words from homes frame slots zero m t some fits few x = x
+clears_words from homes frame slots (suc n) m t some fits few x =
+    let y = clears_words from homes frame slots n m t some fits (omega (arith, few)) x in
+    let u = run from (all_done (words_cleared homes n)) t in
+    subst (Clears homes frame slots (suc n) m)
+    (sym (ap (λ steps. run from steps t) (done_append (words_cleared homes n) (word_cleared homes n)) ∙ run_append from (all_done (words_cleared homes n)) (all_done (word_cleared homes n)) t))
+    (word_cleared_is (Clears homes frame slots (suc n) m) from homes n u y.whole
+    (λ in_it. let set = sets_register homes n 0 u some y.whole in_it in record {
+      whole = set.whole;
+      memory = set.memory ∙ y.memory;
+      st = set.st ∙ y.st;
+      cleared = λ v lt. at u (with_written (write.Register (homes + n) 0) u) set y.cleared v lt (cases_eq n v);
+      zeros = λ v lt. y.zeros v lt;
+      behind = λ a above. y.behind a above;
+      low = λ r least before small. set.regs r least small (λ same. absurd (omega (arith, same, before))) ∙ y.low r least before small;
+      high = λ r past lt. set.regs r (omega (arith, past, some)) (omega (arith, lt)) (λ same. absurd (omega (arith, same, past, few))) ∙ y.high r past lt;
+      flag = set.flag ∙ y.flag;
+    })
+    (λ none. record {
+      whole = y.whole;
+      memory = y.memory;
+      st = y.st;
+      cleared = λ v lt. left u y.cleared (in_stack homes n u none ∙ y.zeros n (omega (arith, few, fits))) v lt (cases_eq n v);
+      zeros = y.zeros;
+      behind = y.behind;
+      low = y.low;
+      high = y.high;
+      flag = y.flag;
+    }))
+  where
+    at : (u w : Run) → Sets homes n 0 u w → ((x : ℕ) → x < n → word_of homes x u ≡ 0) → (v : ℕ) → v < suc n → (n ≡ v) ⊎ (n ≡ v → ⊥) → word_of homes v w ≡ 0
+    at u w set earlier v lt (inl same) = ap (λ i. word_of homes i w) (sym same) ∙ set.own
+    at u w set earlier v lt (inr other) = set.others v other ∙ earlier v (less v lt other (cases_lt v n))
+      where
+        less : (v : ℕ) → v < suc n → (n ≡ v → ⊥) → (v < n) ⊎ (n ≤ v) → v < n
+        less v lt other (inl is) = is
+        less v lt other (inr more) = absurd (other (omega (arith, more, lt)))
+
+    left : (u : Run) → ((x : ℕ) → x < n → word_of homes x u ≡ 0) → word_of homes n u ≡ 0 → (v : ℕ) → v < suc n → (n ≡ v) ⊎ (n ≡ v → ⊥) → word_of homes v u ≡ 0
+    left u earlier own v lt (inl same) = ap (λ i. word_of homes i u) (sym same) ∙ own
+    left u earlier own v lt (inr other) = earlier v (less (cases_lt v n))
+      where
+        less : (v < n) ⊎ (n ≤ v) → v < n
+        less (inl is) = is
+        less (inr more) = absurd (other (omega (arith, more, lt)))
+
+takes_words : (from : Sources) (homes frame slots : ℕ) (args : List ℕ) (m : Run) → 1 ≤ homes → slots ≤ frame → IsWhole m → frame ≤ m.st
+    → Taken homes frame slots (first_words 0 args) m (run from (all_done (words_cleared homes slots)) (once from (stack_op Sres frame) m))
+takes_words from homes frame slots args m some fits whole enough =
+    let x = clears_words from homes frame slots slots m (once from (stack_op Sres frame) m) some fits (omega arith) (takes_frame from homes frame slots m whole enough) in
+    record {
+      whole = x.whole;
+      memory = x.memory;
+      st = x.st;
+      frame_is = λ u lt. x.cleared u lt ∙ sym (rw (le-ltb u 0 (omega arith)) refl);
+      behind = x.behind;
+      low = x.low;
+      high = x.high;
+      flag = x.flag;
+    }
 
 -- one more word
 pub one_more : (j u : ℕ) (args : List ℕ) → put j (slice_index args j) (first_words j args) u ≡ first_words (suc j) args u
@@ -62,30 +144,38 @@ one_more j u args = by (cases_eq j u)
             past (inl less) = less
             past (inr same) = absurd (other (omega (arith, more, same)))
 
--- the words of a frame with one of them stored
-stores_word : (frame slot rs v : ℕ) (words more : ℕ → ℕ) (m t : Run) → slot < frame → frame ≤ 128 → frame ≤ m.st → held rs t ≡ v → Taken frame words m t → ((u : ℕ) → put slot v words u ≡ more u)
-    → Taken frame more m (once by_words (store_slot always slot rs) t)
-stores_word frame slot rs v words more m t named most enough is x each =
-    subst (Taken frame more m) (sym (did_store_slot by_words always slot rs t x.whole x.whole.fits.always (omega (arith, named, most)))) (record {
-      whole = record { fits = x.whole.fits; pending = x.whole.pending };
-      regs = x.regs;
-      memory = x.memory;
-      st = x.st;
-      frame_is = λ u lt. ap (λ n. put (t.st + slot) n t.stack (t.st + u)) is ∙ put_behind t.st slot u v t.stack words (x.frame_is u lt) ∙ each u;
-      behind = λ a above. put_other (t.st + slot) a (held rs t) t.stack (λ same. absurd (omega (arith, same, x.st, above, named, enough))) ∙ x.behind a above;
+-- the words of a frame with one of them set
+stores_word : (homes frame slots slot rs v : ℕ) (words more : ℕ → ℕ) (m t : Run) → 1 ≤ homes → slot < slots → slots ≤ frame → frame ≤ 128 → frame ≤ m.st → held rs t ≡ v → v < 2 ^ 32 → Taken homes frame slots words m t → ((u : ℕ) → put slot v words u ≡ more u)
+    → Taken homes frame slots more m (once by_words (set_word homes always slot rs) t)
+stores_word homes frame slots slot rs v words more m t some named fits most enough is word x each =
+    let set = sets_word homes slot v t some x.whole in
+    subst (Taken homes frame slots more m) (sym (did_set_word by_words homes always slot rs v t x.whole x.whole.fits.always (omega (arith, named, fits, most)) is word)) (record {
+      whole = set.whole;
+      memory = set.memory ∙ x.memory;
+      st = set.st ∙ x.st;
+      frame_is = λ u lt. at u lt set (cases_eq slot u) ∙ each u;
+      behind = λ a above. set.stack a (λ same. absurd (omega (arith, same, x.st, above, named, fits, enough))) ∙ x.behind a above;
+      low = λ r least before few. set.regs r least few (λ same. absurd (omega (arith, same, before))) ∙ x.low r least before few;
+      high = λ r past lt. set.regs r (omega (arith, past, some)) (omega (arith, lt)) (λ same. absurd (omega (arith, same, past, named))) ∙ x.high r past lt;
+      flag = set.flag ∙ x.flag;
     })
+  where
+    at : (u : ℕ) → u < slots → Sets homes slot v t (with_word homes slot v t) → (slot ≡ u) ⊎ (slot ≡ u → ⊥) → word_of homes u (with_word homes slot v t) ≡ put slot v words u
+    at u lt set (inl same) = ap (λ i. word_of homes i (with_word homes slot v t)) (sym same) ∙ set.own ∙ sym (put_same slot v words) ∙ ap (put slot v words) same
+    at u lt set (inr other) = set.others u other ∙ x.frame_is u lt ∙ sym (put_other slot u v words other)
 
 -- so many arguments
-stores_arguments : (frame j : ℕ) (args : List ℕ) (m t : Run) → j ≤ length args → length args ≤ frame → frame ≤ 128 → frame ≤ m.st → ((i : ℕ) → i < length args → held (FIRST + i) m ≡ slice_index args i) → Taken frame (first_words 0 args) m t
-    → Taken frame (first_words j args) m (run by_words (all_done (arguments_kept j)) t)
-stores_arguments frame zero args m t few fits most enough given x = x
-stores_arguments frame (suc j) args m t few fits most enough given x =
-    let y = stores_arguments frame j args m t (omega (arith, few)) fits most enough given x in
-    let n = run by_words (all_done (arguments_kept j)) t in
-    let is : held (FIRST + j) n ≡ slice_index args j = ap (λ r. word_in r (FIRST + j)) y.regs ∙ given j few in
-    subst (Taken frame (first_words (suc j) args) m)
-    (sym (ap (λ steps. run by_words steps t) (done_append (arguments_kept j) (argument_kept j)) ∙ run_append by_words (all_done (arguments_kept j)) (all_done (argument_kept j)) t))
-    (stores_word frame j (FIRST + j) (slice_index args j) (first_words j args) (first_words (suc j) args) m n (omega (arith, few, fits)) most enough is y (λ u. one_more j u args))
+stores_arguments : (homes frame slots j : ℕ) (args : List ℕ) (m t : Run) → FIRST + length args ≤ homes → j ≤ length args → length args ≤ slots → length args ≤ 6 → slots ≤ frame → frame ≤ 128 → frame ≤ m.st
+    → ((i : ℕ) → i < length args → held (FIRST + i) m ≡ slice_index args i) → ((i : ℕ) → slice_index args i < 2 ^ 32) → Taken homes frame slots (first_words 0 args) m t
+    → Taken homes frame slots (first_words j args) m (run by_words (all_done (arguments_kept homes j)) t)
+stores_arguments homes frame slots zero args m t before few inside small fits most enough given words x = x
+stores_arguments homes frame slots (suc j) args m t before few inside small fits most enough given words x =
+    let y = stores_arguments homes frame slots j args m t before (omega (arith, few)) inside small fits most enough given words x in
+    let n = run by_words (all_done (arguments_kept homes j)) t in
+    let is : held (FIRST + j) n ≡ slice_index args j = y.low (FIRST + j) (omega arith) (omega (arith, few, before)) (omega (arith, few, small)) ∙ given j few in
+    subst (Taken homes frame slots (first_words (suc j) args) m)
+    (sym (ap (λ steps. run by_words steps t) (done_append (arguments_kept homes j) (argument_kept homes j)) ∙ run_append by_words (all_done (arguments_kept homes j)) (all_done (argument_kept homes j)) t))
+    (stores_word homes frame slots j (FIRST + j) (slice_index args j) (first_words j args) (first_words (suc j) args) m n (omega (arith, before)) (omega (arith, few, inside)) fits most enough is (words j) y (λ u. one_more j u args))
 
 all_words : (args : List ℕ) (u : ℕ) → first_words (length args) args u ≡ slice_index args u
 all_words args u = by (cases_lt u (length args))
@@ -94,11 +184,14 @@ all_words args u = by (cases_lt u (length args))
     by (inl less) = rw (lt-ltb u (length args) less) refl
     by (inr more) = rw (le-ltb u (length args) more) (sym (past_all args u more))
 
-pub begins_frame : (frame parameters : ℕ) (args : List ℕ) (m : Run) → IsWhole m → length args ≡ parameters → parameters ≤ frame → frame ≤ 128 → frame ≤ m.st → ((i : ℕ) → i < length args → held (FIRST + i) m ≡ slice_index args i)
-    → Taken frame (slice_index args) m (run by_words (all_done (arguments_kept parameters)) (once by_words (stack_op Sres frame) m))
-begins_frame frame parameters args m whole count fits most enough given =
-    subst (λ p. Taken frame (slice_index args) m (run by_words (all_done (arguments_kept p)) (once by_words (stack_op Sres frame) m))) count
-    (retold (stores_arguments frame (length args) args m (once by_words (stack_op Sres frame) m) (omega arith) (omega (arith, count, fits)) most enough given (takes_frame by_words frame args m whole enough)))
+pub begins_frame : (homes frame slots parameters : ℕ) (args : List ℕ) (m : Run) → IsWhole m → length args ≡ parameters → FIRST + parameters ≤ homes → parameters ≤ slots → parameters ≤ 6 → slots ≤ frame → frame ≤ 128 → frame ≤ m.st
+    → ((i : ℕ) → i < length args → held (FIRST + i) m ≡ slice_index args i) → ((i : ℕ) → slice_index args i < 2 ^ 32)
+    → Taken homes frame slots (slice_index args) m (run by_words (all_done (arguments_kept homes parameters)) (run by_words (all_done (words_cleared homes slots)) (once by_words (stack_op Sres frame) m)))
+begins_frame homes frame slots parameters args m whole count before inside small fits most enough given words =
+    let t = run by_words (all_done (words_cleared homes slots)) (once by_words (stack_op Sres frame) m) in
+    subst (λ p. Taken homes frame slots (slice_index args) m (run by_words (all_done (arguments_kept homes p)) t)) count
+    (retold (stores_arguments homes frame slots (length args) args m t (omega (arith, count, before)) (omega arith) (omega (arith, count, inside)) (omega (arith, count, small)) fits most enough given words
+    (takes_words by_words homes frame slots args m (omega (arith, before)) fits whole enough)))
   where
-    retold : {t : Run} → Taken frame (first_words (length args) args) m t → Taken frame (slice_index args) m t
-    retold x = record { whole = x.whole; regs = x.regs; memory = x.memory; st = x.st; frame_is = λ u lt. x.frame_is u lt ∙ all_words args u; behind = x.behind }
+    retold : {t : Run} → Taken homes frame slots (first_words (length args) args) m t → Taken homes frame slots (slice_index args) m t
+    retold x = record { whole = x.whole; memory = x.memory; st = x.st; frame_is = λ u lt. x.frame_is u lt ∙ all_words args u; behind = x.behind; low = x.low; high = x.high; flag = x.flag }

@@ -15,7 +15,7 @@ use Rattle.sp_emit.proofs.Products.{low_product}
 use Rattle.sp_emit.proofs.Leaving.{computed_leaves, compared_leaves, both_leaves, times_leaves, not_lt}
 use Rattle.sp_emit.proofs.Quotients.{unsigned_quotient_left, unsigned_rest_left, signed_quotient_left, signed_rest_left}
 
-pub binary_leaves : (from : Sources) (f : ℕ → List Step) (op : SpBinary) (rd ra rb : ℕ) (m : Run) → IsWhole m → 1 ≤ rd → rd < 32 → rb < 22
+pub binary_leaves : (from : Sources) (f : ℕ → List Step) (op : SpBinary) (rd ra rb : ℕ) (m : Run) → IsWhole m → 1 ≤ rd → rd < 32 → rb < 27
     → held ra m < 2 ^ 32 → held rb m < 2 ^ 32 → held rd (run from (parts_trail f (binary_code op rd ra rb)) m) ≡ binary_value op (held ra m) (held rb m)
 binary_leaves from f binary.Or rd ra rb m whole some few low wa wb = both_leaves from comb.Por rd ra rb m whole some few (omega (arith, low))
 binary_leaves from f binary.And rd ra rb m whole some few low wa wb = both_leaves from comb.Pand rd ra rb m whole some few (omega (arith, low))

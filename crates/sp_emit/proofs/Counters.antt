@@ -12,7 +12,7 @@ use Rattle.sp_shape.specs.Turning.{AsksAgain, AsksNoMore, AllTurns}
 use Rattle.sp_emit.specs.Holding.{held}
 use Rattle.sp_emit.specs.Instructions.{always, with_short, compare_short, load_slot, store_slot}
 use Rattle.sp_emit.specs.Statements.{turns_tail}
-use Rattle.sp_emit.specs.declared.registers.TheConstants.{SPARE, TEST}
+use Rattle.sp_emit.specs.declared.registers.TheConstants.{SPARE, OVERRUN, TEST}
 use Rattle.sp_emit.proofs.Asking.{same_ways, back_again, again, no_more, counts_down, tests_count}
 use Rattle.sp_emit.proofs.Calm.{calm_run}
 use Rattle.sp_emit.proofs.Frames.{put_same}
@@ -52,8 +52,8 @@ counter_counted from counter n m told whole few is word =
     let m3 = once from (store_slot always counter SPARE) m2 in
     let h3 = once_whole from (store_slot always counter SPARE) m2 h2 in
     let stored = did_store_slot from always counter SPARE m2 h2 h2.fits.always few in
-    let before = calm_run from SPARE (all_done (load_slot SPARE counter ∷ with_short always imm.Sub SPARE SPARE 1 ∷ [])) m (omega arith) whole refl in
-    let behind = calm_run from SPARE (all_done (compare_short cmp.Neq TEST SPARE 0 ∷ [])) m3 (omega arith) h3 refl in
+    let before = calm_run from SPARE OVERRUN (all_done (load_slot SPARE counter ∷ with_short always imm.Sub SPARE SPARE 1 ∷ [])) m (omega arith) whole refl in
+    let behind = calm_run from SPARE OVERRUN (all_done (compare_short cmp.Neq TEST SPARE 0 ∷ [])) m3 (omega arith) h3 refl in
     let c3 : held SPARE m3 ≡ n = ap (held SPARE) stored ∙ c2 in
     record {
       whole = behind.whole;
@@ -71,7 +71,7 @@ record TailCounted (counter n : ℕ) (m t : Run) : Type 0 where
 tail_counted : (from : Sources) (counter n : ℕ) (m : Run) → from.stack ≡ true → IsWhole m → counter < 128 → m.stack (m.st + counter) ≡ suc n → suc n < 2 ^ 32 → TailCounted counter n m (run from (all_done (turns_tail counter)) m)
 tail_counted from counter n m told whole few is word =
     let c = counter_counted from counter n m told whole few is word in
-    let k = calm_run from SPARE (all_done (back_again TEST)) (run from (all_done (counter_tested counter)) m) (omega arith) c.whole refl in
+    let k = calm_run from SPARE OVERRUN (all_done (back_again TEST)) (run from (all_done (counter_tested counter)) m) (omega arith) c.whole refl in
     record {
       keeps = passes_done from (counter + 1) (turns_tail counter) m (omega (arith, few)) whole (turns_tail_low (counter + 1) counter (omega arith));
       word = ap (λ s. s (m.st + counter)) k.stack ∙ c.word;

@@ -1,12 +1,10 @@
 -- The code of a well-formed unit is a well-formed shape.
-use Rattle.std.proofs.Common.{◌≡◌, ℕ, zero, suc, ◌+◌, ◌-◌, ◌≤◌, Bool, true, false, List, [], ◌∷◌, length, map, slice_index_or, refl, ap, ◌∙◌, arith, if◌then◌else◌, Option, None, Some}
+use Rattle.std.proofs.Common.{◌≡◌, ℕ, zero, suc, ◌+◌, ◌-◌, ◌≤◌, Bool, true, false, List, [], ◌∷◌, length, slice_index_or, refl, ap, ◌∙◌, arith, if◌then◌else◌, Option, None, Some, ◌++◌}
 use Rattle.std.proofs.lemmas.Bool.{and_parts, and_from}
-use Rattle.std.proofs.lemmas.List.{get_or-map, length-map}
 use Rattle.std.specs.Prelude.{nat_lt, nat_le, nat_eq, ◌&&◌}
 use Rattle.patmos_instr.specs.Bundles.{Slots}
 use Rattle.c_world.specs.declared.region.Region.{Region}
 use Rattle.c_world.specs.declared.region.Region.TheVariants as region
-use Rattle.sp_tree.specs.Cost.{is_held}
 use Rattle.sp_tree.specs.Formed as tree
 use Rattle.sp_tree.specs.Need.{need}
 use Rattle.sp_tree.specs.Plain.{PlainSp, constant, frame_word, cell_word, array_word, before_one, between_two}
@@ -18,9 +16,17 @@ use Rattle.sp_tree.specs.declared.operators.SpUnary.TheVariants as unary
 use Rattle.sp_shape.specs.Formed.{are_calm, part_formed, parts_formed, function_formed, functions_formed, is_formed}
 use Rattle.sp_shape.specs.Parts.{straight, repeats, calls_to, leaves, PlainParts, no_part, part, one, joined, PlainShape}
 use Rattle.sp_shape.proofs.Lists.{calm_append}
-use Rattle.sp_emit.specs.Expressions.{unary_code, binary_code, held_code, element_code, number_of, expr_code}
+use Rattle.sp_emit.proofs.Operands.{operand_is}
+use Rattle.sp_emit.specs.Expressions.{unary_code, binary_code, held_code, element_code, number_of, expr_code, operand_code, value_at, is_immediate}
 use Rattle.sp_emit.specs.Functions.{argument_kept, first_counter, arguments_kept, state_kept, function_begin, function_rest, function_code, emitted}
-use Rattle.sp_emit.specs.Statements.{cell_write, element_write, target_write, args_code, behind_call, call_code, send_code, overrun_code, slot_set, stmt_code, stmts_code}
+use Rattle.sp_shape.specs.Formed.{is_flow}
+use Rattle.sp_emit.specs.Functions.{codes}
+use Rattle.sp_emit.specs.Instructions.{always, set_short}
+use Rattle.sp_emit.specs.Places.{in_register, read_op, set_op, word_cleared, words_cleared, homes_of, fetch_op}
+use Rattle.sp_emit.specs.declared.registers.TheConstants.{RESULT, MASK, FIRST}
+use Rattle.sp_emit.proofs.Codes.{codes_at, codes_length}
+use Rattle.sp_emit.proofs.WordPlaces.{read_op_is, set_op_is, fetch_op_is}
+use Rattle.sp_emit.specs.Statements.{cell_write, element_write, target_write, mask_handed, way_to, args_code, behind_call, call_code, send_code, overrun_code, slot_set, stmt_code, stmts_code}
 
 -- ---- parts after others
 
@@ -39,10 +45,10 @@ either n false a b fa fb = fb
 
 -- ---- expressions
 
-unary_calm : (op : SpUnary) (rd : ℕ) → are_calm (unary_code op rd) ≡ true
-unary_calm unary.Minus rd = refl
-unary_calm unary.Complement rd = refl
-unary_calm unary.Not rd = refl
+unary_calm : (op : SpUnary) (rd ra : ℕ) → are_calm (unary_code op rd ra) ≡ true
+unary_calm unary.Minus rd ra = refl
+unary_calm unary.Complement rd ra = refl
+unary_calm unary.Not rd ra = refl
 
 pub binary_formed : (n : ℕ) (op : SpBinary) (rd ra rb : ℕ) → parts_formed n (binary_code op rd ra rb) ≡ true
 binary_formed n binary.Or rd ra rb = refl
@@ -67,118 +73,142 @@ binary_formed n binary.DivideUnsigned rd ra rb = refl
 binary_formed n binary.Remainder rd ra rb = refl
 binary_formed n binary.RemainderUnsigned rd ra rb = refl
 
-held_calm : (op : SpBinary) (rd n : ℕ) → are_calm (held_code op rd n) ≡ true
-held_calm binary.Or rd n = refl
-held_calm binary.And rd n = refl
-held_calm binary.BitOr rd n = refl
-held_calm binary.BitXor rd n = refl
-held_calm binary.BitAnd rd n = refl
-held_calm binary.Equal rd n = refl
-held_calm binary.NotEqual rd n = refl
-held_calm binary.Less rd n = refl
-held_calm binary.LessUnsigned rd n = refl
-held_calm binary.LessEqual rd n = refl
-held_calm binary.LessEqualUnsigned rd n = refl
-held_calm binary.ShiftLeft rd n = refl
-held_calm binary.ShiftRight rd n = refl
-held_calm binary.ShiftRightUnsigned rd n = refl
-held_calm binary.Plus rd n = refl
-held_calm binary.Minus rd n = refl
-held_calm binary.Times rd n = refl
-held_calm binary.Divide rd n = refl
-held_calm binary.DivideUnsigned rd n = refl
-held_calm binary.Remainder rd n = refl
-held_calm binary.RemainderUnsigned rd n = refl
+held_calm : (op : SpBinary) (rd ra n : ℕ) → are_calm (held_code op rd ra n) ≡ true
+held_calm binary.Or rd ra n = refl
+held_calm binary.And rd ra n = refl
+held_calm binary.BitOr rd ra n = refl
+held_calm binary.BitXor rd ra n = refl
+held_calm binary.BitAnd rd ra n = refl
+held_calm binary.Equal rd ra n = refl
+held_calm binary.NotEqual rd ra n = refl
+held_calm binary.Less rd ra n = refl
+held_calm binary.LessUnsigned rd ra n = refl
+held_calm binary.LessEqual rd ra n = refl
+held_calm binary.LessEqualUnsigned rd ra n = refl
+held_calm binary.ShiftLeft rd ra n = refl
+held_calm binary.ShiftRight rd ra n = refl
+held_calm binary.ShiftRightUnsigned rd ra n = refl
+held_calm binary.Plus rd ra n = refl
+held_calm binary.Minus rd ra n = refl
+held_calm binary.Times rd ra n = refl
+held_calm binary.Divide rd ra n = refl
+held_calm binary.DivideUnsigned rd ra n = refl
+held_calm binary.Remainder rd ra n = refl
+held_calm binary.RemainderUnsigned rd ra n = refl
 
-pub expr_formed : (n : ℕ) (e : PlainSp) (rd : ℕ) → parts_formed n (expr_code e rd) ≡ true
-expr_formed n (constant v) rd = refl
-expr_formed n (frame_word slot) rd = refl
-expr_formed n (cell_word cell) rd = refl
-expr_formed n (array_word array index) rd = both n (expr_code index rd) (one (straight (element_code array rd))) (expr_formed n index rd) refl
-expr_formed n (before_one op of) rd =
-    both n (expr_code of rd) (one (straight (unary_code op rd))) (expr_formed n of rd) (lone n (unary_code op rd) (unary_calm op rd))
-expr_formed n (between_two op a b) rd =
-    let held = both n (expr_code a rd) (one (straight (held_code op rd (number_of b)))) (expr_formed n a rd)
-    (lone n (held_code op rd (number_of b)) (held_calm op rd (number_of b))) in
-    let second_first = both n (expr_code b rd) (joined (expr_code a (rd + 1)) (binary_code op rd (rd + 1) rd)) (expr_formed n b rd)
-    (both n (expr_code a (rd + 1)) (binary_code op rd (rd + 1) rd) (expr_formed n a (rd + 1)) (binary_formed n op rd (rd + 1) rd)) in
-    let first_first = both n (expr_code a rd) (joined (expr_code b (rd + 1)) (binary_code op rd rd (rd + 1))) (expr_formed n a rd)
-    (both n (expr_code b (rd + 1)) (binary_code op rd rd (rd + 1)) (expr_formed n b (rd + 1)) (binary_formed n op rd rd (rd + 1))) in
-    either n (is_held op b) (joined (expr_code a rd) (one (straight (held_code op rd (number_of b)))))
-    (if nat_lt (need a) (need b) then joined (expr_code b rd) (joined (expr_code a (rd + 1)) (binary_code op rd (rd + 1) rd))
-    else joined (expr_code a rd) (joined (expr_code b (rd + 1)) (binary_code op rd rd (rd + 1))))
+read_flow : (homes rd slot : ℕ) → is_flow (read_op homes rd slot) ≡ false
+read_flow homes rd slot = read_op_is (λ op. is_flow op ≡ false) homes rd slot refl refl
+
+fetch_flow : (homes slot : ℕ) → is_flow (fetch_op homes slot) ≡ false
+fetch_flow homes slot = fetch_op_is (λ op. is_flow op ≡ false) homes slot refl refl
+
+set_flow : (homes slot rs : ℕ) → is_flow (set_op homes slot rs) ≡ false
+set_flow homes slot rs = set_op_is (λ op. is_flow op ≡ false) homes slot rs refl refl
+
+pub expr_formed : (homes : ℕ) (n : ℕ) (e : PlainSp) (rd : ℕ) → parts_formed n (expr_code homes e rd) ≡ true
+expr_formed homes n (constant v) rd = refl
+expr_formed homes n (frame_word slot) rd = rw (read_flow homes rd slot) refl
+expr_formed homes n (cell_word cell) rd = refl
+expr_formed homes n (array_word array index) rd = both n (expr_code homes index rd) (one (straight (element_code array rd))) (expr_formed homes n index rd) refl
+expr_formed homes n (before_one op of) rd =
+    both n (operand_code homes of rd) (one (straight (unary_code op rd (value_at homes of rd)))) (operand_is (λ ps. parts_formed n ps ≡ true) homes of rd refl (expr_formed homes n of rd)) (lone n (unary_code op rd (value_at homes of rd)) (unary_calm op rd (value_at homes of rd)))
+expr_formed homes n (between_two op a b) rd =
+    let held = both n (operand_code homes a rd) (one (straight (held_code op rd (value_at homes a rd) (number_of b)))) (operand_is (λ ps. parts_formed n ps ≡ true) homes a rd refl (expr_formed homes n a rd))
+    (lone n (held_code op rd (value_at homes a rd) (number_of b)) (held_calm op rd (value_at homes a rd) (number_of b))) in
+    let second_first = both n (operand_code homes b rd) (joined (operand_code homes a (rd + 1)) (binary_code op rd (value_at homes a (rd + 1)) (value_at homes b rd))) (operand_is (λ ps. parts_formed n ps ≡ true) homes b rd refl (expr_formed homes n b rd))
+    (both n (operand_code homes a (rd + 1)) (binary_code op rd (value_at homes a (rd + 1)) (value_at homes b rd)) (operand_is (λ ps. parts_formed n ps ≡ true) homes a (rd + 1) refl (expr_formed homes n a (rd + 1))) (binary_formed n op rd (value_at homes a (rd + 1)) (value_at homes b rd))) in
+    let first_first = both n (operand_code homes a rd) (joined (operand_code homes b (rd + 1)) (binary_code op rd (value_at homes a rd) (value_at homes b (rd + 1)))) (operand_is (λ ps. parts_formed n ps ≡ true) homes a rd refl (expr_formed homes n a rd))
+    (both n (operand_code homes b (rd + 1)) (binary_code op rd (value_at homes a rd) (value_at homes b (rd + 1))) (operand_is (λ ps. parts_formed n ps ≡ true) homes b (rd + 1) refl (expr_formed homes n b (rd + 1))) (binary_formed n op rd (value_at homes a rd) (value_at homes b (rd + 1)))) in
+    either n (is_immediate op b) (joined (operand_code homes a rd) (one (straight (held_code op rd (value_at homes a rd) (number_of b)))))
+    (if nat_lt (need a) (need b) then joined (operand_code homes b rd) (joined (operand_code homes a (rd + 1)) (binary_code op rd (value_at homes a (rd + 1)) (value_at homes b rd)))
+    else joined (operand_code homes a rd) (joined (operand_code homes b (rd + 1)) (binary_code op rd (value_at homes a rd) (value_at homes b (rd + 1)))))
     held
-    (either n (nat_lt (need a) (need b)) (joined (expr_code b rd) (joined (expr_code a (rd + 1)) (binary_code op rd (rd + 1) rd)))
-    (joined (expr_code a rd) (joined (expr_code b (rd + 1)) (binary_code op rd rd (rd + 1)))) second_first first_first)
+    (either n (nat_lt (need a) (need b)) (joined (operand_code homes b rd) (joined (operand_code homes a (rd + 1)) (binary_code op rd (value_at homes a (rd + 1)) (value_at homes b rd))))
+    (joined (operand_code homes a rd) (joined (operand_code homes b (rd + 1)) (binary_code op rd (value_at homes a rd) (value_at homes b (rd + 1))))) second_first first_first)
 
 -- ---- statements
 
-cell_calm : (mask : ℕ) (r : Region) (word : ℕ) → are_calm (cell_write mask (record { region = r; word = word })) ≡ true
-cell_calm mask region.Scratch word = refl
-cell_calm mask region.Comm word = refl
-cell_calm mask region.Private word = refl
-cell_calm mask region.Shared word = refl
+cell_calm : (homes : ℕ) (mask : ℕ) (r : Region) (word : ℕ) → are_calm (cell_write homes mask (record { region = r; word = word })) ≡ true
+cell_calm homes mask region.Scratch word = rw (fetch_flow homes mask) refl
+cell_calm homes mask region.Comm word = rw (fetch_flow homes mask) refl
+cell_calm homes mask region.Private word = rw (fetch_flow homes mask) refl
+cell_calm homes mask region.Shared word = rw (fetch_flow homes mask) refl
 
-element_calm : (mask : ℕ) (r : Region) (first length : ℕ) → are_calm (element_write mask (record { region = r; first = first; length = length })) ≡ true
-element_calm mask region.Scratch first length = refl
-element_calm mask region.Comm first length = refl
-element_calm mask region.Private first length = refl
-element_calm mask region.Shared first length = refl
+element_calm : (homes : ℕ) (mask : ℕ) (r : Region) (first length : ℕ) → are_calm (element_write homes mask (record { region = r; first = first; length = length })) ≡ true
+element_calm homes mask region.Scratch first length = rw (fetch_flow homes mask) refl
+element_calm homes mask region.Comm first length = rw (fetch_flow homes mask) refl
+element_calm homes mask region.Private first length = rw (fetch_flow homes mask) refl
+element_calm homes mask region.Shared first length = rw (fetch_flow homes mask) refl
 
-target_formed : (n mask : ℕ) (target : PlainSpTarget) → parts_formed n (target_write mask target) ≡ true
-target_formed n mask (to_slot slot) = refl
-target_formed n mask (to_cell cell) = lone n (cell_write mask cell) (cell_calm mask cell.region cell.word)
-target_formed n mask (to_array array index) =
-    both n (expr_code index 4) (one (straight (element_write mask array))) (expr_formed n index 4)
-    (lone n (element_write mask array) (element_calm mask array.region array.first array.length))
+target_formed : (homes : ℕ) (n mask : ℕ) (target : PlainSpTarget) → parts_formed n (target_write homes mask target) ≡ true
+target_formed homes n mask (to_slot slot) = rw (fetch_flow homes mask, set_flow homes slot FIRST) refl
+target_formed homes n mask (to_cell cell) = lone n (cell_write homes mask cell) (cell_calm homes mask cell.region cell.word)
+target_formed homes n mask (to_array array index) =
+    both n (expr_code homes index 4) (one (straight (element_write homes mask array))) (expr_formed homes n index 4)
+    (lone n (element_write homes mask array) (element_calm homes mask array.region array.first array.length))
 
-pub args_formed : (n : ℕ) (args : List PlainSp) (rd : ℕ) → parts_formed n (args_code args rd) ≡ true
-args_formed n [] rd = refl
-args_formed n (e ∷ args) rd = both n (expr_code e rd) (args_code args (rd + 1)) (expr_formed n e rd) (args_formed n args (rd + 1))
+pub args_formed : (homes : ℕ) (n : ℕ) (args : List PlainSp) (rd : ℕ) → parts_formed n (args_code homes args rd) ≡ true
+args_formed homes n [] rd = refl
+args_formed homes n (e ∷ args) rd = both n (expr_code homes e rd) (args_code homes args (rd + 1)) (expr_formed homes n e rd) (args_formed homes n args (rd + 1))
 
-behind_calm : (frame mask : ℕ) (result : Option ℕ) → are_calm (behind_call frame mask result) ≡ true
-behind_calm frame mask None = refl
-behind_calm frame mask (Some slot) = refl
+behind_calm : (homes : ℕ) (frame mask : ℕ) (result : Option ℕ) → are_calm (behind_call homes frame mask result) ≡ true
+behind_calm homes frame mask None = refl
+behind_calm homes frame mask (Some slot) = rw (fetch_flow homes mask, set_flow homes slot RESULT) refl
 
-pub call_formed : (n frame mask k : ℕ) (result : Option ℕ) → nat_lt k n ≡ true → parts_formed n (call_code frame mask k result) ≡ true
-call_formed n frame mask k result earlier =
-    and_from (nat_lt k n && true) (parts_formed n (one (straight (behind_call frame mask result)))) (and_from (nat_lt k n) true earlier refl)
-    (lone n (behind_call frame mask result) (behind_calm frame mask result))
+pub call_formed : (homes : ℕ) (n frame mask k : ℕ) (result : Option ℕ) → nat_lt k n ≡ true → parts_formed n (call_code homes frame mask k result) ≡ true
+call_formed homes n frame mask k result earlier =
+    both n (one (straight (mask_handed homes mask))) (joined (one (way_to k)) (one (straight (behind_call homes frame mask result)))) (lone n (mask_handed homes mask) (rw (read_flow homes MASK mask) refl))
+    (and_from (nat_lt k n && true) (parts_formed n (one (straight (behind_call homes frame mask result)))) (and_from (nat_lt k n) true earlier refl)
+    (lone n (behind_call homes frame mask result) (behind_calm homes frame mask result)))
 
 mutual
-  pub stmt_formed : (fs : List PlainFunction) (n slots frame counter : ℕ) (t : PlainStmt) → tree.stmt_formed fs n slots t ≡ true → parts_formed n (stmt_code frame counter t) ≡ true
-  stmt_formed fs n slots frame counter (masks slot e) h = both n (expr_code e 3) (slot_set slot) (expr_formed n e 3) refl
-  stmt_formed fs n slots frame counter (writes mask target e) h = both n (expr_code e 3) (target_write mask target) (expr_formed n e 3) (target_formed n mask target)
-  stmt_formed fs n slots frame counter (calls mask k args result) h =
+  pub stmt_formed : (homes : ℕ) (fs : List PlainFunction) (n slots frame counter : ℕ) (t : PlainStmt) → tree.stmt_formed fs n slots t ≡ true → parts_formed n (stmt_code homes frame counter t) ≡ true
+  stmt_formed homes fs n slots frame counter (masks slot e) h = both n (expr_code homes e 3) (slot_set homes slot) (expr_formed homes n e 3) (rw (set_flow homes slot FIRST) refl)
+  stmt_formed homes fs n slots frame counter (writes mask target e) h = both n (expr_code homes e 3) (target_write homes mask target) (expr_formed homes n e 3) (target_formed homes n mask target)
+  stmt_formed homes fs n slots frame counter (calls mask k args result) h =
       let b = and_parts (nat_lt mask slots) (tree.callee_formed fs n k (length args) && (tree.args_formed slots args && tree.result_formed slots result)) h in
       let c = and_parts (tree.callee_formed fs n k (length args)) (tree.args_formed slots args && tree.result_formed slots result) b.1 in
       let earlier = and_parts (nat_lt k n) (nat_eq (length args) (slice_index_or fs k no_function).parameters) c.0 in
-      both n (args_code args 3) (call_code frame mask k result) (args_formed n args 3) (call_formed n frame mask k result earlier.0)
-  stmt_formed fs n slots frame counter (transfers mask core source target count) h =
-      let sent = one (straight (send_code mask core)) in
-      both n (expr_code source 3) (joined (expr_code target 4) (joined (expr_code count 5) sent)) (expr_formed n source 3)
-      (both n (expr_code target 4) (joined (expr_code count 5) sent) (expr_formed n target 4) (both n (expr_code count 5) sent (expr_formed n count 5) refl))
-  stmt_formed fs n slots frame counter (overruns mask e) h = both n (expr_code e 3) (one (straight (overrun_code mask))) (expr_formed n e 3) refl
-  stmt_formed fs n slots frame counter (turns count body) h =
+      both n (args_code homes args 3) (call_code homes frame mask k result) (args_formed homes n args 3) (call_formed homes n frame mask k result earlier.0)
+  stmt_formed homes fs n slots frame counter (transfers mask core source target count) h =
+      let sent = one (straight (send_code homes mask core)) in
+      both n (expr_code homes source 3) (joined (expr_code homes target 4) (joined (expr_code homes count 5) sent)) (expr_formed homes n source 3)
+      (both n (expr_code homes target 4) (joined (expr_code homes count 5) sent) (expr_formed homes n target 4) (both n (expr_code homes count 5) sent (expr_formed homes n count 5) (rw (fetch_flow homes mask) refl)))
+  stmt_formed homes fs n slots frame counter (overruns mask e) h = both n (expr_code homes e 3) (one (straight (overrun_code homes mask))) (expr_formed homes n e 3) (rw (fetch_flow homes mask) refl)
+  stmt_formed homes fs n slots frame counter (turns count body) h =
       let b = and_parts (nat_lt 0 count) (tree.stmts_formed fs n slots body) h in
-      let turn = and_from (parts_formed n (stmts_code frame (counter - 1) body)) true (stmts_formed fs n slots frame (counter - 1) body b.1) refl in
-      and_from (nat_lt 0 count && (parts_formed n (stmts_code frame (counter - 1) body) && true)) true
-      (and_from (nat_lt 0 count) (parts_formed n (stmts_code frame (counter - 1) body) && true) b.0 turn) refl
+      let turn = and_from (parts_formed n (stmts_code homes frame (counter - 1) body)) true (stmts_formed homes fs n slots frame (counter - 1) body b.1) refl in
+      and_from (nat_lt 0 count && (parts_formed n (stmts_code homes frame (counter - 1) body) && true)) true
+      (and_from (nat_lt 0 count) (parts_formed n (stmts_code homes frame (counter - 1) body) && true) b.0 turn) refl
 
-  pub stmts_formed : (fs : List PlainFunction) (n slots frame counter : ℕ) (ts : PlainStmts) → tree.stmts_formed fs n slots ts ≡ true → parts_formed n (stmts_code frame counter ts) ≡ true
-  stmts_formed fs n slots frame counter no_stmt h = refl
-  stmts_formed fs n slots frame counter (stmt t rest) h =
+  pub stmts_formed : (homes : ℕ) (fs : List PlainFunction) (n slots frame counter : ℕ) (ts : PlainStmts) → tree.stmts_formed fs n slots ts ≡ true → parts_formed n (stmts_code homes frame counter ts) ≡ true
+  stmts_formed homes fs n slots frame counter no_stmt h = refl
+  stmts_formed homes fs n slots frame counter (stmt t rest) h =
       let b = and_parts (tree.stmt_formed fs n slots t) (tree.stmts_formed fs n slots rest) h in
-      both n (stmt_code frame counter t) (stmts_code frame counter rest) (stmt_formed fs n slots frame counter t b.0) (stmts_formed fs n slots frame counter rest b.1)
+      both n (stmt_code homes frame counter t) (stmts_code homes frame counter rest) (stmt_formed homes fs n slots frame counter t b.0) (stmts_formed homes fs n slots frame counter rest b.1)
 
 -- ---- functions
 
-kept_calm : (n : ℕ) → are_calm (arguments_kept n) ≡ true
-kept_calm zero = refl
-kept_calm (suc n) = calm_append (arguments_kept n) (argument_kept n) (kept_calm n) refl
+kept_calm : (homes : ℕ) (n : ℕ) → are_calm (arguments_kept homes n) ≡ true
+kept_calm homes zero = refl
+kept_calm homes (suc n) = calm_append (arguments_kept homes n) (argument_kept homes n) (kept_calm homes n) (rw (set_flow homes n (FIRST + n)) refl)
 
-begin_calm : (f : PlainFunction) → are_calm (function_begin f) ≡ true
-begin_calm f = calm_append (arguments_kept f.parameters) (state_kept f) (kept_calm f.parameters) refl
+cleared_one : (homes slot : ℕ) → are_calm (word_cleared homes slot) ≡ true
+unfolding word_cleared
+cleared_one homes slot = by (in_register homes slot)
+  where
+    by : (b : Bool) → are_calm (if b then set_short always (homes + slot) 0 ∷ [] else []) ≡ true
+    by true = refl
+    by false = refl
+
+cleared_calm : (homes n : ℕ) → are_calm (words_cleared homes n) ≡ true
+cleared_calm homes zero = refl
+cleared_calm homes (suc n) = calm_append (words_cleared homes n) (word_cleared homes n) (cleared_calm homes n) (cleared_one homes n)
+
+begin_calm : (homes : ℕ) (f : PlainFunction) → are_calm (function_begin homes f) ≡ true
+begin_calm homes f =
+    calm_append (words_cleared homes (tree.slots_of f)) (arguments_kept homes f.parameters ++ state_kept homes f) (cleared_calm homes (tree.slots_of f))
+    (calm_append (arguments_kept homes f.parameters) (state_kept homes f) (kept_calm homes f.parameters) (rw (set_flow homes f.mask MASK) refl))
 
 -- a function ends as what stands after parts does
 ends : (n : ℕ) (a b : PlainParts) → parts_formed n a ≡ true → function_formed n b ≡ true → function_formed n (joined a b) ≡ true
@@ -194,12 +224,12 @@ ends n (part (calls_to k tail) a) b fa fb =
     and_from (part_formed n (calls_to k tail)) (function_formed n (joined a b)) parts.0 (ends n a b parts.1 fb)
 ends n (part (leaves tail) a) b fa fb = absurd cc
 
-function_is_formed : (fs : List PlainFunction) (n : ℕ) (f : PlainFunction) → tree.function_formed fs n f ≡ true → function_formed n (function_code f) ≡ true
-function_is_formed fs n f h =
+function_is_formed : (homes : ℕ) (fs : List PlainFunction) (n : ℕ) (f : PlainFunction) → tree.function_formed fs n f ≡ true → function_formed n (function_code homes f) ≡ true
+function_is_formed homes fs n f h =
     let b = tree_body fs n f h in
-    and_from (are_calm (function_begin f)) (function_formed n (joined (stmts_code f.frame (first_counter f) f.body) (function_rest f))) (begin_calm f)
-    (ends n (stmts_code f.frame (first_counter f) f.body) (function_rest f)
-    (stmts_formed fs n (tree.slots_of f) f.frame (first_counter f) f.body b) refl)
+    and_from (are_calm (function_begin homes f)) (function_formed n (joined (stmts_code homes f.frame (first_counter f) f.body) (function_rest homes f))) (begin_calm homes f)
+    (ends n (stmts_code homes f.frame (first_counter f) f.body) (function_rest homes f)
+    (stmts_formed homes fs n (tree.slots_of f) f.frame (first_counter f) f.body b) (rw (read_flow homes RESULT f.result) refl))
   where
     tree_body : (fs : List PlainFunction) (n : ℕ) (f : PlainFunction) → tree.function_formed fs n f ≡ true → tree.stmts_formed fs n (tree.slots_of f) f.body ≡ true
     tree_body fs n f h =
@@ -211,14 +241,14 @@ function_is_formed fs n f h =
         let g = and_parts (nat_lt f.result (tree.slots_of f)) (tree.stmts_formed fs n (tree.slots_of f) f.body) e.1 in
         g.1
 
-functions_are_formed : (fs : List PlainFunction) (n : ℕ) → n ≤ length fs → tree.functions_formed fs n ≡ true → functions_formed (map function_code fs) n ≡ true
+functions_are_formed : (fs : List PlainFunction) (n : ℕ) → n ≤ length fs → tree.functions_formed fs n ≡ true → functions_formed (codes fs) n ≡ true
 functions_are_formed fs zero within h = refl
 functions_are_formed fs (suc n) within h =
     let b = and_parts (tree.functions_formed fs n) (tree.function_formed fs n (slice_index_or fs n no_function)) h in
-    let same = get_or-map function_code fs n no_function no_part (omega (arith, within)) in
-    and_from (functions_formed (map function_code fs) n) (function_formed n (slice_index_or (map function_code fs) n no_part))
+    let same = codes_at fs n (omega (arith, within)) in
+    and_from (functions_formed (codes fs) n) (function_formed n (slice_index_or (codes fs) n no_part))
     (functions_are_formed fs n (omega (arith, within)) b.0)
-    (ap (function_formed n) same ∙ function_is_formed fs n (slice_index_or fs n no_function) b.1)
+    (ap (function_formed n) same ∙ function_is_formed (homes_of fs n) fs n (slice_index_or fs n no_function) b.1)
 
 pub emitted_formed : (u : PlainUnit) → tree.is_formed u ≡ true → is_formed (emitted u) ≡ true
 emitted_formed u h =
@@ -226,7 +256,7 @@ emitted_formed u h =
     let b = and_parts (tree.functions_formed u.functions (length u.functions)) _ a.1 in
     let c = and_parts (tree.entry_formed u) (tree.data_formed u && _) b.1 in
     let d = and_parts (nat_lt u.entry (length u.functions)) _ c.0 in
-    let many = length-map u.functions function_code in
+    let many = codes_length u.functions in
     and_from (nat_le (length (emitted u).functions) 512) _ (ap (λ k. nat_le k 512) many ∙ a.0)
     (and_from (functions_formed (emitted u).functions (length (emitted u).functions)) (nat_lt u.entry (length (emitted u).functions))
     (ap (functions_formed (emitted u).functions) many ∙ functions_are_formed u.functions (length u.functions) (omega arith) b.0)

@@ -1,10 +1,9 @@
 -- The loops of functions make all their turns, and each function returns to the place that was set when it began.
-use Rattle.std.proofs.Common.{◌≡◌, ℕ, zero, suc, ◌+◌, ◌*◌, ◌<◌, ◌≤◌, ◌==◌, ◌⊎◌, inl, inr, Bool, true, false, List, [], ◌∷◌, ◌++◌, length, map, slice_index_or, nat_lt, refl, sym, ap, ◌∙◌, subst, arith}
+use Rattle.std.proofs.Common.{◌≡◌, ℕ, zero, suc, ◌+◌, ◌*◌, ◌<◌, ◌≤◌, ◌==◌, ◌⊎◌, inl, inr, Bool, true, false, List, [], ◌∷◌, ◌++◌, length, slice_index_or, nat_lt, refl, sym, ap, ◌∙◌, subst, arith}
 use Rattle.std.specs.Bool.{MatchBool}
 use Rattle.std.specs.List.{list_all}
 use Rattle.std.specs.Prelude.{nat_le}
 use Rattle.std.proofs.lemmas.Bool.{cases_lt, and_parts, leb-true, ltb-true, eqb-false}
-use Rattle.std.proofs.lemmas.List.{get_or-map, length-map}
 use Rattle.shared_order.specs.Words.{put}
 use Rattle.patmos_instr.specs.declared.functions.ImmFunc.TheVariants as imm
 use Rattle.patmos_instr.specs.declared.functions.StackFunc.TheVariants.{Sres, Sfree}
@@ -15,29 +14,33 @@ use Rattle.patmos_instr.specs.declared.specials.WritableSpecial.TheVariants as w
 use Rattle.patmos_sem.specs.Effects.{special_in}
 use Rattle.sp_tree.specs.Formed.{slots_of, function_formed, functions_formed, entry_formed, is_formed}
 use Rattle.sp_tree.specs.Statements.{PlainFunction, no_function, PlainUnit}
-use Rattle.sp_shape.proofs.Whole.{once_whole, run_append, run_whole}
+use Rattle.sp_shape.proofs.Whole.{once_whole, run_whole}
 use Rattle.sp_shape.specs.Memory.{Memory}
 use Rattle.sp_shape.specs.Parts.{no_part, joined}
 use Rattle.sp_shape.specs.Run.{Run, Sources, Back, returns, once, run, at_begin, IsWhole}
 use Rattle.sp_shape.specs.Trail.{Step, all_done}
 use Rattle.sp_shape.specs.Turning.{Returns, PartsTurn, back_of, FunctionsTurn, ShapeTurns}
-use Rattle.sp_shape.proofs.Lists.{all_append, done_append}
+use Rattle.sp_shape.proofs.Lists.{all_append}
+use Rattle.sp_emit.specs.Functions.{codes}
+use Rattle.sp_emit.specs.Places.{read_word, set_word, words_cleared, homes_of}
+use Rattle.sp_emit.proofs.Codes.{codes_at, codes_length}
+use Rattle.sp_emit.proofs.WordPlaces.{read_is, set_op_is, cleared_all}
 use Rattle.sp_emit.specs.Counts.{HasStmtsCounts, HasCounts}
-use Rattle.sp_emit.specs.Functions.{arguments_kept, state_kept, base_slot, offset_slot, first_counter, function_begin, function_end, function_rest, function_code, return_tail, emitted}
+use Rattle.sp_emit.specs.Functions.{arguments_kept, base_slot, offset_slot, first_counter, function_begin, function_end, function_rest, function_code, return_tail, emitted}
 use Rattle.sp_emit.specs.Holding.{held}
-use Rattle.sp_emit.specs.Instructions.{always, idle, return, copy, with_short, from_special, to_special, stack_op, load_slot, store_slot}
+use Rattle.sp_emit.specs.Instructions.{always, under, idle, return, copy, with_short, from_special, to_special, stack_op, load_slot, store_slot}
 use Rattle.sp_emit.specs.Statements.{stmts_code}
-use Rattle.sp_emit.specs.declared.registers.TheConstants.{RESULT, MASK, SPARE, OVERRUN}
+use Rattle.sp_emit.specs.declared.registers.TheConstants.{RESULT, MASK, FIRST, SPARE, OVERRUN}
 use Rattle.sp_emit.proofs.Asking.{same_ways}
 use Rattle.sp_emit.proofs.Frames.{put_same, put_other}
 use Rattle.sp_emit.proofs.Homing.{back_then, keeps_place, done_back}
 use Rattle.sp_emit.proofs.Leaving.{slot_leaves}
 use Rattle.sp_emit.proofs.LoopTurns.{Callees, turns_joined, stmts_turn}
 use Rattle.sp_emit.proofs.Once.{did_write, got}
-use Rattle.sp_emit.proofs.Passed.{taken, entered, worked, enters_frame, works_in_frame, all_pass}
+use Rattle.sp_emit.proofs.Passed.{taken, cleared, entered, worked, enters_frame, works_in_frame, all_pass}
 use Rattle.sp_emit.proofs.Passing.{AllPass, passes_done}
 use Rattle.sp_emit.proofs.Returning.{did_return}
-use Rattle.sp_emit.proofs.Serves.{Parts, parts_of_function, code_of}
+use Rattle.sp_emit.proofs.Serves.{begin_run, Parts, parts_of_function, code_of}
 use Rattle.sp_emit.proofs.Storing.{did_store_slot}
 
 -- ---- the place is kept in the frame
@@ -59,19 +62,24 @@ special_stored from s slot m whole few =
     ∙ ap (λ t. put (t.st + slot) (held SPARE t) t.stack) did
     ∙ ap (λ x. put (m.st + slot) x m.stack) (got SPARE v m whole (omega arith) (omega arith))
 
-arguments_keep : (n : ℕ) → list_all keeps_place (arguments_kept n) ≡ true
-arguments_keep zero = refl
-arguments_keep (suc n) = all_append keeps_place (arguments_kept n) _ (arguments_keep n) refl
+set_keeps : (homes slot rs : ℕ) → keeps_place (set_word homes always slot rs) ≡ true
+set_keeps homes slot rs = set_op_is (λ op. keeps_place (under always op) ≡ true) homes slot rs refl refl
 
-entered_home : (from : Sources) (fs : List PlainFunction) (number : ℕ) (f : PlainFunction) (m : Run) → Parts fs number f → IsWhole m → Holds (base_slot f) (offset_slot f) (back_of m) (entered from f m)
-unfolding entered taken
-entered_home from fs number f m p whole =
+arguments_keep : (homes : ℕ) (n : ℕ) → list_all keeps_place (arguments_kept homes n) ≡ true
+arguments_keep homes zero = refl
+arguments_keep homes (suc n) = all_append keeps_place (arguments_kept homes n) _ (arguments_keep homes n) (rw (set_keeps homes n (FIRST + n)) refl)
+
+entered_home : (homes : ℕ) (from : Sources) (fs : List PlainFunction) (number : ℕ) (f : PlainFunction) (m : Run) → Parts fs number f → IsWhole m → Holds (base_slot f) (offset_slot f) (back_of m) (entered homes from f m)
+unfolding entered cleared taken
+entered_home homes from fs number f m p whole =
     let t0 = once from (stack_op Sres f.frame) m in
-    let t1 = run from (all_done (arguments_kept f.parameters)) t0 in
-    let mask = with_short always imm.Xor MASK MASK 1 ∷ store_slot always f.mask MASK ∷ [] in
+    let tc = run from (all_done (words_cleared homes (slots_of f))) t0 in
+    let t1 = run from (all_done (arguments_kept homes f.parameters)) tc in
+    let mask = with_short always imm.Xor MASK MASK 1 ∷ set_word homes always f.mask MASK ∷ [] in
     let n2 = run from (all_done mask) t1 in
-    let h2 = run_whole from (all_done mask) t1 (run_whole from (all_done (arguments_kept f.parameters)) t0 (once_whole from (stack_op Sres f.frame) m whole)) in
-    let b2 = back_then (back_then (done_back from (stack_op Sres f.frame ∷ []) m refl) (done_back from (arguments_kept f.parameters) t0 (arguments_keep f.parameters))) (done_back from mask t1 refl) in
+    let h2 = run_whole from (all_done mask) t1 (run_whole from (all_done (arguments_kept homes f.parameters)) tc (run_whole from (all_done (words_cleared homes (slots_of f))) t0 (once_whole from (stack_op Sres f.frame) m whole))) in
+    let b2 = back_then (back_then (back_then (done_back from (stack_op Sres f.frame ∷ []) m refl) (done_back from (words_cleared homes (slots_of f)) t0 (cleared_all keeps_place homes (slots_of f) (λ r. refl))))
+    (done_back from (arguments_kept homes f.parameters) tc (arguments_keep homes f.parameters))) (done_back from mask t1 (rw (set_keeps homes f.mask MASK) refl)) in
     let base = from_special SPARE special.Srb ∷ store_slot always (base_slot f) SPARE ∷ [] in
     let n4 = run from (all_done base) n2 in
     let p4 = kept_word from (base_slot f) special.Srb n2 h2 (omega (arith, p.frame, p.room)) in
@@ -94,13 +102,13 @@ entered_home from fs number f m p whole =
         let h = once_whole from (from_special SPARE s) n whole in
         ap (λ t. t.st) (did_store_slot from always slot SPARE t h h.fits.always few) ∙ ap (λ t. t.st) (did_write from always (FromSpecial SPARE s) n whole whole.fits.always refl refl)
 
-worked_home : (from : Sources) (code : ℕ → List Step) (fs : List PlainFunction) (number low : ℕ) (f : PlainFunction) (m : Run) → Parts fs number f → AllPass from code number low → IsWhole m → low + 128 ≤ m.st
-    → Holds (base_slot f) (offset_slot f) (back_of m) (worked from code f m)
-worked_home from code fs number low f m p others whole enough =
-    let e = entered from f m in
-    let w = worked from code f m in
-    let h = entered_home from fs number f m p whole in
-    let k = (works_in_frame from code fs number low f m p others whole enough).keeps in
+worked_home : (homes : ℕ) (from : Sources) (code : ℕ → List Step) (fs : List PlainFunction) (number low : ℕ) (f : PlainFunction) (m : Run) → Parts fs number f → AllPass from code number low → IsWhole m → low + 128 ≤ m.st
+    → Holds (base_slot f) (offset_slot f) (back_of m) (worked homes from code f m)
+worked_home homes from code fs number low f m p others whole enough =
+    let e = entered homes from f m in
+    let w = worked homes from code f m in
+    let h = entered_home homes from fs number f m p whole in
+    let k = (works_in_frame homes from code fs number low f m p others whole enough).keeps in
     record {
       base_is = ap (λ st. w.stack (st + base_slot f)) k.st ∙ k.stack (e.st + base_slot f) (omega (arith, p.room)) ∙ h.base_is;
       offset_is = ap (λ st. w.stack (st + offset_slot f)) k.st ∙ k.stack (e.st + offset_slot f) (omega (arith, p.room)) ∙ h.offset_is;
@@ -114,8 +122,8 @@ record Home (back : Back) (t : Run) : Type 0 where
   base : t.regs.srb ≡ back.base
   offset : t.regs.sro ≡ back.offset
 
-brings_home : (from : Sources) (f : PlainFunction) (back : Back) (m : Run) → from.stack ≡ true → base_slot f < 128 → offset_slot f < 128 → IsWhole m → Holds (base_slot f) (offset_slot f) back m → Home back (run from (all_done (function_end f)) m)
-brings_home from f back m told few_base few_offset whole h =
+brings_home : (homes : ℕ) (from : Sources) (f : PlainFunction) (back : Back) (m : Run) → from.stack ≡ true → base_slot f < 128 → offset_slot f < 128 → IsWhole m → Holds (base_slot f) (offset_slot f) back m → Home back (run from (all_done (function_end homes f)) m)
+brings_home homes from f back m told few_base few_offset whole h =
     let e1 = once from (load_slot SPARE (base_slot f)) m in
     let h1 = once_whole from (load_slot SPARE (base_slot f)) m whole in
     let e2 = once from (to_special writable.Srb SPARE) e1 in
@@ -126,11 +134,11 @@ brings_home from f back m told few_base few_offset whole h =
     let h3 = once_whole from (load_slot SPARE (offset_slot f)) e2 h2 in
     let e4 = once from (to_special writable.Sro SPARE) e3 in
     let did4 = did_write from always (ToSpecial writable.Sro SPARE) e3 h3 h3.fits.always refl refl in
-    let rest = load_slot RESULT f.result ∷ copy MASK OVERRUN ∷ stack_op Sfree f.frame ∷ [] in
+    let rest = read_word homes RESULT f.result ∷ copy MASK OVERRUN ∷ stack_op Sfree f.frame ∷ [] in
     let b3 = done_back from (load_slot SPARE (offset_slot f) ∷ []) e2 refl in
-    let b7 = done_back from rest e4 refl in
+    let b7 = done_back from rest e4 (read_is (λ b. list_all keeps_place (b ∷ copy MASK OVERRUN ∷ stack_op Sfree f.frame ∷ []) ≡ true) homes RESULT f.result refl refl) in
     record {
-      whole = run_whole from (all_done (function_end f)) m whole;
+      whole = run_whole from (all_done (function_end homes f)) m whole;
       base = b7.base ∙ ap (λ t. t.regs.srb) did4 ∙ b3.base ∙ ap (λ t. t.regs.srb) did2 ∙ slot_leaves from SPARE (base_slot f) m told whole (omega arith) (omega arith) few_base ∙ h.base_is;
       offset = b7.offset ∙ ap (λ t. t.regs.sro) did4 ∙ slot_leaves from SPARE (offset_slot f) e2 told h2 (omega arith) (omega arith) few_offset
           ∙ ap (λ st. e2.stack (st + offset_slot f)) k.st ∙ k.stack (m.st + offset_slot f) (omega arith) ∙ h.offset_is;
@@ -143,43 +151,41 @@ asks_home from back t h =
 
 -- ---- functions
 
-begin_run : (from : Sources) (f : PlainFunction) (m : Run) → run from (all_done (function_begin f)) m ≡ entered from f m
-unfolding entered taken
-begin_run from f m =
-    let t0 = once from (stack_op Sres f.frame) m in
-    ap (λ steps. run from steps t0) (done_append (arguments_kept f.parameters) (state_kept f)) ∙ run_append from (all_done (arguments_kept f.parameters)) (all_done (state_kept f)) t0
+begin_entered : (homes : ℕ) (from : Sources) (f : PlainFunction) (m : Run) → run from (all_done (function_begin homes f)) m ≡ entered homes from f m
+unfolding entered cleared taken
+begin_entered homes from f m = begin_run homes from f m
 
-function_turns : (from : Sources) (code : ℕ → List Step) (Called : ℕ → Run → Type 0) (fs : List PlainFunction) (number low : ℕ) (f : PlainFunction) → from.stack ≡ true → function_formed fs number f ≡ true → HasStmtsCounts f.body → Callees from code Called number low
-    → (m : Run) → IsWhole m → low + 128 ≤ m.st → PartsTurn (run from) code Called (back_of m) (function_code f) m
+function_turns : (homes : ℕ) (from : Sources) (code : ℕ → List Step) (Called : ℕ → Run → Type 0) (fs : List PlainFunction) (number low : ℕ) (f : PlainFunction) → from.stack ≡ true → function_formed fs number f ≡ true → HasStmtsCounts f.body → Callees from code Called number low
+    → (m : Run) → IsWhole m → low + 128 ≤ m.st → PartsTurn (run from) code Called (back_of m) (function_code homes f) m
 unfolding worked
-function_turns from code Called fs number low f told formed counts callees m whole enough =
+function_turns homes from code Called fs number low f told formed counts callees m whole enough =
     let p = parts_of_function fs number f formed in
-    let e = enters_frame from fs number f m p whole (omega (arith, enough, p.frame)) in
-    let body = stmts_code f.frame (first_counter f) f.body in
-    let w = worked from code f m in
-    let home = brings_home from f (back_of m) w told (omega (arith, p.frame, p.room)) (omega (arith, p.frame, p.room)) (works_in_frame from code fs number low f m p callees.passing whole enough).whole
-    (worked_home from code fs number low f m p callees.passing whole enough) in (
+    let e = enters_frame homes from fs number f m p whole (omega (arith, enough, p.frame)) in
+    let body = stmts_code homes f.frame (first_counter f) f.body in
+    let w = worked homes from code f m in
+    let home = brings_home homes from f (back_of m) w told (omega (arith, p.frame, p.room)) (omega (arith, p.frame, p.room)) (works_in_frame homes from code fs number low f m p callees.passing whole enough).whole
+    (worked_home homes from code fs number low f m p callees.passing whole enough) in (
       tt,
-      subst (PartsTurn (run from) code Called (back_of m) (joined body (function_rest f))) (sym (begin_run from f m))
-          (turns_joined from code Called (back_of m) body (function_rest f) (entered from f m)
-          (stmts_turn from code Called (back_of m) fs number (slots_of f) f.frame (first_counter f) low told callees (omega (arith, p.mask)) (omega (arith, p.frame, p.room)) f.body (omega (arith, p.room, p.mask)) p.body counts (entered from f m) e.whole (omega (arith, e.st, enough, p.frame)))
-          (tt, (asks_home from (back_of m) (run from (all_done (function_end f)) w) home, tt))),
+      subst (PartsTurn (run from) code Called (back_of m) (joined body (function_rest homes f))) (sym (begin_entered homes from f m))
+          (turns_joined from code Called (back_of m) body (function_rest homes f) (entered homes from f m)
+          (stmts_turn homes from code Called (back_of m) fs number (slots_of f) f.frame (first_counter f) low told callees (omega (arith, p.mask)) (omega (arith, p.frame, p.room)) f.body (omega (arith, p.room, p.mask)) p.body counts (entered homes from f m) e.whole (omega (arith, e.st, enough, p.frame)))
+          (tt, (asks_home from (back_of m) (run from (all_done (function_end homes f)) w) home, tt))),
     )
 
 -- ---- all of them, in order
 
 functions_turn : (from : Sources) (fs : List PlainFunction) → from.stack ≡ true → HasCounts fs → (n : ℕ) → n ≤ length fs → functions_formed fs n ≡ true → (k : ℕ) → k < n → (m : Run) → IsWhole m → n * 128 ≤ m.st
-    → FunctionsTurn (run from) (map function_code fs) n k m
+    → FunctionsTurn (run from) (codes fs) n k m
 functions_turn from fs told counts zero within formed k less m whole enough = tt
 functions_turn from fs told counts (suc n) within formed k less m whole enough =
     let parts = and_parts (functions_formed fs n) (function_formed fs n (slice_index_or fs n no_function)) formed in
     by parts.1 (record { passing = all_pass from fs n (omega (arith, within)) parts.0; turning = functions_turn from fs told counts n (omega (arith, within)) parts.0 }) (k == n) refl
   where
-    by : function_formed fs n (slice_index_or fs n no_function) ≡ true → Callees from (code_of fs n) (FunctionsTurn (run from) (map function_code fs) n) n (n * 128) → (b : Bool) → (k == n) ≡ b
-        → MatchBool b (PartsTurn (run from) (code_of fs n) (FunctionsTurn (run from) (map function_code fs) n) (back_of m) (slice_index_or (map function_code fs) n no_part) m) (FunctionsTurn (run from) (map function_code fs) n k m)
+    by : function_formed fs n (slice_index_or fs n no_function) ≡ true → Callees from (code_of fs n) (FunctionsTurn (run from) (codes fs) n) n (n * 128) → (b : Bool) → (k == n) ≡ b
+        → MatchBool b (PartsTurn (run from) (code_of fs n) (FunctionsTurn (run from) (codes fs) n) (back_of m) (slice_index_or (codes fs) n no_part) m) (FunctionsTurn (run from) (codes fs) n k m)
     by own callees true is =
-        subst (λ c. PartsTurn (run from) (code_of fs n) (FunctionsTurn (run from) (map function_code fs) n) (back_of m) c m) (sym (get_or-map function_code fs n no_function no_part (omega (arith, within))))
-        (function_turns from (code_of fs n) (FunctionsTurn (run from) (map function_code fs) n) fs n (n * 128) (slice_index_or fs n no_function) told own (counts n) callees m whole (omega (arith, enough)))
+        subst (λ c. PartsTurn (run from) (code_of fs n) (FunctionsTurn (run from) (codes fs) n) (back_of m) c m) (sym (codes_at fs n (omega (arith, within))))
+        (function_turns (homes_of fs n) from (code_of fs n) (FunctionsTurn (run from) (codes fs) n) fs n (n * 128) (slice_index_or fs n no_function) told own (counts n) callees m whole (omega (arith, enough)))
     by own callees false other = callees.turning k (earlier (cases_lt k n)) m whole (omega (arith, enough))
       where
         earlier : (k < n) ⊎ (n ≤ k) → k < n
@@ -194,6 +200,6 @@ task_turns u from memory loads backs told formed counts =
     let d = and_parts (nat_lt u.entry (length u.functions)) ((slice_index_or u.functions u.entry no_function).parameters == 0) c.0 in
     let begin = at_begin memory loads backs in
     let few = leb-true (length u.functions) 512 a.0 in
-    subst (λ n. FunctionsTurn (run from) (map function_code u.functions) n u.entry begin) (sym (length-map u.functions function_code))
+    subst (λ n. FunctionsTurn (run from) (codes u.functions) n u.entry begin) (sym (codes_length u.functions))
     (functions_turn from u.functions told counts (length u.functions) (omega arith) b.0 u.entry (ltb-true u.entry (length u.functions) d.0) begin
     (record { fits = record { count = refl; pred_count = refl; zero = refl; always = refl }; pending = refl }) (omega (arith, few)))

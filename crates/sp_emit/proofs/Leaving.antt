@@ -26,7 +26,6 @@ use Rattle.c_world.specs.World.{World}
 use Rattle.sp_tree.specs.Formed.{all_rooms, first_of, cell_formed}
 use Rattle.sp_tree.specs.Values.{cell_value}
 use Rattle.sp_tree.specs.declared.expressions.SpCell.{SpCell}
-use Rattle.sp_tree.specs.Cost.{held_below}
 use Rattle.sp_tree.specs.Operators.{unary_value, binary_value}
 use Rattle.sp_tree.specs.declared.operators.SpBinary.{SpBinary}
 use Rattle.sp_tree.specs.declared.operators.SpBinary.TheVariants as binary
@@ -34,7 +33,7 @@ use Rattle.sp_tree.specs.declared.operators.SpUnary.{SpUnary}
 use Rattle.sp_tree.specs.declared.operators.SpUnary.TheVariants as unary
 use Rattle.sp_shape.specs.Run.{Run, Sources, by_words, word_given, first_load, once, run, IsWhole}
 use Rattle.sp_shape.specs.Trail.{Step, all_done, parts_trail}
-use Rattle.sp_emit.specs.Expressions.{truth_to, unary_code, binary_code, computed, both_code, compared_code, held_compared, held_code, address_of, cell_space, cell_code}
+use Rattle.sp_emit.specs.Expressions.{truth_to, unary_code, binary_code, computed, both_code, compared_code, held_compared, held_code, address_of, cell_space, cell_code, immediate_below, held_computed}
 use Rattle.sp_emit.specs.Holding.{held}
 use Rattle.sp_emit.specs.Instructions.{always, where_so, set_long, set_short, with_short, compute, compare, compare_short, combine, from_special, load_from, load_slot}
 use Rattle.sp_emit.specs.Means.{HasWords}
@@ -93,11 +92,11 @@ compared_leaves from func rd ra rb m whole some few =
     ap (λ t. held rd (run from (all_done (truth_to rd)) t)) (did_compare from func TEST ra rb m whole)
     ∙ truth_leaves from rd b (with_written (write.Predicate TEST b) m) (whole_written (write.Predicate TEST b) m whole) some few (so_got TEST b m whole (omega arith) (omega arith))
 
-held_compared_leaves : (from : Sources) (func : CmpFunc) (rd n : ℕ) (m : Run) → IsWhole m → 1 ≤ rd → rd < 32
-    → held rd (run from (all_done (held_compared func rd n)) m) ≡ flag (compare_value func (held rd m) n)
-held_compared_leaves from func rd n m whole some few =
-    let b = compare_value func (held rd m) n in
-    ap (λ t. held rd (run from (all_done (truth_to rd)) t)) (did_compare_short from func TEST rd n m whole)
+held_compared_leaves : (from : Sources) (func : CmpFunc) (rd ra n : ℕ) (m : Run) → IsWhole m → 1 ≤ rd → rd < 32
+    → held rd (run from (all_done (held_compared func rd ra n)) m) ≡ flag (compare_value func (held ra m) n)
+held_compared_leaves from func rd ra n m whole some few =
+    let b = compare_value func (held ra m) n in
+    ap (λ t. held rd (run from (all_done (truth_to rd)) t)) (did_compare_short from func TEST ra n m whole)
     ∙ truth_leaves from rd b (with_written (write.Predicate TEST b) m) (whole_written (write.Predicate TEST b) m whole) some few (so_got TEST b m whole (omega arith) (omega arith))
 
 -- two tests, and the truth of what they come to
@@ -126,12 +125,12 @@ not_not : (b : Bool) → flag b ≡ flag (not (not b))
 not_not true = refl
 not_not false = refl
 
-pub unary_leaves : (from : Sources) (op : SpUnary) (rd : ℕ) (m : Run) → IsWhole m → 1 ≤ rd → rd < 32 → held rd (run from (all_done (unary_code op rd)) m) ≡ unary_value op (held rd m)
-unary_leaves from unary.Minus rd m whole some few =
-    ap (held rd) (did_compute from alu.Sub rd 0 rd m whole) ∙ got rd _ m whole some few ∙ ap (λ z. (z + (2 ^ 32 - held rd m)) % 2 ^ 32) whole.fits.zero
-unary_leaves from unary.Complement rd m whole some few =
-    ap (held rd) (did_compute from alu.Nor rd rd 0 m whole) ∙ got rd _ m whole some few ∙ ap (λ z. 2 ^ 32 - 1 - bit_or (held rd m) z) whole.fits.zero ∙ ap (λ z. 2 ^ 32 - 1 - z) (or_zero_r (held rd m))
-unary_leaves from unary.Not rd m whole some few = held_compared_leaves from cmp.Eq rd 0 m whole some few ∙ not_not (held rd m == 0)
+pub unary_leaves : (from : Sources) (op : SpUnary) (rd ra : ℕ) (m : Run) → IsWhole m → 1 ≤ rd → rd < 32 → held rd (run from (all_done (unary_code op rd ra)) m) ≡ unary_value op (held ra m)
+unary_leaves from unary.Minus rd ra m whole some few =
+    ap (held rd) (did_compute from alu.Sub rd 0 ra m whole) ∙ got rd _ m whole some few ∙ ap (λ z. (z + (2 ^ 32 - held ra m)) % 2 ^ 32) whole.fits.zero
+unary_leaves from unary.Complement rd ra m whole some few =
+    ap (held rd) (did_compute from alu.Nor rd ra 0 m whole) ∙ got rd _ m whole some few ∙ ap (λ z. 2 ^ 32 - 1 - bit_or (held ra m) z) whole.fits.zero ∙ ap (λ z. 2 ^ 32 - 1 - z) (or_zero_r (held ra m))
+unary_leaves from unary.Not rd ra m whole some few = held_compared_leaves from cmp.Eq rd ra 0 m whole some few ∙ not_not (held ra m == 0)
 
 -- ---- operators on two words
 
@@ -159,30 +158,34 @@ not_lt a b = by (cases_lt b a)
 none_below : (n : ℕ) → nat_lt n 0 ≡ true → ⊥
 none_below n less = omega (arith, ltb-true n 0 less)
 
+held_computed_leaves : (from : Sources) (func : ImmFunc) (rd ra n : ℕ) (m : Run) → IsWhole m → 1 ≤ rd → rd < 32
+    → held rd (run from (all_done (held_computed func rd ra n)) m) ≡ alu_value (alu_of func) (held ra m) n
+held_computed_leaves from func rd ra n m whole some few = ap (held rd) (did_with_short from func rd ra n m whole) ∙ got rd _ m whole some few
+
 -- an operator whose second operand an instruction holds
-pub held_leaves : (from : Sources) (op : SpBinary) (rd n : ℕ) (m : Run) → IsWhole m → 1 ≤ rd → rd < 32 → nat_lt n (held_below op) ≡ true
-    → held rd (run from (all_done (held_code op rd n)) m) ≡ binary_value op (held rd m) n
-held_leaves from binary.BitAnd rd n m whole some few small = ap (held rd) (did_with_short from imm.And rd rd n m whole) ∙ got rd _ m whole some few
-held_leaves from binary.Equal rd n m whole some few small = held_compared_leaves from cmp.Eq rd n m whole some few
-held_leaves from binary.NotEqual rd n m whole some few small = held_compared_leaves from cmp.Neq rd n m whole some few
-held_leaves from binary.Less rd n m whole some few small = held_compared_leaves from cmp.Lt rd n m whole some few
-held_leaves from binary.LessUnsigned rd n m whole some few small = held_compared_leaves from cmp.Ult rd n m whole some few
-held_leaves from binary.LessEqual rd n m whole some few small = held_compared_leaves from cmp.Le rd n m whole some few
-held_leaves from binary.LessEqualUnsigned rd n m whole some few small = held_compared_leaves from cmp.Ule rd n m whole some few ∙ ap flag (not_lt (held rd m) n)
-held_leaves from binary.Or rd n m whole some few small = absurd (none_below n small)
-held_leaves from binary.And rd n m whole some few small = absurd (none_below n small)
-held_leaves from binary.BitOr rd n m whole some few small = absurd (none_below n small)
-held_leaves from binary.BitXor rd n m whole some few small = absurd (none_below n small)
-held_leaves from binary.ShiftLeft rd n m whole some few small = absurd (none_below n small)
-held_leaves from binary.ShiftRight rd n m whole some few small = absurd (none_below n small)
-held_leaves from binary.ShiftRightUnsigned rd n m whole some few small = absurd (none_below n small)
-held_leaves from binary.Plus rd n m whole some few small = absurd (none_below n small)
-held_leaves from binary.Minus rd n m whole some few small = absurd (none_below n small)
-held_leaves from binary.Times rd n m whole some few small = absurd (none_below n small)
-held_leaves from binary.Divide rd n m whole some few small = absurd (none_below n small)
-held_leaves from binary.DivideUnsigned rd n m whole some few small = absurd (none_below n small)
-held_leaves from binary.Remainder rd n m whole some few small = absurd (none_below n small)
-held_leaves from binary.RemainderUnsigned rd n m whole some few small = absurd (none_below n small)
+pub held_leaves : (from : Sources) (op : SpBinary) (rd ra n : ℕ) (m : Run) → IsWhole m → 1 ≤ rd → rd < 32 → nat_lt n (immediate_below op) ≡ true
+    → held rd (run from (all_done (held_code op rd ra n)) m) ≡ binary_value op (held ra m) n
+held_leaves from binary.BitAnd rd ra n m whole some few small = held_computed_leaves from imm.And rd ra n m whole some few
+held_leaves from binary.Equal rd ra n m whole some few small = held_compared_leaves from cmp.Eq rd ra n m whole some few
+held_leaves from binary.NotEqual rd ra n m whole some few small = held_compared_leaves from cmp.Neq rd ra n m whole some few
+held_leaves from binary.Less rd ra n m whole some few small = held_compared_leaves from cmp.Lt rd ra n m whole some few
+held_leaves from binary.LessUnsigned rd ra n m whole some few small = held_compared_leaves from cmp.Ult rd ra n m whole some few
+held_leaves from binary.LessEqual rd ra n m whole some few small = held_compared_leaves from cmp.Le rd ra n m whole some few
+held_leaves from binary.LessEqualUnsigned rd ra n m whole some few small = held_compared_leaves from cmp.Ule rd ra n m whole some few ∙ ap flag (not_lt (held ra m) n)
+held_leaves from binary.Or rd ra n m whole some few small = absurd (none_below n small)
+held_leaves from binary.And rd ra n m whole some few small = absurd (none_below n small)
+held_leaves from binary.BitOr rd ra n m whole some few small = held_computed_leaves from imm.Or rd ra n m whole some few
+held_leaves from binary.BitXor rd ra n m whole some few small = held_computed_leaves from imm.Xor rd ra n m whole some few
+held_leaves from binary.ShiftLeft rd ra n m whole some few small = held_computed_leaves from imm.Sl rd ra n m whole some few
+held_leaves from binary.ShiftRight rd ra n m whole some few small = held_computed_leaves from imm.Sra rd ra n m whole some few
+held_leaves from binary.ShiftRightUnsigned rd ra n m whole some few small = held_computed_leaves from imm.Sr rd ra n m whole some few
+held_leaves from binary.Plus rd ra n m whole some few small = held_computed_leaves from imm.Add rd ra n m whole some few
+held_leaves from binary.Minus rd ra n m whole some few small = held_computed_leaves from imm.Sub rd ra n m whole some few
+held_leaves from binary.Times rd ra n m whole some few small = absurd (none_below n small)
+held_leaves from binary.Divide rd ra n m whole some few small = absurd (none_below n small)
+held_leaves from binary.DivideUnsigned rd ra n m whole some few small = absurd (none_below n small)
+held_leaves from binary.Remainder rd ra n m whole some few small = absurd (none_below n small)
+held_leaves from binary.RemainderUnsigned rd ra n m whole some few small = absurd (none_below n small)
 
 -- ---- accesses
 

@@ -2,7 +2,6 @@
 use Rattle.std.proofs.Common.{◌≡◌, ℕ, ◌+◌, ◌-◌, ◌^◌, ◌<◌, ◌≤◌, ◌==◌, Bool, true, false, ◌&&◌, if◌then◌else◌, List, [], ◌∷◌, Option, length, slice_index_or, nat_lt, refl, ap, ◌∙◌, subst, arith}
 use Rattle.std.proofs.lemmas.Bool.{and_parts, ltb-true}
 use Rattle.patmos_instr.specs.Bundles.{Slots}
-use Rattle.sp_tree.specs.Cost.{is_held}
 use Rattle.sp_tree.specs.Formed.{callee_formed, args_formed, result_formed, stmt_formed, stmts_formed, stmt_levels, stmts_levels}
 use Rattle.sp_tree.specs.Need.{need}
 use Rattle.sp_tree.specs.Plain.{PlainSp, constant, frame_word, cell_word, array_word, before_one, between_two}
@@ -14,19 +13,21 @@ use Rattle.sp_shape.specs.Parts.{straight, PlainParts, no_part, part, one, joine
 use Rattle.sp_shape.specs.Run.{Run, Sources, Back, once, run, begun, IsWhole}
 use Rattle.sp_shape.specs.Trail.{Step, all_done, part_trail, parts_trail}
 use Rattle.sp_shape.specs.Turning.{PartsTurn}
+use Rattle.sp_emit.proofs.Operands.{operand_is}
+use Rattle.sp_emit.specs.Places.{set_word}
 use Rattle.sp_emit.specs.Counts.{HasStmtCounts, HasStmtsCounts}
 use Rattle.sp_emit.specs.Division.{quotient_to, rest_to, signed_quotient_to, signed_rest_to}
-use Rattle.sp_emit.specs.Expressions.{unary_code, binary_code, held_code, element_code, number_of, expr_code}
+use Rattle.sp_emit.specs.Expressions.{unary_code, binary_code, held_code, element_code, number_of, expr_code, operand_code, value_at, is_immediate}
 use Rattle.sp_emit.specs.Holding.{held}
-use Rattle.sp_emit.specs.Instructions.{always, set_long, store_slot}
+use Rattle.sp_emit.specs.Instructions.{always, set_long}
 use Rattle.sp_emit.specs.Statements.{element_write, target_write, mask_handed, call_tail, args_code, call_code, send_code, overrun_code, slot_set, turns_begin, stmt_code, stmts_code}
-use Rattle.sp_emit.specs.declared.registers.TheConstants.{FIRST, SPARE}
+use Rattle.sp_emit.specs.declared.registers.TheConstants.{MASK, FIRST, SPARE}
 use Rattle.sp_emit.proofs.Counters.{counter_turns}
 use Rattle.sp_emit.proofs.DigitTurns.{division_turns, signed_division_turns}
 use Rattle.sp_emit.proofs.Formed as formed
 use Rattle.sp_emit.proofs.Frames.{put_same}
 use Rattle.sp_emit.proofs.Leaving.{constant_leaves}
-use Rattle.sp_emit.proofs.Low.{Low, args_low, stmt_low, stmts_low, turns_begin_low}
+use Rattle.sp_emit.proofs.Low.{Low, args_low, stmt_low, stmts_low, turns_begin_low, read_low}
 use Rattle.sp_emit.proofs.Passing.{AllPass, passes_then, passes_done, passes_parts, passes_begun, enough_still}
 use Rattle.sp_emit.proofs.Storing.{did_store_slot}
 
@@ -73,56 +74,56 @@ two_parts from f Called back xs ys x y m whole = turns_joined from f Called back
 bundles : (from : Sources) (f : ℕ → List Step) (Called : ℕ → Run → Type 0) (back : Back) (bs : List Slots) → Turn from f Called back (one (straight bs))
 bundles from f Called back bs m whole = (tt, tt)
 
-operator_turns : (from : Sources) (f : ℕ → List Step) (Called : ℕ → Run → Type 0) (back : Back) (op : SpBinary) (a b : PlainSp) (rd : ℕ) (held less : Bool)
-    → Turn from f Called back (expr_code a rd) → Turn from f Called back (expr_code b rd) → Turn from f Called back (expr_code a (rd + 1)) → Turn from f Called back (expr_code b (rd + 1))
-    → Turn from f Called back (if held then joined (expr_code a rd) (one (straight (held_code op rd (number_of b))))
-    else if less then joined (expr_code b rd) (joined (expr_code a (rd + 1)) (binary_code op rd (rd + 1) rd))
-    else joined (expr_code a rd) (joined (expr_code b (rd + 1)) (binary_code op rd rd (rd + 1))))
-operator_turns from f Called back op a b rd true less x y x1 y1 = two_parts from f Called back (expr_code a rd) _ x (bundles from f Called back (held_code op rd (number_of b)))
-operator_turns from f Called back op a b rd false true x y x1 y1 =
-    two_parts from f Called back (expr_code b rd) (joined (expr_code a (rd + 1)) (binary_code op rd (rd + 1) rd)) y
-    (two_parts from f Called back (expr_code a (rd + 1)) (binary_code op rd (rd + 1) rd) x1 (binary_turns from f Called back op rd (rd + 1) rd))
-operator_turns from f Called back op a b rd false false x y x1 y1 =
-    two_parts from f Called back (expr_code a rd) (joined (expr_code b (rd + 1)) (binary_code op rd rd (rd + 1))) x
-    (two_parts from f Called back (expr_code b (rd + 1)) (binary_code op rd rd (rd + 1)) y1 (binary_turns from f Called back op rd rd (rd + 1)))
+operator_turns : (homes : ℕ) (from : Sources) (f : ℕ → List Step) (Called : ℕ → Run → Type 0) (back : Back) (op : SpBinary) (a b : PlainSp) (rd : ℕ) (held less : Bool)
+    → Turn from f Called back (operand_code homes a rd) → Turn from f Called back (operand_code homes b rd) → Turn from f Called back (operand_code homes a (rd + 1)) → Turn from f Called back (operand_code homes b (rd + 1))
+    → Turn from f Called back (if held then joined (operand_code homes a rd) (one (straight (held_code op rd (value_at homes a rd) (number_of b))))
+    else if less then joined (operand_code homes b rd) (joined (operand_code homes a (rd + 1)) (binary_code op rd (value_at homes a (rd + 1)) (value_at homes b rd)))
+    else joined (operand_code homes a rd) (joined (operand_code homes b (rd + 1)) (binary_code op rd (value_at homes a rd) (value_at homes b (rd + 1)))))
+operator_turns homes from f Called back op a b rd true less x y x1 y1 = two_parts from f Called back (operand_code homes a rd) _ x (bundles from f Called back (held_code op rd (value_at homes a rd) (number_of b)))
+operator_turns homes from f Called back op a b rd false true x y x1 y1 =
+    two_parts from f Called back (operand_code homes b rd) (joined (operand_code homes a (rd + 1)) (binary_code op rd (value_at homes a (rd + 1)) (value_at homes b rd))) y
+    (two_parts from f Called back (operand_code homes a (rd + 1)) (binary_code op rd (value_at homes a (rd + 1)) (value_at homes b rd)) x1 (binary_turns from f Called back op rd (value_at homes a (rd + 1)) (value_at homes b rd)))
+operator_turns homes from f Called back op a b rd false false x y x1 y1 =
+    two_parts from f Called back (operand_code homes a rd) (joined (operand_code homes b (rd + 1)) (binary_code op rd (value_at homes a rd) (value_at homes b (rd + 1)))) x
+    (two_parts from f Called back (operand_code homes b (rd + 1)) (binary_code op rd (value_at homes a rd) (value_at homes b (rd + 1))) y1 (binary_turns from f Called back op rd (value_at homes a rd) (value_at homes b (rd + 1))))
 
-expr_turns : (from : Sources) (f : ℕ → List Step) (Called : ℕ → Run → Type 0) (back : Back) (e : PlainSp) (rd : ℕ) → Turn from f Called back (expr_code e rd)
-expr_turns from f Called back (constant n) rd m whole = (tt, tt)
-expr_turns from f Called back (frame_word slot) rd m whole = (tt, tt)
-expr_turns from f Called back (cell_word cell) rd m whole = (tt, tt)
-expr_turns from f Called back (array_word array index) rd m whole = two_parts from f Called back (expr_code index rd) (one (straight (element_code array rd))) (expr_turns from f Called back index rd) (bundles from f Called back (element_code array rd)) m whole
-expr_turns from f Called back (before_one op of) rd m whole = two_parts from f Called back (expr_code of rd) (one (straight (unary_code op rd))) (expr_turns from f Called back of rd) (bundles from f Called back (unary_code op rd)) m whole
-expr_turns from f Called back (between_two op a b) rd m whole =
-    operator_turns from f Called back op a b rd (is_held op b) (nat_lt (need a) (need b)) (expr_turns from f Called back a rd) (expr_turns from f Called back b rd) (expr_turns from f Called back a (rd + 1)) (expr_turns from f Called back b (rd + 1)) m whole
+expr_turns : (homes : ℕ) (from : Sources) (f : ℕ → List Step) (Called : ℕ → Run → Type 0) (back : Back) (e : PlainSp) (rd : ℕ) → Turn from f Called back (expr_code homes e rd)
+expr_turns homes from f Called back (constant n) rd m whole = (tt, tt)
+expr_turns homes from f Called back (frame_word slot) rd m whole = (tt, tt)
+expr_turns homes from f Called back (cell_word cell) rd m whole = (tt, tt)
+expr_turns homes from f Called back (array_word array index) rd m whole = two_parts from f Called back (expr_code homes index rd) (one (straight (element_code array rd))) (expr_turns homes from f Called back index rd) (bundles from f Called back (element_code array rd)) m whole
+expr_turns homes from f Called back (before_one op of) rd m whole = two_parts from f Called back (operand_code homes of rd) (one (straight (unary_code op rd (value_at homes of rd)))) (operand_is (Turn from f Called back) homes of rd (λ t done. tt) (expr_turns homes from f Called back of rd)) (bundles from f Called back (unary_code op rd (value_at homes of rd))) m whole
+expr_turns homes from f Called back (between_two op a b) rd m whole =
+    operator_turns homes from f Called back op a b rd (is_immediate op b) (nat_lt (need a) (need b)) (operand_is (Turn from f Called back) homes a rd (λ t done. tt) (expr_turns homes from f Called back a rd)) (operand_is (Turn from f Called back) homes b rd (λ t done. tt) (expr_turns homes from f Called back b rd)) (operand_is (Turn from f Called back) homes a (rd + 1) (λ t done. tt) (expr_turns homes from f Called back a (rd + 1))) (operand_is (Turn from f Called back) homes b (rd + 1) (λ t done. tt) (expr_turns homes from f Called back b (rd + 1))) m whole
 
-args_turn : (from : Sources) (f : ℕ → List Step) (Called : ℕ → Run → Type 0) (back : Back) (args : List PlainSp) (rd : ℕ) → Turn from f Called back (args_code args rd)
-args_turn from f Called back [] rd m whole = tt
-args_turn from f Called back (e ∷ args) rd m whole = two_parts from f Called back (expr_code e rd) (args_code args (rd + 1)) (expr_turns from f Called back e rd) (args_turn from f Called back args (rd + 1)) m whole
+args_turn : (homes : ℕ) (from : Sources) (f : ℕ → List Step) (Called : ℕ → Run → Type 0) (back : Back) (args : List PlainSp) (rd : ℕ) → Turn from f Called back (args_code homes args rd)
+args_turn homes from f Called back [] rd m whole = tt
+args_turn homes from f Called back (e ∷ args) rd m whole = two_parts from f Called back (expr_code homes e rd) (args_code homes args (rd + 1)) (expr_turns homes from f Called back e rd) (args_turn homes from f Called back args (rd + 1)) m whole
 
 -- ---- statements
 
-target_turns : (from : Sources) (f : ℕ → List Step) (Called : ℕ → Run → Type 0) (back : Back) (mask : ℕ) (target : PlainSpTarget) → Turn from f Called back (target_write mask target)
-target_turns from f Called back mask (to_slot slot) m whole = (tt, tt)
-target_turns from f Called back mask (to_cell cell) m whole = (tt, tt)
-target_turns from f Called back mask (to_array array index) m whole =
-    two_parts from f Called back (expr_code index (FIRST + 1)) (one (straight (element_write mask array))) (expr_turns from f Called back index (FIRST + 1)) (bundles from f Called back (element_write mask array)) m whole
+target_turns : (homes : ℕ) (from : Sources) (f : ℕ → List Step) (Called : ℕ → Run → Type 0) (back : Back) (mask : ℕ) (target : PlainSpTarget) → Turn from f Called back (target_write homes mask target)
+target_turns homes from f Called back mask (to_slot slot) m whole = (tt, tt)
+target_turns homes from f Called back mask (to_cell cell) m whole = (tt, tt)
+target_turns homes from f Called back mask (to_array array index) m whole =
+    two_parts from f Called back (expr_code homes index (FIRST + 1)) (one (straight (element_write homes mask array))) (expr_turns homes from f Called back index (FIRST + 1)) (bundles from f Called back (element_write homes mask array)) m whole
 
 -- functions that are called turn, and leave the stack, where it has so much room
 pub record Callees (from : Sources) (f : ℕ → List Step) (Called : ℕ → Run → Type 0) (number low : ℕ) : Type 0 where
   pub passing : AllPass from f number low
   pub turning : (k : ℕ) → k < number → (m : Run) → IsWhole m → low ≤ m.st → Called k m
 
-call_turns : (from : Sources) (f : ℕ → List Step) (Called : ℕ → Run → Type 0) (back : Back) (number low frame mask k : ℕ) (args : List PlainSp) (result : Option ℕ) (m : Run) → Callees from f Called number low → k < number → IsWhole m → low ≤ m.st
-    → PartsTurn (run from) f Called back (joined (args_code args FIRST) (call_code frame mask k result)) m
-call_turns from f Called back number low frame mask k args result m callees earlier whole enough =
-    let p = passes_parts from f number low 0 (omega arith) callees.passing (args_code args FIRST) (formed.args_formed number args FIRST) (args_low 0 args FIRST) m whole enough in
-    let n = run from (parts_trail f (args_code args FIRST)) m in
-    let q = passes_done from 0 (mask_handed mask) n (omega arith) p.whole refl in
-    let u = run from (all_done (mask_handed mask)) n in
+call_turns : (homes : ℕ) (from : Sources) (f : ℕ → List Step) (Called : ℕ → Run → Type 0) (back : Back) (number low frame mask k : ℕ) (args : List PlainSp) (result : Option ℕ) (m : Run) → Callees from f Called number low → k < number → IsWhole m → low ≤ m.st
+    → PartsTurn (run from) f Called back (joined (args_code homes args FIRST) (call_code homes frame mask k result)) m
+call_turns homes from f Called back number low frame mask k args result m callees earlier whole enough =
+    let p = passes_parts from f number low 0 (omega arith) callees.passing (args_code homes args FIRST) (formed.args_formed homes number args FIRST) (args_low homes 0 args FIRST) m whole enough in
+    let n = run from (parts_trail f (args_code homes args FIRST)) m in
+    let q = passes_done from 0 (mask_handed homes mask) n (omega arith) p.whole (rw (read_low 0 homes MASK mask) refl) in
+    let u = run from (all_done (mask_handed homes mask)) n in
     let r = passes_done from 0 call_tail u (omega arith) q.whole refl in
     let c = run from (all_done call_tail) u in
     let b = passes_begun 0 c r.whole in
-    turns_joined from f Called back (args_code args FIRST) (call_code frame mask k result) m (args_turn from f Called back args FIRST m whole)
+    turns_joined from f Called back (args_code homes args FIRST) (call_code homes frame mask k result) m (args_turn homes from f Called back args FIRST m whole)
     (tt, (callees.turning k earlier (begun c) b.whole (enough_still (passes_then p (passes_then q (passes_then r b))) enough), (tt, tt)))
 
 -- the counter's word where a loop begins
@@ -134,49 +135,49 @@ counter_set from counter count m whole few word =
     ap (λ t. t.stack (t.st + counter)) (did_store_slot from always counter SPARE n h h.fits.always few) ∙ put_same (n.st + counter) (held SPARE n) n.stack ∙ constant_leaves from SPARE count m whole (omega arith) (omega arith) word
 
 mutual
-  stmt_turns : (from : Sources) (f : ℕ → List Step) (Called : ℕ → Run → Type 0) (back : Back) (fs : List PlainFunction) (number slots frame counter low : ℕ) → from.stack ≡ true → Callees from f Called number low → 1 ≤ slots → counter < 128
+  stmt_turns : (homes : ℕ) (from : Sources) (f : ℕ → List Step) (Called : ℕ → Run → Type 0) (back : Back) (fs : List PlainFunction) (number slots frame counter low : ℕ) → from.stack ≡ true → Callees from f Called number low → 1 ≤ slots → counter < 128
       → (t : PlainStmt) → slots + stmt_levels t ≤ counter + 1 → stmt_formed fs number slots t ≡ true → HasStmtCounts t
-      → (m : Run) → IsWhole m → low ≤ m.st → PartsTurn (run from) f Called back (stmt_code frame counter t) m
-  stmt_turns from f Called back fs number slots frame counter low told callees some few (masks slot e) levels is counts m whole enough =
-      two_parts from f Called back (expr_code e FIRST) (slot_set slot) (expr_turns from f Called back e FIRST) (bundles from f Called back (store_slot always slot FIRST ∷ [])) m whole
-  stmt_turns from f Called back fs number slots frame counter low told callees some few (writes mask target e) levels is counts m whole enough =
-      two_parts from f Called back (expr_code e FIRST) (target_write mask target) (expr_turns from f Called back e FIRST) (target_turns from f Called back mask target) m whole
-  stmt_turns from f Called back fs number slots frame counter low told callees some few (calls mask k args result) levels is counts m whole enough =
+      → (m : Run) → IsWhole m → low ≤ m.st → PartsTurn (run from) f Called back (stmt_code homes frame counter t) m
+  stmt_turns homes from f Called back fs number slots frame counter low told callees some few (masks slot e) levels is counts m whole enough =
+      two_parts from f Called back (expr_code homes e FIRST) (slot_set homes slot) (expr_turns homes from f Called back e FIRST) (bundles from f Called back (set_word homes always slot FIRST ∷ [])) m whole
+  stmt_turns homes from f Called back fs number slots frame counter low told callees some few (writes mask target e) levels is counts m whole enough =
+      two_parts from f Called back (expr_code homes e FIRST) (target_write homes mask target) (expr_turns homes from f Called back e FIRST) (target_turns homes from f Called back mask target) m whole
+  stmt_turns homes from f Called back fs number slots frame counter low told callees some few (calls mask k args result) levels is counts m whole enough =
       let a = and_parts (nat_lt mask slots) (callee_formed fs number k (length args) && (args_formed slots args && result_formed slots result)) is in
       let b = and_parts (callee_formed fs number k (length args)) (args_formed slots args && result_formed slots result) a.1 in
       let callee = and_parts (nat_lt k number) (length args == (slice_index_or fs k no_function).parameters) b.0 in
-      call_turns from f Called back number low frame mask k args result m callees (ltb-true k number callee.0) whole enough
-  stmt_turns from f Called back fs number slots frame counter low told callees some few (transfers mask core source target count) levels is counts m whole enough =
-      let sent = one (straight (send_code mask core)) in
-      two_parts from f Called back (expr_code source FIRST) (joined (expr_code target (FIRST + 1)) (joined (expr_code count (FIRST + 2)) sent)) (expr_turns from f Called back source FIRST)
-      (two_parts from f Called back (expr_code target (FIRST + 1)) (joined (expr_code count (FIRST + 2)) sent) (expr_turns from f Called back target (FIRST + 1))
-      (two_parts from f Called back (expr_code count (FIRST + 2)) sent (expr_turns from f Called back count (FIRST + 2)) (bundles from f Called back (send_code mask core)))) m whole
-  stmt_turns from f Called back fs number slots frame counter low told callees some few (overruns mask e) levels is counts m whole enough =
-      two_parts from f Called back (expr_code e FIRST) (one (straight (overrun_code mask))) (expr_turns from f Called back e FIRST) (bundles from f Called back (overrun_code mask)) m whole
-  stmt_turns from f Called back fs number slots frame counter low told callees some few (turns count body) levels is counts m whole enough =
+      call_turns homes from f Called back number low frame mask k args result m callees (ltb-true k number callee.0) whole enough
+  stmt_turns homes from f Called back fs number slots frame counter low told callees some few (transfers mask core source target count) levels is counts m whole enough =
+      let sent = one (straight (send_code homes mask core)) in
+      two_parts from f Called back (expr_code homes source FIRST) (joined (expr_code homes target (FIRST + 1)) (joined (expr_code homes count (FIRST + 2)) sent)) (expr_turns homes from f Called back source FIRST)
+      (two_parts from f Called back (expr_code homes target (FIRST + 1)) (joined (expr_code homes count (FIRST + 2)) sent) (expr_turns homes from f Called back target (FIRST + 1))
+      (two_parts from f Called back (expr_code homes count (FIRST + 2)) sent (expr_turns homes from f Called back count (FIRST + 2)) (bundles from f Called back (send_code homes mask core)))) m whole
+  stmt_turns homes from f Called back fs number slots frame counter low told callees some few (overruns mask e) levels is counts m whole enough =
+      two_parts from f Called back (expr_code homes e FIRST) (one (straight (overrun_code homes mask))) (expr_turns homes from f Called back e FIRST) (bundles from f Called back (overrun_code homes mask)) m whole
+  stmt_turns homes from f Called back fs number slots frame counter low told callees some few (turns count body) levels is counts m whole enough =
       let parts = and_parts (nat_lt 0 count) (stmts_formed fs number slots body) is in
-      let code = stmts_code frame (counter - 1) body in
+      let code = stmts_code homes frame (counter - 1) body in
       let n = run from (all_done (turns_begin counter count)) m in
       let p = passes_done from (counter + 1) (turns_begin counter count) m (omega (arith, few)) whole (turns_begin_low (counter + 1) counter count (omega arith)) in
-      let low_body : Low counter code = subst (λ c. Low c code) (let e : counter - 1 + 1 ≡ counter = omega (arith, levels, some) in e) (stmts_low fs number slots frame (counter - 1) body some (omega (arith, levels, some)) parts.1) in (
+      let low_body : Low counter code = subst (λ c. Low c code) (let e : counter - 1 + 1 ≡ counter = omega (arith, levels, some) in e) (stmts_low homes fs number slots frame (counter - 1) body some (omega (arith, levels, some)) parts.1) in (
         tt,
         (
           counter_turns from f (PartsTurn (run from) f Called back code) code counter low told few
-              (λ t rest room. stmts_turn from f Called back fs number slots frame (counter - 1) low told callees some (omega (arith, few)) body (omega (arith, levels, some)) parts.1 counts.1 t rest room)
-              (λ t rest room. passes_parts from f number low counter (omega (arith, few)) callees.passing code (formed.stmts_formed fs number slots frame (counter - 1) body parts.1) low_body t rest room)
+              (λ t rest room. stmts_turn homes from f Called back fs number slots frame (counter - 1) low told callees some (omega (arith, few)) body (omega (arith, levels, some)) parts.1 counts.1 t rest room)
+              (λ t rest room. passes_parts from f number low counter (omega (arith, few)) callees.passing code (formed.stmts_formed homes fs number slots frame (counter - 1) body parts.1) low_body t rest room)
               count counts.0 n p.whole (enough_still p enough) (counter_set from counter count m whole few counts.0),
           tt,
         ),
       )
 
-  pub stmts_turn : (from : Sources) (f : ℕ → List Step) (Called : ℕ → Run → Type 0) (back : Back) (fs : List PlainFunction) (number slots frame counter low : ℕ) → from.stack ≡ true → Callees from f Called number low → 1 ≤ slots → counter < 128
+  pub stmts_turn : (homes : ℕ) (from : Sources) (f : ℕ → List Step) (Called : ℕ → Run → Type 0) (back : Back) (fs : List PlainFunction) (number slots frame counter low : ℕ) → from.stack ≡ true → Callees from f Called number low → 1 ≤ slots → counter < 128
       → (ts : PlainStmts) → slots + stmts_levels ts ≤ counter + 1 → stmts_formed fs number slots ts ≡ true → HasStmtsCounts ts
-      → (m : Run) → IsWhole m → low ≤ m.st → PartsTurn (run from) f Called back (stmts_code frame counter ts) m
-  stmts_turn from f Called back fs number slots frame counter low told callees some few no_stmt levels is counts m whole enough = tt
-  stmts_turn from f Called back fs number slots frame counter low told callees some few (stmt t rest) levels is counts m whole enough =
+      → (m : Run) → IsWhole m → low ≤ m.st → PartsTurn (run from) f Called back (stmts_code homes frame counter ts) m
+  stmts_turn homes from f Called back fs number slots frame counter low told callees some few no_stmt levels is counts m whole enough = tt
+  stmts_turn homes from f Called back fs number slots frame counter low told callees some few (stmt t rest) levels is counts m whole enough =
       let parts = and_parts (stmt_formed fs number slots t) (stmts_formed fs number slots rest) is in
-      let p = passes_parts from f number low (counter + 1) (omega (arith, few)) callees.passing (stmt_code frame counter t) (formed.stmt_formed fs number slots frame counter t parts.0)
-      (stmt_low fs number slots frame counter t some (omega (arith, levels)) parts.0) m whole enough in
-      turns_joined from f Called back (stmt_code frame counter t) (stmts_code frame counter rest) m
-      (stmt_turns from f Called back fs number slots frame counter low told callees some few t (omega (arith, levels)) parts.0 counts.0 m whole enough)
-      (stmts_turn from f Called back fs number slots frame counter low told callees some few rest (omega (arith, levels)) parts.1 counts.1 (run from (parts_trail f (stmt_code frame counter t)) m) p.whole (enough_still p enough))
+      let p = passes_parts from f number low (counter + 1) (omega (arith, few)) callees.passing (stmt_code homes frame counter t) (formed.stmt_formed homes fs number slots frame counter t parts.0)
+      (stmt_low homes fs number slots frame counter t some (omega (arith, levels)) parts.0) m whole enough in
+      turns_joined from f Called back (stmt_code homes frame counter t) (stmts_code homes frame counter rest) m
+      (stmt_turns homes from f Called back fs number slots frame counter low told callees some few t (omega (arith, levels)) parts.0 counts.0 m whole enough)
+      (stmts_turn homes from f Called back fs number slots frame counter low told callees some few rest (omega (arith, levels)) parts.1 counts.1 (run from (parts_trail f (stmt_code homes frame counter t)) m) p.whole (enough_still p enough))

@@ -16,7 +16,9 @@ use Rattle.sp_shape.specs.Bundles.{parts_all}
 use Rattle.sp_shape.specs.Parts.{straight, repeats, PlainParts, one, joined}
 use Rattle.sp_emit.specs.Expressions.{expr_code}
 use Rattle.sp_emit.specs.Statements.{slot_write, cell_write, element_write, target_write, args_code, call_code, send_code, overrun_code, slot_set, turns_begin, turns_tail, stmt_code, stmts_code}
-use Rattle.sp_emit.specs.declared.registers.TheConstants.{FIRST}
+use Rattle.sp_emit.specs.declared.registers.TheConstants.{RESULT, MASK, FIRST}
+use Rattle.sp_emit.specs.Places.{read_op, set_op, fetch_op}
+use Rattle.sp_emit.proofs.WordPlaces.{read_op_is, set_op_is, fetch_op_is}
 use Rattle.sp_emit.proofs.Passing.{is_low, passes}
 use Rattle.sp_emit.proofs.Quiet.{each_joined, each_lone, each_so, is_quiet, expr_quiet, args_quiet}
 
@@ -59,39 +61,48 @@ low_more count more le Return low = refl
 pub low_all_more : (count more : ℕ) (parts : PlainParts) → count ≤ more → Low count parts → Low more parts
 low_all_more count more parts le low = each_so (passes count) (passes more) (λ b x. low_more count more le b.first.op x) parts low
 
-pub expr_low : (count : ℕ) (e : PlainSp) (rd : ℕ) → Low count (expr_code e rd)
-expr_low count e rd = each_so is_quiet (passes count) (low_quiet count) (expr_code e rd) (expr_quiet e rd)
+pub expr_low : (homes : ℕ) (count : ℕ) (e : PlainSp) (rd : ℕ) → Low count (expr_code homes e rd)
+expr_low homes count e rd = each_so is_quiet (passes count) (low_quiet count) (expr_code homes e rd) (expr_quiet homes e rd)
 
-pub args_low : (count : ℕ) (args : List PlainSp) (rd : ℕ) → Low count (args_code args rd)
-args_low count args rd = each_so is_quiet (passes count) (low_quiet count) (args_code args rd) (args_quiet args rd)
+pub args_low : (homes : ℕ) (count : ℕ) (args : List PlainSp) (rd : ℕ) → Low count (args_code homes args rd)
+args_low homes count args rd = each_so is_quiet (passes count) (low_quiet count) (args_code homes args rd) (args_quiet homes args rd)
 
 both : (count : ℕ) (a b : PlainParts) → Low count a → Low count b → Low count (joined a b)
 both count = each_joined (passes count)
 
 -- ---- statements
 
-slot_low : (count slot : ℕ) → slot < count → Low count (slot_set slot)
-slot_low count slot lt = rw (lt-ltb slot count lt) refl
+pub read_low : (count homes rd slot : ℕ) → is_low count (read_op homes rd slot) ≡ true
+read_low count homes rd slot = read_op_is (λ op. is_low count op ≡ true) homes rd slot refl refl
 
-slot_write_low : (count mask slot : ℕ) → slot < count → AreLow count (slot_write mask slot)
-slot_write_low count mask slot lt = rw (lt-ltb slot count lt) refl
+fetch_low : (count homes slot : ℕ) → is_low count (fetch_op homes slot) ≡ true
+fetch_low count homes slot = fetch_op_is (λ op. is_low count op ≡ true) homes slot refl refl
 
-cell_write_low : (count mask : ℕ) (r : Region) (word : ℕ) → AreLow count (cell_write mask (record { region = r; word = word }))
-cell_write_low count mask r word = grind arith
+pub set_low : (count homes slot rs : ℕ) → slot < count → is_low count (set_op homes slot rs) ≡ true
+set_low count homes slot rs lt = set_op_is (λ op. is_low count op ≡ true) homes slot rs refl (rw (lt-ltb slot count lt) refl)
 
-element_write_low : (count mask : ℕ) (r : Region) (first length : ℕ) → AreLow count (element_write mask (record { region = r; first = first; length = length }))
-element_write_low count mask r first length = grind arith
+slot_low : (homes : ℕ) (count slot : ℕ) → slot < count → Low count (slot_set homes slot)
+slot_low homes count slot lt = rw (set_low count homes slot FIRST lt) refl
 
-target_low : (count slots mask : ℕ) (target : PlainSpTarget) → slots ≤ count → target_formed slots target ≡ true → Low count (target_write mask target)
-target_low count slots mask (to_slot slot) le formed = each_lone (passes count) (slot_write mask slot) (slot_write_low count mask slot (omega (arith, le, ltb-true slot slots formed)))
-target_low count slots mask (to_cell cell) le formed = each_lone (passes count) (cell_write mask cell) (cell_write_low count mask cell.region cell.word)
-target_low count slots mask (to_array array index) le formed =
-    both count (expr_code index (FIRST + 1)) (one (straight (element_write mask array))) (expr_low count index (FIRST + 1))
-    (each_lone (passes count) (element_write mask array) (element_write_low count mask array.region array.first array.length))
+slot_write_low : (homes : ℕ) (count mask slot : ℕ) → slot < count → AreLow count (slot_write homes mask slot)
+slot_write_low homes count mask slot lt = rw (fetch_low count homes mask, set_low count homes slot FIRST lt) refl
 
-call_low : (count slots frame mask k : ℕ) (result : Option ℕ) → slots ≤ count → result_formed slots result ≡ true → Low count (call_code frame mask k result)
-call_low count slots frame mask k None le formed = refl
-call_low count slots frame mask k (Some slot) le formed = rw (lt-ltb slot count (omega (arith, le, ltb-true slot slots formed))) refl
+cell_write_low : (homes : ℕ) (count mask : ℕ) (r : Region) (word : ℕ) → AreLow count (cell_write homes mask (record { region = r; word = word }))
+cell_write_low homes count mask r word = let read = fetch_low count homes mask in grind (arith, read)
+
+element_write_low : (homes : ℕ) (count mask : ℕ) (r : Region) (first length : ℕ) → AreLow count (element_write homes mask (record { region = r; first = first; length = length }))
+element_write_low homes count mask r first length = let read = fetch_low count homes mask in grind (arith, read)
+
+target_low : (homes : ℕ) (count slots mask : ℕ) (target : PlainSpTarget) → slots ≤ count → target_formed slots target ≡ true → Low count (target_write homes mask target)
+target_low homes count slots mask (to_slot slot) le formed = each_lone (passes count) (slot_write homes mask slot) (slot_write_low homes count mask slot (omega (arith, le, ltb-true slot slots formed)))
+target_low homes count slots mask (to_cell cell) le formed = each_lone (passes count) (cell_write homes mask cell) (cell_write_low homes count mask cell.region cell.word)
+target_low homes count slots mask (to_array array index) le formed =
+    both count (expr_code homes index (FIRST + 1)) (one (straight (element_write homes mask array))) (expr_low homes count index (FIRST + 1))
+    (each_lone (passes count) (element_write homes mask array) (element_write_low homes count mask array.region array.first array.length))
+
+call_low : (homes : ℕ) (count slots frame mask k : ℕ) (result : Option ℕ) → slots ≤ count → result_formed slots result ≡ true → Low count (call_code homes frame mask k result)
+call_low homes count slots frame mask k None le formed = rw (read_low count homes MASK mask) refl
+call_low homes count slots frame mask k (Some slot) le formed = rw (read_low count homes MASK mask, fetch_low count homes mask, set_low count homes slot RESULT (omega (arith, le, ltb-true slot slots formed))) refl
 
 pub turns_begin_low : (count counter n : ℕ) → counter < count → AreLow count (turns_begin counter n)
 turns_begin_low count counter n lt = rw (lt-ltb counter count lt) refl
@@ -100,37 +111,37 @@ pub turns_tail_low : (count counter : ℕ) → counter < count → AreLow count 
 turns_tail_low count counter lt = rw (lt-ltb counter count lt) refl
 
 mutual
-  pub stmt_low : (fs : List PlainFunction) (number slots frame counter : ℕ) (t : PlainStmt) → 1 ≤ slots → slots + stmt_levels t ≤ counter + 1 → stmt_formed fs number slots t ≡ true → Low (counter + 1) (stmt_code frame counter t)
-  stmt_low fs number slots frame counter (masks slot e) some levels formed =
+  pub stmt_low : (homes : ℕ) (fs : List PlainFunction) (number slots frame counter : ℕ) (t : PlainStmt) → 1 ≤ slots → slots + stmt_levels t ≤ counter + 1 → stmt_formed fs number slots t ≡ true → Low (counter + 1) (stmt_code homes frame counter t)
+  stmt_low homes fs number slots frame counter (masks slot e) some levels formed =
       let parts = and_parts (nat_lt slot slots) (expr_formed slots e) formed in
-      both (counter + 1) (expr_code e FIRST) (slot_set slot) (expr_low (counter + 1) e FIRST) (slot_low (counter + 1) slot (omega (arith, levels, ltb-true slot slots parts.0)))
-  stmt_low fs number slots frame counter (writes mask target e) some levels formed =
+      both (counter + 1) (expr_code homes e FIRST) (slot_set homes slot) (expr_low homes (counter + 1) e FIRST) (slot_low homes (counter + 1) slot (omega (arith, levels, ltb-true slot slots parts.0)))
+  stmt_low homes fs number slots frame counter (writes mask target e) some levels formed =
       let parts = and_parts (nat_lt mask slots) (target_formed slots target && expr_formed slots e) formed in
       let targets = and_parts (target_formed slots target) (expr_formed slots e) parts.1 in
-      both (counter + 1) (expr_code e FIRST) (target_write mask target) (expr_low (counter + 1) e FIRST) (target_low (counter + 1) slots mask target (omega (arith, levels)) targets.0)
-  stmt_low fs number slots frame counter (calls mask k args result) some levels formed =
+      both (counter + 1) (expr_code homes e FIRST) (target_write homes mask target) (expr_low homes (counter + 1) e FIRST) (target_low homes (counter + 1) slots mask target (omega (arith, levels)) targets.0)
+  stmt_low homes fs number slots frame counter (calls mask k args result) some levels formed =
       let a = and_parts (nat_lt mask slots) (callee_formed fs number k (length args) && (args_formed slots args && result_formed slots result)) formed in
       let b = and_parts (callee_formed fs number k (length args)) (args_formed slots args && result_formed slots result) a.1 in
       let c = and_parts (args_formed slots args) (result_formed slots result) b.1 in
-      both (counter + 1) (args_code args FIRST) (call_code frame mask k result) (args_low (counter + 1) args FIRST) (call_low (counter + 1) slots frame mask k result (omega (arith, levels)) c.1)
-  stmt_low fs number slots frame counter (transfers mask core source target count) some levels formed =
+      both (counter + 1) (args_code homes args FIRST) (call_code homes frame mask k result) (args_low homes (counter + 1) args FIRST) (call_low homes (counter + 1) slots frame mask k result (omega (arith, levels)) c.1)
+  stmt_low homes fs number slots frame counter (transfers mask core source target count) some levels formed =
       let low = counter + 1 in
-      let sent = one (straight (send_code mask core)) in
-      both low (expr_code source FIRST) (joined (expr_code target (FIRST + 1)) (joined (expr_code count (FIRST + 2)) sent)) (expr_low low source FIRST)
-      (both low (expr_code target (FIRST + 1)) (joined (expr_code count (FIRST + 2)) sent) (expr_low low target (FIRST + 1)) (both low (expr_code count (FIRST + 2)) sent (expr_low low count (FIRST + 2)) refl))
-  stmt_low fs number slots frame counter (overruns mask e) some levels formed =
-      both (counter + 1) (expr_code e FIRST) (one (straight (overrun_code mask))) (expr_low (counter + 1) e FIRST) refl
-  stmt_low fs number slots frame counter (turns count body) some levels formed =
+      let sent = one (straight (send_code homes mask core)) in
+      both low (expr_code homes source FIRST) (joined (expr_code homes target (FIRST + 1)) (joined (expr_code homes count (FIRST + 2)) sent)) (expr_low homes low source FIRST)
+      (both low (expr_code homes target (FIRST + 1)) (joined (expr_code homes count (FIRST + 2)) sent) (expr_low homes low target (FIRST + 1)) (both low (expr_code homes count (FIRST + 2)) sent (expr_low homes low count (FIRST + 2)) (rw (fetch_low low homes mask) refl)))
+  stmt_low homes fs number slots frame counter (overruns mask e) some levels formed =
+      both (counter + 1) (expr_code homes e FIRST) (one (straight (overrun_code homes mask))) (expr_low homes (counter + 1) e FIRST) (rw (fetch_low (counter + 1) homes mask) refl)
+  stmt_low homes fs number slots frame counter (turns count body) some levels formed =
       let parts = and_parts (nat_lt 0 count) (stmts_formed fs number slots body) formed in
-      let inner = stmts_low fs number slots frame (counter - 1) body some (omega (arith, levels, some)) parts.1 in
+      let inner = stmts_low homes fs number slots frame (counter - 1) body some (omega (arith, levels, some)) parts.1 in
       let low = counter + 1 in
-      let within : Low low (stmts_code frame (counter - 1) body) = low_all_more (counter - 1 + 1) low (stmts_code frame (counter - 1) body) (omega (arith, levels, some)) inner in
-      both low (one (straight (turns_begin counter count))) (one (repeats count (stmts_code frame (counter - 1) body) (turns_tail counter))) (each_lone (passes low) (turns_begin counter count) (turns_begin_low low counter count (omega arith)))
-      (and_from _ true (and_from (parts_all (passes low) (stmts_code frame (counter - 1) body)) (list_all (passes low) (turns_tail counter)) within (turns_tail_low low counter (omega arith))) refl)
+      let within : Low low (stmts_code homes frame (counter - 1) body) = low_all_more (counter - 1 + 1) low (stmts_code homes frame (counter - 1) body) (omega (arith, levels, some)) inner in
+      both low (one (straight (turns_begin counter count))) (one (repeats count (stmts_code homes frame (counter - 1) body) (turns_tail counter))) (each_lone (passes low) (turns_begin counter count) (turns_begin_low low counter count (omega arith)))
+      (and_from _ true (and_from (parts_all (passes low) (stmts_code homes frame (counter - 1) body)) (list_all (passes low) (turns_tail counter)) within (turns_tail_low low counter (omega arith))) refl)
 
-  pub stmts_low : (fs : List PlainFunction) (number slots frame counter : ℕ) (ts : PlainStmts) → 1 ≤ slots → slots + stmts_levels ts ≤ counter + 1 → stmts_formed fs number slots ts ≡ true → Low (counter + 1) (stmts_code frame counter ts)
-  stmts_low fs number slots frame counter no_stmt some levels formed = refl
-  stmts_low fs number slots frame counter (stmt t rest) some levels formed =
+  pub stmts_low : (homes : ℕ) (fs : List PlainFunction) (number slots frame counter : ℕ) (ts : PlainStmts) → 1 ≤ slots → slots + stmts_levels ts ≤ counter + 1 → stmts_formed fs number slots ts ≡ true → Low (counter + 1) (stmts_code homes frame counter ts)
+  stmts_low homes fs number slots frame counter no_stmt some levels formed = refl
+  stmts_low homes fs number slots frame counter (stmt t rest) some levels formed =
       let parts = and_parts (stmt_formed fs number slots t) (stmts_formed fs number slots rest) formed in
-      both (counter + 1) (stmt_code frame counter t) (stmts_code frame counter rest) (stmt_low fs number slots frame counter t some (omega (arith, levels)) parts.0)
-      (stmts_low fs number slots frame counter rest some (omega (arith, levels)) parts.1)
+      both (counter + 1) (stmt_code homes frame counter t) (stmts_code homes frame counter rest) (stmt_low homes fs number slots frame counter t some (omega (arith, levels)) parts.0)
+      (stmts_low homes fs number slots frame counter rest some (omega (arith, levels)) parts.1)

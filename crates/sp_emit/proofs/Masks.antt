@@ -1,11 +1,8 @@
 -- What the code of masks and of writes to words of the frame leaves.
-use Rattle.std.proofs.Common.{◌≡◌, ℕ, ◌+◌, ◌<◌, ◌≤◌, ◌^◌, ◌==◌, Bool, true, false, if◌then◌else◌, List, [], ◌∷◌, refl, sym, ap, ◌∙◌, subst, arith}
+use Rattle.std.proofs.Common.{◌≡◌, ℕ, ◌+◌, ◌<◌, ◌≤◌, ◌^◌, ◌==◌, ◌⊎◌, inl, inr, Bool, true, false, if◌then◌else◌, List, [], ◌∷◌, refl, sym, ap, ◌∙◌, subst, arith}
 use Rattle.std.specs.Prelude.{nat_le}
-use Rattle.std.proofs.lemmas.Bool.{and_parts, leb-true}
+use Rattle.std.proofs.lemmas.Bool.{and_parts, cases_eq, leb-true}
 use Rattle.patmos_instr.specs.declared.functions.CmpFunc.TheVariants as cmp
-use Rattle.patmos_instr.specs.declared.instructions.Op.TheVariants.{Store}
-use Rattle.patmos_instr.specs.declared.memories.Mem.TheVariants as mem
-use Rattle.patmos_instr.specs.declared.memories.StoreWidth.TheVariants as store
 use Rattle.sp_tree.specs.Formed.{names_words, expr_formed}
 use Rattle.sp_tree.specs.Need.{need}
 use Rattle.sp_tree.specs.Plain.{PlainSp}
@@ -14,135 +11,160 @@ use Rattle.sp_tree.specs.Straight.{State, worth, with_slot, where_on, write_done
 use Rattle.sp_shape.specs.Run.{Run, by_words, once, run, IsWhole}
 use Rattle.sp_shape.specs.Trail.{Step, all_done, parts_trail}
 use Rattle.sp_emit.specs.Holding.{held, Keeps}
-use Rattle.sp_emit.specs.Means.{HasWordConstants, IsReady, Follows, KeepsBehind}
+use Rattle.shared_order.specs.Words.{put}
+use Rattle.sp_emit.specs.Means.{HasWords, HasWordConstants, IsReady, Follows, KeepsBehind}
 use Rattle.sp_emit.specs.Expressions.{expr_code}
-use Rattle.sp_emit.specs.Instructions.{always, where_so, compare_short, load_slot, store_slot}
+use Rattle.sp_emit.specs.Instructions.{always, where_so, compare_short}
 use Rattle.sp_emit.specs.Statements.{mask_test, slot_set, target_write, stmt_code}
 use Rattle.sp_emit.specs.declared.registers.TheConstants.{FIRST, SPARE, TEST}
-use Rattle.sp_emit.proofs.Calm.{calm_run}
-use Rattle.sp_emit.proofs.Leaving.{did_compare_short, slot_leaves}
-use Rattle.sp_emit.proofs.Once.{so, did_nothing, so_got}
-use Rattle.sp_emit.proofs.Frames.{put_behind, put_other, put_word}
-use Rattle.sp_emit.proofs.Storing.{with_slot_word, did_store_slot}
+use Rattle.sp_shape.proofs.Whole.{once_whole}
+use Rattle.sp_emit.specs.Places.{word_of, fetch_word, fetched_at, set_word}
+use Rattle.sp_emit.proofs.Calm.{is_calm_trail, calm_run}
+use Rattle.sp_emit.proofs.Leaving.{did_compare_short}
+use Rattle.sp_emit.proofs.WordPlaces.{with_word, Sets, fetch_is, fetch_leaves, did_set_word, set_off, sets_word}
+use Rattle.sp_emit.proofs.Once.{so, so_got}
+use Rattle.sp_emit.proofs.Frames.{put_same, put_other, put_word}
 use Rattle.sp_emit.proofs.Values.{behind, fits_of, shows_still, expr_keeps, run_joined, value_left, value_small}
 
 -- a word of the frame that is set in the run is set in the tree's state
-pub follows_slot : (slots slot v : ℕ) (s : State) (m : Run) → slot < slots → v < 2 ^ 32 → Follows slots s m → Follows slots (with_slot slot v s) (with_slot_word slot v m)
-follows_slot slots slot v s m named word x = record {
-  whole = record { fits = x.whole.fits; pending = x.whole.pending };
-  shows = record {
-    frame = λ u lt. put_behind m.st slot u v m.stack s.frame (x.shows.frame u lt);
-    world = x.shows.world;
-  };
+pub follows_set : (homes slots slot v : ℕ) (s : State) (m t : Run) → v < 2 ^ 32 → Sets homes slot v m t → Follows homes slots s m → Follows homes slots (with_slot slot v s) t
+follows_set homes slots slot v s m t word set x = record {
+  whole = set.whole;
+  shows = record { frame = λ u lt. at u lt (cases_eq slot u); world = subst (HasWords s.world) (sym set.memory) x.shows.world };
   words = record {
     frame = λ u lt. put_word slot v u s.frame (2 ^ 32) word (x.words.frame u lt);
     world = x.words.world;
   };
-  flag = x.flag;
+  flag = set.flag ∙ x.flag;
 }
+  where
+    at : (u : ℕ) → u < slots → (slot ≡ u) ⊎ (slot ≡ u → ⊥) → word_of homes u t ≡ put slot v s.frame u
+    at u lt (inl same) = ap (λ n. word_of homes n t) (sym same) ∙ set.own ∙ sym (put_same slot v s.frame) ∙ ap (put slot v s.frame) same
+    at u lt (inr other) = set.others u other ∙ x.shows.frame u lt ∙ sym (put_other slot u v s.frame other)
 
-pub keeps_slot : (count slot v : ℕ) (m : Run) → slot < count → KeepsBehind count m (with_slot_word slot v m)
-keeps_slot count slot v m named = record { st = refl; stack = λ a above. put_other (m.st + slot) a v m.stack (λ is. absurd (omega (arith, is, above, named))) }
+pub follows_slot : (homes : ℕ) (slots slot v : ℕ) (s : State) (m : Run) → 1 ≤ homes → v < 2 ^ 32 → Follows homes slots s m → Follows homes slots (with_slot slot v s) (with_word homes slot v m)
+follows_slot homes slots slot v s m some word x = follows_set homes slots slot v s m (with_word homes slot v m) word (sets_word homes slot v m some x.whole) x
+
+pub keeps_slot : (homes slots : ℕ) (count slot v : ℕ) (m : Run) → 1 ≤ homes → IsWhole m → slot < slots → slot < count → KeepsBehind (homes + slots) count m (with_word homes slot v m)
+keeps_slot homes slots count slot v m some whole inside named =
+    let set = sets_word homes slot v m some whole in
+    record {
+      st = set.st;
+      stack = λ a above. set.stack a (λ is. absurd (omega (arith, is, above, named)));
+      high = λ r at lt. set.regs r (omega (arith, at, some)) (omega (arith, lt)) (λ is. absurd (omega (arith, is, at, inside)));
+    }
 
 -- code of values leaves the run where the state is
-pub follows_still : {slots rd : ℕ} {s : State} {m t : Run} → Keeps rd m t → Follows slots s m → Follows slots s t
-follows_still {slots} {rd} {s} {m} {t} keeps x = record {
+pub follows_still : {homes : ℕ} {slots rd : ℕ} {s : State} {m t : Run} → Keeps rd homes m t → Follows homes slots s m → Follows homes slots s t
+follows_still {homes} {slots} {rd} {s} {m} {t} keeps x = record {
   whole = keeps.whole;
   shows = shows_still keeps x.shows;
   words = x.words;
   flag = keeps.flag ∙ x.flag;
 }
 
-pub behind_still : {rd : ℕ} {m t : Run} (count : ℕ) → Keeps rd m t → KeepsBehind count m t
-behind_still count keeps = record { st = keeps.st; stack = λ a above. ap (λ words. words a) keeps.stack }
+pub behind_still : {homes : ℕ} {rd : ℕ} {m t : Run} (slots count : ℕ) → Keeps rd homes m t → KeepsBehind (homes + slots) count m t
+behind_still slots count keeps = record { st = keeps.st; stack = λ a above. ap (λ words. words a) keeps.stack; high = λ r at lt. keeps.high r (omega (arith, at)) lt }
+
+pub stays_behind : (top count : ℕ) (m : Run) → KeepsBehind top count m m
+stays_behind top count m = record { st = refl; stack = λ a above. refl; high = λ r at lt. refl }
 
 -- ---- what a statement leaves
 
-pub record Done (slots count : ℕ) (s : State) (m t : Run) : Type 0 where
-  pub follows : Follows slots s t
-  pub keeps : KeepsBehind count m t
+pub record Done (homes : ℕ) (slots count : ℕ) (s : State) (m t : Run) : Type 0 where
+  pub follows : Follows homes slots s t
+  pub keeps : KeepsBehind (homes + slots) count m t
 
 -- an expression of a statement is ready from a register on
-pub ready : (slots rd : ℕ) (e : PlainSp) (s : State) (m : Run) → 1 ≤ rd → rd ≤ 9 → slots ≤ 128 → expr_formed slots e ≡ true → HasWordConstants e → Follows slots s m → IsReady slots e rd s m
-ready slots rd e s m some few most formed constants x =
+pub ready : (homes : ℕ) (slots rd : ℕ) (e : PlainSp) (s : State) (m : Run) → 1 ≤ rd → rd ≤ 9 → rd + need e ≤ homes → slots ≤ 128 → expr_formed slots e ≡ true → HasWordConstants e → Follows homes slots s m → IsReady homes slots e rd s m
+ready homes slots rd e s m some few free most formed constants x =
     let parts = and_parts (names_words slots e) (nat_le (need e) 12) formed in
     record {
       some = some;
       most = most;
       names = parts.0;
       registers = omega (arith, few, leb-true (need e) 12 parts.1);
+      free = free;
       constants = constants;
       words = x.words;
       whole = x.whole;
       shows = x.shows;
     }
 
-pub keeps_then : {count : ℕ} {m n t : Run} → KeepsBehind count m n → KeepsBehind count n t → KeepsBehind count m t
-keeps_then {count} {m} {n} {t} a b = record { st = b.st ∙ a.st; stack = λ at above. b.stack at (subst (λ st. st + count ≤ at) (sym a.st) above) ∙ a.stack at above }
+pub keeps_then : {top count : ℕ} {m n t : Run} → KeepsBehind top count m n → KeepsBehind top count n t → KeepsBehind top count m t
+keeps_then {top} {count} {m} {n} {t} a b = record {
+  st = b.st ∙ a.st;
+  stack = λ at above. b.stack at (subst (λ st. st + count ≤ at) (sym a.st) above) ∙ a.stack at above;
+  high = λ r at lt. b.high r at lt ∙ a.high r at lt;
+}
 
 -- a mask, set whatever it was
-pub mask_done : (f : ℕ → List Step) (frame counter slots slot : ℕ) (e : PlainSp) (s : State) (m : Run) → slots ≤ 128 → slots ≤ counter + 1 → slot < slots → expr_formed slots e ≡ true → HasWordConstants e
-    → Follows slots s m → Done slots (counter + 1) (with_slot slot (worth e s) s) m (run by_words (parts_trail f (stmt_code frame counter (masks slot e))) m)
-mask_done f frame counter slots slot e s m most fits named formed constants x =
-    let r = ready slots FIRST e s m (omega arith) (omega arith) most formed constants x in
-    let n = behind f e FIRST m in
-    let keeps = expr_keeps by_words f e FIRST m (fits_of r) x.whole in
+pub mask_done : (homes : ℕ) (f : ℕ → List Step) (frame counter slots slot : ℕ) (e : PlainSp) (s : State) (m : Run) → slots ≤ 128 → slots ≤ counter + 1 → slot < slots → expr_formed slots e ≡ true → HasWordConstants e → FIRST + need e ≤ homes
+    → Follows homes slots s m → Done homes slots (counter + 1) (with_slot slot (worth e s) s) m (run by_words (parts_trail f (stmt_code homes frame counter (masks slot e))) m)
+mask_done homes f frame counter slots slot e s m most fits named formed constants free x =
+    let r = ready homes slots FIRST e s m (omega arith) (omega arith) free most formed constants x in
+    let n = behind homes f e FIRST m in
+    let keeps = expr_keeps homes by_words f e FIRST m (fits_of r) free x.whole in
     let y = follows_still keeps x in
     let value = value_left f e r in
     let word = value_small e r in
-    let steps = run_joined by_words f (expr_code e FIRST) (slot_set slot) m ∙ did_store_slot by_words always slot FIRST n keeps.whole keeps.whole.fits.always (omega (arith, named, most)) ∙ ap (λ v. with_slot_word slot v n) value in
-    subst (Done slots (counter + 1) (with_slot slot (worth e s) s) m) (sym steps) (record {
-      follows = follows_slot slots slot (worth e s) s n named word y;
-      keeps = keeps_then (behind_still (counter + 1) keeps) (keeps_slot (counter + 1) slot (worth e s) n (omega (arith, named, fits)));
+    let some : 1 ≤ homes = omega (arith, free) in
+    let steps = run_joined by_words f (expr_code homes e FIRST) (slot_set homes slot) m ∙ did_set_word by_words homes always slot FIRST (worth e s) n keeps.whole keeps.whole.fits.always (omega (arith, named, most)) value word in
+    subst (Done homes slots (counter + 1) (with_slot slot (worth e s) s) m) (sym steps) (record {
+      follows = follows_slot homes slots slot (worth e s) s n some word y;
+      keeps = keeps_then (behind_still slots (counter + 1) keeps) (keeps_slot homes slots (counter + 1) slot (worth e s) n some keeps.whole named (omega (arith, named, fits)));
     })
 
 -- ---- what is done where a mask is 1
 
 -- the test of a mask keeps the registers below the spare one, the stack and all memories
-pub record Tested (mask : ℕ) (s : State) (n r : Run) : Type 0 where
-  pub keeps : Keeps SPARE n r
+pub record Tested (homes : ℕ) (mask : ℕ) (s : State) (n r : Run) : Type 0 where
+  pub keeps : Keeps SPARE homes n r
   pub test : so TEST r ≡ (s.frame mask == 1)
 
-pub tested : (slots mask : ℕ) (s : State) (n : Run) → slots ≤ 128 → mask < slots → Follows slots s n → Tested mask s n (run by_words (all_done (mask_test mask)) n)
-tested slots mask s n most named x = record {
-  keeps = calm_run by_words SPARE (all_done (mask_test mask)) n (omega arith) x.whole refl;
+pub test_calm : (homes mask : ℕ) → is_calm_trail SPARE homes (all_done (mask_test homes mask)) ≡ true
+test_calm homes mask = fetch_is (λ b. is_calm_trail SPARE homes (all_done (b ∷ compare_short cmp.Eq TEST (fetched_at homes mask) 1 ∷ [])) ≡ true) homes mask refl refl
+
+pub tested : (homes : ℕ) (slots mask : ℕ) (s : State) (n : Run) → slots ≤ 128 → mask < slots → Follows homes slots s n → Tested homes mask s n (run by_words (all_done (mask_test homes mask)) n)
+tested homes slots mask s n most named x = record {
+  keeps = calm_run by_words SPARE homes (all_done (mask_test homes mask)) n (omega arith) x.whole (test_calm homes mask);
   test = test;
 }
   where
     r1 : Run
-    r1 = once by_words (load_slot SPARE mask) n
+    r1 = once by_words (fetch_word homes mask) n
 
     whole_r1 : IsWhole r1
-    whole_r1 = (calm_run by_words SPARE (all_done (load_slot SPARE mask ∷ [])) n (omega arith) x.whole refl).whole
+    whole_r1 = once_whole by_words (fetch_word homes mask) n x.whole
 
-    test : so TEST (once by_words (compare_short cmp.Eq TEST SPARE 1) r1) ≡ (s.frame mask == 1)
+    test : so TEST (once by_words (compare_short cmp.Eq TEST (fetched_at homes mask) 1) r1) ≡ (s.frame mask == 1)
     test =
-        ap (so TEST) (did_compare_short by_words cmp.Eq TEST SPARE 1 r1 whole_r1) ∙ so_got TEST (held SPARE r1 == 1) r1 whole_r1 (omega arith) (omega arith)
-        ∙ ap (λ n. n == 1) (slot_leaves by_words SPARE mask n refl x.whole (omega arith) (omega arith) (omega (arith, named, most)) ∙ x.shows.frame mask named)
+        ap (so TEST) (did_compare_short by_words cmp.Eq TEST (fetched_at homes mask) 1 r1 whole_r1) ∙ so_got TEST (held (fetched_at homes mask) r1 == 1) r1 whole_r1 (omega arith) (omega arith)
+        ∙ ap (λ n. n == 1) (fetch_leaves by_words homes mask n refl x.whole (omega (arith, named, most)) ∙ x.shows.frame mask named)
 
 -- a store under the test is made where it holds, and else leaves all as it is
-pub slot_where : (slots count slot rs v : ℕ) (s : State) (r : Run) (on : Bool) → slots ≤ 128 → slot < slots → slots ≤ count → v < 2 ^ 32 → Follows slots s r → held rs r ≡ v → so TEST r ≡ on
-    → Done slots count (if on then with_slot slot v s else s) r (once by_words (store_slot (where_so TEST) slot rs) r)
-slot_where slots count slot rs v s r true most named fits word x is on =
-    subst (Done slots count (with_slot slot v s) r) (sym (did_store_slot by_words (where_so TEST) slot rs r x.whole on (omega (arith, named, most)) ∙ ap (λ n. with_slot_word slot n r) is)) (record {
-      follows = follows_slot slots slot v s r named word x;
-      keeps = keeps_slot count slot v r (omega (arith, named, fits));
+pub slot_where : (homes : ℕ) (slots count slot rs v : ℕ) (s : State) (r : Run) (on : Bool) → 1 ≤ homes → slots ≤ 128 → slot < slots → slots ≤ count → v < 2 ^ 32 → Follows homes slots s r → held rs r ≡ v → so TEST r ≡ on
+    → Done homes slots count (if on then with_slot slot v s else s) r (once by_words (set_word homes (where_so TEST) slot rs) r)
+slot_where homes slots count slot rs v s r true some most named fits word x is on =
+    subst (Done homes slots count (with_slot slot v s) r) (sym (did_set_word by_words homes (where_so TEST) slot rs v r x.whole on (omega (arith, named, most)) is word)) (record {
+      follows = follows_slot homes slots slot v s r some word x;
+      keeps = keeps_slot homes slots count slot v r some x.whole named (omega (arith, named, fits));
     })
-slot_where slots count slot rs v s r false most named fits word x is off =
-    subst (Done slots count s r) (sym (did_nothing by_words (where_so TEST) (Store mem.S store.Word 0 rs slot) r x.whole off)) (record { follows = x; keeps = record { st = refl; stack = λ a above. refl } })
+slot_where homes slots count slot rs v s r false some most named fits word x is off =
+    subst (Done homes slots count s r) (sym (set_off by_words homes (where_so TEST) slot rs r x.whole off)) (record { follows = x; keeps = stays_behind (homes + slots) count r })
 
 -- a value that is set in a word of the frame
-pub slot_done : (f : ℕ → List Step) (frame counter slots mask slot : ℕ) (e : PlainSp) (s : State) (m : Run) → slots ≤ 128 → slots ≤ counter + 1 → mask < slots → slot < slots → expr_formed slots e ≡ true → HasWordConstants e
-    → Follows slots s m → Done slots (counter + 1) (where_on mask (write_done (to_slot slot) e) s) m (run by_words (parts_trail f (stmt_code frame counter (writes mask (to_slot slot) e))) m)
-slot_done f frame counter slots mask slot e s m most fits masked named formed constants x =
-    let r = ready slots FIRST e s m (omega arith) (omega arith) most formed constants x in
-    let n = behind f e FIRST m in
-    let keeps = expr_keeps by_words f e FIRST m (fits_of r) x.whole in
+pub slot_done : (homes : ℕ) (f : ℕ → List Step) (frame counter slots mask slot : ℕ) (e : PlainSp) (s : State) (m : Run) → slots ≤ 128 → slots ≤ counter + 1 → mask < slots → slot < slots → expr_formed slots e ≡ true → HasWordConstants e → FIRST + need e ≤ homes
+    → Follows homes slots s m → Done homes slots (counter + 1) (where_on mask (write_done (to_slot slot) e) s) m (run by_words (parts_trail f (stmt_code homes frame counter (writes mask (to_slot slot) e))) m)
+slot_done homes f frame counter slots mask slot e s m most fits masked named formed constants free x =
+    let r = ready homes slots FIRST e s m (omega arith) (omega arith) free most formed constants x in
+    let n = behind homes f e FIRST m in
+    let keeps = expr_keeps homes by_words f e FIRST m (fits_of r) free x.whole in
     let y = follows_still keeps x in
-    let t = tested slots mask s n most masked y in
-    let u = run by_words (all_done (mask_test mask)) n in
-    let done = slot_where slots (counter + 1) slot FIRST (worth e s) s u (s.frame mask == 1) most named fits (value_small e r) (follows_still t.keeps y) (t.keeps.low FIRST (omega arith) ∙ value_left f e r) t.test in
-    subst (Done slots (counter + 1) (where_on mask (write_done (to_slot slot) e) s) m) (sym (run_joined by_words f (expr_code e FIRST) (target_write mask (to_slot slot)) m)) (record {
+    let t = tested homes slots mask s n most masked y in
+    let u = run by_words (all_done (mask_test homes mask)) n in
+    let done = slot_where homes slots (counter + 1) slot FIRST (worth e s) s u (s.frame mask == 1) (omega (arith, free)) most named fits (value_small e r) (follows_still t.keeps y) (t.keeps.low FIRST (omega arith) ∙ value_left f e r) t.test in
+    subst (Done homes slots (counter + 1) (where_on mask (write_done (to_slot slot) e) s) m) (sym (run_joined by_words f (expr_code homes e FIRST) (target_write homes mask (to_slot slot)) m)) (record {
       follows = done.follows;
-      keeps = keeps_then (behind_still (counter + 1) keeps) (keeps_then (behind_still (counter + 1) t.keeps) done.keeps);
+      keeps = keeps_then (behind_still slots (counter + 1) keeps) (keeps_then (behind_still slots (counter + 1) t.keeps) done.keeps);
     })

@@ -26,14 +26,14 @@ some_need (between_two op a b) = by (nat_lt (need a) (need b))
     by true = omega arith
     by false = omega arith
 
-covers : (less : Bool) (a b : ℕ) → (a ≤ (if less then max b (a + 1) else max a (b + 1))) × (b ≤ (if less then max b (a + 1) else max a (b + 1)))
+pub covers : (less : Bool) (a b : ℕ) → (a ≤ (if less then max b (a + 1) else max a (b + 1))) × (b ≤ (if less then max b (a + 1) else max a (b + 1)))
 covers true a b = (omega arith, omega arith)
 covers false a b = (omega arith, omega arith)
 
-lesser : (a b : ℕ) → nat_lt a b ≡ true → a + 1 ≤ both_need a b
+pub lesser : (a b : ℕ) → nat_lt a b ≡ true → a + 1 ≤ both_need a b
 lesser a b less = subst (λ c. a + 1 ≤ (if c then max b (a + 1) else max a (b + 1))) (sym less) (omega arith)
 
-greater : (a b : ℕ) → nat_lt a b ≡ false → b + 1 ≤ both_need a b
+pub greater : (a b : ℕ) → nat_lt a b ≡ false → b + 1 ≤ both_need a b
 greater a b more = subst (λ c. b + 1 ≤ (if c then max b (a + 1) else max a (b + 1))) (sym more) (omega arith)
 
 pub few_needs : {rd : ℕ} (e : PlainSp) → ExprFits e rd → need e ≤ 21

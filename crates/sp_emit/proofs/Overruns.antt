@@ -20,10 +20,12 @@ use Rattle.sp_emit.specs.Instructions.{where_so, set_short, compare_short, combi
 use Rattle.sp_emit.specs.Means.{HasWordConstants, Follows}
 use Rattle.sp_emit.specs.Statements.{mask_test, overrun_code, stmt_code}
 use Rattle.sp_emit.specs.declared.registers.TheConstants.{FIRST, SPARE, OVERRUN, TEST, SECOND}
+use Rattle.sp_tree.specs.Need.{need}
+use Rattle.sp_emit.proofs.WordPlaces.{word_still}
 use Rattle.sp_emit.proofs.Calm.{calm_run}
 use Rattle.sp_emit.proofs.Leaving.{did_compare_short, did_combine, did_set_short}
 use Rattle.sp_emit.proofs.Masks.{Done, ready, follows_still, behind_still, keeps_then, tested}
-use Rattle.sp_emit.proofs.Once.{so, with_written, did_nothing, whole_written, held_written, so_written}
+use Rattle.sp_emit.proofs.Once.{so, with_written, did_nothing, whole_written, held_written, kept, so_written}
 use Rattle.sp_emit.proofs.Values.{behind, fits_of, expr_keeps, run_joined, value_left}
 
 -- a predicate gets the truth of both, and of the second as a test of a word
@@ -46,28 +48,28 @@ or_false true = refl
 or_false false = refl
 
 -- the flag where it is set or not
-pub flag_where : (slots count : ℕ) (s : State) (r : Run) (b : Bool) → Follows slots s r → so TEST r ≡ b
-    → Done slots count (record s { world = record s.world { overrun = s.world.overrun || b } }) r (once by_words (set_short (where_so TEST) OVERRUN 1) r)
-flag_where slots count s r true x on =
+pub flag_where : (homes : ℕ) (slots count : ℕ) (s : State) (r : Run) (b : Bool) → Follows homes slots s r → so TEST r ≡ b
+    → Done homes slots count (record s { world = record s.world { overrun = s.world.overrun || b } }) r (once by_words (set_short (where_so TEST) OVERRUN 1) r)
+flag_where homes slots count s r true x on =
     let w = write.Register OVERRUN 1 in
-    subst (Done slots count _ r) (sym (did_set_short by_words (where_so TEST) OVERRUN 1 r x.whole on)) (record {
+    subst (Done homes slots count _ r) (sym (did_set_short by_words (where_so TEST) OVERRUN 1 r x.whole on)) (record {
       follows = record {
         whole = whole_written w r x.whole;
-        shows = record { frame = x.shows.frame; world = record { scratch = x.shows.world.scratch; comm = x.shows.world.comm; private = x.shows.world.private; shared = x.shows.world.shared; starts = x.shows.world.starts } };
+        shows = record { frame = λ u lt. word_still homes u r (with_written w r) (λ q at below. kept OVERRUN 1 q r x.whole (omega (arith, below)) (λ same. absurd (omega (arith, same, below)))) refl refl ∙ x.shows.frame u lt; world = record { scratch = x.shows.world.scratch; comm = x.shows.world.comm; private = x.shows.world.private; shared = x.shows.world.shared; starts = x.shows.world.starts } };
         words = record { frame = x.words.frame; world = record { scratch = x.words.world.scratch; comm = x.words.world.comm; private = x.words.world.private; shared = x.words.world.shared } };
         flag = held_written w OVERRUN r x.whole (omega arith) ∙ ap flag (sym (or_true s.world.overrun));
       };
-      keeps = record { st = refl; stack = λ a above. refl };
+      keeps = record { st = refl; stack = λ a above. refl; high = λ q at below. kept OVERRUN 1 q r x.whole (omega (arith, below)) (λ same. absurd (omega (arith, same, below))) };
     })
-flag_where slots count s r false x off =
-    subst (Done slots count _ r) (sym (did_nothing by_words (where_so TEST) (AluImm imm.Add OVERRUN 0 1) r x.whole off)) (record {
+flag_where homes slots count s r false x off =
+    subst (Done homes slots count _ r) (sym (did_nothing by_words (where_so TEST) (AluImm imm.Add OVERRUN 0 1) r x.whole off)) (record {
       follows = record {
         whole = x.whole;
         shows = record { frame = x.shows.frame; world = record { scratch = x.shows.world.scratch; comm = x.shows.world.comm; private = x.shows.world.private; shared = x.shows.world.shared; starts = x.shows.world.starts } };
         words = record { frame = x.words.frame; world = record { scratch = x.words.world.scratch; comm = x.words.world.comm; private = x.words.world.private; shared = x.words.world.shared } };
         flag = x.flag ∙ ap flag (sym (or_false s.world.overrun));
       };
-      keeps = record { st = refl; stack = λ a above. refl };
+      keeps = record { st = refl; stack = λ a above. refl; high = λ r at lt. refl };
     })
 
 same_state : (b : Bool) (v : ℕ) (s : State) → record s { world = record s.world { overrun = s.world.overrun || (b && is_true v) } } ≡ (if b then in_world s (with_overrun (is_true v) s.world) else s)
@@ -75,21 +77,21 @@ same_state true v s = refl
 same_state false v s = ap (λ o. record s { world = record s.world { overrun = o } }) (or_false s.world.overrun)
 
 -- the flag, set where the condition still holds
-pub overrun_is_done : (f : ℕ → List Step) (frame counter slots mask : ℕ) (e : PlainSp) (s : State) (m : Run) → slots ≤ 128 → mask < slots → expr_formed slots e ≡ true → HasWordConstants e
-    → Follows slots s m → Done slots (counter + 1) (where_on mask (overrun_done e) s) m (run by_words (parts_trail f (stmt_code frame counter (overruns mask e))) m)
-overrun_is_done f frame counter slots mask e s m most masked formed constants x =
-    let r = ready slots FIRST e s m (omega arith) (omega arith) most formed constants x in
-    let n = behind f e FIRST m in
-    let keeps = expr_keeps by_words f e FIRST m (fits_of r) x.whole in
+pub overrun_is_done : (homes : ℕ) (f : ℕ → List Step) (frame counter slots mask : ℕ) (e : PlainSp) (s : State) (m : Run) → slots ≤ 128 → mask < slots → expr_formed slots e ≡ true → HasWordConstants e → FIRST + need e ≤ homes
+    → Follows homes slots s m → Done homes slots (counter + 1) (where_on mask (overrun_done e) s) m (run by_words (parts_trail f (stmt_code homes frame counter (overruns mask e))) m)
+overrun_is_done homes f frame counter slots mask e s m most masked formed constants free x =
+    let r = ready homes slots FIRST e s m (omega arith) (omega arith) free most formed constants x in
+    let n = behind homes f e FIRST m in
+    let keeps = expr_keeps homes by_words f e FIRST m (fits_of r) r.free x.whole in
     let y = follows_still keeps x in
-    let t = tested slots mask s n most masked y in
-    let u = run by_words (all_done (mask_test mask)) n in
+    let t = tested homes slots mask s n most masked y in
+    let u = run by_words (all_done (mask_test homes mask)) n in
     let bs = compare_short cmp.Neq SECOND FIRST 0 ∷ combine comb.Pand TEST TEST SECOND ∷ [] in
-    let joined_keeps = calm_run by_words SPARE (all_done bs) u (omega arith) t.keeps.whole refl in
+    let joined_keeps = calm_run by_words SPARE homes (all_done bs) u (omega arith) t.keeps.whole refl in
     let w = run by_words (all_done bs) u in
     let test = both_test (s.frame mask == 1) (worth e s) u t.keeps.whole t.test (t.keeps.low FIRST (omega arith) ∙ value_left f e r) in
-    let done = flag_where slots (counter + 1) s w ((s.frame mask == 1) && is_true (worth e s)) (follows_still joined_keeps (follows_still t.keeps y)) test in
-    subst (Done slots (counter + 1) (where_on mask (overrun_done e) s) m) (sym (run_joined by_words f (expr_code e FIRST) (one (straight (overrun_code mask))) m)) (record {
-      follows = subst (λ z. Follows slots z (once by_words (set_short (where_so TEST) OVERRUN 1) w)) (same_state (s.frame mask == 1) (worth e s) s) done.follows;
-      keeps = keeps_then (behind_still (counter + 1) keeps) (keeps_then (behind_still (counter + 1) t.keeps) (keeps_then (behind_still (counter + 1) joined_keeps) done.keeps));
+    let done = flag_where homes slots (counter + 1) s w ((s.frame mask == 1) && is_true (worth e s)) (follows_still joined_keeps (follows_still t.keeps y)) test in
+    subst (Done homes slots (counter + 1) (where_on mask (overrun_done e) s) m) (sym (run_joined by_words f (expr_code homes e FIRST) (one (straight (overrun_code homes mask))) m)) (record {
+      follows = subst (λ z. Follows homes slots z (once by_words (set_short (where_so TEST) OVERRUN 1) w)) (same_state (s.frame mask == 1) (worth e s) s) done.follows;
+      keeps = keeps_then (behind_still slots (counter + 1) keeps) (keeps_then (behind_still slots (counter + 1) t.keeps) (keeps_then (behind_still slots (counter + 1) joined_keeps) done.keeps));
     })

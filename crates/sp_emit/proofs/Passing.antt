@@ -18,9 +18,8 @@ use Rattle.sp_shape.specs.Formed.{is_call, is_way, is_turn, part_formed, parts_f
 use Rattle.sp_shape.specs.Parts.{PlainPart, straight, repeats, calls_to, leaves, PlainParts, no_part, part}
 use Rattle.sp_shape.specs.Run.{Run, Sources, once, effected, run, begun, IsWhole}
 use Rattle.sp_shape.specs.Trail.{Step, begins, all_done, copies, part_trail, parts_trail}
-use Rattle.sp_emit.specs.Means.{KeepsBehind}
+use Rattle.sp_emit.specs.Means.{KeepsStack}
 use Rattle.sp_emit.proofs.Frames.{put_other}
-use Rattle.sp_emit.proofs.Masks.{keeps_then}
 
 -- ---- the stack
 
@@ -40,9 +39,12 @@ passes count b = is_low count b.first.op
 -- nothing is pending, and the stack after so many words is as it was
 pub record Passes (count : ℕ) (m t : Run) : Type 0 where
   pub whole : IsWhole t
-  pub keeps : KeepsBehind count m t
+  pub keeps : KeepsStack count m t
 
-stays : (count : ℕ) (m t : Run) → t.st ≡ m.st → t.stack ≡ m.stack → KeepsBehind count m t
+pub stack_then : {count : ℕ} {m n t : Run} → KeepsStack count m n → KeepsStack count n t → KeepsStack count m t
+stack_then {count} {m} {n} {t} a b = record { st = b.st ∙ a.st; stack = λ at above. b.stack at (subst (λ st. st + count ≤ at) (sym a.st) above) ∙ a.stack at above }
+
+stays : (count : ℕ) (m t : Run) → t.st ≡ m.st → t.stack ≡ m.stack → KeepsStack count m t
 stays count m t st stack = record { st = st; stack = λ a above. ap (λ words. words a) stack }
 
 slot_stored : (count ra imm value : ℕ) (regs : Registers) (m : Run) → count ≤ 128 → word_in regs 0 ≡ 0 → ra ≡ 0 → imm < count
@@ -54,7 +56,7 @@ slot_stored count ra imm value regs m few zero_is base named a above =
     ∙ put_other (m.st + imm) a value m.stack (λ same. absurd (omega (arith, same, named, above)))
 
 passes_effect : (from : Sources) (count : ℕ) (on : Bool) (op : Op) (regs : Registers) (m : Run) → count ≤ 128 → word_in regs 0 ≡ 0 → is_low count op ≡ true
-    → KeepsBehind count m (effected from (if on then asked regs op else effect.Nothing) m)
+    → KeepsStack count m (effected from (if on then asked regs op else effect.Nothing) m)
 passes_effect from count false op regs m few zero_is low = stays count m _ refl refl
 passes_effect from count true (AluImm func rd ra imm) regs m few zero_is low = stays count m _ refl refl
 passes_effect from count true (AluReg func rd ra rb) regs m few zero_is low = stays count m _ refl refl
@@ -93,7 +95,7 @@ pub passes_all : (count : ℕ) (m : Run) → IsWhole m → Passes count m m
 passes_all count m whole = record { whole = whole; keeps = stays count m m refl refl }
 
 pub passes_then : {count : ℕ} {m n t : Run} → Passes count m n → Passes count n t → Passes count m t
-passes_then a b = record { whole = b.whole; keeps = keeps_then a.keeps b.keeps }
+passes_then a b = record { whole = b.whole; keeps = stack_then a.keeps b.keeps }
 
 pub passes_more : {count more : ℕ} {m t : Run} → count ≤ more → Passes count m t → Passes more m t
 passes_more le a = record { whole = a.whole; keeps = record { st = a.keeps.st; stack = λ at above. a.keeps.stack at (omega (arith, above, le)) } }

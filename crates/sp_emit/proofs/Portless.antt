@@ -1,5 +1,5 @@
 -- Code that stores in no register of the interface starts no transfer; and code after other code.
-use Rattle.std.proofs.Common.{◌≡◌, true≢false, Bool, true, false, if◌then◌else◌, List, [], ◌∷◌, ◌++◌, sym}
+use Rattle.std.proofs.Common.{ℕ, ◌≡◌, true≢false, Bool, true, false, if◌then◌else◌, List, [], ◌∷◌, ◌++◌, sym, refl}
 use Rattle.std.specs.List.{list_all}
 use Rattle.std.proofs.lemmas.Bool.{and_parts}
 use Rattle.patmos_instr.specs.Bundles.{Slots}
@@ -12,6 +12,8 @@ use Rattle.patmos_sem.specs.declared.effects.Effect.TheVariants as effect
 use Rattle.sp_shape.specs.Memory.{Memory}
 use Rattle.sp_shape.specs.Run.{Run, Sources, once, run, begun}
 use Rattle.sp_shape.specs.Trail.{Step, does, begins, all_done}
+use Rattle.sp_emit.specs.Places.{fetch_word}
+use Rattle.sp_emit.proofs.WordPlaces.{fetch_is}
 use Rattle.sp_emit.specs.Starting.{StartsWell, AllStart, AllWords}
 
 -- ---- code that stores in no register of the interface
@@ -52,3 +54,7 @@ pub words_right : (from : Sources) (xs ys : List Step) (m : Run) → AllWords fr
 words_right from [] ys m words = words
 words_right from (does x ∷ xs) ys m words = words_right from xs ys (once from x m) words.1
 words_right from (begins ∷ xs) ys m words = words_right from xs ys (begun m) words
+
+-- a word of the frame
+pub portless_fetch : (homes slot : ℕ) → is_portless (fetch_word homes slot) ≡ true
+portless_fetch homes slot = fetch_is (λ b. is_portless b ≡ true) homes slot refl refl

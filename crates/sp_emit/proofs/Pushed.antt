@@ -1,11 +1,10 @@
 -- Parts that are pushed after others.
 use Rattle.std.proofs.Common.{◌≡◌, ℕ, ◌+◌, ◌-◌, Option, Bool, true, false, if◌then◌else◌, List, [], ◌∷◌, ◌++◌, ap, sym, ◌∙◌}
 use Rattle.std.specs.Prelude.{nat_lt}
-use Rattle.sp_tree.specs.Cost.{is_held}
 use Rattle.sp_tree.specs.Need.{need}
 use Rattle.sp_tree.specs.Plain.{PlainSp, between_two}
 use Rattle.sp_tree.specs.declared.operators.SpBinary.{SpBinary}
-use Rattle.sp_emit.specs.Expressions.{binary_code, held_code, number_of, expr_code}
+use Rattle.sp_emit.specs.Expressions.{binary_code, held_code, number_of, expr_code, operand_code, value_at, is_immediate}
 use Rattle.patmos_instr.specs.Bundles.{Slots}
 use Rattle.sp_shape.proofs.Joins.{shown, joined-assoc}
 use Rattle.sp_shape.specs.Parts.{PlainParts, no_part, part, straight, repeats, one, joined}
@@ -37,49 +36,49 @@ pub around_pushed : (old first second third : PlainParts) (before behind : List 
     → third ≡ joined second (one (straight behind)) → third ≡ joined old (around before behind)
 around_pushed old first second third before behind one two three = three_pushed old first second third (part (straight before) no_part) (part digits no_part) (part (straight behind) no_part) one two three
 
-pub function_pushed : (f : SpFunction) (xs : List Part) (ts : List SpStmt) (first second third fourth : PlainParts) → xs ≡ [] → ts ≡ f.body
-    → first ≡ joined (parts_of xs) (one (straight (function_begin (plain_function f)))) → second ≡ joined first (stmts_code f.frame (f.frame - 3) (stmts_of ts))
-    → third ≡ joined second (one (straight (function_end (plain_function f)))) → fourth ≡ joined third (one leaving) → fourth ≡ function_code (plain_function f)
-function_pushed f xs ts first second third fourth none is a b c d =
-    let begin = one (straight (function_begin (plain_function f))) in
-    let body = stmts_code f.frame (f.frame - 3) (stmts_of f.body) in
-    let end = one (straight (function_end (plain_function f))) in
-    let b' : second ≡ joined first body = b ∙ ap (λ s. joined first (stmts_code f.frame (f.frame - 3) (stmts_of s))) is in
+pub function_pushed : (homes : ℕ) (f : SpFunction) (xs : List Part) (ts : List SpStmt) (first second third fourth : PlainParts) → xs ≡ [] → ts ≡ f.body
+    → first ≡ joined (parts_of xs) (one (straight (function_begin homes (plain_function f)))) → second ≡ joined first (stmts_code homes f.frame (f.frame - 3) (stmts_of ts))
+    → third ≡ joined second (one (straight (function_end homes (plain_function f)))) → fourth ≡ joined third (one leaving) → fourth ≡ function_code homes (plain_function f)
+function_pushed homes f xs ts first second third fourth none is a b c d =
+    let begin = one (straight (function_begin homes (plain_function f))) in
+    let body = stmts_code homes f.frame (f.frame - 3) (stmts_of f.body) in
+    let end = one (straight (function_end homes (plain_function f))) in
+    let b' : second ≡ joined first body = b ∙ ap (λ s. joined first (stmts_code homes f.frame (f.frame - 3) (stmts_of s))) is in
     let a' : first ≡ begin = a ∙ ap (λ l. joined (parts_of l) begin) none in
     d ∙ ap (λ x. joined x (one leaving)) (c ∙ ap (λ x. joined x end) (b' ∙ ap (λ x. joined x body) a')) ∙ joined-assoc (joined begin body) end (one leaving)
     ∙ joined-assoc begin body (joined end (one leaving))
 
 -- ---- operands in their order
 
-pub held_pushed : (old first second : PlainParts) (op : SpBinary) (a b : PlainSp) (rd : ℕ) → is_held op b ≡ true → first ≡ joined old (expr_code a rd)
-    → second ≡ joined first (one (straight (held_code op rd (number_of b)))) → second ≡ joined old (expr_code (between_two op a b) rd)
-held_pushed old first second op a b rd held f s =
-    two_pushed old first second (expr_code a rd) (one (straight (held_code op rd (number_of b)))) f s
-    ∙ ap (joined old) (sym (ap (λ c. if c then joined (expr_code a rd) (one (straight (held_code op rd (number_of b))))
-    else if nat_lt (need a) (need b) then joined (expr_code b rd) (joined (expr_code a (rd + 1)) (binary_code op rd (rd + 1) rd))
-    else joined (expr_code a rd) (joined (expr_code b (rd + 1)) (binary_code op rd rd (rd + 1)))) held))
+pub held_pushed : (homes : ℕ) (old first second : PlainParts) (op : SpBinary) (a b : PlainSp) (rd : ℕ) → is_immediate op b ≡ true → first ≡ joined old (operand_code homes a rd)
+    → second ≡ joined first (one (straight (held_code op rd (value_at homes a rd) (number_of b)))) → second ≡ joined old (expr_code homes (between_two op a b) rd)
+held_pushed homes old first second op a b rd held f s =
+    two_pushed old first second (operand_code homes a rd) (one (straight (held_code op rd (value_at homes a rd) (number_of b)))) f s
+    ∙ ap (joined old) (sym (ap (λ c. if c then joined (operand_code homes a rd) (one (straight (held_code op rd (value_at homes a rd) (number_of b))))
+    else if nat_lt (need a) (need b) then joined (operand_code homes b rd) (joined (operand_code homes a (rd + 1)) (binary_code op rd (value_at homes a (rd + 1)) (value_at homes b rd)))
+    else joined (operand_code homes a rd) (joined (operand_code homes b (rd + 1)) (binary_code op rd (value_at homes a rd) (value_at homes b (rd + 1))))) held))
 
-not_held : (op : SpBinary) (a b : PlainSp) (rd : ℕ) (less : Bool) → is_held op b ≡ false → nat_lt (need a) (need b) ≡ less → expr_code (between_two op a b) rd
-    ≡ (if less then joined (expr_code b rd) (joined (expr_code a (rd + 1)) (binary_code op rd (rd + 1) rd))
-    else joined (expr_code a rd) (joined (expr_code b (rd + 1)) (binary_code op rd rd (rd + 1))))
-not_held op a b rd less not is =
-    ap (λ c. if c then joined (expr_code a rd) (one (straight (held_code op rd (number_of b))))
-    else if nat_lt (need a) (need b) then joined (expr_code b rd) (joined (expr_code a (rd + 1)) (binary_code op rd (rd + 1) rd))
-    else joined (expr_code a rd) (joined (expr_code b (rd + 1)) (binary_code op rd rd (rd + 1)))) not
-    ∙ ap (λ c. if c then joined (expr_code b rd) (joined (expr_code a (rd + 1)) (binary_code op rd (rd + 1) rd))
-    else joined (expr_code a rd) (joined (expr_code b (rd + 1)) (binary_code op rd rd (rd + 1)))) is
+not_held : (homes : ℕ) (op : SpBinary) (a b : PlainSp) (rd : ℕ) (less : Bool) → is_immediate op b ≡ false → nat_lt (need a) (need b) ≡ less → expr_code homes (between_two op a b) rd
+    ≡ (if less then joined (operand_code homes b rd) (joined (operand_code homes a (rd + 1)) (binary_code op rd (value_at homes a (rd + 1)) (value_at homes b rd)))
+    else joined (operand_code homes a rd) (joined (operand_code homes b (rd + 1)) (binary_code op rd (value_at homes a rd) (value_at homes b (rd + 1)))))
+not_held homes op a b rd less not is =
+    ap (λ c. if c then joined (operand_code homes a rd) (one (straight (held_code op rd (value_at homes a rd) (number_of b))))
+    else if nat_lt (need a) (need b) then joined (operand_code homes b rd) (joined (operand_code homes a (rd + 1)) (binary_code op rd (value_at homes a (rd + 1)) (value_at homes b rd)))
+    else joined (operand_code homes a rd) (joined (operand_code homes b (rd + 1)) (binary_code op rd (value_at homes a rd) (value_at homes b (rd + 1))))) not
+    ∙ ap (λ c. if c then joined (operand_code homes b rd) (joined (operand_code homes a (rd + 1)) (binary_code op rd (value_at homes a (rd + 1)) (value_at homes b rd)))
+    else joined (operand_code homes a rd) (joined (operand_code homes b (rd + 1)) (binary_code op rd (value_at homes a rd) (value_at homes b (rd + 1))))) is
 
-pub second_pushed : (old first second : PlainParts) (op : SpBinary) (a b : PlainSp) (rd : ℕ) → is_held op b ≡ false → nat_lt (need a) (need b) ≡ true
-    → first ≡ joined old (joined (expr_code b rd) (expr_code a (rd + 1))) → second ≡ joined first (binary_code op rd (rd + 1) rd) → second ≡ joined old (expr_code (between_two op a b) rd)
-second_pushed old first second op a b rd not less f s =
-    two_pushed old first second (joined (expr_code b rd) (expr_code a (rd + 1))) (binary_code op rd (rd + 1) rd) f s
-    ∙ ap (joined old) (joined-assoc (expr_code b rd) (expr_code a (rd + 1)) (binary_code op rd (rd + 1) rd) ∙ sym (not_held op a b rd true not less))
+pub second_pushed : (homes : ℕ) (old first second : PlainParts) (op : SpBinary) (a b : PlainSp) (rd : ℕ) → is_immediate op b ≡ false → nat_lt (need a) (need b) ≡ true
+    → first ≡ joined old (joined (operand_code homes b rd) (operand_code homes a (rd + 1))) → second ≡ joined first (binary_code op rd (value_at homes a (rd + 1)) (value_at homes b rd)) → second ≡ joined old (expr_code homes (between_two op a b) rd)
+second_pushed homes old first second op a b rd not less f s =
+    two_pushed old first second (joined (operand_code homes b rd) (operand_code homes a (rd + 1))) (binary_code op rd (value_at homes a (rd + 1)) (value_at homes b rd)) f s
+    ∙ ap (joined old) (joined-assoc (operand_code homes b rd) (operand_code homes a (rd + 1)) (binary_code op rd (value_at homes a (rd + 1)) (value_at homes b rd)) ∙ sym (not_held homes op a b rd true not less))
 
-pub first_pushed : (old first second : PlainParts) (op : SpBinary) (a b : PlainSp) (rd : ℕ) → is_held op b ≡ false → nat_lt (need a) (need b) ≡ false
-    → first ≡ joined old (joined (expr_code a rd) (expr_code b (rd + 1))) → second ≡ joined first (binary_code op rd rd (rd + 1)) → second ≡ joined old (expr_code (between_two op a b) rd)
-first_pushed old first second op a b rd not less f s =
-    two_pushed old first second (joined (expr_code a rd) (expr_code b (rd + 1))) (binary_code op rd rd (rd + 1)) f s
-    ∙ ap (joined old) (joined-assoc (expr_code a rd) (expr_code b (rd + 1)) (binary_code op rd rd (rd + 1)) ∙ sym (not_held op a b rd false not less))
+pub first_pushed : (homes : ℕ) (old first second : PlainParts) (op : SpBinary) (a b : PlainSp) (rd : ℕ) → is_immediate op b ≡ false → nat_lt (need a) (need b) ≡ false
+    → first ≡ joined old (joined (operand_code homes a rd) (operand_code homes b (rd + 1))) → second ≡ joined first (binary_code op rd (value_at homes a rd) (value_at homes b (rd + 1))) → second ≡ joined old (expr_code homes (between_two op a b) rd)
+first_pushed homes old first second op a b rd not less f s =
+    two_pushed old first second (joined (operand_code homes a rd) (operand_code homes b (rd + 1))) (binary_code op rd (value_at homes a rd) (value_at homes b (rd + 1))) f s
+    ∙ ap (joined old) (joined-assoc (operand_code homes a rd) (operand_code homes b (rd + 1)) (binary_code op rd (value_at homes a rd) (value_at homes b (rd + 1))) ∙ sym (not_held homes op a b rd false not less))
 
 -- ---- sends
 
@@ -89,15 +88,15 @@ send_pushed old first second a b c d one two =
 
 -- ---- calls and turns
 
-pub call_pushed : (old first second third : PlainParts) (frame mask k : ℕ) (slot : Option ℕ) → first ≡ joined old (one (straight (mask_handed mask)))
-    → second ≡ joined first (one (way_to k)) → third ≡ joined second (one (straight (behind_call frame mask slot))) → third ≡ joined old (call_code frame mask k slot)
-call_pushed old first second third frame mask k slot a b c =
-    three_pushed old first second third (one (straight (mask_handed mask))) (one (way_to k)) (one (straight (behind_call frame mask slot))) a b c
+pub call_pushed : (homes : ℕ) (old first second third : PlainParts) (frame mask k : ℕ) (slot : Option ℕ) → first ≡ joined old (one (straight (mask_handed homes mask)))
+    → second ≡ joined first (one (way_to k)) → third ≡ joined second (one (straight (behind_call homes frame mask slot))) → third ≡ joined old (call_code homes frame mask k slot)
+call_pushed homes old first second third frame mask k slot a b c =
+    three_pushed old first second third (one (straight (mask_handed homes mask))) (one (way_to k)) (one (straight (behind_call homes frame mask slot))) a b c
 
-pub turns_pushed : (old first second turn : PlainParts) (frame counter count : ℕ) (body : PlainStmts) → first ≡ joined old (one (straight (turns_begin counter count)))
-    → turn ≡ stmts_code frame (counter - 1) body → second ≡ joined first (one (repeats count turn (turns_tail counter))) → second ≡ joined old (stmt_code frame counter (turns count body))
-turns_pushed old first second turn frame counter count body a is b =
-    two_pushed old first second (one (straight (turns_begin counter count))) (one (repeats count (stmts_code frame (counter - 1) body) (turns_tail counter))) a
+pub turns_pushed : (homes : ℕ) (old first second turn : PlainParts) (frame counter count : ℕ) (body : PlainStmts) → first ≡ joined old (one (straight (turns_begin counter count)))
+    → turn ≡ stmts_code homes frame (counter - 1) body → second ≡ joined first (one (repeats count turn (turns_tail counter))) → second ≡ joined old (stmt_code homes frame counter (turns count body))
+turns_pushed homes old first second turn frame counter count body a is b =
+    two_pushed old first second (one (straight (turns_begin counter count))) (one (repeats count (stmts_code homes frame (counter - 1) body) (turns_tail counter))) a
     (b ∙ ap (λ t. joined first (one (repeats count t (turns_tail counter)))) is)
 
 pub straight_as : (old new : PlainParts) (xs ys : List Slots) → new ≡ joined old (one (straight xs)) → xs ≡ ys → new ≡ joined old (one (straight ys))

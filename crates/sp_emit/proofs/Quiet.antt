@@ -8,7 +8,6 @@ use Rattle.patmos_instr.specs.Bundles.{Slots}
 use Rattle.patmos_instr.specs.declared.guards.Guard.{Guard}
 use Rattle.patmos_instr.specs.declared.instructions.Op.{Op}
 use Rattle.patmos_instr.specs.declared.instructions.Op.TheVariants.{Stack, Load, Store}
-use Rattle.sp_tree.specs.Cost.{is_held}
 use Rattle.sp_tree.specs.Need.{need}
 use Rattle.sp_tree.specs.Plain.{PlainSp, constant, frame_word, cell_word, array_word, before_one, between_two}
 use Rattle.sp_tree.specs.declared.operators.SpBinary.{SpBinary}
@@ -17,8 +16,12 @@ use Rattle.sp_shape.specs.Bundles.{part_all, parts_all}
 use Rattle.sp_shape.specs.Formed.{is_always}
 use Rattle.sp_shape.specs.Parts.{PlainPart, straight, repeats, calls_to, leaves, PlainParts, no_part, part, one, joined}
 use Rattle.sp_shape.proofs.Lists.{all_weaker}
-use Rattle.sp_emit.specs.Expressions.{unary_code, binary_code, held_code, element_code, number_of, expr_code}
+use Rattle.sp_emit.proofs.Operands.{operand_is}
+use Rattle.sp_emit.specs.Expressions.{unary_code, binary_code, held_code, element_code, number_of, expr_code, operand_code, value_at, is_immediate}
 use Rattle.sp_emit.specs.Statements.{args_code}
+use Rattle.sp_emit.specs.Instructions.{always}
+use Rattle.sp_emit.specs.Places.{read_op}
+use Rattle.sp_emit.proofs.WordPlaces.{read_op_is}
 
 -- ---- each bundle
 
@@ -63,31 +66,34 @@ Quiet parts = parts_all is_quiet parts ≡ true
 abbrev AreQuiet : List Slots → Type 0
 AreQuiet bs = list_all is_quiet bs ≡ true
 
-unary_quiet : (op : SpUnary) (rd : ℕ) → AreQuiet (unary_code op rd)
-unary_quiet op rd = grind arith
+unary_quiet : (op : SpUnary) (rd ra : ℕ) → AreQuiet (unary_code op rd ra)
+unary_quiet op rd ra = grind arith
 
 binary_quiet : (op : SpBinary) (rd ra rb : ℕ) → Quiet (binary_code op rd ra rb)
 binary_quiet op rd ra rb = grind arith
 
-held_quiet : (op : SpBinary) (rd n : ℕ) → AreQuiet (held_code op rd n)
-held_quiet op rd n = grind arith
+held_quiet : (op : SpBinary) (rd ra n : ℕ) → AreQuiet (held_code op rd ra n)
+held_quiet op rd ra n = grind arith
 
-two_quiet : (op : SpBinary) (a b : PlainSp) (rd : ℕ) (held less : Bool) → Quiet (expr_code a rd) → Quiet (expr_code b rd) → Quiet (expr_code a (rd + 1)) → Quiet (expr_code b (rd + 1))
-    → Quiet (if held then joined (expr_code a rd) (one (straight (held_code op rd (number_of b))))
-    else if less then joined (expr_code b rd) (joined (expr_code a (rd + 1)) (binary_code op rd (rd + 1) rd))
-    else joined (expr_code a rd) (joined (expr_code b (rd + 1)) (binary_code op rd rd (rd + 1))))
-two_quiet op a b rd true less qa qb na nb = each_joined is_quiet (expr_code a rd) _ qa (each_lone is_quiet (held_code op rd (number_of b)) (held_quiet op rd (number_of b)))
-two_quiet op a b rd false true qa qb na nb = each_joined is_quiet (expr_code b rd) _ qb (each_joined is_quiet (expr_code a (rd + 1)) _ na (binary_quiet op rd (rd + 1) rd))
-two_quiet op a b rd false false qa qb na nb = each_joined is_quiet (expr_code a rd) _ qa (each_joined is_quiet (expr_code b (rd + 1)) _ nb (binary_quiet op rd rd (rd + 1)))
+two_quiet : (homes : ℕ) (op : SpBinary) (a b : PlainSp) (rd : ℕ) (held less : Bool) → Quiet (operand_code homes a rd) → Quiet (operand_code homes b rd) → Quiet (operand_code homes a (rd + 1)) → Quiet (operand_code homes b (rd + 1))
+    → Quiet (if held then joined (operand_code homes a rd) (one (straight (held_code op rd (value_at homes a rd) (number_of b))))
+    else if less then joined (operand_code homes b rd) (joined (operand_code homes a (rd + 1)) (binary_code op rd (value_at homes a (rd + 1)) (value_at homes b rd)))
+    else joined (operand_code homes a rd) (joined (operand_code homes b (rd + 1)) (binary_code op rd (value_at homes a rd) (value_at homes b (rd + 1)))))
+two_quiet homes op a b rd true less qa qb na nb = each_joined is_quiet (operand_code homes a rd) _ qa (each_lone is_quiet (held_code op rd (value_at homes a rd) (number_of b)) (held_quiet op rd (value_at homes a rd) (number_of b)))
+two_quiet homes op a b rd false true qa qb na nb = each_joined is_quiet (operand_code homes b rd) _ qb (each_joined is_quiet (operand_code homes a (rd + 1)) _ na (binary_quiet op rd (value_at homes a (rd + 1)) (value_at homes b rd)))
+two_quiet homes op a b rd false false qa qb na nb = each_joined is_quiet (operand_code homes a rd) _ qa (each_joined is_quiet (operand_code homes b (rd + 1)) _ nb (binary_quiet op rd (value_at homes a rd) (value_at homes b (rd + 1))))
 
-pub expr_quiet : (e : PlainSp) (rd : ℕ) → Quiet (expr_code e rd)
-expr_quiet (constant v) rd = refl
-expr_quiet (frame_word slot) rd = refl
-expr_quiet (cell_word cell) rd = refl
-expr_quiet (array_word array index) rd = each_joined is_quiet (expr_code index rd) (one (straight (element_code array rd))) (expr_quiet index rd) refl
-expr_quiet (before_one op of) rd = each_joined is_quiet (expr_code of rd) _ (expr_quiet of rd) (each_lone is_quiet (unary_code op rd) (unary_quiet op rd))
-expr_quiet (between_two op a b) rd = two_quiet op a b rd (is_held op b) (nat_lt (need a) (need b)) (expr_quiet a rd) (expr_quiet b rd) (expr_quiet a (rd + 1)) (expr_quiet b (rd + 1))
+read_quiet : (homes rd slot : ℕ) → is_quiet_op always (read_op homes rd slot) ≡ true
+read_quiet homes rd slot = read_op_is (λ op. is_quiet_op always op ≡ true) homes rd slot refl refl
 
-pub args_quiet : (args : List PlainSp) (rd : ℕ) → Quiet (args_code args rd)
-args_quiet [] rd = refl
-args_quiet (e ∷ args) rd = each_joined is_quiet (expr_code e rd) (args_code args (rd + 1)) (expr_quiet e rd) (args_quiet args (rd + 1))
+pub expr_quiet : (homes : ℕ) (e : PlainSp) (rd : ℕ) → Quiet (expr_code homes e rd)
+expr_quiet homes (constant v) rd = refl
+expr_quiet homes (frame_word slot) rd = rw (read_quiet homes rd slot) refl
+expr_quiet homes (cell_word cell) rd = refl
+expr_quiet homes (array_word array index) rd = each_joined is_quiet (expr_code homes index rd) (one (straight (element_code array rd))) (expr_quiet homes index rd) refl
+expr_quiet homes (before_one op of) rd = each_joined is_quiet (operand_code homes of rd) _ (operand_is Quiet homes of rd refl (expr_quiet homes of rd)) (each_lone is_quiet (unary_code op rd (value_at homes of rd)) (unary_quiet op rd (value_at homes of rd)))
+expr_quiet homes (between_two op a b) rd = two_quiet homes op a b rd (is_immediate op b) (nat_lt (need a) (need b)) (operand_is Quiet homes a rd refl (expr_quiet homes a rd)) (operand_is Quiet homes b rd refl (expr_quiet homes b rd)) (operand_is Quiet homes a (rd + 1) refl (expr_quiet homes a (rd + 1))) (operand_is Quiet homes b (rd + 1) refl (expr_quiet homes b (rd + 1)))
+
+pub args_quiet : (homes : ℕ) (args : List PlainSp) (rd : ℕ) → Quiet (args_code homes args rd)
+args_quiet homes [] rd = refl
+args_quiet homes (e ∷ args) rd = each_joined is_quiet (expr_code homes e rd) (args_code homes args (rd + 1)) (expr_quiet homes e rd) (args_quiet homes args (rd + 1))

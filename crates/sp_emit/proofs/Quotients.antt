@@ -32,7 +32,7 @@ word_copied : (a : ℕ) → a < 2 ^ 32 → (a + 0) % 2 ^ 32 ≡ a
 word_copied a word = omega (arith, word)
 
 -- the operands stand in their registers, and nothing is left so far; the predicates of the signs are as they were
-pub starts : (from : Sources) (ra rb a b : ℕ) (m : Run) → IsWhole m → rb < 22 → held ra m ≡ a → held rb m ≡ b → a < 2 ^ 32 → b < 2 ^ 32
+pub starts : (from : Sources) (ra rb a b : ℕ) (m : Run) → IsWhole m → rb < 27 → held ra m ≡ a → held rb m ≡ b → a < 2 ^ 32 → b < 2 ^ 32
     → Divides (record { rest = so REST_NEGATIVE m; quotient = so QUOTIENT_NEGATIVE m }) a 0 b (run from (all_done (operands ra rb)) m)
 starts from ra rb a b m whole few is_a is_b word_a word_b =
     let v = (held ra m + 0) % 2 ^ 32 in
@@ -179,7 +179,7 @@ run_around from f before behind m =
     ∙ run_append from (copies 32 (all_done digit_tail)) (all_done behind ++ []) (run from (all_done before) m)
     ∙ ap (λ steps. run from steps (run from (copies 32 (all_done digit_tail)) (run from (all_done before) m))) (append-nil (all_done behind))
 
-unsigned_divided : (from : Sources) (ra rb a b : ℕ) (m : Run) → IsWhole m → rb < 22 → held ra m ≡ a → held rb m ≡ b → a < 2 ^ 32 → b < 2 ^ 32
+unsigned_divided : (from : Sources) (ra rb a b : ℕ) (m : Run) → IsWhole m → rb < 27 → held ra m ≡ a → held rb m ≡ b → a < 2 ^ 32 → b < 2 ^ 32
     → Divides (record { rest = so REST_NEGATIVE m; quotient = so QUOTIENT_NEGATIVE m }) (turned 32 b (a, 0)).0 (turned 32 b (a, 0)).1 b (run from (copies 32 (all_done digit_tail)) (run from (all_done (operands ra rb)) m))
 unsigned_divided from ra rb a b m whole few is_a is_b word_a word_b = digits_done from _ 32 a 0 b (run from (all_done (operands ra rb)) m) (starts from ra rb a b m whole few is_a is_b word_a word_b)
 
@@ -191,26 +191,26 @@ rest_is : (a b : ℕ) → a < 2 ^ 32 → b < 2 ^ 32 → (turned 32 b (a, 0)).1 �
 rest_is a zero word_a word_b = divides_by_zero a word_a
 rest_is a (suc b) word_a word_b = (divides_words a (suc b) word_a word_b (omega arith)).1 ∙ ap (λ on. if on then a else a % suc b) (sym (ne_eqb (suc b) 0 (omega arith)))
 
-pub unsigned_quotient_left : (from : Sources) (f : ℕ → List Step) (rd ra rb a b : ℕ) (m : Run) → IsWhole m → 1 ≤ rd → rd < 32 → rb < 22 → held ra m ≡ a → held rb m ≡ b → a < 2 ^ 32 → b < 2 ^ 32
+pub unsigned_quotient_left : (from : Sources) (f : ℕ → List Step) (rd ra rb a b : ℕ) (m : Run) → IsWhole m → 1 ≤ rd → rd < 32 → rb < 27 → held ra m ≡ a → held rb m ≡ b → a < 2 ^ 32 → b < 2 ^ 32
     → held rd (run from (parts_trail f (unsigned_division (quotient_to rd) ra rb)) m) ≡ quotient_unsigned a b
 unsigned_quotient_left from f rd ra rb a b m whole some few low is_a is_b word_a word_b =
     ap (held rd) (run_around from f (operands ra rb) (quotient_to rd) m)
     ∙ (quotient_given from _ _ _ b rd _ (unsigned_divided from ra rb a b m whole low is_a is_b word_a word_b) some few (quotient_word a b word_a word_b)).value ∙ quotient_is a b word_a word_b
 
-pub unsigned_rest_left : (from : Sources) (f : ℕ → List Step) (rd ra rb a b : ℕ) (m : Run) → IsWhole m → 1 ≤ rd → rd < 32 → rb < 22 → held ra m ≡ a → held rb m ≡ b → a < 2 ^ 32 → b < 2 ^ 32
+pub unsigned_rest_left : (from : Sources) (f : ℕ → List Step) (rd ra rb a b : ℕ) (m : Run) → IsWhole m → 1 ≤ rd → rd < 32 → rb < 27 → held ra m ≡ a → held rb m ≡ b → a < 2 ^ 32 → b < 2 ^ 32
     → held rd (run from (parts_trail f (unsigned_division (rest_to rd) ra rb)) m) ≡ rest_unsigned a b
 unsigned_rest_left from f rd ra rb a b m whole some few low is_a is_b word_a word_b =
     ap (held rd) (run_around from f (operands ra rb) (rest_to rd) m)
     ∙ (rest_given from _ _ _ b rd _ (unsigned_divided from ra rb a b m whole low is_a is_b word_a word_b) some few (rest_word a b word_a word_b)).value ∙ rest_is a b word_a word_b
 
-signed_divided : (from : Sources) (ra rb a b : ℕ) (m : Run) → IsWhole m → rb < 22 → held ra m ≡ a → held rb m ≡ b → a < 2 ^ 32 → b < 2 ^ 32
+signed_divided : (from : Sources) (ra rb a b : ℕ) (m : Run) → IsWhole m → rb < 27 → held ra m ≡ a → held rb m ≡ b → a < 2 ^ 32 → b < 2 ^ 32
     → Divides (record { rest = has_bit a 31; quotient = differ (has_bit a 31) (has_bit b 31) }) (turned 32 (size_of b) (size_of a, 0)).0 (turned 32 (size_of b) (size_of a, 0)).1 (size_of b)
     (run from (copies 32 (all_done digit_tail)) (run from (all_done (operands ra rb ++ without_signs)) m))
 signed_divided from ra rb a b m whole few is_a is_b word_a word_b =
     digits_done from _ 32 (size_of a) 0 (size_of b) (run from (all_done (operands ra rb ++ without_signs)) m)
     (signs_go from _ a b (run from (all_done (operands ra rb)) m) (starts from ra rb a b m whole few is_a is_b word_a word_b))
 
-pub signed_quotient_left : (from : Sources) (f : ℕ → List Step) (rd ra rb a b : ℕ) (m : Run) → IsWhole m → 1 ≤ rd → rd < 32 → rb < 22 → held ra m ≡ a → held rb m ≡ b → a < 2 ^ 32 → b < 2 ^ 32
+pub signed_quotient_left : (from : Sources) (f : ℕ → List Step) (rd ra rb a b : ℕ) (m : Run) → IsWhole m → 1 ≤ rd → rd < 32 → rb < 27 → held ra m ≡ a → held rb m ≡ b → a < 2 ^ 32 → b < 2 ^ 32
     → held rd (run from (parts_trail f (signed_division (signed_quotient_to rd) ra rb)) m) ≡ quotient a b
 signed_quotient_left from f rd ra rb a b m whole some few low is_a is_b word_a word_b =
     let on = differ (has_bit a 31) (has_bit b 31) in
@@ -220,7 +220,7 @@ signed_quotient_left from f rd ra rb a b m whole some few low is_a is_b word_a w
     ∙ (negates from QUOTIENT_NEGATIVE rd on _ g.whole some few g.quotient_negative).value ∙ ap (signed on) g.value
     ∙ ap (signed on) (quotient_is (size_of a) (size_of b) (size_word a word_a) (size_word b word_b)) ∙ sym (signed_quotient a b word_a word_b)
 
-pub signed_rest_left : (from : Sources) (f : ℕ → List Step) (rd ra rb a b : ℕ) (m : Run) → IsWhole m → 1 ≤ rd → rd < 32 → rb < 22 → held ra m ≡ a → held rb m ≡ b → a < 2 ^ 32 → b < 2 ^ 32
+pub signed_rest_left : (from : Sources) (f : ℕ → List Step) (rd ra rb a b : ℕ) (m : Run) → IsWhole m → 1 ≤ rd → rd < 32 → rb < 27 → held ra m ≡ a → held rb m ≡ b → a < 2 ^ 32 → b < 2 ^ 32
     → held rd (run from (parts_trail f (signed_division (signed_rest_to rd) ra rb)) m) ≡ rest a b
 signed_rest_left from f rd ra rb a b m whole some few low is_a is_b word_a word_b =
     let on = has_bit a 31 in

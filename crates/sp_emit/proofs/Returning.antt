@@ -16,15 +16,17 @@ use Rattle.sp_shape.specs.Run.{Run, Sources, by_words, once, run, effected, with
 use Rattle.sp_shape.specs.Run as runs
 use Rattle.sp_shape.specs.Trail.{all_done}
 use Rattle.sp_emit.specs.Functions.{return_tail}
-use Rattle.sp_emit.specs.Holding.{held, Keeps}
+use Rattle.sp_emit.specs.Holding.{held, Keeps, KeepsFrom}
+use Rattle.sp_emit.specs.Places.{word_of, read_word}
 use Rattle.sp_emit.specs.Instructions.{always, copy, load_slot, to_special, stack_op, return}
 use Rattle.sp_emit.specs.Means.{HasWords}
 use Rattle.sp_emit.specs.Serving.{Carries}
 use Rattle.sp_emit.specs.declared.registers.TheConstants.{RESULT, MASK, SPARE, OVERRUN}
 use Rattle.sp_emit.proofs.Arguments.{did_stack}
 use Rattle.sp_emit.proofs.Calling.{Begins, idle_begins}
-use Rattle.sp_emit.proofs.Calm.{calm_run}
-use Rattle.sp_emit.proofs.Leaving.{slot_leaves}
+use Rattle.sp_emit.proofs.Calm.{is_calm_trail, calm_run}
+use Rattle.sp_emit.proofs.CalmCode.{own_free}
+use Rattle.sp_emit.proofs.WordPlaces.{word_still, read_is, read_leaves}
 use Rattle.sp_emit.proofs.Quotients.{did_copy}
 use Rattle.sp_emit.proofs.Once.{behind_slot, slot_behind, unchanged, with_regs, with_written, did_write, whole_written, held_written, stays_zero}
 
@@ -33,29 +35,32 @@ kept_by_special : (s : WritableSpecial) (v r : ℕ) (m : Run) → IsWhole m → 
 kept_by_special s v zero m whole lt = stays_zero (write.Special s v) m whole
 kept_by_special s v (suc r) m whole lt = held_written (write.Special s v) (suc r) m whole lt ∙ rw (ne_eqb (suc r) 0 (omega arith))
 
--- the stack and the world as they were
-pub record Ends (w : World) (m t : Run) : Type 0 where
+-- the stack, the window and the world as they were
+pub record Ends (homes : ℕ) (w : World) (m t : Run) : Type 0 where
   pub carries : Carries w t
   pub stack : t.stack ≡ m.stack
   pub st : t.st ≡ m.st
+  pub high : KeepsFrom homes m t
 
-ends_calm : (w : World) (m n : Run) (b : Slots) → Ends w m n → Keeps 1 n (once by_words b n) → Ends w m (once by_words b n)
-ends_calm w m n b x k = record {
+ends_calm : {rd : ℕ} (homes : ℕ) (w : World) (m n : Run) (b : Slots) → Ends homes w m n → Keeps rd homes n (once by_words b n) → Ends homes w m (once by_words b n)
+ends_calm homes w m n b x k = record {
   carries = record { whole = k.whole; has = subst (HasWords w) (sym k.memory) x.carries.has; words = x.carries.words; flag = k.flag ∙ x.carries.flag };
   stack = k.stack ∙ x.stack;
   st = k.st ∙ x.st;
+  high = λ q from lt. k.high q from lt ∙ x.high q from lt;
 }
 
 -- a word of the stack comes to the spare register and from there to a special one
-ends_special : (w : World) (m n : Run) (slot : ℕ) (s : WritableSpecial) → Ends w m n → Ends w m (once by_words (to_special s SPARE) (once by_words (load_slot SPARE slot) n))
-ends_special w m n slot s x =
-    let y = ends_calm w m n (load_slot SPARE slot) x (calm_run by_words 1 (all_done (load_slot SPARE slot ∷ [])) n (omega arith) x.carries.whole refl) in
+ends_special : (homes : ℕ) (w : World) (m n : Run) (slot : ℕ) (s : WritableSpecial) → Ends homes w m n → Ends homes w m (once by_words (to_special s SPARE) (once by_words (load_slot SPARE slot) n))
+ends_special homes w m n slot s x =
+    let y = ends_calm homes w m n (load_slot SPARE slot) x (calm_run by_words SPARE homes (all_done (load_slot SPARE slot ∷ [])) n (omega arith) x.carries.whole refl) in
     let n1 = once by_words (load_slot SPARE slot) n in
     let v = held SPARE n1 in
-    subst (Ends w m) (sym (did_write by_words always (ToSpecial s SPARE) n1 y.carries.whole y.carries.whole.fits.always refl refl)) (record {
+    subst (Ends homes w m) (sym (did_write by_words always (ToSpecial s SPARE) n1 y.carries.whole y.carries.whole.fits.always refl refl)) (record {
       carries = record { whole = whole_written (write.Special s v) n1 y.carries.whole; has = y.carries.has; words = y.carries.words; flag = kept_by_special s v OVERRUN n1 y.carries.whole (omega arith) ∙ y.carries.flag };
       stack = y.stack;
       st = y.st;
+      high = λ q from lt. kept_by_special s v q n1 y.carries.whole (omega (arith, lt)) ∙ y.high q from lt;
     })
 
 -- a function returns
@@ -72,28 +77,33 @@ returns_with m whole =
     idle_begins m _ (idle_begins m _ (idle_begins m _ c))
 
 -- the end of a function whose frame has so many words
-pub record Returned (w : World) (frame v : ℕ) (m t : Run) : Type 0 where
+pub record Returned (homes : ℕ) (w : World) (frame v : ℕ) (m t : Run) : Type 0 where
   pub carries : Carries w t
   pub value : held RESULT t ≡ v
   pub flagged : held MASK t ≡ flag w.overrun
   pub stack : t.stack ≡ m.stack
   pub st : t.st ≡ m.st + frame
+  pub high : KeepsFrom homes m t
 
 flag_copied : (b : Bool) → (flag b + 0) % 2 ^ 32 ≡ flag b
 flag_copied true = refl
 flag_copied false = refl
 
-pub returns_value : (w : World) (frame base offset slot v : ℕ) (m : Run) → Carries w m → slot < 128 → m.stack (m.st + slot) ≡ v
-    → Returned w frame v m (run by_words (all_done return_tail) (run by_words (all_done (load_slot SPARE base ∷ to_special writable.Srb SPARE ∷ load_slot SPARE offset ∷ to_special writable.Sro SPARE ∷ load_slot RESULT slot ∷ copy MASK OVERRUN
+pub returns_value : (homes : ℕ) (w : World) (frame base offset slot v : ℕ) (m : Run) → Carries w m → MASK < homes → slot < 128 → word_of homes slot m ≡ v → v < 2 ^ 32
+    → Returned homes w frame v m (run by_words (all_done return_tail) (run by_words (all_done (load_slot SPARE base ∷ to_special writable.Srb SPARE ∷ load_slot SPARE offset ∷ to_special writable.Sro SPARE ∷ read_word homes RESULT slot ∷ copy MASK OVERRUN
     ∷ stack_op Sfree frame ∷ [])) m))
-returns_value w frame base offset slot v m carries few value =
-    let a = ends_special w m m base writable.Srb (record { carries = carries; stack = refl; st = refl }) in
-    let b = ends_special w m _ offset writable.Sro a in
+returns_value homes w frame base offset slot v m carries within few value word =
+    let a = ends_special homes w m m base writable.Srb (record { carries = carries; stack = refl; st = refl; high = λ q from lt. refl }) in
+    let b = ends_special homes w m _ offset writable.Sro a in
     let n = once by_words (to_special writable.Sro SPARE) (once by_words (load_slot SPARE offset) (once by_words (to_special writable.Srb SPARE) (once by_words (load_slot SPARE base) m))) in
-    let c = ends_calm w m n (load_slot RESULT slot) b (calm_run by_words 1 (all_done (load_slot RESULT slot ∷ [])) n (omega arith) b.carries.whole refl) in
-    let n1 = once by_words (load_slot RESULT slot) n in
-    let is : held RESULT n1 ≡ v = slot_leaves by_words RESULT slot n refl b.carries.whole (omega arith) (omega arith) few ∙ ap (λ words. words (n.st + slot)) b.stack ∙ ap (λ st. m.stack (st + slot)) b.st ∙ value in
-    let k = calm_run by_words 2 (all_done (copy MASK OVERRUN ∷ [])) n1 (omega arith) c.carries.whole refl in
+    let own = own_free 1 homes RESULT (omega arith) (omega arith) (omega (arith, within)) in
+    let c = ends_calm homes w m n (read_word homes RESULT slot) b (calm_run by_words 1 homes (all_done (read_word homes RESULT slot ∷ [])) n (omega arith) b.carries.whole
+    (read_is (λ b. is_calm_trail 1 homes (all_done (b ∷ [])) ≡ true) homes RESULT slot (grind (arith, own)) (grind (arith, own)))) in
+    let n1 = once by_words (read_word homes RESULT slot) n in
+    let same : word_of homes slot n ≡ v = word_still homes slot m n b.high b.stack b.st ∙ value in
+    let is : held RESULT n1 ≡ v = read_leaves by_words homes RESULT slot n refl b.carries.whole (omega arith) (omega arith) few (subst (λ x. x < 2 ^ 32) (sym same) word) ∙ same in
+    let free_mask = own_free 2 homes MASK (omega arith) (omega arith) within in
+    let k = calm_run by_words 2 homes (all_done (copy MASK OVERRUN ∷ [])) n1 (omega arith) c.carries.whole (grind (arith, free_mask)) in
     let n2 = once by_words (copy MASK OVERRUN) n1 in
     let free = did_stack by_words Sfree frame n2 k.whole in
     let n3 = once by_words (stack_op Sfree frame) n2 in
@@ -111,4 +121,5 @@ returns_value w frame base offset slot v m carries few value =
           ∙ ap (λ z. (z + 0) % 2 ^ 32) c.carries.flag ∙ flag_copied w.overrun;
       stack = r.stack ∙ ap (λ t. t.stack) free ∙ k.stack ∙ c.stack;
       st = r.st ∙ ap (λ t. t.st) free ∙ ap (λ n. n + frame) (k.st ∙ c.st);
+      high = λ q from lt. r.regs q (omega (arith, lt)) ∙ ap (held q) free ∙ k.high q from lt ∙ c.high q from lt;
     }

@@ -1,20 +1,29 @@
 -- The code of a function takes at most as many words as its trees cost.
-use Rattle.std.proofs.Common.{◌≡◌, ℕ, zero, suc, ◌+◌, ◌-◌, ◌≤◌, Bool, true, false, List, [], ◌∷◌, refl, arith, if◌then◌else◌, Option, None, Some}
+use Rattle.std.proofs.Common.{◌≡◌, ℕ, zero, suc, ◌+◌, ◌-◌, ◌≤◌, Bool, true, false, List, [], ◌∷◌, refl, arith, if◌then◌else◌, Option, None, Some, ◌++◌}
 use Rattle.std.specs.Prelude.{nat_lt, nat_le}
-use Rattle.std.proofs.lemmas.Bool.{and_parts, leb-true}
+use Rattle.std.proofs.lemmas.Bool.{and_parts, leb-true, ltb-true}
+use Rattle.std.proofs.lemmas.Bool.Decides.{nat_tests}
 use Rattle.c_world.specs.declared.region.Region.{Region}
-use Rattle.sp_tree.specs.Cost.{unary_cost, binary_cost, is_held, expr_cost, args_cost, target_cost, stmt_cost, stmts_cost, cost}
+use Rattle.sp_tree.specs.Cost.{unary_cost, binary_cost, held_below, is_held, expr_cost, args_cost, target_cost, stmt_cost, stmts_cost, cost}
 use Rattle.sp_tree.specs.Formed as tree
 use Rattle.sp_tree.specs.Need.{need}
 use Rattle.sp_tree.specs.Plain.{PlainSp, constant, frame_word, cell_word, array_word, before_one, between_two}
 use Rattle.sp_tree.specs.Statements.{PlainSpTarget, to_slot, to_cell, to_array, PlainStmt, masks, writes, calls, transfers, overruns, turns, PlainStmts, no_stmt, stmt, PlainFunction}
 use Rattle.sp_tree.specs.declared.operators.SpBinary.{SpBinary}
 use Rattle.sp_tree.specs.declared.operators.SpUnary.{SpUnary}
-use Rattle.sp_shape.specs.Words.{bundles_room, parts_room}
+use Rattle.sp_shape.specs.Words.{bundles_room, parts_room, bundle_room}
 use Rattle.sp_shape.specs.Parts.{straight, PlainParts, no_part, part, one, joined}
 use Rattle.sp_shape.proofs.Lists.{room_append}
-use Rattle.sp_emit.specs.Expressions.{unary_code, binary_code, held_code, element_code, number_of, expr_code}
+use Rattle.sp_emit.proofs.Operands.{operand_is}
+use Rattle.sp_emit.specs.Expressions.{unary_code, binary_code, held_code, element_code, number_of, expr_code, operand_code, value_at, immediate_below, is_immediate}
 use Rattle.sp_emit.specs.Functions.{argument_kept, first_counter, arguments_kept, state_kept, function_rest, function_code}
+use Rattle.std.specs.Prelude.{◌-◌}
+use Rattle.patmos_instr.specs.declared.guards.Guard.{Guard}
+use Rattle.c_world.specs.declared.region.Region.TheVariants as region
+use Rattle.sp_emit.specs.Instructions.{always, where_so, under, set_short}
+use Rattle.sp_emit.specs.Places.{in_register, read_word, set_word, word_cleared, words_cleared, fetch_word}
+use Rattle.sp_emit.specs.declared.registers.TheConstants.{RESULT, MASK, FIRST, OVERRUN, TEST}
+use Rattle.sp_emit.proofs.WordPlaces.{read_is, set_op_is, fetch_is}
 use Rattle.sp_emit.specs.Statements.{cell_write, element_write, target_write, args_code, call_code, send_code, overrun_code, slot_set, stmt_code, stmts_code}
 
 room_both : (a b : PlainParts) → parts_room (joined a b) ≡ parts_room a + parts_room b
@@ -23,110 +32,171 @@ room_both (part p a) b = omega (arith, room_both a b)
 
 -- ---- expressions
 
-unary_room : (op : SpUnary) (rd : ℕ) → bundles_room (unary_code op rd) ≤ unary_cost op
-unary_room op rd = grind arith
+unary_room : (op : SpUnary) (rd ra : ℕ) → bundles_room (unary_code op rd ra) ≤ unary_cost op
+unary_room op rd ra = grind arith
 
 binary_room : (op : SpBinary) (rd ra rb : ℕ) → parts_room (binary_code op rd ra rb) ≤ binary_cost op
 binary_room op rd ra rb = grind arith
 
-held_room : (op : SpBinary) (rd n : ℕ) → bundles_room (held_code op rd n) ≤ binary_cost op
-held_room op rd n = grind arith
+held_room : (op : SpBinary) (rd ra n : ℕ) → bundles_room (held_code op rd ra n) ≤ binary_cost op
+held_room op rd ra n = grind arith
 
-two_room : (op : SpBinary) (a b : PlainSp) (rd : ℕ) (held less : Bool) → parts_room (expr_code a rd) ≤ expr_cost a → parts_room (expr_code b rd) ≤ expr_cost b
-    → parts_room (expr_code a (rd + 1)) ≤ expr_cost a → parts_room (expr_code b (rd + 1)) ≤ expr_cost b
-    → parts_room (if held then joined (expr_code a rd) (one (straight (held_code op rd (number_of b))))
-    else if less then joined (expr_code b rd) (joined (expr_code a (rd + 1)) (binary_code op rd (rd + 1) rd))
-    else joined (expr_code a rd) (joined (expr_code b (rd + 1)) (binary_code op rd rd (rd + 1))))
+read_words : (homes rd slot : ℕ) → bundle_room (read_word homes rd slot) ≤ 2
+read_words homes rd slot = read_is (λ b. bundle_room b ≤ 2) homes rd slot (omega arith) (omega arith)
+
+fetch_words : (homes slot : ℕ) → bundle_room (fetch_word homes slot) ≤ 2
+fetch_words homes slot = fetch_is (λ b. bundle_room b ≤ 2) homes slot (omega arith) (omega arith)
+
+set_words : (homes : ℕ) (g : Guard) (slot rs : ℕ) → bundle_room (set_word homes g slot rs) ≤ 1
+set_words homes g slot rs = set_op_is (λ op. bundle_room (under g op) ≤ 1) homes slot rs (omega arith) (omega arith)
+
+-- what the cost counts as held by an instruction is
+held_counted : (op : SpBinary) (n words : ℕ) → (if nat_lt n (immediate_below op) then 0 else words) ≤ (if nat_lt n (held_below op) then 0 else words)
+held_counted op n words = grind (arith, nat_tests)
+
+operand_counted : (op : SpBinary) (b : PlainSp) (words : ℕ) → (if is_immediate op b then 0 else words) ≤ (if is_held op b then 0 else words)
+operand_counted op (constant n) words = held_counted op n words
+operand_counted op _ words = omega arith
+
+two_room : (homes : ℕ) (op : SpBinary) (a b : PlainSp) (rd : ℕ) (held less : Bool) → parts_room (operand_code homes a rd) ≤ expr_cost a → parts_room (operand_code homes b rd) ≤ expr_cost b
+    → parts_room (operand_code homes a (rd + 1)) ≤ expr_cost a → parts_room (operand_code homes b (rd + 1)) ≤ expr_cost b
+    → parts_room (if held then joined (operand_code homes a rd) (one (straight (held_code op rd (value_at homes a rd) (number_of b))))
+    else if less then joined (operand_code homes b rd) (joined (operand_code homes a (rd + 1)) (binary_code op rd (value_at homes a (rd + 1)) (value_at homes b rd)))
+    else joined (operand_code homes a rd) (joined (operand_code homes b (rd + 1)) (binary_code op rd (value_at homes a rd) (value_at homes b (rd + 1)))))
     ≤ binary_cost op + expr_cost a + (if held then 0 else expr_cost b)
-two_room op a b rd true less ha hb na nb = omega (arith, ha, room_both (expr_code a rd) (one (straight (held_code op rd (number_of b)))), held_room op rd (number_of b))
-two_room op a b rd false true ha hb na nb = omega (
+two_room homes op a b rd true less ha hb na nb = omega (arith, ha, room_both (operand_code homes a rd) (one (straight (held_code op rd (value_at homes a rd) (number_of b)))), held_room op rd (value_at homes a rd) (number_of b))
+two_room homes op a b rd false true ha hb na nb = omega (
   arith,
   hb,
   na,
-  room_both (expr_code b rd) (joined (expr_code a (rd + 1)) (binary_code op rd (rd + 1) rd)),
-  room_both (expr_code a (rd + 1)) (binary_code op rd (rd + 1) rd),
-  binary_room op rd (rd + 1) rd,
+  room_both (operand_code homes b rd) (joined (operand_code homes a (rd + 1)) (binary_code op rd (value_at homes a (rd + 1)) (value_at homes b rd))),
+  room_both (operand_code homes a (rd + 1)) (binary_code op rd (value_at homes a (rd + 1)) (value_at homes b rd)),
+  binary_room op rd (value_at homes a (rd + 1)) (value_at homes b rd),
 )
-two_room op a b rd false false ha hb na nb = omega (
+two_room homes op a b rd false false ha hb na nb = omega (
   arith,
   ha,
   nb,
-  room_both (expr_code a rd) (joined (expr_code b (rd + 1)) (binary_code op rd rd (rd + 1))),
-  room_both (expr_code b (rd + 1)) (binary_code op rd rd (rd + 1)),
-  binary_room op rd rd (rd + 1),
+  room_both (operand_code homes a rd) (joined (operand_code homes b (rd + 1)) (binary_code op rd (value_at homes a rd) (value_at homes b (rd + 1)))),
+  room_both (operand_code homes b (rd + 1)) (binary_code op rd (value_at homes a rd) (value_at homes b (rd + 1))),
+  binary_room op rd (value_at homes a rd) (value_at homes b (rd + 1)),
 )
 
-pub expr_room : (e : PlainSp) (rd : ℕ) → parts_room (expr_code e rd) ≤ expr_cost e
-expr_room (constant v) rd = omega arith
-expr_room (frame_word slot) rd = omega arith
-expr_room (cell_word cell) rd = omega arith
-expr_room (array_word array index) rd = omega (arith, room_both (expr_code index rd) (one (straight (element_code array rd))), expr_room index rd)
-expr_room (before_one op of) rd = omega (arith, room_both (expr_code of rd) (one (straight (unary_code op rd))), expr_room of rd, unary_room op rd)
-expr_room (between_two op a b) rd = two_room op a b rd (is_held op b) (nat_lt (need a) (need b)) (expr_room a rd) (expr_room b rd) (expr_room a (rd + 1)) (expr_room b (rd + 1))
+pub expr_room : (homes : ℕ) (e : PlainSp) (rd : ℕ) → parts_room (expr_code homes e rd) ≤ expr_cost e
+expr_room homes (constant v) rd = omega arith
+expr_room homes (frame_word slot) rd = omega (arith, read_words homes rd slot)
+expr_room homes (cell_word cell) rd = omega arith
+expr_room homes (array_word array index) rd = omega (arith, room_both (expr_code homes index rd) (one (straight (element_code array rd))), expr_room homes index rd)
+expr_room homes (before_one op of) rd = omega (arith, room_both (operand_code homes of rd) (one (straight (unary_code op rd (value_at homes of rd)))), operand_is (λ ps. parts_room ps ≤ expr_cost of) homes of rd (omega arith) (expr_room homes of rd), unary_room op rd (value_at homes of rd))
+expr_room homes (between_two op a b) rd = omega (arith, operand_counted op b (expr_cost b), two_room homes op a b rd (is_immediate op b) (nat_lt (need a) (need b)) (operand_is (λ ps. parts_room ps ≤ expr_cost a) homes a rd (omega arith) (expr_room homes a rd)) (operand_is (λ ps. parts_room ps ≤ expr_cost b) homes b rd (omega arith) (expr_room homes b rd)) (operand_is (λ ps. parts_room ps ≤ expr_cost a) homes a (rd + 1) (omega arith) (expr_room homes a (rd + 1))) (operand_is (λ ps. parts_room ps ≤ expr_cost b) homes b (rd + 1) (omega arith) (expr_room homes b (rd + 1))))
 
-args_room : (args : List PlainSp) (rd : ℕ) → parts_room (args_code args rd) ≤ args_cost args
-args_room [] rd = omega arith
-args_room (e ∷ args) rd = omega (arith, room_both (expr_code e rd) (args_code args (rd + 1)), expr_room e rd, args_room args (rd + 1))
+args_room : (homes : ℕ) (args : List PlainSp) (rd : ℕ) → parts_room (args_code homes args rd) ≤ args_cost args
+args_room homes [] rd = omega arith
+args_room homes (e ∷ args) rd = omega (arith, room_both (expr_code homes e rd) (args_code homes args (rd + 1)), expr_room homes e rd, args_room homes args (rd + 1))
 
 -- ---- statements
 
-cell_room : (mask : ℕ) (r : Region) (word : ℕ) → bundles_room (cell_write mask (record { region = r; word = word })) ≤ 7
-cell_room mask r word = grind arith
+cell_room : (homes : ℕ) (mask : ℕ) (r : Region) (word : ℕ) → bundles_room (cell_write homes mask (record { region = r; word = word })) ≤ 7
+cell_room homes mask r word = let read = fetch_words homes mask in by r read
+  where
+    by : (r : Region) → bundle_room (fetch_word homes mask) ≤ 2 → bundles_room (cell_write homes mask (record { region = r; word = word })) ≤ 7
+    by region.Scratch read = omega (arith, read)
+    by region.Comm read = omega (arith, read)
+    by region.Private read = omega (arith, read)
+    by region.Shared read = omega (arith, read)
 
-element_room : (mask : ℕ) (r : Region) (first length : ℕ) → bundles_room (element_write mask (record { region = r; first = first; length = length })) ≤ 12
-element_room mask r first length = grind arith
+element_room : (homes : ℕ) (mask : ℕ) (r : Region) (first length : ℕ) → bundles_room (element_write homes mask (record { region = r; first = first; length = length })) ≤ 12
+element_room homes mask r first length = let read = fetch_words homes mask in by r read
+  where
+    by : (r : Region) → bundle_room (fetch_word homes mask) ≤ 2 → bundles_room (element_write homes mask (record { region = r; first = first; length = length })) ≤ 12
+    by region.Scratch read = omega (arith, read)
+    by region.Comm read = omega (arith, read)
+    by region.Private read = omega (arith, read)
+    by region.Shared read = omega (arith, read)
 
-target_room : (mask : ℕ) (target : PlainSpTarget) → parts_room (target_write mask target) ≤ target_cost target
-target_room mask (to_slot slot) = omega arith
-target_room mask (to_cell cell) = omega (arith, cell_room mask cell.region cell.word)
-target_room mask (to_array array index) =
-    omega (arith, room_both (expr_code index 4) (one (straight (element_write mask array))), expr_room index 4, element_room mask array.region array.first array.length)
+target_room : (homes : ℕ) (mask : ℕ) (target : PlainSpTarget) → parts_room (target_write homes mask target) ≤ target_cost target
+target_room homes mask (to_slot slot) = omega (arith, fetch_words homes mask, set_words homes (where_so TEST) slot FIRST)
+target_room homes mask (to_cell cell) = omega (arith, cell_room homes mask cell.region cell.word)
+target_room homes mask (to_array array index) =
+    omega (arith, room_both (expr_code homes index 4) (one (straight (element_write homes mask array))), expr_room homes index 4, element_room homes mask array.region array.first array.length)
 
-call_room : (frame mask k : ℕ) (result : Option ℕ) → parts_room (call_code frame mask k result) ≤ 12
-call_room frame mask k None = omega arith
-call_room frame mask k (Some slot) = omega arith
+call_room : (homes : ℕ) (frame mask k : ℕ) (result : Option ℕ) → parts_room (call_code homes frame mask k result) ≤ 12
+call_room homes frame mask k None = omega (arith, read_words homes MASK mask)
+call_room homes frame mask k (Some slot) = omega (arith, read_words homes MASK mask, fetch_words homes mask, set_words homes (where_so TEST) slot RESULT)
 
 mutual
-  stmt_room : (frame counter : ℕ) (t : PlainStmt) → parts_room (stmt_code frame counter t) ≤ stmt_cost t
-  stmt_room frame counter (masks slot e) = omega (arith, room_both (expr_code e 3) (slot_set slot), expr_room e 3)
-  stmt_room frame counter (writes mask target e) = omega (arith, room_both (expr_code e 3) (target_write mask target), expr_room e 3, target_room mask target)
-  stmt_room frame counter (calls mask k args result) =
-      omega (arith, room_both (args_code args 3) (call_code frame mask k result), args_room args 3, call_room frame mask k result)
-  stmt_room frame counter (transfers mask core source target count) =
-      let sent = one (straight (send_code mask core)) in
+  stmt_room : (homes : ℕ) (frame counter : ℕ) (t : PlainStmt) → parts_room (stmt_code homes frame counter t) ≤ stmt_cost t
+  stmt_room homes frame counter (masks slot e) = omega (arith, room_both (expr_code homes e 3) (slot_set homes slot), expr_room homes e 3, set_words homes always slot FIRST)
+  stmt_room homes frame counter (writes mask target e) = omega (arith, room_both (expr_code homes e 3) (target_write homes mask target), expr_room homes e 3, target_room homes mask target)
+  stmt_room homes frame counter (calls mask k args result) =
+      omega (arith, room_both (args_code homes args 3) (call_code homes frame mask k result), args_room homes args 3, call_room homes frame mask k result)
+  stmt_room homes frame counter (transfers mask core source target count) =
+      let sent = one (straight (send_code homes mask core)) in
       omega (
         arith,
-        room_both (expr_code source 3) (joined (expr_code target 4) (joined (expr_code count 5) sent)),
-        room_both (expr_code target 4) (joined (expr_code count 5) sent),
-        room_both (expr_code count 5) sent,
-        expr_room source 3,
-        expr_room target 4,
-        expr_room count 5,
+        room_both (expr_code homes source 3) (joined (expr_code homes target 4) (joined (expr_code homes count 5) sent)),
+        room_both (expr_code homes target 4) (joined (expr_code homes count 5) sent),
+        room_both (expr_code homes count 5) sent,
+        expr_room homes source 3,
+        expr_room homes target 4,
+        expr_room homes count 5,
+        fetch_words homes mask,
       )
-  stmt_room frame counter (overruns mask e) = omega (arith, room_both (expr_code e 3) (one (straight (overrun_code mask))), expr_room e 3)
-  stmt_room frame counter (turns count body) = omega (arith, stmts_room frame (counter - 1) body)
+  stmt_room homes frame counter (overruns mask e) = omega (arith, room_both (expr_code homes e 3) (one (straight (overrun_code homes mask))), expr_room homes e 3, fetch_words homes mask)
+  stmt_room homes frame counter (turns count body) = omega (arith, stmts_room homes frame (counter - 1) body)
 
-  stmts_room : (frame counter : ℕ) (ts : PlainStmts) → parts_room (stmts_code frame counter ts) ≤ stmts_cost ts
-  stmts_room frame counter no_stmt = omega arith
-  stmts_room frame counter (stmt t rest) =
-      omega (arith, room_both (stmt_code frame counter t) (stmts_code frame counter rest), stmt_room frame counter t, stmts_room frame counter rest)
+  stmts_room : (homes : ℕ) (frame counter : ℕ) (ts : PlainStmts) → parts_room (stmts_code homes frame counter ts) ≤ stmts_cost ts
+  stmts_room homes frame counter no_stmt = omega arith
+  stmts_room homes frame counter (stmt t rest) =
+      omega (arith, room_both (stmt_code homes frame counter t) (stmts_code homes frame counter rest), stmt_room homes frame counter t, stmts_room homes frame counter rest)
 
 -- ---- functions
 
-kept_room : (n : ℕ) → bundles_room (arguments_kept n) ≡ n
-kept_room zero = refl
-kept_room (suc n) = omega (arith, room_append (arguments_kept n) (argument_kept n), kept_room n)
+kept_room : (homes : ℕ) (n : ℕ) → bundles_room (arguments_kept homes n) ≤ n
+kept_room homes zero = omega arith
+kept_room homes (suc n) = omega (arith, room_append (arguments_kept homes n) (argument_kept homes n), kept_room homes n, set_words homes always n (FIRST + n))
+
+-- a word is cleared by a bundle where it stands in a register, and none do from the flag on
+cleared_one : (homes n : ℕ) → bundles_room (word_cleared homes n) ≤ (if in_register homes n then 1 else 0)
+unfolding word_cleared
+cleared_one homes n = by (in_register homes n)
+  where
+    by : (b : Bool) → bundles_room (if b then set_short always (homes + n) 0 ∷ [] else []) ≤ (if b then 1 else 0)
+    by true = omega arith
+    by false = omega arith
+
+record Cleared (homes n : ℕ) : Type 0 where
+  few : bundles_room (words_cleared homes n) ≤ n
+  least : bundles_room (words_cleared homes n) ≤ OVERRUN - homes
+
+cleared_room : (homes n : ℕ) → Cleared homes n
+cleared_room homes zero = record { few = omega arith; least = omega arith }
+cleared_room homes (suc n) =
+    let x = cleared_room homes n in
+    let more = room_append (words_cleared homes n) (word_cleared homes n) in
+    by (in_register homes n) refl x.few x.least more (cleared_one homes n)
+  where
+    by : (b : Bool) → in_register homes n ≡ b → bundles_room (words_cleared homes n) ≤ n → bundles_room (words_cleared homes n) ≤ OVERRUN - homes
+        → bundles_room (words_cleared homes n ++ word_cleared homes n) ≡ bundles_room (words_cleared homes n) + bundles_room (word_cleared homes n)
+        → bundles_room (word_cleared homes n) ≤ (if b then 1 else 0) → Cleared homes (suc n)
+    by true is few least more single = let lt = ltb-true (homes + n) OVERRUN is in record { few = omega (arith, few, more, single); least = omega (arith, few, more, single, lt) }
+    by false is few least more single = record { few = omega (arith, few, more, single); least = omega (arith, least, more, single) }
 
 -- with its size word
-pub function_room : (fs : List PlainFunction) (n : ℕ) (f : PlainFunction) → tree.function_formed fs n f ≡ true → 1 + parts_room (function_code f) ≤ cost f
-function_room fs n f h =
+pub function_room : (homes : ℕ) (fs : List PlainFunction) (n : ℕ) (f : PlainFunction) → tree.function_formed fs n f ≡ true → FIRST ≤ homes → 1 + parts_room (function_code homes f) ≤ cost f
+function_room homes fs n f h before =
     let a = and_parts (nat_le f.frame 128) _ h in
     let few = and_parts (nat_le f.parameters 6) _ a.1 in
     omega (
       arith,
       leb-true f.parameters 6 few.0,
-      kept_room f.parameters,
-      room_append (arguments_kept f.parameters) (state_kept f),
-      room_both (stmts_code f.frame (first_counter f) f.body) (function_rest f),
-      stmts_room f.frame (first_counter f) f.body,
+      before,
+      kept_room homes f.parameters,
+      (cleared_room homes (tree.slots_of f)).least,
+      set_words homes always f.mask MASK,
+      read_words homes RESULT f.result,
+      room_append (words_cleared homes (tree.slots_of f)) (arguments_kept homes f.parameters ++ state_kept homes f),
+      room_append (arguments_kept homes f.parameters) (state_kept homes f),
+      room_both (stmts_code homes f.frame (first_counter f) f.body) (function_rest homes f),
+      stmts_room homes f.frame (first_counter f) f.body,
     )

@@ -1,5 +1,5 @@
 -- The code of statements leaves the run where their meaning leaves the state, where the code of calls does.
-use Rattle.std.proofs.Common.{◌≡◌, ℕ, ◌+◌, ◌-◌, ◌<◌, ◌≤◌, true, ◌&&◌, List, Option, refl, sym, subst, arith, nat_lt}
+use Rattle.std.proofs.Common.{◌≡◌, ℕ, ◌+◌, ◌-◌, ◌<◌, ◌≤◌, true, ◌&&◌, List, [], Option, refl, sym, subst, arith, nat_lt}
 use Rattle.std.proofs.lemmas.Bool.{and_parts, ltb-true}
 use Rattle.sp_tree.specs.Formed.{send_formed, target_formed, array_formed, expr_formed, stmt_formed, stmts_formed, stmt_levels, stmts_levels}
 use Rattle.sp_tree.specs.Plain.{PlainSp}
@@ -8,6 +8,7 @@ use Rattle.sp_tree.specs.Straight.{State, Serves, stmt_done, stmts_done}
 use Rattle.sp_shape.specs.Run.{Run, by_words, run}
 use Rattle.sp_shape.specs.Trail.{Step, parts_trail}
 use Rattle.sp_emit.specs.Means.{Follows, KeepsBehind, HasStmtConstants, HasStmtsConstants}
+use Rattle.sp_emit.specs.Places.{stmt_least, stmts_least}
 use Rattle.sp_emit.specs.Statements.{stmt_code, stmts_code}
 use Rattle.sp_emit.proofs.Masks.{Done, mask_done, slot_done}
 use Rattle.sp_emit.proofs.Overruns.{overrun_is_done}
@@ -17,58 +18,58 @@ use Rattle.sp_emit.proofs.Turns.{done_then, turns_done}
 use Rattle.sp_emit.proofs.Values.{run_joined}
 
 -- the code of a statement does what it means, over functions and what they give
-abbrev pub Runs : (ℕ → List Step) → Serves → ℕ → ℕ → ℕ → ℕ → PlainStmt → Type 0
-Runs f g frame counter slots low t = (s : State) (m : Run) → low ≤ m.st → Follows slots s m → Done slots (counter + 1) (stmt_done g t s) m (run by_words (parts_trail f (stmt_code frame counter t)) m)
+abbrev pub Runs : ℕ → (ℕ → List Step) → Serves → ℕ → ℕ → ℕ → ℕ → PlainStmt → Type 0
+Runs homes f g frame counter slots low t = (s : State) (m : Run) → low ≤ m.st → Follows homes slots s m → Done homes slots (counter + 1) (stmt_done g t s) m (run by_words (parts_trail f (stmt_code homes frame counter t)) m)
 
 -- so does that of calls
-pub record CallsRun (f : ℕ → List Step) (g : Serves) (fs : List PlainFunction) (number frame slots low : ℕ) : Type 0 where
-  pub calls : (counter mask k : ℕ) (args : List PlainSp) (result : Option ℕ) → slots ≤ counter + 1 → counter + 3 ≤ frame → stmt_formed fs number slots (calls mask k args result) ≡ true → HasStmtConstants (calls mask k args result)
-      → Runs f g frame counter slots low (calls mask k args result)
+pub record CallsRun (homes : ℕ) (tops : List ℕ) (f : ℕ → List Step) (g : Serves) (fs : List PlainFunction) (number frame slots low : ℕ) : Type 0 where
+  pub calls : (counter mask k : ℕ) (args : List PlainSp) (result : Option ℕ) → slots ≤ counter + 1 → counter + 3 ≤ frame → stmt_formed fs number slots (calls mask k args result) ≡ true → HasStmtConstants (calls mask k args result) → stmt_least tops (calls mask k args result) ≤ homes
+      → Runs homes f g frame counter slots low (calls mask k args result)
 
-fewer_kept : {count more : ℕ} {m t : Run} → count ≤ more → KeepsBehind count m t → KeepsBehind more m t
-fewer_kept le k = record { st = k.st; stack = λ a above. k.stack a (omega (arith, above, le)) }
+fewer_kept : {top : ℕ} {count more : ℕ} {m t : Run} → count ≤ more → KeepsBehind top count m t → KeepsBehind top more m t
+fewer_kept le k = record { st = k.st; stack = λ a above. k.stack a (omega (arith, above, le)); high = k.high }
 
-write_run : (f : ℕ → List Step) (g : Serves) (frame counter slots low mask : ℕ) (target : PlainSpTarget) (e : PlainSp) → slots ≤ 128 → slots ≤ counter + 1 → mask < slots → target_formed slots target ≡ true → expr_formed slots e ≡ true → HasStmtConstants (writes mask target e)
-    → Runs f g frame counter slots low (writes mask target e)
-write_run f g frame counter slots low mask (to_slot slot) e most fits masked placed formed constants s m enough x = slot_done f frame counter slots mask slot e s m most fits masked (ltb-true slot slots placed) formed constants.1 x
-write_run f g frame counter slots low mask (to_cell cell) e most fits masked placed formed constants s m enough x = cell_done f frame counter slots mask cell e s m most masked placed formed constants.1 x
-write_run f g frame counter slots low mask (to_array array index) e most fits masked placed formed constants s m enough x =
+write_run : (homes : ℕ) (f : ℕ → List Step) (g : Serves) (frame counter slots low mask : ℕ) (target : PlainSpTarget) (e : PlainSp) → slots ≤ 128 → slots ≤ counter + 1 → mask < slots → target_formed slots target ≡ true → expr_formed slots e ≡ true → HasStmtConstants (writes mask target e) → stmt_least [] (writes mask target e) ≤ homes
+    → Runs homes f g frame counter slots low (writes mask target e)
+write_run homes f g frame counter slots low mask (to_slot slot) e most fits masked placed formed constants least s m enough x = slot_done homes f frame counter slots mask slot e s m most fits masked (ltb-true slot slots placed) formed constants.1 (omega (arith, least)) x
+write_run homes f g frame counter slots low mask (to_cell cell) e most fits masked placed formed constants least s m enough x = cell_done homes f frame counter slots mask cell e s m most masked placed formed constants.1 (omega (arith, least)) x
+write_run homes f g frame counter slots low mask (to_array array index) e most fits masked placed formed constants least s m enough x =
     let parts = and_parts (array_formed array) (expr_formed slots index) placed in
-    element_done f frame counter slots mask array index e s m most masked parts.0 parts.1 constants.0 formed constants.1 x
+    element_done homes f frame counter slots mask array index e s m most masked parts.0 parts.1 constants.0 formed constants.1 (omega (arith, least)) (omega (arith, least)) x
 
 mutual
-  pub stmt_runs : (f : ℕ → List Step) (g : Serves) (fs : List PlainFunction) (number frame slots counter low : ℕ) → CallsRun f g fs number frame slots low → slots ≤ 128 → counter < 128 → counter + 3 ≤ frame
-      → (t : PlainStmt) → slots + stmt_levels t ≤ counter + 1 → stmt_formed fs number slots t ≡ true → HasStmtConstants t → Runs f g frame counter slots low t
-  stmt_runs f g fs number frame slots counter low others most few within (masks slot e) levels formed constants s m enough x =
+  pub stmt_runs : (homes : ℕ) (tops : List ℕ) (f : ℕ → List Step) (g : Serves) (fs : List PlainFunction) (number frame slots counter low : ℕ) → CallsRun homes tops f g fs number frame slots low → slots ≤ 128 → counter < 128 → counter + 3 ≤ frame
+      → (t : PlainStmt) → slots + stmt_levels t ≤ counter + 1 → stmt_formed fs number slots t ≡ true → HasStmtConstants t → stmt_least tops t ≤ homes → Runs homes f g frame counter slots low t
+  stmt_runs homes tops f g fs number frame slots counter low others most few within (masks slot e) levels formed constants least s m enough x =
       let parts = and_parts (nat_lt slot slots) (expr_formed slots e) formed in
-      mask_done f frame counter slots slot e s m most (omega (arith, levels)) (ltb-true slot slots parts.0) parts.1 constants x
-  stmt_runs f g fs number frame slots counter low others most few within (writes mask target e) levels formed constants s m enough x =
+      mask_done homes f frame counter slots slot e s m most (omega (arith, levels)) (ltb-true slot slots parts.0) parts.1 constants least x
+  stmt_runs homes tops f g fs number frame slots counter low others most few within (writes mask target e) levels formed constants least s m enough x =
       let parts = and_parts (nat_lt mask slots) (target_formed slots target && expr_formed slots e) formed in
       let targets = and_parts (target_formed slots target) (expr_formed slots e) parts.1 in
-      write_run f g frame counter slots low mask target e most (omega (arith, levels)) (ltb-true mask slots parts.0) targets.0 targets.1 constants s m enough x
-  stmt_runs f g fs number frame slots counter low others most few within (calls mask k args result) levels formed constants s m enough x = others.calls counter mask k args result (omega (arith, levels)) within formed constants s m enough x
-  stmt_runs f g fs number frame slots counter low others most few within (transfers mask core source target count) levels formed constants s m enough x =
+      write_run homes f g frame counter slots low mask target e most (omega (arith, levels)) (ltb-true mask slots parts.0) targets.0 targets.1 constants least s m enough x
+  stmt_runs homes tops f g fs number frame slots counter low others most few within (calls mask k args result) levels formed constants least s m enough x = others.calls counter mask k args result (omega (arith, levels)) within formed constants least s m enough x
+  stmt_runs homes tops f g fs number frame slots counter low others most few within (transfers mask core source target count) levels formed constants least s m enough x =
       let parts = and_parts (nat_lt mask slots) (send_formed slots core source target count) formed in
       let send = and_parts (nat_lt core 16) (expr_formed slots source && (expr_formed slots target && expr_formed slots count)) parts.1 in
       let first = and_parts (expr_formed slots source) (expr_formed slots target && expr_formed slots count) send.1 in
       let rest = and_parts (expr_formed slots target) (expr_formed slots count) first.1 in
-      send_done f frame counter slots mask core source target count s m most (ltb-true mask slots parts.0) (ltb-true core 16 send.0) first.0 rest.0 rest.1 constants.0 constants.1 constants.2 x
-  stmt_runs f g fs number frame slots counter low others most few within (overruns mask e) levels formed constants s m enough x =
+      send_done homes f frame counter slots mask core source target count s m most (ltb-true mask slots parts.0) (ltb-true core 16 send.0) first.0 rest.0 rest.1 constants.0 constants.1 constants.2 (omega (arith, least)) (omega (arith, least)) (omega (arith, least)) (omega (arith, least)) x
+  stmt_runs homes tops f g fs number frame slots counter low others most few within (overruns mask e) levels formed constants least s m enough x =
       let parts = and_parts (nat_lt mask slots) (expr_formed slots e) formed in
-      overrun_is_done f frame counter slots mask e s m most (ltb-true mask slots parts.0) parts.1 constants x
-  stmt_runs f g fs number frame slots counter low others most few within (turns count body) levels formed constants s m enough x =
+      overrun_is_done homes f frame counter slots mask e s m most (ltb-true mask slots parts.0) parts.1 constants least x
+  stmt_runs homes tops f g fs number frame slots counter low others most few within (turns count body) levels formed constants least s m enough x =
       let parts = and_parts (nat_lt 0 count) (stmts_formed fs number slots body) formed in
-      turns_done f slots counter low count (stmts_code frame (counter - 1) body) (stmts_done g body) s m (omega (arith, levels)) few
-      (λ z n more y. let d = stmts_run f g fs number frame slots (counter - 1) low others most (omega (arith, few)) (omega (arith, within)) body (omega (arith, levels)) parts.1 constants z n more y in
+      turns_done homes f slots counter low count (stmts_code homes frame (counter - 1) body) (stmts_done g body) s m (omega (arith, levels)) few
+      (λ z n more y. let d = stmts_run homes tops f g fs number frame slots (counter - 1) low others most (omega (arith, few)) (omega (arith, within)) body (omega (arith, levels)) parts.1 constants least z n more y in
       record { follows = d.follows; keeps = fewer_kept (omega (arith, levels)) d.keeps }) enough x
 
-  pub stmts_run : (f : ℕ → List Step) (g : Serves) (fs : List PlainFunction) (number frame slots counter low : ℕ) → CallsRun f g fs number frame slots low → slots ≤ 128 → counter < 128 → counter + 3 ≤ frame
-      → (ts : PlainStmts) → slots + stmts_levels ts ≤ counter + 1 → stmts_formed fs number slots ts ≡ true → HasStmtsConstants ts
-      → (s : State) (m : Run) → low ≤ m.st → Follows slots s m → Done slots (counter + 1) (stmts_done g ts s) m (run by_words (parts_trail f (stmts_code frame counter ts)) m)
-  stmts_run f g fs number frame slots counter low others most few within no_stmt levels formed constants s m enough x = record { follows = x; keeps = record { st = refl; stack = λ a above. refl } }
-  stmts_run f g fs number frame slots counter low others most few within (stmt t rest) levels formed constants s m enough x =
+  pub stmts_run : (homes : ℕ) (tops : List ℕ) (f : ℕ → List Step) (g : Serves) (fs : List PlainFunction) (number frame slots counter low : ℕ) → CallsRun homes tops f g fs number frame slots low → slots ≤ 128 → counter < 128 → counter + 3 ≤ frame
+      → (ts : PlainStmts) → slots + stmts_levels ts ≤ counter + 1 → stmts_formed fs number slots ts ≡ true → HasStmtsConstants ts → stmts_least tops ts ≤ homes
+      → (s : State) (m : Run) → low ≤ m.st → Follows homes slots s m → Done homes slots (counter + 1) (stmts_done g ts s) m (run by_words (parts_trail f (stmts_code homes frame counter ts)) m)
+  stmts_run homes tops f g fs number frame slots counter low others most few within no_stmt levels formed constants least s m enough x = record { follows = x; keeps = record { st = refl; stack = λ a above. refl; high = λ r at lt. refl } }
+  stmts_run homes tops f g fs number frame slots counter low others most few within (stmt t rest) levels formed constants least s m enough x =
       let parts = and_parts (stmt_formed fs number slots t) (stmts_formed fs number slots rest) formed in
-      let d = stmt_runs f g fs number frame slots counter low others most few within t (omega (arith, levels)) parts.0 constants.0 s m enough x in
-      let n = run by_words (parts_trail f (stmt_code frame counter t)) m in
-      let e = stmts_run f g fs number frame slots counter low others most few within rest (omega (arith, levels)) parts.1 constants.1 (stmt_done g t s) n (subst (λ st. low ≤ st) (sym d.keeps.st) enough) d.follows in
-      subst (Done slots (counter + 1) (stmts_done g rest (stmt_done g t s)) m) (sym (run_joined by_words f (stmt_code frame counter t) (stmts_code frame counter rest) m)) (done_then d.keeps e)
+      let d = stmt_runs homes tops f g fs number frame slots counter low others most few within t (omega (arith, levels)) parts.0 constants.0 (omega (arith, least)) s m enough x in
+      let n = run by_words (parts_trail f (stmt_code homes frame counter t)) m in
+      let e = stmts_run homes tops f g fs number frame slots counter low others most few within rest (omega (arith, levels)) parts.1 constants.1 (omega (arith, least)) (stmt_done g t s) n (subst (λ st. low ≤ st) (sym d.keeps.st) enough) d.follows in
+      subst (Done homes slots (counter + 1) (stmts_done g rest (stmt_done g t s)) m) (sym (run_joined by_words f (stmt_code homes frame counter t) (stmts_code homes frame counter rest) m)) (done_then d.keeps e)

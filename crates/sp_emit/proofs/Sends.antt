@@ -31,6 +31,8 @@ use Rattle.sp_tree.specs.Statements.{transfers}
 use Rattle.sp_shape.specs.Parts.{straight, one}
 use Rattle.sp_emit.specs.Expressions.{expr_code}
 use Rattle.sp_emit.specs.declared.registers.TheConstants.{FIRST, SPARE, TEST, SECOND}
+use Rattle.sp_tree.specs.Need.{need}
+use Rattle.sp_emit.proofs.CalmCode.{own_free}
 use Rattle.sp_emit.proofs.Calm.{calm_run}
 use Rattle.sp_emit.proofs.CellWrites.{follows_world}
 use Rattle.sp_emit.proofs.Frames.{put_same}
@@ -82,13 +84,13 @@ port_found core imm few low = port_at core (4 * imm) (address_by (0x20000 + 16 *
 
 -- ---- the test
 
-pub record Allowed (core : ℕ) (on : Bool) (m t : Run) : Type 0 where
-  pub keeps : Keeps (FIRST + 3) m t
+pub record Allowed (homes : ℕ) (core : ℕ) (on : Bool) (m t : Run) : Type 0 where
+  pub keeps : Keeps (FIRST + 3) homes m t
   pub test : so TEST t ≡ on
 
-pub tests_send : (from : Sources) (core : ℕ) (b : Bool) (source target count : ℕ) (m : Run) → IsWhole m → so TEST m ≡ b → held FIRST m ≡ source → held (FIRST + 1) m ≡ target → held (FIRST + 2) m ≡ count
-    → Allowed core (b && code_starts source target count) m (run from (all_done send_test) m)
-tests_send from core b source target count m whole test is_source is_target is_count =
+pub tests_send : (homes : ℕ) (from : Sources) (core : ℕ) (within : FIRST + 3 < homes) (b : Bool) (source target count : ℕ) (m : Run) → IsWhole m → so TEST m ≡ b → held FIRST m ≡ source → held (FIRST + 1) m ≡ target → held (FIRST + 2) m ≡ count
+    → Allowed homes core (b && code_starts source target count) m (run from (all_done send_test) m)
+tests_send homes from core within b source target count m whole test is_source is_target is_count =
     let w1 = write.Register SPARE 512 in
     let m1 = with_written w1 m in
     let h1 = whole_written w1 m whole in
@@ -147,7 +149,7 @@ tests_send from core b source target count m whole test is_source is_target is_c
     let t8 = so_written w8 TEST m7 h7 (omega arith) ∙ t7 in
     let s8 = so_written w8 SECOND m7 h7 (omega arith) ∙ ap (λ n. nat_le n (held SPARE m7)) target7 ∙ ap (nat_le target) left7 in
     record {
-      keeps = calm_run from (FIRST + 3) (all_done send_test) m (omega arith) whole refl;
+      keeps = calm_run from (FIRST + 3) homes (all_done send_test) m (omega arith) whole (let free = own_free (FIRST + 3) homes (FIRST + 3) (omega arith) (omega arith) within in grind (arith, free));
       test = ap (so TEST) steps ∙ so_written w9 TEST m8 h8 (omega arith) ∙ ap (λ x. x && so SECOND m8) t8 ∙ ap (λ x. ((b && nat_lt ((count + (2 ^ 32 - 1)) % 2 ^ 32) 512) && nat_le source ((512 + (2 ^ 32 - count)) % 2 ^ 32)) && x) s8 ∙ joined_tests b;
     }
   where
@@ -185,16 +187,16 @@ has_started core source target count w m x = record {
 pub start_stores : List Slots
 start_stores = store_to (where_so TEST) mem.L SPARE FIRST 0 ∷ store_to (where_so TEST) mem.L SPARE (FIRST + 1) 1 ∷ store_to (where_so TEST) mem.L SPARE (FIRST + 2) 2 ∷ []
 
-pub starts_where : (slots count core source target words : ℕ) (on : Bool) (s : State) (m : Run) → core < 16 → Follows slots s m → so TEST m ≡ on → held SPARE m ≡ 0x20000 + 16 * core → held FIRST m ≡ source → held (FIRST + 1) m ≡ target → held (FIRST + 2) m ≡ words
-    → Done slots count (if on then in_world s (with_sent core source target words s.world) else s) m (run by_words (all_done start_stores) m)
+pub starts_where : (homes : ℕ) (slots count core source target words : ℕ) (on : Bool) (s : State) (m : Run) → core < 16 → Follows homes slots s m → so TEST m ≡ on → held SPARE m ≡ 0x20000 + 16 * core → held FIRST m ≡ source → held (FIRST + 1) m ≡ target → held (FIRST + 2) m ≡ words
+    → Done homes slots count (if on then in_world s (with_sent core source target words s.world) else s) m (run by_words (all_done start_stores) m)
 unfolding start_stores with_sent started_memory
-starts_where slots count core source target words false s m few x off at is_source is_target is_words =
-    subst (Done slots count s m)
+starts_where homes slots count core source target words false s m few x off at is_source is_target is_words =
+    subst (Done homes slots count s m)
     (sym (ap (λ t. once by_words (store_to (where_so TEST) mem.L SPARE (FIRST + 2) 2) (once by_words (store_to (where_so TEST) mem.L SPARE (FIRST + 1) 1) t)) (did_nothing by_words (where_so TEST) (Store mem.L store.Word SPARE FIRST 0) m x.whole off)
     ∙ ap (once by_words (store_to (where_so TEST) mem.L SPARE (FIRST + 2) 2)) (did_nothing by_words (where_so TEST) (Store mem.L store.Word SPARE (FIRST + 1) 1) m x.whole off)
     ∙ did_nothing by_words (where_so TEST) (Store mem.L store.Word SPARE (FIRST + 2) 2) m x.whole off))
-    (record { follows = x; keeps = record { st = refl; stack = λ a above. refl } })
-starts_where slots count core source target words true s m few x on at is_source is_target is_words =
+    (record { follows = x; keeps = record { st = refl; stack = λ a above. refl; high = λ r at lt. refl } })
+starts_where homes slots count core source target words true s m few x on at is_source is_target is_words =
     let a = held SPARE m in
     let m1 = with_store mem.L (address_by a 0 4) (held FIRST m) m in
     let m2 = with_store mem.L (address_by a 1 4) (held (FIRST + 1) m) m1 in
@@ -209,15 +211,15 @@ starts_where slots count core source target words true s m few x on at is_source
     ∙ ap (λ c. cell_set c (held (FIRST + 2) m) (with_port core 4 (held (FIRST + 1) m) (with_port core 0 (held FIRST m) m.memory))) (found 2 (omega arith))
     ∙ ap (λ n. started_memory core n (held (FIRST + 1) m) (held (FIRST + 2) m) m.memory) is_source
     ∙ ap (λ n. started_memory core source n (held (FIRST + 2) m) m.memory) is_target ∙ ap (λ n. started_memory core source target n m.memory) is_words in
-    subst (Done slots count (in_world s (with_sent core source target words s.world)) m)
+    subst (Done homes slots count (in_world s (with_sent core source target words s.world)) m)
     (sym (ap (λ t. once by_words (store_to (where_so TEST) mem.L SPARE (FIRST + 2) 2) (once by_words (store_to (where_so TEST) mem.L SPARE (FIRST + 1) 1) t)) (did_store by_words (where_so TEST) mem.L SPARE FIRST 0 m x.whole on)
     ∙ ap (once by_words (store_to (where_so TEST) mem.L SPARE (FIRST + 2) 2)) (did_store by_words (where_so TEST) mem.L SPARE (FIRST + 1) 1 m1 h1 on)
     ∙ did_store by_words (where_so TEST) mem.L SPARE (FIRST + 2) 2 m2 h2 on))
     (record {
-      follows = follows_world slots s (with_sent core source target words s.world) m m3 x h3 refl refl refl
+      follows = follows_world homes slots s (with_sent core source target words s.world) m m3 x h3 refl (λ q from lt. refl) refl refl
           (subst (HasWords (with_sent core source target words s.world)) (sym memory) (has_started core source target words s.world m.memory x.shows.world))
           (record { scratch = x.words.world.scratch; comm = x.words.world.comm; private = x.words.world.private; shared = x.words.world.shared }) refl;
-      keeps = record { st = refl; stack = λ a above. refl };
+      keeps = record { st = refl; stack = λ a above. refl; high = λ r at lt. refl };
     })
 
 -- ---- the whole
@@ -232,47 +234,48 @@ same_send true core source target count s = by (may_start source target count)
     by true = refl
     by false = refl
 
-pub send_done : (f : ℕ → List Step) (frame counter slots mask core : ℕ) (source target count : PlainSp) (s : State) (m : Run) → slots ≤ 128 → mask < slots → core < 16
+pub send_done : (homes : ℕ) (f : ℕ → List Step) (frame counter slots mask core : ℕ) (source target count : PlainSp) (s : State) (m : Run) → slots ≤ 128 → mask < slots → core < 16
     → expr_formed slots source ≡ true → expr_formed slots target ≡ true → expr_formed slots count ≡ true → HasWordConstants source → HasWordConstants target → HasWordConstants count
-    → Follows slots s m → Done slots (counter + 1) (where_on mask (transfer_done core source target count) s) m (run by_words (parts_trail f (stmt_code frame counter (transfers mask core source target count))) m)
+    → FIRST + 4 ≤ homes → FIRST + need source ≤ homes → FIRST + 1 + need target ≤ homes → FIRST + 2 + need count ≤ homes
+    → Follows homes slots s m → Done homes slots (counter + 1) (where_on mask (transfer_done core source target count) s) m (run by_words (parts_trail f (stmt_code homes frame counter (transfers mask core source target count))) m)
 unfolding start_stores
-send_done f frame counter slots mask core source target count s m most masked few formed_a formed_b formed_c words_a words_b words_c x =
-    let ra = ready slots FIRST source s m (omega arith) (omega arith) most formed_a words_a x in
-    let na = behind f source FIRST m in
-    let ka = expr_keeps by_words f source FIRST m (fits_of ra) x.whole in
+send_done homes f frame counter slots mask core source target count s m most masked few formed_a formed_b formed_c words_a words_b words_c room free free_b free_c x =
+    let ra = ready homes slots FIRST source s m (omega arith) (omega arith) free most formed_a words_a x in
+    let na = behind homes f source FIRST m in
+    let ka = expr_keeps homes by_words f source FIRST m (fits_of ra) ra.free x.whole in
     let ya = follows_still ka x in
-    let rb = ready slots (FIRST + 1) target s na (omega arith) (omega arith) most formed_b words_b ya in
-    let nb = behind f target (FIRST + 1) na in
-    let kb = expr_keeps by_words f target (FIRST + 1) na (fits_of rb) ka.whole in
+    let rb = ready homes slots (FIRST + 1) target s na (omega arith) (omega arith) free_b most formed_b words_b ya in
+    let nb = behind homes f target (FIRST + 1) na in
+    let kb = expr_keeps homes by_words f target (FIRST + 1) na (fits_of rb) rb.free ka.whole in
     let yb = follows_still kb ya in
-    let rc = ready slots (FIRST + 2) count s nb (omega arith) (omega arith) most formed_c words_c yb in
-    let nc = behind f count (FIRST + 2) nb in
-    let kc = expr_keeps by_words f count (FIRST + 2) nb (fits_of rc) kb.whole in
+    let rc = ready homes slots (FIRST + 2) count s nb (omega arith) (omega arith) free_c most formed_c words_c yb in
+    let nc = behind homes f count (FIRST + 2) nb in
+    let kc = expr_keeps homes by_words f count (FIRST + 2) nb (fits_of rc) rc.free kb.whole in
     let yc = follows_still kc yb in
-    let t = tested slots mask s nc most masked yc in
-    let u = run by_words (all_done (mask_test mask)) nc in
+    let t = tested homes slots mask s nc most masked yc in
+    let u = run by_words (all_done (mask_test homes mask)) nc in
     let b = s.frame mask == 1 in
     let a_is = t.keeps.low FIRST (omega arith) ∙ kc.low FIRST (omega arith) ∙ kb.low FIRST (omega arith) ∙ value_left f source ra in
     let b_is = t.keeps.low (FIRST + 1) (omega arith) ∙ kc.low (FIRST + 1) (omega arith) ∙ value_left f target rb in
     let c_is = t.keeps.low (FIRST + 2) (omega arith) ∙ value_left f count rc in
-    let allowed = tests_send by_words core b (worth source s) (worth target s) (worth count s) u t.keeps.whole t.test a_is b_is c_is in
+    let allowed = tests_send homes by_words core (omega (arith, room)) b (worth source s) (worth target s) (worth count s) u t.keeps.whole t.test a_is b_is c_is in
     let v = run by_words (all_done send_test) u in
     let address = 0x20000 + 16 * core in
     let w = once by_words (set_long SPARE address) v in
     let set = did_set_long by_words SPARE address v allowed.keeps.whole in
     let number = (0 + address) % 2 ^ 32 in
-    let kw = calm_run by_words SPARE (all_done (set_long SPARE address ∷ [])) v (omega arith) allowed.keeps.whole refl in
+    let kw = calm_run by_words SPARE homes (all_done (set_long SPARE address ∷ [])) v (omega arith) allowed.keeps.whole refl in
     let test = ap (so TEST) set ∙ so_by_register SPARE number TEST v allowed.keeps.whole (omega arith) ∙ allowed.test
     ∙ ap (λ on. b && on) (starts_alike (worth source s) (worth target s) (worth count s) (value_small source ra) (value_small target rb) (value_small count rc)) in
-    let done = starts_where slots (counter + 1) core (worth source s) (worth target s) (worth count s) (b && may_start (worth source s) (worth target s) (worth count s)) s w few
+    let done = starts_where homes slots (counter + 1) core (worth source s) (worth target s) (worth count s) (b && may_start (worth source s) (worth target s) (worth count s)) s w few
     (follows_still kw (follows_still allowed.keeps (follows_still t.keeps yc))) test
     (ap (held SPARE) set ∙ got SPARE number v allowed.keeps.whole (omega arith) (omega arith) ∙ omega (arith, few))
     (kw.low FIRST (omega arith) ∙ allowed.keeps.low FIRST (omega arith) ∙ a_is) (kw.low (FIRST + 1) (omega arith) ∙ allowed.keeps.low (FIRST + 1) (omega arith) ∙ b_is)
     (kw.low (FIRST + 2) (omega arith) ∙ allowed.keeps.low (FIRST + 2) (omega arith) ∙ c_is) in
-    subst (Done slots (counter + 1) (where_on mask (transfer_done core source target count) s) m)
-    (sym (run_joined by_words f (expr_code source FIRST) _ m ∙ run_joined by_words f (expr_code target (FIRST + 1)) _ na ∙ run_joined by_words f (expr_code count (FIRST + 2)) (one (straight (send_code mask core))) nb ∙ run_lone by_words f (send_code mask core) nc))
+    subst (Done homes slots (counter + 1) (where_on mask (transfer_done core source target count) s) m)
+    (sym (run_joined by_words f (expr_code homes source FIRST) _ m ∙ run_joined by_words f (expr_code homes target (FIRST + 1)) _ na ∙ run_joined by_words f (expr_code homes count (FIRST + 2)) (one (straight (send_code homes mask core))) nb ∙ run_lone by_words f (send_code homes mask core) nc))
     (record {
-      follows = subst (λ z. Follows slots z (run by_words (all_done start_stores) w)) (same_send b core (worth source s) (worth target s) (worth count s) s) done.follows;
-      keeps = keeps_then (behind_still (counter + 1) ka) (keeps_then (behind_still (counter + 1) kb) (keeps_then (behind_still (counter + 1) kc)
-          (keeps_then (behind_still (counter + 1) t.keeps) (keeps_then (behind_still (counter + 1) allowed.keeps) (keeps_then (behind_still (counter + 1) kw) done.keeps)))));
+      follows = subst (λ z. Follows homes slots z (run by_words (all_done start_stores) w)) (same_send b core (worth source s) (worth target s) (worth count s) s) done.follows;
+      keeps = keeps_then (behind_still slots (counter + 1) ka) (keeps_then (behind_still slots (counter + 1) kb) (keeps_then (behind_still slots (counter + 1) kc)
+          (keeps_then (behind_still slots (counter + 1) t.keeps) (keeps_then (behind_still slots (counter + 1) allowed.keeps) (keeps_then (behind_still slots (counter + 1) kw) done.keeps)))));
     })

@@ -32,14 +32,14 @@ use Rattle.sp_emit.specs.Expressions.{address_of, cell_space, array_space}
 use Rattle.sp_emit.specs.Holding.{held}
 use Rattle.sp_emit.specs.Instructions.{always, where_so, where_not, set_long, set_short, store_to}
 use Rattle.sp_emit.specs.Statements.{mask_test, masked_store, cell_write, element_write, send_test, send_code}
-use Rattle.sp_emit.specs.declared.registers.TheConstants.{FIRST, SPARE, TEST}
-use Rattle.sp_emit.proofs.Accessing.{asks_none, asks_then, near_run}
+use Rattle.sp_emit.specs.declared.registers.TheConstants.{FIRST, SPARE, OVERRUN, TEST}
+use Rattle.sp_emit.proofs.Accessing.{asks_none, asks_then, near_run, near_fetch}
 use Rattle.sp_emit.proofs.Aligned.{stored_aligned}
 use Rattle.sp_emit.proofs.Cells.{cell_in, cell_found, element_found, element_address, few_words, first_small}
 use Rattle.sp_emit.proofs.Leaving.{did_set_short, constant_leaves}
 use Rattle.sp_emit.proofs.Once.{so, with_written, did_nothing, whole_written, got}
 use Rattle.sp_emit.proofs.TargetWrites.{element_address_made, reaches}
-use Rattle.sp_emit.proofs.Portless.{portless_start, start_append}
+use Rattle.sp_emit.proofs.Portless.{portless_start, start_append, portless_fetch}
 use Rattle.sp_emit.proofs.Starts.{send_starts}
 use Rattle.sp_emit.proofs.Storing.{with_store, did_store}
 
@@ -137,8 +137,8 @@ masked_starts from mem.M at address b m test is none = portless_start from (mask
 
 -- ---- variables
 
-pub cell_write_asks : (Named : Use → Type 0) (mask : ℕ) (c : SpCell) → cell_formed c ≡ true → Named (writes_cell c) → AsksOnly Named (all_done (cell_write mask c))
-cell_write_asks Named mask c formed named = record { cached = []; asks = asks; starts = λ from m whole words. starts from m whole }
+pub cell_write_asks : (homes : ℕ) (Named : Use → Type 0) (mask : ℕ) (c : SpCell) → cell_formed c ≡ true → Named (writes_cell c) → AsksOnly Named (all_done (cell_write homes mask c))
+cell_write_asks homes Named mask c formed named = record { cached = []; asks = asks; starts = λ from m whole words. starts from m whole }
   where
     at : ℕ
     at = address_of c.region c.word
@@ -146,23 +146,23 @@ cell_write_asks Named mask c formed named = record { cached = []; asks = asks; s
     small : address_of c.region c.word < 2 ^ 32
     small = first_small c.region c.word (omega (arith, ltb-true c.word (room_in c.region all_rooms) (and_parts (nat_le (first_of c.region) c.word) (nat_lt c.word (room_in c.region all_rooms)) formed).1))
 
-    asks : (from : Sources) (m : Run) → IsWhole m → Asks Named [] m (run from (all_done (cell_write mask c)) m)
+    asks : (from : Sources) (m : Run) → IsWhole m → Asks Named [] m (run from (all_done (cell_write homes mask c)) m)
     asks from m whole =
-        let n = run from (all_done (mask_test mask)) m in
-        let h = run_whole from (all_done (mask_test mask)) m whole in
+        let n = run from (all_done (mask_test homes mask)) m in
+        let h = run_whole from (all_done (mask_test homes mask)) m whole in
         let u = once from (set_long SPARE at) n in
         let hu = run_whole from (all_done (set_long SPARE at ∷ [])) n h in
-        asks_then (near_run Named from (mask_test mask) m whole refl) (asks_then (near_run Named from (set_long SPARE at ∷ []) n h refl)
+        asks_then (near_run Named from (mask_test homes mask) m whole (rw (near_fetch homes mask) refl)) (asks_then (near_run Named from (set_long SPARE at ∷ []) n h refl)
         (masked_asks Named from (cell_space c.region) SPARE at (so TEST u) u (omega arith) (omega arith) hu refl
         (λ on. ap (λ a. address_by a 0 4) (constant_leaves from SPARE at n h (omega arith) (omega arith) small) ∙ omega (arith, small))
         (λ on. inl (c, named, record { formed = formed; space_is = refl; address_is = refl }))))
 
-    starts : (from : Sources) (m : Run) → IsWhole m → AllStart from (all_done (cell_write mask c)) m
+    starts : (from : Sources) (m : Run) → IsWhole m → AllStart from (all_done (cell_write homes mask c)) m
     starts from m whole =
-        let n = run from (all_done (mask_test mask)) m in
-        let h = run_whole from (all_done (mask_test mask)) m whole in
+        let n = run from (all_done (mask_test homes mask)) m in
+        let h = run_whole from (all_done (mask_test homes mask)) m whole in
         let u = once from (set_long SPARE at) n in
-        start_append from (all_done (mask_test mask)) (all_done (set_long SPARE at ∷ masked_store (cell_space c.region) SPARE)) m (portless_start from (mask_test mask) m refl) (
+        start_append from (all_done (mask_test homes mask)) (all_done (set_long SPARE at ∷ masked_store (cell_space c.region) SPARE)) m (portless_start from (mask_test homes mask) m (rw (portless_fetch homes mask) refl)) (
           (portless_start from (set_long SPARE at ∷ []) n refl).0,
           masked_starts from (cell_space c.region) SPARE at (so TEST u) u refl
               (λ on. ap (λ a. address_by a 0 4) (constant_leaves from SPARE at n h (omega arith) (omega arith) small) ∙ omega (arith, small))
@@ -171,39 +171,39 @@ cell_write_asks Named mask c formed named = record { cached = []; asks = asks; s
 
 -- ---- elements
 
-pub element_write_asks : (Named : Use → Type 0) (mask : ℕ) (a : SpArray) → array_formed a ≡ true → Named (writes_array a) → AsksOnly Named (all_done (element_write mask a))
+pub element_write_asks : (homes : ℕ) (Named : Use → Type 0) (mask : ℕ) (a : SpArray) → array_formed a ≡ true → Named (writes_array a) → AsksOnly Named (all_done (element_write homes mask a))
 unfolding element_address_made
-element_write_asks Named mask a formed named = record { cached = []; asks = asks; starts = λ from m whole words. starts from m whole }
+element_write_asks homes Named mask a formed named = record { cached = []; asks = asks; starts = λ from m whole words. starts from m whole }
   where
     within : a.first + a.length ≤ room_in a.region all_rooms
     within = leb-true (a.first + a.length) (room_in a.region all_rooms) (and_parts (nat_le (first_of a.region) a.first) (nat_le (a.first + a.length) (room_in a.region all_rooms)) formed).1
 
-    asks : (from : Sources) (m : Run) → IsWhole m → Asks Named [] m (run from (all_done (element_write mask a)) m)
+    asks : (from : Sources) (m : Run) → IsWhole m → Asks Named [] m (run from (all_done (element_write homes mask a)) m)
     asks from m whole =
-        let n = run from (all_done (mask_test mask)) m in
-        let h = run_whole from (all_done (mask_test mask)) m whole in
+        let n = run from (all_done (mask_test homes mask)) m in
+        let h = run_whole from (all_done (mask_test homes mask)) m whole in
         let made = element_address_made [] a.length (address_of a.region a.first) in
         let u = run from (all_done made) n in
         let i = held (FIRST + 1) n in
         let b = so TEST n in
-        let r = reaches from b 0 i a.length (address_of a.region a.first) n h refl refl (omega (arith, within, few_words a.region)) (first_small a.region a.first (omega (arith, within))) in
+        let r = reaches OVERRUN from b 0 i a.length (address_of a.region a.first) n (omega arith) h refl refl (omega (arith, within, few_words a.region)) (first_small a.region a.first (omega (arith, within))) in
         let less : (b && nat_lt i a.length) ≡ true → i < a.length = λ on. ltb-true i a.length (and_parts b (nat_lt i a.length) on).1 in
-        asks_then (near_run Named from (mask_test mask) m whole refl) (asks_then (near_run Named from made n h refl)
+        asks_then (near_run Named from (mask_test homes mask) m whole (rw (near_fetch homes mask) refl)) (asks_then (near_run Named from made n h refl)
         (masked_asks Named from (array_space a.region) (FIRST + 1) (address_of a.region (a.first + i)) (b && nat_lt i a.length) u (omega arith) (omega arith) r.keeps.whole r.test
         (λ on. ap (λ x. address_by x 0 4) r.at ∙ element_address a.region a.first i (omega (arith, within, less on)))
         (λ on. inr (inl (a, named, record { formed = formed; index = i; within = less on; space_is = refl; address_is = refl })))))
 
-    starts : (from : Sources) (m : Run) → IsWhole m → AllStart from (all_done (element_write mask a)) m
+    starts : (from : Sources) (m : Run) → IsWhole m → AllStart from (all_done (element_write homes mask a)) m
     starts from m whole =
-        let n = run from (all_done (mask_test mask)) m in
-        let h = run_whole from (all_done (mask_test mask)) m whole in
+        let n = run from (all_done (mask_test homes mask)) m in
+        let h = run_whole from (all_done (mask_test homes mask)) m whole in
         let made = element_address_made [] a.length (address_of a.region a.first) in
         let u = run from (all_done made) n in
         let i = held (FIRST + 1) n in
         let b = so TEST n in
-        let r = reaches from b 0 i a.length (address_of a.region a.first) n h refl refl (omega (arith, within, few_words a.region)) (first_small a.region a.first (omega (arith, within))) in
+        let r = reaches OVERRUN from b 0 i a.length (address_of a.region a.first) n (omega arith) h refl refl (omega (arith, within, few_words a.region)) (first_small a.region a.first (omega (arith, within))) in
         let less : (b && nat_lt i a.length) ≡ true → i < a.length = λ on. ltb-true i a.length (and_parts b (nat_lt i a.length) on).1 in
-        start_append from (all_done (mask_test mask)) (all_done (made ++ masked_store (array_space a.region) (FIRST + 1))) m (portless_start from (mask_test mask) m refl)
+        start_append from (all_done (mask_test homes mask)) (all_done (made ++ masked_store (array_space a.region) (FIRST + 1))) m (portless_start from (mask_test homes mask) m (rw (portless_fetch homes mask) refl))
         (start_append from (all_done made) (all_done (masked_store (array_space a.region) (FIRST + 1))) n (portless_start from made n refl)
         (masked_starts from (array_space a.region) (FIRST + 1) (address_of a.region (a.first + i)) (b && nat_lt i a.length) u r.test
         (λ on. ap (λ x. address_by x 0 4) r.at ∙ element_address a.region a.first i (omega (arith, within, less on)))
@@ -211,8 +211,8 @@ element_write_asks Named mask a formed named = record { cached = []; asks = asks
 
 -- ---- sends
 
-pub send_asks : (Named : Use → Type 0) (mask core : ℕ) → core < 16 → Named (sends_to core) → AsksOnly Named (all_done (send_code mask core))
-send_asks Named mask core few named = record { cached = []; asks = asks; starts = λ from m whole words. send_starts from mask core m few whole (words.0 FIRST) (words.0 (FIRST + 1)) (words.0 (FIRST + 2)) }
+pub send_asks : (homes : ℕ) (Named : Use → Type 0) (mask core : ℕ) → core < 16 → Named (sends_to core) → AsksOnly Named (all_done (send_code homes mask core))
+send_asks homes Named mask core few named = record { cached = []; asks = asks; starts = λ from m whole words. send_starts homes from mask core m few whole (words.0 FIRST) (words.0 (FIRST + 1)) (words.0 (FIRST + 2)) }
   where
     address : ℕ
     address = 0x20000 + 16 * core
@@ -231,11 +231,11 @@ send_asks Named mask core few named = record { cached = []; asks = asks; starts 
         by true on = ap (held SPARE) (did_store from (where_so TEST) mem.L SPARE rs i n h on)
         by false off = ap (held SPARE) (did_nothing from (where_so TEST) (Store mem.L store.Word SPARE rs i) n h off)
 
-    asks : (from : Sources) (m : Run) → IsWhole m → Asks Named [] m (run from (all_done (send_code mask core)) m)
+    asks : (from : Sources) (m : Run) → IsWhole m → Asks Named [] m (run from (all_done (send_code homes mask core)) m)
     asks from m whole =
-        let before = mask_test mask ++ (send_test ++ set_long SPARE (0x20000 + 16 * core) ∷ []) in
-        let n = run from (all_done (mask_test mask ++ send_test)) m in
-        let h = run_whole from (all_done (mask_test mask ++ send_test)) m whole in
+        let before = mask_test homes mask ++ (send_test ++ set_long SPARE (0x20000 + 16 * core) ∷ []) in
+        let n = run from (all_done (mask_test homes mask ++ send_test)) m in
+        let h = run_whole from (all_done (mask_test homes mask ++ send_test)) m whole in
         let u = once from (set_long SPARE (0x20000 + 16 * core)) n in
         let hu = run_whole from (all_done (set_long SPARE (0x20000 + 16 * core) ∷ [])) n h in
         let at = constant_leaves from SPARE (0x20000 + 16 * core) n h (omega arith) (omega arith) (omega (arith, few)) in
@@ -245,5 +245,5 @@ send_asks Named mask core few named = record { cached = []; asks = asks; starts 
         let u2 = once from (store_to (where_so TEST) mem.L SPARE (FIRST + 1) 1) u1 in
         let h2 = run_whole from (all_done (store_to (where_so TEST) mem.L SPARE (FIRST + 1) 1 ∷ [])) u1 h1 in
         let at2 = same from (FIRST + 1) 1 u1 h1 ∙ at1 in
-        asks_then (near_run Named from before m whole refl)
+        asks_then (near_run Named from before m whole (rw (near_fetch homes mask) refl))
         (asks_then (port from FIRST 0 u (omega arith) hu at) (asks_then (port from (FIRST + 1) 1 u1 (omega arith) h1 at1) (port from (FIRST + 2) 2 u2 (omega arith) h2 at2)))

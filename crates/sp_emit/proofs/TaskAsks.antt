@@ -1,9 +1,8 @@
 -- The code of statements, functions and tasks asks for what their trees name.
-use Rattle.std.proofs.Common.{◌≡◌, ℕ, zero, suc, ◌+◌, ◌-◌, ◌<◌, ◌≤◌, ◌==◌, ◌⊎◌, inl, inr, Bool, true, false, ◌&&◌, if◌then◌else◌, Option, None, Some, List, [], ◌∷◌, ◌++◌, length, map, slice_index_or, nat_lt, refl, sym, subst, arith}
+use Rattle.std.proofs.Common.{◌≡◌, ℕ, zero, suc, ◌+◌, ◌-◌, ◌<◌, ◌≤◌, ◌==◌, ◌⊎◌, inl, inr, Bool, true, false, ◌&&◌, if◌then◌else◌, Option, None, Some, List, [], ◌∷◌, ◌++◌, length, slice_index_or, nat_lt, refl, sym, subst, arith}
 use Rattle.std.specs.Prelude.{nat_le}
 use Rattle.std.specs.List.{All, list_all}
 use Rattle.std.proofs.lemmas.Bool.{cases_lt, and_parts, ltb-true, eqb-true, eqb-false}
-use Rattle.std.proofs.lemmas.List.{get_or-map, length-map}
 use Rattle.patmos_instr.specs.Bundles.{Slots}
 use Rattle.sp_tree.proofs.Forms.{earlier_one}
 use Rattle.sp_tree.specs.Formed.{send_formed, target_formed, array_formed, expr_formed, callee_formed, args_formed, result_formed, stmt_formed, stmts_formed, function_formed, functions_formed, entry_formed, is_formed, slots_of}
@@ -18,9 +17,13 @@ use Rattle.sp_emit.specs.Accesses.{AsksOnly}
 use Rattle.sp_emit.specs.Expressions.{expr_code}
 use Rattle.sp_emit.specs.Functions.{arguments_kept, argument_kept, state_kept, first_counter, function_begin, function_end, function_rest, function_code, return_tail, emitted}
 use Rattle.sp_emit.specs.Statements.{slot_write, cell_write, element_write, target_write, args_code, call_code, send_code, overrun_code, slot_set, turns_begin, turns_tail, stmt_code, stmts_code}
-use Rattle.sp_emit.specs.Instructions.{always, store_slot}
-use Rattle.sp_emit.specs.declared.registers.TheConstants.{FIRST}
-use Rattle.sp_emit.proofs.Accessing.{asks_append, asks_nothing, asks_copies, is_near, near_asks, near_parts}
+use Rattle.sp_emit.specs.Instructions.{always, where_so}
+use Rattle.sp_emit.specs.declared.registers.TheConstants.{RESULT, MASK, FIRST, TEST}
+use Rattle.sp_emit.proofs.Accessing.{asks_append, asks_nothing, asks_copies, is_near, near_asks, near_parts, near_read, near_set, near_fetch}
+use Rattle.sp_emit.specs.Places.{set_word, words_cleared, homes_of}
+use Rattle.sp_emit.proofs.WordPlaces.{cleared_all}
+use Rattle.sp_emit.specs.Functions.{codes}
+use Rattle.sp_emit.proofs.Codes.{codes_at, codes_length}
 use Rattle.sp_emit.proofs.Formed.{call_formed}
 use Rattle.sp_emit.proofs.Serves.{parts_of_function, code_of}
 use Rattle.sp_emit.proofs.StoreAsks.{cell_write_asks, element_write_asks, send_asks}
@@ -29,96 +32,97 @@ use Rattle.sp_emit.proofs.Fitting.{expr_fits}
 
 -- ---- values
 
-value_asks : (Named : Use → Type 0) (f : ℕ → List Step) (slots rd : ℕ) (e : PlainSp) → slots ≤ 128 → 1 ≤ rd → rd ≤ 9 → expr_formed slots e ≡ true → AreNamed Named (expr_uses e) → AsksOnly Named (parts_trail f (expr_code e rd))
-value_asks Named f slots rd e most some few formed named = expr_asks Named f e rd some (expr_fits slots rd e most few formed) named
+value_asks : (homes : ℕ) (Named : Use → Type 0) (f : ℕ → List Step) (slots rd : ℕ) (e : PlainSp) → slots ≤ 128 → 1 ≤ rd → rd ≤ 9 → expr_formed slots e ≡ true → AreNamed Named (expr_uses e) → AsksOnly Named (parts_trail f (expr_code homes e rd))
+value_asks homes Named f slots rd e most some few formed named = expr_asks homes Named f e rd some (expr_fits slots rd e most few formed) named
 
-args_ask : (Named : Use → Type 0) (f : ℕ → List Step) (slots : ℕ) (args : List PlainSp) (rd : ℕ) → slots ≤ 128 → 1 ≤ rd → rd + length args ≤ 10 → args_formed slots args ≡ true → AreNamed Named (args_uses args) → AsksOnly Named (parts_trail f (args_code args rd))
-args_ask Named f slots [] rd most some few formed named = asks_nothing Named
-args_ask Named f slots (e ∷ args) rd most some few formed named =
+args_ask : (homes : ℕ) (Named : Use → Type 0) (f : ℕ → List Step) (slots : ℕ) (args : List PlainSp) (rd : ℕ) → slots ≤ 128 → 1 ≤ rd → rd + length args ≤ 10 → args_formed slots args ≡ true → AreNamed Named (args_uses args) → AsksOnly Named (parts_trail f (args_code homes args rd))
+args_ask homes Named f slots [] rd most some few formed named = asks_nothing Named
+args_ask homes Named f slots (e ∷ args) rd most some few formed named =
     let parts = and_parts (expr_formed slots e) (args_formed slots args) formed in
-    asks_joined f (expr_code e rd) (args_code args (rd + 1)) (value_asks Named f slots rd e most some (omega (arith, few)) parts.0 (named_left Named (expr_uses e) (args_uses args) named))
-    (args_ask Named f slots args (rd + 1) most (omega arith) (omega (arith, few)) parts.1 (named_right Named (expr_uses e) (args_uses args) named))
+    asks_joined f (expr_code homes e rd) (args_code homes args (rd + 1)) (value_asks homes Named f slots rd e most some (omega (arith, few)) parts.0 (named_left Named (expr_uses e) (args_uses args) named))
+    (args_ask homes Named f slots args (rd + 1) most (omega arith) (omega (arith, few)) parts.1 (named_right Named (expr_uses e) (args_uses args) named))
 
 -- bundles that reach the stack alone
 near_lone : (Named : Use → Type 0) (f : ℕ → List Step) (bs : List Slots) → list_all is_near bs ≡ true → AsksOnly Named (parts_trail f (one (straight bs)))
 near_lone Named f bs near = asks_lone f bs (near_asks Named bs near)
 
-target_asks : (Named : Use → Type 0) (f : ℕ → List Step) (slots mask : ℕ) (target : PlainSpTarget) → slots ≤ 128 → target_formed slots target ≡ true → AreNamed Named (target_uses target) → AsksOnly Named (parts_trail f (target_write mask target))
-target_asks Named f slots mask (to_slot slot) most formed named = near_lone Named f (slot_write mask slot) refl
-target_asks Named f slots mask (to_cell cell) most formed named = asks_lone f (cell_write mask cell) (cell_write_asks Named mask cell formed named.0)
-target_asks Named f slots mask (to_array array index) most formed named =
+target_asks : (homes : ℕ) (Named : Use → Type 0) (f : ℕ → List Step) (slots mask : ℕ) (target : PlainSpTarget) → slots ≤ 128 → target_formed slots target ≡ true → AreNamed Named (target_uses target) → AsksOnly Named (parts_trail f (target_write homes mask target))
+target_asks homes Named f slots mask (to_slot slot) most formed named = near_lone Named f (slot_write homes mask slot) (rw (near_fetch homes mask, near_set homes (where_so TEST) slot FIRST) refl)
+target_asks homes Named f slots mask (to_cell cell) most formed named = asks_lone f (cell_write homes mask cell) (cell_write_asks homes Named mask cell formed named.0)
+target_asks homes Named f slots mask (to_array array index) most formed named =
     let parts = and_parts (array_formed array) (expr_formed slots index) formed in
-    asks_joined f (expr_code index (FIRST + 1)) (one (straight (element_write mask array))) (value_asks Named f slots (FIRST + 1) index most (omega arith) (omega arith) parts.1 named.1)
-    (asks_lone f (element_write mask array) (element_write_asks Named mask array parts.0 named.0))
+    asks_joined f (expr_code homes index (FIRST + 1)) (one (straight (element_write homes mask array))) (value_asks homes Named f slots (FIRST + 1) index most (omega arith) (omega arith) parts.1 named.1)
+    (asks_lone f (element_write homes mask array) (element_write_asks homes Named mask array parts.0 named.0))
 
 -- ---- statements, over what earlier functions ask for
 
-call_near : (frame mask k : ℕ) (result : Option ℕ) → parts_all is_near (call_code frame mask k result) ≡ true
-call_near frame mask k None = refl
-call_near frame mask k (Some slot) = refl
+call_near : (homes : ℕ) (frame mask k : ℕ) (result : Option ℕ) → parts_all is_near (call_code homes frame mask k result) ≡ true
+call_near homes frame mask k None = rw (near_read homes MASK mask) refl
+call_near homes frame mask k (Some slot) = rw (near_read homes MASK mask, near_fetch homes mask, near_set homes (where_so TEST) slot RESULT) refl
 
 mutual
-  stmt_asks : (Named : Use → Type 0) (f : ℕ → List Step) (fs : List PlainFunction) (number slots frame counter : ℕ) → ((k : ℕ) → k < number → AsksOnly Named (f k)) → functions_formed fs number ≡ true → slots ≤ 128
-      → (t : PlainStmt) → stmt_formed fs number slots t ≡ true → AreNamed Named (stmt_uses t) → AsksOnly Named (parts_trail f (stmt_code frame counter t))
-  stmt_asks Named f fs number slots frame counter called earlier most (masks slot e) formed named =
+  stmt_asks : (homes : ℕ) (Named : Use → Type 0) (f : ℕ → List Step) (fs : List PlainFunction) (number slots frame counter : ℕ) → ((k : ℕ) → k < number → AsksOnly Named (f k)) → functions_formed fs number ≡ true → slots ≤ 128
+      → (t : PlainStmt) → stmt_formed fs number slots t ≡ true → AreNamed Named (stmt_uses t) → AsksOnly Named (parts_trail f (stmt_code homes frame counter t))
+  stmt_asks homes Named f fs number slots frame counter called earlier most (masks slot e) formed named =
       let parts = and_parts (nat_lt slot slots) (expr_formed slots e) formed in
-      asks_joined f (expr_code e FIRST) (slot_set slot) (value_asks Named f slots FIRST e most (omega arith) (omega arith) parts.1 named) (near_lone Named f (store_slot always slot FIRST ∷ []) refl)
-  stmt_asks Named f fs number slots frame counter called earlier most (writes mask target e) formed named =
+      asks_joined f (expr_code homes e FIRST) (slot_set homes slot) (value_asks homes Named f slots FIRST e most (omega arith) (omega arith) parts.1 named) (near_lone Named f (set_word homes always slot FIRST ∷ []) (rw (near_set homes always slot FIRST) refl))
+  stmt_asks homes Named f fs number slots frame counter called earlier most (writes mask target e) formed named =
       let parts = and_parts (nat_lt mask slots) (target_formed slots target && expr_formed slots e) formed in
       let targets = and_parts (target_formed slots target) (expr_formed slots e) parts.1 in
-      asks_joined f (expr_code e FIRST) (target_write mask target) (value_asks Named f slots FIRST e most (omega arith) (omega arith) targets.1 (named_right Named (target_uses target) (expr_uses e) named))
-      (target_asks Named f slots mask target most targets.0 (named_left Named (target_uses target) (expr_uses e) named))
-  stmt_asks Named f fs number slots frame counter called earlier most (calls mask k args result) formed named =
+      asks_joined f (expr_code homes e FIRST) (target_write homes mask target) (value_asks homes Named f slots FIRST e most (omega arith) (omega arith) targets.1 (named_right Named (target_uses target) (expr_uses e) named))
+      (target_asks homes Named f slots mask target most targets.0 (named_left Named (target_uses target) (expr_uses e) named))
+  stmt_asks homes Named f fs number slots frame counter called earlier most (calls mask k args result) formed named =
       let a = and_parts (nat_lt mask slots) (callee_formed fs number k (length args) && (args_formed slots args && result_formed slots result)) formed in
       let b = and_parts (callee_formed fs number k (length args)) (args_formed slots args && result_formed slots result) a.1 in
       let callee = and_parts (nat_lt k number) (length args == (slice_index_or fs k no_function).parameters) b.0 in
       let c = and_parts (args_formed slots args) (result_formed slots result) b.1 in
       let few = (parts_of_function fs k (slice_index_or fs k no_function) (earlier_one fs k number (ltb-true k number callee.0) earlier)).parameters in
-      asks_joined f (args_code args FIRST) (call_code frame mask k result)
-      (args_ask Named f slots args FIRST most (omega arith) (omega (arith, few, eqb-true (length args) (slice_index_or fs k no_function).parameters callee.1)) c.0 named)
-      (near_parts Named f number called (call_code frame mask k result) (call_formed number frame mask k result callee.0) (call_near frame mask k result))
-  stmt_asks Named f fs number slots frame counter called earlier most (transfers mask core source target count) formed named =
+      asks_joined f (args_code homes args FIRST) (call_code homes frame mask k result)
+      (args_ask homes Named f slots args FIRST most (omega arith) (omega (arith, few, eqb-true (length args) (slice_index_or fs k no_function).parameters callee.1)) c.0 named)
+      (near_parts Named f number called (call_code homes frame mask k result) (call_formed homes number frame mask k result callee.0) (call_near homes frame mask k result))
+  stmt_asks homes Named f fs number slots frame counter called earlier most (transfers mask core source target count) formed named =
       let parts = and_parts (nat_lt mask slots) (send_formed slots core source target count) formed in
       let send = and_parts (nat_lt core 16) (expr_formed slots source && (expr_formed slots target && expr_formed slots count)) parts.1 in
       let first = and_parts (expr_formed slots source) (expr_formed slots target && expr_formed slots count) send.1 in
       let rest = and_parts (expr_formed slots target) (expr_formed slots count) first.1 in
       let behind = named_right Named (expr_uses source) (expr_uses target ++ expr_uses count) named.1 in
-      let sent = one (straight (send_code mask core)) in
-      asks_joined f (expr_code source FIRST) (joined (expr_code target (FIRST + 1)) (joined (expr_code count (FIRST + 2)) sent))
-      (value_asks Named f slots FIRST source most (omega arith) (omega arith) first.0 (named_left Named (expr_uses source) (expr_uses target ++ expr_uses count) named.1))
-      (asks_joined f (expr_code target (FIRST + 1)) (joined (expr_code count (FIRST + 2)) sent) (value_asks Named f slots (FIRST + 1) target most (omega arith) (omega arith) rest.0 (named_left Named (expr_uses target) (expr_uses count) behind))
-      (asks_joined f (expr_code count (FIRST + 2)) sent (value_asks Named f slots (FIRST + 2) count most (omega arith) (omega arith) rest.1 (named_right Named (expr_uses target) (expr_uses count) behind))
-      (asks_lone f (send_code mask core) (send_asks Named mask core (ltb-true core 16 send.0) named.0))))
-  stmt_asks Named f fs number slots frame counter called earlier most (overruns mask e) formed named =
+      let sent = one (straight (send_code homes mask core)) in
+      asks_joined f (expr_code homes source FIRST) (joined (expr_code homes target (FIRST + 1)) (joined (expr_code homes count (FIRST + 2)) sent))
+      (value_asks homes Named f slots FIRST source most (omega arith) (omega arith) first.0 (named_left Named (expr_uses source) (expr_uses target ++ expr_uses count) named.1))
+      (asks_joined f (expr_code homes target (FIRST + 1)) (joined (expr_code homes count (FIRST + 2)) sent) (value_asks homes Named f slots (FIRST + 1) target most (omega arith) (omega arith) rest.0 (named_left Named (expr_uses target) (expr_uses count) behind))
+      (asks_joined f (expr_code homes count (FIRST + 2)) sent (value_asks homes Named f slots (FIRST + 2) count most (omega arith) (omega arith) rest.1 (named_right Named (expr_uses target) (expr_uses count) behind))
+      (asks_lone f (send_code homes mask core) (send_asks homes Named mask core (ltb-true core 16 send.0) named.0))))
+  stmt_asks homes Named f fs number slots frame counter called earlier most (overruns mask e) formed named =
       let parts = and_parts (nat_lt mask slots) (expr_formed slots e) formed in
-      asks_joined f (expr_code e FIRST) (one (straight (overrun_code mask))) (value_asks Named f slots FIRST e most (omega arith) (omega arith) parts.1 named) (near_lone Named f (overrun_code mask) refl)
-  stmt_asks Named f fs number slots frame counter called earlier most (turns count body) formed named =
+      asks_joined f (expr_code homes e FIRST) (one (straight (overrun_code homes mask))) (value_asks homes Named f slots FIRST e most (omega arith) (omega arith) parts.1 named) (near_lone Named f (overrun_code homes mask) (rw (near_fetch homes mask) refl))
+  stmt_asks homes Named f fs number slots frame counter called earlier most (turns count body) formed named =
       let parts = and_parts (nat_lt 0 count) (stmts_formed fs number slots body) formed in
-      let code = stmts_code frame (counter - 1) body in
+      let code = stmts_code homes frame (counter - 1) body in
       asks_append (near_asks Named (turns_begin counter count) refl)
-      (asks_append (asks_copies count (parts_trail f code ++ all_done (turns_tail counter)) (asks_append (stmts_ask Named f fs number slots frame (counter - 1) called earlier most body parts.1 named) (near_asks Named (turns_tail counter) refl))) (asks_nothing Named))
+      (asks_append (asks_copies count (parts_trail f code ++ all_done (turns_tail counter)) (asks_append (stmts_ask homes Named f fs number slots frame (counter - 1) called earlier most body parts.1 named) (near_asks Named (turns_tail counter) refl))) (asks_nothing Named))
 
-  stmts_ask : (Named : Use → Type 0) (f : ℕ → List Step) (fs : List PlainFunction) (number slots frame counter : ℕ) → ((k : ℕ) → k < number → AsksOnly Named (f k)) → functions_formed fs number ≡ true → slots ≤ 128
-      → (ts : PlainStmts) → stmts_formed fs number slots ts ≡ true → AreNamed Named (stmts_uses ts) → AsksOnly Named (parts_trail f (stmts_code frame counter ts))
-  stmts_ask Named f fs number slots frame counter called earlier most no_stmt formed named = asks_nothing Named
-  stmts_ask Named f fs number slots frame counter called earlier most (stmt t rest) formed named =
+  stmts_ask : (homes : ℕ) (Named : Use → Type 0) (f : ℕ → List Step) (fs : List PlainFunction) (number slots frame counter : ℕ) → ((k : ℕ) → k < number → AsksOnly Named (f k)) → functions_formed fs number ≡ true → slots ≤ 128
+      → (ts : PlainStmts) → stmts_formed fs number slots ts ≡ true → AreNamed Named (stmts_uses ts) → AsksOnly Named (parts_trail f (stmts_code homes frame counter ts))
+  stmts_ask homes Named f fs number slots frame counter called earlier most no_stmt formed named = asks_nothing Named
+  stmts_ask homes Named f fs number slots frame counter called earlier most (stmt t rest) formed named =
       let parts = and_parts (stmt_formed fs number slots t) (stmts_formed fs number slots rest) formed in
-      asks_joined f (stmt_code frame counter t) (stmts_code frame counter rest) (stmt_asks Named f fs number slots frame counter called earlier most t parts.0 (named_left Named (stmt_uses t) (stmts_uses rest) named))
-      (stmts_ask Named f fs number slots frame counter called earlier most rest parts.1 (named_right Named (stmt_uses t) (stmts_uses rest) named))
+      asks_joined f (stmt_code homes frame counter t) (stmts_code homes frame counter rest) (stmt_asks homes Named f fs number slots frame counter called earlier most t parts.0 (named_left Named (stmt_uses t) (stmts_uses rest) named))
+      (stmts_ask homes Named f fs number slots frame counter called earlier most rest parts.1 (named_right Named (stmt_uses t) (stmts_uses rest) named))
 
 -- ---- functions
 
-arguments_near : (n : ℕ) → list_all is_near (arguments_kept n) ≡ true
-arguments_near zero = refl
-arguments_near (suc n) = all_append is_near (arguments_kept n) (argument_kept n) (arguments_near n) refl
+arguments_near : (homes : ℕ) (n : ℕ) → list_all is_near (arguments_kept homes n) ≡ true
+arguments_near homes zero = refl
+arguments_near homes (suc n) = all_append is_near (arguments_kept homes n) (argument_kept homes n) (arguments_near homes n) (rw (near_set homes always n (FIRST + n)) refl)
 
-function_asks : (Named : Use → Type 0) (code : ℕ → List Step) (fs : List PlainFunction) (number : ℕ) (f : PlainFunction) → ((k : ℕ) → k < number → AsksOnly Named (code k)) → functions_formed fs number ≡ true → function_formed fs number f ≡ true
-    → AreNamed Named (stmts_uses f.body) → AsksOnly Named (parts_trail code (function_code f))
-function_asks Named code fs number f called earlier formed named =
+function_asks : (homes : ℕ) (Named : Use → Type 0) (code : ℕ → List Step) (fs : List PlainFunction) (number : ℕ) (f : PlainFunction) → ((k : ℕ) → k < number → AsksOnly Named (code k)) → functions_formed fs number ≡ true → function_formed fs number f ≡ true
+    → AreNamed Named (stmts_uses f.body) → AsksOnly Named (parts_trail code (function_code homes f))
+function_asks homes Named code fs number f called earlier formed named =
     let p = parts_of_function fs number f formed in
-    asks_append (near_asks Named (function_begin f) (all_append is_near (arguments_kept f.parameters) (state_kept f) (arguments_near f.parameters) refl))
-    (asks_joined code (stmts_code f.frame (first_counter f) f.body) (function_rest f) (stmts_ask Named code fs number (slots_of f) f.frame (first_counter f) called earlier (omega (arith, p.room, p.frame)) f.body p.body named)
-    (asks_append (near_asks Named (function_end f) refl) (asks_append (near_asks Named return_tail refl) (asks_nothing Named))))
+    asks_append (near_asks Named (function_begin homes f) (all_append is_near (words_cleared homes (slots_of f)) (arguments_kept homes f.parameters ++ state_kept homes f) (cleared_all is_near homes (slots_of f) (λ r. refl))
+    (all_append is_near (arguments_kept homes f.parameters) (state_kept homes f) (arguments_near homes f.parameters) (rw (near_set homes always f.mask MASK) refl))))
+    (asks_joined code (stmts_code homes f.frame (first_counter f) f.body) (function_rest homes f) (stmts_ask homes Named code fs number (slots_of f) f.frame (first_counter f) called earlier (omega (arith, p.room, p.frame)) f.body p.body named)
+    (asks_append (near_asks Named (function_end homes f) (rw (near_read homes RESULT f.result) refl)) (asks_append (near_asks Named return_tail refl) (asks_nothing Named))))
 
 -- what is said of all uses is said of each function's
 function_named : (Named : Use → Type 0) (fs : List PlainFunction) (k : ℕ) → AreNamed Named (functions_uses fs) → k < length fs → AreNamed Named (stmts_uses (slice_index_or fs k no_function).body)
@@ -133,10 +137,10 @@ functions_ask Named fs named (suc n) within formed k less =
     by parts.0 parts.1 (functions_ask Named fs named n (omega (arith, within)) parts.0) (k == n) refl
   where
     by : functions_formed fs n ≡ true → function_formed fs n (slice_index_or fs n no_function) ≡ true → ((j : ℕ) → j < n → AsksOnly Named (code_of fs n j)) → (b : Bool) → (k == n) ≡ b
-        → AsksOnly Named (if b then parts_trail (code_of fs n) (slice_index_or (map function_code fs) n no_part) else code_of fs n k)
+        → AsksOnly Named (if b then parts_trail (code_of fs n) (slice_index_or (codes fs) n no_part) else code_of fs n k)
     by earlier own before true is =
-        subst (λ c. AsksOnly Named (parts_trail (code_of fs n) c)) (sym (get_or-map function_code fs n no_function no_part (omega (arith, within))))
-        (function_asks Named (code_of fs n) fs n (slice_index_or fs n no_function) before earlier own (function_named Named fs n named (omega (arith, within))))
+        subst (λ c. AsksOnly Named (parts_trail (code_of fs n) c)) (sym (codes_at fs n (omega (arith, within))))
+        (function_asks (homes_of fs n) Named (code_of fs n) fs n (slice_index_or fs n no_function) before earlier own (function_named Named fs n named (omega (arith, within))))
     by earlier own before false other = before k (less_still (cases_lt k n))
       where
         less_still : (k < n) ⊎ (n ≤ k) → k < n
@@ -149,5 +153,5 @@ task_asks Named u formed named =
     let b = and_parts (functions_formed u.functions (length u.functions)) _ a.1 in
     let c = and_parts (entry_formed u) _ b.1 in
     let d = and_parts (nat_lt u.entry (length u.functions)) ((slice_index_or u.functions u.entry no_function).parameters == 0) c.0 in
-    subst (λ n. AsksOnly Named (trails (map function_code u.functions) n u.entry)) (sym (length-map u.functions function_code))
+    subst (λ n. AsksOnly Named (trails (codes u.functions) n u.entry)) (sym (codes_length u.functions))
     (functions_ask Named u.functions (are_named Named (uses_of u) named) (length u.functions) (omega arith) b.0 u.entry (ltb-true u.entry (length u.functions) d.0))

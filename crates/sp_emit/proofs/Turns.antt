@@ -15,68 +15,69 @@ use Rattle.sp_emit.specs.Statements.{turns_begin, turns_tail}
 use Rattle.sp_emit.specs.declared.registers.TheConstants.{SPARE, TEST}
 use Rattle.sp_emit.proofs.Calm.{is_calm_trail, calm_run}
 use Rattle.sp_emit.proofs.Frames.{put_other}
-use Rattle.sp_emit.proofs.Masks.{Done, follows_still, behind_still, keeps_then, keeps_slot}
+use Rattle.sp_emit.proofs.Masks.{Done, follows_still, behind_still, keeps_then}
 use Rattle.sp_emit.proofs.Storing.{with_slot_word, did_store_slot}
 use Rattle.sp_emit.proofs.Values.{run_joined}
+use Rattle.sp_emit.proofs.WordPlaces.{beside_word}
 
 -- a word of the frame that no tree names
-follows_beside : (slots slot v : ℕ) (s : State) (m : Run) → slots ≤ slot → Follows slots s m → Follows slots s (with_slot_word slot v m)
-follows_beside slots slot v s m beside x = record {
+follows_beside : (homes : ℕ) (slots slot v : ℕ) (s : State) (m : Run) → slots ≤ slot → Follows homes slots s m → Follows homes slots s (with_slot_word slot v m)
+follows_beside homes slots slot v s m beside x = record {
   whole = record { fits = x.whole.fits; pending = x.whole.pending };
-  shows = record { frame = λ u lt. put_other (m.st + slot) (m.st + u) v m.stack (λ is. absurd (omega (arith, is, beside, lt))) ∙ x.shows.frame u lt; world = x.shows.world };
+  shows = record { frame = λ u lt. beside_word homes slot u v m (λ is. absurd (omega (arith, is, beside, lt))) ∙ x.shows.frame u lt; world = x.shows.world };
   words = x.words;
   flag = x.flag;
 }
 
 -- the counter is set
-counter_set : (slots counter rs : ℕ) (s : State) (m : Run) → slots ≤ counter → counter < 128 → Follows slots s m → Done slots (counter + 1) s m (once by_words (store_slot always counter rs) m)
-counter_set slots counter rs s m beside few x =
-    subst (Done slots (counter + 1) s m) (sym (did_store_slot by_words always counter rs m x.whole x.whole.fits.always few)) (record {
-      follows = follows_beside slots counter (held rs m) s m beside x;
-      keeps = keeps_slot (counter + 1) counter (held rs m) m (omega arith);
+counter_set : (homes : ℕ) (slots counter rs : ℕ) (s : State) (m : Run) → slots ≤ counter → counter < 128 → Follows homes slots s m → Done homes slots (counter + 1) s m (once by_words (store_slot always counter rs) m)
+counter_set homes slots counter rs s m beside few x =
+    subst (Done homes slots (counter + 1) s m) (sym (did_store_slot by_words always counter rs m x.whole x.whole.fits.always few)) (record {
+      follows = follows_beside homes slots counter (held rs m) s m beside x;
+      keeps = record { st = refl; stack = λ a above. put_other (m.st + counter) a (held rs m) m.stack (λ is. absurd (omega (arith, is, above))); high = λ q from lt. refl };
     })
 
 -- calm bundles, and then the counter, and then others
-around_counter : (slots counter : ℕ) (before behind : List Slots) (s : State) (m : Run) → slots ≤ counter → counter < 128 → is_calm_trail SPARE (all_done before) ≡ true → is_calm_trail SPARE (all_done behind) ≡ true → Follows slots s m
-    → Done slots (counter + 1) s m (run by_words (all_done behind) (once by_words (store_slot always counter SPARE) (run by_words (all_done before) m)))
-around_counter slots counter before behind s m beside few calm_before calm_behind x =
-    let k1 = calm_run by_words SPARE (all_done before) m (omega arith) x.whole calm_before in
+around_counter : (homes : ℕ) (slots counter : ℕ) (before behind : List Slots) (s : State) (m : Run) → slots ≤ counter → counter < 128 → is_calm_trail SPARE homes (all_done before) ≡ true → is_calm_trail SPARE homes (all_done behind) ≡ true → Follows homes slots s m
+    → Done homes slots (counter + 1) s m (run by_words (all_done behind) (once by_words (store_slot always counter SPARE) (run by_words (all_done before) m)))
+around_counter homes slots counter before behind s m beside few calm_before calm_behind x =
+    let k1 = calm_run by_words SPARE homes (all_done before) m (omega arith) x.whole calm_before in
     let n = run by_words (all_done before) m in
-    let d = counter_set slots counter SPARE s n beside few (follows_still k1 x) in
-    let k2 = calm_run by_words SPARE (all_done behind) (once by_words (store_slot always counter SPARE) n) (omega arith) d.follows.whole calm_behind in
+    let d = counter_set homes slots counter SPARE s n beside few (follows_still k1 x) in
+    let k2 = calm_run by_words SPARE homes (all_done behind) (once by_words (store_slot always counter SPARE) n) (omega arith) d.follows.whole calm_behind in
     record {
       follows = follows_still k2 d.follows;
-      keeps = keeps_then (behind_still (counter + 1) k1) (keeps_then d.keeps (behind_still (counter + 1) k2));
+      keeps = keeps_then (behind_still slots (counter + 1) k1) (keeps_then d.keeps (behind_still slots (counter + 1) k2));
     }
 
-pub done_then : {slots count : ℕ} {z : State} {m n t : Run} → KeepsBehind count m n → Done slots count z n t → Done slots count z m t
+pub done_then : {homes : ℕ} {slots count : ℕ} {z : State} {m n t : Run} → KeepsBehind (homes + slots) count m n → Done homes slots count z n t → Done homes slots count z m t
 done_then keeps d = record { follows = d.follows; keeps = keeps_then keeps d.keeps }
 
 -- so many turns of a body
-turns_run : (f : ℕ → List Step) (slots counter low : ℕ) (body : PlainParts) (change : State → State) → slots ≤ counter → counter < 128
-    → ((s : State) (m : Run) → low ≤ m.st → Follows slots s m → Done slots (counter + 1) (change s) m (run by_words (parts_trail f body) m))
-    → (count : ℕ) (s : State) (m : Run) → low ≤ m.st → Follows slots s m → Done slots (counter + 1) (times count change s) m (run by_words (copies count (parts_trail f body ++ all_done (turns_tail counter))) m)
-turns_run f slots counter low body change beside few turn zero s m enough x = record { follows = x; keeps = record { st = refl; stack = λ a above. refl } }
-turns_run f slots counter low body change beside few turn (suc count) s m enough x =
+turns_run : (homes : ℕ) (f : ℕ → List Step) (slots counter low : ℕ) (body : PlainParts) (change : State → State) → slots ≤ counter → counter < 128
+    → ((s : State) (m : Run) → low ≤ m.st → Follows homes slots s m → Done homes slots (counter + 1) (change s) m (run by_words (parts_trail f body) m))
+    → (count : ℕ) (s : State) (m : Run) → low ≤ m.st → Follows homes slots s m → Done homes slots (counter + 1) (times count change s) m (run by_words (copies count (parts_trail f body ++ all_done (turns_tail counter))) m)
+turns_run homes f slots counter low body change beside few turn zero s m enough x = record { follows = x; keeps = record { st = refl; stack = λ a above. refl; high = λ r at lt. refl } }
+turns_run homes f slots counter low body change beside few turn (suc count) s m enough x =
     let one_turn = parts_trail f body ++ all_done (turns_tail counter) in
     let n = run by_words (parts_trail f body) m in
     let d = turn s m enough x in
-    let tail = around_counter slots counter (load_slot SPARE counter ∷ with_short always imm.Sub SPARE SPARE 1 ∷ []) (compare_short cmp.Neq TEST SPARE 0 ∷ branch TEST ∷ idle ∷ idle ∷ []) (change s) n beside few refl refl d.follows in
+    let tail = around_counter homes slots counter (load_slot SPARE counter ∷ with_short always imm.Sub SPARE SPARE 1 ∷ []) (compare_short cmp.Neq TEST SPARE 0 ∷ branch TEST ∷ idle ∷ idle ∷ []) (change s) n beside few refl refl d.follows in
     let t = run by_words (all_done (turns_tail counter)) n in
-    let rest = turns_run f slots counter low body change beside few turn count (change s) t (subst (λ st. low ≤ st) (sym (keeps_then d.keeps tail.keeps).st) enough) tail.follows in
-    subst (Done slots (counter + 1) (times (suc count) change s) m)
+    let rest = turns_run homes f slots counter low body change beside few turn count (change s) t (subst (λ st. low ≤ st) (sym (keeps_then d.keeps tail.keeps).st) enough) tail.follows in
+    subst (Done homes slots (counter + 1) (times (suc count) change s) m)
     (sym (run_append by_words one_turn (copies count one_turn) m ∙ ap (run by_words (copies count one_turn)) (run_append by_words (parts_trail f body) (all_done (turns_tail counter)) m)))
     (done_then (keeps_then d.keeps tail.keeps) rest)
 
 -- a loop
-pub turns_done : (f : ℕ → List Step) (slots counter low count : ℕ) (body : PlainParts) (change : State → State) (s : State) (m : Run) → slots ≤ counter → counter < 128
-    → ((s : State) (m : Run) → low ≤ m.st → Follows slots s m → Done slots (counter + 1) (change s) m (run by_words (parts_trail f body) m)) → low ≤ m.st → Follows slots s m
-    → Done slots (counter + 1) (times count change s) m (run by_words (parts_trail f (joined (one (straight (turns_begin counter count))) (one (repeats count body (turns_tail counter))))) m)
-turns_done f slots counter low count body change s m beside few turn enough x =
-    let begin = around_counter slots counter (set_long SPARE count ∷ []) [] s m beside few refl refl x in
+pub turns_done : (homes : ℕ) (f : ℕ → List Step) (slots counter low count : ℕ) (body : PlainParts) (change : State → State) (s : State) (m : Run) → slots ≤ counter → counter < 128
+    → ((s : State) (m : Run) → low ≤ m.st → Follows homes slots s m → Done homes slots (counter + 1) (change s) m (run by_words (parts_trail f body) m)) → low ≤ m.st → Follows homes slots s m
+    → Done homes slots (counter + 1) (times count change s) m (run by_words (parts_trail f (joined (one (straight (turns_begin counter count))) (one (repeats count body (turns_tail counter))))) m)
+turns_done homes f slots counter low count body change s m beside few turn enough x =
+    let begin = around_counter homes slots counter (set_long SPARE count ∷ []) [] s m beside few refl refl x in
     let n = run by_words (all_done (turns_begin counter count)) m in
-    let rest = turns_run f slots counter low body change beside few turn count s n (subst (λ st. low ≤ st) (sym begin.keeps.st) enough) begin.follows in
-    subst (Done slots (counter + 1) (times count change s) m)
+    let rest = turns_run homes f slots counter low body change beside few turn count s n (subst (λ st. low ≤ st) (sym begin.keeps.st) enough) begin.follows in
+    subst (Done homes slots (counter + 1) (times count change s) m)
     (sym (run_joined by_words f (one (straight (turns_begin counter count))) (one (repeats count body (turns_tail counter))) m
     ∙ ap (λ steps. run by_words steps n) (append-nil (copies count (parts_trail f body ++ all_done (turns_tail counter))))))
     (done_then begin.keeps rest)

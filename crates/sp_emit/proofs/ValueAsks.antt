@@ -15,7 +15,6 @@ use Rattle.patmos_sem.specs.declared.writes.Write.TheVariants as write
 use Rattle.c_world.specs.Shown.{room_in}
 use Rattle.c_world.specs.declared.region.Region.{Region}
 use Rattle.c_world.specs.declared.region.Region.TheVariants as region
-use Rattle.sp_tree.specs.Cost.{is_held}
 use Rattle.sp_tree.specs.Formed.{all_rooms, first_of, cell_formed, array_formed}
 use Rattle.sp_tree.specs.Need.{need}
 use Rattle.sp_tree.specs.Plain.{PlainSp, constant, frame_word, cell_word, array_word, before_one, between_two}
@@ -29,13 +28,16 @@ use Rattle.sp_shape.specs.Bundles.{parts_all}
 use Rattle.sp_shape.specs.Parts.{straight, PlainParts, one, joined}
 use Rattle.sp_shape.specs.Run.{Run, Sources, word_given, once, run, IsWhole}
 use Rattle.sp_shape.specs.Trail.{Step, all_done, parts_trail}
+use Rattle.sp_emit.proofs.Operands.{operand_is}
 use Rattle.sp_emit.specs.Accesses.{IsReadPlace, MayLoad, MayAsk, cached_address, Asks, AsksOnly}
-use Rattle.sp_emit.specs.Expressions.{address_of, cell_space, array_space, unary_code, binary_code, held_code, cell_code, element_code, number_of, expr_code}
+use Rattle.sp_emit.specs.Expressions.{address_of, cell_space, array_space, unary_code, binary_code, held_code, cell_code, element_code, number_of, expr_code, operand_code, value_at, is_immediate}
 use Rattle.sp_emit.specs.Fits.{ExprFits}
 use Rattle.sp_emit.specs.Holding.{held}
-use Rattle.sp_emit.specs.Instructions.{always, where_not, set_long, set_short, load_from, load_slot}
+use Rattle.sp_emit.specs.Instructions.{always, where_not, set_long, set_short, load_from}
+use Rattle.sp_emit.specs.Places.{read_word}
+use Rattle.sp_emit.proofs.WordPlaces.{read_is}
 use Rattle.sp_emit.specs.declared.registers.TheConstants.{TEST}
-use Rattle.sp_emit.proofs.Accessing.{asks_append, is_near, near_asks, near_parts}
+use Rattle.sp_emit.proofs.Accessing.{asks_append, asks_nothing, is_near, near_asks, near_parts}
 use Rattle.sp_emit.proofs.Cells.{element_address, few_words, first_small}
 use Rattle.sp_emit.proofs.Elements.{Reached, looked_up, reaches, looks_up}
 use Rattle.sp_emit.proofs.Formed.{binary_formed}
@@ -177,11 +179,11 @@ pub named_right : (Named : Use → Type 0) (xs ys : List Use) → AreNamed Named
 named_right Named [] ys all = all
 named_right Named (x ∷ xs) ys all = named_right Named xs ys all.1
 
-unary_near : (op : SpUnary) (rd : ℕ) → list_all is_near (unary_code op rd) ≡ true
-unary_near op rd = grind arith
+unary_near : (op : SpUnary) (rd ra : ℕ) → list_all is_near (unary_code op rd ra) ≡ true
+unary_near op rd ra = grind arith
 
-held_near : (op : SpBinary) (rd n : ℕ) → list_all is_near (held_code op rd n) ≡ true
-held_near op rd n = grind arith
+held_near : (op : SpBinary) (rd ra n : ℕ) → list_all is_near (held_code op rd ra n) ≡ true
+held_near op rd ra n = grind arith
 
 binary_near : (op : SpBinary) (rd ra rb : ℕ) → parts_all is_near (binary_code op rd ra rb) ≡ true
 binary_near op rd ra rb = grind arith
@@ -195,29 +197,32 @@ asks_lone {Named} f bs a = subst (AsksOnly Named) (sym (append-nil (all_done bs)
 operator_asks : (Named : Use → Type 0) (f : ℕ → List Step) (op : SpBinary) (rd ra rb : ℕ) → AsksOnly Named (parts_trail f (binary_code op rd ra rb))
 operator_asks Named f op rd ra rb = near_parts Named f 0 (λ k less. absurd (omega (arith, less))) (binary_code op rd ra rb) (binary_formed 0 op rd ra rb) (binary_near op rd ra rb)
 
-two_ask : (Named : Use → Type 0) (f : ℕ → List Step) (op : SpBinary) (a b : PlainSp) (rd : ℕ) (held less : Bool) → AsksOnly Named (parts_trail f (expr_code a rd)) → AsksOnly Named (parts_trail f (expr_code b rd))
-    → (less ≡ true → AsksOnly Named (parts_trail f (expr_code a (rd + 1)))) → (less ≡ false → AsksOnly Named (parts_trail f (expr_code b (rd + 1))))
-    → AsksOnly Named (parts_trail f (if held then joined (expr_code a rd) (one (straight (held_code op rd (number_of b))))
-    else if less then joined (expr_code b rd) (joined (expr_code a (rd + 1)) (binary_code op rd (rd + 1) rd))
-    else joined (expr_code a rd) (joined (expr_code b (rd + 1)) (binary_code op rd rd (rd + 1)))))
-two_ask Named f op a b rd true less x y x1 y1 =
-    asks_joined f (expr_code a rd) (one (straight (held_code op rd (number_of b)))) x (asks_lone f (held_code op rd (number_of b)) (near_asks Named (held_code op rd (number_of b)) (held_near op rd (number_of b))))
-two_ask Named f op a b rd false true x y x1 y1 =
-    asks_joined f (expr_code b rd) (joined (expr_code a (rd + 1)) (binary_code op rd (rd + 1) rd)) y (asks_joined f (expr_code a (rd + 1)) (binary_code op rd (rd + 1) rd) (x1 refl) (operator_asks Named f op rd (rd + 1) rd))
-two_ask Named f op a b rd false false x y x1 y1 =
-    asks_joined f (expr_code a rd) (joined (expr_code b (rd + 1)) (binary_code op rd rd (rd + 1))) x (asks_joined f (expr_code b (rd + 1)) (binary_code op rd rd (rd + 1)) (y1 refl) (operator_asks Named f op rd rd (rd + 1)))
+two_ask : (homes : ℕ) (Named : Use → Type 0) (f : ℕ → List Step) (op : SpBinary) (a b : PlainSp) (rd : ℕ) (held less : Bool) → AsksOnly Named (parts_trail f (operand_code homes a rd)) → AsksOnly Named (parts_trail f (operand_code homes b rd))
+    → (less ≡ true → AsksOnly Named (parts_trail f (operand_code homes a (rd + 1)))) → (less ≡ false → AsksOnly Named (parts_trail f (operand_code homes b (rd + 1))))
+    → AsksOnly Named (parts_trail f (if held then joined (operand_code homes a rd) (one (straight (held_code op rd (value_at homes a rd) (number_of b))))
+    else if less then joined (operand_code homes b rd) (joined (operand_code homes a (rd + 1)) (binary_code op rd (value_at homes a (rd + 1)) (value_at homes b rd)))
+    else joined (operand_code homes a rd) (joined (operand_code homes b (rd + 1)) (binary_code op rd (value_at homes a rd) (value_at homes b (rd + 1))))))
+two_ask homes Named f op a b rd true less x y x1 y1 =
+    asks_joined f (operand_code homes a rd) (one (straight (held_code op rd (value_at homes a rd) (number_of b)))) x (asks_lone f (held_code op rd (value_at homes a rd) (number_of b)) (near_asks Named (held_code op rd (value_at homes a rd) (number_of b)) (held_near op rd (value_at homes a rd) (number_of b))))
+two_ask homes Named f op a b rd false true x y x1 y1 =
+    asks_joined f (operand_code homes b rd) (joined (operand_code homes a (rd + 1)) (binary_code op rd (value_at homes a (rd + 1)) (value_at homes b rd))) y (asks_joined f (operand_code homes a (rd + 1)) (binary_code op rd (value_at homes a (rd + 1)) (value_at homes b rd)) (x1 refl) (operator_asks Named f op rd (value_at homes a (rd + 1)) (value_at homes b rd)))
+two_ask homes Named f op a b rd false false x y x1 y1 =
+    asks_joined f (operand_code homes a rd) (joined (operand_code homes b (rd + 1)) (binary_code op rd (value_at homes a rd) (value_at homes b (rd + 1)))) x (asks_joined f (operand_code homes b (rd + 1)) (binary_code op rd (value_at homes a rd) (value_at homes b (rd + 1))) (y1 refl) (operator_asks Named f op rd (value_at homes a rd) (value_at homes b (rd + 1))))
 
-pub expr_asks : (Named : Use → Type 0) (f : ℕ → List Step) (e : PlainSp) (rd : ℕ) → 1 ≤ rd → ExprFits e rd → AreNamed Named (expr_uses e) → AsksOnly Named (parts_trail f (expr_code e rd))
-expr_asks Named f (constant n) rd some fits named = asks_lone f (set_long rd n ∷ []) (near_asks Named (set_long rd n ∷ []) refl)
-expr_asks Named f (frame_word slot) rd some fits named = asks_lone f (load_slot rd slot ∷ []) (near_asks Named (load_slot rd slot ∷ []) refl)
-expr_asks Named f (cell_word cell) rd some fits named = asks_lone f (cell_code cell rd) (cell_asks Named cell rd some (omega (arith, fits.registers)) fits.names named.0)
-expr_asks Named f (array_word array index) rd some fits named =
-    asks_joined f (expr_code index rd) (one (straight (element_code array rd))) (expr_asks Named f index rd some (index_named array index fits) named.1)
+read_near : (homes rd slot : ℕ) → list_all is_near (read_word homes rd slot ∷ []) ≡ true
+read_near homes rd slot = read_is (λ b. list_all is_near (b ∷ []) ≡ true) homes rd slot refl refl
+
+pub expr_asks : (homes : ℕ) (Named : Use → Type 0) (f : ℕ → List Step) (e : PlainSp) (rd : ℕ) → 1 ≤ rd → ExprFits e rd → AreNamed Named (expr_uses e) → AsksOnly Named (parts_trail f (expr_code homes e rd))
+expr_asks homes Named f (constant n) rd some fits named = asks_lone f (set_long rd n ∷ []) (near_asks Named (set_long rd n ∷ []) refl)
+expr_asks homes Named f (frame_word slot) rd some fits named = asks_lone f (read_word homes rd slot ∷ []) (near_asks Named (read_word homes rd slot ∷ []) (read_near homes rd slot))
+expr_asks homes Named f (cell_word cell) rd some fits named = asks_lone f (cell_code cell rd) (cell_asks Named cell rd some (omega (arith, fits.registers)) fits.names named.0)
+expr_asks homes Named f (array_word array index) rd some fits named =
+    asks_joined f (expr_code homes index rd) (one (straight (element_code array rd))) (expr_asks homes Named f index rd some (index_named array index fits) named.1)
     (asks_lone f (element_code array rd) (element_asks Named array rd some (omega (arith, fits.registers, some_need (array_word array index))) (array_named array index fits) named.0))
-expr_asks Named f (before_one op of) rd some fits named =
-    asks_joined f (expr_code of rd) (one (straight (unary_code op rd))) (expr_asks Named f of rd some (operand_fits op of fits) named) (asks_lone f (unary_code op rd) (near_asks Named (unary_code op rd) (unary_near op rd)))
-expr_asks Named f (between_two op a b) rd some fits named =
+expr_asks homes Named f (before_one op of) rd some fits named =
+    asks_joined f (operand_code homes of rd) (one (straight (unary_code op rd (value_at homes of rd)))) (operand_is (λ ps. AsksOnly Named (parts_trail f ps)) homes of rd (asks_nothing Named) (expr_asks homes Named f of rd some (operand_fits op of fits) named)) (asks_lone f (unary_code op rd (value_at homes of rd)) (near_asks Named (unary_code op rd (value_at homes of rd)) (unary_near op rd (value_at homes of rd))))
+expr_asks homes Named f (between_two op a b) rd some fits named =
     let left = named_left Named (expr_uses a) (expr_uses b) named in
     let right = named_right Named (expr_uses a) (expr_uses b) named in
-    two_ask Named f op a b rd (is_held op b) (nat_lt (need a) (need b)) (expr_asks Named f a rd some (first_fits op a b fits) left) (expr_asks Named f b rd some (second_fits op a b fits) right)
-    (λ less. expr_asks Named f a (rd + 1) (omega arith) (first_fits_behind op a b fits less) left) (λ more. expr_asks Named f b (rd + 1) (omega arith) (second_fits_behind op a b fits more) right)
+    two_ask homes Named f op a b rd (is_immediate op b) (nat_lt (need a) (need b)) (operand_is (λ ps. AsksOnly Named (parts_trail f ps)) homes a rd (asks_nothing Named) (expr_asks homes Named f a rd some (first_fits op a b fits) left)) (operand_is (λ ps. AsksOnly Named (parts_trail f ps)) homes b rd (asks_nothing Named) (expr_asks homes Named f b rd some (second_fits op a b fits) right))
+    (λ less. operand_is (λ ps. AsksOnly Named (parts_trail f ps)) homes a (rd + 1) (asks_nothing Named) (expr_asks homes Named f a (rd + 1) (omega arith) (first_fits_behind op a b fits less) left)) (λ more. operand_is (λ ps. AsksOnly Named (parts_trail f ps)) homes b (rd + 1) (asks_nothing Named) (expr_asks homes Named f b (rd + 1) (omega arith) (second_fits_behind op a b fits more) right))

@@ -7,7 +7,6 @@ use Rattle.patmos_instr.specs.Bundles.{Slots}
 use Rattle.patmos_instr.specs.declared.functions.StackFunc.TheVariants.{Sens}
 use Rattle.patmos_sem.specs.declared.effects.Effect.TheVariants as effect
 use Rattle.c_world.specs.declared.region.Region.{Region}
-use Rattle.sp_tree.specs.Cost.{is_held}
 use Rattle.sp_tree.specs.Formed.{names_words, array_formed, send_formed, target_formed, expr_formed, callee_formed, args_formed, result_formed, stmt_formed, stmts_formed, stmt_levels, stmts_levels}
 use Rattle.sp_tree.specs.Need.{need}
 use Rattle.sp_tree.specs.Plain.{PlainSp, constant, frame_word, cell_word, array_word, before_one, between_two}
@@ -20,11 +19,15 @@ use Rattle.sp_shape.specs.Formed.{is_turn, part_formed, parts_formed}
 use Rattle.sp_shape.specs.Parts.{PlainPart, straight, repeats, calls_to, leaves, PlainParts, no_part, part, one, joined}
 use Rattle.sp_shape.specs.Run.{Run, IsWhole, Sources, once, run, begun}
 use Rattle.sp_shape.specs.Trail.{Step, all_done, copies, part_trail, parts_trail}
+use Rattle.patmos_instr.specs.declared.guards.Guard.{Guard}
+use Rattle.sp_emit.proofs.Operands.{operand_is}
+use Rattle.sp_emit.specs.Places.{read_word, set_word, fetch_word}
+use Rattle.sp_emit.proofs.WordPlaces.{read_is, set_op_is, fetch_is}
 use Rattle.sp_emit.specs.Chains.{stmt_chain, stmts_chain}
-use Rattle.sp_emit.specs.Expressions.{unary_code, binary_code, held_code, cell_code, element_code, number_of, expr_code}
-use Rattle.sp_emit.specs.Instructions.{always, stack_op, store_slot}
+use Rattle.sp_emit.specs.Expressions.{unary_code, binary_code, held_code, cell_code, element_code, number_of, expr_code, operand_code, value_at, is_immediate}
+use Rattle.sp_emit.specs.Instructions.{always, where_so, under, stack_op}
 use Rattle.sp_emit.specs.Statements.{slot_write, cell_write, element_write, target_write, args_code, mask_handed, call_tail, result_write, call_code, send_code, overrun_code, slot_set, turns_begin, turns_tail, stmt_code, stmts_code}
-use Rattle.sp_emit.specs.declared.registers.TheConstants.{FIRST}
+use Rattle.sp_emit.specs.declared.registers.TheConstants.{RESULT, MASK, FIRST, TEST}
 use Rattle.sp_emit.proofs.Arguments.{did_stack}
 use Rattle.sp_emit.proofs.Calling.{call_run}
 use Rattle.sp_emit.proofs.Formed as formed
@@ -40,14 +43,14 @@ Inside frame parts = parts_all (is_inside frame) parts ≡ true
 abbrev AreInside : ℕ → List Slots → Type 0
 AreInside frame bs = list_all (is_inside frame) bs ≡ true
 
-unary_inside : (frame : ℕ) (op : SpUnary) (rd : ℕ) → AreInside frame (unary_code op rd)
-unary_inside frame op rd = grind arith
+unary_inside : (frame : ℕ) (op : SpUnary) (rd ra : ℕ) → AreInside frame (unary_code op rd ra)
+unary_inside frame op rd ra = grind arith
 
 binary_inside : (frame : ℕ) (op : SpBinary) (rd ra rb : ℕ) → Inside frame (binary_code op rd ra rb)
 binary_inside frame op rd ra rb = grind arith
 
-held_inside : (frame : ℕ) (op : SpBinary) (rd n : ℕ) → AreInside frame (held_code op rd n)
-held_inside frame op rd n = grind arith
+held_inside : (frame : ℕ) (op : SpBinary) (rd ra n : ℕ) → AreInside frame (held_code op rd ra n)
+held_inside frame op rd ra n = grind arith
 
 cell_inside : (frame : ℕ) (r : Region) (word rd : ℕ) → AreInside frame (cell_code (record { region = r; word = word }) rd)
 cell_inside frame r word rd = grind arith
@@ -55,34 +58,43 @@ cell_inside frame r word rd = grind arith
 element_inside : (frame : ℕ) (r : Region) (first length rd : ℕ) → AreInside frame (element_code (record { region = r; first = first; length = length }) rd)
 element_inside frame r first length rd = grind arith
 
-two_inside : (frame : ℕ) (op : SpBinary) (a b : PlainSp) (rd : ℕ) (held less : Bool) → Inside frame (expr_code a rd) → Inside frame (expr_code b rd) → Inside frame (expr_code a (rd + 1)) → Inside frame (expr_code b (rd + 1))
-    → Inside frame (if held then joined (expr_code a rd) (one (straight (held_code op rd (number_of b))))
-    else if less then joined (expr_code b rd) (joined (expr_code a (rd + 1)) (binary_code op rd (rd + 1) rd))
-    else joined (expr_code a rd) (joined (expr_code b (rd + 1)) (binary_code op rd rd (rd + 1))))
-two_inside frame op a b rd true less x y x1 y1 = each_joined (is_inside frame) (expr_code a rd) _ x (each_lone (is_inside frame) (held_code op rd (number_of b)) (held_inside frame op rd (number_of b)))
-two_inside frame op a b rd false true x y x1 y1 =
-    each_joined (is_inside frame) (expr_code b rd) _ y (each_joined (is_inside frame) (expr_code a (rd + 1)) _ x1 (binary_inside frame op rd (rd + 1) rd))
-two_inside frame op a b rd false false x y x1 y1 =
-    each_joined (is_inside frame) (expr_code a rd) _ x (each_joined (is_inside frame) (expr_code b (rd + 1)) _ y1 (binary_inside frame op rd rd (rd + 1)))
+pub read_inside : (frame homes rd slot : ℕ) → slot < frame → is_inside frame (read_word homes rd slot) ≡ true
+read_inside frame homes rd slot lt = read_is (λ b. is_inside frame b ≡ true) homes rd slot refl (rw (lt-ltb slot frame lt) refl)
 
-expr_inside : (frame slots : ℕ) (e : PlainSp) (rd : ℕ) → slots ≤ frame → names_words slots e ≡ true → Inside frame (expr_code e rd)
-expr_inside frame slots (constant n) rd le named = refl
-expr_inside frame slots (frame_word slot) rd le named = rw (lt-ltb slot frame (omega (arith, le, ltb-true slot slots named))) refl
-expr_inside frame slots (cell_word cell) rd le named = each_lone (is_inside frame) (cell_code cell rd) (cell_inside frame cell.region cell.word rd)
-expr_inside frame slots (array_word array index) rd le named =
-    each_joined (is_inside frame) (expr_code index rd) (one (straight (element_code array rd))) (expr_inside frame slots index rd le (and_parts (array_formed array) (names_words slots index) named).1)
+fetch_inside : (frame homes slot : ℕ) → slot < frame → is_inside frame (fetch_word homes slot) ≡ true
+fetch_inside frame homes slot lt = fetch_is (λ b. is_inside frame b ≡ true) homes slot refl (rw (lt-ltb slot frame lt) refl)
+
+pub set_inside : (frame homes : ℕ) (g : Guard) (slot rs : ℕ) → slot < frame → is_inside frame (set_word homes g slot rs) ≡ true
+set_inside frame homes g slot rs lt = set_op_is (λ op. is_inside frame (under g op) ≡ true) homes slot rs refl (rw (lt-ltb slot frame lt) refl)
+
+two_inside : (homes : ℕ) (frame : ℕ) (op : SpBinary) (a b : PlainSp) (rd : ℕ) (held less : Bool) → Inside frame (operand_code homes a rd) → Inside frame (operand_code homes b rd) → Inside frame (operand_code homes a (rd + 1)) → Inside frame (operand_code homes b (rd + 1))
+    → Inside frame (if held then joined (operand_code homes a rd) (one (straight (held_code op rd (value_at homes a rd) (number_of b))))
+    else if less then joined (operand_code homes b rd) (joined (operand_code homes a (rd + 1)) (binary_code op rd (value_at homes a (rd + 1)) (value_at homes b rd)))
+    else joined (operand_code homes a rd) (joined (operand_code homes b (rd + 1)) (binary_code op rd (value_at homes a rd) (value_at homes b (rd + 1)))))
+two_inside homes frame op a b rd true less x y x1 y1 = each_joined (is_inside frame) (operand_code homes a rd) _ x (each_lone (is_inside frame) (held_code op rd (value_at homes a rd) (number_of b)) (held_inside frame op rd (value_at homes a rd) (number_of b)))
+two_inside homes frame op a b rd false true x y x1 y1 =
+    each_joined (is_inside frame) (operand_code homes b rd) _ y (each_joined (is_inside frame) (operand_code homes a (rd + 1)) _ x1 (binary_inside frame op rd (value_at homes a (rd + 1)) (value_at homes b rd)))
+two_inside homes frame op a b rd false false x y x1 y1 =
+    each_joined (is_inside frame) (operand_code homes a rd) _ x (each_joined (is_inside frame) (operand_code homes b (rd + 1)) _ y1 (binary_inside frame op rd (value_at homes a rd) (value_at homes b (rd + 1))))
+
+expr_inside : (homes : ℕ) (frame slots : ℕ) (e : PlainSp) (rd : ℕ) → slots ≤ frame → names_words slots e ≡ true → Inside frame (expr_code homes e rd)
+expr_inside homes frame slots (constant n) rd le named = refl
+expr_inside homes frame slots (frame_word slot) rd le named = rw (read_inside frame homes rd slot (omega (arith, le, ltb-true slot slots named))) refl
+expr_inside homes frame slots (cell_word cell) rd le named = each_lone (is_inside frame) (cell_code cell rd) (cell_inside frame cell.region cell.word rd)
+expr_inside homes frame slots (array_word array index) rd le named =
+    each_joined (is_inside frame) (expr_code homes index rd) (one (straight (element_code array rd))) (expr_inside homes frame slots index rd le (and_parts (array_formed array) (names_words slots index) named).1)
     (each_lone (is_inside frame) (element_code array rd) (element_inside frame array.region array.first array.length rd))
-expr_inside frame slots (before_one op of) rd le named =
-    each_joined (is_inside frame) (expr_code of rd) (one (straight (unary_code op rd))) (expr_inside frame slots of rd le named) (each_lone (is_inside frame) (unary_code op rd) (unary_inside frame op rd))
-expr_inside frame slots (between_two op a b) rd le named =
+expr_inside homes frame slots (before_one op of) rd le named =
+    each_joined (is_inside frame) (operand_code homes of rd) (one (straight (unary_code op rd (value_at homes of rd)))) (operand_is (Inside frame) homes of rd refl (expr_inside homes frame slots of rd le named)) (each_lone (is_inside frame) (unary_code op rd (value_at homes of rd)) (unary_inside frame op rd (value_at homes of rd)))
+expr_inside homes frame slots (between_two op a b) rd le named =
     let parts = and_parts (names_words slots a) (names_words slots b) named in
-    two_inside frame op a b rd (is_held op b) (nat_lt (need a) (need b)) (expr_inside frame slots a rd le parts.0) (expr_inside frame slots b rd le parts.1) (expr_inside frame slots a (rd + 1) le parts.0) (expr_inside frame slots b (rd + 1) le parts.1)
+    two_inside homes frame op a b rd (is_immediate op b) (nat_lt (need a) (need b)) (operand_is (Inside frame) homes a rd refl (expr_inside homes frame slots a rd le parts.0)) (operand_is (Inside frame) homes b rd refl (expr_inside homes frame slots b rd le parts.1)) (operand_is (Inside frame) homes a (rd + 1) refl (expr_inside homes frame slots a (rd + 1) le parts.0)) (operand_is (Inside frame) homes b (rd + 1) refl (expr_inside homes frame slots b (rd + 1) le parts.1))
 
-args_inside : (frame slots : ℕ) (args : List PlainSp) (rd : ℕ) → slots ≤ frame → args_formed slots args ≡ true → Inside frame (args_code args rd)
-args_inside frame slots [] rd le named = refl
-args_inside frame slots (e ∷ args) rd le named =
+args_inside : (homes : ℕ) (frame slots : ℕ) (args : List PlainSp) (rd : ℕ) → slots ≤ frame → args_formed slots args ≡ true → Inside frame (args_code homes args rd)
+args_inside homes frame slots [] rd le named = refl
+args_inside homes frame slots (e ∷ args) rd le named =
     let parts = and_parts (expr_formed slots e) (args_formed slots args) named in
-    each_joined (is_inside frame) (expr_code e rd) (args_code args (rd + 1)) (expr_inside frame slots e rd le (and_parts (names_words slots e) (nat_le (need e) 12) parts.0).0) (args_inside frame slots args (rd + 1) le parts.1)
+    each_joined (is_inside frame) (expr_code homes e rd) (args_code homes args (rd + 1)) (expr_inside homes frame slots e rd le (and_parts (names_words slots e) (nat_le (need e) 12) parts.0).0) (args_inside homes frame slots args (rd + 1) le parts.1)
 
 -- ---- parts without calls stay within the frame
 
@@ -116,8 +128,8 @@ mutual
       let c = and_parts (part_all (is_inside frame) p) (parts_all (is_inside frame) rest) inside in
       stay_both from frame (part_trail f p) (parts_trail f rest) (stay_part from f frame p a.0 c.0) (stay_parts from f frame rest a.1 c.1) m framed
 
-value_stays : (from : Sources) (f : ℕ → List Step) (frame slots : ℕ) (e : PlainSp) (rd : ℕ) → slots ≤ frame → expr_formed slots e ≡ true → StaysIn from frame (parts_trail f (expr_code e rd))
-value_stays from f frame slots e rd le is = stay_parts from f frame (expr_code e rd) (formed.expr_formed 0 e rd) (expr_inside frame slots e rd le (and_parts (names_words slots e) (nat_le (need e) 12) is).0)
+value_stays : (homes : ℕ) (from : Sources) (f : ℕ → List Step) (frame slots : ℕ) (e : PlainSp) (rd : ℕ) → slots ≤ frame → expr_formed slots e ≡ true → StaysIn from frame (parts_trail f (expr_code homes e rd))
+value_stays homes from f frame slots e rd le is = stay_parts from f frame (expr_code homes e rd) (formed.expr_formed homes 0 e rd) (expr_inside homes frame slots e rd le (and_parts (names_words slots e) (nat_le (need e) 12) is).0)
 
 stay_joined : (from : Sources) (f : ℕ → List Step) (frame : ℕ) (xs ys : PlainParts) → StaysIn from frame (parts_trail f xs) → StaysIn from frame (parts_trail f ys) → StaysIn from frame (parts_trail f (joined xs ys))
 stay_joined from f frame xs ys a b m framed =
@@ -129,20 +141,20 @@ bundles_stay from f frame bs inside m framed = subst (Stays frame m) (sym (run_l
 
 -- ---- places
 
-cell_write_inside : (frame mask : ℕ) (r : Region) (word : ℕ) → nat_lt mask frame ≡ true → AreInside frame (cell_write mask (record { region = r; word = word }))
-cell_write_inside frame mask r word masked = grind (arith, masked)
+cell_write_inside : (homes : ℕ) (frame mask : ℕ) (r : Region) (word : ℕ) → nat_lt mask frame ≡ true → AreInside frame (cell_write homes mask (record { region = r; word = word }))
+cell_write_inside homes frame mask r word masked = let read = fetch_inside frame homes mask (ltb-true mask frame masked) in grind (arith, read)
 
-element_write_inside : (frame mask : ℕ) (r : Region) (first length : ℕ) → nat_lt mask frame ≡ true → AreInside frame (element_write mask (record { region = r; first = first; length = length }))
-element_write_inside frame mask r first length masked = grind (arith, masked)
+element_write_inside : (homes : ℕ) (frame mask : ℕ) (r : Region) (first length : ℕ) → nat_lt mask frame ≡ true → AreInside frame (element_write homes mask (record { region = r; first = first; length = length }))
+element_write_inside homes frame mask r first length masked = let read = fetch_inside frame homes mask (ltb-true mask frame masked) in grind (arith, read)
 
-target_stays : (from : Sources) (f : ℕ → List Step) (frame slots mask : ℕ) (target : PlainSpTarget) → slots ≤ frame → mask < slots → target_formed slots target ≡ true → StaysIn from frame (parts_trail f (target_write mask target))
-target_stays from f frame slots mask (to_slot slot) le masked is =
-    bundles_stay from f frame (slot_write mask slot) (rw (lt-ltb mask frame (omega (arith, le, masked)), lt-ltb slot frame (omega (arith, le, ltb-true slot slots is))) refl)
-target_stays from f frame slots mask (to_cell cell) le masked is =
-    bundles_stay from f frame (cell_write mask cell) (cell_write_inside frame mask cell.region cell.word (lt-ltb mask frame (omega (arith, le, masked))))
-target_stays from f frame slots mask (to_array array index) le masked is =
-    stay_joined from f frame (expr_code index (FIRST + 1)) (one (straight (element_write mask array))) (value_stays from f frame slots index (FIRST + 1) le (and_parts (array_formed array) (expr_formed slots index) is).1)
-    (bundles_stay from f frame (element_write mask array) (element_write_inside frame mask array.region array.first array.length (lt-ltb mask frame (omega (arith, le, masked)))))
+target_stays : (homes : ℕ) (from : Sources) (f : ℕ → List Step) (frame slots mask : ℕ) (target : PlainSpTarget) → slots ≤ frame → mask < slots → target_formed slots target ≡ true → StaysIn from frame (parts_trail f (target_write homes mask target))
+target_stays homes from f frame slots mask (to_slot slot) le masked is =
+    bundles_stay from f frame (slot_write homes mask slot) (rw (fetch_inside frame homes mask (omega (arith, le, masked)), set_inside frame homes (where_so TEST) slot FIRST (omega (arith, le, ltb-true slot slots is))) refl)
+target_stays homes from f frame slots mask (to_cell cell) le masked is =
+    bundles_stay from f frame (cell_write homes mask cell) (cell_write_inside homes frame mask cell.region cell.word (lt-ltb mask frame (omega (arith, le, masked))))
+target_stays homes from f frame slots mask (to_array array index) le masked is =
+    stay_joined from f frame (expr_code homes index (FIRST + 1)) (one (straight (element_write homes mask array))) (value_stays homes from f frame slots index (FIRST + 1) le (and_parts (array_formed array) (expr_formed slots index) is).1)
+    (bundles_stay from f frame (element_write homes mask array) (element_write_inside homes frame mask array.region array.first array.length (lt-ltb mask frame (omega (arith, le, masked)))))
 
 -- ---- calls
 
@@ -165,12 +177,12 @@ framed_again from frame m t framed b = subst (Stays frame m) (sym (did_stack fro
   st = b.st;
 })
 
-call_stays : (from : Sources) (f : ℕ → List Step) (number frame slots mask k : ℕ) (g : ℕ → ℕ) (result : Option ℕ) → CalleesStay from f number g → k < number → slots ≤ frame → mask < slots → result_formed slots result ≡ true
-    → (m : Run) → Framed frame m → 49152 + g k ≤ m.st → Stays frame m (run from (parts_trail f (call_code frame mask k result)) m)
-call_stays from f number frame slots mask k g result callees earlier le masked is m framed enough =
-    let in_frame = lt-ltb mask frame (omega (arith, le, masked)) in
-    let handed = inside_done from frame (mask_handed mask) m framed (rw in_frame refl) in
-    let n = run from (all_done (mask_handed mask)) m in
+call_stays : (homes : ℕ) (from : Sources) (f : ℕ → List Step) (number frame slots mask k : ℕ) (g : ℕ → ℕ) (result : Option ℕ) → CalleesStay from f number g → k < number → slots ≤ frame → mask < slots → result_formed slots result ≡ true
+    → (m : Run) → Framed frame m → 49152 + g k ≤ m.st → Stays frame m (run from (parts_trail f (call_code homes frame mask k result)) m)
+call_stays homes from f number frame slots mask k g result callees earlier le masked is m framed enough =
+    let in_frame = read_inside frame homes MASK mask (omega (arith, le, masked)) in
+    let handed = inside_done from frame (mask_handed homes mask) m framed (rw in_frame refl) in
+    let n = run from (all_done (mask_handed homes mask)) m in
     let tail = inside_done from frame call_tail n handed.framed refl in
     let c = run from (all_done call_tail) n in
     let before = stays_then handed tail in
@@ -183,11 +195,11 @@ call_stays from f number frame slots mask k g result callees earlier le masked i
     let t = run from (f k) (begun c) in
     let again = stays_then begins (framed_again from frame (begun c) t begins.framed back) in
     let u = once from (stack_op Sens frame) t in
-    subst (Stays frame m) (sym (call_run from f frame mask k result m)) (stays_then again (inside_done from frame (result_write mask result) u again.framed (written result is)))
+    subst (Stays frame m) (sym (call_run homes from f frame mask k result m)) (stays_then again (inside_done from frame (result_write homes mask result) u again.framed (written result is)))
   where
-    written : (r : Option ℕ) → result_formed slots r ≡ true → AreInside frame (result_write mask r)
+    written : (r : Option ℕ) → result_formed slots r ≡ true → AreInside frame (result_write homes mask r)
     written None is = refl
-    written (Some slot) is = rw (lt-ltb mask frame (omega (arith, le, masked)), lt-ltb slot frame (omega (arith, le, ltb-true slot slots is))) refl
+    written (Some slot) is = rw (fetch_inside frame homes mask (omega (arith, le, masked)), set_inside frame homes (where_so TEST) slot RESULT (omega (arith, le, ltb-true slot slots is))) refl
 
 -- ---- statements
 
@@ -199,59 +211,59 @@ loop_stays from frame (suc count) turn low one m framed enough =
     subst (Stays frame m) (sym (run_append from turn (copies count turn) m)) (stays_then first (loop_stays from frame count turn low one (run from turn m) first.framed (omega (arith, first.st, enough))))
 
 mutual
-  stmt_stays : (from : Sources) (f : ℕ → List Step) (g : ℕ → ℕ) (fs : List PlainFunction) (number slots frame counter : ℕ) → CalleesStay from f number g → 1 ≤ slots → counter + 3 ≤ frame
-      → (t : PlainStmt) → slots + stmt_levels t ≤ counter + 1 → stmt_formed fs number slots t ≡ true → (m : Run) → Framed frame m → 49152 + stmt_chain g t ≤ m.st → Stays frame m (run from (parts_trail f (stmt_code frame counter t)) m)
-  stmt_stays from f g fs number slots frame counter callees some within (masks slot e) levels is m framed enough =
+  stmt_stays : (homes : ℕ) (from : Sources) (f : ℕ → List Step) (g : ℕ → ℕ) (fs : List PlainFunction) (number slots frame counter : ℕ) → CalleesStay from f number g → 1 ≤ slots → counter + 3 ≤ frame
+      → (t : PlainStmt) → slots + stmt_levels t ≤ counter + 1 → stmt_formed fs number slots t ≡ true → (m : Run) → Framed frame m → 49152 + stmt_chain g t ≤ m.st → Stays frame m (run from (parts_trail f (stmt_code homes frame counter t)) m)
+  stmt_stays homes from f g fs number slots frame counter callees some within (masks slot e) levels is m framed enough =
       let parts = and_parts (nat_lt slot slots) (expr_formed slots e) is in
-      stay_joined from f frame (expr_code e FIRST) (slot_set slot) (value_stays from f frame slots e FIRST (omega (arith, levels, within)) parts.1)
-      (bundles_stay from f frame (store_slot always slot FIRST ∷ []) (rw (lt-ltb slot frame (omega (arith, levels, within, ltb-true slot slots parts.0))) refl)) m framed
-  stmt_stays from f g fs number slots frame counter callees some within (writes mask target e) levels is m framed enough =
+      stay_joined from f frame (expr_code homes e FIRST) (slot_set homes slot) (value_stays homes from f frame slots e FIRST (omega (arith, levels, within)) parts.1)
+      (bundles_stay from f frame (set_word homes always slot FIRST ∷ []) (rw (set_inside frame homes always slot FIRST (omega (arith, levels, within, ltb-true slot slots parts.0))) refl)) m framed
+  stmt_stays homes from f g fs number slots frame counter callees some within (writes mask target e) levels is m framed enough =
       let parts = and_parts (nat_lt mask slots) (target_formed slots target && expr_formed slots e) is in
       let targets = and_parts (target_formed slots target) (expr_formed slots e) parts.1 in
-      stay_joined from f frame (expr_code e FIRST) (target_write mask target) (value_stays from f frame slots e FIRST (omega (arith, levels, within)) targets.1)
-      (target_stays from f frame slots mask target (omega (arith, levels, within)) (ltb-true mask slots parts.0) targets.0) m framed
-  stmt_stays from f g fs number slots frame counter callees some within (calls mask k args result) levels is m framed enough =
+      stay_joined from f frame (expr_code homes e FIRST) (target_write homes mask target) (value_stays homes from f frame slots e FIRST (omega (arith, levels, within)) targets.1)
+      (target_stays homes from f frame slots mask target (omega (arith, levels, within)) (ltb-true mask slots parts.0) targets.0) m framed
+  stmt_stays homes from f g fs number slots frame counter callees some within (calls mask k args result) levels is m framed enough =
       let a = and_parts (nat_lt mask slots) (callee_formed fs number k (length args) && (args_formed slots args && result_formed slots result)) is in
       let b = and_parts (callee_formed fs number k (length args)) (args_formed slots args && result_formed slots result) a.1 in
       let callee = and_parts (nat_lt k number) (length args == (slice_index_or fs k no_function).parameters) b.0 in
       let c = and_parts (args_formed slots args) (result_formed slots result) b.1 in
-      let first = stay_parts from f frame (args_code args FIRST) (formed.args_formed 0 args FIRST) (args_inside frame slots args FIRST (omega (arith, levels, within)) c.0) m framed in
-      let n = run from (parts_trail f (args_code args FIRST)) m in
-      subst (Stays frame m) (sym (run_joined from f (args_code args FIRST) (call_code frame mask k result) m))
-      (stays_then first (call_stays from f number frame slots mask k g result callees (ltb-true k number callee.0) (omega (arith, levels, within)) (ltb-true mask slots a.0) c.1 n first.framed (omega (arith, first.st, enough))))
-  stmt_stays from f g fs number slots frame counter callees some within (transfers mask core source target count) levels is m framed enough =
+      let first = stay_parts from f frame (args_code homes args FIRST) (formed.args_formed homes 0 args FIRST) (args_inside homes frame slots args FIRST (omega (arith, levels, within)) c.0) m framed in
+      let n = run from (parts_trail f (args_code homes args FIRST)) m in
+      subst (Stays frame m) (sym (run_joined from f (args_code homes args FIRST) (call_code homes frame mask k result) m))
+      (stays_then first (call_stays homes from f number frame slots mask k g result callees (ltb-true k number callee.0) (omega (arith, levels, within)) (ltb-true mask slots a.0) c.1 n first.framed (omega (arith, first.st, enough))))
+  stmt_stays homes from f g fs number slots frame counter callees some within (transfers mask core source target count) levels is m framed enough =
       let parts = and_parts (nat_lt mask slots) (send_formed slots core source target count) is in
       let send = and_parts (nat_lt core 16) (expr_formed slots source && (expr_formed slots target && expr_formed slots count)) parts.1 in
       let first = and_parts (expr_formed slots source) (expr_formed slots target && expr_formed slots count) send.1 in
       let rest = and_parts (expr_formed slots target) (expr_formed slots count) first.1 in
       let le : slots ≤ frame = omega (arith, levels, within) in
-      let sent = one (straight (send_code mask core)) in
-      stay_joined from f frame (expr_code source FIRST) (joined (expr_code target (FIRST + 1)) (joined (expr_code count (FIRST + 2)) sent)) (value_stays from f frame slots source FIRST le first.0)
-      (stay_joined from f frame (expr_code target (FIRST + 1)) (joined (expr_code count (FIRST + 2)) sent) (value_stays from f frame slots target (FIRST + 1) le rest.0)
-      (stay_joined from f frame (expr_code count (FIRST + 2)) sent (value_stays from f frame slots count (FIRST + 2) le rest.1)
-      (bundles_stay from f frame (send_code mask core) (rw (lt-ltb mask frame (omega (arith, le, ltb-true mask slots parts.0))) refl)))) m framed
-  stmt_stays from f g fs number slots frame counter callees some within (overruns mask e) levels is m framed enough =
+      let sent = one (straight (send_code homes mask core)) in
+      stay_joined from f frame (expr_code homes source FIRST) (joined (expr_code homes target (FIRST + 1)) (joined (expr_code homes count (FIRST + 2)) sent)) (value_stays homes from f frame slots source FIRST le first.0)
+      (stay_joined from f frame (expr_code homes target (FIRST + 1)) (joined (expr_code homes count (FIRST + 2)) sent) (value_stays homes from f frame slots target (FIRST + 1) le rest.0)
+      (stay_joined from f frame (expr_code homes count (FIRST + 2)) sent (value_stays homes from f frame slots count (FIRST + 2) le rest.1)
+      (bundles_stay from f frame (send_code homes mask core) (rw (fetch_inside frame homes mask (omega (arith, le, ltb-true mask slots parts.0))) refl)))) m framed
+  stmt_stays homes from f g fs number slots frame counter callees some within (overruns mask e) levels is m framed enough =
       let parts = and_parts (nat_lt mask slots) (expr_formed slots e) is in
-      stay_joined from f frame (expr_code e FIRST) (one (straight (overrun_code mask))) (value_stays from f frame slots e FIRST (omega (arith, levels, within)) parts.1)
-      (bundles_stay from f frame (overrun_code mask) (rw (lt-ltb mask frame (omega (arith, levels, within, ltb-true mask slots parts.0))) refl)) m framed
-  stmt_stays from f g fs number slots frame counter callees some within (turns count body) levels is m framed enough =
+      stay_joined from f frame (expr_code homes e FIRST) (one (straight (overrun_code homes mask))) (value_stays homes from f frame slots e FIRST (omega (arith, levels, within)) parts.1)
+      (bundles_stay from f frame (overrun_code homes mask) (rw (fetch_inside frame homes mask (omega (arith, levels, within, ltb-true mask slots parts.0))) refl)) m framed
+  stmt_stays homes from f g fs number slots frame counter callees some within (turns count body) levels is m framed enough =
       let parts = and_parts (nat_lt 0 count) (stmts_formed fs number slots body) is in
-      let code = stmts_code frame (counter - 1) body in
+      let code = stmts_code homes frame (counter - 1) body in
       let counted = lt-ltb counter frame (omega (arith, within)) in
       let begin = inside_done from frame (turns_begin counter count) m framed (rw counted refl) in
       let n = run from (all_done (turns_begin counter count)) m in
       let turn = parts_trail f code ++ all_done (turns_tail counter) in
       let rest = loop_stays from frame count turn (49152 + stmts_chain g body) (λ t framed enough.
-      let b = stmts_stay from f g fs number slots frame (counter - 1) callees some (omega (arith, within)) body (omega (arith, levels, some)) parts.1 t framed enough in
+      let b = stmts_stay homes from f g fs number slots frame (counter - 1) callees some (omega (arith, within)) body (omega (arith, levels, some)) parts.1 t framed enough in
       subst (Stays frame t) (sym (run_append from (parts_trail f code) (all_done (turns_tail counter)) t)) (stays_then b (inside_done from frame (turns_tail counter) (run from (parts_trail f code) t) b.framed (rw counted refl)))) n begin.framed (omega (arith, begin.st, enough)) in
       subst (Stays frame m) (sym (run_append from (copies count turn) [] n)) (stays_then begin rest)
 
-  pub stmts_stay : (from : Sources) (f : ℕ → List Step) (g : ℕ → ℕ) (fs : List PlainFunction) (number slots frame counter : ℕ) → CalleesStay from f number g → 1 ≤ slots → counter + 3 ≤ frame
-      → (ts : PlainStmts) → slots + stmts_levels ts ≤ counter + 1 → stmts_formed fs number slots ts ≡ true → (m : Run) → Framed frame m → 49152 + stmts_chain g ts ≤ m.st → Stays frame m (run from (parts_trail f (stmts_code frame counter ts)) m)
-  stmts_stay from f g fs number slots frame counter callees some within no_stmt levels is m framed enough = stays_all frame m framed
-  stmts_stay from f g fs number slots frame counter callees some within (stmt t rest) levels is m framed enough =
+  pub stmts_stay : (homes : ℕ) (from : Sources) (f : ℕ → List Step) (g : ℕ → ℕ) (fs : List PlainFunction) (number slots frame counter : ℕ) → CalleesStay from f number g → 1 ≤ slots → counter + 3 ≤ frame
+      → (ts : PlainStmts) → slots + stmts_levels ts ≤ counter + 1 → stmts_formed fs number slots ts ≡ true → (m : Run) → Framed frame m → 49152 + stmts_chain g ts ≤ m.st → Stays frame m (run from (parts_trail f (stmts_code homes frame counter ts)) m)
+  stmts_stay homes from f g fs number slots frame counter callees some within no_stmt levels is m framed enough = stays_all frame m framed
+  stmts_stay homes from f g fs number slots frame counter callees some within (stmt t rest) levels is m framed enough =
       let parts = and_parts (stmt_formed fs number slots t) (stmts_formed fs number slots rest) is in
-      let first = stmt_stays from f g fs number slots frame counter callees some within t (omega (arith, levels)) parts.0 m framed (omega (arith, enough)) in
-      let n = run from (parts_trail f (stmt_code frame counter t)) m in
-      subst (Stays frame m) (sym (run_joined from f (stmt_code frame counter t) (stmts_code frame counter rest) m))
-      (stays_then first (stmts_stay from f g fs number slots frame counter callees some within rest (omega (arith, levels)) parts.1 n first.framed (omega (arith, first.st, enough))))
+      let first = stmt_stays homes from f g fs number slots frame counter callees some within t (omega (arith, levels)) parts.0 m framed (omega (arith, enough)) in
+      let n = run from (parts_trail f (stmt_code homes frame counter t)) m in
+      subst (Stays frame m) (sym (run_joined from f (stmt_code homes frame counter t) (stmts_code homes frame counter rest) m))
+      (stays_then first (stmts_stay homes from f g fs number slots frame counter callees some within rest (omega (arith, levels)) parts.1 n first.framed (omega (arith, first.st, enough))))

@@ -1,9 +1,8 @@
 -- Functions stay within the stack, where the frames on a chain of calls leave room for it.
-use Rattle.std.proofs.Common.{◌≡◌, ℕ, zero, suc, ◌+◌, ◌<◌, ◌≤◌, ◌==◌, ◌⊎◌, inl, inr, Bool, true, false, if◌then◌else◌, List, length, map, slice_index_or, nat_lt, refl, sym, ◌∙◌, subst, arith}
+use Rattle.std.proofs.Common.{◌≡◌, ℕ, zero, suc, ◌+◌, ◌<◌, ◌≤◌, ◌==◌, ◌⊎◌, inl, inr, Bool, true, false, if◌then◌else◌, List, length, slice_index_or, nat_lt, refl, sym, ◌∙◌, subst, arith}
 use Rattle.std.specs.Prelude.{nat_le}
 use Rattle.std.specs.List.{list_all}
 use Rattle.std.proofs.lemmas.Bool.{cases_lt, and_parts, lt-ltb, ltb-true, eqb-false}
-use Rattle.std.proofs.lemmas.List.{get_or-map, length-map}
 use Rattle.patmos_instr.specs.declared.functions.StackFunc.TheVariants.{Sres, Sfree}
 use Rattle.patmos_sem.specs.declared.effects.Effect.TheVariants as effect
 use Rattle.sp_tree.specs.Formed.{slots_of, function_formed, functions_formed, entry_formed, is_formed}
@@ -14,27 +13,32 @@ use Rattle.sp_shape.specs.Pointers.{pointers_of, AreWithinStack}
 use Rattle.sp_shape.specs.Run.{Run, IsWhole, Back, Sources, once, run, at_begin}
 use Rattle.sp_shape.specs.Trail.{Step, all_done, parts_trail, trails, trail}
 use Rattle.sp_shape.proofs.Lists.{all_append}
+use Rattle.sp_emit.specs.Functions.{codes}
+use Rattle.sp_emit.specs.Places.{words_cleared, homes_of}
+use Rattle.sp_emit.proofs.Codes.{codes_at, codes_length}
+use Rattle.sp_emit.proofs.WordPlaces.{cleared_all}
 use Rattle.sp_emit.specs.Chains.{stmts_chain, chains}
 use Rattle.sp_emit.specs.Functions.{arguments_kept, argument_kept, state_kept, base_slot, offset_slot, first_counter, function_code, return_tail, emitted}
-use Rattle.sp_emit.specs.Instructions.{stack_op}
+use Rattle.sp_emit.specs.Instructions.{always, stack_op}
+use Rattle.sp_emit.specs.declared.registers.TheConstants.{RESULT, MASK, FIRST}
 use Rattle.sp_emit.specs.Statements.{stmts_code}
 use Rattle.sp_emit.proofs.Arguments.{did_stack}
 use Rattle.sp_emit.proofs.Passed.{given_back}
 use Rattle.sp_emit.proofs.Pointing.{Points, points_then, points_one, is_inside, Framed, Stays, inside_done}
 use Rattle.sp_emit.proofs.Serves.{parts_of_function, function_run, code_of}
-use Rattle.sp_emit.proofs.WithinFrames.{GivesBack, CalleesStay, stmts_stay}
+use Rattle.sp_emit.proofs.WithinFrames.{GivesBack, CalleesStay, stmts_stay, read_inside, set_inside}
 
 -- ---- before and after the body
 
-arguments_inside : (frame n : ℕ) → n ≤ frame → list_all (is_inside frame) (arguments_kept n) ≡ true
-arguments_inside frame zero le = refl
-arguments_inside frame (suc n) le = all_append (is_inside frame) (arguments_kept n) (argument_kept n) (arguments_inside frame n (omega (arith, le))) (rw (lt-ltb n frame le) refl)
+arguments_inside : (homes : ℕ) (frame n : ℕ) → n ≤ frame → list_all (is_inside frame) (arguments_kept homes n) ≡ true
+arguments_inside homes frame zero le = refl
+arguments_inside homes frame (suc n) le = all_append (is_inside frame) (arguments_kept homes n) (argument_kept homes n) (arguments_inside homes frame n (omega (arith, le))) (rw (set_inside frame homes always n (FIRST + n) le) refl)
 
-state_inside : (frame : ℕ) (f : PlainFunction) → f.mask < frame → base_slot f < frame → offset_slot f < frame → list_all (is_inside frame) (state_kept f) ≡ true
-state_inside frame f mask base offset = rw (lt-ltb f.mask frame mask, lt-ltb (base_slot f) frame base, lt-ltb (offset_slot f) frame offset) refl
+state_inside : (homes : ℕ) (frame : ℕ) (f : PlainFunction) → f.mask < frame → base_slot f < frame → offset_slot f < frame → list_all (is_inside frame) (state_kept homes f) ≡ true
+state_inside homes frame f mask base offset = rw (set_inside frame homes always f.mask MASK mask, lt-ltb (base_slot f) frame base, lt-ltb (offset_slot f) frame offset) refl
 
-end_inside : (frame : ℕ) (f : PlainFunction) → base_slot f < frame → offset_slot f < frame → f.result < frame → list_all (is_inside frame) (given_back f) ≡ true
-end_inside frame f base offset result = rw (lt-ltb (base_slot f) frame base, lt-ltb (offset_slot f) frame offset, lt-ltb f.result frame result) refl
+end_inside : (homes frame : ℕ) (f : PlainFunction) → base_slot f < frame → offset_slot f < frame → f.result < frame → list_all (is_inside frame) (given_back homes f) ≡ true
+end_inside homes frame f base offset result = rw (lt-ltb (base_slot f) frame base, lt-ltb (offset_slot f) frame offset, read_inside frame homes RESULT f.result result) refl
 
 -- ---- functions
 
@@ -68,21 +72,24 @@ gives_then from m n b high =
     let s = inside_done from 0 return_tail n (record { whole = b.whole; few = omega arith; high = omega (arith, b.st, high); held = omega (arith, b.held) }) refl in
     record { points = points_then b.points s.points; whole = s.framed.whole; st = s.st ∙ b.st; held = omega (arith, s.framed.held) }
 
-function_stays : (from : Sources) (code : ℕ → List Step) (g : ℕ → ℕ) (fs : List PlainFunction) (number : ℕ) (f : PlainFunction) → function_formed fs number f ≡ true → CalleesStay from code number g
-    → (m : Run) → IsWhole m → m.st ≤ 65536 → m.st ≤ m.ss → 49152 + (f.frame + stmts_chain g f.body) ≤ m.st → GivesBack m (run from (parts_trail code (function_code f)) m)
-function_stays from code g fs number f formed callees m whole high held enough =
+function_stays : (homes : ℕ) (from : Sources) (code : ℕ → List Step) (g : ℕ → ℕ) (fs : List PlainFunction) (number : ℕ) (f : PlainFunction) → function_formed fs number f ≡ true → CalleesStay from code number g
+    → (m : Run) → IsWhole m → m.st ≤ 65536 → m.st ≤ m.ss → 49152 + (f.frame + stmts_chain g f.body) ≤ m.st → GivesBack m (run from (parts_trail code (function_code homes f)) m)
+function_stays homes from code g fs number f formed callees m whole high held enough =
     let p = parts_of_function fs number f formed in
     let t0 = once from (stack_op Sres f.frame) m in
     let x0 = takes from f.frame m whole p.frame high held (omega (arith, enough)) in
-    let x1 = entered_then x0 (inside_done from f.frame (arguments_kept f.parameters) t0 x0.stays (arguments_inside f.frame f.parameters (omega (arith, p.before_mask, p.mask, p.room)))) in
-    let t1 = run from (all_done (arguments_kept f.parameters)) t0 in
-    let x2 = entered_then x1 (inside_done from f.frame (state_kept f) t1 x1.stays (state_inside f.frame f (omega (arith, p.mask, p.room)) (omega (arith, p.mask, p.room)) (omega (arith, p.mask, p.room)))) in
-    let t2 = run from (all_done (state_kept f)) t1 in
-    let x3 = entered_then x2 (stmts_stay from code g fs number (slots_of f) f.frame (first_counter f) callees (omega (arith, p.mask)) (omega (arith, p.room, p.mask)) f.body (omega (arith, p.room, p.mask)) p.body t2 x2.stays (omega (arith, x2.st, enough))) in
-    let t3 = run from (parts_trail code (stmts_code f.frame (first_counter f) f.body)) t2 in
-    let x4 = entered_then x3 (inside_done from f.frame (given_back f) t3 x3.stays (end_inside f.frame f (omega (arith, p.mask, p.room)) (omega (arith, p.mask, p.room)) (omega (arith, p.result, p.room)))) in
-    let t4 = run from (all_done (given_back f)) t3 in
-    subst (GivesBack m) (sym (function_run from code f m)) (gives_then from m (once from (stack_op Sfree f.frame) t4) (frees from f.frame m t4 x4) high)
+    let c = inside_done from f.frame (words_cleared homes (slots_of f)) t0 x0.stays (cleared_all (is_inside f.frame) homes (slots_of f) (λ r. refl)) in
+    let xc = entered_then x0 c in
+    let tc = run from (all_done (words_cleared homes (slots_of f))) t0 in
+    let x1 = entered_then xc (inside_done from f.frame (arguments_kept homes f.parameters) tc xc.stays (arguments_inside homes f.frame f.parameters (omega (arith, p.before_mask, p.mask, p.room)))) in
+    let t1 = run from (all_done (arguments_kept homes f.parameters)) tc in
+    let x2 = entered_then x1 (inside_done from f.frame (state_kept homes f) t1 x1.stays (state_inside homes f.frame f (omega (arith, p.mask, p.room)) (omega (arith, p.mask, p.room)) (omega (arith, p.mask, p.room)))) in
+    let t2 = run from (all_done (state_kept homes f)) t1 in
+    let x3 = entered_then x2 (stmts_stay homes from code g fs number (slots_of f) f.frame (first_counter f) callees (omega (arith, p.mask)) (omega (arith, p.room, p.mask)) f.body (omega (arith, p.room, p.mask)) p.body t2 x2.stays (omega (arith, x2.st, enough))) in
+    let t3 = run from (parts_trail code (stmts_code homes f.frame (first_counter f) f.body)) t2 in
+    let x4 = entered_then x3 (inside_done from f.frame (given_back homes f) t3 x3.stays (end_inside homes f.frame f (omega (arith, p.mask, p.room)) (omega (arith, p.mask, p.room)) (omega (arith, p.result, p.room)))) in
+    let t4 = run from (all_done (given_back homes f)) t3 in
+    subst (GivesBack m) (sym (function_run homes from code f m)) (gives_then from m (once from (stack_op Sfree f.frame) t4) (frees from f.frame m t4 x4) high)
 
 -- ---- all of them, in order
 
@@ -97,10 +104,10 @@ all_stay from fs (suc n) within formed =
 
     by : function_formed fs n f ≡ true → CalleesStay from (code_of fs n) n (chains fs n) → (k : ℕ) → k < suc n → (m : Run) → IsWhole m → m.st ≤ 65536 → m.st ≤ m.ss → (b : Bool) → (k == n) ≡ b
         → 49152 + (if b then f.frame + stmts_chain (chains fs n) f.body else chains fs n k) ≤ m.st
-        → GivesBack m (run from (if b then parts_trail (code_of fs n) (slice_index_or (map function_code fs) n no_part) else code_of fs n k) m)
+        → GivesBack m (run from (if b then parts_trail (code_of fs n) (slice_index_or (codes fs) n no_part) else code_of fs n k) m)
     by own before k less m whole high held true is enough =
-        subst (λ c. GivesBack m (run from (parts_trail (code_of fs n) c) m)) (sym (get_or-map function_code fs n no_function no_part (omega (arith, within))))
-        (function_stays from (code_of fs n) (chains fs n) fs n f own before m whole high held enough)
+        subst (λ c. GivesBack m (run from (parts_trail (code_of fs n) c) m)) (sym (codes_at fs n (omega (arith, within))))
+        (function_stays (homes_of fs n) from (code_of fs n) (chains fs n) fs n f own before m whole high held enough)
     by own before k less m whole high held false other enough = before.called k (earlier (cases_lt k n)) m whole high held enough
       where
         earlier : (k < n) ⊎ (n ≤ k) → k < n
@@ -117,5 +124,5 @@ task_stays u from memory loads backs formed few =
     let begin = at_begin memory loads backs in
     let g = (all_stay from u.functions (length u.functions) (omega arith) b.0).called u.entry (ltb-true u.entry (length u.functions) d.0) begin
     (record { fits = record { count = refl; pred_count = refl; zero = refl; always = refl }; pending = refl }) (omega arith) (omega arith) (omega (arith, few)) in
-    subst (λ n. AreWithinStack (run from (trails (map function_code u.functions) n u.entry) begin).asked (pointers_of begin)) (sym (length-map u.functions function_code))
+    subst (λ n. AreWithinStack (run from (trails (codes u.functions) n u.entry) begin).asked (pointers_of begin)) (sym (codes_length u.functions))
     (subst (λ l. AreWithinStack l (pointers_of begin)) (sym g.points.is) g.points.within)

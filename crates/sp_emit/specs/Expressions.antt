@@ -1,11 +1,12 @@
 -- To be believed. The code of expressions: it leaves a value in a register and uses only registers from that one on,
 -- and those that are spare. Of two operands the one of the greater need is worked out first, so that registers suffice.
-use Rattle.std.specs.Prelude.{ℕ, ◌+◌, ◌*◌, nat_lt, if◌then◌else◌, List, [], ◌∷◌}
+use Rattle.std.specs.Prelude.{ℕ, ◌+◌, ◌*◌, nat_lt, Bool, false, if◌then◌else◌, List, [], ◌∷◌}
 use Rattle.patmos_instr.specs.Bundles.{Slots}
 use Rattle.patmos_instr.specs.declared.functions.AluFunc.{AluFunc}
 use Rattle.patmos_instr.specs.declared.functions.AluFunc.TheVariants as alu
 use Rattle.patmos_instr.specs.declared.functions.CmpFunc.{CmpFunc}
 use Rattle.patmos_instr.specs.declared.functions.CmpFunc.TheVariants as cmp
+use Rattle.patmos_instr.specs.declared.functions.ImmFunc.{ImmFunc}
 use Rattle.patmos_instr.specs.declared.functions.ImmFunc.TheVariants as imm
 use Rattle.patmos_instr.specs.declared.functions.PredFunc.{PredFunc}
 use Rattle.patmos_instr.specs.declared.functions.PredFunc.TheVariants as comb
@@ -14,7 +15,6 @@ use Rattle.patmos_instr.specs.declared.memories.Mem.TheVariants as mem
 use Rattle.patmos_instr.specs.declared.specials.Special.TheVariants as special
 use Rattle.c_world.specs.declared.region.Region.{Region}
 use Rattle.c_world.specs.declared.region.Region.TheVariants as region
-use Rattle.sp_tree.specs.Cost.{is_held}
 use Rattle.sp_tree.specs.Need.{need}
 use Rattle.sp_tree.specs.Plain.{PlainSp, constant, frame_word, cell_word, array_word, before_one, between_two}
 use Rattle.sp_tree.specs.declared.expressions.SpArray.{SpArray}
@@ -23,9 +23,10 @@ use Rattle.sp_tree.specs.declared.operators.SpBinary.{SpBinary}
 use Rattle.sp_tree.specs.declared.operators.SpBinary.TheVariants as binary
 use Rattle.sp_tree.specs.declared.operators.SpUnary.{SpUnary}
 use Rattle.sp_tree.specs.declared.operators.SpUnary.TheVariants as unary
-use Rattle.sp_shape.specs.Parts.{straight, PlainParts, one, joined}
+use Rattle.sp_shape.specs.Parts.{straight, PlainParts, no_part, one, joined}
 use Rattle.sp_emit.specs.Division.{quotient_to, rest_to, signed_quotient_to, signed_rest_to, unsigned_division, signed_division}
-use Rattle.sp_emit.specs.Instructions.{always, where_so, where_not, set_long, set_short, compute, with_short, compare, compare_short, combine, multiply, from_special, load_from, load_slot}
+use Rattle.sp_emit.specs.Instructions.{always, where_so, where_not, set_long, set_short, compute, with_short, compare, compare_short, combine, multiply, from_special, load_from}
+use Rattle.sp_emit.specs.Places.{in_register, read_word}
 use Rattle.sp_emit.specs.declared.registers.TheConstants.{SPARE, TEST, SECOND}
 
 -- ---- addresses
@@ -59,10 +60,11 @@ array_space region.Shared = mem.M
 abbrev pub truth_to : ℕ → List Slots
 truth_to rd = set_short always rd 0 ∷ set_short (where_so TEST) rd 1 ∷ []
 
-abbrev pub unary_code : SpUnary → ℕ → List Slots
-unary_code unary.Minus rd = compute always alu.Sub rd 0 rd ∷ []
-unary_code unary.Complement rd = compute always alu.Nor rd rd 0 ∷ []
-unary_code unary.Not rd = compare_short cmp.Eq TEST rd 0 ∷ truth_to rd
+-- of the word of one register, in another
+abbrev pub unary_code : SpUnary → ℕ → ℕ → List Slots
+unary_code unary.Minus rd ra = compute always alu.Sub rd 0 ra ∷ []
+unary_code unary.Complement rd ra = compute always alu.Nor rd ra 0 ∷ []
+unary_code unary.Not rd ra = compare_short cmp.Eq TEST ra 0 ∷ truth_to rd
 
 abbrev pub both_code : PredFunc → ℕ → ℕ → ℕ → List Slots
 both_code func rd ra rb =
@@ -98,19 +100,52 @@ binary_code binary.DivideUnsigned rd ra rb = unsigned_division (quotient_to rd) 
 binary_code binary.Remainder rd ra rb = signed_division (signed_rest_to rd) ra rb
 binary_code binary.RemainderUnsigned rd ra rb = unsigned_division (rest_to rd) ra rb
 
--- the same where the second operand is a constant that an instruction holds
-abbrev pub held_compared : CmpFunc → ℕ → ℕ → List Slots
-held_compared func rd n = compare_short func TEST rd n ∷ truth_to rd
+-- the constants that an instruction holds as its second operand are those below this number: arithmetic and logic have
+-- 12 bits for it, a comparison 5
+abbrev pub immediate_below : SpBinary → ℕ
+immediate_below binary.BitOr = 4096
+immediate_below binary.BitXor = 4096
+immediate_below binary.BitAnd = 4096
+immediate_below binary.ShiftLeft = 4096
+immediate_below binary.ShiftRight = 4096
+immediate_below binary.ShiftRightUnsigned = 4096
+immediate_below binary.Plus = 4096
+immediate_below binary.Minus = 4096
+immediate_below binary.Equal = 32
+immediate_below binary.NotEqual = 32
+immediate_below binary.Less = 32
+immediate_below binary.LessUnsigned = 32
+immediate_below binary.LessEqual = 32
+immediate_below binary.LessEqualUnsigned = 32
+immediate_below _ = 0
 
-abbrev pub held_code : SpBinary → ℕ → ℕ → List Slots
-held_code binary.BitAnd rd n = with_short always imm.And rd rd n ∷ []
-held_code binary.Equal rd n = held_compared cmp.Eq rd n
-held_code binary.NotEqual rd n = held_compared cmp.Neq rd n
-held_code binary.Less rd n = held_compared cmp.Lt rd n
-held_code binary.LessUnsigned rd n = held_compared cmp.Ult rd n
-held_code binary.LessEqual rd n = held_compared cmp.Le rd n
-held_code binary.LessEqualUnsigned rd n = held_compared cmp.Ule rd n
-held_code _ rd n = []
+abbrev pub is_immediate : SpBinary → PlainSp → Bool
+is_immediate op (constant n) = nat_lt n (immediate_below op)
+is_immediate op _ = false
+
+-- the same where the second operand is a constant that an instruction holds
+abbrev pub held_computed : ImmFunc → ℕ → ℕ → ℕ → List Slots
+held_computed func rd ra n = with_short always func rd ra n ∷ []
+
+abbrev pub held_compared : CmpFunc → ℕ → ℕ → ℕ → List Slots
+held_compared func rd ra n = compare_short func TEST ra n ∷ truth_to rd
+
+abbrev pub held_code : SpBinary → ℕ → ℕ → ℕ → List Slots
+held_code binary.BitOr rd ra n = held_computed imm.Or rd ra n
+held_code binary.BitXor rd ra n = held_computed imm.Xor rd ra n
+held_code binary.BitAnd rd ra n = held_computed imm.And rd ra n
+held_code binary.ShiftLeft rd ra n = held_computed imm.Sl rd ra n
+held_code binary.ShiftRight rd ra n = held_computed imm.Sra rd ra n
+held_code binary.ShiftRightUnsigned rd ra n = held_computed imm.Sr rd ra n
+held_code binary.Plus rd ra n = held_computed imm.Add rd ra n
+held_code binary.Minus rd ra n = held_computed imm.Sub rd ra n
+held_code binary.Equal rd ra n = held_compared cmp.Eq rd ra n
+held_code binary.NotEqual rd ra n = held_compared cmp.Neq rd ra n
+held_code binary.Less rd ra n = held_compared cmp.Lt rd ra n
+held_code binary.LessUnsigned rd ra n = held_compared cmp.Ult rd ra n
+held_code binary.LessEqual rd ra n = held_compared cmp.Le rd ra n
+held_code binary.LessEqualUnsigned rd ra n = held_compared cmp.Ule rd ra n
+held_code _ rd ra n = []
 
 -- ---- expressions
 
@@ -135,14 +170,38 @@ abbrev pub number_of : PlainSp → ℕ
 number_of (constant n) = n
 number_of _ = 0
 
-abbrev pub expr_code : PlainSp → ℕ → PlainParts
-expr_code (constant n) rd = one (straight (set_long rd n ∷ []))
-expr_code (frame_word slot) rd = one (straight (load_slot rd slot ∷ []))
-expr_code (cell_word cell) rd = one (straight (cell_code cell rd))
-expr_code (array_word array index) rd = joined (expr_code index rd) (one (straight (element_code array rd)))
-expr_code (before_one op of) rd = joined (expr_code of rd) (one (straight (unary_code op rd)))
-expr_code (between_two op a b) rd =
-    if is_held op b then joined (expr_code a rd) (one (straight (held_code op rd (number_of b))))
-    else if nat_lt (need a) (need b) then joined (expr_code b rd)
-    (joined (expr_code a (rd + 1)) (binary_code op rd (rd + 1) rd))
-    else joined (expr_code a rd) (joined (expr_code b (rd + 1)) (binary_code op rd rd (rd + 1)))
+-- an operand that is a word of the frame in a register is used where it stands
+abbrev pub is_home : ℕ → PlainSp → Bool
+is_home homes (frame_word slot) = in_register homes slot
+is_home homes _ = false
+
+abbrev pub slot_number : PlainSp → ℕ
+slot_number (frame_word slot) = slot
+slot_number _ = 0
+
+abbrev pub value_at : ℕ → PlainSp → ℕ → ℕ
+value_at homes e rd = if is_home homes e then homes + slot_number e else rd
+
+abbrev pub unless : Bool → PlainParts → PlainParts
+unless there code = if there then no_part else code
+
+abbrev pub expr_code : ℕ → PlainSp → ℕ → PlainParts
+expr_code homes (constant n) rd = one (straight (set_long rd n ∷ []))
+expr_code homes (frame_word slot) rd = one (straight (read_word homes rd slot ∷ []))
+expr_code homes (cell_word cell) rd = one (straight (cell_code cell rd))
+expr_code homes (array_word array index) rd = joined (expr_code homes index rd) (one (straight (element_code array rd)))
+expr_code homes (before_one op of) rd =
+    joined (unless (is_home homes of) (expr_code homes of rd)) (one (straight (unary_code op rd (value_at homes of rd))))
+expr_code homes (between_two op a b) rd =
+    if is_immediate op b then joined (unless (is_home homes a) (expr_code homes a rd))
+    (one (straight (held_code op rd (value_at homes a rd) (number_of b))))
+    else if nat_lt (need a) (need b) then joined (unless (is_home homes b) (expr_code homes b rd))
+    (joined (unless (is_home homes a) (expr_code homes a (rd + 1)))
+    (binary_code op rd (value_at homes a (rd + 1)) (value_at homes b rd)))
+    else joined (unless (is_home homes a) (expr_code homes a rd))
+    (joined (unless (is_home homes b) (expr_code homes b (rd + 1)))
+    (binary_code op rd (value_at homes a rd) (value_at homes b (rd + 1))))
+
+-- the code of an operand
+abbrev pub operand_code : ℕ → PlainSp → ℕ → PlainParts
+operand_code homes e rd = unless (is_home homes e) (expr_code homes e rd)

@@ -1,25 +1,27 @@
 -- To be believed. The code of functions and tasks. A function takes its frame from the stack:
 -- first the words that its tree names; last the place to which it returns; and before that the
 -- counters of turns, those inside others before them.
-use Rattle.std.specs.Prelude.{ℕ, zero, suc, ◌+◌, ◌-◌, List, [], ◌∷◌, ◌++◌, map}
+use Rattle.std.specs.Prelude.{ℕ, zero, suc, ◌+◌, ◌-◌, List, [], ◌∷◌, ◌++◌, length, slice_index_or}
 use Rattle.patmos_instr.specs.Bundles.{Slots}
 use Rattle.patmos_instr.specs.declared.functions.ImmFunc.TheVariants as imm
 use Rattle.patmos_instr.specs.declared.functions.StackFunc.TheVariants.{Sres, Sfree}
 use Rattle.patmos_instr.specs.declared.specials.Special.TheVariants as special
 use Rattle.patmos_instr.specs.declared.specials.WritableSpecial.TheVariants as writable
-use Rattle.sp_tree.specs.Statements.{PlainFunction, PlainUnit}
+use Rattle.sp_tree.specs.Formed.{slots_of}
+use Rattle.sp_tree.specs.Statements.{PlainFunction, no_function, PlainUnit}
 use Rattle.sp_shape.specs.Parts.{PlainPart, straight, leaves, PlainParts, no_part, part, joined, PlainShape}
 use Rattle.sp_emit.specs.Instructions.{always, idle, copy, with_short, from_special, to_special, stack_op, load_slot, store_slot, return}
+use Rattle.sp_emit.specs.Places.{read_word, set_word, words_cleared, homes_of}
 use Rattle.sp_emit.specs.Statements.{stmts_code}
 use Rattle.sp_emit.specs.declared.registers.TheConstants.{RESULT, MASK, FIRST, SPARE, OVERRUN}
 
 -- the first so many arguments go to the first words
-abbrev pub argument_kept : ℕ → List Slots
-argument_kept n = store_slot always n (FIRST + n) ∷ []
+abbrev pub argument_kept : ℕ → ℕ → List Slots
+argument_kept homes n = set_word homes always n (FIRST + n) ∷ []
 
-abbrev pub arguments_kept : ℕ → List Slots
-arguments_kept zero = []
-arguments_kept (suc n) = arguments_kept n ++ argument_kept n
+abbrev pub arguments_kept : ℕ → ℕ → List Slots
+arguments_kept homes zero = []
+arguments_kept homes (suc n) = arguments_kept homes n ++ argument_kept homes n
 
 -- where the return's base and its offset stand
 abbrev pub base_slot : PlainFunction → ℕ
@@ -33,26 +35,27 @@ abbrev pub first_counter : PlainFunction → ℕ
 first_counter f = f.frame - 3
 
 -- so do the mask and the place to which it returns
-abbrev pub state_kept : PlainFunction → List Slots
-state_kept f =
+abbrev pub state_kept : ℕ → PlainFunction → List Slots
+state_kept homes f =
     with_short always imm.Xor MASK MASK 1
-    ∷ store_slot always f.mask MASK
+    ∷ set_word homes always f.mask MASK
     ∷ from_special SPARE special.Srb
     ∷ store_slot always (base_slot f) SPARE
     ∷ from_special SPARE special.Sro
     ∷ store_slot always (offset_slot f) SPARE
     ∷ []
 
-abbrev pub function_begin : PlainFunction → List Slots
-function_begin f = stack_op Sres f.frame ∷ (arguments_kept f.parameters ++ state_kept f)
+abbrev pub function_begin : ℕ → PlainFunction → List Slots
+function_begin homes f =
+    stack_op Sres f.frame ∷ (words_cleared homes (slots_of f) ++ (arguments_kept homes f.parameters ++ state_kept homes f))
 
-abbrev pub function_end : PlainFunction → List Slots
-function_end f =
+abbrev pub function_end : ℕ → PlainFunction → List Slots
+function_end homes f =
     load_slot SPARE (base_slot f)
     ∷ to_special writable.Srb SPARE
     ∷ load_slot SPARE (offset_slot f)
     ∷ to_special writable.Sro SPARE
-    ∷ load_slot RESULT f.result
+    ∷ read_word homes RESULT f.result
     ∷ copy MASK OVERRUN
     ∷ stack_op Sfree f.frame
     ∷ []
@@ -63,16 +66,25 @@ return_tail = return ∷ idle ∷ idle ∷ idle ∷ []
 abbrev pub leaving : PlainPart
 leaving = leaves return_tail
 
-abbrev pub function_rest : PlainFunction → PlainParts
-function_rest f = part (straight (function_end f)) (part leaving no_part)
+abbrev pub function_rest : ℕ → PlainFunction → PlainParts
+function_rest homes f = part (straight (function_end homes f)) (part leaving no_part)
 
-abbrev pub function_code : PlainFunction → PlainParts
-function_code f =
-    part (straight (function_begin f)) (joined (stmts_code f.frame (first_counter f) f.body) (function_rest f))
+abbrev pub function_code : ℕ → PlainFunction → PlainParts
+function_code homes f =
+    part (straight (function_begin homes f)) (joined (stmts_code homes f.frame (first_counter f) f.body) (function_rest homes f))
+
+-- the code of the first so many functions
+abbrev pub functions_code : List PlainFunction → ℕ → List PlainParts
+functions_code fs zero = []
+functions_code fs (suc n) =
+    functions_code fs n ++ function_code (homes_of fs n) (slice_index_or fs n no_function) ∷ []
+
+abbrev pub codes : List PlainFunction → List PlainParts
+codes fs = functions_code fs (length fs)
 
 abbrev pub emitted : PlainUnit → PlainShape
 emitted u = record {
-  functions = map function_code u.functions;
+  functions = codes u.functions;
   entry = u.entry;
   initial = u.initial;
   input_at = u.input_at;

@@ -8,6 +8,7 @@ pub mod Functions
 pub mod Holding
 pub mod Instructions
 pub mod Means
+pub mod Places
 pub mod Ran
 pub mod Serving
 pub mod Statements

@@ -10,7 +10,8 @@ use Rattle.sp_tree.specs.Statements.{PlainSpTarget, to_slot, to_cell, to_array, 
 use Rattle.sp_tree.specs.Straight.{State}
 use Rattle.sp_shape.specs.Memory.{Memory, Start}
 use Rattle.sp_shape.specs.Run.{Run, IsWhole}
-use Rattle.sp_emit.specs.Holding.{held}
+use Rattle.sp_emit.specs.Holding.{held, KeepsFrom}
+use Rattle.sp_emit.specs.Places.{word_of}
 use Rattle.sp_emit.specs.declared.registers.TheConstants.{OVERRUN}
 
 -- a send of the world is a transfer of the run
@@ -25,8 +26,8 @@ pub record HasWords (w : World) (m : Memory) : Type 0 where
   pub starts : m.starts ≡ map start_of w.sends
 
 -- the first so many words of a frame
-pub record Shows (slots : ℕ) (s : State) (m : Run) : Type 0 where
-  pub frame : (slot : ℕ) → slot < slots → m.stack (m.st + slot) ≡ s.frame slot
+pub record Shows (homes slots : ℕ) (s : State) (m : Run) : Type 0 where
+  pub frame : (slot : ℕ) → slot < slots → word_of homes slot m ≡ s.frame slot
   pub world : HasWords s.world m.memory
 
 -- the constants of an expression are words
@@ -50,29 +51,36 @@ pub record HasWordFrame (slots : ℕ) (s : State) : Type 0 where
   pub world : HoldsWords s.world
 
 -- an expression whose words a run shows, and for which registers suffice from one on
-pub record IsReady (slots : ℕ) (e : PlainSp) (rd : ℕ) (s : State) (m : Run) : Type 0 where
+pub record IsReady (homes slots : ℕ) (e : PlainSp) (rd : ℕ) (s : State) (m : Run) : Type 0 where
   pub some : 1 ≤ rd
   pub most : slots ≤ 128
   pub names : names_words slots e ≡ true
   pub registers : rd + need e ≤ 21
+  pub free : rd + need e ≤ homes
   pub constants : HasWordConstants e
   pub words : HasWordFrame slots s
   pub whole : IsWhole m
-  pub shows : Shows slots s m
+  pub shows : Shows homes slots s m
 
 -- ---- statements
 
 -- a run is where a tree's state is: the words of the frame and the world, which are words of 32 bits, and the flag
-pub record Follows (slots : ℕ) (s : State) (m : Run) : Type 0 where
+pub record Follows (homes slots : ℕ) (s : State) (m : Run) : Type 0 where
   pub whole : IsWhole m
-  pub shows : Shows slots s m
+  pub shows : Shows homes slots s m
   pub words : HasWordFrame slots s
   pub flag : held OVERRUN m ≡ flag s.world.overrun
 
 -- a later state has the words of the stack after so many of the frame as they were
-pub record KeepsBehind (count : ℕ) (m t : Run) : Type 0 where
+pub record KeepsStack (count : ℕ) (m t : Run) : Type 0 where
   pub st : t.st ≡ m.st
   pub stack : (a : ℕ) → m.st + count ≤ a → t.stack a ≡ m.stack a
+
+-- and the registers from the end of a window on
+pub record KeepsBehind (top count : ℕ) (m t : Run) : Type 0 where
+  pub st : t.st ≡ m.st
+  pub stack : (a : ℕ) → m.st + count ≤ a → t.stack a ≡ m.stack a
+  pub high : KeepsFrom top m t
 
 -- the constants of statements are words
 abbrev pub HasTargetConstants : PlainSpTarget → Type 0

@@ -9,6 +9,7 @@ use Rattle.sp_tree.specs.declared.limits.TheConstants.{MOST_FRAME}
 use Rattle.sp_shape.specs.Run.{Run, IsWhole}
 use Rattle.sp_emit.specs.Holding.{held}
 use Rattle.sp_emit.specs.Means.{Follows, HasConstants, HasStmtsConstants, HasWords, HoldsWords}
+use Rattle.sp_emit.specs.Places.{stmts_least, tops}
 use Rattle.sp_emit.specs.declared.registers.TheConstants.{RESULT, MASK, FIRST, OVERRUN}
 
 -- the words of a world, and its flag
@@ -44,7 +45,7 @@ pub record AreFunctions (fs : List PlainFunction) (n : ℕ) : Type 0 where
 -- statements of a function of number n, in a frame of so many words, of which the first are named
 -- and the counters of turns stand from one on downward; the run is where the tree's state is, and
 -- there is room for the frames of what they call
-pub record AreStatements (fs : List PlainFunction) (n frame slots counter : ℕ) (ts : PlainStmts) (s : State) (m : Run) : Type 0 where
+pub record AreStatements (fs : List PlainFunction) (n homes frame slots counter : ℕ) (ts : PlainStmts) (s : State) (m : Run) : Type 0 where
   pub functions : AreFunctions fs n
   pub named : slots ≤ MOST_FRAME
   pub counted : counter < MOST_FRAME
@@ -53,4 +54,5 @@ pub record AreStatements (fs : List PlainFunction) (n frame slots counter : ℕ)
   pub formed : stmts_formed fs n slots ts ≡ true
   pub constants : HasStmtsConstants ts
   pub room : n * MOST_FRAME ≤ m.st
-  pub follows : Follows slots s m
+  pub homed : stmts_least (tops fs n) ts ≤ homes
+  pub follows : Follows homes slots s m

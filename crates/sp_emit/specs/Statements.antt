@@ -17,16 +17,18 @@ use Rattle.sp_tree.specs.declared.expressions.SpCell.{SpCell}
 use Rattle.sp_shape.specs.Parts.{PlainPart, straight, repeats, calls_to, PlainParts, no_part, one, joined}
 use Rattle.sp_emit.specs.Expressions.{address_of, cell_space, array_space, expr_code}
 use Rattle.sp_emit.specs.Instructions.{always, where_so, where_not, idle, set_long, set_short, compute, with_short, compare, compare_short, combine, stack_op, load_slot, store_to, store_slot, branch, call}
+use Rattle.sp_emit.specs.Places.{read_word, fetch_word, fetched_at, set_word}
 use Rattle.sp_emit.specs.declared.registers.TheConstants.{RESULT, MASK, FIRST, SPARE, OVERRUN, TEST, SECOND}
 
--- whether a mask is 1
-abbrev pub mask_test : ℕ → List Slots
-mask_test mask = load_slot SPARE mask ∷ compare_short cmp.Eq TEST SPARE 1 ∷ []
+-- whether a mask is 1: it is compared where it stands in a register, and else where it is loaded to. In the first case
+-- the bundle before does nothing, and scheduling leaves it out
+abbrev pub mask_test : ℕ → ℕ → List Slots
+mask_test homes mask = fetch_word homes mask ∷ compare_short cmp.Eq TEST (fetched_at homes mask) 1 ∷ []
 
 -- ---- what is set: the value stands in the first register, an index in the one after it
 
-abbrev pub slot_write : ℕ → ℕ → List Slots
-slot_write mask slot = mask_test mask ++ store_slot (where_so TEST) slot FIRST ∷ []
+abbrev pub slot_write : ℕ → ℕ → ℕ → List Slots
+slot_write homes mask slot = mask_test homes mask ++ set_word homes (where_so TEST) slot FIRST ∷ []
 
 -- a store at an address that a register holds: off the predicate it is not made, or is made at word 0
 abbrev pub masked_store : Mem → ℕ → List Slots
@@ -35,13 +37,13 @@ masked_store mem.L at = store_to (where_so TEST) mem.L at FIRST 0 ∷ []
 masked_store mem.C at = set_short (where_not TEST) at 0 ∷ store_to always mem.C at FIRST 0 ∷ []
 masked_store mem.M at = set_short (where_not TEST) at 0 ∷ store_to always mem.M at FIRST 0 ∷ []
 
-abbrev pub cell_write : ℕ → SpCell → List Slots
-cell_write mask c =
-    mask_test mask ++ set_long SPARE (address_of c.region c.word) ∷ masked_store (cell_space c.region) SPARE
+abbrev pub cell_write : ℕ → ℕ → SpCell → List Slots
+cell_write homes mask c =
+    mask_test homes mask ++ set_long SPARE (address_of c.region c.word) ∷ masked_store (cell_space c.region) SPARE
 
-abbrev pub element_write : ℕ → SpArray → List Slots
-element_write mask a =
-    mask_test mask
+abbrev pub element_write : ℕ → ℕ → SpArray → List Slots
+element_write homes mask a =
+    mask_test homes mask
     ++ set_long SPARE a.length
     ∷ compare cmp.Ult SECOND (FIRST + 1) SPARE
     ∷ combine comb.Pand TEST TEST SECOND
@@ -49,40 +51,40 @@ element_write mask a =
     ∷ compute always alu.Shadd2 (FIRST + 1) (FIRST + 1) SPARE
     ∷ masked_store (array_space a.region) (FIRST + 1)
 
-abbrev pub target_write : ℕ → PlainSpTarget → PlainParts
-target_write mask (to_slot slot) = one (straight (slot_write mask slot))
-target_write mask (to_cell cell) = one (straight (cell_write mask cell))
-target_write mask (to_array array index) =
-    joined (expr_code index (FIRST + 1)) (one (straight (element_write mask array)))
+abbrev pub target_write : ℕ → ℕ → PlainSpTarget → PlainParts
+target_write homes mask (to_slot slot) = one (straight (slot_write homes mask slot))
+target_write homes mask (to_cell cell) = one (straight (cell_write homes mask cell))
+target_write homes mask (to_array array index) =
+    joined (expr_code homes index (FIRST + 1)) (one (straight (element_write homes mask array)))
 
 -- ---- calls
 
 -- the arguments stand one after another, from a register on
-abbrev pub args_code : List PlainSp → ℕ → PlainParts
-args_code [] rd = no_part
-args_code (e ∷ args) rd = joined (expr_code e rd) (args_code args (rd + 1))
+abbrev pub args_code : ℕ → List PlainSp → ℕ → PlainParts
+args_code homes [] rd = no_part
+args_code homes (e ∷ args) rd = joined (expr_code homes e rd) (args_code homes args (rd + 1))
 
-abbrev pub mask_handed : ℕ → List Slots
-mask_handed mask = load_slot MASK mask ∷ with_short always imm.Xor MASK MASK 1 ∷ []
+abbrev pub mask_handed : ℕ → ℕ → List Slots
+mask_handed homes mask = read_word homes MASK mask ∷ with_short always imm.Xor MASK MASK 1 ∷ []
 
 abbrev pub call_tail : List Slots
 call_tail = call ∷ idle ∷ idle ∷ idle ∷ []
 
 -- after the call the words of the own frame are brought back, and the result is set where the mask is 1
-abbrev pub result_write : ℕ → Option ℕ → List Slots
-result_write mask None = []
-result_write mask (Some slot) = mask_test mask ++ store_slot (where_so TEST) slot RESULT ∷ []
+abbrev pub result_write : ℕ → ℕ → Option ℕ → List Slots
+result_write homes mask None = []
+result_write homes mask (Some slot) = mask_test homes mask ++ set_word homes (where_so TEST) slot RESULT ∷ []
 
-abbrev pub behind_call : ℕ → ℕ → Option ℕ → List Slots
-behind_call frame mask result = stack_op Sens frame ∷ result_write mask result
+abbrev pub behind_call : ℕ → ℕ → ℕ → Option ℕ → List Slots
+behind_call homes frame mask result = stack_op Sens frame ∷ result_write homes mask result
 
 abbrev pub way_to : ℕ → PlainPart
 way_to k = calls_to k call_tail
 
-abbrev pub call_code : ℕ → ℕ → ℕ → Option ℕ → PlainParts
-call_code frame mask k result =
-    joined (one (straight (mask_handed mask)))
-    (joined (one (way_to k)) (one (straight (behind_call frame mask result))))
+abbrev pub call_code : ℕ → ℕ → ℕ → ℕ → Option ℕ → PlainParts
+call_code homes frame mask k result =
+    joined (one (straight (mask_handed homes mask)))
+    (joined (one (way_to k)) (one (straight (behind_call homes frame mask result))))
 
 -- ---- sends
 
@@ -110,14 +112,14 @@ send_start core =
     ∷ store_to (where_so TEST) mem.L SPARE (FIRST + 2) 2
     ∷ []
 
-abbrev pub send_code : ℕ → ℕ → List Slots
-send_code mask core = mask_test mask ++ (send_test ++ send_start core)
+abbrev pub send_code : ℕ → ℕ → ℕ → List Slots
+send_code homes mask core = mask_test homes mask ++ (send_test ++ send_start core)
 
 -- ---- loops
 
-abbrev pub overrun_code : ℕ → List Slots
-overrun_code mask =
-    mask_test mask
+abbrev pub overrun_code : ℕ → ℕ → List Slots
+overrun_code homes mask =
+    mask_test homes mask
     ++ compare_short cmp.Neq SECOND FIRST 0
     ∷ combine comb.Pand TEST TEST SECOND
     ∷ set_short (where_so TEST) OVERRUN 1
@@ -141,23 +143,23 @@ turns_tail counter =
 -- ---- statements of a function whose frame has so many words, and where the next counter of turns stands; those inside
 -- stand before it
 
-abbrev pub slot_set : ℕ → PlainParts
-slot_set slot = one (straight (store_slot always slot FIRST ∷ []))
+abbrev pub slot_set : ℕ → ℕ → PlainParts
+slot_set homes slot = one (straight (set_word homes always slot FIRST ∷ []))
 
 abbrev mutual
-  pub stmt_code : ℕ → ℕ → PlainStmt → PlainParts
-  stmt_code frame counter (masks slot e) = joined (expr_code e FIRST) (slot_set slot)
-  stmt_code frame counter (writes mask target e) = joined (expr_code e FIRST) (target_write mask target)
-  stmt_code frame counter (calls mask k args result) = joined (args_code args FIRST) (call_code frame mask k result)
-  stmt_code frame counter (transfers mask core source target count) =
-      joined (expr_code source FIRST)
-      (joined (expr_code target (FIRST + 1))
-      (joined (expr_code count (FIRST + 2)) (one (straight (send_code mask core)))))
-  stmt_code frame counter (overruns mask e) = joined (expr_code e FIRST) (one (straight (overrun_code mask)))
-  stmt_code frame counter (turns count body) =
+  pub stmt_code : ℕ → ℕ → ℕ → PlainStmt → PlainParts
+  stmt_code homes frame counter (masks slot e) = joined (expr_code homes e FIRST) (slot_set homes slot)
+  stmt_code homes frame counter (writes mask target e) = joined (expr_code homes e FIRST) (target_write homes mask target)
+  stmt_code homes frame counter (calls mask k args result) = joined (args_code homes args FIRST) (call_code homes frame mask k result)
+  stmt_code homes frame counter (transfers mask core source target count) =
+      joined (expr_code homes source FIRST)
+      (joined (expr_code homes target (FIRST + 1))
+      (joined (expr_code homes count (FIRST + 2)) (one (straight (send_code homes mask core)))))
+  stmt_code homes frame counter (overruns mask e) = joined (expr_code homes e FIRST) (one (straight (overrun_code homes mask)))
+  stmt_code homes frame counter (turns count body) =
       joined (one (straight (turns_begin counter count)))
-      (one (repeats count (stmts_code frame (counter - 1) body) (turns_tail counter)))
+      (one (repeats count (stmts_code homes frame (counter - 1) body) (turns_tail counter)))
 
-  pub stmts_code : ℕ → ℕ → PlainStmts → PlainParts
-  stmts_code frame counter no_stmt = no_part
-  stmts_code frame counter (stmt t rest) = joined (stmt_code frame counter t) (stmts_code frame counter rest)
+  pub stmts_code : ℕ → ℕ → ℕ → PlainStmts → PlainParts
+  stmts_code homes frame counter no_stmt = no_part
+  stmts_code homes frame counter (stmt t rest) = joined (stmt_code homes frame counter t) (stmts_code homes frame counter rest)

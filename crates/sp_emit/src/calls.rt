@@ -9,6 +9,7 @@ use crate::instructions::{
     set_short, stack_op, store_slot, store_to, where_so, with_short,
 };
 use crate::parts::{listed, push, push_straight};
+use crate::places::{read_word, set_word};
 use crate::registers::{FIRST, MASK, OVERRUN, RESULT, SECOND, SPARE, TEST, behind, pred, reg};
 use crate::writes::mask_test;
 use patmos_instr::{AluFunc, Bundle, CmpFunc, ImmFunc, Mem, PredFunc, StackFunc};
@@ -16,14 +17,14 @@ use sp_shape::Part;
 use tc_word::{List, OutOfMemory};
 
 // the mask is handed to the function that is called
-fn hand_mask(out: &mut Vec<Part>, mask: u32) -> Result<(), OutOfMemory>
+fn hand_mask(out: &mut Vec<Part>, homes: u32, mask: u32) -> Result<(), OutOfMemory>
     requires { mask < 128 }
     ensures { OnOk result (parts_of out.new.items
-        ≡ joined (parts_of out.old.items) (one (straight (specs.mask_handed mask)))) }
+        ≡ joined (parts_of out.old.items) (one (straight (specs.mask_handed homes mask)))) }
 {
     let handed = reg(MASK);
     let bundles = [
-        load_slot(handed, mask),
+        read_word(homes, handed, mask),
         with_short(always(), ImmFunc::Xor, handed, handed, 1),
     ];
     push_straight(out, &bundles)
@@ -41,6 +42,7 @@ fn push_call(out: &mut Vec<Part>, function: u32) -> Result<(), OutOfMemory>
 // the words of the own frame are brought back, and the result is set
 fn come_back(
     out: &mut Vec<Part>,
+    homes: u32,
     frame: u32,
     mask: u32,
     slot: Option<u32>,
@@ -49,14 +51,14 @@ fn come_back(
     requires mask { mask < 128 }
     requires slot { IfSome slot (λ word. word < 128) }
     ensures { OnOk result (parts_of out.new.items
-        ≡ joined (parts_of out.old.items) (one (straight (specs.behind_call frame mask slot)))) }
+        ≡ joined (parts_of out.old.items) (one (straight (specs.behind_call homes frame mask slot)))) }
 {
     let back = stack_op(StackFunc::Sens, frame);
     match slot {
         None => push_straight(out, &[back]),
         Some(word) => {
-            let [load, test] = mask_test(mask);
-            let set = store_slot(where_so(pred(TEST)), word, reg(RESULT));
+            let [load, test] = mask_test(homes, mask);
+            let set = set_word(homes, where_so(pred(TEST)), word, reg(RESULT));
             push_straight(out, &[back, load, test, set])
         }
     }
@@ -66,6 +68,7 @@ fn come_back(
 #[tactic(auto, using(crate::proofs::Pushed::call_pushed))]
 pub fn call_of(
     out: &mut Vec<Part>,
+    homes: u32,
     frame: u32,
     mask: u32,
     function: u32,
@@ -75,11 +78,11 @@ pub fn call_of(
     requires mask { mask < 128 }
     requires slot { IfSome slot (λ word. word < 128) }
     ensures { OnOk result (parts_of out.new.items
-        ≡ joined (parts_of out.old.items) (specs.call_code frame mask function slot)) }
+        ≡ joined (parts_of out.old.items) (specs.call_code homes frame mask function slot)) }
 {
-    hand_mask(out, mask)?;
+    hand_mask(out, homes, mask)?;
     push_call(out, function)?;
-    come_back(out, frame, mask, slot)
+    come_back(out, homes, frame, mask, slot)
 }
 
 // whether a send starts
@@ -122,27 +125,27 @@ fn send_start(core: u32) -> [Bundle; 4]
 }
 
 /// A send, whose source, target and count stand in registers. It is `Err` where memory runs out.
-pub fn send(out: &mut Vec<Part>, mask: u32, core: u32) -> Result<(), OutOfMemory>
+pub fn send(out: &mut Vec<Part>, homes: u32, mask: u32, core: u32) -> Result<(), OutOfMemory>
     requires mask { mask < 128 }
     requires core { core < 16 }
     ensures { OnOk result (parts_of out.new.items
-        ≡ joined (parts_of out.old.items) (one (straight (specs.send_code mask core)))) }
+        ≡ joined (parts_of out.old.items) (one (straight (specs.send_code homes mask core)))) }
 {
     let mut bundles = Vec::new(*out.allocator());
-    bundles.extend_from_slice(&mask_test(mask))?;
+    bundles.extend_from_slice(&mask_test(homes, mask))?;
     bundles.extend_from_slice(&send_test())?;
     bundles.extend_from_slice(&send_start(core))?;
     push_straight(out, &bundles)
 }
 
 /// The flag is set where the first register's word is not 0. It is `Err` where memory runs out.
-pub fn overrun(out: &mut Vec<Part>, mask: u32) -> Result<(), OutOfMemory>
+pub fn overrun(out: &mut Vec<Part>, homes: u32, mask: u32) -> Result<(), OutOfMemory>
     requires { mask < 128 }
     ensures { OnOk result (parts_of out.new.items
-        ≡ joined (parts_of out.old.items) (one (straight (specs.overrun_code mask)))) }
+        ≡ joined (parts_of out.old.items) (one (straight (specs.overrun_code homes mask)))) }
 {
     let (test, second) = (pred(TEST), pred(SECOND));
-    let [load, masked] = mask_test(mask);
+    let [load, masked] = mask_test(homes, mask);
     let bundles = [
         load,
         masked,

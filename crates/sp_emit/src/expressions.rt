@@ -3,17 +3,15 @@ ghost use Rattle.std.specs.Prelude.{◌≡◌, ◌+◌, ◌<◌, ◌≤◌, nat_
 ghost use Rattle.sp_emit.specs.Expressions as specs;
 ghost use Rattle.sp_shape.specs.Parts.{straight, one, joined};
 ghost use Rattle.sp_shape.specs.Shown.{parts_of};
-ghost use Rattle.sp_tree.specs.Cost.{held_below, is_held};
 ghost use Rattle.sp_emit.specs.Fits.{ExprFits};
 ghost use Rattle.sp_tree.specs.Formed.{cell_formed, array_formed};
 ghost use Rattle.sp_tree.specs.Need.{need};
 ghost use Rattle.sp_tree.specs.Plain.{plain_sp, between_two};
 
-use crate::instructions::{
-    always, compare, compute, load_from, load_slot, set_long, set_short, where_not,
-};
-use crate::operators::{binary, held, held_below, unary};
+use crate::instructions::{always, compare, compute, load_from, set_long, set_short, where_not};
+use crate::operators::{binary, held, immediate_below, unary};
 use crate::parts::push_straight;
+use crate::places::{is_in_register, read_word};
 use crate::registers::{SPARE, TEST, behind, pred, reg};
 use patmos_instr::{AluFunc, CmpFunc, Mem, Reg};
 use sp_shape::Part;
@@ -89,7 +87,7 @@ fn element(out: &mut Vec<Part>, array: SpArray, rd: Reg) -> Result<(), OutOfMemo
 
 // how many registers an expression takes
 #[tactic(auto, unfolding(sp_tree::specs::Plain::plain_sp))]
-fn need_of(e: &SpExpr) -> u32
+pub fn need_of(e: &SpExpr) -> u32
     requires { need (plain_sp e.now) ≤ 21 }
     ensures { result ≡ need (plain_sp e.now) }
 {
@@ -101,6 +99,40 @@ fn need_of(e: &SpExpr) -> u32
             let (a, b) = (need_of(a), need_of(b));
             if a < b { b.max(a + 1) } else { a.max(b + 1) }
         }
+    }
+}
+
+// whether an operand is a word of the frame in a register
+#[tactic(auto, unfolding(sp_tree::specs::Plain::plain_sp))]
+fn is_home(homes: u32, e: &SpExpr) -> bool
+    ensures { result ≡ specs.is_home homes (plain_sp e.now) }
+{
+    match e {
+        SpExpr::Frame { slot } => is_in_register(homes, *slot),
+        _ => false,
+    }
+}
+
+// the word of the frame that an operand is
+#[tactic(auto, unfolding(sp_tree::specs::Plain::plain_sp))]
+fn slot_number(e: &SpExpr) -> u32
+    ensures { result ≡ specs.slot_number (plain_sp e.now) }
+{
+    match e {
+        SpExpr::Frame { slot } => *slot,
+        _ => 0,
+    }
+}
+
+// the register in which an operand's value stands
+#[tactic(auto, using(crate::proofs::Operands::home_below))]
+fn value_at(homes: u32, e: &SpExpr, rd: Reg) -> Reg
+    ensures { result ≡ specs.value_at homes (plain_sp e.now) rd }
+{
+    if is_home(homes, e) {
+        reg(homes + slot_number(e))
+    } else {
+        rd
     }
 }
 
@@ -116,11 +148,11 @@ fn is_second_first(a: &SpExpr, b: &SpExpr) -> bool
 // the number of a constant that an instruction for the operator holds
 #[tactic(auto, unfolding(sp_tree::specs::Plain::plain_sp))]
 fn held_constant(op: SpBinary, b: &SpExpr) -> Option<u32>
-    ensures held { SomeIff result (is_held op (plain_sp b.now) ≡ true) (specs.number_of (plain_sp b.now)) }
-    ensures below { IfSome result (λ n. n < held_below op) }
+    ensures held { SomeIff result (specs.is_immediate op (plain_sp b.now) ≡ true) (specs.number_of (plain_sp b.now)) }
+    ensures below { IfSome result (λ n. n < specs.immediate_below op) }
 {
     match b {
-        SpExpr::Const { value } if *value < held_below(op) => Some(*value),
+        SpExpr::Const { value } if *value < immediate_below(op) => Some(*value),
         _ => None,
     }
 }
@@ -128,25 +160,38 @@ fn held_constant(op: SpBinary, b: &SpExpr) -> Option<u32>
 /// The value of an expression goes to a register. It is `Err` where memory runs out.
 #[cycle(expression)]
 #[tactic(auto, using(crate::proofs::Pushed::two_pushed, crate::proofs::Needs::word_named, crate::proofs::Needs::cell_named, crate::proofs::Needs::array_named, crate::proofs::Needs::index_named, crate::proofs::Needs::operand_fits), unfolding(sp_tree::specs::Plain::plain_sp))]
-pub fn expression(out: &mut Vec<Part>, e: &SpExpr, rd: Reg) -> Result<(), OutOfMemory>
+pub fn expression(out: &mut Vec<Part>, homes: u32, e: &SpExpr, rd: Reg) -> Result<(), OutOfMemory>
     requires { ExprFits (plain_sp e.now) rd }
     ensures { OnOk result (parts_of out.new.items
-        ≡ joined (parts_of out.old.items) (specs.expr_code (plain_sp e.now) rd)) }
+        ≡ joined (parts_of out.old.items) (specs.expr_code homes (plain_sp e.now) rd)) }
 {
     match e {
         SpExpr::Const { value } => push_straight(out, &[set_long(rd, *value)]),
-        SpExpr::Frame { slot } => push_straight(out, &[load_slot(rd, *slot)]),
+        SpExpr::Frame { slot } => push_straight(out, &[read_word(homes, rd, *slot)]),
         SpExpr::Scalar { cell: of } => cell(out, *of, rd),
         SpExpr::Element { array, index } => {
-            expression(out, index, rd)?;
+            expression(out, homes, index, rd)?;
             element(out, *array, rd)
         }
         SpExpr::Unary { op, of } => {
-            expression(out, of, rd)?;
-            unary(out, *op, rd)
+            operand(out, homes, of, rd)?;
+            unary(out, *op, rd, value_at(homes, of, rd))
         }
-        SpExpr::Binary { op, a, b } => operands(out, *op, a, b, rd),
+        SpExpr::Binary { op, a, b } => operands(out, homes, *op, a, b, rd),
     }
+}
+
+// an operand's value goes to a register, where it does not stand in one
+#[cycle(expression)]
+fn operand(out: &mut Vec<Part>, homes: u32, e: &SpExpr, rd: Reg) -> Result<(), OutOfMemory>
+    requires { ExprFits (plain_sp e.now) rd }
+    ensures { OnOk result (parts_of out.new.items
+        ≡ joined (parts_of out.old.items) (specs.operand_code homes (plain_sp e.now) rd)) }
+{
+    if is_home(homes, e) {
+        return Ok(());
+    }
+    expression(out, homes, e, rd)
 }
 
 // of two operands the one of the greater need is worked out first
@@ -154,6 +199,7 @@ pub fn expression(out: &mut Vec<Part>, e: &SpExpr, rd: Reg) -> Result<(), OutOfM
 #[tactic(auto, using(crate::proofs::Pushed::held_pushed, crate::proofs::Pushed::second_pushed, crate::proofs::Pushed::first_pushed, crate::proofs::Needs::few_needs, crate::proofs::Needs::first_fits, crate::proofs::Needs::second_fits, crate::proofs::Needs::first_fits_behind, crate::proofs::Needs::second_fits_behind, crate::proofs::Needs::one_behind))]
 fn operands(
     out: &mut Vec<Part>,
+    homes: u32,
     op: SpBinary,
     a: &SpExpr,
     b: &SpExpr,
@@ -161,32 +207,41 @@ fn operands(
 ) -> Result<(), OutOfMemory>
     requires { ExprFits (between_two op (plain_sp a.now) (plain_sp b.now)) rd }
     ensures { OnOk result (parts_of out.new.items
-        ≡ joined (parts_of out.old.items) (specs.expr_code (between_two op (plain_sp a.now) (plain_sp b.now)) rd)) }
+        ≡ joined (parts_of out.old.items) (specs.expr_code homes (between_two op (plain_sp a.now) (plain_sp b.now)) rd)) }
 {
     if let Some(n) = held_constant(op, b) {
-        expression(out, a, rd)?;
-        return held(out, op, rd, n);
+        operand(out, homes, a, rd)?;
+        return held(out, op, rd, value_at(homes, a, rd), n);
     }
     if is_second_first(a, b) {
-        values(out, b, a, rd)?;
-        binary(out, op, rd, behind(rd), rd)
+        values(out, homes, b, a, rd)?;
+        let (first, second) = (value_at(homes, a, behind(rd)), value_at(homes, b, rd));
+        binary(out, op, rd, first, second)
     } else {
-        values(out, a, b, rd)?;
-        binary(out, op, rd, rd, behind(rd))
+        values(out, homes, a, b, rd)?;
+        let (first, second) = (value_at(homes, a, rd), value_at(homes, b, behind(rd)));
+        binary(out, op, rd, first, second)
     }
 }
 
 // the values of two expressions go to a register and to the one after it
 #[cycle(expression)]
 #[tactic(auto, using(crate::proofs::Pushed::two_pushed))]
-fn values(out: &mut Vec<Part>, first: &SpExpr, second: &SpExpr, rd: Reg) -> Result<(), OutOfMemory>
+fn values(
+    out: &mut Vec<Part>,
+    homes: u32,
+    first: &SpExpr,
+    second: &SpExpr,
+    rd: Reg,
+) -> Result<(), OutOfMemory>
     requires first { ExprFits (plain_sp first.now) rd }
     requires second { ExprFits (plain_sp second.now) (rd + 1) }
     requires room { rd + 1 < 32 }
     ensures { OnOk result (parts_of out.new.items
         ≡ joined (parts_of out.old.items)
-        (joined (specs.expr_code (plain_sp first.now) rd) (specs.expr_code (plain_sp second.now) (rd + 1)))) }
+        (joined (specs.operand_code homes (plain_sp first.now) rd)
+        (specs.operand_code homes (plain_sp second.now) (rd + 1)))) }
 {
-    expression(out, first, rd)?;
-    expression(out, second, behind(rd))
+    operand(out, homes, first, rd)?;
+    operand(out, homes, second, behind(rd))
 }

@@ -1,8 +1,9 @@
 //! Functions and tasks.
-ghost use Rattle.std.specs.Prelude.{◌≡◌, ◌+◌, ◌++◌, ◌<◌, ◌≤◌, ℕ, List, [], true, IfOk, OnOk, length, map, slice_index_or, is_none};
+ghost use Rattle.std.specs.Prelude.{◌≡◌, ◌+◌, ◌++◌, ◌<◌, ◌≤◌, ℕ, List, [], true, IfOk, OnOk, length, slice_index_or, is_none};
 ghost use Rattle.sp_emit.specs.Functions as specs;
 ghost use Rattle.sp_emit.specs.Fits.{FunctionFits};
 ghost use Rattle.sp_emit.specs.Means.{HasConstants, HoldsWords};
+ghost use Rattle.sp_emit.specs.Places as places;
 ghost use Rattle.sp_emit.specs.Ran.{begun_memory};
 ghost use Rattle.sp_emit.specs.Serving.{Answers};
 ghost use Rattle.sp_shape.specs.Formed as shape;
@@ -20,10 +21,11 @@ ghost use Rattle.sp_tree.specs.Shown.{plain_function, plain_unit};
 ghost use Rattle.sp_tree.specs.Shown as trees;
 
 use crate::instructions::{
-    always, copy, from_special, idle, load_slot, returning, stack_op, store_slot, to_special,
-    with_short,
+    always, copy, from_special, idle, load_slot, returning, set_short, stack_op, store_slot,
+    to_special, with_short,
 };
 use crate::parts::{listed, push, push_straight};
+use crate::places::{homes_over, is_in_register, read_word, set_word, words_of};
 use crate::registers::{FIRST, MASK, OVERRUN, RESULT, SPARE, reg};
 use crate::statements::statements;
 use patmos_instr::{Bundle, ImmFunc, Special, StackFunc, WritableSpecial};
@@ -33,30 +35,52 @@ use std::alloc::Global;
 use tc_word::{List, OutOfMemory};
 
 // the arguments go to the first words
-fn keep_arguments(bundles: &mut Vec<Bundle>, parameters: u32) -> Result<(), OutOfMemory>
+fn keep_arguments(bundles: &mut Vec<Bundle>, homes: u32, parameters: u32) -> Result<(), OutOfMemory>
     requires { parameters ≤ 6 }
-    ensures { OnOk result (bundles.new.items ≡ bundles.old.items ++ specs.arguments_kept parameters) }
+    ensures { OnOk result (bundles.new.items ≡ bundles.old.items ++ specs.arguments_kept homes parameters) }
 {
     for n in 0..parameters {
-        bundles.push(store_slot(always(), n, reg(FIRST + n)))?;
+        bundles.push(set_word(homes, always(), n, reg(FIRST + n)))?;
+    }
+    Ok(())
+}
+
+// the words that stand in registers are set to 0
+fn clear_words(bundles: &mut Vec<Bundle>, homes: u32, words: u32) -> Result<(), OutOfMemory>
+    ensures { OnOk result (bundles.new.items ≡ bundles.old.items ++ places.words_cleared homes words) }
+{
+    for n in 0..words {
+        clear_word(bundles, homes, n)?;
+    }
+    Ok(())
+}
+
+// one of them
+#[tactic(auto, unfolding(crate::specs::Places::word_cleared))]
+fn clear_word(bundles: &mut Vec<Bundle>, homes: u32, slot: u32) -> Result<(), OutOfMemory>
+    ensures { OnOk result (bundles.new.items ≡ bundles.old.items ++ places.word_cleared homes slot) }
+{
+    if is_in_register(homes, slot) {
+        bundles.push(set_short(always(), reg(homes + slot), 0))?;
     }
     Ok(())
 }
 
 // a function takes its frame, and keeps its arguments, its mask and the place to which it returns
 #[tactic(auto, using(crate::proofs::Fitting::frame_most, crate::proofs::Fitting::frame_least, crate::proofs::Fitting::few_parameters, crate::proofs::Fitting::mask_fits))]
-fn begin(out: &mut Vec<Part>, f: &SpFunction) -> Result<(), OutOfMemory>
+fn begin(out: &mut Vec<Part>, homes: u32, f: &SpFunction) -> Result<(), OutOfMemory>
     requires fits { FunctionFits (plain_function f.now) }
     ensures { OnOk result (parts_of out.new.items
-        ≡ joined (parts_of out.old.items) (one (straight (specs.function_begin (plain_function f.now))))) }
+        ≡ joined (parts_of out.old.items) (one (straight (specs.function_begin homes (plain_function f.now))))) }
 {
     let (mask, spare) = (reg(MASK), reg(SPARE));
     let mut bundles = Vec::new(*out.allocator());
     bundles.push(stack_op(StackFunc::Sres, f.frame))?;
-    keep_arguments(&mut bundles, f.parameters)?;
+    clear_words(&mut bundles, homes, words_of(f))?;
+    keep_arguments(&mut bundles, homes, f.parameters)?;
     bundles.extend_from_slice(&[
         with_short(always(), ImmFunc::Xor, mask, mask, 1),
-        store_slot(always(), f.mask, mask),
+        set_word(homes, always(), f.mask, mask),
         from_special(spare, Special::Srb),
         store_slot(always(), f.frame - 2, spare),
         from_special(spare, Special::Sro),
@@ -67,9 +91,9 @@ fn begin(out: &mut Vec<Part>, f: &SpFunction) -> Result<(), OutOfMemory>
 
 // a function gives its result and the flag, and frees its frame
 #[tactic(auto, using(crate::proofs::Fitting::frame_most, crate::proofs::Fitting::frame_least, crate::proofs::Fitting::result_fits))]
-fn end_of(f: &SpFunction) -> [Bundle; 7]
+fn end_of(homes: u32, f: &SpFunction) -> [Bundle; 7]
     requires fits { FunctionFits (plain_function f.now) }
-    ensures { result ≡ specs.function_end (plain_function f.now) }
+    ensures { result ≡ specs.function_end homes (plain_function f.now) }
 {
     let spare = reg(SPARE);
     [
@@ -77,18 +101,18 @@ fn end_of(f: &SpFunction) -> [Bundle; 7]
         to_special(WritableSpecial::Srb, spare),
         load_slot(spare, f.frame - 1),
         to_special(WritableSpecial::Sro, spare),
-        load_slot(reg(RESULT), f.result),
+        read_word(homes, reg(RESULT), f.result),
         copy(reg(MASK), reg(OVERRUN)),
         stack_op(StackFunc::Sfree, f.frame),
     ]
 }
 
-fn end(out: &mut Vec<Part>, f: &SpFunction) -> Result<(), OutOfMemory>
+fn end(out: &mut Vec<Part>, homes: u32, f: &SpFunction) -> Result<(), OutOfMemory>
     requires fits { FunctionFits (plain_function f.now) }
     ensures { OnOk result (parts_of out.new.items
-        ≡ joined (parts_of out.old.items) (one (straight (specs.function_end (plain_function f.now))))) }
+        ≡ joined (parts_of out.old.items) (one (straight (specs.function_end homes (plain_function f.now))))) }
 {
-    push_straight(out, &end_of(f))
+    push_straight(out, &end_of(homes, f))
 }
 
 // the return
@@ -102,14 +126,14 @@ fn leave(out: &mut Vec<Part>) -> Result<(), OutOfMemory>
 
 // the code of a function
 #[tactic(auto, using(crate::proofs::Pushed::function_pushed, crate::proofs::Fitting::frame_least, crate::proofs::Fitting::body_fits))]
-fn function(alloc: Global, f: &SpFunction) -> Result<List<Part>, OutOfMemory>
+fn function(alloc: Global, homes: u32, f: &SpFunction) -> Result<List<Part>, OutOfMemory>
     requires fits { FunctionFits (plain_function f.now) }
-    ensures { IfOk result (λ parts. parts_of parts ≡ specs.function_code (plain_function f.now)) }
+    ensures { IfOk result (λ parts. parts_of parts ≡ specs.function_code homes (plain_function f.now)) }
 {
     let mut parts = Vec::new(alloc);
-    begin(&mut parts, f)?;
-    statements(&mut parts, f.body.as_slice(), f.frame, f.frame - 3)?;
-    end(&mut parts, f)?;
+    begin(&mut parts, homes, f)?;
+    statements(&mut parts, homes, f.body.as_slice(), f.frame, f.frame - 3)?;
+    end(&mut parts, homes, f)?;
     leave(&mut parts)?;
     Ok(List::of(parts))
 }
@@ -118,11 +142,14 @@ fn function(alloc: Global, f: &SpFunction) -> Result<List<Part>, OutOfMemory>
 #[tactic(auto, using(crate::proofs::Fitting::function_fits))]
 fn functions(alloc: Global, fs: &[SpFunction]) -> Result<List<List<Part>>, OutOfMemory>
     requires formed { tree.functions_formed (trees.functions_of fs.now) (length fs.now) ≡ true }
-    ensures { IfOk result (λ made. functions_of made ≡ map specs.function_code (trees.functions_of fs.now)) }
+    ensures { IfOk result (λ made. functions_of made ≡ specs.codes (trees.functions_of fs.now)) }
 {
     let mut made = Vec::new(alloc);
+    let mut tops = Vec::new(alloc);
     for f in fs {
-        let parts = function(alloc, f)?;
+        let homes = homes_over(tops.as_slice(), f);
+        tops.push(homes.saturating_add(words_of(f)).min(OVERRUN))?;
+        let parts = function(alloc, homes, f)?;
         made.push(parts)?;
     }
     Ok(List::of(made))

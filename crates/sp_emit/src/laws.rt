@@ -1,5 +1,5 @@
 //! Laws of code.
-ghost use Rattle.std.specs.Prelude.{◌≡◌, ◌+◌, ◌*◌, ◌<◌, ◌≤◌, ℕ, List, [], true, length, map, slice_index_or};
+ghost use Rattle.std.specs.Prelude.{◌≡◌, ◌+◌, ◌*◌, ◌<◌, ◌≤◌, ℕ, List, [], true, length, slice_index_or};
 ghost use Rattle.c_world.specs.World.{World};
 ghost use Rattle.std.specs.List.{Contains};
 ghost use Rattle.patmos_instr.specs.declared.memories.Mem.TheVariants as mem;
@@ -8,6 +8,7 @@ ghost use Rattle.patmos_instr.specs.declared.memories.Width.{Width};
 ghost use Rattle.patmos_sem.specs.declared.effects.Effect.TheVariants as effect;
 ghost use Rattle.sp_tree.specs.Begun.{begun, straight};
 ghost use Rattle.sp_tree.specs.Formed.{is_formed};
+ghost use Rattle.sp_tree.specs.Need.{need};
 ghost use Rattle.sp_tree.specs.Plain.{PlainSp};
 ghost use Rattle.sp_tree.specs.Statements.{PlainFunction, PlainStmts, PlainUnit, no_function};
 ghost use Rattle.sp_tree.specs.Straight.{State, serves, stmts_done, worth};
@@ -25,24 +26,26 @@ ghost use Rattle.sp_emit.specs.Chains.{chains};
 ghost use Rattle.sp_emit.specs.Counts.{HasCounts};
 ghost use Rattle.sp_emit.specs.Expressions.{expr_code};
 ghost use Rattle.sp_emit.specs.Fits.{ExprFits};
-ghost use Rattle.sp_emit.specs.Functions.{emitted, function_code};
+ghost use Rattle.sp_emit.specs.Functions.{emitted, codes};
 ghost use Rattle.sp_emit.specs.Holding.{held, Keeps};
 ghost use Rattle.sp_emit.specs.Means.{Follows, IsReady, KeepsBehind, HoldsWords, HasConstants};
+ghost use Rattle.sp_emit.specs.Places.{word_of, top_of};
 ghost use Rattle.sp_emit.specs.Ran.{begun_memory, ran};
 ghost use Rattle.sp_emit.specs.Serving.{Answers, AreFunctions, AreStatements, CalledWith};
 ghost use Rattle.sp_emit.specs.Statements.{stmts_code};
 ghost use Rattle.sp_tree.specs.declared.limits.TheConstants.{MOST_FRAME};
 ghost use Rattle.sp_emit.specs.declared.registers.TheConstants.{RESULT, MASK, FIRST, SPARE, DIVIDEND, DIVISOR, REMAINDER, DIGITS, OVERRUN, TEST, SECOND, REST_NEGATIVE, QUOTIENT_NEGATIVE, MORE};
 
-/// What the code of an expression leaves, from a register on. Whatever loads give, the registers below that one, the
-/// flag of loops, the stack and all memories are as they were. Where each load gives what was stored last in its word,
-/// the register holds the expression's value.
+/// What the code of an expression leaves, from a register on. Whatever loads give, the registers below that one, those
+/// in which the words of a frame stand, the flag of loops, the stack and all memories are as they were. Where each load
+/// gives what was stored last in its word, the register holds the expression's value.
 pub fn expressions_are_worked_out()
-    ensures keeps { (from : Sources) (f : ℕ → List Step) (e : PlainSp) (rd : ℕ) (m : Run) → ExprFits e rd → IsWhole m
-        → Keeps rd m (run from (parts_trail f (expr_code e rd)) m) }
-    ensures value { (f : ℕ → List Step) (slots : ℕ) (e : PlainSp) (rd : ℕ) (s : State) (m : Run)
-        → IsReady slots e rd s m
-        → held rd (run by_words (parts_trail f (expr_code e rd)) m) ≡ worth e s }
+    ensures keeps { (from : Sources) (f : ℕ → List Step) (homes : ℕ) (e : PlainSp) (rd : ℕ) (m : Run)
+        → ExprFits e rd → rd + need e ≤ homes → IsWhole m
+        → Keeps rd homes m (run from (parts_trail f (expr_code homes e rd)) m) }
+    ensures value { (f : ℕ → List Step) (homes slots : ℕ) (e : PlainSp) (rd : ℕ) (s : State) (m : Run)
+        → IsReady homes slots e rd s m
+        → held rd (run by_words (parts_trail f (expr_code homes e rd)) m) ≡ worth e s }
 {}
 
 /// What comes of a well-formed task's code, where each load gives what was stored last in its word: what the task's
@@ -57,23 +60,30 @@ pub fn tasks_do_what_they_mean()
 
 /// What comes of the code of a function and of its statements, under whatever mask they are run, where each load gives
 /// what was stored last in its word. A function gives what its tree gives, and the words of the stack from its caller's
-/// frame on are as they were, so that the frames of its callers stand. Statements leave the run where they leave the
-/// tree's state: the words of the frame that the tree names, all memories but word 0, the transfers and the flag;
-/// besides these they change registers, and of the frame the words up to a counter of turns alone.
+/// frame on are as they were, so that the frames of its callers stand. So do the words of its callers wherever they
+/// stand, in registers or in the stack: each word of a window that begins at the end of the function's own, or after it.
+/// Statements leave the run where they leave the tree's state: the words of the frame that the tree names, all memories
+/// but word 0, the transfers and the flag; besides these they change registers below the window, and of the frame the
+/// words up to a counter of turns alone.
 pub fn functions_do_what_they_give()
     ensures function { (fs : List PlainFunction) (n k mask : ℕ) (args : List ℕ) (w : World) (m : Run)
         → AreFunctions fs n → k < n
         → length args ≡ (slice_index_or fs k no_function).parameters → (k + 1) * MOST_FRAME ≤ m.st
         → CalledWith mask args w m
-        → Answers (serves fs n k mask args w) m (run by_words (trails (map function_code fs) n k) m) }
-    ensures statements { (fs : List PlainFunction) (n frame slots counter : ℕ) (ts : PlainStmts) (s : State) (m : Run)
-        → AreStatements fs n frame slots counter ts s m
-        → Follows slots (stmts_done (serves fs n) ts s)
-        (run by_words (parts_trail (trails (map function_code fs) n) (stmts_code frame counter ts)) m) }
-    ensures frame { (fs : List PlainFunction) (n frame slots counter : ℕ) (ts : PlainStmts) (s : State) (m : Run)
-        → AreStatements fs n frame slots counter ts s m
-        → KeepsBehind (counter + 1) m (run by_words
-        (parts_trail (trails (map function_code fs) n) (stmts_code frame counter ts)) m) }
+        → Answers (serves fs n k mask args w) m (run by_words (trails (codes fs) n k) m) }
+    ensures callers { (fs : List PlainFunction) (n k mask : ℕ) (args : List ℕ) (w : World) (m : Run)
+        → AreFunctions fs n → k < n
+        → length args ≡ (slice_index_or fs k no_function).parameters → (k + 1) * MOST_FRAME ≤ m.st
+        → CalledWith mask args w m → (homes slot : ℕ) → top_of fs k ≤ homes
+        → word_of homes slot (run by_words (trails (codes fs) n k) m) ≡ word_of homes slot m }
+    ensures statements { (fs : List PlainFunction) (n homes frame slots counter : ℕ) (ts : PlainStmts) (s : State)
+        (m : Run) → AreStatements fs n homes frame slots counter ts s m
+        → Follows homes slots (stmts_done (serves fs n) ts s)
+        (run by_words (parts_trail (trails (codes fs) n) (stmts_code homes frame counter ts)) m) }
+    ensures frame { (fs : List PlainFunction) (n homes frame slots counter : ℕ) (ts : PlainStmts) (s : State)
+        (m : Run) → AreStatements fs n homes frame slots counter ts s m
+        → KeepsBehind (homes + slots) (counter + 1) m (run by_words
+        (parts_trail (trails (codes fs) n) (stmts_code homes frame counter ts)) m) }
 {}
 
 /// Where a load from the stack gives what was stored last in its word, whatever other loads give, all loops of a
@@ -125,11 +135,11 @@ pub fn registers_numbered()
     ensures result { RESULT ≡ 1 }
     ensures mask { MASK ≡ 2 }
     ensures first { FIRST ≡ 3 }
-    ensures spare { SPARE ≡ 21 }
-    ensures dividend { DIVIDEND ≡ 22 }
-    ensures divisor { DIVISOR ≡ 23 }
-    ensures remainder { REMAINDER ≡ 24 }
-    ensures digits { DIGITS ≡ 25 }
+    ensures spare { SPARE ≡ 27 }
+    ensures dividend { DIVIDEND ≡ 28 }
+    ensures divisor { DIVISOR ≡ 29 }
+    ensures remainder { REMAINDER ≡ 30 }
+    ensures digits { DIGITS ≡ 31 }
     ensures overrun { OVERRUN ≡ 26 }
     ensures test { TEST ≡ 1 }
     ensures second { SECOND ≡ 2 }

@@ -18,7 +18,8 @@
 //! the stack. Where these want the constants and the counts of a tree to be words, [`code_holds_the_constants`]
 //! says that they are if the constants of its code are.
 //!
-//! - `specs/Instructions.antt` has the bundles, `src/registers.rt` which registers they use for what.
+//! - `specs/Instructions.antt` has the bundles, `src/registers.rt` which registers they use for what, and
+//!   `specs/Places.antt` where the words of a frame stand: in a window of registers, or in the stack.
 //! - `specs/Expressions.antt` and `specs/Division.antt` have the code of values, `specs/Statements.antt` that of what
 //!   statements do, `specs/Functions.antt` that of functions and tasks.
 //! - `specs/Fits.antt` says when a statement's code fits a frame, `specs/Ran.antt` what comes of a task's code.
@@ -38,6 +39,7 @@ mod instructions;
 mod laws;
 mod operators;
 mod parts;
+mod places;
 mod registers;
 mod statements;
 mod worked;

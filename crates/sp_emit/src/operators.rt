@@ -3,7 +3,6 @@ ghost use Rattle.std.specs.Prelude.{◌≡◌, ◌<◌, OnOk};
 ghost use Rattle.sp_emit.specs.Expressions as specs;
 ghost use Rattle.sp_shape.specs.Parts.{straight, one, joined};
 ghost use Rattle.sp_shape.specs.Shown.{parts_of};
-ghost use Rattle.sp_tree.specs.Cost.{held_below};
 
 use crate::division::{
     quotient_to, rest_to, signed_division, signed_quotient_to, signed_rest_to, unsigned_division,
@@ -30,18 +29,18 @@ fn truth_to(rd: Reg) -> [Bundle; 2]
 }
 
 /// The value of an operator on a register's word goes there. It is `Err` where memory runs out.
-pub fn unary(out: &mut Vec<Part>, op: SpUnary, rd: Reg) -> Result<(), OutOfMemory>
+pub fn unary(out: &mut Vec<Part>, op: SpUnary, rd: Reg, ra: Reg) -> Result<(), OutOfMemory>
     ensures { OnOk result (parts_of out.new.items
-        ≡ joined (parts_of out.old.items) (one (straight (specs.unary_code op rd)))) }
+        ≡ joined (parts_of out.old.items) (one (straight (specs.unary_code op rd ra)))) }
 {
     match op {
-        SpUnary::Minus => push_straight(out, &[compute(always(), AluFunc::Sub, rd, reg(0), rd)]),
+        SpUnary::Minus => push_straight(out, &[compute(always(), AluFunc::Sub, rd, reg(0), ra)]),
         SpUnary::Complement => {
-            push_straight(out, &[compute(always(), AluFunc::Nor, rd, rd, reg(0))])
+            push_straight(out, &[compute(always(), AluFunc::Nor, rd, ra, reg(0))])
         }
         SpUnary::Not => {
             let [zero, one] = truth_to(rd);
-            let test = compare_short(CmpFunc::Eq, pred(TEST), rd, 0);
+            let test = compare_short(CmpFunc::Eq, pred(TEST), ra, 0);
             push_straight(out, &[test, zero, one])
         }
     }
@@ -127,22 +126,50 @@ pub fn binary(
     }
 }
 
+// an operation on a register's word and a constant that an instruction holds
+fn held_computed(
+    out: &mut Vec<Part>,
+    func: ImmFunc,
+    rd: Reg,
+    ra: Reg,
+    n: u32,
+) -> Result<(), OutOfMemory>
+    requires { n < 4096 }
+    ensures { OnOk result (parts_of out.new.items
+        ≡ joined (parts_of out.old.items) (one (straight (specs.held_computed func rd ra n)))) }
+{
+    push_straight(out, &[with_short(always(), func, rd, ra, n)])
+}
+
 // a comparison with a constant that an instruction holds
-fn held_compared(out: &mut Vec<Part>, func: CmpFunc, rd: Reg, n: u32) -> Result<(), OutOfMemory>
+fn held_compared(
+    out: &mut Vec<Part>,
+    func: CmpFunc,
+    rd: Reg,
+    ra: Reg,
+    n: u32,
+) -> Result<(), OutOfMemory>
     requires { n < 32 }
     ensures { OnOk result (parts_of out.new.items
-        ≡ joined (parts_of out.old.items) (one (straight (specs.held_compared func rd n)))) }
+        ≡ joined (parts_of out.old.items) (one (straight (specs.held_compared func rd ra n)))) }
 {
     let [zero, one] = truth_to(rd);
-    push_straight(out, &[compare_short(func, pred(TEST), rd, n), zero, one])
+    push_straight(out, &[compare_short(func, pred(TEST), ra, n), zero, one])
 }
 
 /// The constants that an instruction for an operator holds as its second operand are those below this number.
-pub fn held_below(op: SpBinary) -> u32
-    ensures { result ≡ held_below op }
+pub fn immediate_below(op: SpBinary) -> u32
+    ensures { result ≡ specs.immediate_below op }
 {
     match op {
-        SpBinary::BitAnd => 4096,
+        SpBinary::BitOr
+        | SpBinary::BitXor
+        | SpBinary::BitAnd
+        | SpBinary::ShiftLeft
+        | SpBinary::ShiftRight
+        | SpBinary::ShiftRightUnsigned
+        | SpBinary::Plus
+        | SpBinary::Minus => 4096,
         SpBinary::Equal
         | SpBinary::NotEqual
         | SpBinary::Less
@@ -154,19 +181,26 @@ pub fn held_below(op: SpBinary) -> u32
 }
 
 /// The value of an operator on a register's word and such a constant goes there. It is `Err` where memory runs out.
-pub fn held(out: &mut Vec<Part>, op: SpBinary, rd: Reg, n: u32) -> Result<(), OutOfMemory>
-    requires { n < held_below op }
+pub fn held(out: &mut Vec<Part>, op: SpBinary, rd: Reg, ra: Reg, n: u32) -> Result<(), OutOfMemory>
+    requires { n < specs.immediate_below op }
     ensures { OnOk result (parts_of out.new.items
-        ≡ joined (parts_of out.old.items) (one (straight (specs.held_code op rd n)))) }
+        ≡ joined (parts_of out.old.items) (one (straight (specs.held_code op rd ra n)))) }
 {
     match op {
-        SpBinary::BitAnd => push_straight(out, &[with_short(always(), ImmFunc::And, rd, rd, n)]),
-        SpBinary::Equal => held_compared(out, CmpFunc::Eq, rd, n),
-        SpBinary::NotEqual => held_compared(out, CmpFunc::Neq, rd, n),
-        SpBinary::Less => held_compared(out, CmpFunc::Lt, rd, n),
-        SpBinary::LessUnsigned => held_compared(out, CmpFunc::Ult, rd, n),
-        SpBinary::LessEqual => held_compared(out, CmpFunc::Le, rd, n),
-        SpBinary::LessEqualUnsigned => held_compared(out, CmpFunc::Ule, rd, n),
+        SpBinary::BitOr => held_computed(out, ImmFunc::Or, rd, ra, n),
+        SpBinary::BitXor => held_computed(out, ImmFunc::Xor, rd, ra, n),
+        SpBinary::BitAnd => held_computed(out, ImmFunc::And, rd, ra, n),
+        SpBinary::ShiftLeft => held_computed(out, ImmFunc::Sl, rd, ra, n),
+        SpBinary::ShiftRight => held_computed(out, ImmFunc::Sra, rd, ra, n),
+        SpBinary::ShiftRightUnsigned => held_computed(out, ImmFunc::Sr, rd, ra, n),
+        SpBinary::Plus => held_computed(out, ImmFunc::Add, rd, ra, n),
+        SpBinary::Minus => held_computed(out, ImmFunc::Sub, rd, ra, n),
+        SpBinary::Equal => held_compared(out, CmpFunc::Eq, rd, ra, n),
+        SpBinary::NotEqual => held_compared(out, CmpFunc::Neq, rd, ra, n),
+        SpBinary::Less => held_compared(out, CmpFunc::Lt, rd, ra, n),
+        SpBinary::LessUnsigned => held_compared(out, CmpFunc::Ult, rd, ra, n),
+        SpBinary::LessEqual => held_compared(out, CmpFunc::Le, rd, ra, n),
+        SpBinary::LessEqualUnsigned => held_compared(out, CmpFunc::Ule, rd, ra, n),
         _ => unreachable!(),
     }
 }

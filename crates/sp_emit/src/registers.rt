@@ -1,5 +1,6 @@
 //! Which registers compiled code uses for what. Those from [`FIRST`] on hold the values of expressions, and a
-//! function's arguments, one after another; those from [`SPARE`] on what an operator or a statement needs beside them.
+//! function's arguments, one after another; after them, up to [`OVERRUN`], stand words of frames; those from [`SPARE`]
+//! on hold what an operator or a statement needs besides.
 ghost use Rattle.std.specs.Prelude.{◌≡◌, ◌+◌, ◌<◌, ◌%◌, ◌^◌};
 
 use patmos_instr::{Pred, Reg};
@@ -15,19 +16,19 @@ pub const MASK: u32 = 2;
 pub const FIRST: u32 = 3;
 
 /// A word that is used at once: an address, a length, a mask, a bit.
-pub const SPARE: u32 = 21;
+pub const SPARE: u32 = 27;
 
 /// What is divided; while it is, the digits of the quotient come in from the right.
-pub const DIVIDEND: u32 = 22;
+pub const DIVIDEND: u32 = 28;
 
 /// By what it is divided.
-pub const DIVISOR: u32 = 23;
+pub const DIVISOR: u32 = 29;
 
 /// What is left of the digits that were taken so far.
-pub const REMAINDER: u32 = 24;
+pub const REMAINDER: u32 = 30;
 
 /// How many digits are still to be taken.
-pub const DIGITS: u32 = 25;
+pub const DIGITS: u32 = 31;
 
 /// Whether a loop went past its bound, in all functions of the task: 0 or 1.
 pub const OVERRUN: u32 = 26;

@@ -12,8 +12,9 @@ ghost use Rattle.sp_emit.specs.declared.registers.TheConstants.{FIRST};
 
 use crate::calls::{begin_turns, call_of, overrun, repeat, send};
 use crate::expressions::expression;
-use crate::instructions::{always, store_slot};
+use crate::instructions::always;
 use crate::parts::push_straight;
+use crate::places::set_word;
 use crate::registers::{FIRST, behind, reg};
 use crate::writes::{cell_write, element_write, slot_write};
 use patmos_instr::Reg;
@@ -23,31 +24,36 @@ use tc_word::OutOfMemory;
 
 // a target is set to the value in the first register
 #[tactic(auto, using(crate::proofs::Pushed::two_pushed, crate::proofs::Fitting::target_mask, crate::proofs::Fitting::slot_fits, crate::proofs::Fitting::index_fits, crate::proofs::Fitting::cell_fits, crate::proofs::Fitting::array_fits))]
-fn target(out: &mut Vec<Part>, mask: u32, to: &SpTarget) -> Result<(), OutOfMemory>
+fn target(out: &mut Vec<Part>, homes: u32, mask: u32, to: &SpTarget) -> Result<(), OutOfMemory>
     requires fits { TargetFits mask (plain_sp_target to.now) }
     ensures { OnOk result (parts_of out.new.items
-        ≡ joined (parts_of out.old.items) (specs.target_write mask (plain_sp_target to.now))) }
+        ≡ joined (parts_of out.old.items) (specs.target_write homes mask (plain_sp_target to.now))) }
 {
     match to {
-        SpTarget::Frame { slot } => slot_write(out, mask, *slot),
-        SpTarget::Scalar { cell } => cell_write(out, mask, *cell),
+        SpTarget::Frame { slot } => slot_write(out, homes, mask, *slot),
+        SpTarget::Scalar { cell } => cell_write(out, homes, mask, *cell),
         SpTarget::Element { array, index } => {
-            expression(out, index, behind(reg(FIRST)))?;
-            element_write(out, mask, *array)
+            expression(out, homes, index, behind(reg(FIRST)))?;
+            element_write(out, homes, mask, *array)
         }
     }
 }
 
 // the values of arguments go to registers, one after another
 #[tactic(auto, using(crate::proofs::Fitting::first_argument, crate::proofs::Fitting::room_behind))]
-fn arguments(out: &mut Vec<Part>, args: &[SpExpr], first: Reg) -> Result<(), OutOfMemory>
+fn arguments(
+    out: &mut Vec<Part>,
+    homes: u32,
+    args: &[SpExpr],
+    first: Reg,
+) -> Result<(), OutOfMemory>
     requires fits { ArgsFit (map plain_sp args.now) first }
     ensures { OnOk result (parts_of out.new.items
-        ≡ joined (parts_of out.old.items) (specs.args_code (map plain_sp args.now) first)) }
+        ≡ joined (parts_of out.old.items) (specs.args_code homes (map plain_sp args.now) first)) }
 {
     let mut rd = first;
     for e in args {
-        expression(out, e, rd)?;
+        expression(out, homes, e, rd)?;
         rd = behind(rd);
     }
     Ok(())
@@ -57,6 +63,7 @@ fn arguments(out: &mut Vec<Part>, args: &[SpExpr], first: Reg) -> Result<(), Out
 #[tactic(auto, using(crate::proofs::Pushed::three_pushed))]
 fn send_values(
     out: &mut Vec<Part>,
+    homes: u32,
     source: &SpExpr,
     target: &SpExpr,
     count: &SpExpr,
@@ -65,20 +72,21 @@ fn send_values(
     requires target { ExprFits (plain_sp target.now) (FIRST + 1) }
     requires count { ExprFits (plain_sp count.now) (FIRST + 2) }
     ensures { OnOk result (parts_of out.new.items ≡ joined (parts_of out.old.items)
-        (joined (expr_code (plain_sp source.now) FIRST)
-        (joined (expr_code (plain_sp target.now) (FIRST + 1)) (expr_code (plain_sp count.now) (FIRST + 2))))) }
+        (joined (expr_code homes (plain_sp source.now) FIRST)
+        (joined (expr_code homes (plain_sp target.now) (FIRST + 1)) (expr_code homes (plain_sp count.now) (FIRST + 2))))) }
 {
     let first = reg(FIRST);
     let second = behind(first);
-    expression(out, source, first)?;
-    expression(out, target, second)?;
-    expression(out, count, behind(second))
+    expression(out, homes, source, first)?;
+    expression(out, homes, target, second)?;
+    expression(out, homes, count, behind(second))
 }
 
 // a send with its values
 #[tactic(auto, using(crate::proofs::Pushed::send_pushed))]
 fn send_of(
     out: &mut Vec<Part>,
+    homes: u32,
     mask: u32,
     core: u32,
     source: &SpExpr,
@@ -91,19 +99,19 @@ fn send_of(
     requires target { ExprFits (plain_sp target.now) (FIRST + 1) }
     requires count { ExprFits (plain_sp count.now) (FIRST + 2) }
     ensures { OnOk result (parts_of out.new.items ≡ joined (parts_of out.old.items)
-        (specs.stmt_code 0 0 (plain.transfers mask core (plain_sp source.now) (plain_sp target.now)
+        (specs.stmt_code homes 0 0 (plain.transfers mask core (plain_sp source.now) (plain_sp target.now)
         (plain_sp count.now)))) }
 {
-    send_values(out, source, target, count)?;
-    send(out, mask, core)
+    send_values(out, homes, source, target, count)?;
+    send(out, homes, mask, core)
 }
 
 // a word of the frame is set in any case
-fn set_slot(out: &mut Vec<Part>, slot: u32) -> Result<(), OutOfMemory>
+fn set_slot(out: &mut Vec<Part>, homes: u32, slot: u32) -> Result<(), OutOfMemory>
     requires { slot < 128 }
-    ensures { OnOk result (parts_of out.new.items ≡ joined (parts_of out.old.items) (specs.slot_set slot)) }
+    ensures { OnOk result (parts_of out.new.items ≡ joined (parts_of out.old.items) (specs.slot_set homes slot)) }
 {
-    push_straight(out, &[store_slot(always(), slot, reg(FIRST))])
+    push_straight(out, &[set_word(homes, always(), slot, reg(FIRST))])
 }
 
 /// The code of a statement stands after the parts. It is `Err` where memory runs out.
@@ -111,26 +119,27 @@ fn set_slot(out: &mut Vec<Part>, slot: u32) -> Result<(), OutOfMemory>
 #[tactic(auto, using(crate::proofs::Pushed::two_pushed, crate::proofs::Fitting::masks_value, crate::proofs::Fitting::masks_slot, crate::proofs::Fitting::writes_value, crate::proofs::Fitting::writes_target, crate::proofs::Fitting::calls_mask, crate::proofs::Fitting::calls_args, crate::proofs::Fitting::calls_result, crate::proofs::Fitting::sends_mask, crate::proofs::Fitting::sends_core, crate::proofs::Fitting::sends_source, crate::proofs::Fitting::sends_target, crate::proofs::Fitting::sends_count, crate::proofs::Fitting::overruns_mask, crate::proofs::Fitting::overruns_value), unfolding(sp_tree::specs::Shown::plain_stmt))]
 pub fn statement(
     out: &mut Vec<Part>,
+    homes: u32,
     t: &SpStmt,
     frame: u32,
     counter: u32,
 ) -> Result<(), OutOfMemory>
     requires fits { StmtFits frame counter (plain_stmt t.now) }
     ensures { OnOk result (parts_of out.new.items
-        ≡ joined (parts_of out.old.items) (specs.stmt_code frame counter (plain_stmt t.now))) }
+        ≡ joined (parts_of out.old.items) (specs.stmt_code homes frame counter (plain_stmt t.now))) }
 {
     match t {
         SpStmt::Mask { slot, value } => {
-            expression(out, value, reg(FIRST))?;
-            set_slot(out, *slot)
+            expression(out, homes, value, reg(FIRST))?;
+            set_slot(out, homes, *slot)
         }
         SpStmt::Write {
             mask,
             target: to,
             value,
         } => {
-            expression(out, value, reg(FIRST))?;
-            target(out, *mask, to)
+            expression(out, homes, value, reg(FIRST))?;
+            target(out, homes, *mask, to)
         }
         SpStmt::Call {
             mask,
@@ -138,8 +147,8 @@ pub fn statement(
             args,
             result,
         } => {
-            arguments(out, args.as_slice(), reg(FIRST))?;
-            call_of(out, frame, *mask, *function, *result)
+            arguments(out, homes, args.as_slice(), reg(FIRST))?;
+            call_of(out, homes, frame, *mask, *function, *result)
         }
         SpStmt::Send {
             mask,
@@ -147,12 +156,12 @@ pub fn statement(
             source,
             target,
             count,
-        } => send_of(out, *mask, *core, source, target, count),
+        } => send_of(out, homes, *mask, *core, source, target, count),
         SpStmt::Overrun { mask, value } => {
-            expression(out, value, reg(FIRST))?;
-            overrun(out, *mask)
+            expression(out, homes, value, reg(FIRST))?;
+            overrun(out, homes, *mask)
         }
-        SpStmt::Turns { count, body } => turns(out, *count, body.as_slice(), frame, counter),
+        SpStmt::Turns { count, body } => turns(out, homes, *count, body.as_slice(), frame, counter),
     }
 }
 
@@ -161,6 +170,7 @@ pub fn statement(
 #[tactic(auto, using(crate::proofs::Pushed::turns_pushed, crate::proofs::Fitting::counter_fits, crate::proofs::Fitting::counter_some, crate::proofs::Fitting::turns_body))]
 fn turns(
     out: &mut Vec<Part>,
+    homes: u32,
     count: u32,
     body: &[SpStmt],
     frame: u32,
@@ -168,11 +178,11 @@ fn turns(
 ) -> Result<(), OutOfMemory>
     requires fits { StmtFits frame counter (plain.turns count (stmts_of body.now)) }
     ensures { OnOk result (parts_of out.new.items
-        ≡ joined (parts_of out.old.items) (specs.stmt_code frame counter (plain.turns count (stmts_of body.now)))) }
+        ≡ joined (parts_of out.old.items) (specs.stmt_code homes frame counter (plain.turns count (stmts_of body.now)))) }
 {
     begin_turns(out, counter, count)?;
     let mut turn = Vec::new(*out.allocator());
-    statements(&mut turn, body, frame, counter - 1)?;
+    statements(&mut turn, homes, body, frame, counter - 1)?;
     repeat(out, counter, count, turn)
 }
 
@@ -181,16 +191,17 @@ fn turns(
 #[tactic(auto)]
 pub fn statements(
     out: &mut Vec<Part>,
+    homes: u32,
     body: &[SpStmt],
     frame: u32,
     counter: u32,
 ) -> Result<(), OutOfMemory>
     requires fits { StmtsFit frame counter (stmts_of body.now) }
     ensures { OnOk result (parts_of out.new.items
-        ≡ joined (parts_of out.old.items) (specs.stmts_code frame counter (stmts_of body.now))) }
+        ≡ joined (parts_of out.old.items) (specs.stmts_code homes frame counter (stmts_of body.now))) }
 {
     for t in body {
-        statement(out, t, frame, counter)?;
+        statement(out, homes, t, frame, counter)?;
     }
     Ok(())
 }

@@ -31,20 +31,27 @@ AllTurns go Inside body tail (suc (suc n)) m =
 
 -- ---- parts
 
--- each loop makes all its turns, those inside its body too, a return goes to a place, and what is said of a function by
--- its number holds where it is called and begins; over the trails of functions by their number
+-- each loop makes all its turns, those inside its body too, and what is said of a function by its number holds where it
+-- is called and begins; over the trails of functions by their number, and with what is said of the tails of returns
 abbrev mutual
-  pub PartTurns : (List Step → Run → Run) → (ℕ → List Step) → (ℕ → Run → Type 0) → Back → PlainPart → Run → Type 0
-  PartTurns go f Called back (straight bs) m = Unit {0}
-  PartTurns go f Called back (repeats count body tail) m =
-      AllTurns go (λ t. PartsTurn go f Called back body t) (parts_trail f body) tail count m
-  PartTurns go f Called back (calls_to k tail) m = Called k (go (all_done tail ++ begins ∷ []) m)
-  PartTurns go f Called back (leaves tail) m = Returns go tail back m
+  pub PartGoes : (List Step → Run → Run) → (ℕ → List Step) → (ℕ → Run → Type 0) → (List Slots → Run → Type 0) → PlainPart → Run → Type 0
+  PartGoes go f Called AtReturn (straight bs) m = Unit {0}
+  PartGoes go f Called AtReturn (repeats count body tail) m =
+      AllTurns go (λ t. PartsGo go f Called AtReturn body t) (parts_trail f body) tail count m
+  PartGoes go f Called AtReturn (calls_to k tail) m = Called k (go (all_done tail ++ begins ∷ []) m)
+  PartGoes go f Called AtReturn (leaves tail) m = AtReturn tail m
 
-  pub PartsTurn : (List Step → Run → Run) → (ℕ → List Step) → (ℕ → Run → Type 0) → Back → PlainParts → Run → Type 0
-  PartsTurn go f Called back no_part m = Unit {0}
-  PartsTurn go f Called back (part p rest) m =
-      PartTurns go f Called back p m × PartsTurn go f Called back rest (go (part_trail f p) m)
+  pub PartsGo : (List Step → Run → Run) → (ℕ → List Step) → (ℕ → Run → Type 0) → (List Slots → Run → Type 0) → PlainParts → Run → Type 0
+  PartsGo go f Called AtReturn no_part m = Unit {0}
+  PartsGo go f Called AtReturn (part p rest) m =
+      PartGoes go f Called AtReturn p m × PartsGo go f Called AtReturn rest (go (part_trail f p) m)
+
+-- and a return goes to a place
+abbrev pub PartTurns : (List Step → Run → Run) → (ℕ → List Step) → (ℕ → Run → Type 0) → Back → PlainPart → Run → Type 0
+PartTurns go f Called back p m = PartGoes go f Called (λ tail t. Returns go tail back t) p m
+
+abbrev pub PartsTurn : (List Step → Run → Run) → (ℕ → List Step) → (ℕ → Run → Type 0) → Back → PlainParts → Run → Type 0
+PartsTurn go f Called back ps m = PartsGo go f Called (λ tail t. Returns go tail back t) ps m
 
 -- ---- functions and shapes
 
@@ -52,13 +59,22 @@ abbrev mutual
 abbrev pub back_of : Run → Back
 back_of m = record { base = m.regs.srb; offset = m.regs.sro }
 
--- the function of a number, and those that it calls; functions in order, each over the earlier ones
+-- the function of a number, and those that it calls, with what is said of the tails of its returns where it begins;
+-- functions in order, each over the earlier ones
+abbrev pub FunctionsGo : (List Step → Run → Run) → (Run → List Slots → Run → Type 0) → List PlainParts → ℕ → ℕ → Run → Type 0
+FunctionsGo go AtReturn fs zero k m = Unit {0}
+FunctionsGo go AtReturn fs (suc n) k m =
+    MatchBool (k == n) (PartsGo go (trails fs n) (FunctionsGo go AtReturn fs n) (AtReturn m) (slice_index_or fs n no_part) m)
+    (FunctionsGo go AtReturn fs n k m)
+
+-- each goes to the place that was set
 abbrev pub FunctionsTurn : (List Step → Run → Run) → List PlainParts → ℕ → ℕ → Run → Type 0
-FunctionsTurn go fs zero k m = Unit {0}
-FunctionsTurn go fs (suc n) k m =
-    MatchBool (k == n) (PartsTurn go (trails fs n) (FunctionsTurn go fs n) (back_of m) (slice_index_or fs n no_part) m)
-    (FunctionsTurn go fs n k m)
+FunctionsTurn go fs n k m = FunctionsGo go (λ begun tail t. Returns go tail (back_of begun) t) fs n k m
 
 -- all of it where the shape's trail is run from here
 abbrev pub ShapeTurns : (List Step → Run → Run) → PlainShape → Run → Type 0
 ShapeTurns go s m = FunctionsTurn go s.functions (length s.functions) s.entry m
+
+-- the loops alone, wherever its returns go
+abbrev pub ShapeLoops : (List Step → Run → Run) → PlainShape → Run → Type 0
+ShapeLoops go s m = FunctionsGo go (λ begun tail t. Unit {0}) s.functions (length s.functions) s.entry m

@@ -86,6 +86,6 @@ abbrev mutual
   stmts_cost (stmt t rest) = stmt_cost t + stmts_cost rest
 
 -- a function has its size word, takes and frees its frame, keeps its parameters, its mask and the place to which it
--- returns, and gives its result
+-- returns, sets the words to 0 that stand in registers, and gives its result
 abbrev pub cost : PlainFunction → ℕ
-cost f = 36 + stmts_cost f.body
+cost f = 56 + stmts_cost f.body

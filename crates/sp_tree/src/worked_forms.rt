@@ -115,5 +115,5 @@ pub fn worked_costs()
     ensures leaving { (e : PlainSp) → stmts_cost (small.leaving e) ≡ 16 + expr_cost e }
     ensures set_variable { stmt_cost (writes 0 (to_cell (small.cell Region.Private 4)) (constant 5))
         ≡ 7 + expr_cost (constant 5) }
-    ensures function { cost (small.entry_of no_stmt) ≡ 36 }
+    ensures function { cost (small.entry_of no_stmt) ≡ 56 }
 {}

@@ -1,7 +1,6 @@
 -- The code of a task asks for nothing that a check of a core stops, makes its turns, and has the same events.
 use Rattle.std.proofs.Common.{◌≡◌, ℕ, ◌+◌, ◌*◌, ◌%◌, ◌^◌, ◌<◌, ◌⊎◌, inl, inr, true, Bool, List, [], ◌∷◌, ◌++◌, length, Option, None, Some, slice_index_or, refl, sym, ap, ◌∙◌, subst, arith}
 use Rattle.std.proofs.Math.ListN.{get_or-eq_default}
-use Rattle.std.proofs.lemmas.List.{length-map}
 use Rattle.std.specs.Prelude.{◌&&◌, is_none, nat_le, nat_lt}
 use Rattle.std.specs.List.{Contains, AllByRecursion as Each}
 use Rattle.std.proofs.lemmas.Bool.{and_from, and_parts, leb-true, ltb-true, cases_lt}
@@ -32,13 +31,14 @@ use Rattle.sp_shape.specs.Trail.{Step, does, begins, trail}
 use Rattle.sp_emit.specs.Accesses.{IsReadPlace, IsStoredPlace, MayAsk, Asks, AsksOnly, cached_addresses}
 use Rattle.sp_emit.specs.Expressions.{cell_space, array_space}
 use Rattle.sp_emit.specs.Counts.{HasCounts}
-use Rattle.sp_emit.specs.Functions.{emitted, function_code}
+use Rattle.sp_emit.specs.Functions.{emitted}
+use Rattle.sp_emit.proofs.Codes.{codes_length}
 use Rattle.sp_emit.specs.Means.{HasConstants}
 use Rattle.sp_emit.specs.Starting.{AllWords}
 use Rattle.sp_emit.proofs.Constants.{constants_are_words, counts_are_words}
 use Rattle.sp_emit.proofs.Kept as emit
 use Rattle.bundle_sched.proofs.Kept as sched
-use Rattle.bundle_sched.specs.Packed.{can_pair, pair}
+use Rattle.bundle_sched.specs.Packed.{can_join, pair, lone}
 use Rattle.bundle_sched.proofs.Commute.{idle_is}
 use Rattle.bundle_sched.proofs.TwoInOne.{pairs}
 use Rattle.tc_link.proofs.Constants.{function_words_fit}
@@ -51,6 +51,7 @@ use Rattle.sp_emit.proofs.TaskAsks.{task_asks}
 use Rattle.sp_emit.proofs.WithinStack.{task_stays}
 use Rattle.bundle_sched.proofs.Runs.{runs_as}
 use Rattle.bundle_sched.proofs.Turns.{turns_as}
+use Rattle.sp_emit.proofs.Formed.{emitted_formed}
 use Rattle.tc_link.specs.Backs.{backs_of}
 use Rattle.tc_link.specs.Placed.{linked}
 use Rattle.code_core.specs.Asked.{asked_of, asks_in, MaySendAt, MaySend, AllSend}
@@ -255,7 +256,7 @@ addresses_of from (begins ∷ steps) m = addresses_of from steps (begun m)
 constants_dropped : (b : Slots) → is_idle b ≡ true → has_constants b ≡ true
 constants_dropped b nothing = ap has_constants (idle_is b nothing)
 
-constants_paired : (a b : Slots) → can_pair a b ≡ true → has_constants (pair a b) ≡ true → (has_constants a ≡ true) × (has_constants b ≡ true)
+constants_paired : (a b : Slots) → can_join a b ≡ true → has_constants (pair a b) ≡ true → (has_constants a ≡ true) × (has_constants b ≡ true)
 constants_paired a b can h =
     let both = and_parts (nat_lt (constant_of a.first.op) (2 ^ 32)) (nat_lt (constant_of b.first.op) (2 ^ 32)) h in
     let two = pairs a b can in
@@ -268,11 +269,16 @@ constants_paired a b can h =
         so None none = and_from (nat_lt (constant_of x.first.op) (2 ^ 32)) true fits refl
         so (Some i) none = absurd (cc)
 
+constants_apart : (b : Slots) (i : Instr) → b.second ≡ Some i → has_constants (lone b.first) ≡ true → has_constants (lone i) ≡ true → has_constants b ≡ true
+constants_apart b i is first second =
+    and_from (nat_lt (constant_of b.first.op) (2 ^ 32)) (second_constant b.second) (and_parts (nat_lt (constant_of b.first.op) (2 ^ 32)) true first).0
+    (ap second_constant is ∙ (and_parts (nat_lt (constant_of i.op) (2 ^ 32)) true second).0)
+
 -- what the laws of emit and schedule tell of the code
 module _ (u : PlainUnit) (code : IsCode u) where
   steady_code : (k : ℕ) → k < length (code_of u).functions → parts_all is_steady (slice_index_or (code_of u).functions k no_part) ≡ true
   steady_code k below =
-      let few : k < length u.functions = omega (arith, below, sched.functions_stay (emitted u), length-map u.functions function_code) in
+      let few : k < length u.functions = omega (arith, below, sched.functions_stay (emitted u), codes_length u.functions) in
       sched.steady_as (emitted u) (code_of u) refl k (emit.steady_as (emitted u) u refl k few)
 
   code_words : HasCode (linked (code_of u))
@@ -288,7 +294,7 @@ module _ (u : PlainUnit) (code : IsCode u) where
   ]
 
   emitted_words : (k : ℕ) → parts_all has_word (slice_index_or (emitted u).functions k no_part) ≡ true
-  emitted_words k = sched.none_lost has_word sched.word_dropped sched.word_paired (emitted u) k (words_at k)
+  emitted_words k = sched.none_lost has_word sched.word_dropped sched.word_paired sched.word_apart (emitted u) k (words_at k)
 
   pub counts_of : HasCounts u.functions
   counts_of = counts_are_words u emitted_words
@@ -298,7 +304,7 @@ module _ (u : PlainUnit) (code : IsCode u) where
 
   -- the constants of all bundles are words
   emitted_fits : AllFit (trail (emitted u))
-  emitted_fits = trail_fits (emitted u) (λ k. sched.none_lost has_constants constants_dropped constants_paired (emitted u) k (constants_at (code_of u) code.bundles k))
+  emitted_fits = trail_fits (emitted u) (λ k. sched.none_lost has_constants constants_dropped constants_paired constants_apart (emitted u) k (constants_at (code_of u) code.bundles k))
 
   pub words_there : (memory : Memory) (loads : List ℕ) → Each IsWord loads → AllWords by_stack (trail (emitted u)) (at_begin memory loads (backs_of (code_of u)))
   words_there memory loads words =
@@ -345,7 +351,7 @@ sends_there u place h code memory loads words =
 pub behaves : (u : PlainUnit) (place : Place) (h : IsRunnable u place) → IsCode u → Behaves (code_of u) place (asking u h.formed).cached
 behaves u place h code = record {
   turns = λ memory loads words.
-      turns_as (emitted u) (code_of u) refl by_stack (begins_at u h.formed memory loads) (whole u h.formed memory loads) (task_turns u by_stack memory loads (backs_of (code_of u)) refl h.formed (counts_of u code));
+      turns_as (emitted u) (code_of u) refl (emitted_formed u h.formed) by_stack (begins_at u h.formed memory loads) (whole u h.formed memory loads) (task_turns u by_stack memory loads (backs_of (code_of u)) refl h.formed (counts_of u code));
   sound = λ memory loads words.
       all_sound (site_of place (linked (code_of u))) (MayAsk (Contains (uses_of u))) (sound_ask (Contains (uses_of u)) (λ core named. (targets_of u place h core named).0) (site_of place (linked (code_of u)))) by_stack (trail (code_of u)) (begins_at u h.formed memory loads)
       (may_there u h.formed memory loads)

@@ -6,13 +6,14 @@ ghost use Rattle.sp_tree.specs.Statements.{PlainUnit};
 ghost use Rattle.task_core.specs.Tasks.{times_of};
 ghost use Rattle.task_words.specs.Meant.{HasMeaning, HasWorld};
 ghost use Rattle.task_machine.specs.Machines.{machine_after, HasTask, Task, BeginsAs, IsAlone};
-ghost use Rattle.task_machine.specs.Told.{task_operations, HasTimes, IsAmong};
+ghost use Rattle.task_machine.specs.Told.{task_operations, AreAllItsOwn, HasTimes, IsAmong};
 
 use slot_arbiter::Place;
 
 /// In a machine a compiled task keeps its times: its accesses, its end, and before its end it runs,
 /// whatever its input is and whatever the other cores do. The operations of the task itself stand among all
-/// that are made, in their order. A law: it does nothing.
+/// that are made, in their order; without those of its core's interface they are all of the core's. A law: it does
+/// nothing.
 pub fn machines_keep_tasks_times(place: &Place)
     ensures times { (u : PlainUnit) (input : List ℕ) (words : ℕ) (cores : ℕ → Core) (cycles : ℕ)
         → HasTask u place.now input words cores cycles
@@ -21,6 +22,9 @@ pub fn machines_keep_tasks_times(place: &Place)
         → HasTask u place.now input words cores cycles
         → IsAmong (task_operations u place.now input (machine_after place.now.cores cores cycles) cycles)
         (machine_after place.now.cores cores cycles).made }
+    ensures own { (u : PlainUnit) (input : List ℕ) (words : ℕ) (cores : ℕ → Core) (cycles : ℕ)
+        → HasTask u place.now input words cores cycles
+        → AreAllItsOwn u place.now input (machine_after place.now.cores cores cycles) cycles }
 {}
 
 /// In a machine a compiled task comes to what its tree means. From its end on, for each world in which each of the

@@ -1,11 +1,11 @@
 -- To be believed. The keys of a job.
-use Rattle.std.specs.Prelude.{ℕ, pos, ℤ, Bool, false, ◌||◌, ◌==◌, if◌then◌else◌, List, codes, bytes_eq, Option, Some, Result, Ok, Err}
-use Rattle.toml.specs.Data.{Data, Members, no_members, member, as_integer}
+use Rattle.std.specs.Prelude.{ℕ, pos, ℤ, Bool, false, ◌||◌, ◌==◌, if◌then◌else◌, List, codes, bytes_eq, Option, Some, Result}
+use Rattle.toml.specs.Data.{Data, Members, as_integer}
 use Rattle.std.specs.Option.{option_and_then}
-use Rattle.tc_toml.specs.declared.fault.JobFault.TheVariants as faults
 use Rattle.tc_job.specs.declared.keys.Level.{Level}
 use Rattle.tc_job.specs.declared.keys.Level.TheVariants.{OfJob, OfTabledJob, OfTask}
 use Rattle.tc_toml.specs.Fault.{Fault}
+use Rattle.tc_toml.specs.Keys as keys
 
 -- the keys of a job without a slot table
 abbrev pub is_job_key : List ℕ → Bool
@@ -33,9 +33,6 @@ is_two _ = false
 abbrev pub level_of : Option Data → Level
 level_of version = if is_two (option_and_then as_integer version) then OfTabledJob else OfJob
 
--- Every key is one of the level's, or else the first that is not is at fault. Members stand in the
--- order of their keys' bytes, so that it is the least of them.
+-- every key is one of the level's, or else the least by bytes that is not is at fault
 abbrev pub known_keys : Level → Option ℕ → Members → Result (Unit {0}) Fault
-known_keys level task no_members = Ok tt
-known_keys level task (member key d others) = if is_key level key then known_keys level task others
-    else Err (record { kind = faults.Key; task = task; key = key })
+known_keys level task ms = keys.known_keys (is_key level) task ms

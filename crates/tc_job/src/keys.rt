@@ -57,7 +57,7 @@ fn is_task_key(key: &str) -> bool
     key == "core" || key == "lang" || key == "source" || key == "input" || key == "start"
 }
 
-/// Refuses the first key that the level does not have.
+/// Refuses the least key that the level does not have: the first, since keys rise.
 pub fn know_keys(section: &Section<'_>, level: Level) -> Result<(), JobError>
     ensures { Gives (λ _. tt) result (specs.known_keys level section.now.task (table_view section.now.table.now)) }
 {

@@ -1,3 +1,4 @@
 pub mod Each
 pub mod Items
+pub mod Rising
 pub mod Trees

@@ -7,6 +7,7 @@
 //! - [`Section`] is a table of the tree: a number in its range, a string, or any value at a key is exactly
 //!   what the definitions in `specs/Values.antt` find there, or their fault at that key. [`integers_in`],
 //!   [`tables_of`] and [`text_of`] read a value by itself.
+//! - `specs/Keys.antt` says which unknown key of a table is told: the least by bytes, as [`least_key_is_told`] shows.
 //! - [`JobError`] says the first fault of a text, and where it is; [`put_fault`] appends the line in which
 //!   it is told. Only want of memory may come besides.
 //!
@@ -14,12 +15,14 @@
 #![tactic(auto)]
 
 mod fault;
+mod keys;
 mod section;
 mod tree;
 mod values;
 mod worked;
 
 pub use fault::{JobError, JobFault, Refusal, put_fault};
+pub use keys::least_key_is_told;
 pub use section::Section;
 pub use tree::tree_of;
 pub use values::{integers_in, tables_of, text_of};

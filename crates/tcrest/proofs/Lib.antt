@@ -5,6 +5,7 @@ pub mod OutputFound
 pub mod RowsFound
 pub mod TasksFound
 pub mod TasksCoded
+pub mod Lines
 pub mod Piped
 pub mod Outs
 pub mod Telling

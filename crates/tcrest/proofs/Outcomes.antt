@@ -32,10 +32,10 @@ use Rattle.tcrest.specs.Command.{command_of, ReadsNothing}
 use Rattle.tcrest.specs.Listing.{listings}
 use Rattle.tcrest.specs.Machine.{begun_on, cores_from, machine_of}
 use Rattle.tcrest.specs.Meanings.{meanings}
-use Rattle.tcrest.specs.Pipe.{end_row, pipe_of}
+use Rattle.tcrest.specs.Pipe.{pipe_of}
 use Rattle.tcrest.specs.Rows.{rows_of, is_early, status_of}
 use Rattle.tcrest.specs.Tasks.{Coded, Runs, coded_from, runs_made, runs_on}
-use Rattle.tcrest.specs.Answer.{read_fault, too_long, no_job, no_task, whole, report_of, answer_with, answer_or, is_taken, one_core, pipe_with, answer_by, job_answer, of_grid, text_answer, bytes_answer, command_answer, answer}
+use Rattle.tcrest.specs.Answer.{read_fault, too_long, no_job, no_task, whole, report_of, answer_with, answer_or, is_taken, one_core, pipe_with, rows_at_end, answer_by, job_answer, of_grid, text_answer, bytes_answer, command_answer, answer}
 use Rattle.tcrest.specs.Outcome.{IsSent, Ends, HasWritten}
 
 -- the answer to a job has the status of a whole text or of a refused task
@@ -80,13 +80,13 @@ one_core-is = record {
   not_long = λ same. absurd (let letter : 79 ≡ 84 = ap (λ (b : Answer). slice_index b.text 5) same in omega (arith, letter));
 }
 
-pipe_of-is : (job : Job) (r : Runs) (x : Core) → IsOfInput (pipe_of job r x)
-pipe_of-is job r x = of_tasks (pipe_of job r x) (status_of-is (end_row job.cycles r x ∷ []))
+pipe_of-is : (job : Job) (rows : List Row) (x : Core) → IsOfInput (pipe_of job rows x)
+pipe_of-is job rows x = of_tasks (pipe_of job rows x) (status_of-is rows)
 
 pipe_with-is : (job : Job) (coded : List (Option Coded)) → IsOfInput (pipe_with job coded)
 pipe_with-is job [] = one_core-is
 pipe_with-is job (None ∷ cs) = one_core-is
-pipe_with-is job (Some c ∷ []) = pipe_of-is job (runs_made c.made) (begun_on job 0 c)
+pipe_with-is job (Some c ∷ []) = pipe_of-is job (rows_at_end job (Some c ∷ [])) (begun_on job 0 c)
 pipe_with-is job (Some c ∷ d ∷ cs) = one_core-is
 
 -- a whole text

@@ -13,7 +13,8 @@ use Rattle.tc_report.specs.declared.rows.Row.{Row}
 use Rattle.tc_report.specs.Line.{step_line}
 use Rattle.tc_report.specs.Report.{platform_line, state_line}
 use Rattle.tcrest.specs.declared.answers.Answer.{Answer}
-use Rattle.tcrest.specs.Pipe.{step_text, steps_text, end_row, pipe_of}
+use Rattle.tcrest.specs.Coding.{end_row, pipe_told}
+use Rattle.tcrest.specs.Pipe.{step_text, steps_text}
 use Rattle.tcrest.specs.Rows.{status_of}
 use Rattle.tcrest.specs.Tasks.{Runs}
 
@@ -60,7 +61,7 @@ untold_step x limit k trace first text enough so_far =
 -- the platform and the steps, with the line of the core's state after them, are all that is told
 pub told_whole : {E : Type 0} (job : Job) (r : Runs) (x : Core) (row : Row) (text : List ℕ) (result : Result Answer E) → row ≡ end_row job.cycles r x
     → text ≡ platform_line job.cores job.slot (period job.table job.slot) ++ steps_text x job.cycles (min job.trace (length (done_below x job.cycles)))
-    → IfOk result (λ a. a ≡ record { status = status_of (row ∷ []); text = text ++ state_line 0 row }) → IfOk result (λ a. a ≡ pipe_of job r x)
+    → IfOk result (λ a. a ≡ record { status = status_of (row ∷ []); text = text ++ state_line 0 row }) → IfOk result (λ a. a ≡ pipe_told job r x)
 told_whole job r x row text (Err e) is so_far answer = tt
 told_whole job r x row text (Ok a) is so_far answer =
     let end = end_row job.cycles r x in

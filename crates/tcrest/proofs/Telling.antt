@@ -1,7 +1,9 @@
 -- What the report of a job tells of its C tasks, from what the machine tells of them.
-use Rattle.std.proofs.Common.{◌≡◌, ℕ, zero, suc, ◌+◌, ◌<◌, ◌≤◌, ◌==◌, Bool, true, false, List, [], ◌∷◌, map, take, Option, None, Some, IfSome, slice_get, refl, sym, ap, ◌∙◌, subst, arith}
+use Rattle.std.proofs.Common.{◌≡◌, ℕ, zero, suc, ◌+◌, ◌<◌, ◌≤◌, ◌==◌, Bool, true, false, List, [], ◌∷◌, map, take, length, Option, None, Some, IfSome, slice_get, refl, sym, ap, ◌∙◌, subst, arith}
 use Rattle.std.specs.Prelude.{not, Result, IfOk, Ok, Err}
 use Rattle.std.specs.List.{AllByRecursion as Each}
+use Rattle.std.proofs.lemmas.Option.{slice_get_within}
+use Rattle.argo_ni.specs.Packet.{comm_word}
 use Rattle.slot_arbiter.specs.declared.place.Place.{Place}
 use Rattle.slot_arbiter.specs.declared.place.TheConstants.{LATEST_START}
 use Rattle.shared_order.specs.Machine.{State, cycled}
@@ -11,10 +13,11 @@ use Rattle.c_tree.specs.Plain.{PlainItem}
 use Rattle.c_tree.specs.Valid.{IsValid}
 use Rattle.c_world.specs.Numbers.{flag}
 use Rattle.patmos_model.specs.Apart.{site_of}
-use Rattle.patmos_model.specs.Begin.{begun}
+use Rattle.patmos_model.specs.Begin.{begun, no_code}
 use Rattle.patmos_model.specs.Cycle.{turn}
-use Rattle.patmos_model.specs.Range.{InRange, IsWord}
+use Rattle.patmos_model.specs.Range.{HasCode, InRange, IsWord}
 use Rattle.patmos_model.specs.State.{Core}
+use Rattle.patmos_model.proofs.CoreRanges.{begun_in_range, idle_in_range}
 use Rattle.global_step.proofs.MachineRanges.{room_for}
 use Rattle.task_machine.specs.Machines.{BeginsAs}
 use Rattle.task_words.specs.Meant.{Leaves}
@@ -30,6 +33,8 @@ use Rattle.tc_job.specs.declared.job.Job.{Job}
 use Rattle.tc_report.specs.declared.rows.Row.{Row}
 use Rattle.tcrest.specs.declared.command.Command.{Command}
 use Rattle.tcrest.specs.declared.command.JobCommand.{JobCommand}
+use Rattle.tcrest.specs.declared.command.JobCommand.TheVariants.{Run, Bound, Asm, Mean, Pipe, Persist}
+use Rattle.tcrest.specs.Answer.{is_taken}
 use Rattle.tcrest.specs.Machine.{core_with, core_in, cores_from, machine_of, site_on}
 use Rattle.tcrest.specs.Rows.{is_flagged, program_row, row_of, row_state, rows_from, running}
 use Rattle.tcrest.specs.Tasks.{Bounded, Coded, coded_from, runs_by, runs_on}
@@ -61,6 +66,7 @@ row_tells job m all place p input valid bound_is t = record {
   limit = λ early. ap row_state (t.keeps.running early);
   bound = ap Some bound_is;
   within = t.within;
+  own = t.own;
   meaning = λ world words fits enough. row_means job.cycles job.trace all place p input world _ (m.cores place.core) valid (t.meaning world words fits enough);
   alone = t.alone;
 }
@@ -131,6 +137,25 @@ bounds_tell job coded made place c p at is some =
     }
 
 -- ---- the machine of a job
+
+no_code_fits : HasCode no_code
+no_code_fits = record { words = λ place. omega arith; starts = tt }
+
+-- what a job's cores begin with is words
+pub begin_fits : (job : Job) → KeepsRanges job → (coded : List (Option Coded)) → length coded ≡ job.cores → AreMade job coded → (core : ℕ) → InRange (comm_word job.cores 0) (core_in (cores_from job 0 coded) core)
+begin_fits job ranges coded count made core = by (slice_get coded core) refl
+  where
+    words : ℕ
+    words = comm_word job.cores 0
+
+    by : (found : Option (Option Coded)) → slice_get coded core ≡ found → InRange words (core_in (cores_from job 0 coded) core)
+    by None is = subst (InRange words) (sym (no_core job 0 coded core is))
+        (idle_in_range words (record { cores = 1; core = 0; slot = 0; table = []; start = 0; image = no_code }) (record { among = omega arith; room = omega (arith, ranges.platform.cores_least); code = no_code_fits }))
+    by (Some None) is = subst (InRange words) (sym (core_at job 0 coded core None is))
+        (idle_in_range words (site_on job (0 + core) 0 no_code) (record { among = omega (arith, slice_get_within coded core None is, count); room = omega arith; code = no_code_fits }))
+    by (Some (Some c)) is = subst (InRange words) (sym (core_at job 0 coded core (Some c) is))
+        (let m = made_at job coded made core c is in
+        begun_in_range words (site_on job (0 + core) c.task.start c.made.image) c.task.input (record { among = omega (arith, slice_get_within coded core (Some c) is, count); room = omega arith; code = m.code }) m.initial m.given)
 
 module _ (job : Job) (ranges : KeepsRanges job) (coded : List (Option Coded)) (made : AreMade job coded) (words : ℕ) (fits : (core : ℕ) → InRange words (core_in (cores_from job 0 coded) core)) where
   abbrev cores : ℕ → Core
@@ -231,6 +256,15 @@ always (Err e) p = tt
 
 ok_is : {X E : Type 0} (a b : X) → (let r : Result X E = Ok a in r) ≡ Ok b → a ≡ b
 ok_is a b same = ap (λ r. elim r as (λ _. _) [ Ok x ↦ x | Err e ↦ a ]) same
+
+-- of a job that a command does not take nothing is told
+pub untaken : (command : JobCommand) (job : Job) (coded : List (Option Coded)) → is_taken command job ≡ false → TellsOf command job coded
+untaken Run job coded refused = absurd (let bad : true ≡ false = refused in cc)
+untaken Bound job coded refused = absurd (let bad : true ≡ false = refused in cc)
+untaken Asm job coded refused = absurd (let bad : true ≡ false = refused in cc)
+untaken Mean job coded refused = absurd (let bad : true ≡ false = refused in cc)
+untaken Pipe job coded refused = λ lone. absurd (let bad : true ≡ false = sym lone ∙ refused in cc)
+untaken Persist job coded refused = absurd (let bad : true ≡ false = refused in cc)
 
 -- the tasks that are made are those of the job
 pub told_of : {X E : Type 0} (job : Job) (command : JobCommand) (coded : List (Option Coded)) (result : Result X E) → coded_from job 0 job.cores ≡ Ok coded

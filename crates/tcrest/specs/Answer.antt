@@ -28,7 +28,7 @@ use Rattle.tcrest.specs.Machine.{begun_on, cores_from, machine_of}
 use Rattle.tcrest.specs.Meanings.{meanings}
 use Rattle.tcrest.specs.Pipe.{fault_name, is_lone, pipe_of}
 use Rattle.tcrest.specs.Rows.{rows_of, status_of, report_rows}
-use Rattle.tcrest.specs.Tasks.{Coded, coded_from, refusal_text, runs_made, runs_on}
+use Rattle.tcrest.specs.Tasks.{Coded, coded_from, refusal_text, runs_on}
 
 -- an answer of one line
 abbrev pub lone_line : ℕ → List ℕ → Answer
@@ -64,10 +64,13 @@ whole text = record { status = 0; text = text }
 abbrev pub reported : Job → List Row → Answer
 reported job rows = record { status = status_of rows; text = report_text (report_rows job rows) }
 
--- the report of the machine of these tasks, at its limit alone
+-- the rows of these tasks, from their machine at its limit alone
+abbrev pub rows_at_end : Job → List (Option Coded) → List Row
+rows_at_end job coded = rows_of job.cycles job.trace (map runs_on coded) (machine_of job (cores_from job 0 coded))
+
+-- the report of the machine of these tasks
 abbrev pub report_of : Job → List (Option Coded) → Answer
-report_of job coded =
-    reported job (rows_of job.cycles job.trace (map runs_on coded) (machine_of job (cores_from job 0 coded)))
+report_of job coded = reported job (rows_at_end job coded)
 
 -- a job that `pipe` alone refuses
 abbrev pub no_pipe : PipeFault → Answer
@@ -77,11 +80,11 @@ no_pipe fault = lone_line 2 (codes "job: " ++ fault_name fault)
 abbrev pub one_core : Answer
 one_core = no_pipe OneCore
 
--- the stages of the only core
+-- the stages of the only core, and the line of its state in the report
 abbrev pub pipe_with : Job → List (Option Coded) → Answer
 pipe_with job [] = one_core
 pipe_with job (None ∷ cs) = one_core
-pipe_with job (Some c ∷ []) = pipe_of job (runs_made c.made) (begun_on job 0 c)
+pipe_with job (Some c ∷ []) = pipe_of job (rows_at_end job (Some c ∷ [])) (begun_on job 0 c)
 pipe_with job (Some c ∷ d ∷ cs) = one_core
 
 -- what is written for a job whose tasks are made to these

@@ -12,12 +12,12 @@ use Rattle.c_meaning.specs.Meaning.{Given}
 use Rattle.core_pace.specs.Growth.{below}
 use Rattle.job_gen.specs.Generator.{generated}
 use Rattle.patmos_code.specs.Images.{Parts}
-use Rattle.patmos_model.specs.Range.{IsWord}
+use Rattle.patmos_model.specs.Range.{HasCode, IsWord}
 use Rattle.patmos_model.specs.State.{Core}
 use Rattle.single_path.specs.Single.{single}
 use Rattle.task_core.specs.Tasks.{IsCode}
 use Rattle.c_task.specs.Programs.{said}
-use Rattle.c_task.specs.Telling.{FitsWorld}
+use Rattle.c_task.specs.Telling.{FitsWorld, OwnsOperations}
 use Rattle.c_task.specs.Translation.{IsWorld, bound as bound_of, bound_on, persist_on, times, translation}
 use Rattle.tc_job.specs.Job.{job_of}
 use Rattle.tc_job.specs.declared.job.Job.{Job}
@@ -29,6 +29,7 @@ use Rattle.tcrest.specs.declared.command.JobCommand.{JobCommand}
 use Rattle.tcrest.specs.declared.command.JobCommand.TheVariants.{Run, Bound, Asm, Mean, Pipe, Persist}
 use Rattle.tcrest.specs.Machine.{cores_from, machine_of}
 use Rattle.tcrest.specs.Meanings.{output_slot}
+use Rattle.tcrest.specs.Pipe.{is_lone}
 use Rattle.tcrest.specs.Rows.{rows_of, words_out}
 use Rattle.tcrest.specs.Tasks.{Bounded, Coded, coded_from, runs_on}
 
@@ -57,6 +58,9 @@ pub record TellsTask (job : Job) (m : State Core) (place : Place) (items : List 
   -- the program's bound is told, and its end is at most its start and that
   pub bound : row.bound ≡ Some (bound_of place items)
   pub within : (times place items).end ≤ place.start + bound_of place items
+  -- the operations of the task, whose loads a world has to fit, are all that its core made in the machine without its
+  -- interface's, in their order
+  pub own : OwnsOperations items place input m job.cycles
   -- a done task is told to be what its text means in each world that fits, and alone the world of zeros does
   pub meaning : (world : ℕ → ℕ) → IsWorld world → FitsWorld items place input m job.cycles world
       → (times place items).end ≤ job.cycles
@@ -67,7 +71,7 @@ pub record TellsTask (job : Job) (m : State Core) (place : Place) (items : List 
 abbrev pub end_of : Job → List (Option Coded) → State Core
 end_of job coded = machine_of job (cores_from job 0 coded)
 
--- so does each row of a core with a C task
+-- so does each row of a core with a C task, of which `pipe` writes the line of the state
 abbrev pub TellsTasks : Job → List (Option Coded) → Type 0
 TellsTasks job coded =
     (place : Place) (c : Coded) (p : Bounded) (row : Row) → IsPlaceOf job c.task.start place
@@ -95,7 +99,7 @@ TellsOf Run job coded = TellsTasks job coded
 TellsOf Bound job coded = TellsAllBounds job coded
 TellsOf Asm job coded = Unit {0}
 TellsOf Mean job coded = Unit {0}
-TellsOf Pipe job coded = Unit {0}
+TellsOf Pipe job coded = is_lone job ≡ true → TellsTasks job coded
 TellsOf Persist job coded = TellsAllBounds job coded
 
 -- where the text is a job whose tasks are all made
@@ -126,11 +130,13 @@ pub record IsCompiled (job : Job) (core : ℕ) (image : Parts) (p : Bounded) : T
   pub bound : p.bound ≡ bound_on job.table job.slot core p.items
   pub persist : p.persist ≡ persist_on job.table job.slot core p.items
 
--- a core's task is of that core, its input is words, and its program was compiled for it
+-- a core's task is of that core, its input and its image are words, and its program was compiled for it
 pub record IsMadeFor (job : Job) (core : ℕ) (c : Coded) : Type 0 where
   pub core_is : c.task.core ≡ core
   pub start : c.task.start ≤ LATEST_START
   pub given : Each IsWord c.task.input
+  pub code : HasCode c.made.image
+  pub initial : Each IsWord c.made.image.initial
   pub compiled : IfSome c.made.program (IsCompiled job core c.made.image)
 
 abbrev pub IsMadeOn : Job → ℕ → Option Coded → Type 0

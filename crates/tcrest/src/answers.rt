@@ -214,6 +214,7 @@ fn answer_with<R: Threads + Wait + Sync, G: Gate + Sync>(
     ensures answer { IfOk result (λ answer. answer ≡ specs.answer_with command job.now (all_shown coded.entry.items)) }
     ensures told { IfOk result (λ _. TellsOf command job.now (all_shown coded.entry.items)) }
 {
+    job.keeps_ranges();
     match command {
         JobCommand::Run => report_of(alloc, rt, job, coded, gate),
         JobCommand::Bound => Ok(whole(bounds_text(alloc, Bounds::Plain, job, &coded)?)),

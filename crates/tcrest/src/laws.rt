@@ -13,6 +13,7 @@ ghost use Rattle.c_parse.proofs.Reading.{tree_of};
 ghost use Rattle.tc_report.specs.Line.{line};
 ghost use Rattle.tc_report.specs.declared.rows.RowState.TheVariants.{Limit, Done};
 ghost use Rattle.tcrest.specs.declared.command.Command.{Command};
+ghost use Rattle.tcrest.specs.declared.command.TheConstants.{MOST_DIGITS};
 ghost use Rattle.tcrest.specs.declared.command.Command.TheVariants.{OfJob, Grid, Gen, Bench, Usage};
 ghost use Rattle.tcrest.specs.declared.command.JobCommand.TheVariants.{Run, Bound, Asm, Mean, Pipe, Persist};
 ghost use Rattle.tcrest.specs.Answer.{answer, bytes_answer, text_fault_number, too_long, usage};
@@ -74,6 +75,7 @@ pub fn limits()
     ensures bytes { MOST_BYTES ≡ 1048576 }
     ensures too_long { text_fault_number TooLong ≡ 1 }
     ensures one_core { fault_number OneCore ≡ 9 }
+    ensures digits { MOST_DIGITS ≡ 10 }
 {}
 
 /// The rows of a small job, computed by the checker: its task ends at cycle 17, after two transactions.

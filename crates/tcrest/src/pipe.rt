@@ -6,7 +6,7 @@ ghost use Rattle.pipe_five.specs.Pipe.{StandsFor, IsThrough, limit_of};
 ghost use Rattle.pipe_five.specs.Steps.{done_below};
 ghost use Rattle.tcrest.specs.Answer as answers;
 ghost use Rattle.tc_report.specs.Report.{state_line};
-ghost use Rattle.tcrest.specs.Coding.{runs, shown, all_shown, IsAmong};
+ghost use Rattle.tcrest.specs.Coding.{runs, shown, all_shown, pipe_told, told_row, IsAmong};
 ghost use Rattle.tcrest.specs.Pipe as specs;
 ghost use Rattle.tcrest.specs.Rows as rows_specs;
 
@@ -115,7 +115,7 @@ fn stages_answer(
 ) -> Result<Answer, OutOfMemory>
     requires alone { place.cores ≡ 1 }
     ensures { IfOk result (λ answer. answer
-        ≡ specs.pipe_of job.now (runs task.now) (begun (site_of place image.now) input.now)) }
+        ≡ pipe_told job.now (runs task.now) (begun (site_of place image.now) input.now)) }
 {
     let read = job.job();
     let mut core = PipeCore::new(alloc, place, image, input)?;
@@ -157,7 +157,7 @@ fn put_steps(
 
 // the row of the core, of which the line of its state alone is told
 fn end_row(alloc: Global, task: &CoreTask, state: CoreState) -> Result<Row, OutOfMemory>
-    ensures { IfOk result (λ row. row ≡ specs.told_row (runs task.now) state) }
+    ensures { IfOk result (λ row. row ≡ told_row (runs task.now) state) }
 {
     let all = all_running(alloc, slice::from_ref(task))?;
     let row = Row {

@@ -1,6 +1,6 @@
 ghost use Rattle.std.specs.Prelude.{◌≡◌, All, None, IfOk, IfSome, length, option_map};
 ghost use Rattle.std.specs.List.{AllByRecursion as Each};
-ghost use Rattle.patmos_model.specs.Range.{IsWord};
+ghost use Rattle.patmos_model.specs.Range.{HasCode, IsWord};
 ghost use Rattle.patmos_asm.specs.Assembly.{code_of};
 ghost use Rattle.tc_job.specs.Ranges.{IsTaskAmong};
 ghost use Rattle.tcrest.specs.Tasks as specs;
@@ -110,7 +110,10 @@ fn coded_on<'a>(
     };
     words_fit(task.input.as_slice());
     match made_by(alloc, job, task) {
-        Ok(made) => Ok(Some(CodedTask { task, made })),
+        Ok(made) => {
+            image_fits(&made.image);
+            Ok(Some(CodedTask { task, made }))
+        }
         Err(Halt::Refused(refusal)) => Err(Halt::Refused(CoreRefusal { core, refusal })),
         Err(Halt::Memory) => Err(Halt::Memory),
     }
@@ -120,6 +123,17 @@ fn coded_on<'a>(
 fn words_fit(words: &[u32])
     ensures { Each IsWord words.now }
 {}
+
+// so are the code and the first words of an image
+#[tactic(auto, using(patmos_model::proofs::HeldWords::each_index))]
+fn image_fits(image: &Image)
+    ensures code { HasCode image.now }
+    ensures initial { Each IsWord image.now.initial }
+{
+    words_fit(image.words());
+    words_fit(image.starts());
+    words_fit(image.initial());
+}
 
 // what a task is made to
 fn made_by(alloc: Global, job: &RangedJob, task: &Task) -> Result<MadeTask, Halt<Refusal>>

@@ -2,7 +2,7 @@
 
 use crate::expect::expect_same;
 use crate::making::{alone, nine};
-use patmos_instr::{AluFunc, Bundle, Imm7, Mem, Op, Reg, StoreWidth};
+use patmos_instr::{AluFunc, Bundle, Imm12, ImmFunc, Op, Reg};
 use sp_emit::emit;
 use sp_shape::Part;
 use std::test::Fail;
@@ -18,9 +18,10 @@ fn only(part: Option<&Part>) -> Option<Bundle> {
     }
 }
 
-// what a function begins with, r3 = 9, its store in word 1 of the stack, what a function ends with, and the return
+// what a function begins with, r3 = 9, its copy in r5, in which word 1 of the frame stands, what a function ends with,
+// and the return
 #[test]
-fn a_constant_is_stored(rt: HostRuntime) -> Result<(), Fail> {
+fn a_constant_is_kept(rt: HostRuntime) -> Result<(), Fail> {
     let unit = nine(rt.alloc())?;
     let shape = emit(rt.alloc(), &unit)?;
     let functions = shape.functions.as_slice();
@@ -33,14 +34,13 @@ fn a_constant_is_stored(rt: HostRuntime) -> Result<(), Fail> {
         ra: Reg::low(0),
         constant: 9,
     });
-    let store = alone(Op::Store {
-        space: Mem::S,
-        width: StoreWidth::Word,
-        ra: Reg::low(0),
-        rs: Reg::low(3),
-        imm: Imm7::low(1),
+    let kept = alone(Op::AluImm {
+        func: ImmFunc::Add,
+        rd: Reg::low(5),
+        ra: Reg::low(3),
+        imm: Imm12::low(0),
     });
     expect_same(&rt, only(parts.get(1)), Some(nine));
-    expect_same(&rt, only(parts.get(2)), Some(store));
+    expect_same(&rt, only(parts.get(2)), Some(kept));
     Ok(())
 }

@@ -1,14 +1,21 @@
-use Rattle.std.proofs.Common.{◌≡◌, ◌<◌, true, ap, ◌∙◌, subst, rules}
+use Rattle.std.proofs.Common.{◌≡◌, ◌<◌, true, length, ap, ◌∙◌, subst, rules}
 use Rattle.std.specs.List.{AllByRecursion as Each}
 use Rattle.patmos_model.specs.Range.{IsWord}
 use Rattle.sp_tree.specs.Shown.{plain_unit}
 use Rattle.sp_shape.proofs.Plain.{functions_count}
 use Rattle.sp_shape.specs.Formed.{is_formed}
 use Rattle.sp_shape.specs.Shown.{plain_shape}
+use Rattle.sp_shape.specs.Parts.{PlainShape}
+use Rattle.sp_emit.proofs.Codes.{codes_length}
 use Rattle.bundle_sched.specs.Scheduled.{scheduled}
 use Rattle.task_core.specs.Tasks.{code_of}
 use Rattle.c_compile.proofs.Carrying.{Fit, carried_out}
 use Rattle.c_compile.proofs.code.code_of.Goals as goal
+
+pub schedule-requires-clause-slots : goal.schedule-requires-clause-slots
+schedule-requires-clause-slots c =
+    let count = ap (λ (s : PlainShape). length s.functions) c.in_ok-shape.ensures.is ∙ codes_length (plain_unit c.args.unit.now).functions in
+    λ k less. c.in_ok-shape.ensures.slots k (subst (λ n. k < n) count less)
 
 pub returns-clause-code : goal.returns-clause-code
 returns-clause-code c =

@@ -4,7 +4,7 @@ use Rattle.sp_tree.specs.Plain.{plain_sp}
 use Rattle.sp_tree.specs.Shown.{stmts_of}
 use Rattle.sp_tree.specs.Statements.{joined}
 use Rattle.c_meaning.specs.Shown.{plain_action, plain_target, actions_of, branches_of}
-use Rattle.single_path.specs.Made.{made, made_action, made_branches, made_call, is_no_action, is_no_branch}
+use Rattle.single_path.specs.Made.{actions_exit, made, made_action, made_branches, made_call, is_no_action, is_no_branch}
 use Rattle.single_path.specs.declared.part_words.PartWords.{PartWords}
 use Rattle.single_path.specs.Widths as width
 use Rattle.c_meaning.specs.Sizes.{action_size}
@@ -107,8 +107,9 @@ pub add_arms-returns-in_ok-add_all-in-len1-up : goal.add_arms-returns-in_ok-add_
 add_arms-returns-in_ok-add_all-in-len1-up t c =
     subst (λ w. OnOk c.add_otherwise.result (stmts_of c.add_otherwise.new.out.items ≡ w))
     (arm_added c.args.part c.in_ok-arm-in-len1-up.arm (stmts_of c.args.out.now.items) (stmts_of c.begin_arm.new.out.items) (stmts_of c.add_all-in-len1-up.new.out.items)
-    c.args.branches.now _ c.branch-item.result c.as_slice.result.now (is_no_action (actions_of c.args.otherwise.now)) (λ q. made q (actions_of c.args.otherwise.now))
-    (omega arith) c.branch-item.is refl c.as_slice.ensures c.in_ok-arm-in-len1-up.ensures.arm c.in_ok-arm-in-len1-up.ensures.mask
+    c.args.branches.now _ c.branch-item.result c.as_slice.result.now c.as_slice-in-len1-up.result.now c.may_exit-exits.result (is_no_action (actions_of c.args.otherwise.now)) (λ q. made q (actions_of c.args.otherwise.now))
+    (omega arith) c.branch-item.is refl c.as_slice.ensures c.as_slice-in-len1-up.ensures
+    (c.may_exit-exits.ensures ∙ ap (λ q. actions_exit q (actions_of c.as_slice-in-len1-up.result.now)) c.any_exit.ensures) c.in_ok-arm-in-len1-up.ensures.arm c.in_ok-arm-in-len1-up.ensures.mask
     c.in_ok-add_all-in-len1-up.ensures)
     c.add_otherwise.ensures
 
@@ -116,13 +117,13 @@ pub add_otherwise-returns-then-stands_nothing : goal.add_otherwise-returns-then-
 add_otherwise-returns-then-stands_nothing t c =
     nothing_added c.args.part (stmts_of c.args.out.now.items)
     (made_branches c.args.arm (branches_of c.args.rest.now) (is_no_action (actions_of c.args.otherwise.now)) (λ q. made q (actions_of c.args.otherwise.now)))
-    (is_no_branch (branches_of c.args.rest.now) && is_no_action (actions_of c.args.otherwise.now)) (sym c.stands_nothing.ensures ∙ c.if-stands_nothing.true)
+    c.args.exits (is_no_branch (branches_of c.args.rest.now) && is_no_action (actions_of c.args.otherwise.now)) (sym c.stands_nothing.ensures ∙ c.if-stands_nothing.true)
 
 pub add_otherwise-returns : goal.add_otherwise-returns
 add_otherwise-returns t c =
     subst (λ w. OnOk c.add_arms.result (stmts_of c.add_arms.new.out.items ≡ w))
     (otherwise_added c.args.part (stmts_of c.args.out.now.items) (stmts_of c.begin_otherwise.new.out.items)
     (made_branches c.args.arm (branches_of c.args.rest.now) (is_no_action (actions_of c.args.otherwise.now)) (λ q. made q (actions_of c.args.otherwise.now)))
-    (is_no_branch (branches_of c.args.rest.now) && is_no_action (actions_of c.args.otherwise.now)) (sym c.stands_nothing.ensures ∙ c.if-stands_nothing.false)
+    c.args.exits (is_no_branch (branches_of c.args.rest.now) && is_no_action (actions_of c.args.otherwise.now)) (sym c.stands_nothing.ensures ∙ c.if-stands_nothing.false)
     c.in_ok-begin_otherwise.ensures)
     c.add_arms.ensures

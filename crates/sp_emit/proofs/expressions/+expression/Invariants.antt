@@ -6,8 +6,11 @@ use Rattle.sp_emit.proofs.expressions.+expression.Given as goal
 abbrev pub decreases-expression : goal.decreases-expression
 decreases-expression l = 2 * size (plain_sp l.e.now)
 
+abbrev pub decreases-operand : goal.decreases-operand
+decreases-operand l = 1 + 2 * size (plain_sp l.e.now)
+
 abbrev pub decreases-operands : goal.decreases-operands
-decreases-operands l = 2 + 2 * (size (plain_sp l.a.now) + size (plain_sp l.b.now))
+decreases-operands l = 3 + 2 * (size (plain_sp l.a.now) + size (plain_sp l.b.now))
 
 abbrev pub decreases-values : goal.decreases-values
-decreases-values l = 1 + 2 * (size (plain_sp l.first.now) + size (plain_sp l.second.now))
+decreases-values l = 2 + 2 * (size (plain_sp l.first.now) + size (plain_sp l.second.now))

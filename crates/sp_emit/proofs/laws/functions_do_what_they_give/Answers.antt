@@ -1,4 +1,6 @@
-use Rattle.std.proofs.Common.{ℕ, ◌+◌, ◌*◌, List}
+use Rattle.std.proofs.Common.{ℕ, ◌+◌, ◌*◌, List, arith}
+use Rattle.sp_emit.specs.Places.{tops}
+use Rattle.sp_emit.proofs.WordPlaces.{word_kept}
 use Rattle.sp_tree.specs.Statements.{PlainFunction, PlainStmts}
 use Rattle.sp_tree.specs.Straight.{State, serves, stmts_done}
 use Rattle.sp_shape.specs.Run.{Run, by_words, run}
@@ -14,17 +16,23 @@ use Rattle.sp_emit.proofs.laws.functions_do_what_they_give.Goals as goal
 pub returns-clause-function : goal.returns-clause-function
 unfolding AllServe ServedBy
 returns-clause-function c fs n k mask args w m are less count room called =
-    all_serve fs are.constants n are.within are.formed k less mask args w m count room called
+    (all_serve fs are.constants n are.within are.formed k less mask args w m count room called).answers
 
-done : (fs : List PlainFunction) (n frame slots counter : ℕ) (ts : PlainStmts) (s : State) (m : Run) → AreStatements fs n frame slots counter ts s m
-    → Done slots (counter + 1) (stmts_done (serves fs n) ts s) m (run by_words (parts_trail (code_of fs n) (stmts_code frame counter ts)) m)
-done fs n frame slots counter ts s m h =
-    stmts_run (code_of fs n) (serves fs n) fs n frame slots counter (n * 128)
-    (calls_run fs n frame slots h.functions.formed h.named (all_serve fs h.functions.constants n h.functions.within h.functions.formed))
-    h.named h.counted h.framed ts h.levels h.formed h.constants s m h.room h.follows
+pub returns-clause-callers : goal.returns-clause-callers
+unfolding AllServe ServedBy
+returns-clause-callers c fs n k mask args w m are less count room called homes slot top =
+    let r = all_serve fs are.constants n are.within are.formed k less mask args w m count room called in
+    word_kept homes slot m (run by_words (code_of fs n k) m) (λ q from lt. r.high q (omega (arith, top, from)) lt) r.answers.stack r.answers.st
+
+done : (fs : List PlainFunction) (n homes frame slots counter : ℕ) (ts : PlainStmts) (s : State) (m : Run) → AreStatements fs n homes frame slots counter ts s m
+    → Done homes slots (counter + 1) (stmts_done (serves fs n) ts s) m (run by_words (parts_trail (code_of fs n) (stmts_code homes frame counter ts)) m)
+done fs n homes frame slots counter ts s m h =
+    stmts_run homes (tops fs n) (code_of fs n) (serves fs n) fs n frame slots counter (n * 128)
+    (calls_run homes fs n frame slots h.functions.formed h.named (all_serve fs h.functions.constants n h.functions.within h.functions.formed))
+    h.named h.counted h.framed ts h.levels h.formed h.constants h.homed s m h.room h.follows
 
 pub returns-clause-statements : goal.returns-clause-statements
-returns-clause-statements c fs n frame slots counter ts s m h = (done fs n frame slots counter ts s m h).follows
+returns-clause-statements c fs n homes frame slots counter ts s m h = (done fs n homes frame slots counter ts s m h).follows
 
 pub returns-clause-frame : goal.returns-clause-frame
-returns-clause-frame c fs n frame slots counter ts s m h = (done fs n frame slots counter ts s m h).keeps
+returns-clause-frame c fs n homes frame slots counter ts s m h = (done fs n homes frame slots counter ts s m h).keeps

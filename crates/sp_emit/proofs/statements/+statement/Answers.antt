@@ -31,7 +31,7 @@ statement-turns-requires t c =
 pub statement-returns-in-Turns : goal.statement-returns-in-Turns
 statement-returns-in-Turns t c =
     let is = ap plain_stmt c.in-Turns.is ∙ plain_turns c.in-Turns.count c.in-Turns.body ∙ ap (λ ts. turns c.in-Turns.count (stmts_of ts)) (sym c.as_slice-in-Turns.ensures) in
-    subst (λ s. OnOk c.turns.result (parts_of c.turns.new.out.items ≡ joined (parts_of c.args.out.now.items) (stmt_code c.args.frame c.args.counter s))) (sym is) c.turns.ensures
+    subst (λ s. OnOk c.turns.result (parts_of c.turns.new.out.items ≡ joined (parts_of c.args.out.now.items) (stmt_code c.args.homes c.args.frame c.args.counter s))) (sym is) c.turns.ensures
 
 pub statements-statement-requires : goal.statements-statement-requires
 statements-statement-requires t c =
@@ -40,11 +40,11 @@ statements-statement-requires t c =
 
 pub statements-loop-t-preserved : goal.statements-loop-t-preserved
 statements-loop-t-preserved t c =
-    statement_added c.args.frame c.args.counter c.args.body.now c.loop-t.t-index c.t-item.result (parts_of c.loop-t.out.items) (parts_of c.statement.new.out.items)
-    (joined (parts_of c.args.out.now.items) (stmts_code c.args.frame c.args.counter (stmts_of c.args.body.now)))
+    statement_added c.args.homes c.args.frame c.args.counter c.args.body.now c.loop-t.t-index c.t-item.result (parts_of c.loop-t.out.items) (parts_of c.statement.new.out.items)
+    (joined (parts_of c.args.out.now.items) (stmts_code c.args.homes c.args.frame c.args.counter (stmts_of c.args.body.now)))
     (omega arith) c.t-item.is c.loop-t.invariant c.in_ok-statement.ensures
 
 pub statements-returns : goal.statements-returns
 statements-returns t c =
-    statements_done c.args.frame c.args.counter c.args.body.now c.loop-t.t-index (parts_of c.loop-t.out.items)
-    (joined (parts_of c.args.out.now.items) (stmts_code c.args.frame c.args.counter (stmts_of c.args.body.now))) (omega arith) c.loop-t.invariant
+    statements_done c.args.homes c.args.frame c.args.counter c.args.body.now c.loop-t.t-index (parts_of c.loop-t.out.items)
+    (joined (parts_of c.args.out.now.items) (stmts_code c.args.homes c.args.frame c.args.counter (stmts_of c.args.body.now))) (omega arith) c.loop-t.invariant

@@ -8,8 +8,8 @@ use Rattle.sp_emit.proofs.statements.+statement.Given as goal
 
 abbrev pub invariant-statements-loop-t : goal.invariant-statements-loop-t
 invariant-statements-loop-t l =
-    joined (parts_of l.out.items) (stmts_code l.frame l.counter (stmts_of (drop l.t-index l.body)))
-    ≡ joined (parts_of l.initial.out.items) (stmts_code l.frame l.counter (stmts_of l.body))
+    joined (parts_of l.out.items) (stmts_code l.homes l.frame l.counter (stmts_of (drop l.t-index l.body)))
+    ≡ joined (parts_of l.initial.out.items) (stmts_code l.homes l.frame l.counter (stmts_of l.body))
 
 abbrev pub decreases-statement : goal.decreases-statement
 decreases-statement l = stmt_size (plain_stmt l.t.now)

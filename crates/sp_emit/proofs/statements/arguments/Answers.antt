@@ -9,14 +9,14 @@ use Rattle.sp_emit.proofs.statements.arguments.Goals as goal
 
 pub loop-e-preserved : goal.loop-e-preserved
 loop-e-preserved c =
-    let whole = joined (parts_of c.args.out.now.items) (args_code (map plain_sp c.args.args.now) c.args.first) in
+    let whole = joined (parts_of c.args.out.now.items) (args_code c.args.homes (map plain_sp c.args.args.now) c.args.first) in
     let rest = map plain_sp (drop (c.loop-e.e-index + 1) c.args.args.now) in
     let fits = others_fit c.args.args.now c.loop-e.e-index c.loop-e.rd c.e-item.result (omega arith) c.e-item.is c.loop-e.invariant.0 in
-    let code = argument_added c.args.args.now c.loop-e.e-index c.loop-e.rd c.e-item.result (parts_of c.loop-e.out.items) (parts_of c.expression.new.out.items) whole
+    let code = argument_added c.args.homes c.args.args.now c.loop-e.e-index c.loop-e.rd c.e-item.result (parts_of c.loop-e.out.items) (parts_of c.expression.new.out.items) whole
     (omega arith) c.e-item.is c.loop-e.invariant.1 c.in_ok-expression.ensures in
-    subst (λ r. ArgsFit rest r × (joined (parts_of c.expression.new.out.items) (args_code rest r) ≡ whole)) (sym c.behind-rd.ensures) (fits, code)
+    subst (λ r. ArgsFit rest r × (joined (parts_of c.expression.new.out.items) (args_code c.args.homes rest r) ≡ whole)) (sym c.behind-rd.ensures) (fits, code)
 
 pub returns : goal.returns
 returns c =
-    arguments_done c.args.args.now c.loop-e.e-index c.loop-e.rd (parts_of c.loop-e.out.items)
-    (joined (parts_of c.args.out.now.items) (args_code (map plain_sp c.args.args.now) c.args.first)) (omega arith) c.loop-e.invariant.1
+    arguments_done c.args.homes c.args.args.now c.loop-e.e-index c.loop-e.rd (parts_of c.loop-e.out.items)
+    (joined (parts_of c.args.out.now.items) (args_code c.args.homes (map plain_sp c.args.args.now) c.args.first)) (omega arith) c.loop-e.invariant.1

@@ -9,5 +9,5 @@ use Rattle.sp_emit.proofs.statements.arguments.Given as goal
 abbrev pub invariant-loop-e : goal.invariant-loop-e
 invariant-loop-e l =
     ArgsFit (map plain_sp (drop l.e-index l.args)) l.rd
-    × (joined (parts_of l.out.items) (args_code (map plain_sp (drop l.e-index l.args)) l.rd)
-    ≡ joined (parts_of l.initial.out.items) (args_code (map plain_sp l.args) l.fn.first))
+    × (joined (parts_of l.out.items) (args_code l.homes (map plain_sp (drop l.e-index l.args)) l.rd)
+    ≡ joined (parts_of l.initial.out.items) (args_code l.homes (map plain_sp l.args) l.fn.first))

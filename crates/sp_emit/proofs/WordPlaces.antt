@@ -1,0 +1,245 @@
+-- Words of a frame, in registers and in the stack: what reading and setting one leaves.
+use Rattle.std.proofs.Common.{◌≡◌, ℕ, zero, suc, ◌+◌, ◌%◌, ◌^◌, ◌<◌, ◌≤◌, Bool, true, false, if◌then◌else◌, [], ◌∷◌, refl, sym, ap, ◌∙◌, subst, arith}
+use Rattle.std.proofs.lemmas.Bool.{and_from, ltb-true, lt-ltb}
+use Rattle.shared_order.specs.Words.{put}
+use Rattle.patmos_instr.specs.Bundles.{Slots}
+use Rattle.patmos_instr.specs.declared.guards.Guard.{Guard}
+use Rattle.patmos_instr.specs.declared.functions.ImmFunc.TheVariants as imm
+use Rattle.patmos_instr.specs.declared.instructions.Op.TheVariants.{AluImm, Load, Store}
+use Rattle.patmos_instr.specs.declared.instructions.Op.{Op}
+use Rattle.patmos_instr.specs.declared.memories.Width.TheVariants as load
+use Rattle.std.specs.List.{list_all}
+use Rattle.sp_shape.proofs.Lists.{all_append}
+use Rattle.patmos_instr.specs.declared.memories.Mem.TheVariants as mem
+use Rattle.patmos_instr.specs.declared.memories.StoreWidth.TheVariants as store
+use Rattle.patmos_sem.specs.Registers.{holds}
+use Rattle.patmos_sem.specs.declared.writes.Write.TheVariants as write
+use Rattle.patmos_sem.specs.Effects.{address_of as address_by}
+use Rattle.sp_shape.specs.Trail.{all_done}
+use Rattle.sp_shape.specs.Run.{Run, Sources, word_given, once, run, IsWhole}
+use Rattle.sp_emit.specs.Holding.{held, KeepsFrom}
+use Rattle.sp_emit.specs.Instructions.{always, under, idle, set_short, copy, load_slot}
+use Rattle.sp_emit.specs.Places.{in_register, word_of, read_op, read_word, fetch_op, fetch_word, fetched_at, set_op, set_word, word_cleared, words_cleared}
+use Rattle.sp_emit.specs.declared.registers.TheConstants.{SPARE, OVERRUN}
+use Rattle.sp_emit.proofs.Frames.{put_same, put_other}
+use Rattle.sp_emit.proofs.Once.{with_written, stays_zero, did_write, did_nothing, did_load, got, kept, whole_written}
+use Rattle.sp_emit.proofs.Leaving.{did_set_short, slot_leaves}
+use Rattle.sp_emit.proofs.Storing.{with_slot_word, did_store_slot}
+
+-- ---- what holds of both bundles holds of the one
+
+pub read_op_is : (P : Op → Type 0) (homes rd slot : ℕ) → P (AluImm imm.Add rd (homes + slot) 0) → P (Load mem.S load.Word rd 0 slot) → P (read_op homes rd slot)
+unfolding read_op
+read_op_is P homes rd slot here there = by (in_register homes slot)
+  where
+    by : (b : Bool) → P (if b then AluImm imm.Add rd (homes + slot) 0 else Load mem.S load.Word rd 0 slot)
+    by true = here
+    by false = there
+
+pub read_is : (P : Slots → Type 0) (homes rd slot : ℕ) → P (copy rd (homes + slot)) → P (load_slot rd slot) → P (read_word homes rd slot)
+read_is P homes rd slot here there = read_op_is (λ op. P (under always op)) homes rd slot here there
+
+pub fetch_op_is : (P : Op → Type 0) (homes slot : ℕ) → P (AluImm imm.Add 0 0 0) → P (Load mem.S load.Word SPARE 0 slot) → P (fetch_op homes slot)
+unfolding fetch_op
+fetch_op_is P homes slot here there = by (in_register homes slot)
+  where
+    by : (b : Bool) → P (if b then AluImm imm.Add 0 0 0 else Load mem.S load.Word SPARE 0 slot)
+    by true = here
+    by false = there
+
+pub fetch_is : (P : Slots → Type 0) (homes slot : ℕ) → P idle → P (load_slot SPARE slot) → P (fetch_word homes slot)
+fetch_is P homes slot here there = fetch_op_is (λ op. P (under always op)) homes slot here there
+
+pub set_op_is : (P : Op → Type 0) (homes slot rs : ℕ) → P (AluImm imm.Add (homes + slot) rs 0) → P (Store mem.S store.Word 0 rs slot) → P (set_op homes slot rs)
+unfolding set_op
+set_op_is P homes slot rs here there = by (in_register homes slot)
+  where
+    by : (b : Bool) → P (if b then AluImm imm.Add (homes + slot) rs 0 else Store mem.S store.Word 0 rs slot)
+    by true = here
+    by false = there
+
+-- what holds of each bundle that sets a register to 0 holds of those that clear words
+cleared_one : (holds : Slots → Bool) (homes slot : ℕ) → ((r : ℕ) → holds (set_short always r 0) ≡ true) → list_all holds (word_cleared homes slot) ≡ true
+unfolding word_cleared
+cleared_one holds homes slot each = by (in_register homes slot)
+  where
+    by : (b : Bool) → list_all holds (if b then set_short always (homes + slot) 0 ∷ [] else []) ≡ true
+    by true = and_from (holds (set_short always (homes + slot) 0)) true (each (homes + slot)) refl
+    by false = refl
+
+pub cleared_all : (holds : Slots → Bool) (homes n : ℕ) → ((r : ℕ) → holds (set_short always r 0) ≡ true) → list_all holds (words_cleared homes n) ≡ true
+cleared_all holds homes zero each = refl
+cleared_all holds homes (suc n) each = all_append holds (words_cleared homes n) (word_cleared homes n) (cleared_all holds homes n each) (cleared_one holds homes n each)
+
+-- ---- words
+
+pub word_still : (homes slot : ℕ) (m t : Run) → KeepsFrom homes m t → t.stack ≡ m.stack → t.st ≡ m.st → word_of homes slot t ≡ word_of homes slot m
+unfolding word_of
+word_still homes slot m t high stack st = by (in_register homes slot) refl
+  where
+    by : (b : Bool) → in_register homes slot ≡ b → (if b then held (homes + slot) t else t.stack (t.st + slot)) ≡ (if b then held (homes + slot) m else m.stack (m.st + slot))
+    by true is = high (homes + slot) (omega arith) (ltb-true (homes + slot) OVERRUN is)
+    by false is = ap (λ words. words (t.st + slot)) stack ∙ ap (λ st. m.stack (st + slot)) st
+
+-- where only those of the stack from its top on are known to stand
+pub word_kept : (homes slot : ℕ) (m t : Run) → KeepsFrom homes m t → ((a : ℕ) → m.st ≤ a → t.stack a ≡ m.stack a) → t.st ≡ m.st → word_of homes slot t ≡ word_of homes slot m
+unfolding word_of
+word_kept homes slot m t high stack st = by (in_register homes slot) refl
+  where
+    by : (b : Bool) → in_register homes slot ≡ b → (if b then held (homes + slot) t else t.stack (t.st + slot)) ≡ (if b then held (homes + slot) m else m.stack (m.st + slot))
+    by true is = high (homes + slot) (omega arith) (ltb-true (homes + slot) OVERRUN is)
+    by false is = ap (λ st. t.stack (st + slot)) st ∙ stack (m.st + slot) (omega arith)
+
+-- ---- reading
+
+pub read_leaves : (from : Sources) (homes rd slot : ℕ) (m : Run) → from.stack ≡ true → IsWhole m → 1 ≤ rd → rd < 32 → slot < 128 → word_of homes slot m < 2 ^ 32 → held rd (once from (read_word homes rd slot) m) ≡ word_of homes slot m
+unfolding read_op word_of
+read_leaves from homes rd slot m told whole some few near = by (in_register homes slot)
+  where
+    by : (b : Bool) → (if b then held (homes + slot) m else m.stack (m.st + slot)) < 2 ^ 32
+        → held rd (once from (under always (if b then AluImm imm.Add rd (homes + slot) 0 else Load mem.S load.Word rd 0 slot)) m) ≡ (if b then held (homes + slot) m else m.stack (m.st + slot))
+    by true word =
+        ap (held rd) (did_write from always (AluImm imm.Add rd (homes + slot) 0) m whole whole.fits.always refl refl)
+        ∙ got rd ((held (homes + slot) m + 0) % 2 ^ 32) m whole some few ∙ (let e : (held (homes + slot) m + 0) % 2 ^ 32 ≡ held (homes + slot) m = omega (arith, word) in e)
+    by false word = slot_leaves from rd slot m told whole some few near
+
+nothing_written : (v r : ℕ) (m : Run) → IsWhole m → r < 32 → held r (with_written (write.Register 0 v) m) ≡ held r m
+nothing_written v zero m whole few = stays_zero (write.Register 0 v) m whole
+nothing_written v (suc r) m whole few = kept 0 v (suc r) m whole few (λ same. absurd (omega (arith, same)))
+
+pub fetch_leaves : (from : Sources) (homes slot : ℕ) (m : Run) → from.stack ≡ true → IsWhole m → slot < 128 → held (fetched_at homes slot) (once from (fetch_word homes slot) m) ≡ word_of homes slot m
+unfolding fetch_op word_of
+fetch_leaves from homes slot m told whole near = by (in_register homes slot) refl
+  where
+    by : (b : Bool) → in_register homes slot ≡ b
+        → held (if b then homes + slot else SPARE) (once from (under always (if b then AluImm imm.Add 0 0 0 else Load mem.S load.Word SPARE 0 slot)) m) ≡ (if b then held (homes + slot) m else m.stack (m.st + slot))
+    by true is =
+        ap (held (homes + slot)) (did_write from always (AluImm imm.Add 0 0 0) m whole whole.fits.always refl refl)
+        ∙ nothing_written ((held 0 m + 0) % 2 ^ 32) (homes + slot) m whole (omega (arith, ltb-true (homes + slot) OVERRUN is))
+    by false is = slot_leaves from SPARE slot m told whole (omega arith) (omega arith) near
+
+-- ---- setting
+
+-- the run with a word set
+unfoldable pub with_word : ℕ → ℕ → ℕ → Run → Run
+with_word homes slot v m = if in_register homes slot then with_written (write.Register (homes + slot) v) m else with_slot_word slot v m
+
+pub did_set_word : (from : Sources) (homes : ℕ) (g : Guard) (slot rs v : ℕ) (m : Run) → IsWhole m → holds m.regs g ≡ true → slot < 128 → held rs m ≡ v → v < 2 ^ 32 → once from (set_word homes g slot rs) m ≡ with_word homes slot v m
+unfolding set_op with_word
+did_set_word from homes g slot rs v m whole on near is word = by (in_register homes slot)
+  where
+    by : (b : Bool) → once from (under g (if b then AluImm imm.Add (homes + slot) rs 0 else Store mem.S store.Word 0 rs slot)) m ≡ (if b then with_written (write.Register (homes + slot) v) m else with_slot_word slot v m)
+    by true =
+        did_write from g (AluImm imm.Add (homes + slot) rs 0) m whole on refl refl
+        ∙ ap (λ n. with_written (write.Register (homes + slot) ((n + 0) % 2 ^ 32)) m) is
+        ∙ ap (λ n. with_written (write.Register (homes + slot) n) m) (let e : (v + 0) % 2 ^ 32 ≡ v = omega (arith, word) in e)
+    by false = did_store_slot from g slot rs m whole on near ∙ ap (λ n. with_slot_word slot n m) is
+
+-- what stands after a word is set: all but this word and others of the window
+pub record Sets (homes slot v : ℕ) (m t : Run) : Type 0 where
+  pub whole : IsWhole t
+  pub st : t.st ≡ m.st
+  pub memory : t.memory ≡ m.memory
+  pub own : word_of homes slot t ≡ v
+  pub others : (u : ℕ) → (slot ≡ u → ⊥) → word_of homes u t ≡ word_of homes u m
+  pub regs : (r : ℕ) → 1 ≤ r → r < 32 → (homes + slot ≡ r → ⊥) → held r t ≡ held r m
+  pub flag : held OVERRUN t ≡ held OVERRUN m
+  pub stack : (a : ℕ) → (m.st + slot ≡ a → ⊥) → t.stack a ≡ m.stack a
+
+pub sets_register : (homes slot v : ℕ) (m : Run) → 1 ≤ homes → IsWhole m → homes + slot < OVERRUN → Sets homes slot v m (with_written (write.Register (homes + slot) v) m)
+unfolding word_of
+sets_register homes slot v m some whole lt = record {
+  whole = whole_written (write.Register (homes + slot) v) m whole;
+  st = refl;
+  memory = refl;
+  own = ap (λ c. if c then held (homes + slot) t else t.stack (t.st + slot)) (lt-ltb (homes + slot) OVERRUN lt) ∙ got (homes + slot) v m whole (omega (arith, some)) (omega (arith, lt));
+  others = λ u apart. word u apart (in_register homes u) refl;
+  regs = λ r least few apart. other r few apart;
+  flag = other OVERRUN (omega arith) (λ same. absurd (omega (arith, same, lt)));
+  stack = λ a apart. refl;
+}
+  where
+    t : Run
+    t = with_written (write.Register (homes + slot) v) m
+
+    other : (r : ℕ) → r < 32 → (homes + slot ≡ r → ⊥) → held r t ≡ held r m
+    other r few apart = kept (homes + slot) v r m whole few apart
+
+    word : (u : ℕ) → (slot ≡ u → ⊥) → (c : Bool) → in_register homes u ≡ c → (if c then held (homes + u) t else t.stack (t.st + u)) ≡ (if c then held (homes + u) m else m.stack (m.st + u))
+    word u apart true in_it = other (homes + u) (omega (arith, ltb-true (homes + u) OVERRUN in_it)) (λ same. apart (omega (arith, same)))
+    word u apart false in_it = refl
+
+sets_stack : (homes slot v : ℕ) (m : Run) → IsWhole m → in_register homes slot ≡ false → Sets homes slot v m (with_slot_word slot v m)
+unfolding word_of
+sets_stack homes slot v m whole is = record {
+  whole = record { fits = whole.fits; pending = whole.pending };
+  st = refl;
+  memory = refl;
+  own = ap (λ c. if c then held (homes + slot) t else t.stack (t.st + slot)) is ∙ put_same (m.st + slot) v m.stack;
+  others = λ u apart. word u apart (in_register homes u);
+  regs = λ r least few apart. refl;
+  flag = refl;
+  stack = λ a apart. put_other (m.st + slot) a v m.stack apart;
+}
+  where
+    t : Run
+    t = with_slot_word slot v m
+
+    word : (u : ℕ) → (slot ≡ u → ⊥) → (c : Bool) → (if c then held (homes + u) t else t.stack (t.st + u)) ≡ (if c then held (homes + u) m else m.stack (m.st + u))
+    word u apart true = refl
+    word u apart false = put_other (m.st + slot) (m.st + u) v m.stack (λ same. apart (omega (arith, same)))
+
+pub sets_word : (homes slot v : ℕ) (m : Run) → 1 ≤ homes → IsWhole m → Sets homes slot v m (with_word homes slot v m)
+unfolding with_word
+sets_word homes slot v m some whole = by (in_register homes slot) refl
+  where
+    by : (b : Bool) → in_register homes slot ≡ b → Sets homes slot v m (if b then with_written (write.Register (homes + slot) v) m else with_slot_word slot v m)
+    by true is = sets_register homes slot v m some whole (ltb-true (homes + slot) OVERRUN is)
+    by false is = sets_stack homes slot v m whole is
+
+-- a word in a register that is set to 0, or one in the stack that is left
+pub word_cleared_is : (P : Run → Type 0) (from : Sources) (homes slot : ℕ) (m : Run) → IsWhole m → (homes + slot < OVERRUN → P (with_written (write.Register (homes + slot) 0) m)) → (in_register homes slot ≡ false → P m)
+    → P (run from (all_done (word_cleared homes slot)) m)
+unfolding word_cleared
+word_cleared_is P from homes slot m whole here there = by (in_register homes slot) refl
+  where
+    by : (b : Bool) → in_register homes slot ≡ b → P (run from (all_done (if b then set_short always (homes + slot) 0 ∷ [] else [])) m)
+    by true is = subst P (sym (did_set_short from always (homes + slot) 0 m whole whole.fits.always)) (here (ltb-true (homes + slot) OVERRUN is))
+    by false is = there is
+
+pub in_stack : (homes slot : ℕ) (m : Run) → in_register homes slot ≡ false → word_of homes slot m ≡ m.stack (m.st + slot)
+unfolding word_of
+in_stack homes slot m is = ap (λ c. if c then held (homes + slot) m else m.stack (m.st + slot)) is
+
+-- under a guard that is false
+pub set_off : (from : Sources) (homes : ℕ) (g : Guard) (slot rs : ℕ) (m : Run) → IsWhole m → holds m.regs g ≡ false → once from (set_word homes g slot rs) m ≡ m
+unfolding set_op
+set_off from homes g slot rs m whole off = by (in_register homes slot)
+  where
+    by : (b : Bool) → once from (under g (if b then AluImm imm.Add (homes + slot) rs 0 else Store mem.S store.Word 0 rs slot)) m ≡ m
+    by true = did_nothing from g (AluImm imm.Add (homes + slot) rs 0) m whole off
+    by false = did_nothing from g (Store mem.S store.Word 0 rs slot) m whole off
+
+-- ---- beside
+
+-- a word of the stack that is set is none of the others
+pub beside_word : (homes slot u v : ℕ) (m : Run) → (slot ≡ u → ⊥) → word_of homes u (with_slot_word slot v m) ≡ word_of homes u m
+unfolding word_of
+beside_word homes slot u v m apart = by (in_register homes u)
+  where
+    by : (b : Bool) → (if b then held (homes + u) (with_slot_word slot v m) else put (m.st + slot) v m.stack (m.st + u)) ≡ (if b then held (homes + u) m else m.stack (m.st + u))
+    by true = refl
+    by false = put_other (m.st + slot) (m.st + u) v m.stack (λ same. apart (omega (arith, same)))
+
+-- reading leaves all other registers
+pub read_others : (from : Sources) (homes rd slot r : ℕ) (m : Run) → IsWhole m → r < 32 → (rd ≡ r → ⊥) → held r (once from (read_word homes rd slot) m) ≡ held r m
+unfolding read_op
+read_others from homes rd slot r m whole few apart = by (in_register homes slot)
+  where
+    by : (b : Bool) → held r (once from (under always (if b then AluImm imm.Add rd (homes + slot) 0 else Load mem.S load.Word rd 0 slot)) m) ≡ held r m
+    by true = ap (held r) (did_write from always (AluImm imm.Add rd (homes + slot) 0) m whole whole.fits.always refl refl) ∙ kept rd ((held (homes + slot) m + 0) % 2 ^ 32) r m whole few apart
+    by false = ap (held r) (did_load from always mem.S rd 0 slot m whole whole.fits.always) ∙ kept rd (word_given from mem.S (address_by (held 0 m) slot 4) m) r m whole few apart
+
+pub in_place : (homes slot : ℕ) (m : Run) → in_register homes slot ≡ true → word_of homes slot m ≡ held (homes + slot) m
+unfolding word_of
+in_place homes slot m is = ap (λ c. if c then held (homes + slot) m else m.stack (m.st + slot)) is

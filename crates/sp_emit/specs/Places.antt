@@ -1,0 +1,114 @@
+-- To be believed. Where the words of a frame stand that its tree names: the first ones in registers, from one on and
+-- before the flag of loops, those that find none there in the stack.
+use Rattle.std.specs.Prelude.{ℕ, ◌+◌, ◌-◌, ◌^◌, nat_lt, max, min, Bool, if◌then◌else◌, zero, suc, List, [], ◌∷◌, ◌++◌, slice_index_or}
+use Rattle.patmos_instr.specs.Bundles.{Slots}
+use Rattle.patmos_instr.specs.declared.guards.Guard.{Guard}
+use Rattle.patmos_instr.specs.declared.functions.ImmFunc.TheVariants as imm
+use Rattle.patmos_instr.specs.declared.instructions.Op.{Op}
+use Rattle.patmos_instr.specs.declared.instructions.Op.TheVariants.{AluImm, Load, Store}
+use Rattle.patmos_instr.specs.declared.memories.Mem.TheVariants as mem
+use Rattle.patmos_instr.specs.declared.memories.StoreWidth.TheVariants as store
+use Rattle.patmos_instr.specs.declared.memories.Width.TheVariants as load
+use Rattle.sp_tree.specs.Formed.{slots_of}
+use Rattle.sp_tree.specs.Need.{need}
+use Rattle.sp_tree.specs.Plain.{PlainSp}
+use Rattle.sp_tree.specs.Statements.{PlainSpTarget, to_slot, to_cell, to_array, PlainStmt, masks, writes, calls, transfers, overruns, turns, PlainStmts, no_stmt, stmt, PlainFunction, no_function}
+use Rattle.sp_shape.specs.Run.{Run}
+use Rattle.sp_emit.specs.Holding.{held}
+use Rattle.sp_emit.specs.Instructions.{always, under, set_short}
+use Rattle.sp_emit.specs.declared.registers.TheConstants.{FIRST, SPARE, OVERRUN}
+
+-- ---- places
+
+-- whether a word stands in a register, where the first one stands in that of this number
+abbrev pub in_register : ℕ → ℕ → Bool
+in_register homes slot = nat_lt (homes + slot) OVERRUN
+
+-- what a word holds
+unfoldable pub word_of : ℕ → ℕ → Run → ℕ
+word_of homes slot m = if in_register homes slot then held (homes + slot) m else m.stack (m.st + slot)
+
+-- ---- bundles
+
+-- a register gets what a word holds
+unfoldable pub read_op : ℕ → ℕ → ℕ → Op
+read_op homes rd slot =
+    if in_register homes slot then AluImm imm.Add rd (homes + slot) 0 else Load mem.S load.Word rd 0 slot
+
+abbrev pub read_word : ℕ → ℕ → ℕ → Slots
+read_word homes rd slot = under always (read_op homes rd slot)
+
+-- the spare register gets what a word of the stack holds; a word in a register is used there
+unfoldable pub fetch_op : ℕ → ℕ → Op
+fetch_op homes slot = if in_register homes slot then AluImm imm.Add 0 0 0 else Load mem.S load.Word SPARE 0 slot
+
+abbrev pub fetch_word : ℕ → ℕ → Slots
+fetch_word homes slot = under always (fetch_op homes slot)
+
+abbrev pub fetched_at : ℕ → ℕ → ℕ
+fetched_at homes slot = if in_register homes slot then homes + slot else SPARE
+
+-- a word gets what a register holds
+unfoldable pub set_op : ℕ → ℕ → ℕ → Op
+set_op homes slot rs =
+    if in_register homes slot then AluImm imm.Add (homes + slot) rs 0 else Store mem.S store.Word 0 rs slot
+
+abbrev pub set_word : ℕ → Guard → ℕ → ℕ → Slots
+set_word homes guard slot rs = under guard (set_op homes slot rs)
+
+-- those of the first so many words that stand in registers are set to 0
+unfoldable pub word_cleared : ℕ → ℕ → List Slots
+word_cleared homes slot = if in_register homes slot then set_short always (homes + slot) 0 ∷ [] else []
+
+abbrev pub words_cleared : ℕ → ℕ → List Slots
+words_cleared homes zero = []
+words_cleared homes (suc n) = words_cleared homes n ++ word_cleared homes n
+
+-- a number as a word counts it, which ends at the greatest
+abbrev pub capped : ℕ → ℕ
+capped n = min n (2 ^ 32 - 1)
+
+-- ---- from which register on: after those that values take, and the windows of the functions that are called
+
+abbrev pub args_least : List PlainSp → ℕ → ℕ
+args_least [] rd = rd
+args_least (e ∷ args) rd = max (rd + need e) (args_least args (rd + 1))
+
+abbrev pub target_least : PlainSpTarget → ℕ
+target_least (to_slot slot) = 0
+target_least (to_cell cell) = 0
+target_least (to_array array index) = FIRST + 1 + need index
+
+-- a call over where the windows of the earlier functions end, in their order
+abbrev mutual
+  pub stmt_least : List ℕ → PlainStmt → ℕ
+  stmt_least tops (masks slot e) = FIRST + need e
+  stmt_least tops (writes mask target e) = max (FIRST + need e) (target_least target)
+  stmt_least tops (calls mask k args result) = max (slice_index_or tops k 0) (args_least args FIRST)
+  stmt_least tops (transfers mask core source target count) =
+      max (FIRST + 4) (max (FIRST + need source) (max (FIRST + 1 + need target) (FIRST + 2 + need count)))
+  stmt_least tops (overruns mask e) = FIRST + need e
+  stmt_least tops (turns count body) = stmts_least tops body
+
+  pub stmts_least : List ℕ → PlainStmts → ℕ
+  stmts_least tops no_stmt = 0
+  stmts_least tops (stmt t rest) = max (stmt_least tops t) (stmts_least tops rest)
+
+abbrev pub homes_over : List ℕ → PlainFunction → ℕ
+homes_over tops f = max (FIRST + f.parameters) (stmts_least tops f.body)
+
+-- where the window of a function ends, at most at the flag of loops
+abbrev pub top_over : List ℕ → PlainFunction → ℕ
+top_over tops f = min OVERRUN (homes_over tops f + slots_of f)
+
+-- where the windows of the first so many functions end, each over the earlier ones
+abbrev pub tops : List PlainFunction → ℕ → List ℕ
+tops fs zero = []
+tops fs (suc n) = tops fs n ++ top_over (tops fs n) (slice_index_or fs n no_function) ∷ []
+
+-- from where that of a function begins, and where it ends
+abbrev pub homes_of : List PlainFunction → ℕ → ℕ
+homes_of fs k = homes_over (tops fs k) (slice_index_or fs k no_function)
+
+abbrev pub top_of : List PlainFunction → ℕ → ℕ
+top_of fs k = top_over (tops fs k) (slice_index_or fs k no_function)

@@ -1,0 +1,192 @@
+//! Where the words of a frame stand.
+ghost use Rattle.std.specs.Prelude.{◌≡◌, ◌<◌, map, slice_index_or};
+ghost use Rattle.sp_emit.specs.Places.{capped};
+ghost use Rattle.sp_emit.specs.Fits.{ArgsFit, TargetFits, StmtFits, StmtsFit, FunctionFits};
+ghost use Rattle.sp_emit.specs.declared.registers.TheConstants.{FIRST};
+ghost use Rattle.sp_tree.specs.Formed.{stmt_levels, stmts_levels, slots_of};
+ghost use Rattle.sp_tree.specs.Plain.{plain_sp};
+ghost use Rattle.sp_tree.specs.Shown.{plain_sp_target, plain_stmt, stmts_of, plain_function};
+ghost use Rattle.sp_emit.specs.Places as specs;
+
+use crate::expressions::need_of;
+use crate::instructions::{copy, idle, load_slot, store_slot, with_short};
+use crate::registers::{FIRST, OVERRUN, SPARE, reg};
+use patmos_instr::{Bundle, Guard, ImmFunc, Reg};
+use sp_tree::{SpExpr, SpFunction, SpStmt, SpTarget};
+
+/// Whether a word stands in a register, where the first one stands in that of this number.
+pub fn is_in_register(homes: u32, slot: u32) -> bool
+    ensures { result ≡ specs.in_register homes slot }
+{
+    homes < OVERRUN && slot < OVERRUN - homes
+}
+
+/// A register gets what a word holds.
+#[tactic(auto, unfolding(crate::specs::Places::read_op))]
+pub fn read_word(homes: u32, rd: Reg, slot: u32) -> Bundle
+    requires { slot < 128 }
+    ensures { result ≡ specs.read_word homes rd slot }
+{
+    if is_in_register(homes, slot) {
+        copy(rd, reg(homes + slot))
+    } else {
+        load_slot(rd, slot)
+    }
+}
+
+/// The spare register gets what a word of the stack holds; where the word stands in a register, nothing is done.
+#[tactic(auto, unfolding(crate::specs::Places::fetch_op))]
+pub fn fetch_word(homes: u32, slot: u32) -> Bundle
+    requires { slot < 128 }
+    ensures { result ≡ specs.fetch_word homes slot }
+{
+    if is_in_register(homes, slot) {
+        idle()
+    } else {
+        load_slot(reg(SPARE), slot)
+    }
+}
+
+/// The register in which the word stands then.
+pub fn fetched_at(homes: u32, slot: u32) -> Reg
+    ensures { result ≡ specs.fetched_at homes slot }
+{
+    if is_in_register(homes, slot) {
+        reg(homes + slot)
+    } else {
+        reg(SPARE)
+    }
+}
+
+/// A word gets what a register holds.
+#[tactic(auto, unfolding(crate::specs::Places::set_op))]
+pub fn set_word(homes: u32, guard: Guard, slot: u32, rs: Reg) -> Bundle
+    requires { slot < 128 }
+    ensures { result ≡ specs.set_word homes guard slot rs }
+{
+    if is_in_register(homes, slot) {
+        with_short(guard, ImmFunc::Add, reg(homes + slot), rs, 0)
+    } else {
+        store_slot(guard, slot, rs)
+    }
+}
+
+// ---- how many words the tree of a function names
+
+#[cycle(levels)]
+#[tactic(auto, unfolding(sp_tree::specs::Shown::plain_stmt))]
+fn statement_levels(t: &SpStmt) -> u32
+    ensures { result ≡ capped (stmt_levels (plain_stmt t.now)) }
+{
+    match t {
+        SpStmt::Turns { body, .. } => {
+            let inner = levels_of(body.as_slice());
+            inner.saturating_add(1)
+        }
+        _ => 0,
+    }
+}
+
+#[cycle(levels)]
+#[tactic(auto)]
+fn levels_of(stmts: &[SpStmt]) -> u32
+    ensures { result ≡ capped (stmts_levels (stmts_of stmts.now)) }
+{
+    let mut most = 0;
+    for t in stmts {
+        let levels = statement_levels(t);
+        most = levels.max(most);
+    }
+    most
+}
+
+/// How many words of a function's frame its tree names.
+pub fn words_of(f: &SpFunction) -> u32
+    requires { FunctionFits (plain_function f.now) }
+    ensures { result ≡ slots_of (plain_function f.now) }
+{
+    f.frame - (levels_of(f.body.as_slice()) + 2)
+}
+
+// ---- from which register on they stand
+
+// after the values of arguments
+fn arguments_least(args: &[SpExpr]) -> u32
+    requires { ArgsFit (map plain_sp args.now) FIRST }
+    ensures { result ≡ specs.args_least (map plain_sp args.now) FIRST }
+{
+    let mut least = FIRST;
+    let mut rd = FIRST;
+    for e in args {
+        least = least.max(rd + need_of(e));
+        rd += 1;
+    }
+    least
+}
+
+fn target_least(target: &SpTarget) -> u32
+    requires { TargetFits 0 (plain_sp_target target.now) }
+    ensures { result ≡ specs.target_least (plain_sp_target target.now) }
+{
+    match target {
+        SpTarget::Frame { .. } | SpTarget::Scalar { .. } => 0,
+        SpTarget::Element { index, .. } => FIRST + 1 + need_of(index),
+    }
+}
+
+// where the window of an earlier function ends
+fn top_at(tops: &[u32], function: u32) -> u32
+    ensures { result ≡ slice_index_or tops.now function 0 }
+{
+    match tops.get(function as usize) {
+        Some(top) => *top,
+        None => 0,
+    }
+}
+
+#[cycle(least)]
+#[tactic(auto, unfolding(sp_tree::specs::Shown::plain_stmt))]
+fn statement_least(tops: &[u32], t: &SpStmt, frame: u32, counter: u32) -> u32
+    requires { StmtFits frame counter (plain_stmt t.now) }
+    ensures { result ≡ specs.stmt_least tops.now (plain_stmt t.now) }
+{
+    match t {
+        SpStmt::Mask { value, .. } | SpStmt::Overrun { value, .. } => FIRST + need_of(value),
+        SpStmt::Write { target, value, .. } => (FIRST + need_of(value)).max(target_least(target)),
+        SpStmt::Call { function, args, .. } => {
+            top_at(tops, *function).max(arguments_least(args.as_slice()))
+        }
+        SpStmt::Send {
+            source,
+            target,
+            count,
+            ..
+        } => {
+            let values = (FIRST + need_of(source)).max(
+                (FIRST + 1 + need_of(target)).max(FIRST + 2 + need_of(count)),
+            );
+            values.max(FIRST + 4)
+        }
+        SpStmt::Turns { body, .. } => statements_least(tops, body.as_slice(), frame, counter - 1),
+    }
+}
+
+#[cycle(least)]
+fn statements_least(tops: &[u32], body: &[SpStmt], frame: u32, counter: u32) -> u32
+    requires { StmtsFit frame counter (stmts_of body.now) }
+    ensures { result ≡ specs.stmts_least tops.now (stmts_of body.now) }
+{
+    let mut least = 0;
+    for t in body {
+        least = statement_least(tops, t, frame, counter).max(least);
+    }
+    least
+}
+
+/// From which register on the words of a function stand, where the windows of the earlier ones end there.
+pub fn homes_over(tops: &[u32], f: &SpFunction) -> u32
+    requires { FunctionFits (plain_function f.now) }
+    ensures { result ≡ specs.homes_over tops.now (plain_function f.now) }
+{
+    (FIRST + f.parameters).max(statements_least(tops, f.body.as_slice(), f.frame, f.frame - 3))
+}
