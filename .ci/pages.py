@@ -1,9 +1,11 @@
 #!/usr/bin/env python3
-"""Holds pages and tools against the program: `.ci/pages.py PROGRAM`. Prints each fault, and nothing where there is none.
+"""Holds pages and tools against the program: `.ci/pages.py PROGRAM`. Prints each fault, and else nothing.
 
 - The texts of docs/ERRORS.md: the program answers a wrong one as it stands there, and takes a right one.
-- What docs/START.md and docs/LESSONS.md type after `$` gives what stands below it.
+- What docs/START.md and docs/LESSONS.md type after `$` gives what stands below it; so does docs/C_PROGRAMS.md, where
+  pycparser and gcc are installed.
 - The pieces of docs/IDIOMS.md are taken.
+- What docs/ONE_PROMISE.md quotes from a file stands there.
 - The jobs in examples/lessons and examples/pipeline give what stands beside them.
 - Each tool gives what is stored in tools/examples, and ends well on each example.
 """
@@ -11,9 +13,12 @@
 from __future__ import annotations
 
 import os
+import re
+import shutil
 import subprocess
 import sys
 import tempfile
+from importlib.util import find_spec
 from pathlib import Path
 
 ROOT = Path(__file__).resolve().parent.parent
@@ -22,53 +27,152 @@ sys.dont_write_bytecode = True
 
 from tcresttools.errors_page import Sample, read_page  # noqa: E402
 
-PROGRAM = str(Path(sys.argv[1]).resolve())
-WALKS = ["docs/START.md", "docs/LESSONS.md"]
+LOWERS = find_spec("pycparser") is not None and shutil.which("gcc") is not None
+WALKS = ["docs/START.md", "docs/LESSONS.md", *(["docs/C_PROGRAMS.md"] if LOWERS else [])]
 EXAMPLES = sorted(path.relative_to(ROOT) for path in (ROOT / "examples").glob("**/*.toml") if path.name != "grid.toml")
-faults = 0
+
+Done = subprocess.CompletedProcess[str]
 
 
-def fault(text: str) -> None:
-    global faults
-    print(f"pages: {text}")
-    faults = 1
+def unindented(text: str) -> str:
+    """The lines of a text without the spaces before and after them."""
+    return "\n".join(line.strip() for line in text.splitlines())
 
 
-def run(words: list[str], given: str = "") -> subprocess.CompletedProcess[str]:
-    """What words write and their status, in the folder of the repository."""
-    return subprocess.run(words, input=given, capture_output=True, text=True, cwd=ROOT, check=False)
+class Pages:
+    """The program under test, and how many faults were printed."""
 
+    def __init__(self, program: str) -> None:
+        self.program = program
+        self.faults = 0
 
-def shell(line: str) -> subprocess.CompletedProcess[str]:
-    """What a line of a page writes, with the program under test in place of bin/tcrest."""
-    environment = {**os.environ, "TCREST": PROGRAM, "PYTHONDONTWRITEBYTECODE": "1"}
-    line = line.replace("bin/tcrest", PROGRAM)
-    return subprocess.run(["bash", "-c", line], capture_output=True, text=True, cwd=ROOT, env=environment, check=False)
+    def fault(self, text: str) -> None:
+        print(f"pages: {text}")
+        self.faults += 1
 
+    def run(self, words: list[str], given: str = "") -> Done:
+        """What words write and their status, in the folder of the repository."""
+        return subprocess.run(words, input=given, capture_output=True, text=True, cwd=ROOT, check=False)
 
-def check_sample(sample: Sample) -> None:
-    """A text of docs/ERRORS.md."""
-    done = run([PROGRAM, sample.command], sample.job)
-    lines = done.stdout.splitlines()
-    for wanted in sample.answer:
-        if not any(line == wanted or (" trap " not in wanted and line.startswith(wanted + " ")) for line in lines):
-            fault(f"docs/ERRORS.md, {sample.entry}: `{wanted}` is not what comes, but {lines[:3]}")
-    if sample.right and done.returncode != 0:
-        fault(f"docs/ERRORS.md, {sample.entry}: the right text ends with status {done.returncode}: {lines[:1]}")
+    def shell(self, line: str) -> Done:
+        """What a line of a page writes, with the program under test in place of bin/tcrest."""
+        environment = {**os.environ, "TCREST": self.program, "PYTHONDONTWRITEBYTECODE": "1"}
+        words = ["bash", "-c", line.replace("bin/tcrest", self.program)]
+        return subprocess.run(words, capture_output=True, text=True, cwd=ROOT, env=environment, check=False)
 
+    def check_sample(self, sample: Sample) -> None:
+        """A text of docs/ERRORS.md."""
+        done = self.run([self.program, sample.command], sample.job)
+        lines = done.stdout.splitlines()
+        for wanted in sample.answer:
+            if not any(line == wanted or (" trap " not in wanted and line.startswith(wanted + " ")) for line in lines):
+                self.fault(f"docs/ERRORS.md, {sample.entry}: `{wanted}` is not what comes, but {lines[:3]}")
+        if sample.right and done.returncode != 0:
+            self.fault(
+                f"docs/ERRORS.md, {sample.entry}: the right text ends with status {done.returncode}: {lines[:1]}"
+            )
 
-def walk(page: str) -> None:
-    """The lines of a page that are typed, and what stands below each."""
-    command, wanted = "", []
-    for line in [*(ROOT / page).read_text(encoding="utf-8").splitlines(), ""]:
-        if line.startswith("    ") and not line.startswith("    $ ") and command:
-            wanted.append(line[4:])
-            continue
-        if command:
-            found = shell(command).stdout.splitlines()
-            if found != wanted:
-                fault(f"{page}: `{command}` gives {found}")
-        command, wanted = (line[6:], []) if line.startswith("    $ ") else ("", [])
+    def walk(self, page: str) -> None:
+        """The lines of a page that are typed, and what stands below each."""
+        command = ""
+        wanted: list[str] = []
+        for line in [*(ROOT / page).read_text(encoding="utf-8").splitlines(), ""]:
+            if line.startswith("    ") and not line.startswith("    $ ") and command:
+                wanted.append(line[4:])
+                continue
+            if command:
+                found = self.shell(command).stdout.splitlines()
+                if found != wanted:
+                    self.fault(f"{page}: `{command}` gives {found}")
+            command, wanted = (line[6:], []) if line.startswith("    $ ") else ("", [])
+
+    def check_quotes(self, page: str) -> None:
+        """Each block after "From `FILE`:", up to the next such words, has lines of that file, one after another."""
+        source = ""
+        for paragraph in (ROOT / page).read_text(encoding="utf-8").split("\n\n"):
+            if named := re.search(r"From\s+`(crates/[^`]+)`:$", paragraph):
+                source = unindented((ROOT / named[1]).read_text(encoding="utf-8"))
+            elif paragraph.startswith("    ") and unindented(paragraph) not in source:
+                self.fault(f"{page} quotes what does not stand so in its file: {paragraph.strip().splitlines()[0]}")
+
+    def check_idioms(self) -> None:
+        """Each piece of docs/IDIOMS.md, with what it needs around it, is a task that is taken."""
+        end = "ret; nop; nop; nop\n"
+        for block in blocks("docs/IDIOMS.md", "## In assembly", "## In C"):
+            around = (
+                f".func main\n{end}.func f\n{end}{block}"
+                if block.startswith(".func g")
+                else f".func main\n{block}{end}"
+            )
+            self.check_piece(Sample("", True, "asm", "asm", block if block.startswith(".func main") else around), block)
+        names = "int i = 0; int n = 3; int x = 4; int y = 0; int sum = 0; int limit = 2; int weight = 3;"
+        for block in blocks("docs/IDIOMS.md", "## In C\n", "\n## "):
+            text = (
+                f"{block}int main() {{ return 0; }}\n"
+                if "[4];" in block or "[1];" in block
+                else f"int main() {{ {names}\n{block}return 0; }}\n"
+            )
+            self.check_piece(Sample("", True, "asm", "c", text.replace("send(2,", "send(1,")), block)
+        self.check_piece(
+            Sample("", True, "asm", "asm", blocks("docs/ASSEMBLY.md", "## A task", "## Statements")[0]),
+            "the task of ASSEMBLY",
+        )
+
+    def check_piece(self, sample: Sample, block: str) -> None:
+        done = self.run([self.program, sample.command], sample.job)
+        if done.returncode != 0:
+            self.fault(f"docs/IDIOMS.md: {done.stdout.strip()} is what comes of {block}")
+
+    def check_reports(self) -> None:
+        """The jobs of the lessons and of docs/PIPELINE.md, with what stands beside them."""
+        for folder, command in (("lessons", "run"), ("pipeline", "pipe")):
+            for report in sorted((ROOT / "examples" / folder).glob("*.report")):
+                given = report.with_suffix(".toml").read_text(encoding="utf-8")
+                if self.run([self.program, command], given).stdout != report.read_text(encoding="utf-8"):
+                    self.fault(f"examples/{folder}/{report.name} is not what the program writes")
+
+    def check_stored(self) -> None:
+        """The outputs that are stored: a line of tools/examples/commands.txt says how each comes about."""
+        for line in (ROOT / "tools/examples/commands.txt").read_text(encoding="utf-8").splitlines():
+            name, _, command = line.partition(": ")
+            if not name or name.startswith("#"):
+                continue
+            found = self.shell(command)
+            if found.stdout != (ROOT / "tools/examples" / name).read_text(encoding="utf-8"):
+                self.fault(f"tools/examples/{name} is not what `{command}` writes: {found.stderr.strip()}")
+
+    def check_tools(self) -> None:
+        """Each tool ends well on each example: 2 is a bad input, which the examples are not but for some tools."""
+        with tempfile.TemporaryDirectory() as folder:
+            for example in EXAMPLES:
+                text = (ROOT / example).read_text(encoding="utf-8")
+                one_core = "\ncores = 1\n" in text
+                lines = [f"tools/explain {example}", f"tools/lint {example}", f"tools/listing {example}"]
+                lines += [f"tools/timeline {example} --trace 99 --svg {folder}/a.svg --vcd {folder}/a.vcd"]
+                lines += [f"tools/profile {example}", f"tools/stages {example} --trace 40"] if one_core else []
+                for line in lines:
+                    found = self.shell(line)
+                    if found.returncode not in (0, 1) or found.stderr:
+                        self.fault(f"`{line}` ends with status {found.returncode}: {found.stderr.strip()}")
+            for line in (
+                "tools/explain none.toml",
+                "tools/listing examples/grid.toml",
+                "tools/stages examples/two_cores.toml",
+            ):
+                found = self.shell(line)
+                if found.returncode != 2 or found.stderr.count("\n") != 1 or found.stdout:
+                    self.fault(f"`{line}` ends with status {found.returncode}: {found.stderr.strip()}")
+            sweep = f"tools/sweep examples/c/filter.toml --slot 6,8 --out {folder}/a.csv 2> {folder}/log"
+            table = self.shell(f"{sweep}; cut -d, -f1-4 {folder}/a.csv").stdout
+            if table != "slot,core,ended,value\n6,0,done,11\n8,0,done,11\n":
+                self.fault(f"tools/sweep gives another table: {table}")
+
+    def check_schemas(self) -> None:
+        """The schemas in docs/ are those that tools/schema writes."""
+        for kind in ("job", "grid"):
+            stored = (ROOT / f"docs/{kind}.schema.json").read_text(encoding="utf-8")
+            if self.run([sys.executable, "tools/schema", kind]).stdout != stored:
+                self.fault(f"docs/{kind}.schema.json is not what `tools/schema {kind}` writes")
 
 
 def blocks(page: str, begin: str, end: str) -> list[str]:
@@ -83,80 +187,23 @@ def blocks(page: str, begin: str, end: str) -> list[str]:
     return ["\n".join(block) + "\n" for block in found if block]
 
 
-def check_idioms() -> None:
-    """Each piece of docs/IDIOMS.md, with what it needs around it, is a task that is taken."""
-    end = "ret; nop; nop; nop\n"
-    for block in blocks("docs/IDIOMS.md", "## In assembly", "## In C"):
-        around = f".func main\n{end}.func f\n{end}{block}" if block.startswith(".func g") else f".func main\n{block}{end}"
-        check_piece(Sample("", True, "asm", "asm", block if block.startswith(".func main") else around), block)
-    names = "int i = 0; int n = 3; int x = 4; int y = 0; int sum = 0; int limit = 2; int weight = 3;"
-    for block in blocks("docs/IDIOMS.md", "## In C\n", "\n## "):
-        text = f"{block}int main() {{ return 0; }}\n" if "[4];" in block or "[1];" in block else f"int main() {{ {names}\n{block}return 0; }}\n"
-        check_piece(Sample("", True, "asm", "c", text.replace("send(2,", "send(1,")), block)
-    check_piece(Sample("", True, "asm", "asm", blocks("docs/ASSEMBLY.md", "## A task", "## Statements")[0]), "the task of ASSEMBLY")
+def main() -> int:
+    """Looks at all of it."""
+    pages = Pages(str(Path(sys.argv[1]).resolve()))
+    for entry in read_page():
+        for sample in entry.samples:
+            pages.check_sample(sample)
+    for page in WALKS:
+        if (ROOT / page).exists():
+            pages.walk(page)
+    pages.check_idioms()
+    pages.check_quotes("docs/ONE_PROMISE.md")
+    pages.check_reports()
+    pages.check_stored()
+    pages.check_tools()
+    pages.check_schemas()
+    return 1 if pages.faults else 0
 
 
-def check_piece(sample: Sample, block: str) -> None:
-    done = run([PROGRAM, sample.command], sample.job)
-    if done.returncode != 0:
-        fault(f"docs/IDIOMS.md: {done.stdout.strip()} is what comes of {block}")
-
-
-def check_reports() -> None:
-    """The jobs of the lessons and of docs/PIPELINE.md, with what stands beside them."""
-    for folder, command in (("lessons", "run"), ("pipeline", "pipe")):
-        for report in sorted((ROOT / "examples" / folder).glob("*.report")):
-            given = report.with_suffix(".toml").read_text(encoding="utf-8")
-            if run([PROGRAM, command], given).stdout != report.read_text(encoding="utf-8"):
-                fault(f"examples/{folder}/{report.name} is not what the program writes")
-
-
-def check_stored() -> None:
-    """The outputs that are stored: a line of tools/examples/commands.txt says how each comes about."""
-    for line in (ROOT / "tools/examples/commands.txt").read_text(encoding="utf-8").splitlines():
-        name, _, command = line.partition(": ")
-        if not name or name.startswith("#"):
-            continue
-        found = shell(command)
-        if found.stdout != (ROOT / "tools/examples" / name).read_text(encoding="utf-8"):
-            fault(f"tools/examples/{name} is not what `{command}` writes: {found.stderr.strip()}")
-
-
-def check_tools() -> None:
-    """Each tool ends well on each example: 2 is a bad input, which the examples are not but for some tools."""
-    with tempfile.TemporaryDirectory() as folder:
-        for example in EXAMPLES:
-            text = (ROOT / example).read_text(encoding="utf-8")
-            one_core = "\ncores = 1\n" in text
-            lines = [f"tools/explain {example}", f"tools/lint {example}", f"tools/listing {example}"]
-            lines += [f"tools/timeline {example} --trace 99 --svg {folder}/a.svg --vcd {folder}/a.vcd"]
-            lines += [f"tools/profile {example}", f"tools/stages {example} --trace 40"] if one_core else []
-            for line in lines:
-                found = shell(line)
-                if found.returncode not in (0, 1) or found.stderr:
-                    fault(f"`{line}` ends with status {found.returncode}: {found.stderr.strip()}")
-        for line in ("tools/explain none.toml", "tools/listing examples/grid.toml", "tools/stages examples/two_cores.toml"):
-            found = shell(line)
-            if found.returncode != 2 or found.stderr.count("\n") != 1 or found.stdout:
-                fault(f"`{line}` ends with status {found.returncode}: {found.stderr.strip()}")
-        sweep = f"tools/sweep examples/c/filter.toml --slot 6,8 --out {folder}/a.csv 2> {folder}/log"
-        found = shell(f"{sweep}; cut -d, -f1-4 {folder}/a.csv").stdout
-        if found != "slot,core,ended,value\n6,0,done,11\n8,0,done,11\n":
-            fault(f"tools/sweep gives another table: {found}")
-
-
-for entry in read_page():
-    for sample in entry.samples:
-        check_sample(sample)
-for page in WALKS:
-    if (ROOT / page).exists():
-        walk(page)
-check_idioms()
-check_reports()
-check_stored()
-check_tools()
-for kind in ("job", "grid"):
-    stored = (ROOT / f"docs/{kind}.schema.json").read_text(encoding="utf-8")
-    if run([sys.executable, "tools/schema", kind]).stdout != stored:
-        fault(f"docs/{kind}.schema.json is not what `tools/schema {kind}` writes")
-sys.exit(faults)
+if __name__ == "__main__":
+    sys.exit(main())

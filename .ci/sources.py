@@ -4,6 +4,7 @@ from __future__ import annotations
 
 import functools
 import re
+from collections.abc import Collection, Mapping
 from dataclasses import dataclass
 from pathlib import Path
 
@@ -84,17 +85,17 @@ def imports_of(text: str) -> Imports:
     return imports
 
 
-def named_in(text: str, imports: dict[str, frozenset[Place]] | Imports) -> set[Place]:
+def named_in(text: str, imports: Mapping[str, Collection[Place]]) -> set[Place]:
     """The definitions of other files that a text names."""
     found: set[Place] = set()
     for token in re.findall(r"[^\s(){};,\[\]]+", text):
         head, _, tail = token.lstrip("λ").rstrip(".").partition(".")
-        found |= imports.get(token, set()) | imports.get(head, set())
-        for place in imports.get(head + ".", set()) if tail else ():
+        found.update(imports.get(token, ()), imports.get(head, ()))
+        for place in imports.get(head + ".", ()) if tail else ():
             found.add(Place(place.crate, place.folder, place.file, tail.split(".")[0]))
     for name, places in imports.items():
         if "◌" in name and all(part in text for part in name.split("◌") if part):
-            found |= places
+            found.update(places)
     return found
 
 
@@ -207,7 +208,7 @@ def rests_on(place: Place) -> frozenset[Place]:
     return frozenset(set().union(*(named_in(text, here) | named_in(text, imports) for text in texts)))
 
 
-def closure(places: set[Place], cut: set[Place] = frozenset()) -> set[Place]:
+def closure(places: set[Place], cut: Collection[Place] = ()) -> set[Place]:
     """These definitions and all on which they rest, without what the cut ones rest on."""
     seen: set[Place] = set()
     todo = list(places)

@@ -4,6 +4,8 @@ Each text fills a job of 1 MiB. Reading one (tokens and tree) is to take at most
 checks 2 seconds. The gate does not run this: what it prints depends on the machine.
 """
 
+from __future__ import annotations
+
 import resource
 import subprocess
 import sys
@@ -14,12 +16,12 @@ TAIL = "'''\n"
 ROOM = 1_048_576 - len(HEAD) - len(TAIL)
 
 
-def filled(before, piece, after):
+def filled(before: str, piece: str, after: str) -> str:
     """A text that repeats a piece as often as there is room."""
     return before + piece * ((ROOM - len(before) - len(after)) // len(piece)) + after
 
 
-def numbered(before, piece, after):
+def numbered(before: str, piece: str, after: str) -> str:
     """A text that repeats a piece, each time with another number in place of `#`, as often as there is room."""
     pieces, left, number = [before], ROOM - len(before) - len(after), 0
     while len(next_piece := piece.replace("#", str(number))) <= left:
@@ -36,7 +38,7 @@ TEXTS = {
     "one comment": filled("/*", " ", "*/ int main() { }"),
     "long names": filled("int ", "a" * 100_000 + "; int ", "b;"),
     "functions": filled("", "void f(){} ", ""),
-    "signs": filled("int main() { return ", "-(", "") ,
+    "signs": filled("int main() { return ", "-(", ""),
     "globals": numbered("", "int a#;", "int main() { return 0; }"),
     "locals": numbered("int main() { ", "int a#;", " }"),
     "one name": filled("int main() { int x; ", "x=x;", " }"),
@@ -45,10 +47,19 @@ TEXTS = {
     "else if": filled("int main() { if (1) { } ", "else if (1) { } ", "}"),
 }
 
-for name, text in TEXTS.items():
-    job = (HEAD + text + TAIL).encode()
-    start = time.monotonic()
-    done = subprocess.run([sys.argv[1], "run"], input=job, capture_output=True, check=False)
-    seconds = time.monotonic() - start
-    most = resource.getrusage(resource.RUSAGE_CHILDREN).ru_maxrss // 1024
-    print(f"{name:15} {len(job):8} bytes {seconds:6.2f} s, at most {most} MB so far: {done.stdout.decode().strip()}")
+
+def main(program: str) -> None:
+    """Asks the program about each text, and prints how long it took."""
+    for name, text in TEXTS.items():
+        job = (HEAD + text + TAIL).encode()
+        start = time.monotonic()
+        done = subprocess.run([program, "run"], input=job, capture_output=True, check=False)
+        seconds = time.monotonic() - start
+        most = resource.getrusage(resource.RUSAGE_CHILDREN).ru_maxrss // 1024
+        print(
+            f"{name:15} {len(job):8} bytes {seconds:6.2f} s, at most {most} MB so far: {done.stdout.decode().strip()}"
+        )
+
+
+if __name__ == "__main__":
+    main(sys.argv[1])

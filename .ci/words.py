@@ -59,7 +59,7 @@ def definitions() -> dict[Path, str | None]:
 
 def believed_in_page() -> dict[tuple[str, str], str]:
     """The definitions that the table of promises names, each with its crate, and its column."""
-    found = {}
+    found: dict[tuple[str, str], str] = {}
     for line in section(PROMISES, "Definitions to be believed").split("\n"):
         crate, *cells = [cell.strip() for cell in line.strip("|").split(" | ")]
         if line.startswith("|") and crate in CRATES:

@@ -37,7 +37,7 @@ class Instruction:
 
 
 def pieces(source: bytes) -> list[tuple[int, bytes]]:
-    """The pieces of a text between newlines and `;` outside braces, without comments, with their first byte's number."""
+    """The pieces of a text between newlines and `;` outside braces, without comments, each with its first byte."""
     found, begin, braces, comment = [], 0, False, None
     for at, byte in enumerate(source + b"\n"):
         if byte == 0x0A or (byte == 0x3B and not braces and comment is None):
@@ -127,6 +127,8 @@ def code_of(source: bytes, words: list[int]) -> Code:
             function = found.name
             code.rows.append(Row(at, None, [words[at]], found, function))
             begin, end, at = at + 1, at + 1 + words[at], at + 1
+            if end > len(words):
+                raise BadInput("the listing is not that of this text: a function has fewer words than its size says")
         elif found.kind == "label":
             code.rows.append(Row(at, at - begin, [], found, function))
         else:

@@ -1,23 +1,29 @@
-"""C texts: their tokens with their places, as docs/SUBSET_C.md tells them apart."""
+"""C texts: their tokens with their places, as docs/SUBSET_C.md tells them apart. No other reader of tokens is here."""
 
 from __future__ import annotations
 
 import re
 from dataclasses import dataclass
 
-NAME = re.compile(rb"[A-Za-z_][A-Za-z0-9_]*")
-NUMBER = re.compile(rb"(0[xX][0-9A-Fa-f]+|0|[1-9][0-9]*)[uU]?")
 COUNT = rb"(0|[1-9][0-9]*)"
 PRAGMA = re.compile(rb'_Pragma\("loopbound[ \t]+min[ \t]+' + COUNT + rb"[ \t]+max[ \t]+" + COUNT + rb'"\)')
-LINE_PRAGMA = re.compile(rb"#pragma[ \t]+loopbound[ \t]+min[ \t]+" + COUNT + rb"[ \t]+max[ \t]+" + COUNT + rb"[ \t\r]*(?=\n|\Z)")
-SIGNS = [
-    b"<<=", b">>=", b"++", b"--", b"->", b"+=", b"-=", b"*=", b"/=", b"%=", b"&=", b"|=", b"^=",
-    b"||", b"&&", b"==", b"!=", b"<=", b">=", b"<<", b">>",
-    b"(", b")", b"[", b"]", b"{", b"}", b";", b",", b"=", b"|", b"^", b"&", b"<", b">", b"+", b"-", b"*", b"/", b"%",
-    b"~", b"!",
-]  # fmt: skip
-REFUSED_SIGNS = frozenset(SIGNS[:13])
+LINE_PRAGMA = re.compile(
+    rb"#pragma[ \t]+loopbound[ \t]+min[ \t]+" + COUNT + rb"[ \t]+max[ \t]+" + COUNT + rb"[ \t\r]*(?=\n|\Z)"
+)
+# Signs of C that the subset does not have, and those that it has; a longer one comes before those that it begins with.
+REFUSED_SIGNS = ["<<=", ">>=", "++", "--", "->", "+=", "-=", "*=", "/=", "%=", "&=", "|=", "^="]
+SIGNS = ["||", "&&", "==", "!=", "<=", ">=", "<<", ">>", *"()[]{};,=|^&<>+-*/%~!"]
+PIECE = re.compile(
+    rb"(?P<blank>[ \t\r\n]+|//[^\n]*|/\*.*?\*/)"
+    rb"|(?P<bound>#|_Pragma(?![A-Za-z0-9_]))"
+    rb"|(?P<name>[A-Za-z_][A-Za-z0-9_]*)"
+    rb"|(?P<number>(?:0[xX][0-9A-Fa-f]+|0|[1-9][0-9]*)[uU]?(?![A-Za-z0-9_]))"
+    rb"|(?P<refused>/\*|" + b"|".join(re.escape(sign).encode() for sign in REFUSED_SIGNS) + rb")"
+    rb"|(?P<sign>" + b"|".join(re.escape(sign).encode() for sign in SIGNS) + rb")",
+    re.S,
+)
 MOST = 2**32 - 1
+MOST_DIGITS = 10
 
 
 @dataclass(frozen=True)
@@ -26,6 +32,24 @@ class Token:
 
     text: str
     at: int
+
+    @property
+    def end(self) -> int:
+        """Behind its last byte: tokens are ASCII."""
+        return self.at + len(self.text)
+
+    @property
+    def is_name(self) -> bool:
+        """It is a name or a keyword, and no bound of a loop."""
+        return (self.text[0].isalpha() or self.text[0] == "_") and not self.is_bound
+
+    @property
+    def is_number(self) -> bool:
+        return self.text[0].isdigit()
+
+    @property
+    def is_bound(self) -> bool:
+        return self.text.startswith(("#", "_Pragma("))
 
 
 class NoTokens(Exception):
@@ -40,43 +64,19 @@ class NoTokens(Exception):
 def tokens_of(source: bytes) -> list[Token]:
     """The tokens of a text."""
     found, at = [], 0
-    while (at := behind_blanks(source, at)) < len(source):
-        end = token_end(source, at)
-        found.append(Token(source[at:end].decode(), at))
+    while at < len(source):
+        piece = PIECE.match(source, at)
+        if piece is None or piece.lastgroup == "refused":
+            raise NoTokens("Char", at)
+        end = piece.end()
+        if piece.lastgroup == "bound":
+            end = bound_end(source, at)
+        elif piece.lastgroup == "number" and is_wide(piece.group()):
+            raise NoTokens("Wide", at)
+        if piece.lastgroup != "blank":
+            found.append(Token(source[at:end].decode(), at))
         at = end
     return found
-
-
-def behind_blanks(source: bytes, at: int) -> int:
-    """The first byte behind blanks and comments."""
-    while at < len(source):
-        if source[at] in b" \t\r\n":
-            at += 1
-        elif source.startswith(b"//", at):
-            end = source.find(b"\n", at)
-            at = len(source) if end < 0 else end
-        elif source.startswith(b"/*", at):
-            end = source.find(b"*/", at + 2)
-            if end < 0:
-                raise NoTokens("Char", at)
-            at = end + 2
-        else:
-            return at
-    return at
-
-
-def token_end(source: bytes, at: int) -> int:
-    """Behind the longest token that begins here."""
-    if source[at] == 0x23 or re.match(rb"_Pragma(?![A-Za-z0-9_])", source[at : at + 8]):
-        return bound_end(source, at)
-    if name := NAME.match(source, at):
-        return name.end()
-    if source[at] in b"0123456789":
-        return number_end(source, at)
-    sign = next((sign for sign in SIGNS if source.startswith(sign, at)), None)
-    if sign is None or sign in REFUSED_SIGNS:
-        raise NoTokens("Char", at)
-    return at + len(sign)
 
 
 def bound_end(source: bytes, at: int) -> int:
@@ -87,21 +87,22 @@ def bound_end(source: bytes, at: int) -> int:
     if found is None or (line and source[begin:at].strip(b" \t\r")):
         raise NoTokens("Char", at)
     for part in (1, 2):
-        if int(found.group(part)) > MOST:
+        if is_wide(found.group(part)):
             raise NoTokens("Wide", found.start(part))
     return found.end()
 
 
-def number_end(source: bytes, at: int) -> int:
-    """Behind a number."""
-    found = NUMBER.match(source, at)
-    if found is None or (found.end() < len(source) and NAME.match(source[found.end() : found.end() + 1])):
-        raise NoTokens("Char", at)
-    if found.end() < len(source) and source[found.end()] in b"0123456789":
-        raise NoTokens("Char", at)
-    if int(found.group(1), 0) > MOST:
-        raise NoTokens("Wide", at)
-    return found.end()
+def is_wide(number: bytes) -> bool:
+    """The number passes a word. Decimal digits are counted first, since Python reads no number of thousands of them."""
+    digits = number.rstrip(b"uU")
+    if digits[:2].lower() == b"0x":
+        return int(digits, 16) > MOST
+    return len(digits) > MOST_DIGITS or int(digits) > MOST
+
+
+def number_of(token: Token) -> int | None:
+    """The number that a token writes."""
+    return int(token.text.rstrip("uU"), 0) if token.is_number else None
 
 
 def token_at(source: bytes, number: int) -> Token | None:

@@ -83,7 +83,8 @@ def read_page(path: Path = PAGE) -> list[Entry]:
     except OSError as error:
         raise BadInput(f"{path}: {error.strerror}") from None
     entries: list[Entry] = []
-    section, fence, block = "", "", []
+    section, fence = "", ""
+    block: list[str] = []
     for line in lines:
         if fence:
             if line == "```":

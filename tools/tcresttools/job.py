@@ -54,15 +54,15 @@ class Job:
 
     @property
     def cores(self) -> int:
-        return self.keys["cores"]
+        return int(self.keys["cores"])
 
     @property
     def slot(self) -> int:
-        return self.keys["slot"]
+        return int(self.keys["slot"])
 
     @property
     def trace(self) -> int:
-        return self.keys.get("trace", 0)
+        return int(self.keys.get("trace", 0))
 
     @property
     def table(self) -> list[int]:

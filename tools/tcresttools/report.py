@@ -78,12 +78,25 @@ def stage(text: str) -> int | None:
     return None if text == "-" else int(text)
 
 
+def number_or_none(text: str | None) -> int | None:
+    return None if text is None else int(text)
+
+
 def core_of(found: re.Match[str]) -> Core:
     """The core of a line on what became of a task."""
     number, idle, limit, value, cycles, trap, at, bound, alone, overrun = found.groups()
-    ended = idle or limit or ("trap" if trap else "done")
-    numbers = [None if text is None else int(text) for text in (value, cycles, trap, at, bound)]
-    return Core(found.group(0), int(number), ended, *numbers, alone=bool(alone), overrun=bool(overrun))
+    return Core(
+        found.group(0),
+        int(number),
+        idle or limit or ("trap" if trap else "done"),
+        number_or_none(value),
+        number_or_none(cycles),
+        number_or_none(trap),
+        number_or_none(at),
+        number_or_none(bound),
+        bool(alone),
+        bool(overrun),
+    )
 
 
 def read_report(text: str) -> Report:
