@@ -2,8 +2,8 @@
 """Holds pages and tools against the program: `.ci/pages.py PROGRAM`. Prints each fault, and else nothing.
 
 - The texts of docs/ERRORS.md: the program answers a wrong one as it stands there, and takes a right one.
-- What docs/START.md and docs/LESSONS.md type after `$` gives what stands below it; so does docs/C_PROGRAMS.md, where
-  pycparser and gcc are installed.
+- What docs/START.md, docs/LESSONS.md, docs/TIMING.md and docs/GRID.md type after `$` gives what stands below it; so
+  does docs/C_PROGRAMS.md, where pycparser and gcc are installed.
 - The pieces of docs/IDIOMS.md are taken.
 - What docs/ONE_PROMISE.md quotes from a file stands there.
 - The jobs in examples/lessons and examples/pipeline give what stands beside them.
@@ -28,7 +28,7 @@ sys.dont_write_bytecode = True
 from tcresttools.errors_page import Sample, read_page  # noqa: E402
 
 LOWERS = find_spec("pycparser") is not None and shutil.which("gcc") is not None
-WALKS = ["docs/START.md", "docs/LESSONS.md", *(["docs/C_PROGRAMS.md"] if LOWERS else [])]
+WALKS = [f"docs/{page}.md" for page in ("START", "LESSONS", "TIMING", "GRID", *(["C_PROGRAMS"] if LOWERS else []))]
 EXAMPLES = sorted(path.relative_to(ROOT) for path in (ROOT / "examples").glob("**/*.toml") if path.name != "grid.toml")
 
 Done = subprocess.CompletedProcess[str]
@@ -147,17 +147,21 @@ class Pages:
             for example in EXAMPLES:
                 text = (ROOT / example).read_text(encoding="utf-8")
                 one_core = "\ncores = 1\n" in text
+                in_c = 'lang = "c"' in text
                 lines = [f"tools/explain {example}", f"tools/lint {example}", f"tools/listing {example}"]
                 lines += [f"tools/timeline {example} --trace 99 --svg {folder}/a.svg --vcd {folder}/a.vcd"]
-                lines += [f"tools/profile {example}", f"tools/stages {example} --trace 40"] if one_core else []
+                lines += [f"tools/profile {example}", f"tools/page {example} -o {folder}/a.html"]
+                lines += [f"tools/stages {example} --trace 40"] if one_core else []
+                lines += [f"tools/where {example} --csv", f"tools/worst {example}"] if in_c else []
                 for line in lines:
-                    found = self.shell(line)
-                    if found.returncode not in (0, 1) or found.stderr:
-                        self.fault(f"`{line}` ends with status {found.returncode}: {found.stderr.strip()}")
+                    self.ends_with(line, (0, 1))
+            self.check_searches(folder)
             for line in (
                 "tools/explain none.toml",
                 "tools/listing examples/grid.toml",
                 "tools/stages examples/two_cores.toml",
+                "tools/where examples/one_core.toml",
+                "tools/worst examples/one_core.toml",
             ):
                 found = self.shell(line)
                 if found.returncode != 2 or found.stderr.count("\n") != 1 or found.stdout:
@@ -166,6 +170,28 @@ class Pages:
             table = self.shell(f"{sweep}; cut -d, -f1-4 {folder}/a.csv").stdout
             if table != "slot,core,ended,value\n6,0,done,11\n8,0,done,11\n":
                 self.fault(f"tools/sweep gives another table: {table}")
+
+    def ends_with(self, line: str, statuses: tuple[int, ...]) -> None:
+        """A line of the shell ends with one of these statuses, and writes no error."""
+        found = self.shell(line)
+        if found.returncode not in statuses or found.stderr:
+            self.fault(f"`{line}` ends with status {found.returncode}: {found.stderr.strip()}")
+
+    def check_searches(self, folder: str) -> None:
+        """The tools that look for tables and schedules, and the program on files."""
+        deadlines = "examples/c/deadlines.toml --deadline 0=3000 1=6000 2=20000"
+        for line in (
+            f"tools/tables {deadlines} --persist --length 6",
+            "tools/tables examples/c/table_even.toml --deadline 0=4000 --length 5 --best 1",
+            f"tools/network --columns 3 --rows 3 --all --out {folder}/grid.toml",
+            f"tools/tcrest grid {folder}/grid.toml examples/grid.toml",
+        ):
+            found = self.shell(line)
+            if found.returncode != 0:
+                self.fault(f"`{line}` ends with status {found.returncode}: {found.stderr.strip()}")
+        sweep = f"tools/sweep examples/c/filter.toml --start 0,1 --deadline 0=3000 --out {folder}/b.csv"
+        if self.shell(sweep).stdout.count("kept in 2 of 2 rows") != 1:
+            self.fault("tools/sweep does not give the slack of both starts")
 
     def check_schemas(self) -> None:
         """The schemas in docs/ are those that tools/schema writes."""

@@ -2,3 +2,5 @@
 
 Python 3.11 and its standard library are all that is needed. Nothing here is proved.
 """
+
+VERSION = "1"

@@ -5,6 +5,7 @@ from __future__ import annotations
 import argparse
 import os
 import sys
+import textwrap
 from collections.abc import Callable
 from pathlib import Path
 
@@ -12,12 +13,16 @@ ROOT = Path(__file__).resolve().parent.parent.parent
 
 
 class BadInput(Exception):
-    """What is wrong with what the tool was given, in one line."""
+    """What is wrong with what the tool was given, in one line; and the status with which the tool then ends."""
+
+    status = 2
 
 
-def parser(description: str, job: bool = True, program: bool = True) -> argparse.ArgumentParser:
-    """A reader of the command line, with the words that all tools share."""
-    made = argparse.ArgumentParser(description=description, allow_abbrev=False)
+def parser(description: str, job: bool = True, program: bool = True, epilog: str = "") -> argparse.ArgumentParser:
+    """A reader of the command line, with the words that all tools share. What stands behind them keeps its lines."""
+    kept = argparse.RawDescriptionHelpFormatter if epilog else argparse.HelpFormatter
+    shown = "\n".join(textwrap.wrap(description, 78)) if epilog else description
+    made = argparse.ArgumentParser(description=shown, epilog=epilog, formatter_class=kept, allow_abbrev=False)
     if job:
         made.add_argument("job", metavar="JOB", help="a job, a file of TOML")
     if program:
@@ -67,7 +72,7 @@ def run_tool(main: Callable[[], int]) -> None:
         sys.stdout.flush()
     except BadInput as error:
         print(f"{name}: {error}", file=sys.stderr)
-        status = 2
+        status = error.status
     except BrokenPipeError:
         os.dup2(os.open(os.devnull, os.O_WRONLY), sys.stdout.fileno())
         status = 0

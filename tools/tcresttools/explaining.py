@@ -67,7 +67,10 @@ class Explainer:
 
     def findings(self) -> list[Finding]:
         """What there is to be explained."""
-        found = written(self.asked.program, self.asked.command, self.data, self.asked.written)
+        return self.findings_of(written(self.asked.program, self.asked.command, self.data, self.asked.written))
+
+    def findings_of(self, found: Written) -> list[Finding]:
+        """What there is to be explained of what the command wrote."""
         if found.refusal is None:
             return self.of_report(found)
         findings: list[Finding] = []

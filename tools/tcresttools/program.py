@@ -31,9 +31,15 @@ class Written:
 
 def run_program(program: str | None, command: str, job: bytes) -> Written:
     """What a command of the program writes for a job."""
+    return run_words(program, [command], job)
+
+
+def run_words(program: str | None, words: list[str], given: bytes = b"") -> Written:
+    """What the program writes when it is called with these words."""
     path = program_path(program)
+    command = " ".join(words)
     try:
-        done = subprocess.run([path, command], input=job, capture_output=True, check=False)
+        done = subprocess.run([path, *words], input=given, capture_output=True, check=False)
     except OSError as error:
         raise BadInput(f"{path}: {error.strerror}") from None
     if done.returncode not in STATUSES:

@@ -58,6 +58,8 @@ def test_the_program_runs(kit: Path) -> None:
         ("tools/stages examples/method_cache.toml --trace 14", "method_cache.stages"),
         ("tools/profile examples/method_cache.toml", "method_cache.profile"),
         ("tools/timeline examples/stack.toml --svg -", "stack.svg"),
+        ("tools/where examples/c/filter.toml", "filter.where"),
+        ("tools/worst examples/c/table_skewed.toml", "table_skewed.worst"),
     ],
 )
 def test_each_tool_runs(kit: Path, line: str, stored: str) -> None:

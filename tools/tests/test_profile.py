@@ -2,6 +2,8 @@
 
 from __future__ import annotations
 
+from pathlib import Path
+
 import pytest
 from conftest import ROOT, Tool, load
 
@@ -37,10 +39,80 @@ def test_stored_profile(tool: Tool) -> None:
     assert done.stdout == (ROOT / "tools/examples/method_cache.profile").read_text()
 
 
-def test_several_cores_are_refused(tool: Tool) -> None:
+def profiles(text: str) -> list[list[str]]:
+    """The lines of each task."""
+    return [block.splitlines() for block in text.rstrip().split("\n\n")]
+
+
+def test_tasks_of_several_cores_are_replayed(tool: Tool) -> None:
+    """The example of two loads in docs/MACHINE.md: core 1 of 2, whose slots are at 6, 18, 30 and so on."""
     done = tool("profile", "examples/two_cores.toml")
-    assert (done.returncode, done.stdout) == (2, "")
-    assert done.stderr == "profile: examples/two_cores.toml: only a job with one core and a task has steps\n"
+    assert (done.returncode, done.stderr) == (0, "")
+    first, second = profiles(done.stdout)
+    assert first[-1] == "core 0 done 0 cycles 46" and second[-1] == "core 1 done 5 cycles 64"
+    numbers = [[int(word) for word in line.split()[1:5]] for line in second[1:-1]]
+    assert numbers == [
+        [0, 36, 3, 10], [1, 0, 0, 0], [1, 10, 1, 1], [1, 0, 0, 0], [1, 10, 1, 1], [1, 0, 0, 0], [1, 0, 0, 0],
+        [1, 0, 0, 0], [1, 0, 0, 0], [8, 56, 5, 12],
+    ]  # fmt: skip
+
+
+def test_tasks_that_cannot_be_replayed_say_why(tool: Tool) -> None:
+    sender, receiver = profiles(tool("profile", "examples/packet.toml").stdout)
+    assert sender[1].startswith("its lines are not known: it sends to another core")
+    assert receiver[-1].startswith("core 1 done 1 ") and len(receiver) > 3
+    (trapped,) = profiles(tool("profile", "examples/every_key.toml").stdout)
+    assert trapped[1] == "its lines are not known: alone on one core it does not end: trap 5 at 12"
+
+
+WAITS = """
+version = 1
+cores = 2
+slot = 6
+cycles = 1000
+[[task]]
+core = 0
+lang = "asm"
+source = ".func main; addl r2 = r0, 0x01000000; addi r3 = r0, 5; swm [r2 + 0] = r3; ret; nop; nop; nop"
+[[task]]
+core = 1
+lang = "asm"
+start = 100
+source = '''
+.func main
+    addl r2 = r0, 0x01000000
+    lwm r1 = [r2 + 0]
+    nop
+    cmpieq p1 = r1, 5
+    (p1) br over
+    nop
+    nop
+    addi r4 = r0, 1
+over: ret
+    nop
+    nop
+    nop
+'''
+"""
+
+
+def test_a_task_that_others_lead_another_way_is_not_shown(tool: Tool, tmp_path: Path) -> None:
+    path = tmp_path / "job.toml"
+    path.write_text(WAITS)
+    _, waits = profiles(tool("profile", str(path)).stdout)
+    assert waits[1].startswith("its lines are not known: beside the other cores it may do other bundles than alone: ")
+    # without the store both go the same way, and it is shown
+    path.write_text(WAITS.replace("addi r3 = r0, 5", "addi r3 = r0, 0"))
+    _, same = profiles(tool("profile", str(path)).stdout)
+    assert len(same) > 3 and same[-1].startswith("core 1 done 0 ")
+
+
+def test_a_task_in_c_is_shown_by_function_and_loop(tool: Tool) -> None:
+    shown = tool("profile", "examples/c/filter.toml")
+    assert (shown.returncode, shown.stderr) == (0, "")
+    assert shown.stdout == tool("where", "examples/c/filter.toml").stdout
+    stored = tool("profile", "examples/c/filter.toml", "--report", "examples/c/filter.report")
+    assert (stored.returncode, stored.stdout) == (2, "")
 
 
 def test_stalls_lie_between_steps() -> None:

@@ -8,6 +8,7 @@ import pytest
 from conftest import ROOT, Tool, load
 
 from tcresttools.cli import BadInput
+from tcresttools.pipeline import bundles_of, columns_of
 from tcresttools.report import Step
 
 ENDS = "steps, as many as `trace` says, and more follow: --trace N lists more"
@@ -50,7 +51,7 @@ STEPS = steps_of("12 3 2 1 - -", "13 4 3 2 1 -", "20 - 4 3 2 1")
 
 
 def test_a_bundle_goes_through_its_stages() -> None:
-    bundles = load("stages").bundles_of(STEPS)
+    bundles = bundles_of(STEPS)
     assert [(one.place, one.stages, one.done) for one in bundles] == [
         (1, {0: "E", 1: "M", 2: "W"}, True),
         (2, {0: "D", 1: "E", 2: "M"}, True),
@@ -61,13 +62,13 @@ def test_a_bundle_goes_through_its_stages() -> None:
 
 def test_steps_that_do_not_follow_are_refused() -> None:
     with pytest.raises(BadInput, match="step 1 has place 9 in D"):
-        load("stages").bundles_of(steps_of("12 3 2 1 - -", "13 4 9 2 1 -"))
+        bundles_of(steps_of("12 3 2 1 - -", "13 4 9 2 1 -"))
 
 
 def test_waits_are_columns_and_blocks_have_a_width() -> None:
     stages = load("stages")
-    assert stages.columns_of(STEPS) == [(0, "12"), (1, "13"), (None, ".."), (2, "20")]
-    lines = stages.drawing(STEPS, stages.bundles_of(STEPS), {1: "nop"}, 2)
+    assert columns_of(STEPS) == [(0, "12"), (1, "13"), (None, ".."), (2, "20")]
+    lines = stages.drawing(STEPS, bundles_of(STEPS), {1: "nop"}, 2)
     assert lines[0].split() == ["cycle", "12", "13"]
     assert lines[1].split() == ["1", "nop", "E", "M"]
     assert [line for line in lines if line.startswith("cycle")][1].split() == ["cycle", "..", "20"]
@@ -75,7 +76,7 @@ def test_waits_are_columns_and_blocks_have_a_width() -> None:
 
 def test_konata_counts_cycles(tmp_path: Path) -> None:
     stages = load("stages")
-    lines = stages.konata(STEPS, stages.bundles_of(STEPS), {}).splitlines()
+    lines = stages.konata(STEPS, bundles_of(STEPS), {}).splitlines()
     assert lines[:2] == ["Kanata\t0004", "C=\t12"]
     assert sum(int(line.split("\t")[1]) for line in lines if line.startswith("C\t")) == 21 - 12
     retired = {line.split("\t")[1]: line.split("\t")[3] for line in lines if line.startswith("R\t")}

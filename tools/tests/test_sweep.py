@@ -10,6 +10,7 @@ from conftest import ROOT, Tool, load
 
 from tcresttools.cli import BadInput
 from tcresttools.job import read_job, toml_values
+from tcresttools.slack import Rows, slack_lines, with_slack
 
 JOB = "examples/c/filter.toml"
 
@@ -58,6 +59,52 @@ def test_axes_of_tasks() -> None:
     for wrong in ("5=[1]", "[1]", "0=[[1]]"):
         with pytest.raises(BadInput):
             sweep.task_axes(job, "input", [wrong])
+
+
+def test_axes_of_starts() -> None:
+    sweep = load("sweep")
+    job = read_job(str(ROOT / "examples/c/table_even.toml"))
+    (every,) = sweep.start_axes(job, ["0-2"])
+    assert (every.name, [choice.shown for choice in every.choices]) == ("start", ["0", "1", "2"])
+    assert every.choices[2].values == {(task.number, "start"): "2" for task in job.tasks}
+    (one,) = sweep.start_axes(job, ["1=5,7"])
+    assert (one.name, one.choices[0].values) == ("start1", {(1, "start"): "5"})
+    for wrong in ("9=1", "x=1", "=1", "1="):
+        with pytest.raises(BadInput):
+            sweep.start_axes(job, [wrong])
+
+
+# Two rows of core 0, one of core 1, and a job that was refused.
+ROWS = Rows(
+    ["start", "core", "ended", "cycles"],
+    [["0", "0", "done", "90"], ["1", "0", "done", "101"], ["1", "1", "limit", ""], ["2", "", "job: Range slot", ""]],
+)
+
+
+def test_slack_of_each_row() -> None:
+    rows = with_slack(ROWS, {0: 100, 1: 7})
+    assert rows.names[-2:] == ["deadline", "slack"]
+    assert [row[-2:] for row in rows.cells] == [["100", "10"], ["100", "-1"], ["7", ""], ["", ""]]
+
+
+def test_slack_over_all_rows() -> None:
+    deadlines = {0: 100, 1: 7}
+    assert slack_lines(with_slack(ROWS, deadlines), ["start"], deadlines) == [
+        "core 0: deadline 100 kept in 1 of 3 rows, missed in 1, not done in 1; least slack -1 at start 1",
+        "core 1: deadline 7 kept in 0 of 2 rows, not done in 2",
+    ]
+
+
+def test_a_sweep_of_starts_with_a_deadline(tool: Tool, tmp_path: Path) -> None:
+    out = tmp_path / "a.csv"
+    words = ["--start", "0,1", "--deadline", "0=1000", "--out", str(out), "--alone", "--jobs", "1"]
+    done = tool("sweep", JOB, *words)
+    rows = table(out)
+    assert [int(row["slack"]) for row in rows] == [1000 - int(row["cycles"]) for row in rows]
+    # With slots of 6 on one core, a start one cycle behind a slot's start waits five cycles more.
+    assert int(rows[1]["cycles"]) == int(rows[0]["cycles"]) + 5
+    assert done.stdout.startswith("core 0: deadline 1000 kept in ")
+    assert tool("sweep", JOB, *words[:3], "5=1", *words[4:]).returncode == 2
 
 
 def table(path: Path) -> list[dict[str, str]]:

@@ -6,11 +6,14 @@ from pathlib import Path
 from xml.etree import ElementTree
 
 import pytest
-from conftest import ROOT, Tool, load
+from conftest import ROOT, Tool
 
 from tcresttools.cli import BadInput
 from tcresttools.job import Job, job_of, toml_values
 from tcresttools.report import Report, read_report
+from tcresttools.timeline_svg import LEAST_WIDE, UNKNOWN, svg, tick_step
+from tcresttools.timelines import Timeline
+from tcresttools.waves import vcd
 
 SPACE = "{http://www.w3.org/2000/svg}"
 
@@ -42,76 +45,69 @@ def test_stored_pictures_and_waves(tool: Tool) -> None:
         ("stack.svg", ["examples/stack.toml", "--svg", "-"]),
         ("stack.vcd", ["examples/stack.toml", "--vcd", "-"]),
         ("method_cache.svg", ["examples/method_cache.toml", "--steps", "--trace", "14", "--svg", "-"]),
+        ("windows.svg", ["examples/lessons/windows.toml", "--trace", "99", "--svg", "-"]),
     ):
         assert tool("timeline", *words).stdout == (ROOT / "tools/examples" / name).read_text()
 
 
 def test_narrow_bars_are_seen() -> None:
-    timeline = load("timeline")
     accesses = list(range(0, 15000, 60))
-    picture = timeline.svg(timeline.Timeline(job(9999), report(accesses, "done 1 cycles 15000"), [], None, None), 1200)
+    picture = svg(Timeline(job(9999), report(accesses, "done 1 cycles 15000"), [], None, None), 1200)
     bars = rectangles(picture, "read") + rectangles(picture, "write")
     assert len(bars) == len(accesses)
-    assert all(float(bar["width"]) >= timeline.LEAST_WIDE and "stroke" not in bar for bar in bars)
+    assert all(float(bar["width"]) >= LEAST_WIDE and "stroke" not in bar for bar in bars)
 
 
 def test_wide_bars_have_an_edge_and_their_words() -> None:
-    timeline = load("timeline")
-    picture = timeline.svg(timeline.Timeline(job(99), report([0, 6], "done 1 cycles 17"), [], None, None), 1200)
+    picture = svg(Timeline(job(99), report([0, 6], "done 1 cycles 17"), [], None, None), 1200)
     assert all(bar["stroke"] == "#ffffff" for bar in rectangles(picture, "read"))
     assert words_of(picture).count("4") == 2
 
 
 def test_a_bar_stands_at_its_cycle() -> None:
-    timeline = load("timeline")
-    picture = timeline.svg(timeline.Timeline(job(99), report([24], "done 1 cycles 99"), [], 0, 100), 1090)
+    picture = svg(Timeline(job(99), report([24], "done 1 cycles 99"), [], 0, 100), 1090)
     (bar,) = rectangles(picture, "read")
     assert (float(bar["x"]), float(bar["width"])) == (70 + 24 * 10, 6 * 10)
 
 
 def test_where_the_list_ends_is_marked() -> None:
-    timeline = load("timeline")
-    short = timeline.svg(timeline.Timeline(job(2), report([0, 6], "done 1 cycles 900"), [], None, None), 1200)
-    (unknown,) = rectangles(short, timeline.UNKNOWN)
+    short = svg(Timeline(job(2), report([0, 6], "done 1 cycles 900"), [], None, None), 1200)
+    (unknown,) = rectangles(short, UNKNOWN)
     assert "stroke-dasharray" in unknown
     assert "the 2 listed end here" in words_of(short)
-    whole = timeline.svg(timeline.Timeline(job(3), report([0, 6], "done 1 cycles 900"), [], None, None), 1200)
-    assert rectangles(whole, timeline.UNKNOWN) == []
+    whole = svg(Timeline(job(3), report([0, 6], "done 1 cycles 900"), [], None, None), 1200)
+    assert rectangles(whole, UNKNOWN) == []
     assert len(rectangles(whole, "does bundles, 12 to 900")) == 1
 
 
 def test_a_long_picture_ends_behind_the_last_listed() -> None:
-    timeline = load("timeline")
-    drawn = timeline.Timeline(job(2), report([0, 600], "done 1 cycles 418521"), [], None, None)
+    drawn = Timeline(job(2), report([0, 600], "done 1 cycles 418521"), [], None, None)
     assert (drawn.last, drawn.cut) == (607, True)
-    assert any("the picture ends behind the last transaction" in words for words in words_of(timeline.svg(drawn, 1200)))
+    assert any("the picture ends behind the last transaction" in words for words in words_of(svg(drawn, 1200)))
     with pytest.raises(BadInput, match="too many for one picture"):
-        timeline.Timeline(job(2), report([0, 600], "done 1 cycles 418521"), [], None, 418521)
+        Timeline(job(2), report([0, 600], "done 1 cycles 418521"), [], None, 418521)
 
 
 @pytest.mark.parametrize(
     "cycles,step", [(60, 6), (120, 12), (599, 54), (1000, 100), (8600, 1000), (15000, 2000), (418521, 50000)]
 )
 def test_axis_numbers(cycles: int, step: int) -> None:
-    assert load("timeline").tick_step(cycles, 6) == step
+    assert tick_step(cycles, 6) == step
 
 
 def test_axis_numbers_are_written_in_thousands() -> None:
-    timeline = load("timeline")
-    picture = timeline.svg(timeline.Timeline(job(9), report([0], "done 1 cycles 8600"), [], None, None), 1200)
+    picture = svg(Timeline(job(9), report([0], "done 1 cycles 8600"), [], None, None), 1200)
     assert [word for word in words_of(picture) if word.endswith(",000")] == [f"{at},000" for at in range(1, 9)]
 
 
 def test_slots_are_those_of_the_table() -> None:
-    timeline = load("timeline")
-    drawn = timeline.Timeline(job(9, cores=3), report([18], "done 1 cycles 40", cores=3), [], 0, 40)
-    assert [life.slots for life in drawn.lives] == [[0, 18, 36], [6, 24], [12, 30]]
-    assert drawn.slot_before(0, 18) == 0
+    drawn = Timeline(job(9, cores=3), report([18], "done 1 cycles 40", cores=3), [], 0, 40)
+    assert [row.slots for row in drawn.rows] == [[0, 18, 36], [6, 24], [12, 30]]
+    assert drawn.lives.slot_before(0, 18) == 0
 
 
 def test_waves_are_those_of_the_report() -> None:
-    timeline = load("timeline")
-    lines = timeline.vcd(timeline.Timeline(job(9), report([0, 12], "done 1 cycles 30"), [], 0, 40)).splitlines()
+    lines = vcd(Timeline(job(9), report([0, 12], "done 1 cycles 30"), [], 0, 40)).splitlines()
     changes: dict[int, list[str]] = {}
     now = -1
     for line in lines[lines.index("$enddefinitions $end") + 1 :]:
@@ -128,6 +124,5 @@ def test_waves_are_those_of_the_report() -> None:
 
 
 def test_reports_of_other_platforms_are_refused(tmp_path: Path) -> None:
-    timeline = load("timeline")
     with pytest.raises(BadInput, match="the platform is another"):
-        timeline.Timeline(job(9, cores=2), report([0], "done 1 cycles 9"), [], None, None)
+        Timeline(job(9, cores=2), report([0], "done 1 cycles 9"), [], None, None)

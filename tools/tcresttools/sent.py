@@ -1,0 +1,45 @@
+"""The packets that the tasks of a job send, as far as they are known."""
+
+from __future__ import annotations
+
+from dataclasses import dataclass, field
+
+from .assembly_run import assembly_run, may_send
+from .events import NoSequence
+from .job import Job
+from .packets import Packet
+from .program import run_program
+from .report import Report, read_listing
+
+NOT_REPORTED = "the report does not say when a task in C starts its transfers"
+
+
+@dataclass
+class Sent:
+    """The packets that are known, and why those of other cores are not, by core."""
+
+    packets: list[Packet] = field(default_factory=list)
+    unknown: dict[int, str] = field(default_factory=dict)
+
+
+def sent_packets(job: Job, report: Report, program: str | None) -> Sent:
+    """What the tasks of a job send: the program is asked about those whose text may send."""
+    sent = Sent()
+    senders = [task for task in job.tasks if job.cores > 1 and may_send(task)]
+    if not senders:
+        return sent
+    listing = read_listing(run_program(program, "asm", job.data).text)
+    for task in senders:
+        if task.lang == "c":
+            sent.unknown[task.core] = NOT_REPORTED
+            continue
+        core = next(one for one in report.cores if one.number == task.core)
+        try:
+            run = assembly_run(job, task, core, listing[task.core], program)
+        except NoSequence as reason:
+            sent.unknown[task.core] = str(reason)
+            continue
+        sent.packets += run.transfers.packets
+        if run.unknown:
+            sent.unknown[task.core] = run.unknown
+    return sent

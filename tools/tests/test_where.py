@@ -1,0 +1,166 @@
+"""Time by function and loop: what `tools/where` shows adds up to what the program reports."""
+
+from __future__ import annotations
+
+import csv
+import io
+import os
+import re
+from pathlib import Path
+
+import pytest
+from conftest import ROOT, Tool
+
+from tcresttools.bound_parts import task_bounds
+from tcresttools.job import read_job
+from tcresttools.program import run_program
+from tcresttools.report import read_report
+from tcresttools.sequence import sequence_of
+
+FILTER = "examples/c/filter.toml"
+
+
+def rows_of(text: str) -> list[dict[str, str]]:
+    return list(csv.DictReader(io.StringIO(text)))
+
+
+def cycles_of(path: str, program: str) -> dict[int, int]:
+    """The cycles that the program reports of each core."""
+    report = read_report(run_program(program, "run", (ROOT / path).read_bytes()).text)
+    return {core.number: core.cycles for core in report.cores if core.cycles is not None}
+
+
+@pytest.mark.parametrize("path", [FILTER, "examples/c/sort.toml", "examples/c/table_skewed.toml"])
+def test_sums_are_what_the_program_reports(path: str, tool: Tool, program: str) -> None:
+    rows = rows_of(tool("where", path, "--csv").stdout)
+    for core, cycles in cycles_of(path, program).items():
+        of_core = [row for row in rows if row["core"] == str(core)]
+        functions = [row for row in of_core if row["part"].endswith("()")]
+        assert sum(int(row["cycles"]) for row in functions) == cycles
+        assert sum(int(row["own"]) for row in of_core) == cycles
+        assert max(int(row["with_calls"]) for row in functions) == cycles
+    for row in rows:
+        assert int(row["cycles"]) == int(row["bundles"]) + int(row["fetch"]) + int(row["memory"])
+
+
+def test_filter(tool: Tool) -> None:
+    done = tool("where", FILTER)
+    assert (done.returncode, done.stderr) == (0, "")
+    first, dearest, blank, head, *table = done.stdout.splitlines()
+    assert first.endswith("they are replayed, and the program reports the same")
+    lines = (ROOT / FILTER).read_text().splitlines()
+    loop = next(number for number, line in enumerate(lines, 1) if line.strip().startswith("for ("))
+    assert dearest.startswith(f"the loop that costs most: for at line {loop}, in main(), ")
+    assert (blank, head.split()[:4]) == ("", ["line", "part", "cycles", "%"])
+    assert [line.split()[:2] for line in table] == [
+        [str(loop - 4), "main()"], [str(loop), "for"], [str(loop - 9), "step()"],
+    ]  # fmt: skip
+    # the loop makes twelve turns, and calls `step` in each
+    assert table[1].split()[9] == "12"
+    assert table[1].endswith("  for (i = 0; i < 12; i = i + 1) {")
+
+
+SEVERAL = """
+version = 2
+cores = 3
+slot = 7
+table = [0, 1, 1, 2]
+cycles = {cycles}
+[[task]]
+core = 1
+lang = "c"
+start = 11
+source = '''
+int out[1];
+int never(int x) {{ return x / 3; }}
+int f(int x) {{ return x / 3 + x % 5; }}
+int main() {{
+    int s = 0; int i;
+    _Pragma("loopbound min 0 max 4")
+    while (i < s / 7) {{ i = i + 1; }}
+    s = f(s);
+    out[0] = s;
+    return s;
+}}
+'''
+[[task]]
+core = 0
+lang = "c"
+source = "int a; int main() {{ send(1, a / 3, shared[0], 1); return 0; }}"
+[[task]]
+core = 2
+lang = "asm"
+source = ".func main; ret; nop; nop; nop"
+"""
+
+
+def several(folder: Path, cycles: int) -> str:
+    path = folder / "job.toml"
+    path.write_text(SEVERAL.format(cycles=cycles))
+    return str(path)
+
+
+def test_divisions_and_functions_that_nothing_calls(tool: Tool, tmp_path: Path) -> None:
+    path = several(tmp_path, 100000)
+    text = Path(path).read_text().splitlines()
+    rows = rows_of(tool("where", path, "--csv").stdout)
+    assert {row["core"] for row in rows} == {"1"}
+    shown = [(row["part"], row["depth"], row["entered"], row["iterations"]) for row in rows]
+    assert shown == [
+        ("main()", "0", "1", "1"), ("while", "0", "1", "4"), ("division", "1", "4", "128"),
+        ("division after it", "0", "1", "32"),
+        ("f()", "0", "1", "1"), ("division", "0", "1", "32"), ("remainder", "0", "1", "32"),
+    ]  # fmt: skip
+    for row in rows[-2:]:
+        # lines are those of the file, and columns those of the sign
+        assert text[int(row["line"]) - 1][int(row["column"]) - 1] == {"division": "/", "remainder": "%"}[row["part"]]
+    assert "13" not in {row["line"] for row in rows}
+
+
+def test_a_task_that_cannot_be_replayed_is_refused_and_the_others_are_shown(tool: Tool, tmp_path: Path) -> None:
+    done = tool("where", several(tmp_path, 100000))
+    assert (done.returncode, done.stderr) == (0, "")
+    refused, shown = done.stdout.split("\n\n", 1)
+    assert refused.startswith("core 0 done 0 cycles ")
+    assert "its time by function and loop is not known: it sends to another core" in refused
+    assert shown.startswith("core 1: ") and "from 11 to " in shown
+
+
+def test_a_task_that_cannot_be_replayed_has_its_bundles_in_all(tool: Tool, tmp_path: Path) -> None:
+    head = SEVERAL.format(cycles=100000).split("[[task]]")[0]
+    source = "int a; int main() { send(1, a / 3, 0, 1); return 0; }"
+    path = tmp_path / "job.toml"
+    path.write_text(f'{head}[[task]]\ncore = 0\nlang = "c"\nsource = "{source}"\n')
+    done = tool("where", str(path))
+    assert (done.returncode, done.stderr) == (0, "")
+    report, reason, sums = done.stdout.splitlines()
+    cycles = int(report.split()[5])
+    found = re.fullmatch(r"in all it does (\d+) bundles, and takes (\d+) cycles more for its transactions", sums)
+    assert found is not None and "an argument of its `send` divides" in reason
+    # a division takes 32 iterations of seven bundles
+    assert int(found[1]) > 32 * 7 and int(found[1]) + int(found[2]) == cycles
+
+
+def test_bounds_give_the_bundles(program: str) -> None:
+    job = read_job(str(ROOT / FILTER))
+    sequence = sequence_of(job.tasks[0], program)
+    assert task_bounds(program, job)[0].bound.bundles == len(sequence.functions)
+
+
+def test_a_job_whose_tasks_all_are_refused(tool: Tool, tmp_path: Path) -> None:
+    done = tool("where", several(tmp_path, 30))
+    assert (done.returncode, done.stdout) == (2, "")
+    assert "core 1: it has not ended by the job's limit, `cycles = 30`: set a higher one" in done.stderr
+    none = tool("where", "examples/one_core.toml")
+    assert (none.returncode, none.stdout) == (2, "")
+    assert none.stderr.startswith("where: examples/one_core.toml: no task is in C")
+
+
+def test_a_replay_that_differs_is_an_error(tool: Tool, tmp_path: Path, program: str) -> None:
+    other = tmp_path / "other"
+    other.write_text(f'#!/bin/sh\n"{program}" "$@" | sed "s/ cycles \\([0-9]*\\)/ cycles 1\\1/"\n')
+    os.chmod(other, 0o755)
+    for name in ("where", "worst"):
+        done = tool(name, FILTER, "--program", str(other))
+        assert (done.returncode, done.stdout) == (1, "")
+        assert "the replay is wrong, so it is not shown" in done.stderr
