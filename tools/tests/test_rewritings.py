@@ -278,6 +278,12 @@ def test_a_product_of_two_words_for_a_filter() -> None:
     )
 
 
+def test_the_upper_word_of_an_inverted_number_counts_in_a_product() -> None:
+    same_as_gcc(
+        "unsigned a = 5; long long b = 24; int main(void) { b *= ~(long long)a; return (int)b ^ (int)(b >> 32) * 3; }"
+    )
+
+
 # Bounds and recursion.
 
 

@@ -55,7 +55,10 @@ def constant(value: int, kind: Integer = INT) -> Value:
 
 
 def any_word(expr: Expr, kind: Integer = INT) -> Value:
-    """A word of which nothing more is known."""
+    """A word of which nothing is known but what its expression says: a number is that number."""
+    if isinstance(expr, Number):
+        value = kind.wrapped(expr.word)
+        return Value(expr, Range(value, value))
     return Value(expr, full(kind))
 
 
