@@ -43,8 +43,8 @@ FOREIGN = {
     "mov": "write `add rD = rA, r0`, and for a number `addi rD = r0, NUMBER`",
     "mv": "write `add rD = rA, r0`",
     "move": "write `add rD = rA, r0`",
-    "j": "write `br LABEL`, and two bundles behind it", "jmp": "write `br LABEL`, and two bundles behind it",
-    "b": "write `br LABEL`, and two bundles behind it", "bra": "write `br LABEL`, and two bundles behind it",
+    "j": "write `br LABEL`, and two bundles after it", "jmp": "write `br LABEL`, and two bundles after it",
+    "b": "write `br LABEL`, and two bundles after it", "bra": "write `br LABEL`, and two bundles after it",
     "beq": "compare first, `cmpeq p1 = rA, rB`, and then `(p1) br LABEL`",
     "bne": "compare first, `cmpneq p1 = rA, rB`, and then `(p1) br LABEL`",
     "blt": "compare first, `cmplt p1 = rA, rB`, and then `(p1) br LABEL`",
@@ -52,9 +52,9 @@ FOREIGN = {
     "beqz": "compare first, `cmpieq p1 = rA, 0`, and then `(p1) br LABEL`",
     "bnez": "compare first, `cmpineq p1 = rA, 0`, and then `(p1) br LABEL`",
     "cmp": "write one of `cmpeq`, `cmpneq`, `cmplt`, `cmple`, with a predicate: `cmplt p1 = rA, rB`",
-    "bl": "write `call FUNCTION`, and three bundles behind it",
-    "jal": "write `call FUNCTION`, and three bundles behind it",
-    "return": "write `ret`, and three bundles behind it", "jr": "write `ret`, and three bundles behind it",
+    "bl": "write `call FUNCTION`, and three bundles after it",
+    "jal": "write `call FUNCTION`, and three bundles after it",
+    "return": "write `ret`, and three bundles after it", "jr": "write `ret`, and three bundles after it",
     "inc": "write `addi rD = rD, 1`", "dec": "write `subi rD = rD, 1`",
     "neg": "write `sub rD = r0, rA`", "not": "write `nor rD = rA, rA`",
     "shl": "write `sl` or `sli`", "shr": "write `sr` or `sri`", "sar": "write `sra` or `srai`",
@@ -66,7 +66,7 @@ FOREIGN = {
     "div": "there is no division: it is a loop of shifts and subtractions",
     **{word: f"write `{word}` {MEMORIES}" for word in ("lw", "lh", "lb", "lhu", "lbu", "sw", "sh", "sb")},
     "muli": "write `addi r5 = r0, NUMBER`, then `mul rA, r5`, a bundle between, and `mfs rD = sl`",
-    "halt": "a task ends with `ret` and three bundles behind it", "nori": "write `norl`, which takes any word",
+    "halt": "a task ends with `ret` and three bundles after it", "nori": "write `norl`, which takes any word",
 }  # fmt: skip
 SPECIAL = ["s0", "sl", "sh", "srb", "sro", "st", "ss"]
 GUARD = re.compile(r"\((!?)\s*p(?:0x[0-9A-Fa-f]+|[0-9]+)\s*\)\s*")
@@ -113,7 +113,7 @@ def of_mnemonic(part: str) -> str | None:
     if near:
         return f"there is no `{mnemonic}`: is {quoted(near)} meant? docs/ASSEMBLY.md lists all."
     if not mnemonic:
-        return "an instruction begins with its mnemonic, behind the guard if it has one; docs/ASSEMBLY.md lists all."
+        return "an instruction begins with its mnemonic, after the guard if it has one; docs/ASSEMBLY.md lists all."
     some = quoted(["add", "addi", "addl", "mul", "cmplt", "lwm", "swm", "br", "call", "ret", "nop"], "and")
     return f"there is no `{mnemonic}`. There are {some}, and more of their kinds: docs/ASSEMBLY.md lists all."
 

@@ -16,9 +16,9 @@ from .known_registers import KnownRegisters, offset_of
 from .linting import STORE
 from .packets import Start, Transfers, transfers_of
 from .program import run_program
-from .recording import alone_job
+from .recording import Causes, alone_job, assembly_layout, events_of, place_of
 from .replay import Replayed, difference, replay
-from .report import Core, Report, read_report
+from .report import Core, Report, Step, read_report
 from .sends import targets
 from .sequence import sequence_of
 from .steady import is_apart
@@ -43,7 +43,8 @@ def may_send(task: Task) -> bool:
 class AssemblyRun:
     """An assembly task in time: its code, its sequence, the replay that the report agrees with, and its packets.
 
-    `unknown` says why its packets are not known, where it sends and they are not.
+    `unknown` says why its packets are not known, where it sends and they are not; and `listed` up to where the run is
+    listed, where that is not all of it.
     """
 
     code: Code
@@ -51,6 +52,7 @@ class AssemblyRun:
     replayed: Replayed
     transfers: Transfers
     unknown: str = ""
+    listed: str = ""
 
 
 def stopped_at(report: Report, code: Code) -> Row | None:
@@ -111,6 +113,35 @@ def assembly_run(job: Job, task: Task, core: Core, words: list[int], program: st
         differs = f"{transfers.dropped} starts are dropped as they are replayed, and {core.dropped} are reported"
         return AssemblyRun(code, sequence, replayed, Transfers([], 0), differs)
     return AssemblyRun(code, sequence, replayed, transfers)
+
+
+def is_cut(core: Core, steps: list[Step], most: int) -> bool:
+    """There are more bundles than steps: so many are listed at most, or behind the last one another is decoded."""
+    return len(steps) == most or (core.ended == "done" and steps[-1].decode is not None)
+
+
+def only_run(task: Task, core: Core, steps: list[Step], words: list[int], most: int, slot: int) -> AssemblyRun:
+    """What the only core of a job does, by its own steps and transactions: also where it is stopped or has not ended.
+
+    At most `most` steps and transactions are listed. `NoSequence` where it can't be had.
+    """
+    accesses, listed = core.accesses, ""
+    if not steps:
+        raise NoSequence("it does no bundle")
+    if len(accesses) == most and accesses[-1].cycle < steps[-1].cycle:
+        raise NoSequence(f"only its first {most:,} transactions are listed")
+    if is_cut(core, steps, most):
+        accesses = [access for access in accesses if access.cycle < steps[-1].cycle]
+        listed = f"only its first {len(steps):,} bundles are listed, up to cycle {steps[-1].cycle:,}"
+    code = code_of(task.source, words)
+    layout = assembly_layout(code, [place_of(step) for step in steps])
+    causes = Causes(layout)
+    events = events_of(steps, accesses, layout, causes)
+    sequence = Sequence(events, layout.functions, causes.known_sizes, core.value or 0)
+    replayed = replay(sequence, slot, [0], 0, task.start)
+    if replayed.accesses != accesses:
+        raise NoSequence("its bundles and transactions do not follow one another as the machine does them")
+    return AssemblyRun(code, sequence, replayed, Transfers([], 0), listed=listed)
 
 
 class NotKnown(Exception):

@@ -85,7 +85,7 @@ def of_number(rest: bytes, at: int) -> Advice | None:
         shown = found.group(1).decode().replace("_", "")
         return Advice(f"digits are not grouped: write `{shown}`.", mend=(Edit(at, at + found.end(), shown),))
     if re.match(rb"0[xX](?![0-9A-Fa-f])", rest):
-        return Advice("hexadecimal digits are missing behind `0x`.")
+        return Advice("hexadecimal digits are missing after `0x`.")
     if rest[:1] == b"0" and rest[1:2].isdigit():
         return Advice("a decimal number does not begin with 0.")
     return Advice("a number ends before a letter: a suffix is `u` or `U` alone, and a name begins with a letter.")

@@ -161,10 +161,10 @@ def no_bound(scene: Checked) -> Advice | None:
     turns = turns_of(scene.tokens, scene.number)
     mend = (Edit(scene.token.at, scene.token.at, '_Pragma("loopbound min 0 max 1") '),)
     if turns is None:
-        text = 'write `_Pragma("loopbound min A max B")` right before it, with the fewest turns and the most.'
+        text = 'write `_Pragma("loopbound min A max B")` right before it, with the fewest iterations and the most.'
         return Advice(text, mend=mend)
     return Advice(
-        f'write `_Pragma("loopbound min {turns} max {turns}")` right before it: it turns {turns} times.', mend=mend
+        f'write `_Pragma("loopbound min {turns} max {turns}")` right before it: it iterates {turns} times.', mend=mend
     )
 
 
@@ -205,7 +205,7 @@ def bound_range(scene: Checked) -> Advice | None:
         mend = (Edit(scene.token.at, scene.token.end, "#pragma loopbound min 0 max 1"),)
     if least > most:
         return Advice(f"the least, {least}, is above the most, {most}: the lesser comes first.", mend=mend)
-    return Advice(f"a loop turns at most 65,535 times, and not {most:,}: put one loop into another.", mend=mend)
+    return Advice(f"a loop iterates at most 65,535 times, and not {most:,}: put one loop into another.", mend=mend)
 
 
 def params(scene: Checked) -> Advice | None:

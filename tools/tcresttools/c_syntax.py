@@ -253,7 +253,7 @@ def bodies(scene: Scene) -> Advice | None:
     if token.text in (")", "]"):
         return Advice(f"a `{token.text}` too many: it closes nothing.", mend=scene.replace(token, ""))
     if scene.is_end or token.text in ("}", "else", ",", "=", *OPERATORS):
-        return Advice(f"a block in braces is missing behind `{scene.before.text}`.", scene.before.end)
+        return Advice(f"a block in braces is missing after `{scene.before.text}`.", scene.before.end)
     last = scene.statement_end(wrong.at)
     shown = scene.text(wrong.at, last)
     shown = shown if len(shown) <= 40 else shown[:36] + " .."
@@ -321,14 +321,14 @@ def semicolons(scene: Scene) -> Advice | None:
     end = scene.before.end
     if scene.before.text == "main":
         return Advice("a function has parentheses: `int main()`.", end)
-    return Advice(f"a `;` is missing behind `{scene.before.text}`.", end, mend=scene.insert(end, ";"))
+    return Advice(f"a `;` is missing after `{scene.before.text}`.", end, mend=scene.insert(end, ";"))
 
 
 def closings(scene: Scene) -> Advice | None:
     """A bracket that is still open where the statement goes on, or one that closes nothing."""
     wrong, token = scene.wrong, scene.token
     if wrong.want is Want.CHAIN and wrong.owner == "for" and wrong.closing == ")" and token.text == ";":
-        return Advice("the head of a `for` has three parts: nothing stands behind the last, `i = B`.")
+        return Advice("the head of a `for` has three parts: nothing stands after the last, `i = B`.")
     wanted = wrong.want is Want.CHAIN and wrong.closing in (")", "]")
     wanted |= wrong.want in (Want.PARAM_NEXT, Want.LENGTH_END)
     wanted |= wrong.want is Want.PARAM and scene.before.text == "(" and token.text == "{"
@@ -337,7 +337,7 @@ def closings(scene: Scene) -> Advice | None:
         opener = scene.wrong.opened[-1]
         also = ((scene.at(opener).at, f"this `{scene.at(opener).text}` is still open."),)
         end = scene.before.end
-        return Advice(f"a `{closing}` is missing behind `{scene.before.text}`.", end, also, scene.insert(end, closing))
+        return Advice(f"a `{closing}` is missing after `{scene.before.text}`.", end, also, scene.insert(end, closing))
     if token.text in (")", "]") and wrong.want in (
         Want.CHAIN,
         Want.CALL_END,
@@ -454,7 +454,7 @@ def first_values(scene: Scene) -> Advice | None:
     if wrong.want is Want.CONSTANT:
         if token.text == "}":
             text = (
-                "no comma stands behind the last value."
+                "no comma stands after the last value."
                 if scene.before.text == ","
                 else "a list has one value at least."
             )
@@ -550,7 +550,7 @@ def operands(scene: Scene) -> Advice | None:
     if token.text == "{":
         return Advice("values in braces are for arrays outside functions; here set one element after another.")
     if token.text == "if" or token.text in STARTERS or token.text in (";", ")", "]", ",", *OPERATORS, "="):
-        return Advice(f"a value is missing behind `{before.text}`.", before.end)
+        return Advice(f"a value is missing after `{before.text}`.", before.end)
     return None
 
 
@@ -561,7 +561,7 @@ def statements(scene: Scene) -> Advice | None:
         if token.text == ";":
             return Advice("there is no empty statement: leave this `;` out.", mend=scene.replace(token, ""))
         if token.text == "else":
-            return Advice("this `else` has no `if`: it stands right behind the block of one.")
+            return Advice("this `else` has no `if`: it stands right after the block of one.")
         if token.is_number or token.text in ("(", *OPERATORS, "~", "!"):
             return Advice("an expression is no statement: assign its value, `x = ..;`.")
     if wrong.want is Want.NAMED and token.text == ";":
@@ -571,7 +571,7 @@ def statements(scene: Scene) -> Advice | None:
         )
     if wrong.want is Want.NAMED and is_plain_name(token):
         if scene.knows(scene.before.text):
-            return Advice(f"`=`, `[` or `(` is missing behind `{scene.before.text}`.", scene.before.end)
+            return Advice(f"`=`, `[` or `(` is missing after `{scene.before.text}`.", scene.before.end)
         return Advice(f"`{scene.before.text}` is no type: there are `int` and `unsigned`.", scene.before.at)
     if wrong.want is Want.UNIT:
         return outside_functions(scene)
@@ -584,7 +584,7 @@ def outside_functions(scene: Scene) -> Advice | None:
         text = "this `}` closes nothing: the function before it has ended. A `{` is missing, or this one is too many."
         return Advice(text, mend=scene.replace(token, ""))
     if token.text == ";":
-        return Advice("no `;` stands behind a block: leave it out.", mend=scene.replace(token, ""))
+        return Advice("no `;` stands after a block: leave it out.", mend=scene.replace(token, ""))
     if is_plain_name(token) and scene.behind.text == "(":
         text = f"a function begins with what it returns: `int {token.text}(..)`."
         return Advice(text, mend=scene.insert(token.at, "int "))

@@ -79,10 +79,15 @@ def tokens_of(source: bytes) -> list[Token]:
     return found
 
 
+def bound_match(source: bytes, at: int) -> re.Match[bytes] | None:
+    """The bound of a loop that begins at a byte: its groups are the fewest iterations and the most."""
+    return (LINE_PRAGMA if source[at] == 0x23 else PRAGMA).match(source, at)
+
+
 def bound_end(source: bytes, at: int) -> int:
     """Behind the bound of a loop."""
     line = source[at] == 0x23
-    found = (LINE_PRAGMA if line else PRAGMA).match(source, at)
+    found = bound_match(source, at)
     begin = source.rfind(b"\n", 0, at) + 1
     if found is None or (line and source[begin:at].strip(b" \t\r")):
         raise NoTokens("Char", at)

@@ -14,9 +14,10 @@ from . import asm_advice, assembly, c_advice, c_text, job_advice
 from .cli import BadInput, read_file
 from .errors_page import Entry, entry_of, read_page
 from .job import MOST_TRACE, Job, NoToml, Task, job_of, places_of, toml_string, toml_values
-from .linting import lint
+from .linting import lint, place_of
 from .mending import Advice, Edit, Mended, in_file
 from .origins import byte_of, origin_of
+from .overruns import overruns
 from .places import Node, Place, place_at
 from .program import Written, run_program, written
 from .report import Core, read_listing, read_report
@@ -27,6 +28,7 @@ TASK_FAULT = re.compile(r"core (\d+): (\w+)(?: (at|line) (\d+))?")
 MEANING = re.compile(r"core (\d+) (?:mean -?\d+( overrun)?|(long))")
 MOST_FINDINGS = 12
 MOST_WARNINGS = 4
+AFTER_LAST = "It comes after this bundle, the last one that was done."
 RIGHT_TEXTS = {"c": '"int main() { return 0; }"', "asm": '".func main; ret; nop; nop; nop"'}
 
 
@@ -279,7 +281,7 @@ class Explainer:
         for line in found.lines:
             match = MEANING.fullmatch(line)
             if match and match.group(2):
-                findings.append(self.of_end(line, int(match.group(1)), "overrun"))
+                findings.append(self.of_overrun(line, int(match.group(1))))
         return findings
 
     def of_end(self, line: str, core: int, name: str) -> Finding:
@@ -294,10 +296,29 @@ class Explainer:
         if core.ended == "limit":
             findings.append(self.of_limit(core))
         if core.overrun:
-            findings.append(self.of_end(core.line, core.number, "overrun"))
+            findings.append(self.of_overrun(core.line, core.number))
         if core.dropped:
             findings.append(self.of_end(f"core {core.number} dropped {core.dropped}", core.number, "dropped"))
         return findings
+
+    def of_overrun(self, line: str, core: int) -> Finding:
+        """A loop that was cut off by its bound: which one it was, the meanings of the text with other bounds tell."""
+        finding = self.of_end(line, core, "overrun")
+        job = self.job()
+        task = job.task_of(core)
+        if task is None or self.asked.written is not None:
+            return finding
+        for number, one in enumerate(overruns(job, task, self.asked.program)):
+            text = (
+                f"the condition of this loop still holds after {one.most} iterations, the most of its bound: on this"
+                f" input `max {one.enough}` is enough."
+            )
+            place = self.source_place(job, task, one.at)
+            if number == 0:
+                finding.place, finding.here = place or finding.place, [text]
+            elif place is not None:
+                finding.there.append((place, text))
+        return finding
 
     def of_limit(self, core: Core) -> Finding:
         """A task that has not ended: a C task has a bound, and in assembly a loop or a return may go round for ever."""
@@ -315,18 +336,22 @@ class Explainer:
             self.add_warnings(finding, job, task)
         return finding
 
-    def add_warnings(self, finding: Finding, job: Job, task: Task) -> None:
-        """What `tools/lint` finds in the task's text: the first is taken as the place, where none is known."""
-        for warning in lint(task)[:MOST_WARNINGS]:
-            place = self.source_place(job, task, warning.at)
-            if place is None:
-                continue
+    def add_warnings(self, finding: Finding, job: Job, task: Task, near: Place | None = None) -> None:
+        """What `tools/lint` finds in the task's text: the first is taken as the place, where none is known.
+
+        Where the task was stopped near a place, what is nearest to it comes first.
+        """
+        found = [(place, one.text) for one in lint(task) if (place := place_of(job, task, one)) is not None]
+        if near is not None:
+            line = near.line
+            found.sort(key=lambda pair: abs(pair[0].line - line))
+        for place, text in found[:MOST_WARNINGS]:
             if not finding.here and (finding.place is None or finding.place == self.task_place(job, task)):
-                finding.place, finding.here = place, [sentence(warning.text)]
+                finding.place, finding.here = place, [sentence(text)]
             elif finding.place == place:
-                finding.here.append(sentence(warning.text))
+                finding.here.append(sentence(text))
             else:
-                finding.there.append((place, sentence(warning.text)))
+                finding.there.append((place, sentence(text)))
 
     def of_trap(self, core: Core) -> Finding:
         job = self.job()
@@ -338,9 +363,14 @@ class Explainer:
             place, note = self.stopped_bundle(job, task)
         else:
             place, note = self.stopped_alone(job, task, core)
-        finding.place = place or finding.place
-        self.add_warnings(finding, job, task)
-        finding.notes = [note] if note and (place is not None or not finding.here) else []
+        if note.startswith(AFTER_LAST):
+            self.add_warnings(finding, job, task, place)
+        else:
+            finding.place = place or finding.place
+            self.add_warnings(finding, job, task)
+        if not finding.here:
+            finding.place = place or finding.place
+        finding.notes = [note] if note and (finding.place == place or not finding.here) else []
         return finding
 
     def stopped_bundle(self, job: Job, task: Task) -> tuple[Place | None, str]:
@@ -356,15 +386,12 @@ class Explainer:
         """The bundle behind the last step."""
         steps = read_report(pipe).steps
         if len(steps) == MOST_TRACE or words is None:
-            return None, "It comes behind the steps that `pipe` lists."
+            return None, "It comes after the steps that `pipe` lists."
         code = assembly.code_of(task.source, words)
         row = code.bundle_at(steps[-1].decode or 0) if steps else code.bundle_at(1)
         note = ""
         if row is None and steps:
-            row, note = (
-                code.bundle_at(steps[-1].execute or 0),
-                "It comes behind this bundle, the last one that was done.",
-            )
+            row, note = code.bundle_at(steps[-1].execute or 0), AFTER_LAST
         return (None if row is None else self.source_place(job, task, row.statement.at)), note
 
     def stopped_alone(self, job: Job, task: Task, core: Core) -> tuple[Place | None, str]:

@@ -82,7 +82,7 @@ def unknown_key(keys: Keys) -> Advice | None:
             mend = (keys.removed(member), Edit(0, 0, f"{keys.key} = {shown}\n"))
         return Advice(text, mend=mend)
     if keys.task is None and keys.key in TASK_KEYS and "cores" in keys.values:
-        return Advice(f"`{keys.key}` is a key of a task: it stands behind its `[[task]]`.", mend=mend)
+        return Advice(f"`{keys.key}` is a key of a task: it stands below its `[[task]]`.", mend=mend)
     names = JOB_KEYS if keys.task is None else TASK_KEYS
     there = keys.table(keys.task)
     left = [name for name in names if there is None or there.members is None or name not in there.members]

@@ -34,6 +34,24 @@ class Packet:
     words: int
 
 
+@dataclass(frozen=True)
+class Passage:
+    """What a core sends to another: the cycle in which its last word comes."""
+
+    sender: int
+    target: int
+    last: int
+
+
+def passages_of(packets: Iterable[Packet]) -> list[Passage]:
+    """Each core that sends to another, by their numbers, with the coming of its last word."""
+    last: dict[tuple[int, int], int] = {}
+    for packet in packets:
+        pair = (packet.sender, packet.target)
+        last[pair] = max(last.get(pair, 0), packet.due)
+    return [Passage(*pair, cycle) for pair, cycle in sorted(last.items())]
+
+
 @dataclass
 class Transfers:
     """What a core sends: its packets in the order of their cycles, and how many of its starts were dropped."""

@@ -5,7 +5,7 @@ from __future__ import annotations
 from collections.abc import Callable
 from dataclasses import dataclass
 
-from .assembly import code_of
+from .assembly import Code, code_of
 from .cli import BadInput
 from .events import Bundle, Cause, Event, NoSequence, Sequence, Transaction
 from .flows import followed
@@ -77,10 +77,17 @@ def layout_of(task: Task, places: list[int], program: str | None) -> Layout:
     if task.lang == "c":
         return compiled_layout(places)
     words = read_listing(run_program(program, "asm", alone_job(task)).text)[0]
-    rows = code_of(task.source, words).rows
+    return assembly_layout(code_of(task.source, words), places)
+
+
+def assembly_layout(code: Code, places: list[int]) -> Layout:
+    """The functions of bundles at these places, and their sizes, as the words of the code have them."""
+    rows = code.rows
     starts = {row.function: row.place + 1 for row in rows if row.offset is None}
     sizes: dict[int, tuple[int, ...]] = {row.place + 1: (row.words[0],) for row in rows if row.offset is None}
     owners = {row.place: starts[row.function] for row in rows if row.statement.kind == "bundle"}
+    if (other := next((place for place in places if place not in owners), None)) is not None:
+        raise BadInput(f"a step is at place {other}, where this text has no bundle")
     return Layout([owners[place] for place in places], sizes)
 
 

@@ -4,14 +4,13 @@ from __future__ import annotations
 
 from dataclasses import dataclass, field
 
+from .arrivals import c_packets
 from .assembly_run import assembly_run, may_send
 from .events import NoSequence
-from .job import Job
+from .job import Job, Task
 from .packets import Packet
 from .program import run_program
-from .report import Report, read_listing
-
-NOT_REPORTED = "the report does not say when a task in C starts its transfers"
+from .report import Core, Report, read_listing
 
 
 @dataclass
@@ -20,6 +19,13 @@ class Sent:
 
     packets: list[Packet] = field(default_factory=list)
     unknown: dict[int, str] = field(default_factory=dict)
+
+    def add_assembly(self, job: Job, task: Task, core: Core, words: list[int], program: str | None) -> None:
+        """The packets of a task in assembly, which is replayed."""
+        run = assembly_run(job, task, core, words, program)
+        self.packets += run.transfers.packets
+        if run.unknown:
+            self.unknown[task.core] = run.unknown
 
 
 def sent_packets(job: Job, report: Report, program: str | None) -> Sent:
@@ -30,16 +36,12 @@ def sent_packets(job: Job, report: Report, program: str | None) -> Sent:
         return sent
     listing = read_listing(run_program(program, "asm", job.data).text)
     for task in senders:
-        if task.lang == "c":
-            sent.unknown[task.core] = NOT_REPORTED
-            continue
         core = next(one for one in report.cores if one.number == task.core)
         try:
-            run = assembly_run(job, task, core, listing[task.core], program)
+            if task.lang == "c":
+                sent.packets += c_packets(job, task, core, program)
+            else:
+                sent.add_assembly(job, task, core, listing[task.core], program)
         except NoSequence as reason:
             sent.unknown[task.core] = str(reason)
-            continue
-        sent.packets += run.transfers.packets
-        if run.unknown:
-            sent.unknown[task.core] = run.unknown
     return sent

@@ -133,7 +133,7 @@ def axis(timeline: Timeline, x: Across, height: int) -> list[str]:
     words = "cycles"
     if timeline.cut:
         words = (
-            "cycles; the picture ends behind the last transaction that is listed: --to names another end, --trace lists"
+            "cycles; the picture ends after the last transaction that is listed: --to names another end, --trace lists"
             " more"
         )
     parts.append(text(LEFT, height - 5, words))

@@ -1,6 +1,7 @@
 """What a C task does in order where that is more than the program lists: worked out from two iterations of each loop.
 
-The same text with the bound of each loop lowered to two has the same code but for the constants that count iterations.
+The same text with the bound of each loop lowered to two, and the limit of each `for` that counts just to its bound,
+has the same code but for the constants that count iterations.
 An iteration after the second does what the second does: after the first one the data cache holds, at each index, the
 line that it loaded there last, and the stack cache holds what it leaves, so all later ones begin alike and are alike.
 What the method cache does is worked out anew, by its rules.
@@ -13,10 +14,12 @@ from collections.abc import Iterator
 from dataclasses import dataclass, field, replace
 
 from .attribution import CodePart, parts_of
-from .c_text import Token, tokens_of
+from .c_text import Token, number_of, tokens_of
 from .events import Bundle, Cause, Event, NoSequence, Sequence, Transaction
 from .flows import Flow, followed
 from .job import Task
+from .linting import counted_for, is_plain
+from .mending import Edit, Mended
 from .method_cache import MethodCache, fetch_words
 from .naming import functions_of
 from .recording import recorded
@@ -47,17 +50,33 @@ Step = Done | Turns
 
 
 def lowered(source: bytes) -> bytes:
-    """The text with the bound of each loop at two iterations, where it is more."""
-    text, at = b"", 0
-    for token in tokens_of(source):
+    """The text with the bound of each loop at two iterations, where it is more.
+
+    A `for` that counts exactly to its bound has code of its own, so it counts to two then.
+    """
+    tokens = tokens_of(source)
+    edits: list[Edit] = []
+    for number, token in enumerate(tokens):
         if token.is_bound:
-            text += source[at : token.at] + lowered_bound(token).encode()
-            at = token.end
-    return text + source[at:]
+            most = int(re.findall(r"\d+", token.text)[1])
+            edits += [Edit(token.at, token.end, lowered_bound(token)), *lowered_limit(tokens, number + 1, most)]
+    return Mended.first(source).edited(edits).data
 
 
 def lowered_bound(token: Token) -> str:
     return re.sub(r"\d+", lambda found: str(min(int(found.group(0)), KEPT_TURNS)), token.text)
+
+
+def lowered_limit(tokens: list[Token], at: int, most: int) -> list[Edit]:
+    """Another limit for a `for` that makes just so many iterations, more than two; none for other loops."""
+    loop = counted_for(tokens, at) if tokens[at].text == "for" else None
+    if loop is None or most <= KEPT_TURNS or not is_plain(tokens, loop) or tokens[at + 7].text not in ("<", "<="):
+        return []
+    step = number_of(tokens[at + 14]) or 1
+    if (loop.most - loop.least) // step + 1 != most:
+        return []
+    limit = loop.least + (KEPT_TURNS - 1) * step + (tokens[at + 7].text == "<")
+    return [Edit(tokens[at + 8].at, tokens[at + 8].end, str(limit))]
 
 
 def done_of(sequence: Sequence) -> list[Done]:

@@ -68,44 +68,44 @@ C_TEXTS = [
         "a missing ; before uint32_t",
         "int main()\n{\n    int a = 1@\n    uint32_t b = 2;\n    return a;\n}\n",
         "core 0: Syntax at 9",
-        "`;` is missing behind `1`",
+        "`;` is missing after `1`",
     ),
     Wrong(
         "a missing ; before char",
         "int main()\n{\n    int a@\n    char b = 2;\n    return a;\n}\n",
         "core 0: Syntax at 7",
-        "`;` is missing behind `a`",
+        "`;` is missing after `a`",
     ),
     Wrong("a missing ) of main", "int main(@\n{\n    return 0;\n}\n", "core 0: Syntax at 3", "`)` is missing"),
     Wrong(
         "a missing ;",
         "int main()\n{\n    int a = 1@\n    int b = 2;\n    return a;\n}\n",
         "core 0: Syntax at 9",
-        "`;` is missing behind `1`",
+        "`;` is missing after `1`",
     ),
     Wrong(
         "a missing ; before a name",
         "int main()\n{\n    int a = 1;\n    a = 2@\n    a = 3;\n    return a;\n}\n",
         "core 0: Syntax at 13",
-        "`;` is missing behind `2`",
+        "`;` is missing after `2`",
     ),
     Wrong(
         "a missing ; before return",
         "int main()\n{\n    int a@\n    return a;\n}\n",
         "core 0: Syntax at 7",
-        "`;` is missing behind `a`",
+        "`;` is missing after `a`",
     ),
     Wrong(
-        "a missing ; before }", "int main()\n{\n    return 4@\n}\n", "core 0: Syntax at 7", "`;` is missing behind `4`"
+        "a missing ; before }", "int main()\n{\n    return 4@\n}\n", "core 0: Syntax at 7", "`;` is missing after `4`"
     ),
     Wrong(
-        "a missing ; outside", "int g@\nint main() { return g; }\n", "core 0: Syntax at 2", "`;` is missing behind `g`"
+        "a missing ; outside", "int g@\nint main() { return g; }\n", "core 0: Syntax at 2", "`;` is missing after `g`"
     ),
     Wrong(
-        "a missing ; behind a call",
+        "a missing ; after a call",
         "void f() { }\nint main()\n{\n    f()@\n    return 1;\n}\n",
         "core 0: Syntax at 14",
-        "`;` is missing behind `)`",
+        "`;` is missing after `)`",
     ),
     Wrong(
         "a missing } before a function",
@@ -123,25 +123,25 @@ C_TEXTS = [
         "a missing )",
         "int main()\n{\n    int x = (1 + 2@;\n    return x;\n}\n",
         "core 0: Syntax at 12",
-        "`)` is missing behind `2`",
+        "`)` is missing after `2`",
     ),
     Wrong(
         "a missing ) of an if",
         "int main()\n{\n    int x = 1;\n    if (x == 1@ {\n        x = 2;\n    }\n    return x;\n}\n",
         "core 0: Syntax at 15",
-        "`)` is missing behind `1`",
+        "`)` is missing after `1`",
     ),
     Wrong(
         "a missing ) of a call",
         "int f(int a) { return a; }\nint main()\n{\n    int x = f(1@;\n    return x;\n}\n",
         "core 0: Syntax at 22",
-        "`)` is missing behind `1`",
+        "`)` is missing after `1`",
     ),
     Wrong(
         "a missing ]",
         "int a[4];\nint main()\n{\n    return a[1@;\n}\n",
         "core 0: Syntax at 15",
-        "`]` is missing behind `1`",
+        "`]` is missing after `1`",
     ),
     Wrong(
         "an array in a function",
@@ -392,7 +392,7 @@ C_TEXTS = [
         "an operand missing",
         "int main() { int x = 1 +@; return x; }\n",
         "core 0: Syntax at 10",
-        "a value is missing behind `+`",
+        "a value is missing after `+`",
     ),
     Wrong(
         "an array as a parameter",
@@ -458,7 +458,7 @@ C_TEXTS = [
         "right before it",
     ),
     Wrong(
-        "too many turns",
+        "too many iterations",
         'int main() { @_Pragma("loopbound min 0 max 100000") while (0) { } return 0; }\n',
         "core 0: BoundRange at 5",
         "and not 100,000",
@@ -763,6 +763,54 @@ def test_limit_of_a_c_task_tells_how_many_are_enough(tmp_path: Path, program: st
     assert explained(tmp_path, program, job.replace("cycles = 10", f"cycles = {enough}"))[1] == []
 
 
+def test_trap_behind_the_last_bundle_is_at_what_lint_finds(tmp_path: Path, program: str) -> None:
+    """The bundle behind `nop` is not in the function: it is the `ret` above that lacks two delay slots."""
+    job = asm_job(".func main\n@ret\nnop\n", cores=2)
+    data, findings = explained(tmp_path, program, job)
+    assert findings[0].line.startswith("core 0 trap 4 at ")
+    assert findings[0].place == place_at(data, job.index(MARK))
+    assert findings[0].here == ["`ret` has 3 delay slots, and 1 bundles follow."]
+    assert (findings[0].there, findings[0].notes) == ([], [])
+
+
+# Loops that are cut off by their bounds.
+
+
+def counting(most: int, name: str, limit: str) -> str:
+    """A loop that counts a variable from 0 up to a limit, with the most iterations that its bound allows."""
+    bound = f'_Pragma("loopbound min 0 max {most}")'
+    return f"{name} = 0;\n{bound}\n@while ({name} < {limit}) {{ {name} = {name} + 1; }}\n"
+
+
+def test_overrun_is_at_its_loop(tmp_path: Path, program: str) -> None:
+    loops = counting(9, "i", "9").replace(MARK, "") + counting(3, "i", "8")
+    job = c_job(f"int main() {{\nint i;\n{loops}return i; }}\n")
+    data, findings = explained(tmp_path, program, job)
+    assert [finding.line.endswith("overrun") for finding in findings] == [True]
+    assert findings[0].place == place_at(data, job.index(MARK))
+    assert "after 3 iterations" in findings[0].here[0]
+    assert "`max 8` is enough" in findings[0].here[0]
+    assert findings[0].there == []
+
+
+def test_two_overruns_are_at_their_loops(tmp_path: Path, program: str) -> None:
+    """The second one's limit is what the first one counts up to: 8 where it is not cut off."""
+    loops = counting(3, "i", "8") + counting(2, "j", "i")
+    job = c_job(f"int main() {{\nint i; int j;\n{loops}return i; }}\n")
+    data, findings = explained(tmp_path, program, job)
+    ((place, told),) = findings[0].there
+    assert [findings[0].place, place] == [place_at(data, at - number) for number, at in enumerate(marks(job))]
+    assert "`max 8` is enough" in findings[0].here[0]
+    assert "after 2 iterations" in told and "`max 8` is enough" in told
+
+
+def test_endless_loop_has_the_general_words(tmp_path: Path, program: str) -> None:
+    job = c_job('int main() { _Pragma("loopbound min 0 max 3") while (1) { } return 0; }\n')
+    _, findings = explained(tmp_path, program, job)
+    assert findings[0].here == []
+    assert "Raise `max` of the bound" in findings[0].entry.remedy
+
+
 # Several faults, and several cores.
 
 
@@ -833,6 +881,7 @@ def test_nothing_to_explain_names_lint(tool: Tool, tmp_path: Path) -> None:
     done = tool("explain", str(path))
     assert done.returncode == 0
     assert "`tools/lint` has 1 warning for it" in done.stdout
+    assert "quiet.toml:8:1: the task has an input" in done.stdout
 
 
 def test_windows_line_ends_and_tabs(tmp_path: Path, program: str) -> None:

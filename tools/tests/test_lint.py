@@ -61,12 +61,24 @@ def for_loop(head: str, body: str) -> str:
     )
 
 
+def while_loop(body: str) -> str:
+    bound = '_Pragma("loopbound min 0 max 9")'
+    return f"int a[4];\nint main() {{ int i = 0; {bound} while (i <= 4) {{ {body} }} return a[0]; }}\n"
+
+
 C_TEXTS = [
+    (while_loop("@a[i] = i; i = i + 1;"), "`i` goes up to 4"),
+    (while_loop("a[0] = i; if (@a[i - 1] > 0) { a[1] = 1; } i = i + 2;"), "`a[i - 1]` is no element where `i` is 0"),
     ("int a[3]; int main() { @a[3] = 1; return 0; }", "`a[3]` is past the array, which has 3 elements"),
     ("int main() { return @comm[512]; }", "`comm[512]` is past the array"),
     ("int main() { return @shared[-1]; }", "`shared[-1]` is past the array"),
     (for_loop("i = 0; i <= 4; i = i + 1", "@a[i] = i;"), "`i` goes up to 4"),
     (for_loop("i = 1; i < 9; i = i + 3", "@a[i] = i;"), "`i` goes up to 7"),
+    (for_loop("i = 0; i < 4; i = i + 1", "@a[i + 1] = i;"), "`a[i + 1]` goes past the array"),
+    (for_loop("i = 0; i < 4; i = i + 1", "@a[i - 1] = i;"), "`a[i - 1]` is no element where `i` is 0"),
+    (for_loop("i = 4; i > 0; i = i - 1", "@a[i] = i;"), "`i` goes up to 4"),
+    (for_loop("i = 0; i < 5; i = i + 1", "while (a[0]) { break; } @a[i] = i;"), "`i` goes up to 4"),
+    (for_loop("i = 4; i >= 0; i = i - 2", "if (@a[i] > 3) { a[0] = 1; }"), "`i` goes up to 4"),
 ]
 
 
@@ -77,9 +89,36 @@ def test_c(text: str, says: str) -> None:
     assert says in told
 
 
-@pytest.mark.parametrize("head", ["i = 0; i < 4; i = i + 1", "i = 0; i <= 3; i = i + 1", "i = 0; i < 6; i = i + 3"])
+RIGHT_HEADS = [
+    "i = 0; i < 4; i = i + 1",
+    "i = 0; i <= 3; i = i + 1",
+    "i = 0; i < 6; i = i + 3",
+    "i = 3; i >= 0; i = i - 1",
+    "i = 3; i > 4; i = i - 1",
+]
+
+
+@pytest.mark.parametrize("head", RIGHT_HEADS)
 def test_right_loops_are_quiet(head: str) -> None:
     assert found(for_loop(head, "a[i] = i;"), "c") == []
+
+
+OTHER_BODIES = [
+    "if (i < 4) { a[i] = i; }",
+    "if (i > 3) { a[0] = 1; } else { a[i] = i; }",
+    "a[i] = i; if (i == 3) { break; }",
+    "a[i] = i; i = i + 1;",
+]
+
+
+@pytest.mark.parametrize("body", ["i = i + 1; a[i - 1] = i;", "a[i] = i; i = i + 3; i = i + 1;", "a[i] = i;"])
+def test_other_while_loops_are_quiet(body: str) -> None:
+    assert found(while_loop(body), "c") == []
+
+
+@pytest.mark.parametrize("body", OTHER_BODIES)
+def test_loops_that_may_stay_inside_are_quiet(body: str) -> None:
+    assert found(for_loop("i = 0; i < 5; i = i + 1", body), "c") == []
 
 
 def test_input_that_nothing_takes() -> None:

@@ -210,5 +210,9 @@ def test_pictures_have_packets(tool: Tool, tmp_path: Path) -> None:
         "packet from core 1 to core 2: 1 word from 0 to 7, sent at 96, comes at 105",
     ]
     drawn = tool("timeline", "examples/c/network.toml", "--trace", "99", "--svg", "-").stdout
-    assert "packet from" not in drawn
-    assert "the packets of core 0 are not drawn" in drawn and "the packets of core 1 are not drawn" in drawn
+    titles = re.findall(r"<title>(packet[^<]*)</title>", drawn)
+    assert [title.partition(",")[0] for title in titles] == [
+        "packet from core 0 to core 2: 1 word from 0 to 0",
+        "packet from core 1 to core 2: 1 word from 0 to 1",
+    ]
+    assert "are not drawn" not in drawn

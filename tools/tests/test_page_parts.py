@@ -13,9 +13,10 @@ from conftest import ROOT, Tool
 
 from tcresttools.c_text import tokens_of
 from tcresttools.cli import BadInput
-from tcresttools.job import MOST_TRACE
+from tcresttools.job import MOST_TRACE, job_of, toml_values
 from tcresttools.lives import Span, merged
 from tcresttools.pages.c_part import behind_bracket
+from tcresttools.pages.cores_part import cores_part
 from tcresttools.pages.document import page
 from tcresttools.pages.facts import facts_of
 from tcresttools.pages.findings_part import marked_code
@@ -24,7 +25,7 @@ from tcresttools.pages.times import CoreTime, TimeReader
 from tcresttools.pages.timeline_part import KINDS, core_names
 from tcresttools.program import run_program
 from tcresttools.report import Report, read_report
-from tcresttools.sent import NOT_REPORTED
+from tcresttools.sent import sent_packets
 
 REPLAYED = [
     "examples/one_core.toml",
@@ -139,9 +140,31 @@ def test_a_run_that_other_cores_may_change_is_not_replayed(program: str, tmp_pat
     assert starts >= {access.cycle for access in times[0].core.accesses}
 
 
-def test_packets_of_c_are_said_to_be_unknown(program: str) -> None:
-    _, times = times_of("examples/c/network.toml", program)
-    assert [time.unsent for time in times] == [NOT_REPORTED, NOT_REPORTED, ""]
+def test_packets_of_c_and_their_end_to_end_times(program: str) -> None:
+    facts, times = times_of("examples/c/network.toml", program)
+    assert [time.unsent for time in times] == ["", "", ""]
+    assert [[(one.target, one.target_word, one.words) for one in time.packets] for time in times] == [
+        [(2, 0, 1)], [(2, 1, 1)], [],
+    ]  # fmt: skip
+    told = cores_part(times, {})
+    for time in times[:2]:
+        due = time.packets[0].due
+        words = f"Core {time.core.number} to core 2: {due:,} cycles from end to end, from the start of core"
+        assert words in told and f"the arrival of its last word at {due:,}." in told
+
+
+def test_packets_of_c_that_are_not_known_say_why(program: str) -> None:
+    """Core 1 sends back where a word came, so nothing but the report of the job itself would tell."""
+    sends = "int main() { send(1, 0, 0, 1); return 0; }"
+    answers = "int main() { if (comm[0] == 0) { send(0, 0, 0, 1); } return 0; }"
+    tasks = "".join(
+        f'[[task]]\ncore = {core}\nlang = "c"\nsource = "{source}"\n' for core, source in ((0, sends), (1, answers))
+    )
+    text = f"version = 1\ncores = 2\nslot = 6\ncycles = 5000\n{tasks}"
+    job = job_of("job.toml", text.encode(), toml_values(text.encode()))
+    sent = sent_packets(job, read_report(run_program(program, "run", job.data).text), program)
+    assert [(one.sender, one.target) for one in sent.packets] == [(0, 1)]
+    assert sent.unknown == {1: "what it sends may depend on words that other cores set"}
 
 
 def test_a_trap_is_timed_up_to_its_bundle(program: str) -> None:

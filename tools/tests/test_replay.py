@@ -185,6 +185,20 @@ def test_two_turns_of_each_loop_give_the_whole(name: str, program: str) -> None:
     assert unrolled(task, program).events == whole.events
 
 
+@pytest.mark.parametrize("most,head,two", [
+    (6, "i = 0; i < 6; i = i + 1", "i = 0; i < 2; i = i + 1"),
+    (3, "i = 5; i <= 11; i = i + 3", "i = 5; i <= 8; i = i + 3"),
+    (7, "i = 0; i < 6; i = i + 1", "i = 0; i < 6; i = i + 1"),
+    (2, "i = 0; i < 2; i = i + 1", "i = 0; i < 2; i = i + 1"),
+    (4, "i = 4; i > 0; i = i - 1", "i = 4; i > 0; i = i - 1"),
+    (6, "i = 0; i < n; i = i + 1", "i = 0; i < n; i = i + 1"),
+])  # fmt: skip
+def test_loops_that_count_to_their_bounds_count_to_two(most: int, head: str, two: str) -> None:
+    """Others keep their limits, since they test their conditions: their code has these numbers."""
+    text = '_Pragma("loopbound min 0 max %d") for (%s) { a[i] = 1; }'
+    assert lowered((text % (most, head)).encode()) == (text % (2, two)).encode()
+
+
 def test_a_long_task_is_replayed(program: str) -> None:
     source = """
     int t[9];

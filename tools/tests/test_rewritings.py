@@ -289,7 +289,7 @@ def test_the_upper_word_of_an_inverted_number_counts_in_a_product() -> None:
 
 def test_the_bound_of_a_counting_loop_is_inferred() -> None:
     text = "int main(void) { int i, s = 0;\nfor (i = 3; i <= 20; i += 4) s += i;\nreturn s; }"
-    assert (2, "note: this loop turns at most 5 times") in notes(text)
+    assert (2, "note: this loop iterates at most 5 times") in notes(text)
 
 
 def test_the_bound_of_a_loop_to_a_parameter_is_inferred() -> None:
@@ -297,7 +297,7 @@ def test_the_bound_of_a_loop_to_a_parameter_is_inferred() -> None:
         "int f(int n) { int i, s = 0;\nfor (i = 0; i < n; i++) s += i;\nreturn s; } int main(void) { return f(7) +"
         " f(9); }"
     )
-    assert (2, "note: this loop turns at most 9 times") in notes(text)
+    assert (2, "note: this loop iterates at most 9 times") in notes(text)
 
 
 def test_the_bound_of_the_command_line_counts() -> None:

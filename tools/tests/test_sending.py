@@ -70,10 +70,14 @@ def test_a_replay_is_what_the_program_reports(source: str, program: str) -> None
 
 @pytest.mark.parametrize("source,turns", [(LOOP, 6), (CALLS, 4), (IN_FRONT, 5)], ids=["loop", "calls", "in front"])
 def test_a_loop_has_the_bundles_that_bounds_tell(source: str, turns: int, program: str) -> None:
-    """One turn more makes the bound longer by the bundles of one turn, with those of the functions that it calls."""
+    """One iteration more makes the bound longer by its bundles, with those of the functions that it calls.
+
+    A loop that counts just to its bound counts one further, since its code is another where it does not.
+    """
     alone = Alone(c_task(source), 3, program)
     whole = alone.bounds(source.encode())[0].bundles
-    one_more = alone.bounds(source.replace(f"max {turns}", f"max {turns + 1}").encode())[0].bundles
+    longer = source.replace(f"max {turns}", f"max {turns + 1}").replace(f"i < {turns}", f"i < {turns + 1}")
+    one_more = alone.bounds(longer.encode())[0].bundles
     sequence = sequence_of(c_task(source), program)
     assert len(sequence.functions) == whole
     found = attributed(sequence)

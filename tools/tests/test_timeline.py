@@ -83,7 +83,7 @@ def test_where_the_list_ends_is_marked() -> None:
 def test_a_long_picture_ends_behind_the_last_listed() -> None:
     drawn = Timeline(job(2), report([0, 600], "done 1 cycles 418521"), [], None, None)
     assert (drawn.last, drawn.cut) == (607, True)
-    assert any("the picture ends behind the last transaction" in words for words in words_of(svg(drawn, 1200)))
+    assert any("the picture ends after the last transaction" in words for words in words_of(svg(drawn, 1200)))
     with pytest.raises(BadInput, match="too many for one picture"):
         Timeline(job(2), report([0, 600], "done 1 cycles 418521"), [], None, 418521)
 

@@ -1,13 +1,15 @@
 //! Compiled tasks.
-ghost use Rattle.std.specs.Prelude.{◌≡◌, ◌+◌, ◌≤◌, IfOk};
+ghost use Rattle.std.specs.Prelude.{◌≡◌, ◌+◌, ◌<◌, ◌≤◌, ℕ, length, slice_index, IfOk};
 ghost use Rattle.c_compile.specs.Answered.{Gives};
 ghost use Rattle.c_compile.specs.Texts as specs;
 ghost use Rattle.c_mentions.specs.Told.{Tells};
 ghost use Rattle.c_task.specs.Doing.{ComesToMeaning, KeepsTimes, NeverTraps, TouchesMentioned};
 ghost use Rattle.c_task.specs.Translation.{bound, persist, times, translation};
 ghost use Rattle.c_tree.specs.Plain.{plain};
+ghost use Rattle.single_path.specs.Single.{weights_in};
 ghost use Rattle.sp_shape.specs.Shown.{plain_shape};
 ghost use Rattle.task_core.specs.Tasks.{IsCode};
+ghost use Rattle.tc_link.specs.Placed.{size_of};
 
 use crate::code::{Code, code_of};
 use crate::faults::CompileFault;
@@ -66,6 +68,10 @@ pub fn compile(alloc: Global, source: &str, place: &Place) -> Result<Compiled, C
     ensures persist { IfOk result (λ c. c.persist ≡ persist place.now (plain c.program.unit)) }
     ensures mentions { IfOk result (λ c. Tells c.mentions (plain c.program.unit)) }
 
+    // With its size word each function of the code takes at most as many words as the text's function weighs.
+    ensures size { IfOk result (λ c. (k : ℕ) → k < length (plain_shape c.shape).functions
+        → 1 + size_of (plain_shape c.shape) k ≤ slice_index (weights_in (plain c.program.unit)) k) }
+
     // Whatever words are put in and read, a core that runs the image apart has the program's times, which are within
     // both of its bounds, the persistent one of which is no more than the other; no check stops it; it comes to what
     // the text means; and it touches only what the text mentions.
@@ -81,6 +87,7 @@ pub fn compile(alloc: Global, source: &str, place: &Place) -> Result<Compiled, C
     // What the laws of machines that run it want of its code.
     ensures code { IfOk result (λ c. IsCode (translation (plain c.program.unit)).tree) }
 {
+    programs_fit_images(place);
     programs_keep_their_times(place);
     programs_keep_their_persistent_bound(place);
     programs_come_to_their_meaning(place);

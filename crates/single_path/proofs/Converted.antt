@@ -1,9 +1,9 @@
 -- Actions, converted one after another.
-use Rattle.std.proofs.Common.{◌≡◌, ℕ, zero, suc, ◌+◌, max, ◌<◌, ◌≤◌, Bool, true, false, if◌then◌else◌, List, [], ◌∷◌, length, take, drop, get_or, ◌-◌, ◌==◌, Option, refl, ap, ap₂, sym, ◌∙◌, arith, ne_eqb}
+use Rattle.std.proofs.Common.{◌≡◌, ℕ, zero, suc, ◌+◌, max, ◌<◌, ◌≤◌, Bool, true, false, if◌then◌else◌, List, [], ◌∷◌, length, take, drop, get_or, ◌-◌, ◌==◌, Option, refl, ap, ap₂, sym, ◌∙◌, arith, ne_eqb, None, Some, true≢false}
 use Rattle.std.specs.Prelude.{option_map, ◌&&◌}
 use Rattle.std.proofs.lemmas.List.{drop_all, take_all}
 use Rattle.tc_word.proofs.Items.{drop_item}
-use Rattle.c_meaning.specs.Actions.{PlainActions, chooses, turns, no_action, action, branch}
+use Rattle.c_meaning.specs.Actions.{PlainAssignment, PlainActions, chooses, turns, no_action, action, branch}
 use Rattle.c_meaning.specs.declared.actions.Action.{Action}
 use Rattle.c_meaning.specs.declared.actions.Action.TheViews.{Choose, Loop}
 use Rattle.c_meaning.specs.declared.actions.Assignment.{Assignment}
@@ -11,12 +11,14 @@ use Rattle.c_meaning.specs.declared.actions.Branch.{Branch}
 use Rattle.c_meaning.specs.Shown.{plain_action, plain_assignment, actions_of, branches_of}
 use Rattle.c_meaning.proofs.Acted.{plain_choose, plain_loop}
 use Rattle.sp_tree.specs.declared.expressions.SpExpr.{SpExpr}
-use Rattle.sp_tree.specs.Plain.{plain_sp}
+use Rattle.sp_tree.specs.Plain.{PlainSp, plain_sp}
 use Rattle.sp_tree.specs.Statements.{PlainStmts, no_stmt, masks, one, joined}
+use Rattle.single_path.specs.declared.counted.Start.{Start}
 use Rattle.single_path.specs.declared.part_words.PartWords.{PartWords}
-use Rattle.single_path.specs.Made.{made, made_action, made_branches, made_otherwise, any_exit, actions_exit, is_no_branch, is_no_action, ends}
+use Rattle.single_path.specs.Counted.{start_of}
+use Rattle.single_path.specs.Made.{is_counted, made_counted, made_loop, made_turn, by_return, by_continue, made, made_action, made_branches, made_otherwise, any_exit, actions_exit, is_no_branch, is_no_action, ends}
 use Rattle.single_path.specs.Widths as width
-use Rattle.single_path.specs.PartWords.{in_arm, where_so, where_not_taken, where_other}
+use Rattle.single_path.specs.PartWords.{in_arm, in_loop, where_so, where_not_taken, where_other}
 use Rattle.c_meaning.specs.Sizes.{actions_size, branches_size}
 use Rattle.single_path.proofs.Stated.{joined_none, joined_joined}
 
@@ -33,35 +35,60 @@ loop_is a most condition body body' step is same =
     ap (λ b. turns most (plain_sp condition) (actions_of b) (option_map plain_assignment step)) same ∙ sym (plain_loop most condition body step)
     ∙ ap plain_action (sym is)
 
+-- a loop, as it is made
+pub counted_made : (known : Option Start) (p : PartWords) (most : ℕ) (condition : PlainSp) (body : PlainActions) (step : Option PlainAssignment)
+    → is_counted known most condition body step ≡ true
+    → made_counted p most (made None p body) step ≡ made_action known p (turns most condition body step)
+counted_made known p most condition body step is =
+    ap (λ b. if b then made_counted p most (made None p body) step
+    else made_loop p most condition (actions_exit by_return body) (made_turn p condition (actions_exit by_continue body) (made None (in_loop p) body) step))
+    (sym is)
+
+pub repeated_made : (known : Option Start) (p : PartWords) (most : ℕ) (condition : PlainSp) (body : PlainActions) (step : Option PlainAssignment)
+    → is_counted known most condition body step ≡ false
+    → made_loop p most condition (actions_exit by_return body) (made_turn p condition (actions_exit by_continue body) (made None (in_loop p) body) step)
+    ≡ made_action known p (turns most condition body step)
+repeated_made known p most condition body step is =
+    ap (λ b. if b then made_counted p most (made None p body) step
+    else made_loop p most condition (actions_exit by_return body) (made_turn p condition (actions_exit by_continue body) (made None (in_loop p) body) step))
+    (sym is)
+
+-- one that counts has at least one turn
+pub counted_masks : (known : Option Start) (most : ℕ) (condition : PlainSp) (body : PlainActions) (step : Option PlainAssignment) (n : ℕ)
+    → is_counted known most condition body step ≡ true → n ≤ width.loop_masks most n
+counted_masks None most condition body step n is = absurd (true≢false (sym is))
+counted_masks (Some s) zero condition body step n is = absurd (true≢false (sym is))
+counted_masks (Some s) (suc k) condition body step n is = omega arith
+
 -- ---- one action more
 
-more_actions : (p : PartWords) (out : PlainStmts) (actions : List Action) (i : ℕ) (a : Action) → i < length actions → a ≡ get_or actions i a
-    → joined out (made p (actions_of (drop i actions)))
-    ≡ joined (joined out (made_action p (plain_action a))) (if ends (plain_action a) then no_stmt else made p (actions_of (drop (i + 1) actions)))
-more_actions p out actions i a within is =
-    ap (λ xs. joined out (made p (actions_of xs))) (drop_item actions i a within is)
-    ∙ sym (joined_joined out (made_action p (plain_action a)) (if ends (plain_action a) then no_stmt else made p (actions_of (drop (i + 1) actions))))
+more_actions : (known : Option Start) (p : PartWords) (out : PlainStmts) (actions : List Action) (i : ℕ) (a : Action) → i < length actions → a ≡ get_or actions i a
+    → joined out (made known p (actions_of (drop i actions)))
+    ≡ joined (joined out (made_action known p (plain_action a))) (if ends (plain_action a) then no_stmt else made (start_of (plain_action a)) p (actions_of (drop (i + 1) actions)))
+more_actions known p out actions i a within is =
+    ap (λ xs. joined out (made known p (actions_of xs))) (drop_item actions i a within is)
+    ∙ sym (joined_joined out (made_action known p (plain_action a)) (if ends (plain_action a) then no_stmt else made (start_of (plain_action a)) p (actions_of (drop (i + 1) actions))))
 
-pub next_action : (p : PartWords) (out more whole : PlainStmts) (actions : List Action) (i : ℕ) (a : Action) → i < length actions → a ≡ get_or actions i a
-    → ends (plain_action a) ≡ false → more ≡ joined out (made_action p (plain_action a)) → joined out (made p (actions_of (drop i actions))) ≡ whole
-    → joined more (made p (actions_of (drop (i + 1) actions))) ≡ whole
-next_action p out more whole actions i a within is stays grown so_far =
-    ap (λ xs. joined xs (made p (actions_of (drop (i + 1) actions)))) grown
-    ∙ ap (λ b. joined (joined out (made_action p (plain_action a))) (if b then no_stmt else made p (actions_of (drop (i + 1) actions)))) (sym stays)
-    ∙ sym (more_actions p out actions i a within is) ∙ so_far
+pub next_action : (known : Option Start) (p : PartWords) (out more whole : PlainStmts) (actions : List Action) (i : ℕ) (a : Action) → i < length actions → a ≡ get_or actions i a
+    → ends (plain_action a) ≡ false → more ≡ joined out (made_action known p (plain_action a)) → joined out (made known p (actions_of (drop i actions))) ≡ whole
+    → joined more (made (start_of (plain_action a)) p (actions_of (drop (i + 1) actions))) ≡ whole
+next_action known p out more whole actions i a within is stays grown so_far =
+    ap (λ xs. joined xs (made (start_of (plain_action a)) p (actions_of (drop (i + 1) actions)))) grown
+    ∙ ap (λ b. joined (joined out (made_action known p (plain_action a))) (if b then no_stmt else made (start_of (plain_action a)) p (actions_of (drop (i + 1) actions)))) (sym stays)
+    ∙ sym (more_actions known p out actions i a within is) ∙ so_far
 
-pub last_action : (p : PartWords) (out more whole : PlainStmts) (actions : List Action) (i : ℕ) (a : Action) → i < length actions → a ≡ get_or actions i a
-    → ends (plain_action a) ≡ true → more ≡ joined out (made_action p (plain_action a)) → joined out (made p (actions_of (drop i actions))) ≡ whole
+pub last_action : (known : Option Start) (p : PartWords) (out more whole : PlainStmts) (actions : List Action) (i : ℕ) (a : Action) → i < length actions → a ≡ get_or actions i a
+    → ends (plain_action a) ≡ true → more ≡ joined out (made_action known p (plain_action a)) → joined out (made known p (actions_of (drop i actions))) ≡ whole
     → more ≡ whole
-last_action p out more whole actions i a within is ended grown so_far =
-    grown ∙ sym (joined_none (joined out (made_action p (plain_action a))))
-    ∙ ap (λ b. joined (joined out (made_action p (plain_action a))) (if b then no_stmt else made p (actions_of (drop (i + 1) actions)))) (sym ended)
-    ∙ sym (more_actions p out actions i a within is) ∙ so_far
+last_action known p out more whole actions i a within is ended grown so_far =
+    grown ∙ sym (joined_none (joined out (made_action known p (plain_action a))))
+    ∙ ap (λ b. joined (joined out (made_action known p (plain_action a))) (if b then no_stmt else made (start_of (plain_action a)) p (actions_of (drop (i + 1) actions)))) (sym ended)
+    ∙ sym (more_actions known p out actions i a within is) ∙ so_far
 
-pub no_action_left : (p : PartWords) (out whole : PlainStmts) (actions : List Action) (i : ℕ) → length actions ≤ i
-    → joined out (made p (actions_of (drop i actions))) ≡ whole → out ≡ whole
-no_action_left p out whole actions i past so_far =
-    sym (joined_none out) ∙ ap (λ xs. joined out (made p (actions_of xs))) (sym (drop_all i actions past)) ∙ so_far
+pub no_action_left : (known : Option Start) (p : PartWords) (out whole : PlainStmts) (actions : List Action) (i : ℕ) → length actions ≤ i
+    → joined out (made known p (actions_of (drop i actions))) ≡ whole → out ≡ whole
+no_action_left known p out whole actions i past so_far =
+    sym (joined_none out) ∙ ap (λ xs. joined out (made known p (actions_of xs))) (sym (drop_all i actions past)) ∙ so_far
 
 -- ---- arms
 
@@ -82,16 +109,16 @@ branches_split (x ∷ branches) b some is =
 -- one arm more, and what stands after it
 pub arm_added : (p arm : PartWords) (old first second : PlainStmts) (branches rest : List Branch) (b : Branch) (body body' : List Action) (exits nothing : Bool)
     (otherwise : PartWords → PlainStmts) → 1 ≤ length branches → b ≡ get_or branches 0 b → rest ≡ take (length branches - 1) (drop 1 branches) → body ≡ b.body → body' ≡ b.body → exits ≡ actions_exit any_exit (actions_of body')
-    → arm ≡ in_arm p → first ≡ joined old (one (masks p.free (where_so p.own (plain_sp b.condition)))) → second ≡ joined first (made arm (actions_of body))
+    → arm ≡ in_arm p → first ≡ joined old (one (masks p.free (where_so p.own (plain_sp b.condition)))) → second ≡ joined first (made None arm (actions_of body))
     → joined second (made_otherwise p exits (is_no_branch (branches_of rest) && nothing) (made_branches arm (branches_of rest) nothing otherwise))
     ≡ joined old (made_branches p (branches_of branches) nothing otherwise)
 arm_added p arm old first second branches rest b body body' exits nothing otherwise some is is_rest is_body is_body' is_exits is_arm is_first is_second =
     ap (λ e. joined second (behind e arm rest)) (is_exits ∙ ap (λ ys. actions_exit any_exit (actions_of ys)) is_body')
-    ∙ ap (λ xs. joined xs (behind own arm rest)) (is_second ∙ ap₂ (λ xs q. joined xs (made q (actions_of body))) is_first is_arm)
-    ∙ ap (λ ys. joined (joined (joined old mask) (made (in_arm p) (actions_of ys))) (behind own arm rest)) is_body
-    ∙ ap₂ (λ q rs. joined (joined (joined old mask) (made (in_arm p) (actions_of b.body))) (behind own q rs)) is_arm is_rest
-    ∙ joined_joined (joined old mask) (made (in_arm p) (actions_of b.body)) (behind own (in_arm p) (take (length branches - 1) (drop 1 branches)))
-    ∙ joined_joined old mask (joined (made (in_arm p) (actions_of b.body)) (behind own (in_arm p) (take (length branches - 1) (drop 1 branches))))
+    ∙ ap (λ xs. joined xs (behind own arm rest)) (is_second ∙ ap₂ (λ xs q. joined xs (made None q (actions_of body))) is_first is_arm)
+    ∙ ap (λ ys. joined (joined (joined old mask) (made None (in_arm p) (actions_of ys))) (behind own arm rest)) is_body
+    ∙ ap₂ (λ q rs. joined (joined (joined old mask) (made None (in_arm p) (actions_of b.body))) (behind own q rs)) is_arm is_rest
+    ∙ joined_joined (joined old mask) (made None (in_arm p) (actions_of b.body)) (behind own (in_arm p) (take (length branches - 1) (drop 1 branches)))
+    ∙ joined_joined old mask (joined (made None (in_arm p) (actions_of b.body)) (behind own (in_arm p) (take (length branches - 1) (drop 1 branches))))
     ∙ ap (λ bs. joined old (made_branches p bs nothing otherwise)) (sym (branches_split branches b some is))
   where
     own : Bool

@@ -24,9 +24,11 @@ use Rattle.c_meaning.specs.Resolve.{operator_of, is_exchanged, resolved_between,
 use Rattle.c_meaning.specs.Scope.{Stands, level, outside}
 use Rattle.c_meaning.specs.Scope as scope
 use Rattle.c_meaning.specs.Values.{Names, named, expr_unsigned}
+use Rattle.single_path.specs.declared.counted.Start.{Start}
 use Rattle.single_path.specs.declared.part_words.PartWords.{PartWords}
 use Rattle.single_path.specs.PartWords.{in_arm, in_loop, outermost, both, less_by, bit_of, is_truth, where_so, where_not_taken, where_other, where_on, where_not_returned, not_zero, returned_function, returned_loop}
-use Rattle.single_path.specs.Made.{is_zero, made_target, made_step, made_result, made_return, ends, is_no_action, is_no_branch, made_arm, made_otherwise, made_on, made_after, made_behind, made_again, any_exit, by_continue, by_return, actions_exit, branches_exit, made_turn, made_loop, made_action, made, made_branches}
+use Rattle.single_path.specs.Counted.{start_of}
+use Rattle.single_path.specs.Made.{is_zero, made_target, made_step, made_result, made_return, ends, is_no_action, is_no_branch, made_arm, made_otherwise, made_on, made_after, made_behind, made_again, any_exit, by_continue, by_return, actions_exit, branches_exit, made_turn, made_loop, is_counted, made_counted, made_action, made, made_branches}
 use Rattle.single_path.specs.Single.{variables, made_function}
 
 -- ---- expressions and arguments
@@ -123,25 +125,25 @@ element_target_cost (level at unsigned) index = omega arith
 element_target_cost (outside slot) index = omega arith
 element_target_cost scope.nothing index = omega arith
 
-sets_cost : (p : PartWords) (target : Option PlainTarget) (e : PlainSp)
-    → stmts_cost (made p (maybe_sets (assignment_to target e))) ≤ given_cost target + expr_cost e
-sets_cost p None e = omega arith
-sets_cost p (Some target) e = omega arith
+sets_cost : (known : Option Start) (p : PartWords) (target : Option PlainTarget) (e : PlainSp)
+    → stmts_cost (made known p (maybe_sets (assignment_to target e))) ≤ given_cost target + expr_cost e
+sets_cost known p None e = omega arith
+sets_cost known p (Some target) e = omega arith
 
 -- what a function gives to a target outside of the frame goes by a word of it
-call_cost : (p : PartWords) (k : Option ℕ) (args : List PlainSp) (target : Option PlainTarget)
-    → stmts_cost (made p (numbered_call k args target)) ≤ 18 + args_cost args + given_cost target
-call_cost p None args target = omega (arith, sets_cost p target (constant 0))
-call_cost p (Some k) args None = omega arith
-call_cost p (Some k) args (Some (to_level at)) = omega arith
-call_cost p (Some k) args (Some (to_cell cell)) = omega arith
-call_cost p (Some k) args (Some (to_array array index)) = omega arith
+call_cost : (known : Option Start) (p : PartWords) (k : Option ℕ) (args : List PlainSp) (target : Option PlainTarget)
+    → stmts_cost (made known p (numbered_call k args target)) ≤ 18 + args_cost args + given_cost target
+call_cost known p None args target = omega (arith, sets_cost known p target (constant 0))
+call_cost known p (Some k) args None = omega arith
+call_cost known p (Some k) args (Some (to_level at)) = omega arith
+call_cost known p (Some k) args (Some (to_cell cell)) = omega arith
+call_cost known p (Some k) args (Some (to_array array index)) = omega arith
 
-right_cost : (fs : List (List ℕ)) (names : Names) (fresh : Option ℕ) (target : Option PlainTarget) (r : PlainRight) (p : PartWords)
-    → stmts_cost (made p (resolved_right fs names fresh target r)) ≤ given_cost target + right_weight r
-right_cost fs names fresh target (plain.value e) p = omega (arith, sets_cost p target (resolved names fresh e), resolved_cost names fresh e)
-right_cost fs names fresh target (plain.call text args) p =
-    omega (arith, call_cost p (number_of text fs) (resolved_args names fresh args) target, resolved_args_cost names fresh args)
+right_cost : (fs : List (List ℕ)) (names : Names) (fresh : Option ℕ) (target : Option PlainTarget) (r : PlainRight) (known : Option Start) (p : PartWords)
+    → stmts_cost (made known p (resolved_right fs names fresh target r)) ≤ given_cost target + right_weight r
+right_cost fs names fresh target (plain.value e) known p = omega (arith, sets_cost known p target (resolved names fresh e), resolved_cost names fresh e)
+right_cost fs names fresh target (plain.call text args) known p =
+    omega (arith, call_cost known p (number_of text fs) (resolved_args names fresh args) target, resolved_args_cost names fresh args)
 
 -- ---- one action after another
 
@@ -150,19 +152,21 @@ ended_cost : (ended : Bool) (ts : PlainStmts) → stmts_cost (if ended then no_s
 ended_cost true ts = omega arith
 ended_cost false ts = omega arith
 
-made_joined_cost : (p : PartWords) (xs ys : PlainActions) → stmts_cost (made p (actions.joined xs ys)) ≤ stmts_cost (made p xs) + stmts_cost (made p ys)
-made_joined_cost p no_action ys = omega arith
-made_joined_cost p (action a rest) ys = by (ends a) (joined_cost (made_action p a)) (made_joined_cost p rest ys)
+-- what comes after them costs no more, whatever is known there
+made_joined_cost : (known : Option Start) (p : PartWords) (xs ys : PlainActions) (most : ℕ) → ((after : Option Start) → stmts_cost (made after p ys) ≤ most)
+    → stmts_cost (made known p (actions.joined xs ys)) ≤ stmts_cost (made known p xs) + most
+made_joined_cost known p no_action ys most each = omega (arith, each known)
+made_joined_cost known p (action a rest) ys most each = by (ends a) (joined_cost (made_action known p a)) (made_joined_cost (start_of a) p rest ys most each)
   where
-    by : (ended : Bool) → ((ts : PlainStmts) → stmts_cost (joined (made_action p a) ts) ≡ stmts_cost (made_action p a) + stmts_cost ts)
-        → stmts_cost (made p (actions.joined rest ys)) ≤ stmts_cost (made p rest) + stmts_cost (made p ys)
-        → stmts_cost (joined (made_action p a) (if ended then no_stmt else made p (actions.joined rest ys)))
-        ≤ stmts_cost (joined (made_action p a) (if ended then no_stmt else made p rest)) + stmts_cost (made p ys)
-    by true each more = omega (arith, each no_stmt)
-    by false each more = omega (arith, more, each (made p (actions.joined rest ys)), each (made p rest))
+    by : (ended : Bool) → ((ts : PlainStmts) → stmts_cost (joined (made_action known p a) ts) ≡ stmts_cost (made_action known p a) + stmts_cost ts)
+        → stmts_cost (made (start_of a) p (actions.joined rest ys)) ≤ stmts_cost (made (start_of a) p rest) + most
+        → stmts_cost (joined (made_action known p a) (if ended then no_stmt else made (start_of a) p (actions.joined rest ys)))
+        ≤ stmts_cost (joined (made_action known p a) (if ended then no_stmt else made (start_of a) p rest)) + most
+    by true first more = omega (arith, first no_stmt)
+    by false first more = omega (arith, more, first (made (start_of a) p (actions.joined rest ys)), first (made (start_of a) p rest))
 
-one_cost : (p : PartWords) (a : PlainAction) → stmts_cost (made p (one a)) ≤ stmts_cost (made_action p a)
-one_cost p a = omega (arith, joined_cost (made_action p a) (if ends a then no_stmt else no_stmt), ended_cost (ends a) no_stmt)
+one_cost : (known : Option Start) (p : PartWords) (a : PlainAction) → stmts_cost (made known p (one a)) ≤ stmts_cost (made_action known p a)
+one_cost known p a = omega (arith, joined_cost (made_action known p a) (if ends a then no_stmt else no_stmt), ended_cost (ends a) no_stmt)
 
 -- ---- ways on, and loops
 
@@ -245,6 +249,30 @@ loop_cost : (p : PartWords) (most : ℕ) (condition : PlainSp) (exits : Bool) (t
 loop_cost p zero condition exits turn = omega arith
 loop_cost p (suc n) condition exits turn = omega (arith, behind_cost p exits)
 
+counted_cost : (p : PartWords) (most : ℕ) (body : PlainStmts) (step : Option PlainAssignment)
+    → stmts_cost (made_counted p most body step) ≤ 47 + stmts_cost body + step_cost step
+counted_cost p most body step = omega (arith, joined_cost body (made_step p.own step), made_step_cost p.own step)
+
+-- either way
+turns_cost : (known : Option Start) (p : PartWords) (most : ℕ) (condition : PlainSp) (body : PlainActions) (step : Option PlainAssignment) (inside : ℕ)
+    → ((q : PartWords) → stmts_cost (made None q body) ≤ inside)
+    → stmts_cost (made_action known p (turns most condition body step)) ≤ 47 + 2 * expr_cost condition + inside + step_cost step
+turns_cost known p most condition body step inside each = by (is_counted known most condition body step)
+  where
+    turn : PlainStmts
+    turn = made_turn p condition (actions_exit by_continue body) (made None (in_loop p) body) step
+
+    by : (counted : Bool)
+        → stmts_cost (if counted then made_counted p most (made None p body) step else made_loop p most condition (actions_exit by_return body) turn)
+        ≤ 47 + 2 * expr_cost condition + inside + step_cost step
+    by true = omega (arith, each p, counted_cost p most (made None p body) step)
+    by false = omega (
+      arith,
+      each (in_loop p),
+      turn_cost p condition (actions_exit by_continue body) (made None (in_loop p) body) step,
+      loop_cost p most condition (actions_exit by_return body) turn,
+    )
+
 assignment_cost : (names : Names) (text : List ℕ) (e : PlainExpr) → step_cost (resolved_assignment names text e) ≤ 7 + expr_weight e
 assignment_cost names text e = by (variable_target (named names text)) (variable_target_cost (named names text))
   where
@@ -253,49 +281,39 @@ assignment_cost names text e = by (variable_target (named names text)) (variable
     by (Some target) within = omega (arith, within, resolved_cost names None e)
 
 -- a loop with its masks, its condition twice, and the assignments of a `for`
-head_cost : (names : Names) (head : PlainHead) (p : PartWords)
-    → 47 + 2 * expr_cost (resolved_condition names head) + stmts_cost (made p (maybe_sets (resolved_begin names head)))
+head_cost : (names : Names) (head : PlainHead) (known : Option Start) (p : PartWords)
+    → 47 + 2 * expr_cost (resolved_condition names head) + stmts_cost (made known p (maybe_sets (resolved_begin names head)))
     + step_cost (resolved_next names head) ≤ head_weight head
-head_cost names (plain.turns_while condition) p = omega (arith, resolved_cost names None condition)
-head_cost names (plain.turns_for first from condition to_set to) p =
+head_cost names (plain.turns_while condition) known p = omega (arith, resolved_cost names None condition)
+head_cost names (plain.turns_for first from condition to_set to) known p =
     omega (
       arith,
       resolved_cost names None condition,
       resolved_cost names None from,
       variable_target_cost (named names first),
-      sets_cost p (variable_target (named names first)) (resolved names None from),
+      sets_cost known p (variable_target (named names first)) (resolved names None from),
       assignment_cost names to_set to,
     )
 
 -- ---- statements
 
--- the mask after a whole `if`
-abbrev repair : PlainBranches → ℕ
-repair no_branch = 0
-repair (branch condition body rest) = 6
-
-choice_cost : (p : PartWords) (branches : PlainBranches) (otherwise : PlainActions)
-    → stmts_cost (made p (choice branches otherwise))
-    ≤ stmts_cost (made_branches p branches (is_no_action otherwise) (λ q. made q otherwise)) + repair branches
-choice_cost p no_branch otherwise = omega arith
-choice_cost p (branch condition body rest) otherwise =
+choice_cost : (known : Option Start) (p : PartWords) (condition : PlainSp) (body : PlainActions) (rest : PlainBranches) (otherwise : PlainActions)
+    → stmts_cost (made known p (choice (branch condition body rest) otherwise))
+    ≤ stmts_cost (made_branches p (branch condition body rest) (is_no_action otherwise) (λ q. made None q otherwise)) + 6
+choice_cost known p condition body rest otherwise =
     let all = branch condition body rest in
     let exits = branches_exit any_exit all || actions_exit any_exit otherwise in
     omega (
       arith,
-      one_cost p (chooses all otherwise),
-      joined_cost (made_branches p all (is_no_action otherwise) (λ q. made q otherwise)) (made_after p exits),
+      one_cost known p (chooses all otherwise),
+      joined_cost (made_branches p all (is_no_action otherwise) (λ q. made None q otherwise)) (made_after p exits),
       after_cost p exits,
     )
 
--- an arm takes 7 words less than it weighs, of which 6 are for that mask
+-- an arm takes 7 words less than it weighs, of which 6 are for the mask after the whole `if`
 abbrev spare : PlainArms → ℕ
 spare plain.no_arm = 0
 spare (plain.arm condition body rest) = 7
-
-repair_spared : (fs : List (List ℕ)) (names : Names) (arms : PlainArms) → repair (resolved_arms fs names arms) ≤ spare arms
-repair_spared fs names plain.no_arm = omega arith
-repair_spared fs names (plain.arm condition body rest) = omega arith
 
 arm_cost : (p : PartWords) (condition : PlainSp) (arm : PlainStmts) (exits nothing : Bool) (rest : PlainStmts)
     → stmts_cost (made_arm p condition arm (made_otherwise p exits nothing rest)) ≤ 17 + expr_cost condition + stmts_cost arm + stmts_cost rest
@@ -311,60 +329,59 @@ arm_cost p condition arm exits nothing rest =
 mutual
   unfolding stmt_weight block_weight arms_weight otherwise_weight
 
-  stmt_within : (fs : List (List ℕ)) (names : Names) (s : PlainStmt) (p : PartWords)
-      → stmts_cost (made p (resolved_stmt fs names s)) ≤ stmt_weight s
-  stmt_within fs names (plain.declared kind text None) p = omega arith
-  stmt_within fs names (plain.declared kind text (Some r)) p =
+  stmt_within : (fs : List (List ℕ)) (names : Names) (s : PlainStmt) (known : Option Start) (p : PartWords)
+      → stmts_cost (made known p (resolved_stmt fs names s)) ≤ stmt_weight s
+  stmt_within fs names (plain.declared kind text None) known p = omega arith
+  stmt_within fs names (plain.declared kind text (Some r)) known p =
       let at = length names.variables in
-      omega (arith, right_cost fs (with_variable names kind text) (Some at) (Some (to_level at)) r p)
-  stmt_within fs names (plain.set text r) p =
+      omega (arith, right_cost fs (with_variable names kind text) (Some at) (Some (to_level at)) r known p)
+  stmt_within fs names (plain.set text r) known p =
       let target = variable_target (named names text) in
-      omega (arith, variable_target_cost (named names text), right_cost fs names None target r p)
-  stmt_within fs names (plain.set_element text index r) p =
+      omega (arith, variable_target_cost (named names text), right_cost fs names None target r known p)
+  stmt_within fs names (plain.set_element text index r) known p =
       let i = resolved names None index in
       let target = element_target (named names text) i in
-      omega (arith, resolved_cost names None index, element_target_cost (named names text) i, right_cost fs names None target r p)
-  stmt_within fs names (plain.called text args) p =
-      omega (arith, call_cost p (number_of text fs) (resolved_args names None args) None, resolved_args_cost names None args)
-  stmt_within fs names (plain.sent core core_unsigned source target count) p =
+      omega (arith, resolved_cost names None index, element_target_cost (named names text) i, right_cost fs names None target r known p)
+  stmt_within fs names (plain.called text args) known p =
+      omega (arith, call_cost known p (number_of text fs) (resolved_args names None args) None, resolved_args_cost names None args)
+  stmt_within fs names (plain.sent core core_unsigned source target count) known p =
       omega (arith, resolved_cost names None source, resolved_cost names None target, resolved_cost names None count)
-  stmt_within fs names (plain.chosen arms otherwise) p =
-      let bs = resolved_arms fs names arms in
+  stmt_within fs names (plain.chosen plain.no_arm otherwise) known p = omega (arith, otherwise_within fs names otherwise known p)
+  stmt_within fs names (plain.chosen (plain.arm condition body arms) otherwise) known p =
       let rest = resolved_otherwise fs names otherwise in
-      let chosen = arms_within fs names arms (is_no_action rest) (λ q. made q rest) (otherwise_weight otherwise)
-      (λ q. otherwise_within fs names otherwise q) p in
-      omega (arith, chosen, repair_spared fs names arms, choice_cost p bs rest)
-  stmt_within fs names (plain.looped bound head body) p =
+      let chosen = arms_within fs names (plain.arm condition body arms) (is_no_action rest) (λ q. made None q rest) (otherwise_weight otherwise)
+      (λ q. otherwise_within fs names otherwise None q) p in
+      omega (
+        arith,
+        chosen,
+        choice_cost known p (resolved names None condition) (resolved_block fs names body) (resolved_arms fs names arms) rest,
+      )
+  stmt_within fs names (plain.looped bound head body) known p =
       let condition = resolved_condition names head in
       let inside = resolved_block fs names body in
       let step = resolved_next names head in
-      let again = actions_exit by_continue inside in
-      let turn = made_turn p condition again (made (in_loop p) inside) step in
-      let within = block_within fs names body (in_loop p) in
+      let loop = turns (most_turns bound) condition inside step in
       omega (
         arith,
-        within,
-        head_cost names head p,
-        turn_cost p condition again (made (in_loop p) inside) step,
-        loop_cost p (most_turns bound) condition (actions_exit by_return inside) turn,
-        one_cost p (turns (most_turns bound) condition inside step),
-        made_joined_cost p (maybe_sets (resolved_begin names head)) (one (turns (most_turns bound) condition inside step)),
+        head_cost names head known p,
+        made_joined_cost known p (maybe_sets (resolved_begin names head)) (one loop) (47 + 2 * expr_cost condition + block_weight body + step_cost step)
+            (λ after. omega (arith, one_cost after p loop, turns_cost after p (most_turns bound) condition inside step (block_weight body) (λ q. block_within fs names body None q))),
       )
-  stmt_within fs names plain.broken p = omega arith
-  stmt_within fs names plain.continued p = omega arith
-  stmt_within fs names (plain.returned None) p = omega (arith, one_cost p (returns (constant 0)), return_cost p (constant 0))
-  stmt_within fs names (plain.returned (Some e)) p =
+  stmt_within fs names plain.broken known p = omega arith
+  stmt_within fs names plain.continued known p = omega arith
+  stmt_within fs names (plain.returned None) known p = omega (arith, one_cost known p (returns (constant 0)), return_cost p (constant 0))
+  stmt_within fs names (plain.returned (Some e)) known p =
       let given = resolved names None e in
-      omega (arith, resolved_cost names None e, result_cost p given, return_cost p given, one_cost p (returns given))
-  stmt_within fs names (plain.inner body) p = block_within fs names body p
+      omega (arith, resolved_cost names None e, result_cost p given, return_cost p given, one_cost known p (returns given))
+  stmt_within fs names (plain.inner body) known p = block_within fs names body known p
 
-  block_within : (fs : List (List ℕ)) (names : Names) (body : PlainBlock) (p : PartWords)
-      → stmts_cost (made p (resolved_block fs names body)) ≤ block_weight body
-  block_within fs names plain.no_stmt p = omega arith
-  block_within fs names (plain.stmt s rest) p =
-      let first = stmt_within fs names s p in
-      let more = block_within fs (names_after names s) rest p in
-      omega (arith, first, more, made_joined_cost p (resolved_stmt fs names s) (resolved_block fs (names_after names s) rest))
+  block_within : (fs : List (List ℕ)) (names : Names) (body : PlainBlock) (known : Option Start) (p : PartWords)
+      → stmts_cost (made known p (resolved_block fs names body)) ≤ block_weight body
+  block_within fs names plain.no_stmt known p = omega arith
+  block_within fs names (plain.stmt s rest) known p =
+      let more = made_joined_cost known p (resolved_stmt fs names s) (resolved_block fs (names_after names s) rest) (block_weight rest)
+      (λ after. block_within fs (names_after names s) rest after p) in
+      omega (arith, more, stmt_within fs names s known p)
 
   arms_within : (fs : List (List ℕ)) (names : Names) (arms : PlainArms) (nothing : Bool) (otherwise : PartWords → PlainStmts) (weight : ℕ)
       → ((q : PartWords) → stmts_cost (otherwise q) ≤ weight) → (p : PartWords)
@@ -373,9 +390,9 @@ mutual
   arms_within fs names (plain.arm condition body rest) nothing otherwise weight each p =
       let test = resolved names None condition in
       let others = resolved_arms fs names rest in
-      let inside = block_within fs names body (in_arm p) in
+      let inside = block_within fs names body None (in_arm p) in
       let more = arms_within fs names rest nothing otherwise weight each (in_arm p) in
-      let arm = made (in_arm p) (resolved_block fs names body) in
+      let arm = made None (in_arm p) (resolved_block fs names body) in
       omega (
         arith,
         inside,
@@ -384,27 +401,26 @@ mutual
         arm_cost p test arm (actions_exit any_exit (resolved_block fs names body)) (is_no_branch others && nothing) (made_branches (in_arm p) others nothing otherwise),
       )
 
-  otherwise_within : (fs : List (List ℕ)) (names : Names) (otherwise : PlainOtherwise) (p : PartWords)
-      → stmts_cost (made p (resolved_otherwise fs names otherwise)) ≤ otherwise_weight otherwise
-  otherwise_within fs names plain.no_else p = omega arith
-  otherwise_within fs names (plain.or_else body) p = block_within fs names body p
+  otherwise_within : (fs : List (List ℕ)) (names : Names) (otherwise : PlainOtherwise) (known : Option Start) (p : PartWords)
+      → stmts_cost (made known p (resolved_otherwise fs names otherwise)) ≤ otherwise_weight otherwise
+  otherwise_within fs names plain.no_else known p = omega arith
+  otherwise_within fs names (plain.or_else body) known p = block_within fs names body known p
 
 -- ---- functions
 
-body_within : (fs : List (List ℕ)) (names : Names) (body : List PlainStmt) (p : PartWords)
-    → stmts_cost (made p (resolved_body fs names body)) ≤ body_weight body
-body_within fs names [] p = omega arith
-body_within fs names (s ∷ rest) p =
-    let more = body_within fs (names_after names s) rest p in
+body_within : (fs : List (List ℕ)) (names : Names) (body : List PlainStmt) (known : Option Start) (p : PartWords)
+    → stmts_cost (made known p (resolved_body fs names body)) ≤ body_weight body
+body_within fs names [] known p = omega arith
+body_within fs names (s ∷ rest) known p =
     omega (
       arith,
-      more,
-      stmt_within fs names s p,
+      stmt_within fs names s known p,
       sum_by-cons stmt_weight s rest,
-      made_joined_cost p (resolved_stmt fs names s) (resolved_body fs (names_after names s) rest),
+      made_joined_cost known p (resolved_stmt fs names s) (resolved_body fs (names_after names s) rest) (body_weight rest)
+          (λ after. body_within fs (names_after names s) rest after p),
     )
 
 pub cost_within : (fs : List (List ℕ)) (names : Names) (parameters : ℕ) (body : List PlainStmt)
     → cost (made_function parameters (resolved_body fs names body)) ≤ function_weight body
 cost_within fs names parameters body =
-    omega (arith, body_within fs names body (outermost (variables parameters (resolved_body fs names body))))
+    omega (arith, body_within fs names body None (outermost (variables parameters (resolved_body fs names body))))

@@ -11,9 +11,11 @@ use Rattle.sp_tree.specs.Statements as tree
 use Rattle.sp_tree.specs.Uses.{Use, reads_cell, reads_array, writes_cell, writes_array, sends_to, expr_uses, args_uses, target_uses, stmt_uses, stmts_uses, functions_uses}
 use Rattle.sp_tree.proofs.Joins.{joined_uses}
 use Rattle.c_meaning.specs.Actions.{PlainTarget, to_level, to_cell, to_array, PlainAssignment, PlainAction, sets, calls, transfers, chooses, turns, breaks, continues, returns, PlainActions, no_action, action, PlainBranches, no_branch, branch}
+use Rattle.single_path.specs.declared.counted.Start.{Start}
 use Rattle.single_path.specs.declared.part_words.PartWords.{PartWords}
 use Rattle.single_path.specs.PartWords.{in_arm, in_loop, outermost, both, less_by, bit_of, not_zero, is_truth, where_so, where_not_taken, where_other, where_on, where_not_returned, returned_function, returned_loop}
-use Rattle.single_path.specs.Made.{is_zero, made_target, made_assignment, made_step, made_call, made_result, made_return, ends, is_no_action, is_no_branch, made_arm, made_otherwise, made_on, made_after, made_behind, made_again, any_exit, by_continue, by_return, actions_exit, branches_exit, made_turn, made_loop, made_action, made, made_branches}
+use Rattle.single_path.specs.Counted.{start_of}
+use Rattle.single_path.specs.Made.{is_zero, made_target, made_assignment, made_step, made_call, made_result, made_return, ends, is_no_action, is_no_branch, made_arm, made_otherwise, made_on, made_after, made_behind, made_again, any_exit, by_continue, by_return, actions_exit, branches_exit, made_turn, made_loop, is_counted, made_counted, made_action, made, made_branches}
 use Rattle.single_path.specs.Single.{variables, begun_mask, made_functions}
 
 -- ---- actions whose uses all have a property
@@ -201,42 +203,54 @@ loop_does P p (suc n) condition exits turn test inside =
     first_then P (tree.turns (suc n) turn) (stmt (tree.overruns p.free condition) (made_behind p exits)) inside
     (first_then P (tree.overruns p.free condition) (made_behind p exits) (expr_each P condition test) (behind_does P p exits))
 
+either_does : (P : Use → Type 0) (b : Bool) (xs ys : PlainStmts) → StmtsDo P xs → StmtsDo P ys → StmtsDo P (if b then xs else ys)
+either_does P true xs ys first second = first
+either_does P false xs ys first second = second
+
+counted_does : (P : Use → Type 0) (p : PartWords) (most : ℕ) (body : PlainStmts) (step : Option PlainAssignment) → StmtsDo P body → StepDoes P step
+    → StmtsDo P (made_counted p most body step)
+counted_does P p most body step inside stepped =
+    only P (tree.turns most (joined body (made_step p.own step))) (joined_do P body (made_step p.own step) inside (step_do P p.own step stepped))
+
 -- ---- all actions
 
 mutual
-  action_does : (P : Use → Type 0) (p : PartWords) (a : PlainAction) → ActionDoes P a → StmtsDo P (made_action p a)
-  action_does P p (sets a) does = assignment_do P p.own a does.0 does.1
-  action_does P p (calls k args result) does = call_do P p k args result does.0 does.1
-  action_does P p (transfers core source target count) does =
+  action_does : (P : Use → Type 0) (known : Option Start) (p : PartWords) (a : PlainAction) → ActionDoes P a → StmtsDo P (made_action known p a)
+  action_does P known p (sets a) does = assignment_do P p.own a does.0 does.1
+  action_does P known p (calls k args result) does = call_do P p k args result does.0 does.1
+  action_does P known p (transfers core source target count) does =
       only P (tree.transfers p.own core source target count) (
         does.0,
         each-append P (expr_uses source) (expr_uses target ++ expr_uses count) (expr_each P source does.1)
             (each-append P (expr_uses target) (expr_uses count) (expr_each P target does.2) (expr_each P count does.3)),
       )
-  action_does P p (chooses branches otherwise) does =
-      joined_do P (made_branches p branches (is_no_action otherwise) (λ q. made q otherwise))
+  action_does P known p (chooses branches otherwise) does =
+      joined_do P (made_branches p branches (is_no_action otherwise) (λ q. made None q otherwise))
       (made_after p (branches_exit any_exit branches || actions_exit any_exit otherwise))
-      (branches_do P p branches (is_no_action otherwise) (λ q. made q otherwise) does.0 (λ q. made_does P q otherwise does.1))
+      (branches_do P p branches (is_no_action otherwise) (λ q. made None q otherwise) does.0 (λ q. made_does P None q otherwise does.1))
       (after_does P p (branches_exit any_exit branches || actions_exit any_exit otherwise))
-  action_does P p (turns most condition body step) does =
-      loop_does P p most condition (actions_exit by_return body) (made_turn p condition (actions_exit by_continue body) (made (in_loop p) body) step) does.0
-      (turn_does P p condition (actions_exit by_continue body) (made (in_loop p) body) step does.0 (made_does P (in_loop p) body does.1) does.2)
-  action_does P p breaks does = tt
-  action_does P p continues does = tt
-  action_does P p (returns e) does = return_does P p e does
+  action_does P known p (turns most condition body step) does =
+      either_does P (is_counted known most condition body step) (made_counted p most (made None p body) step)
+      (made_loop p most condition (actions_exit by_return body) (made_turn p condition (actions_exit by_continue body) (made None (in_loop p) body) step))
+      (counted_does P p most (made None p body) step (made_does P None p body does.1) does.2)
+      (loop_does P p most condition (actions_exit by_return body) (made_turn p condition (actions_exit by_continue body) (made None (in_loop p) body) step) does.0
+      (turn_does P p condition (actions_exit by_continue body) (made None (in_loop p) body) step does.0 (made_does P None (in_loop p) body does.1) does.2))
+  action_does P known p breaks does = tt
+  action_does P known p continues does = tt
+  action_does P known p (returns e) does = return_does P p e does
 
-  made_does : (P : Use → Type 0) (p : PartWords) (actions : PlainActions) → Do P actions → StmtsDo P (made p actions)
-  made_does P p no_action does = tt
-  made_does P p (action a rest) does =
-      joined_do P (made_action p a) (if ends a then no_stmt else made p rest) (action_does P p a does.0)
-      (unless_do P (ends a) (made p rest) (made_does P p rest does.1))
+  made_does : (P : Use → Type 0) (known : Option Start) (p : PartWords) (actions : PlainActions) → Do P actions → StmtsDo P (made known p actions)
+  made_does P known p no_action does = tt
+  made_does P known p (action a rest) does =
+      joined_do P (made_action known p a) (if ends a then no_stmt else made (start_of a) p rest) (action_does P known p a does.0)
+      (unless_do P (ends a) (made (start_of a) p rest) (made_does P (start_of a) p rest does.1))
 
   branches_do : (P : Use → Type 0) (p : PartWords) (bs : PlainBranches) (nothing : Bool) (otherwise : PartWords → PlainStmts) → BranchesDo P bs
       → ((q : PartWords) → StmtsDo P (otherwise q)) → StmtsDo P (made_branches p bs nothing otherwise)
   branches_do P p no_branch nothing otherwise does last = last p
   branches_do P p (branch condition body rest) nothing otherwise does last =
-      arm_does P p condition (made (in_arm p) body) (actions_exit any_exit body) (is_no_branch rest && nothing) (made_branches (in_arm p) rest nothing otherwise) does.0
-      (made_does P (in_arm p) body does.1) (branches_do P (in_arm p) rest nothing otherwise does.2 last)
+      arm_does P p condition (made None (in_arm p) body) (actions_exit any_exit body) (is_no_branch rest && nothing) (made_branches (in_arm p) rest nothing otherwise) does.0
+      (made_does P None (in_arm p) body does.1) (branches_do P (in_arm p) rest nothing otherwise does.2 last)
 
 -- ---- functions
 
@@ -246,5 +260,5 @@ functions_do P [] bodies does = tt
 functions_do P (n ∷ counts) [] does = tt
 functions_do P (n ∷ counts) (body ∷ bodies) does =
     let p = outermost (variables n body) in
-    each-append P (stmts_uses (stmt (masks p.function (begun_mask p)) (made p body))) (functions_uses (made_functions counts bodies))
-    (mask_then P p.function (begun_mask p) (made p body) (tt, tt) (made_does P p body does.0)) (functions_do P counts bodies does.1)
+    each-append P (stmts_uses (stmt (masks p.function (begun_mask p)) (made None p body))) (functions_uses (made_functions counts bodies))
+    (mask_then P p.function (begun_mask p) (made None p body) (tt, tt) (made_does P None p body does.0)) (functions_do P counts bodies does.1)

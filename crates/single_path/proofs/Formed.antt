@@ -1,5 +1,5 @@
 -- The functions of a valid program are well formed.
-use Rattle.std.proofs.Common.{◌≡◌, ℕ, zero, suc, ◌+◌, ◌^◌, ◌<◌, ◌≤◌, Bool, true, false, List, [], ◌∷◌, ◌++◌, length, Option, is_some, slice_index, slice_index_or, refl, ap, ap₂, sym, ◌∙◌, subst, arith, lt-ltb, le-leb, eq-eqb}
+use Rattle.std.proofs.Common.{◌≡◌, ℕ, zero, suc, ◌+◌, ◌^◌, ◌<◌, ◌≤◌, Bool, true, false, List, [], ◌∷◌, ◌++◌, length, Option, is_some, slice_index, slice_index_or, refl, ap, ap₂, sym, ◌∙◌, subst, arith, lt-ltb, le-leb, eq-eqb, None}
 use Rattle.std.proofs.lemmas.Bool.{and_from}
 use Rattle.std.proofs.lemmas.Bool.Decides.{nat_tests}
 use Rattle.std.specs.List.{AllByRecursion as Each}
@@ -143,9 +143,9 @@ function_made_formed Fit fs number each parameters body fits known =
     (and_from _ _ (lt-ltb p.function (slots_of f) (omega (arith, within)))
     (and_from _ _ (le-leb parameters p.result (omega arith))
     (and_from _ _ (lt-ltb p.result (slots_of f) (omega (arith, within)))
-    (more_formed fs number (slots_of f) (masks p.function (begun_mask p)) (made p body)
+    (more_formed fs number (slots_of f) (masks p.function (begun_mask p)) (made None p body)
     (begun_formed fs number (slots_of f) p (below n (slots_of f) p (outermost_order n) within))
-    (made_formed Fit fs number (slots_of f) n each body false p (outermost_order n) (omega arith) (omega (arith, slots)) fits known.sound)))))))
+    (made_formed Fit fs number (slots_of f) n each body false None p (outermost_order n) (omega arith) (omega (arith, slots)) fits known.sound)))))))
 
 -- an earlier function is there, and has as many parameters as it is given arguments
 callable_formed : (counts : List ℕ) (bodies : List PlainActions) (n : ℕ) → length counts ≡ length bodies → n ≤ length bodies

@@ -8,7 +8,9 @@ use Rattle.sp_tree.specs.Plain.{PlainSp, frame_word}
 use Rattle.sp_tree.specs.Statements.{PlainStmt, PlainStmts, no_stmt, stmt, joined, PlainFunction, masks, writes, overruns}
 use Rattle.sp_tree.specs.Statements as tree
 use Rattle.c_meaning.specs.Actions.{PlainTarget, to_level, to_cell, to_array, PlainAssignment, PlainAction, sets, calls, transfers, chooses, turns, breaks, continues, returns, PlainActions, no_action, action, PlainBranches, no_branch, branch}
-use Rattle.single_path.specs.Made.{made_target, made_assignment, made_step, made_call, is_zero, made_result, made_return, ends, is_no_action, is_no_branch, made_arm, made_otherwise, made_on, made_after, made_behind, made_again, any_exit, by_continue, by_return, actions_exit, branches_exit, made_turn, made_loop, made_action, made, made_branches}
+use Rattle.single_path.specs.Counted.{start_of}
+use Rattle.single_path.specs.Made.{made_target, made_assignment, made_step, made_call, is_zero, made_result, made_return, ends, is_no_action, is_no_branch, made_arm, made_otherwise, made_on, made_after, made_behind, made_again, any_exit, by_continue, by_return, actions_exit, branches_exit, made_turn, made_loop, is_counted, made_counted, made_action, made, made_branches}
+use Rattle.single_path.specs.declared.counted.Start.{Start}
 use Rattle.single_path.specs.declared.part_words.PartWords.{PartWords}
 use Rattle.single_path.specs.PartWords.{in_arm, in_loop, where_so, where_not_taken, where_other, where_on, where_not_returned, bit_of, not_zero, returned_function, returned_loop}
 use Rattle.single_path.specs.Widths.{result_words, expr_words, args_words, target_words, assignment_words, step_words, words, action_words, branches_words, branches_masks}
@@ -151,73 +153,105 @@ loop_formed fs number slots p n condition exits turn b free sound within inside 
     (and_from _ _ (and_from _ _ (lt-ltb 0 (suc n) (omega arith)) inside)
     (and_from _ _ (overrun_formed fs number slots p.free condition free sound within) (behind_formed fs number slots p exits b)))
 
+counted_formed : (fs : List PlainFunction) (number slots : ℕ) (p : PartWords) (n : ℕ) (body : PlainStmts) (step : Option PlainAssignment) → p.own < slots
+    → SoundStep step → step_words step ≤ slots → stmts_formed fs number slots body ≡ true → stmts_formed fs number slots (made_counted p (suc n) body step) ≡ true
+counted_formed fs number slots p n body step own to of inside =
+    and_from _ _ (and_from _ _ (lt-ltb 0 (suc n) (omega arith))
+    (both_formed fs number slots body (made_step p.own step) inside (step_formed fs number slots p.own step own to of))) refl
+
 -- ---- all actions
 
 -- what fits may be called
 abbrev pub MayCall : (ℕ → ℕ → Type 0) → List PlainFunction → ℕ → Type 0
 MayCall Fit fs number = (k args : ℕ) → Fit k args → callee_formed fs number k args ≡ true
 
+-- a loop, either way
+repeated_formed : (fs : List PlainFunction) (number slots n : ℕ) (known : Option Start) (p : PartWords) (most : ℕ) (condition : PlainSp) (body : PlainActions)
+    (step : Option PlainAssignment) → Order n p → action_words (turns most condition body step) ≤ n
+    → p.free + width.action_masks (turns most condition body step) ≤ slots → SoundAction (turns most condition body step)
+    → ((q : PartWords) → Order n q → q.free + width.masks body ≤ slots → stmts_formed fs number slots (made None q body) ≡ true)
+    → stmts_formed fs number slots (made_action known p (turns most condition body step)) ≡ true
+repeated_formed fs number slots n known p zero condition body step order within free sound each = by known
+  where
+    more : n ≤ slots
+    more = words_there n slots p order (omega (arith, free))
+
+    flag : stmts_formed fs number slots (tree.one (overruns p.own condition)) ≡ true
+    flag = more_formed fs number slots (overruns p.own condition) no_stmt
+        (overrun_formed fs number slots p.own condition (below n slots p order (omega (arith, free))).own sound.0 (omega (arith, within, more))) refl
+
+    -- no turn is counted
+    by : (known : Option Start) → stmts_formed fs number slots (made_action known p (turns zero condition body step)) ≡ true
+    by None = flag
+    by (Some s) = flag
+repeated_formed fs number slots n known p (suc k) condition body step order within free sound each = by (is_counted known (suc k) condition body step)
+  where
+    b : Below p slots
+    b = below n slots p order (omega (arith, free))
+
+    more : n ≤ slots
+    more = words_there n slots p order (omega (arith, free))
+
+    turn : PlainStmts
+    turn = made_turn p condition (actions_exit by_continue body) (made None (in_loop p) body) step
+
+    by : (counted : Bool)
+        → stmts_formed fs number slots (if counted then made_counted p (suc k) (made None p body) step else made_loop p (suc k) condition (actions_exit by_return body) turn) ≡ true
+    by true = counted_formed fs number slots p k (made None p body) step b.own sound.1.1 (omega (arith, within, more)) (each p order (omega (arith, free)))
+    by false = loop_formed fs number slots p k condition (actions_exit by_return body) turn b (omega (arith, free)) sound.0 (omega (arith, within, more))
+        (turn_formed fs number slots p condition (actions_exit by_continue body) (made None (in_loop p) body) step (omega (arith, free)) sound.0
+        (omega (arith, within, more)) sound.1.1 (omega (arith, within, more)) (each (in_loop p) (order_loop n p order) (omega (arith, free))))
+
 -- the variables have the first so many words
 mutual
   action_formed : (Fit : ℕ → ℕ → Type 0) (fs : List PlainFunction) (number slots n : ℕ)
-      → MayCall Fit fs number → (a : PlainAction) (inside : Bool) (p : PartWords) → Order n p
+      → MayCall Fit fs number → (a : PlainAction) (inside : Bool) (known : Option Start) (p : PartWords) → Order n p
       → action_words a ≤ n → p.free + width.action_masks a ≤ slots → FitsAction Fit inside a → SoundAction a
-      → stmts_formed fs number slots (made_action p a) ≡ true
-  action_formed Fit fs number slots n each (sets a) inside p order within free fits sound =
+      → stmts_formed fs number slots (made_action known p a) ≡ true
+  action_formed Fit fs number slots n each (sets a) inside known p order within free fits sound =
       let b = below n slots p order (omega (arith, free)) in
       let more = words_there n slots p order (omega (arith, free)) in
       more_formed fs number slots (made_assignment p.own a) no_stmt
       (write_formed fs number slots p.own a.target a.value b.own sound.0 sound.1 (omega (arith, within, more)) (omega (arith, within, more))) refl
-  action_formed Fit fs number slots n each (calls k args result) inside p order within free fits sound =
+  action_formed Fit fs number slots n each (calls k args result) inside known p order within free fits sound =
       let b = below n slots p order (omega (arith, free)) in
       let more = words_there n slots p order (omega (arith, free)) in
       call_formed fs number slots p k args result b.own free (each k (length args) fits) sound.0 sound.1
       (omega (arith, within, more)) (omega (arith, within, more))
-  action_formed Fit fs number slots n each (transfers core source target count) inside p order within free fits sound =
+  action_formed Fit fs number slots n each (transfers core source target count) inside known p order within free fits sound =
       let b = below n slots p order (omega (arith, free)) in
       let more = words_there n slots p order (omega (arith, free)) in
       and_from _ _ (and_from _ _ (lt-ltb p.own slots b.own) (and_from _ _ (lt-ltb core 16 sound.0)
       (and_from _ _ (sound_formed slots source sound.1.0 (omega (arith, within, more)))
       (and_from _ _ (sound_formed slots target sound.1.1.0 (omega (arith, within, more)))
       (sound_formed slots count sound.1.1.1 (omega (arith, within, more))))))) refl
-  action_formed Fit fs number slots n each (chooses branches otherwise) inside p order within free fits sound =
-      both_formed fs number slots (made_branches p branches (is_no_action otherwise) (λ q. made q otherwise))
+  action_formed Fit fs number slots n each (chooses branches otherwise) inside known p order within free fits sound =
+      both_formed fs number slots (made_branches p branches (is_no_action otherwise) (λ q. made None q otherwise))
       (made_after p (branches_exit any_exit branches || actions_exit any_exit otherwise))
-      (branches_formed Fit fs number slots n each branches (is_no_action otherwise) (λ q. made q otherwise) (width.masks otherwise)
-      (λ q there room. made_formed Fit fs number slots n each otherwise inside q there (omega (arith, within)) room fits.1 sound.1)
+      (branches_formed Fit fs number slots n each branches (is_no_action otherwise) (λ q. made None q otherwise) (width.masks otherwise)
+      (λ q there room. made_formed Fit fs number slots n each otherwise inside None q there (omega (arith, within)) room fits.1 sound.1)
       inside p order (omega (arith, within)) free fits.0 sound.0)
       (after_formed fs number slots p (branches_exit any_exit branches || actions_exit any_exit otherwise) (below n slots p order (omega (arith, free))))
-  action_formed Fit fs number slots n each (turns zero condition body step) inside p order within free fits sound =
-      let b = below n slots p order (omega (arith, free)) in
-      let more = words_there n slots p order (omega (arith, free)) in
-      more_formed fs number slots (overruns p.own condition) no_stmt
-      (overrun_formed fs number slots p.own condition b.own sound.0 (omega (arith, within, more))) refl
-  action_formed Fit fs number slots n each (turns (suc k) condition body step) inside p order within free fits sound =
-      let b = below n slots p order (omega (arith, free)) in
-      let more = words_there n slots p order (omega (arith, free)) in
-      let inner = made_formed Fit fs number slots n each body true (in_loop p) (order_loop n p order) (omega (arith, within)) (omega (arith, free))
-      fits sound.1.0 in
-      loop_formed fs number slots p k condition (actions_exit by_return body) (made_turn p condition (actions_exit by_continue body) (made (in_loop p) body) step) b (omega (arith, free)) sound.0
-      (omega (arith, within, more))
-      (turn_formed fs number slots p condition (actions_exit by_continue body) (made (in_loop p) body) step (omega (arith, free)) sound.0 (omega (arith, within, more)) sound.1.1
-      (omega (arith, within, more)) inner)
-  action_formed Fit fs number slots n each breaks inside p order within free fits sound =
+  action_formed Fit fs number slots n each (turns most condition body step) inside known p order within free fits sound =
+      repeated_formed fs number slots n known p most condition body step order within free sound
+      (λ q there room. made_formed Fit fs number slots n each body true None q there (omega (arith, within)) room fits sound.1.0)
+  action_formed Fit fs number slots n each breaks inside known p order within free fits sound =
       and_from _ _ (broken_formed fs number slots p (below n slots p order (omega (arith, free)))) refl
-  action_formed Fit fs number slots n each continues inside p order within free fits sound =
+  action_formed Fit fs number slots n each continues inside known p order within free fits sound =
       and_from _ _ (continued_formed fs number slots p (below n slots p order (omega (arith, free)))) refl
-  action_formed Fit fs number slots n each (returns e) inside p order within free fits sound =
+  action_formed Fit fs number slots n each (returns e) inside known p order within free fits sound =
       let more = words_there n slots p order (omega (arith, free)) in
       return_formed fs number slots p e (below n slots p order (omega (arith, free))) sound (omega (arith, within, more))
 
   pub made_formed : (Fit : ℕ → ℕ → Type 0) (fs : List PlainFunction) (number slots n : ℕ)
-      → MayCall Fit fs number → (xs : PlainActions) (inside : Bool) (p : PartWords) → Order n p
-      → words xs ≤ n → p.free + width.masks xs ≤ slots → Fits Fit inside xs → AllSound xs → stmts_formed fs number slots (made p xs) ≡ true
-  made_formed Fit fs number slots n each no_action inside p order within free fits sound = refl
-  made_formed Fit fs number slots n each (action a rest) inside p order within free fits sound =
-      both_formed fs number slots (made_action p a) (if ends a then no_stmt else made p rest)
-      (action_formed Fit fs number slots n each a inside p order (omega (arith, within)) (omega (arith, free)) fits.0 sound.0)
-      (unless_formed fs number slots (ends a) (made p rest)
-      (made_formed Fit fs number slots n each rest inside p order (omega (arith, within)) (omega (arith, free)) fits.1 sound.1))
+      → MayCall Fit fs number → (xs : PlainActions) (inside : Bool) (known : Option Start) (p : PartWords) → Order n p
+      → words xs ≤ n → p.free + width.masks xs ≤ slots → Fits Fit inside xs → AllSound xs → stmts_formed fs number slots (made known p xs) ≡ true
+  made_formed Fit fs number slots n each no_action inside known p order within free fits sound = refl
+  made_formed Fit fs number slots n each (action a rest) inside known p order within free fits sound =
+      both_formed fs number slots (made_action known p a) (if ends a then no_stmt else made (start_of a) p rest)
+      (action_formed Fit fs number slots n each a inside known p order (omega (arith, within)) (omega (arith, free)) fits.0 sound.0)
+      (unless_formed fs number slots (ends a) (made (start_of a) p rest)
+      (made_formed Fit fs number slots n each rest inside (start_of a) p order (omega (arith, within)) (omega (arith, free)) fits.1 sound.1))
 
   -- before what stands after the last `else`, which takes so many masks
   branches_formed : (Fit : ℕ → ℕ → Type 0) (fs : List PlainFunction) (number slots n : ℕ)
@@ -228,9 +262,9 @@ mutual
   branches_formed Fit fs number slots n each no_branch nothing otherwise last behind inside p order within free fits sound = behind p order free
   branches_formed Fit fs number slots n each (branch condition body rest) nothing otherwise last behind inside p order within free fits sound =
       let more = words_there n slots p order (omega (arith, free)) in
-      arm_formed fs number slots p condition (made (in_arm p) body) (actions_exit any_exit body) (is_no_branch rest && nothing) (made_branches (in_arm p) rest nothing otherwise)
+      arm_formed fs number slots p condition (made None (in_arm p) body) (actions_exit any_exit body) (is_no_branch rest && nothing) (made_branches (in_arm p) rest nothing otherwise)
       (below n slots p order (omega (arith, free))) (omega (arith, free)) sound.0 (omega (arith, within, more))
-      (made_formed Fit fs number slots n each body inside (in_arm p) (order_arm n p order) (omega (arith, within))
+      (made_formed Fit fs number slots n each body inside None (in_arm p) (order_arm n p order) (omega (arith, within))
       (omega (arith, free)) fits.0 sound.1.0)
       (branches_formed Fit fs number slots n each rest nothing otherwise last behind inside (in_arm p) (order_arm n p order) (omega (arith, within))
       (omega (arith, free)) fits.1 sound.1.1)

@@ -21,9 +21,11 @@ use Rattle.c_tree.specs.Names.{number_of}
 use Rattle.c_meaning.specs.Resolve.{resolved, resolved_args, variable_target, element_target, assignment_to, maybe_sets, numbered_call, resolved_right, resolved_condition, resolved_begin, resolved_next, choice, resolved_stmt, resolved_block, resolved_arms, resolved_otherwise, resolved_body}
 use Rattle.c_meaning.specs.Values.{Names, named}
 use Rattle.c_meaning.proofs.Few.{parameters_open}
+use Rattle.single_path.specs.declared.counted.Start.{Start}
 use Rattle.single_path.specs.declared.part_words.PartWords.{PartWords}
 use Rattle.single_path.specs.PartWords.{in_arm, in_loop, outermost, where_not_taken, where_other, where_on, where_not_returned, returned_function, returned_loop}
-use Rattle.single_path.specs.Made.{is_zero, made_result, made_return, made_step, ends, is_no_action, is_no_branch, made_arm, made_otherwise, made_on, made_after, made_behind, made_again, any_exit, by_continue, by_return, actions_exit, branches_exit, made_turn, made_loop, made_action, made, made_branches}
+use Rattle.single_path.specs.Counted.{start_of}
+use Rattle.single_path.specs.Made.{is_zero, made_result, made_return, made_step, ends, is_no_action, is_no_branch, made_arm, made_otherwise, made_on, made_after, made_behind, made_again, any_exit, by_continue, by_return, actions_exit, branches_exit, made_turn, made_loop, is_counted, made_counted, made_action, made, made_branches}
 use Rattle.single_path.specs.Single.{variables, made_function}
 use Rattle.single_path.specs.Widths.{expr_words, args_words, result_words, step_words, words, branches_words, branches_masks}
 use Rattle.single_path.specs.Widths as width
@@ -33,13 +35,13 @@ use Rattle.single_path.proofs.Words.{resolved_words, resolved_args_words, variab
 
 -- For actions that stand where so many variables are open, and for the words that they are made with: their words after those
 -- variables, their masks but one, and their levels of turns are together so many at most. (The one mask may be that of what a
--- function gives to a target outside of the frame, for which nothing is counted.)
+-- function gives to a target outside of the frame, for which nothing is counted.) It is so whatever is known before them.
 abbrev Within : ℕ → PlainActions → PartWords → ℕ → Type 0
-Within n xs p room = words xs - n + (width.masks xs - 1) + stmts_levels (made p xs) ≤ room
+Within n xs p room = (known : Option Start) → words xs - n + (width.masks xs - 1) + stmts_levels (made known p xs) ≤ room
 
 -- the same, where more variables are open after the actions than before
 abbrev Opens : ℕ → ℕ → PlainActions → PartWords → ℕ → Type 0
-Opens before after xs p room = after + (words xs - after + (width.masks xs - 1) + stmts_levels (made p xs)) ≤ before + room
+Opens before after xs p room = (known : Option Start) → after + (words xs - after + (width.masks xs - 1) + stmts_levels (made known p xs)) ≤ before + room
 
 -- ---- one action after another
 
@@ -55,20 +57,21 @@ ended_levels : (ended : Bool) (ts : PlainStmts) → stmts_levels (if ended then 
 ended_levels true ts = omega arith
 ended_levels false ts = omega arith
 
-levels_joined : (p : PartWords) (xs ys : PlainActions)
-    → stmts_levels (made p (actions.joined xs ys)) ≤ max (stmts_levels (made p xs)) (stmts_levels (made p ys))
-levels_joined p no_action ys = omega arith
-levels_joined p (action a rest) ys = by (ends a) (joined_levels (made_action p a)) (levels_joined p rest ys)
+-- what comes after them has no more levels, whatever is known there
+levels_joined : (known : Option Start) (p : PartWords) (xs ys : PlainActions) (most : ℕ) → ((after : Option Start) → stmts_levels (made after p ys) ≤ most)
+    → stmts_levels (made known p (actions.joined xs ys)) ≤ max (stmts_levels (made known p xs)) most
+levels_joined known p no_action ys most each = omega (arith, each known)
+levels_joined known p (action a rest) ys most each = by (ends a) (joined_levels (made_action known p a)) (levels_joined (start_of a) p rest ys most each)
   where
-    by : (ended : Bool) → ((ts : PlainStmts) → stmts_levels (joined (made_action p a) ts) ≡ max (stmts_levels (made_action p a)) (stmts_levels ts))
-        → stmts_levels (made p (actions.joined rest ys)) ≤ max (stmts_levels (made p rest)) (stmts_levels (made p ys))
-        → stmts_levels (joined (made_action p a) (if ended then no_stmt else made p (actions.joined rest ys)))
-        ≤ max (stmts_levels (joined (made_action p a) (if ended then no_stmt else made p rest))) (stmts_levels (made p ys))
-    by true each more = omega (arith, each no_stmt)
-    by false each more = omega (arith, more, each (made p (actions.joined rest ys)), each (made p rest))
+    by : (ended : Bool) → ((ts : PlainStmts) → stmts_levels (joined (made_action known p a) ts) ≡ max (stmts_levels (made_action known p a)) (stmts_levels ts))
+        → stmts_levels (made (start_of a) p (actions.joined rest ys)) ≤ max (stmts_levels (made (start_of a) p rest)) most
+        → stmts_levels (joined (made_action known p a) (if ended then no_stmt else made (start_of a) p (actions.joined rest ys)))
+        ≤ max (stmts_levels (joined (made_action known p a) (if ended then no_stmt else made (start_of a) p rest))) most
+    by true first more = omega (arith, first no_stmt)
+    by false first more = omega (arith, more, first (made (start_of a) p (actions.joined rest ys)), first (made (start_of a) p rest))
 
-levels_one : (p : PartWords) (a : PlainAction) → stmts_levels (made p (one a)) ≤ stmts_levels (made_action p a)
-levels_one p a = omega (arith, joined_levels (made_action p a) (if ends a then no_stmt else no_stmt), ended_levels (ends a) no_stmt)
+levels_one : (known : Option Start) (p : PartWords) (a : PlainAction) → stmts_levels (made known p (one a)) ≤ stmts_levels (made_action known p a)
+levels_one known p a = omega (arith, joined_levels (made_action known p a) (if ends a then no_stmt else no_stmt), ended_levels (ends a) no_stmt)
 
 choice_words : (branches : PlainBranches) (otherwise : PlainActions)
     → words (choice branches otherwise) ≤ max (branches_words branches) (words otherwise)
@@ -99,48 +102,52 @@ again_levels p true = omega arith
 again_levels p false = omega arith
 
 -- a choice has the levels of its arms and of what stands after `else`
-choice_levels : (p : PartWords) (branches : PlainBranches) (otherwise : PlainActions)
-    → stmts_levels (made p (choice branches otherwise)) ≤ stmts_levels (made_branches p branches (is_no_action otherwise) (λ q. made q otherwise))
-choice_levels p no_branch otherwise = omega arith
-choice_levels p (branch condition body rest) otherwise =
+choice_levels : (known : Option Start) (p : PartWords) (condition : PlainSp) (body : PlainActions) (rest : PlainBranches) (otherwise : PlainActions)
+    → stmts_levels (made known p (choice (branch condition body rest) otherwise))
+    ≤ stmts_levels (made_branches p (branch condition body rest) (is_no_action otherwise) (λ q. made None q otherwise))
+choice_levels known p condition body rest otherwise =
     let all = branch condition body rest in
     let exits = branches_exit any_exit all || actions_exit any_exit otherwise in
     omega (
       arith,
-      levels_one p (chooses all otherwise),
-      joined_levels (made_branches p all (is_no_action otherwise) (λ q. made q otherwise)) (made_after p exits),
+      levels_one known p (chooses all otherwise),
+      joined_levels (made_branches p all (is_no_action otherwise) (λ q. made None q otherwise)) (made_after p exits),
       after_levels p exits,
     )
 
 -- the first may open variables, each of which takes a word
 joined_within : (before after first more : ℕ) (xs ys : PlainActions) (p : PartWords) → before ≤ after → Opens before after xs p first
     → Within after ys p more → Within before (actions.joined xs ys) p (first + more)
-joined_within before after first more xs ys p opens here there =
-    omega (arith, opens, here, there, words_joined xs ys, masks_joined xs ys, levels_joined p xs ys)
+joined_within before after first more xs ys p opens here there known =
+    let taken = words ys - after + (width.masks ys - 1) in
+    let levels = levels_joined known p xs ys (more - taken) (λ k. let one = there k in omega (arith, one)) in
+    let one = here known in
+    let other = there known in
+    omega (arith, opens, one, other, words_joined xs ys, masks_joined xs ys, levels)
 
 -- ---- what is set, and calls
 
 sets_within : (n : ℕ) (p : PartWords) (target : Option PlainTarget) (e : PlainSp) → result_words target ≤ n → expr_words e ≤ n
     → Within n (maybe_sets (assignment_to target e)) p 0
-sets_within n p None e of to = omega arith
-sets_within n p (Some (to_level at)) e of to = omega (arith, of, to)
-sets_within n p (Some (to_cell cell)) e of to = omega (arith, to)
-sets_within n p (Some (to_array array index)) e of to = omega (arith, of, to)
+sets_within n p None e of to known = omega arith
+sets_within n p (Some (to_level at)) e of to known = omega (arith, of, to)
+sets_within n p (Some (to_cell cell)) e of to known = omega (arith, to)
+sets_within n p (Some (to_array array index)) e of to known = omega (arith, of, to)
 
 call_within : (n : ℕ) (p : PartWords) (k : Option ℕ) (args : List PlainSp) (target : Option PlainTarget) → result_words target ≤ n
     → args_words args ≤ n → Within n (numbered_call k args target) p 0
-call_within n p None args target of to = sets_within n p target (constant 0) of (omega arith)
-call_within n p (Some k) args None of to = omega (arith, to)
-call_within n p (Some k) args (Some (to_level at)) of to = omega (arith, of, to)
-call_within n p (Some k) args (Some (to_cell cell)) of to = omega (arith, to)
-call_within n p (Some k) args (Some (to_array array index)) of to = omega (arith, of, to)
+call_within n p None args target of to known = sets_within n p target (constant 0) of (omega arith) known
+call_within n p (Some k) args None of to known = omega (arith, to)
+call_within n p (Some k) args (Some (to_level at)) of to known = omega (arith, of, to)
+call_within n p (Some k) args (Some (to_cell cell)) of to known = omega (arith, to)
+call_within n p (Some k) args (Some (to_array array index)) of to known = omega (arith, of, to)
 
 right_within : (fs : List (List ℕ)) (names : Names) (fresh : Option ℕ) (target : Option PlainTarget) (r : PlainRight) (p : PartWords)
     → result_words target ≤ length names.variables → Within (length names.variables) (resolved_right fs names fresh target r) p 0
-right_within fs names fresh target (plain.value e) p of =
-    sets_within (length names.variables) p target (resolved names fresh e) of (resolved_words names fresh e)
-right_within fs names fresh target (plain.call text args) p of =
-    call_within (length names.variables) p (number_of text fs) (resolved_args names fresh args) target of (resolved_args_words names fresh args)
+right_within fs names fresh target (plain.value e) p of known =
+    sets_within (length names.variables) p target (resolved names fresh e) of (resolved_words names fresh e) known
+right_within fs names fresh target (plain.call text args) p of known =
+    call_within (length names.variables) p (number_of text fs) (resolved_args names fresh args) target of (resolved_args_words names fresh args) known
 
 -- ---- ways on, and loops
 
@@ -152,7 +159,7 @@ return_levels p e =
     omega (arith, joined_levels (made_result p e) ends_all, set, ended_levels (p.function == p.turn) outer)
 
 return_within : (n : ℕ) (p : PartWords) (e : PlainSp) → expr_words e ≤ n → Within n (one (returns e)) p 0
-return_within n p e of = omega (arith, of, levels_one p (returns e), return_levels p e)
+return_within n p e of known = omega (arith, of, levels_one known p (returns e), return_levels p e)
 
 step_levels : (mask : ℕ) (step : Option PlainAssignment) → stmts_levels (made_step mask step) ≤ 0
 step_levels mask None = omega arith
@@ -174,33 +181,50 @@ loop_levels : (p : PartWords) (most : ℕ) (condition : PlainSp) (exits : Bool) 
 loop_levels p zero condition exits turn = omega arith
 loop_levels p (suc n) condition exits turn = omega (arith, behind_levels p exits)
 
+counted_levels : (p : PartWords) (most : ℕ) (body : PlainStmts) (step : Option PlainAssignment)
+    → stmts_levels (made_counted p most body step) ≤ 1 + stmts_levels body
+counted_levels p most body step = omega (arith, joined_levels body (made_step p.own step), step_levels p.own step)
+
+turns_levels : (known : Option Start) (p : PartWords) (most : ℕ) (condition : PlainSp) (body : PlainActions) (step : Option PlainAssignment) (inside : ℕ)
+    → ((q : PartWords) → stmts_levels (made None q body) ≤ inside) → stmts_levels (made_action known p (turns most condition body step)) ≤ 1 + inside
+turns_levels known p most condition body step inside each = by (is_counted known most condition body step)
+  where
+    turn : PlainStmts
+    turn = made_turn p condition (actions_exit by_continue body) (made None (in_loop p) body) step
+
+    by : (counted : Bool)
+        → stmts_levels (if counted then made_counted p most (made None p body) step else made_loop p most condition (actions_exit by_return body) turn) ≤ 1 + inside
+    by true = omega (arith, each p, counted_levels p most (made None p body) step)
+    by false = omega (
+      arith,
+      each (in_loop p),
+      loop_levels p most condition (actions_exit by_return body) turn,
+      turn_levels p condition (actions_exit by_continue body) (made None (in_loop p) body) step,
+    )
+
+loop_takes : (most body : ℕ) → width.loop_masks most body ≤ 1 + body
+loop_takes zero body = omega arith
+loop_takes (suc n) body = omega arith
+
 -- a loop takes a word for its mask and one for its turns
 turns_within : (n room : ℕ) (p : PartWords) (most : ℕ) (condition : PlainSp) (body : PlainActions) (step : Option PlainAssignment)
-    → expr_words condition ≤ n → step_words step ≤ n → Within n body (in_loop p) room
+    → expr_words condition ≤ n → step_words step ≤ n → ((q : PartWords) → Within n body q room)
     → Within n (one (turns most condition body step)) p (2 + room)
-turns_within n room p zero condition body step of to within = omega (arith, of, to, within)
-turns_within n room p (suc k) condition body step of to within =
-    let again = actions_exit by_continue body in
-    let turn = made_turn p condition again (made (in_loop p) body) step in
-    omega (
-      arith,
-      of,
-      to,
-      within,
-      levels_one p (turns (suc k) condition body step),
-      loop_levels p (suc k) condition (actions_exit by_return body) turn,
-      turn_levels p condition again (made (in_loop p) body) step,
-    )
+turns_within n room p most condition body step of to within known =
+    let taken = words body - n + (width.masks body - 1) in
+    let levels = turns_levels known p most condition body step (room - taken) (λ q. let one = within q None in omega (arith, one)) in
+    let one = within p None in
+    omega (arith, of, to, one, levels, levels_one known p (turns most condition body step), loop_takes most (width.masks body))
 
 condition_words : (names : Names) (head : PlainHead) → expr_words (resolved_condition names head) ≤ length names.variables
 condition_words names (plain.turns_while condition) = resolved_words names None condition
 condition_words names (plain.turns_for first from condition to_set to) = resolved_words names None condition
 
 begin_within : (names : Names) (head : PlainHead) (p : PartWords) → Within (length names.variables) (maybe_sets (resolved_begin names head)) p 0
-begin_within names (plain.turns_while condition) p = omega arith
-begin_within names (plain.turns_for first from condition to_set to) p =
+begin_within names (plain.turns_while condition) p known = omega arith
+begin_within names (plain.turns_for first from condition to_set to) p known =
     sets_within (length names.variables) p (variable_target (named names first)) (resolved names None from) (variable_target_words names first)
-    (resolved_words names None from)
+    (resolved_words names None from) known
 
 next_words : (names : Names) (head : PlainHead) → step_words (resolved_next names head) ≤ length names.variables
 next_words names (plain.turns_while condition) = omega arith
@@ -235,33 +259,44 @@ mutual
 
   stmt_within : (fs : List (List ℕ)) (names : Names) (s : PlainStmt) (p : PartWords)
       → Opens (length names.variables) (length (names_after names s).variables) (resolved_stmt fs names s) p (stmt_frame s)
-  stmt_within fs names (plain.declared kind text None) p = omega (arith, one_more names kind text)
-  stmt_within fs names (plain.declared kind text (Some r)) p =
+  stmt_within fs names (plain.declared kind text None) p known = omega (arith, one_more names kind text)
+  stmt_within fs names (plain.declared kind text (Some r)) p known =
       let n = length names.variables in
       let more = one_more names kind text in
-      omega (arith, more, right_within fs (with_variable names kind text) (Some n) (Some (to_level n)) r p (omega (arith, more)))
-  stmt_within fs names (plain.set text r) p =
+      omega (arith, more, right_within fs (with_variable names kind text) (Some n) (Some (to_level n)) r p (omega (arith, more)) known)
+  stmt_within fs names (plain.set text r) p known =
       let target = variable_target (named names text) in
-      omega (arith, right_within fs names None target r p (variable_target_words names text))
-  stmt_within fs names (plain.set_element text index r) p =
+      omega (arith, right_within fs names None target r p (variable_target_words names text) known)
+  stmt_within fs names (plain.set_element text index r) p known =
       let i = resolved names None index in
       let of = element_target_words (named names text) i in
-      omega (arith, right_within fs names None (element_target (named names text) i) r p (omega (arith, of, resolved_words names None index)))
-  stmt_within fs names (plain.called text args) p =
+      omega (arith, right_within fs names None (element_target (named names text) i) r p (omega (arith, of, resolved_words names None index)) known)
+  stmt_within fs names (plain.called text args) p known =
       let n = length names.variables in
-      omega (arith, call_within n p (number_of text fs) (resolved_args names None args) None (omega arith) (resolved_args_words names None args))
-  stmt_within fs names (plain.sent core core_unsigned source target count) p =
+      omega (arith, call_within n p (number_of text fs) (resolved_args names None args) None (omega arith) (resolved_args_words names None args) known)
+  stmt_within fs names (plain.sent core core_unsigned source target count) p known =
       omega (arith, resolved_words names None source, resolved_words names None target, resolved_words names None count)
-  stmt_within fs names (plain.chosen arms otherwise) p =
+  stmt_within fs names (plain.chosen plain.no_arm otherwise) p known = let one = otherwise_within fs names otherwise p known in omega (arith, one)
+  stmt_within fs names (plain.chosen (plain.arm condition body arms) otherwise) p known =
       let n = length names.variables in
-      let bs = resolved_arms fs names arms in
+      let test = resolved names None condition in
+      let inside = resolved_block fs names body in
+      let others = resolved_arms fs names arms in
       let rest = resolved_otherwise fs names otherwise in
       let last = otherwise_within fs names otherwise in
       let room = otherwise_frame otherwise - (words rest - n) in
-      let chosen = arms_within fs names arms (is_no_action rest) (λ q. made q rest) (width.masks rest) room
-      (λ q. let one = last q in omega (arith, one)) p in
-      omega (arith, chosen, last p, choice_words bs rest, choice_masks bs rest, choice_levels p bs rest)
-  stmt_within fs names (plain.looped bound head body) p =
+      let chosen = arms_within fs names (plain.arm condition body arms) (is_no_action rest) (λ q. made None q rest) (width.masks rest) room
+      (λ q. let one = last q None in omega (arith, one)) p in
+      let one = last p None in
+      omega (
+        arith,
+        chosen,
+        one,
+        choice_words (branch test inside others) rest,
+        choice_masks (branch test inside others) rest,
+        choice_levels known p test inside others rest,
+      )
+  stmt_within fs names (plain.looped bound head body) p known =
       let n = length names.variables in
       let condition = resolved_condition names head in
       let inside = resolved_block fs names body in
@@ -270,24 +305,24 @@ mutual
       let loop = one (turns (most_turns bound) condition inside step) in
       let begin = begin_within names head p in
       let within = turns_within n (block_frame body) p (most_turns bound) condition inside step (condition_words names head)
-      (next_words names head) (block_within fs names body (in_loop p)) in
-      omega (arith, joined_within n n 0 (2 + block_frame body) first loop p (omega arith) (omega (arith, begin)) within)
-  stmt_within fs names plain.broken p = omega arith
-  stmt_within fs names plain.continued p = omega arith
-  stmt_within fs names (plain.returned None) p = omega (arith, return_within (length names.variables) p (constant 0) (omega arith))
-  stmt_within fs names (plain.returned (Some e)) p =
-      omega (arith, return_within (length names.variables) p (resolved names None e) (resolved_words names None e))
-  stmt_within fs names (plain.inner body) p = let within = block_within fs names body p in omega (arith, within)
+      (next_words names head) (λ q. block_within fs names body q) in
+      omega (arith, joined_within n n 0 (2 + block_frame body) first loop p (omega arith) (λ k. let one = begin k in omega (arith, one)) within known)
+  stmt_within fs names plain.broken p known = omega arith
+  stmt_within fs names plain.continued p known = omega arith
+  stmt_within fs names (plain.returned None) p known = omega (arith, return_within (length names.variables) p (constant 0) (omega arith) known)
+  stmt_within fs names (plain.returned (Some e)) p known =
+      omega (arith, return_within (length names.variables) p (resolved names None e) (resolved_words names None e) known)
+  stmt_within fs names (plain.inner body) p known = let within = block_within fs names body p known in omega (arith, within)
 
   block_within : (fs : List (List ℕ)) (names : Names) (body : PlainBlock) (p : PartWords)
       → Within (length names.variables) (resolved_block fs names body) p (block_frame body)
-  block_within fs names plain.no_stmt p = omega arith
-  block_within fs names (plain.stmt s rest) p =
+  block_within fs names plain.no_stmt p known = omega arith
+  block_within fs names (plain.stmt s rest) p known =
       let after = names_after names s in
       let first = resolved_stmt fs names s in
       let more = resolved_block fs after rest in
       joined_within (length names.variables) (length after.variables) (stmt_frame s) (block_frame rest) first more p (names_more names s)
-      (stmt_within fs names s p) (block_within fs after rest p)
+      (stmt_within fs names s p) (block_within fs after rest p) known
 
   -- arms before actions that have so many masks, and after which there is so much room
   arms_within : (fs : List (List ℕ)) (names : Names) (arms : PlainArms) (nothing : Bool) (otherwise : PartWords → PlainStmts) (inside room : ℕ)
@@ -297,9 +332,9 @@ mutual
   arms_within fs names plain.no_arm nothing otherwise inside room each p = omega (arith, each p)
   arms_within fs names (plain.arm condition body rest) nothing otherwise inside room each p =
       let others = resolved_arms fs names rest in
-      let first = block_within fs names body (in_arm p) in
+      let first = block_within fs names body (in_arm p) None in
       let more = arms_within fs names rest nothing otherwise inside room each (in_arm p) in
-      let arm = made (in_arm p) (resolved_block fs names body) in
+      let arm = made None (in_arm p) (resolved_block fs names body) in
       omega (
         arith,
         first,
@@ -310,20 +345,20 @@ mutual
 
   otherwise_within : (fs : List (List ℕ)) (names : Names) (otherwise : PlainOtherwise) (p : PartWords)
       → Within (length names.variables) (resolved_otherwise fs names otherwise) p (otherwise_frame otherwise)
-  otherwise_within fs names plain.no_else p = omega arith
-  otherwise_within fs names (plain.or_else body) p = block_within fs names body p
+  otherwise_within fs names plain.no_else p known = omega arith
+  otherwise_within fs names (plain.or_else body) p known = block_within fs names body p known
 
 -- ---- functions
 
 body_within : (fs : List (List ℕ)) (names : Names) (body : List PlainStmt) (p : PartWords)
     → Within (length names.variables) (resolved_body fs names body) p (body_frame body)
-body_within fs names [] p = omega arith
-body_within fs names (s ∷ rest) p =
+body_within fs names [] p known = omega arith
+body_within fs names (s ∷ rest) p known =
     let after = names_after names s in
     let first = resolved_stmt fs names s in
     let more = resolved_body fs after rest in
     let all = joined_within (length names.variables) (length after.variables) (stmt_frame s) (body_frame rest) first more p (names_more names s)
-    (stmt_within fs names s p) (body_within fs after rest p) in
+    (stmt_within fs names s p) (body_within fs after rest p) known in
     omega (arith, all, sum_by-cons stmt_frame s rest)
 
 pub frame_within : (fs : List (List ℕ)) (slots : List Slot) (parameters : List Parameter) (body : List PlainStmt)
@@ -332,4 +367,4 @@ pub frame_within : (fs : List (List ℕ)) (slots : List Slot) (parameters : List
 frame_within fs slots parameters body =
     let names : Names = record { slots = slots; variables = parameter_variables parameters } in
     let all = resolved_body fs names body in
-    omega (arith, body_within fs names body (outermost (variables (length parameters) all)), parameters_open parameters)
+    omega (arith, body_within fs names body (outermost (variables (length parameters) all)) None, parameters_open parameters)

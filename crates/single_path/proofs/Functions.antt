@@ -1,5 +1,5 @@
 -- Functions that are made: under the mask 1 they give what their actions give, and under another they change no memory.
-use Rattle.std.proofs.Common.{◌≡◌, ◌≢◌, ℕ, zero, suc, ◌+◌, ◌<◌, ◌≤◌, ◌==◌, Bool, true, false, if◌then◌else◌, List, [], ◌∷◌, length, slice_index, slice_index_or, refl, ap, sym, ◌∙◌, arith, eq-eqb, ne_eqb, true≢false, ◌⊎◌, inl, inr}
+use Rattle.std.proofs.Common.{◌≡◌, ◌≢◌, ℕ, zero, suc, ◌+◌, ◌<◌, ◌≤◌, ◌==◌, Bool, true, false, if◌then◌else◌, List, [], ◌∷◌, length, slice_index, slice_index_or, refl, ap, sym, ◌∙◌, arith, eq-eqb, ne_eqb, true≢false, ◌⊎◌, inl, inr, None}
 use Rattle.std.proofs.lemmas.Bool.{cases_lt}
 use Rattle.tc_word.proofs.Items.{past_all}
 use Rattle.c_world.specs.Numbers.{flag}
@@ -75,7 +75,7 @@ function_quiet : (g : Serves) → Quiet g → (parameters : ℕ) (body : PlainAc
     → (function_given g (made_function parameters body) under args w).world ≡ w
 function_quiet g quiet parameters body under args w other =
     let n = variables parameters body in
-    (dead g quiet n body (outermost n) (masked_state parameters body under args w) (outermost_order n)
+    (dead g quiet n body None (outermost n) (masked_state parameters body under args w) (outermost_order n)
     (other_dead parameters body under args w other)).world
 
 -- and of its frame it changes masks alone
@@ -86,7 +86,7 @@ function_stands : (g : Serves) → Quiet g → (parameters : ℕ) (body : PlainA
 function_stands g quiet parameters body under args w x other within =
     let n = variables parameters body in
     let s = masked_state parameters body under args w in
-    (dead g quiet n body (outermost n) s (outermost_order n) (other_dead parameters body under args w other)).frame x (omega (arith, within))
+    (dead g quiet n body None (outermost n) s (outermost_order n) (other_dead parameters body under args w other)).frame x (omega (arith, within))
     ∙ put_there (n + 1) (worth (begun_mask (outermost n)) (begun_state parameters body under args w)) x (begun_frame (made_function parameters body) under args)
     (omega (arith, within))
 
@@ -94,14 +94,14 @@ function_serves : (Fit : ℕ → ℕ → Type 0) (gc : resolved.Serves) (g : Ser
     → Fits Fit false body → length args ≡ parameters
     → let n = variables parameters body in
     Went n (outermost n) (masked_state parameters body 1 args w) (resolved.actions_done gc body (record { locals = slice_index args; world = w }))
-    (stmts_done g (made (outermost n) body) (masked_state parameters body 1 args w))
+    (stmts_done g (made None (outermost n) body) (masked_state parameters body 1 args w))
 function_serves Fit gc g serving parameters body args w fits count =
     let n = variables parameters body in
     let p = outermost n in
     let s = masked_state parameters body 1 args w in
     let word = mask_word parameters body 1 args w in
-    live_all Fit gc g serving n body false p s (record { locals = slice_index args; world = w }) (outermost_order n) (λ e. absurd (true≢false (sym e)))
-    (omega arith) fits
+    live_all Fit gc g serving n body false None p s (record { locals = slice_index args; world = w }) (outermost_order n) (λ e. absurd (true≢false (sym e)))
+    (omega arith) fits tt
     (record {
       own = word;
       loop = word;
@@ -142,7 +142,7 @@ next_serves counts n body f gc g is fits serving = record {
     went : (args : List ℕ) (w : World) → length args ≡ slice_index counts n
         → let m = variables (slice_index counts n) body in
         Went m (outermost m) (masked_state (slice_index counts n) body 1 args w) (resolved.actions_done gc body (record { locals = slice_index args; world = w }))
-        (stmts_done g (made (outermost m) body) (masked_state (slice_index counts n) body 1 args w))
+        (stmts_done g (made None (outermost m) body) (masked_state (slice_index counts n) body 1 args w))
     went args w count = function_serves (Callable counts n) gc g serving (slice_index counts n) body args w fits count
 
     value_here : (args : List ℕ) (w : World) → length args ≡ slice_index counts n
@@ -220,7 +220,7 @@ function_rests : (g : Serves) → Quiet g → (parameters : ℕ) (body : PlainAc
     → AllRest g (made_function parameters body).body (begun_state parameters body under args w)
 function_rests g quiet parameters body under args w other =
     let n = variables parameters body in
-    (tt, actions_rest g quiet n body (outermost n) (masked_state parameters body under args w) (outermost_order n) (other_dead parameters body under args w other))
+    (tt, actions_rest g quiet n body None (outermost n) (masked_state parameters body under args w) (outermost_order n) (other_dead parameters body under args w other))
 
 pub made_rests : (g : Serves) → Quiet g → (counts : List ℕ) (bodies : List PlainActions) (k under : ℕ) (args : List ℕ) (w : World) → under ≢ 1
     → let f = slice_index_or (made_functions counts bodies) k no_function in AllRest g f.body (record { frame = begun_frame f under args; world = w })

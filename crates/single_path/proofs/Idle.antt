@@ -11,10 +11,12 @@ use Rattle.sp_tree.proofs.Joins.{joined_done}
 use Rattle.sp_tree.proofs.Masks.{write_off, send_off, overrun_off, call_off}
 use Rattle.c_meaning.specs.Actions.{PlainTarget, to_level, PlainAssignment, PlainAction, sets, calls, transfers, chooses, turns, breaks, continues, returns, PlainActions, no_action, action, PlainBranches, no_branch, branch}
 use Rattle.c_meaning.specs.Actions as actions
+use Rattle.single_path.specs.declared.counted.Start.{Start}
 use Rattle.single_path.specs.declared.part_words.PartWords.{PartWords}
 use Rattle.single_path.specs.PartWords.{in_arm, in_loop, truth, where_so, where_not_taken, where_other, where_not_returned, bit_of, not_zero, broken, continued, returned_function, returned_loop}
 use Rattle.single_path.specs.PartWords as mask
-use Rattle.single_path.specs.Made.{made, made_action, made_branches, made_target, made_assignment, made_step, made_return, made_result, made_arm, made_otherwise, made_on, made_after, made_behind, made_again, made_turn, made_loop, any_exit, by_continue, by_return, actions_exit, branches_exit, is_zero, is_no_branch, is_no_action, ends}
+use Rattle.single_path.specs.Counted.{start_of}
+use Rattle.single_path.specs.Made.{made, made_action, made_branches, made_target, made_assignment, made_step, made_return, made_result, made_arm, made_otherwise, made_on, made_after, made_behind, made_again, made_turn, made_loop, is_counted, made_counted, any_exit, by_continue, by_return, actions_exit, branches_exit, is_zero, is_no_branch, is_no_action, ends}
 use Rattle.single_path.proofs.Truths.{truth_worth}
 use Rattle.single_path.proofs.Frames.{put_here, Order, Still, still_here, still_on, fewer, set_behind, set_same, turns_still}
 
@@ -384,6 +386,26 @@ loop_still g n p (suc k) condition returned exits body step o each s d =
     let so_far = still_on p.free s t v begun (flagged_still g n p condition exits body step o each (suc k) t left_there) in
     still_on p.free s v (stmts_done g (made_behind p returned) v) so_far (masked_still g n p returned v o (still_dead n p s v o so_far d))
 
+-- turns under the mask of the part
+pub counted_still : (g : Serves) (n : ℕ) (p : PartWords) (body : PlainStmts) (step : Option PlainAssignment) → Order n p
+    → ((t : State) → Dead p t → Still p.free t (stmts_done g body t)) → (k : ℕ) (s : State) → Dead p s
+    → Still p.free s (times k (stmts_done g (joined body (made_step p.own step))) s)
+counted_still g n p body step o each k s d = turns_still p.free turn (Dead p) still (λ t h. still_dead n p t (turn t) o (still t h) h) k s d
+  where
+    turn : State → State
+    turn = stmts_done g (joined body (made_step p.own step))
+
+    still : (t : State) → Dead p t → Still p.free t (turn t)
+    still t h =
+        let u = stmts_done g body t in
+        joined_still g p.free body (made_step p.own step) t (each t h)
+        (step_still g p.free p.own step u (off p u (still_dead n p t u o (each t h) h)))
+
+either_still : (g : Serves) (n : ℕ) (b : Bool) (xs ys : PlainStmts) (s : State) → Still n s (stmts_done g xs s) → Still n s (stmts_done g ys s)
+    → Still n s (stmts_done g (if b then xs else ys) s)
+either_still g n true xs ys s h k = h
+either_still g n false xs ys s h k = k
+
 -- ---- arms
 
 -- the mask of an arm, as it begins and after `else`
@@ -439,50 +461,50 @@ arm_still g n p condition arm exits nothing rest o inside behind s d =
 -- ---- all actions
 
 mutual
-  pub dead_action : (g : Serves) → Quiet g → (n : ℕ) (a : PlainAction) (p : PartWords) (s : State) → Order n p → Dead p s
-      → Still p.free s (stmts_done g (made_action p a) s)
-  dead_action g quiet n (sets a) p s o d =
+  pub dead_action : (g : Serves) → Quiet g → (n : ℕ) (a : PlainAction) (known : Option Start) (p : PartWords) (s : State) → Order n p → Dead p s
+      → Still p.free s (stmts_done g (made_action known p a) s)
+  dead_action g quiet n (sets a) known p s o d =
       same_still p.free s (stmt_done g (made_assignment p.own a) s) (write_off g p.own (made_target a.target) a.value s (off p s d))
-  dead_action g quiet n (calls k args None) p s o d = call_still g quiet p.free p.own k args None s (off p s d)
-  dead_action g quiet n (calls k args (Some (to_level at))) p s o d = call_still g quiet p.free p.own k args (Some at) s (off p s d)
-  dead_action g quiet n (calls k args (Some (actions.to_cell cell))) p s o d =
+  dead_action g quiet n (calls k args None) known p s o d = call_still g quiet p.free p.own k args None s (off p s d)
+  dead_action g quiet n (calls k args (Some (to_level at))) known p s o d = call_still g quiet p.free p.own k args (Some at) s (off p s d)
+  dead_action g quiet n (calls k args (Some (actions.to_cell cell))) known p s o d =
       given_still g quiet p.free p k args (tree.to_cell cell) s o.free (off p s d)
-  dead_action g quiet n (calls k args (Some (actions.to_array array index))) p s o d =
+  dead_action g quiet n (calls k args (Some (actions.to_array array index))) known p s o d =
       given_still g quiet p.free p k args (tree.to_array array index) s o.free (off p s d)
-  dead_action g quiet n (transfers core source target count) p s o d =
+  dead_action g quiet n (transfers core source target count) known p s o d =
       same_still p.free s (stmt_done g (tree.transfers p.own core source target count) s) (send_off g p.own core source target count s (off p s d))
-  dead_action g quiet n (chooses branches otherwise) p s o d =
-      let arms = made_branches p branches (is_no_action otherwise) (λ q. made q otherwise) in
-      let chosen = dead_branches g quiet n branches (is_no_action otherwise) (λ q. made q otherwise) (λ q t. dead g quiet n otherwise q t) p s o d in
+  dead_action g quiet n (chooses branches otherwise) known p s o d =
+      let arms = made_branches p branches (is_no_action otherwise) (λ q. made None q otherwise) in
+      let chosen = dead_branches g quiet n branches (is_no_action otherwise) (λ q. made None q otherwise) (λ q t. dead g quiet n otherwise None q t) p s o d in
       let exits = branches_exit any_exit branches || actions_exit any_exit otherwise in
       joined_still g p.free arms (made_after p exits) s chosen
       (after_still g p exits (stmts_done g arms s) (still_dead n p s (stmts_done g arms s) o chosen d))
-  dead_action g quiet n (turns most condition body step) p s o d =
-      loop_still g n p most condition (actions_exit by_return body) (actions_exit by_continue body) (made (in_loop p) body) step o (λ t. dead g quiet n body (in_loop p) t (order_loop n p o)) s d
-  dead_action g quiet n breaks p s o d = set_same p.free p.turn (worth (broken p) s) s
+  dead_action g quiet n (turns most condition body step) known p s o d =
+      either_still g p.free (is_counted known most condition body step) (made_counted p most (made None p body) step)
+      (made_loop p most condition (actions_exit by_return body) (made_turn p condition (actions_exit by_continue body) (made None (in_loop p) body) step)) s
+      (counted_still g n p (made None p body) step o (λ t. dead g quiet n body None p t o) most s d)
+      (loop_still g n p most condition (actions_exit by_return body) (actions_exit by_continue body) (made None (in_loop p) body) step o
+      (λ t. dead g quiet n body None (in_loop p) t (order_loop n p o)) s d)
+  dead_action g quiet n breaks known p s o d = set_same p.free p.turn (worth (broken p) s) s
       (ap₂ (λ b a. difference_of b (bit_and a 1)) d.loop d.own ∙ idle_broken d.own_word d.loop_word d.function_word d.idle ∙ sym d.loop)
-  dead_action g quiet n continues p s o d = set_same p.free p.turn (worth (continued p) s) s
+  dead_action g quiet n continues known p s o d = set_same p.free p.turn (worth (continued p) s) s
       (ap₂ (λ b a. sum_of b (bit_and a 1)) d.loop d.own ∙ idle_continued d.own_word d.loop_word d.function_word d.idle ∙ sym d.loop)
-  dead_action g quiet n (returns e) p s o d = return_still g n p e s o d
+  dead_action g quiet n (returns e) known p s o d = return_still g n p e s o d
 
-  pub dead : (g : Serves) → Quiet g → (n : ℕ) (all : PlainActions) (p : PartWords) (s : State) → Order n p → Dead p s → Still p.free s (stmts_done g (made p all) s)
-  dead g quiet n no_action p s o d = still_here p.free s
-  dead g quiet n (action a rest) p s o d =
-      let first = dead_action g quiet n a p s o d in
-      let t = stmts_done g (made_action p a) s in
-      joined_still g p.free (made_action p a) (if ends a then no_stmt else made p rest) s first
-      (by (ends a) t (dead g quiet n rest p t o (still_dead n p s t o first d)))
-    where
-      by : (ended : Bool) (t : State) → Still p.free t (stmts_done g (made p rest) t)
-          → Still p.free t (stmts_done g (if ended then no_stmt else made p rest) t)
-      by true t h = still_here p.free t
-      by false t h = h
+  pub dead : (g : Serves) → Quiet g → (n : ℕ) (all : PlainActions) (known : Option Start) (p : PartWords) (s : State) → Order n p → Dead p s
+      → Still p.free s (stmts_done g (made known p all) s)
+  dead g quiet n no_action known p s o d = still_here p.free s
+  dead g quiet n (action a rest) known p s o d =
+      let first = dead_action g quiet n a known p s o d in
+      let t = stmts_done g (made_action known p a) s in
+      joined_still g p.free (made_action known p a) (if ends a then no_stmt else made (start_of a) p rest) s first
+      (either_still g p.free (ends a) no_stmt (made (start_of a) p rest) t (still_here p.free t) (dead g quiet n rest (start_of a) p t o (still_dead n p s t o first d)))
 
   pub dead_branches : (g : Serves) → Quiet g → (n : ℕ) (bs : PlainBranches) (nothing : Bool) (otherwise : PartWords → PlainStmts)
       → ((q : PartWords) (t : State) → Order n q → Dead q t → Still q.free t (stmts_done g (otherwise q) t))
       → (p : PartWords) (s : State) → Order n p → Dead p s → Still p.free s (stmts_done g (made_branches p bs nothing otherwise) s)
   dead_branches g quiet n no_branch nothing otherwise each p s o d = each p s o d
   dead_branches g quiet n (branch condition body rest) nothing otherwise each p s o d =
-      arm_still g n p condition (made (in_arm p) body) (actions_exit any_exit body) (is_no_branch rest && nothing) (made_branches (in_arm p) rest nothing otherwise) o
-      (λ t. dead g quiet n body (in_arm p) t (order_arm n p o))
+      arm_still g n p condition (made None (in_arm p) body) (actions_exit any_exit body) (is_no_branch rest && nothing) (made_branches (in_arm p) rest nothing otherwise) o
+      (λ t. dead g quiet n body None (in_arm p) t (order_arm n p o))
       (λ t. dead_branches g quiet n rest nothing otherwise each (in_arm p) t (order_arm n p o)) s d

@@ -1,5 +1,5 @@
 -- Ways on that are taken, and the masks that are repaired after arms and loops.
-use Rattle.std.proofs.Common.{◌≡◌, ◌≢◌, ℕ, ◌<◌, ◌≤◌, ◌==◌, Bool, true, false, if◌then◌else◌, refl, ap, sym, ◌∙◌, arith, eq-eqb, eqb-true, ap₂, subst, true≢false, ◌⊎◌, inl, inr}
+use Rattle.std.proofs.Common.{◌≡◌, ◌≢◌, ℕ, ◌<◌, ◌≤◌, ◌==◌, Bool, true, false, if◌then◌else◌, refl, ap, sym, ◌∙◌, arith, eq-eqb, eqb-true, ap₂, subst, true≢false, ◌⊎◌, inl, inr, None}
 use Rattle.std.specs.Prelude.{bit_and}
 use Rattle.c_world.specs.Numbers.{sum_of, difference_of}
 use Rattle.sp_tree.specs.Plain.{PlainSp, constant, frame_word, cell_word, array_word, before_one, between_two}
@@ -42,7 +42,7 @@ loop_set n p v w s l o nested live h is function value = record {
 }
 
 pub broken_acted : (gc : resolved.Serves) (g : Serves) (n : ℕ) (p : PartWords) (s : State) (l : values.State) → Order n p → p.function < p.turn → Live p s → Agrees n s l
-    → Acted breaks n p s (resolved.action_done gc breaks l) (stmts_done g (made_action p breaks) s)
+    → Acted breaks n p s (resolved.action_done gc breaks l) (stmts_done g (made_action None p breaks) s)
 broken_acted gc g n p s l o nested live h = record {
   went = loop_set n p (worth (broken p) s) way.Broken s l o nested live h (ap₂ (λ b a. difference_of b (bit_and a 1)) live.loop live.own) refl refl;
   ended = λ is other. absurd (cc);
@@ -50,7 +50,7 @@ broken_acted gc g n p s l o nested live h = record {
 }
 
 pub continued_acted : (gc : resolved.Serves) (g : Serves) (n : ℕ) (p : PartWords) (s : State) (l : values.State) → Order n p → p.function < p.turn → Live p s → Agrees n s l
-    → Acted continues n p s (resolved.action_done gc continues l) (stmts_done g (made_action p continues) s)
+    → Acted continues n p s (resolved.action_done gc continues l) (stmts_done g (made_action None p continues) s)
 continued_acted gc g n p s l o nested live h = record {
   went = loop_set n p (worth (continued p) s) way.Continued s l o nested live h (ap₂ (λ b a. sum_of b (bit_and a 1)) live.loop live.own) refl refl;
   ended = λ is other. absurd (cc);
@@ -150,7 +150,7 @@ returned_went g n p v outside s t l is o live r = by outside is
         }
 
 pub returned_acted : (gc : resolved.Serves) (g : Serves) (n : ℕ) (p : PartWords) (e : PlainSp) (s : State) (l : values.State) → Order n p → Live p s → Agrees n s l
-    → expr_words e ≤ n → Acted (returns e) n p s (resolved.action_done gc (returns e) l) (stmts_done g (made_action p (returns e)) s)
+    → expr_words e ≤ n → Acted (returns e) n p s (resolved.action_done gc (returns e) l) (stmts_done g (made_action None p (returns e)) s)
 returned_acted gc g n p e s l o live h within =
     let t = stmts_done g (made_result p e) s in
     let rest = stmt (masks p.function (returned_function p)) (if p.function == p.turn then no_stmt else one (masks p.turn (returned_loop p))) in

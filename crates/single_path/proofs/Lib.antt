@@ -4,12 +4,14 @@ pub mod Exiting
 pub mod Idle
 pub mod Resting
 pub mod Fits
+pub mod Keeping
 pub mod Agreeing
 pub mod Ways
 pub mod Calling
 pub mod Leaving
 pub mod Arming
 pub mod Looping
+pub mod Counting
 pub mod Acting
 pub mod Functions
 pub mod Valid

@@ -9,13 +9,15 @@ use Rattle.sp_tree.specs.Straight.{State, Serves, with_slot, worth, times, stmt_
 use Rattle.sp_tree.proofs.Masks.{write_off, send_off, overrun_off, call_off}
 use Rattle.c_meaning.specs.Actions.{to_level, PlainAssignment, PlainAction, PlainActions, no_action, action, PlainBranches, no_branch, branch}
 use Rattle.c_meaning.specs.Actions as actions
+use Rattle.single_path.specs.declared.counted.Start.{Start}
 use Rattle.single_path.specs.declared.part_words.PartWords.{PartWords}
 use Rattle.single_path.specs.PartWords.{in_arm, in_loop, where_so, where_not_taken, where_other, bit_of, not_zero, where_not_returned, returned_function, returned_loop}
 use Rattle.single_path.specs.PartWords as mask
-use Rattle.single_path.specs.Made.{made, made_action, made_branches, made_step, made_result, made_return, made_arm, made_otherwise, made_on, made_after, made_behind, made_again, made_turn, made_loop, any_exit, by_continue, by_return, actions_exit, branches_exit, is_zero, is_no_branch, is_no_action, ends}
+use Rattle.single_path.specs.Counted.{start_of}
+use Rattle.single_path.specs.Made.{made, made_action, made_branches, made_step, made_result, made_return, made_arm, made_otherwise, made_on, made_after, made_behind, made_again, made_turn, made_loop, is_counted, made_counted, any_exit, by_continue, by_return, actions_exit, branches_exit, is_zero, is_no_branch, is_no_action, ends}
 use Rattle.single_path.specs.Masked.{stmt_masks, stmts_mask}
 use Rattle.single_path.proofs.Frames.{put_there, Order, Still, fewer, set_behind}
-use Rattle.single_path.proofs.Idle.{Quiet, Dead, Left, still_dead, dead_arm, order_arm, order_loop, off, call_still, left_on, left_off, again_still, tested_still, turns_left, loop_left, arm_off, not_taken_still, dead_action, dead}
+use Rattle.single_path.proofs.Idle.{Quiet, Dead, Left, still_dead, dead_arm, order_arm, order_loop, off, call_still, left_on, left_off, again_still, tested_still, turns_left, counted_still, loop_left, arm_off, not_taken_still, dead_action, dead}
 
 -- ---- statements under masks that are not 1
 
@@ -147,6 +149,23 @@ loop_rests g n p (suc k) condition returned exits body step o still each s d =
       ),
     )
 
+counted_rests : (g : Serves) (n : ℕ) (p : PartWords) (most : ℕ) (body : PlainStmts) (step : Option PlainAssignment) → Order n p
+    → ((t : State) → Dead p t → Still p.free t (stmts_done g body t)) → ((t : State) → Dead p t → AllRest g body t)
+    → (s : State) → Dead p s → AllRest g (made_counted p most body step) s
+counted_rests g n p most body step o still each s d = ((λ k. turn (times k (stmts_done g (joined body (made_step p.own step))) s) (dead_there k)), tt)
+  where
+    dead_there : (k : ℕ) → Dead p (times k (stmts_done g (joined body (made_step p.own step))) s)
+    dead_there k = still_dead n p s (times k (stmts_done g (joined body (made_step p.own step))) s) o (counted_still g n p body step o still k s d) d
+
+    turn : (t : State) → Dead p t → AllRest g (joined body (made_step p.own step)) t
+    turn t h =
+        let u = stmts_done g body t in
+        joined_rest g body (made_step p.own step) t (each t h) (step_rests g p.own step u (off p u (still_dead n p t u o (still t h) h)))
+
+either_rest : (g : Serves) (b : Bool) (xs ys : PlainStmts) (s : State) → AllRest g xs s → AllRest g ys s → AllRest g (if b then xs else ys) s
+either_rest g true xs ys s h k = h
+either_rest g false xs ys s h k = k
+
 -- ---- arms
 
 otherwise_rests : (g : Serves) (n : ℕ) (p : PartWords) (exits nothing : Bool) (rest : PlainStmts) → Order n p → ((t : State) → Dead (in_arm p) t → AllRest g rest t)
@@ -177,43 +196,43 @@ arm_rests g n p condition arm exits nothing rest o still inside behind s d =
 -- ---- all actions
 
 mutual
-  action_rests : (g : Serves) → Quiet g → (n : ℕ) (a : PlainAction) (p : PartWords) (s : State) → Order n p → Dead p s → AllRest g (made_action p a) s
-  action_rests g quiet n (actions.sets a) p s o d = (off p s d, tt)
-  action_rests g quiet n (actions.calls k args None) p s o d = (off p s d, tt)
-  action_rests g quiet n (actions.calls k args (Some (to_level at))) p s o d = (off p s d, tt)
-  action_rests g quiet n (actions.calls k args (Some (actions.to_cell cell))) p s o d = given_rests g quiet p k args (tree.to_cell cell) s n o d
-  action_rests g quiet n (actions.calls k args (Some (actions.to_array array index))) p s o d =
+  action_rests : (g : Serves) → Quiet g → (n : ℕ) (a : PlainAction) (known : Option Start) (p : PartWords) (s : State) → Order n p → Dead p s → AllRest g (made_action known p a) s
+  action_rests g quiet n (actions.sets a) known p s o d = (off p s d, tt)
+  action_rests g quiet n (actions.calls k args None) known p s o d = (off p s d, tt)
+  action_rests g quiet n (actions.calls k args (Some (to_level at))) known p s o d = (off p s d, tt)
+  action_rests g quiet n (actions.calls k args (Some (actions.to_cell cell))) known p s o d = given_rests g quiet p k args (tree.to_cell cell) s n o d
+  action_rests g quiet n (actions.calls k args (Some (actions.to_array array index))) known p s o d =
       given_rests g quiet p k args (tree.to_array array index) s n o d
-  action_rests g quiet n (actions.transfers core source target count) p s o d = (off p s d, tt)
-  action_rests g quiet n (actions.chooses branches otherwise) p s o d =
-      joined_rest g (made_branches p branches (is_no_action otherwise) (λ q. made q otherwise))
+  action_rests g quiet n (actions.transfers core source target count) known p s o d = (off p s d, tt)
+  action_rests g quiet n (actions.chooses branches otherwise) known p s o d =
+      joined_rest g (made_branches p branches (is_no_action otherwise) (λ q. made None q otherwise))
       (made_after p (branches_exit any_exit branches || actions_exit any_exit otherwise)) s
-      (branches_rest g quiet n branches (is_no_action otherwise) (λ q. made q otherwise) (λ q t. actions_rest g quiet n otherwise q t) p s o d)
+      (branches_rest g quiet n branches (is_no_action otherwise) (λ q. made None q otherwise) (λ q t. actions_rest g quiet n otherwise None q t) p s o d)
       (after_rests g p (branches_exit any_exit branches || actions_exit any_exit otherwise)
-      (stmts_done g (made_branches p branches (is_no_action otherwise) (λ q. made q otherwise)) s))
-  action_rests g quiet n (actions.turns most condition body step) p s o d =
-      loop_rests g n p most condition (actions_exit by_return body) (actions_exit by_continue body) (made (in_loop p) body) step o (λ t. dead g quiet n body (in_loop p) t (order_loop n p o))
-      (λ t. actions_rest g quiet n body (in_loop p) t (order_loop n p o)) s d
-  action_rests g quiet n actions.breaks p s o d = (tt, tt)
-  action_rests g quiet n actions.continues p s o d = (tt, tt)
-  action_rests g quiet n (actions.returns e) p s o d = return_rests g p e s d
+      (stmts_done g (made_branches p branches (is_no_action otherwise) (λ q. made None q otherwise)) s))
+  action_rests g quiet n (actions.turns most condition body step) known p s o d =
+      either_rest g (is_counted known most condition body step) (made_counted p most (made None p body) step)
+      (made_loop p most condition (actions_exit by_return body) (made_turn p condition (actions_exit by_continue body) (made None (in_loop p) body) step)) s
+      (counted_rests g n p most (made None p body) step o (λ t. dead g quiet n body None p t o) (λ t. actions_rest g quiet n body None p t o) s d)
+      (loop_rests g n p most condition (actions_exit by_return body) (actions_exit by_continue body) (made None (in_loop p) body) step o
+      (λ t. dead g quiet n body None (in_loop p) t (order_loop n p o)) (λ t. actions_rest g quiet n body None (in_loop p) t (order_loop n p o)) s d)
+  action_rests g quiet n actions.breaks known p s o d = (tt, tt)
+  action_rests g quiet n actions.continues known p s o d = (tt, tt)
+  action_rests g quiet n (actions.returns e) known p s o d = return_rests g p e s d
 
-  pub actions_rest : (g : Serves) → Quiet g → (n : ℕ) (all : PlainActions) (p : PartWords) (s : State) → Order n p → Dead p s → AllRest g (made p all) s
-  actions_rest g quiet n no_action p s o d = tt
-  actions_rest g quiet n (action a rest) p s o d =
-      let t = stmts_done g (made_action p a) s in
-      joined_rest g (made_action p a) (if ends a then no_stmt else made p rest) s (action_rests g quiet n a p s o d)
-      (by (ends a) t (actions_rest g quiet n rest p t o (still_dead n p s t o (dead_action g quiet n a p s o d) d)))
-    where
-      by : (ended : Bool) (t : State) → AllRest g (made p rest) t → AllRest g (if ended then no_stmt else made p rest) t
-      by true t h = tt
-      by false t h = h
+  pub actions_rest : (g : Serves) → Quiet g → (n : ℕ) (all : PlainActions) (known : Option Start) (p : PartWords) (s : State) → Order n p → Dead p s → AllRest g (made known p all) s
+  actions_rest g quiet n no_action known p s o d = tt
+  actions_rest g quiet n (action a rest) known p s o d =
+      let t = stmts_done g (made_action known p a) s in
+      joined_rest g (made_action known p a) (if ends a then no_stmt else made (start_of a) p rest) s (action_rests g quiet n a known p s o d)
+      (either_rest g (ends a) no_stmt (made (start_of a) p rest) t tt
+      (actions_rest g quiet n rest (start_of a) p t o (still_dead n p s t o (dead_action g quiet n a known p s o d) d)))
 
   branches_rest : (g : Serves) → Quiet g → (n : ℕ) (bs : PlainBranches) (nothing : Bool) (otherwise : PartWords → PlainStmts)
       → ((q : PartWords) (t : State) → Order n q → Dead q t → AllRest g (otherwise q) t)
       → (p : PartWords) (s : State) → Order n p → Dead p s → AllRest g (made_branches p bs nothing otherwise) s
   branches_rest g quiet n no_branch nothing otherwise each p s o d = each p s o d
   branches_rest g quiet n (branch condition body rest) nothing otherwise each p s o d =
-      arm_rests g n p condition (made (in_arm p) body) (actions_exit any_exit body) (is_no_branch rest && nothing) (made_branches (in_arm p) rest nothing otherwise) o
-      (λ t. dead g quiet n body (in_arm p) t (order_arm n p o)) (λ t. actions_rest g quiet n body (in_arm p) t (order_arm n p o))
+      arm_rests g n p condition (made None (in_arm p) body) (actions_exit any_exit body) (is_no_branch rest && nothing) (made_branches (in_arm p) rest nothing otherwise) o
+      (λ t. dead g quiet n body None (in_arm p) t (order_arm n p o)) (λ t. actions_rest g quiet n body None (in_arm p) t (order_arm n p o))
       (λ t. branches_rest g quiet n rest nothing otherwise each (in_arm p) t (order_arm n p o)) s d

@@ -89,18 +89,32 @@ went_on n p s l t d u h k = record {
   others = λ x behind below r f q w. k.others x behind below r f q w ∙ h.others x behind below r f q w;
 }
 
+pub went_here : (n : ℕ) (p : PartWords) (s : State) (l : values.State) → Live p s → Agrees n s l → Went n p s (goes_on l) s
+went_here n p s l live h = record {
+  same = h;
+  result = live.result;
+  function = live.function;
+  loop = live.loop;
+  own = λ apart. inl live.own;
+  others = λ x behind below r f q w. refl;
+}
+
 -- words below the first free one are set, and no mask
+pub low_went : (n : ℕ) (p : PartWords) (s t : State) (l : values.State) → Order n p → Live p s → Agrees n t l
+    → ((x : ℕ) → n ≤ x → x < p.free → t.frame x ≡ s.frame x) → Went n p s (goes_on l) t
+low_went n p s t l o live agrees others = record {
+  same = agrees;
+  result = others p.result o.result (omega (arith, o.function, o.loop, o.own, o.free)) ∙ live.result;
+  function = others p.function (omega (arith, o.result, o.function)) (omega (arith, o.loop, o.own, o.free)) ∙ live.function;
+  loop = others p.turn (omega (arith, o.result, o.function, o.loop)) (omega (arith, o.own, o.free)) ∙ live.loop;
+  own = λ apart. inl (others p.own (omega (arith, o.result, o.function, o.loop, o.own)) o.free ∙ live.own);
+  others = λ x behind below r f q w. others x behind below;
+}
+
 pub low_acted : (a : PlainAction) (n : ℕ) (p : PartWords) (s t : State) (l : values.State) → ends a ≡ false → Order n p → Live p s → Agrees n t l
     → ((x : ℕ) → n ≤ x → x < p.free → t.frame x ≡ s.frame x) → Acted a n p s (goes_on l) t
 low_acted a n p s t l stays o live agrees others = record {
-  went = record {
-    same = agrees;
-    result = others p.result o.result (omega (arith, o.function, o.loop, o.own, o.free)) ∙ live.result;
-    function = others p.function (omega (arith, o.result, o.function)) (omega (arith, o.loop, o.own, o.free)) ∙ live.function;
-    loop = others p.turn (omega (arith, o.result, o.function, o.loop)) (omega (arith, o.own, o.free)) ∙ live.loop;
-    own = λ apart. inl (others p.own (omega (arith, o.result, o.function, o.loop, o.own)) o.free ∙ live.own);
-    others = λ x behind below r f q w. others x behind below;
-  };
+  went = low_went n p s t l o live agrees others;
   ended = λ is. absurd (true≢false (sym is ∙ stays));
   idle = λ is other. absurd (other refl);
 }

@@ -1,4 +1,5 @@
 pub mod PartWords
+pub mod Counted
 pub mod Made
 pub mod Widths
 pub mod Single

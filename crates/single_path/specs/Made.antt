@@ -1,13 +1,15 @@
 -- To be believed. The single-path statements that are made of actions (Puschner's single-path transformation):
 -- branches become masks, and each loop makes all its turns.
-use Rattle.std.specs.Prelude.{ℕ, zero, suc, ◌==◌, Bool, true, false, if◌then◌else◌, ◌&&◌, ◌||◌, List, Option, None, Some}
+use Rattle.std.specs.Prelude.{ℕ, zero, suc, ◌==◌, Bool, true, false, not, if◌then◌else◌, ◌&&◌, ◌||◌, List, Option, None, Some}
 use Rattle.sp_tree.specs.Plain.{PlainSp, constant, frame_word}
 use Rattle.sp_tree.specs.Statements.{PlainSpTarget, to_slot, PlainStmt, masks, writes, overruns, PlainStmts, no_stmt, stmt, one, joined}
 use Rattle.sp_tree.specs.Statements as tree
 use Rattle.c_meaning.specs.Actions.{PlainTarget, to_level, PlainAssignment, PlainAction, sets, calls, transfers, chooses, turns, breaks, continues, returns, PlainActions, no_action, action, PlainBranches, no_branch, branch}
 use Rattle.c_meaning.specs.Actions as actions
+use Rattle.single_path.specs.declared.counted.Start.{Start}
 use Rattle.single_path.specs.declared.exits.Exits.{Exits}
 use Rattle.single_path.specs.declared.part_words.PartWords.{PartWords}
+use Rattle.single_path.specs.Counted.{start_of, actions_set, limit_of, more_by, counts}
 use Rattle.single_path.specs.PartWords.{in_arm, in_loop, where_so, where_not_taken, where_other, where_on, where_not_returned, bit_of, not_zero, broken, continued, returned_function, returned_loop}
 
 -- ---- what is set
@@ -141,30 +143,43 @@ made_loop p (suc n) condition exits turn =
     stmt (masks p.free (bit_of p.own))
     (stmt (tree.turns (suc n) turn) (stmt (overruns p.free condition) (made_behind p exits)))
 
--- ---- all actions
+-- A loop that counts makes exactly the turns of its bound: what stood right before it began its variable, its body does
+-- not set the variable, and always goes on to its end
+abbrev pub is_counted : Option Start → ℕ → PlainSp → PlainActions → Option PlainAssignment → Bool
+is_counted None most condition body step = false
+is_counted (Some s) most condition body step =
+    counts s.value (more_by s.level step) (limit_of s.level condition) most
+    && (not (actions_set s.level body) && not (actions_exit any_exit body))
+
+-- so it needs no condition, no mask and no flag
+abbrev pub made_counted : PartWords → ℕ → PlainStmts → Option PlainAssignment → PlainStmts
+made_counted p most body step = one (tree.turns most (joined body (made_step p.own step)))
+
+-- ---- all actions, by what is known right before them
 
 abbrev mutual
-  pub made_action : PartWords → PlainAction → PlainStmts
-  made_action p (sets a) = one (made_assignment p.own a)
-  made_action p (calls k args result) = made_call p k args result
-  made_action p (transfers core source target count) = one (tree.transfers p.own core source target count)
-  made_action p (chooses branches otherwise) =
-      joined (made_branches p branches (is_no_action otherwise) (λ q. made q otherwise))
+  pub made_action : Option Start → PartWords → PlainAction → PlainStmts
+  made_action known p (sets a) = one (made_assignment p.own a)
+  made_action known p (calls k args result) = made_call p k args result
+  made_action known p (transfers core source target count) = one (tree.transfers p.own core source target count)
+  made_action known p (chooses branches otherwise) =
+      joined (made_branches p branches (is_no_action otherwise) (λ q. made None q otherwise))
       (made_after p (branches_exit any_exit branches || actions_exit any_exit otherwise))
-  made_action p (turns most condition body step) =
-      made_loop p most condition (actions_exit by_return body)
-      (made_turn p condition (actions_exit by_continue body) (made (in_loop p) body) step)
-  made_action p breaks = one (masks p.turn (broken p))
-  made_action p continues = one (masks p.turn (continued p))
-  made_action p (returns e) = made_return p e
+  made_action known p (turns most condition body step) =
+      if is_counted known most condition body step then made_counted p most (made None p body) step
+      else made_loop p most condition (actions_exit by_return body)
+      (made_turn p condition (actions_exit by_continue body) (made None (in_loop p) body) step)
+  made_action known p breaks = one (masks p.turn (broken p))
+  made_action known p continues = one (masks p.turn (continued p))
+  made_action known p (returns e) = made_return p e
 
-  pub made : PartWords → PlainActions → PlainStmts
-  made p no_action = no_stmt
-  made p (action a rest) = joined (made_action p a) (if ends a then no_stmt else made p rest)
+  pub made : Option Start → PartWords → PlainActions → PlainStmts
+  made known p no_action = no_stmt
+  made known p (action a rest) = joined (made_action known p a) (if ends a then no_stmt else made (start_of a) p rest)
 
   -- `else if` is an `if` after `else`; what stands after the last `else` may be nothing
   pub made_branches : PartWords → PlainBranches → Bool → (PartWords → PlainStmts) → PlainStmts
   made_branches p no_branch nothing otherwise = otherwise p
   made_branches p (branch condition body rest) nothing otherwise =
-      made_arm p condition (made (in_arm p) body)
+      made_arm p condition (made None (in_arm p) body)
       (made_otherwise p (actions_exit any_exit body) (is_no_branch rest && nothing) (made_branches (in_arm p) rest nothing otherwise))

@@ -26,7 +26,7 @@ abbrev pub begun_mask : PartWords → PlainSp
 begun_mask p = between_two binary.Equal (frame_word p.function) (constant 1)
 
 abbrev pub made_body : PartWords → PlainActions → PlainStmts
-made_body p body = stmt (masks p.function (begun_mask p)) (made p body)
+made_body p body = stmt (masks p.function (begun_mask p)) (made None p body)
 
 -- After its variables stand what it returns, its mask, and the masks of its arms and loops; then as many words as code
 -- keeps for its turns and for its return

@@ -5,6 +5,7 @@
 //! what the tree comes to is what the program means, for every input and all words that the shared memories begin with.
 //!
 //! - `specs/PartWords.antt`: the words of a frame that decide what has an effect, and what they are set to.
+//! - `specs/Counted.antt`: loops that count.
 //! - `specs/Made.antt`: the statements that are made of actions.
 //! - `specs/Widths.antt`: how many words of a frame actions need.
 //! - `specs/Single.antt`: functions and units; what each function may weigh, and how many words its frame may have.
@@ -15,6 +16,7 @@
 //! [the page on the compiler](../../../docs/COMPILER.md).
 #![tactic(auto)]
 
+mod counted;
 mod exits;
 mod laws;
 mod masks;

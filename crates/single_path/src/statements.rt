@@ -10,6 +10,7 @@ ghost use Rattle.single_path.specs.Made as specs;
 ghost use Rattle.single_path.specs.PartWords as part_words;
 ghost use Rattle.single_path.specs.Widths as widths;
 
+use crate::counted::{Start, is_counted, start_of};
 use crate::exits::{any_exit, by_continue, by_return, choice_exits, ends, may_exit};
 use crate::masks::{
     bit_of, broken, continued, not_zero, otherwise_mask, returned_function, returned_turn,
@@ -278,7 +279,7 @@ fn add_return(
 #[tactic(auto)]
 fn add_break(alloc: Global, part: PartWords, out: &mut Vec<SpStmt>) -> Result<(), OutOfMemory>
     ensures { OnOk result (stmts_of out.new.items
-        ≡ joined (stmts_of out.old.items) (specs.made_action part plain.breaks)) }
+        ≡ joined (stmts_of out.old.items) (specs.made_action None part plain.breaks)) }
 {
     let turn = broken(alloc, part)?;
     add_mask(out, part.turn, turn)
@@ -286,7 +287,7 @@ fn add_break(alloc: Global, part: PartWords, out: &mut Vec<SpStmt>) -> Result<()
 
 fn add_continue(alloc: Global, part: PartWords, out: &mut Vec<SpStmt>) -> Result<(), OutOfMemory>
     ensures { OnOk result (stmts_of out.new.items
-        ≡ joined (stmts_of out.old.items) (specs.made_action part plain.continues)) }
+        ≡ joined (stmts_of out.old.items) (specs.made_action None part plain.continues)) }
 {
     let turn = continued(alloc, part)?;
     add_mask(out, part.turn, turn)
@@ -493,13 +494,14 @@ fn add_loop(
 #[tactic(none)]
 fn add_action(
     alloc: Global,
+    known: Option<Start>,
     part: PartWords,
     out: &mut Vec<SpStmt>,
     action: &Action,
 ) -> Result<(), OutOfMemory>
     requires { part.free + widths.action_masks (plain_action action.now) < 2 ^ 32 }
     ensures { OnOk result (stmts_of out.new.items
-        ≡ joined (stmts_of out.old.items) (specs.made_action part (plain_action action.now))) }
+        ≡ joined (stmts_of out.old.items) (specs.made_action known part (plain_action action.now))) }
 {
     match action {
         Action::Set { assignment } => add_assignment(alloc, out, part.own, assignment),
@@ -523,7 +525,13 @@ fn add_action(
             condition,
             body,
             step,
-        } => add_repeated(part, out, *max, condition, body.as_slice(), step),
+        } => {
+            let body = body.as_slice();
+            if is_counted(known, *max, condition, body, step) {
+                return add_counted(part, out, *max, body, step);
+            }
+            add_repeated(part, out, *max, condition, body, step)
+        }
         Action::Break => add_break(alloc, part, out),
         Action::Continue => add_continue(alloc, part, out),
         Action::Return { value } => add_return(alloc, part, out, value),
@@ -541,13 +549,15 @@ pub fn add_all(
 ) -> Result<(), OutOfMemory>
     requires { part.free + widths.masks (actions_of actions.now) < 2 ^ 32 }
     ensures { OnOk result (stmts_of out.new.items
-        ≡ joined (stmts_of out.old.items) (specs.made part (actions_of actions.now))) }
+        ≡ joined (stmts_of out.old.items) (specs.made None part (actions_of actions.now))) }
 {
+    let mut known = None;
     for action in actions {
-        add_action(alloc, part, out, action)?;
+        add_action(alloc, known, part, out, action)?;
         if ends(action) {
             return Ok(());
         }
+        known = start_of(action);
     }
     Ok(())
 }
@@ -566,7 +576,7 @@ fn add_choice(
         < 2 ^ 32 }
     ensures { OnOk result (stmts_of out.new.items
         ≡ joined (stmts_of out.old.items)
-        (specs.made_action part (plain.chooses (branches_of branches.now) (actions_of otherwise.now)))) }
+        (specs.made_action None part (plain.chooses (branches_of branches.now) (actions_of otherwise.now)))) }
 {
     add_arms(alloc, part, out, branches, otherwise)?;
     let exits = choice_exits(any_exit(), branches, otherwise);
@@ -588,7 +598,7 @@ fn add_arms(
     ensures { OnOk result (stmts_of out.new.items
         ≡ joined (stmts_of out.old.items)
         (specs.made_branches part (branches_of branches.now) (specs.is_no_action (actions_of otherwise.now))
-        (λ q. specs.made q (actions_of otherwise.now)))) }
+        (λ q. specs.made None q (actions_of otherwise.now)))) }
 {
     match branches {
         [] => add_all(alloc, part, out, otherwise),
@@ -619,13 +629,35 @@ fn add_otherwise(
         (specs.made_otherwise part exits (specs.is_no_branch (branches_of rest.now)
         && specs.is_no_action (actions_of otherwise.now))
         (specs.made_branches arm (branches_of rest.now) (specs.is_no_action (actions_of otherwise.now))
-        (λ q. specs.made q (actions_of otherwise.now))))) }
+        (λ q. specs.made None q (actions_of otherwise.now))))) }
 {
     if stands_nothing(rest, otherwise) {
         return Ok(());
     }
     begin_otherwise(alloc, part, exits, out)?;
     add_arms(alloc, arm, out, rest, otherwise)
+}
+
+// a loop that counts
+#[cycle(conversion)]
+#[tactic(auto, using(crate::proofs::Stated::joined_none))]
+fn add_counted(
+    part: PartWords,
+    out: &mut Vec<SpStmt>,
+    max: u32,
+    body: &[Action],
+    step: &Option<Assignment>,
+) -> Result<(), OutOfMemory>
+    requires { part.free + widths.masks (actions_of body.now) < 2 ^ 32 }
+    ensures { OnOk result (stmts_of out.new.items ≡ joined (stmts_of out.old.items)
+        (specs.made_counted part max (specs.made None part (actions_of body.now))
+        (option_map plain_assignment step.now))) }
+{
+    let alloc = *out.allocator();
+    let mut turn = Vec::new(alloc);
+    add_all(alloc, part, &mut turn, body)?;
+    add_step(alloc, &mut turn, part.own, step)?;
+    add_turns(out, max, List::of(turn))
 }
 
 // a loop
@@ -641,8 +673,9 @@ fn add_repeated(
 ) -> Result<(), OutOfMemory>
     requires { part.free + widths.loop_masks max (widths.masks (actions_of body.now)) < 2 ^ 32 }
     ensures { OnOk result (stmts_of out.new.items ≡ joined (stmts_of out.old.items)
-        (specs.made_action part (plain.turns max (plain_sp condition.now) (actions_of body.now)
-        (option_map plain_assignment step.now)))) }
+        (specs.made_loop part max (plain_sp condition.now) (specs.actions_exit specs.by_return (actions_of body.now))
+        (specs.made_turn part (plain_sp condition.now) (specs.actions_exit specs.by_continue (actions_of body.now))
+        (specs.made None (part_words.in_loop part) (actions_of body.now)) (option_map plain_assignment step.now)))) }
 {
     let alloc = *out.allocator();
     if max == 0 {

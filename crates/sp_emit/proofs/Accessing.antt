@@ -22,12 +22,13 @@ use Rattle.sp_shape.specs.Formed.{is_call, is_way, is_turn, part_formed, parts_f
 use Rattle.sp_shape.specs.Parts.{PlainPart, straight, repeats, calls_to, leaves, PlainParts, no_part, part}
 use Rattle.sp_shape.specs.Run.{Run, IsWhole, Sources, once, effected, run, begun}
 use Rattle.sp_shape.specs.Trail.{Step, begins, all_done, copies, part_trail, parts_trail}
-use Rattle.sp_emit.specs.Instructions.{under}
+use Rattle.sp_emit.specs.Instructions.{under, always, set_number}
 use Rattle.patmos_instr.specs.declared.guards.Guard.{Guard}
 use Rattle.sp_emit.specs.Places.{read_word, set_word, fetch_word}
 use Rattle.sp_emit.proofs.WordPlaces.{read_is, set_op_is, fetch_is}
 use Rattle.sp_emit.specs.Accesses.{MayAsk, cached_addresses, cached_address, Asks, AsksOnly}
 use Rattle.sp_emit.proofs.Portless.{is_portless_op, is_portless, portless_start, start_append, words_left, words_right}
+use Rattle.sp_emit.proofs.Numbers.{number_op_is}
 
 -- ---- one after another
 
@@ -185,6 +186,9 @@ near_read homes rd slot = read_is (λ b. is_near b ≡ true) homes rd slot refl 
 
 pub near_fetch : (homes slot : ℕ) → is_near (fetch_word homes slot) ≡ true
 near_fetch homes slot = fetch_is (λ b. is_near b ≡ true) homes slot refl refl
+
+pub near_number : (rd n : ℕ) → is_near (set_number rd n) ≡ true
+near_number rd n = number_op_is (λ op. is_near (under always op) ≡ true) rd n refl refl
 
 pub near_set : (homes : ℕ) (g : Guard) (slot rs : ℕ) → is_near (set_word homes g slot rs) ≡ true
 near_set homes g slot rs = set_op_is (λ op. is_near (under g op) ≡ true) homes slot rs refl refl

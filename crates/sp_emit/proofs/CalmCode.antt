@@ -12,11 +12,12 @@ use Rattle.sp_tree.specs.declared.operators.SpUnary.{SpUnary}
 use Rattle.sp_shape.specs.Parts.{straight, PlainParts, no_part, part, one, joined}
 use Rattle.sp_emit.specs.Division.{operands, without_signs, digit_tail, quotient_to, rest_to, signed_quotient_to, signed_rest_to, around}
 use Rattle.sp_emit.proofs.Calm.{is_free, is_calm, part_calm, parts_calm}
-use Rattle.sp_emit.specs.Expressions.{unary_code, binary_code, held_code, cell_code, element_code}
-use Rattle.sp_emit.specs.Instructions.{set_long}
+use Rattle.sp_emit.specs.Expressions.{unary_code, binary_code, held_code, cell_code, element_code, address_of}
+use Rattle.sp_emit.specs.Instructions.{always, under, set_number}
 use Rattle.sp_emit.specs.Places.{read_word}
 use Rattle.sp_emit.specs.declared.registers.TheConstants.{OVERRUN}
 use Rattle.sp_emit.proofs.WordPlaces.{read_is}
+use Rattle.sp_emit.proofs.Numbers.{number_op_is}
 
 pub joined_calm : (rd homes : ℕ) (xs ys : PlainParts) → parts_calm rd homes xs ≡ true → parts_calm rd homes ys ≡ true → parts_calm rd homes (joined xs ys) ≡ true
 joined_calm rd homes no_part ys a b = b
@@ -28,7 +29,7 @@ pub lone_calm : (rd homes : ℕ) (bs : List Slots) → list_all (is_calm rd home
 lone_calm rd homes bs a = and_from (list_all (is_calm rd homes) bs) true a refl
 
 -- a register after the flag, and one before the window
-spare_free : (low homes r : ℕ) → low ≤ r → OVERRUN < r → is_free low homes r ≡ true
+pub spare_free : (low homes r : ℕ) → low ≤ r → OVERRUN < r → is_free low homes r ≡ true
 spare_free low homes r le lt =
     or_right (r == 0) (nat_le low r && (nat_lt OVERRUN r || (nat_lt r homes && not (r == OVERRUN))))
     (and_from (nat_le low r) (nat_lt OVERRUN r || (nat_lt r homes && not (r == OVERRUN))) (le-leb low r le) (or_left (nat_lt OVERRUN r) (nat_lt r homes && not (r == OVERRUN)) (lt-ltb OVERRUN r lt)))
@@ -99,8 +100,11 @@ binary_calm op low homes rd ra rb le few within = by op (own_free low homes rd l
 pub held_calm : (op : SpBinary) (low homes rd ra n : ℕ) → low ≤ rd → rd ≤ 20 → rd < homes → list_all (is_calm low homes) (held_code op rd ra n) ≡ true
 held_calm op low homes rd ra n le few within = let free = own_free low homes rd le few within in grind (arith, free)
 
-pub constant_calm : (low homes rd n : ℕ) → low ≤ rd → rd ≤ 20 → rd < homes → list_all (is_calm low homes) (set_long rd n ∷ []) ≡ true
-constant_calm low homes rd n le few within = let free = own_free low homes rd le few within in grind (arith, free)
+pub number_calm : (low homes rd n : ℕ) → is_free low homes rd ≡ true → is_calm low homes (set_number rd n) ≡ true
+number_calm low homes rd n free = number_op_is (λ op. is_calm low homes (under always op) ≡ true) rd n (grind (arith, free)) (grind (arith, free))
+
+pub constant_calm : (low homes rd n : ℕ) → low ≤ rd → rd ≤ 20 → rd < homes → list_all (is_calm low homes) (set_number rd n ∷ []) ≡ true
+constant_calm low homes rd n le few within = rw (number_calm low homes rd n (own_free low homes rd le few within)) refl
 
 pub slot_calm : (low homes rd slot : ℕ) → low ≤ rd → rd ≤ 20 → rd < homes → list_all (is_calm low homes) (read_word homes rd slot ∷ []) ≡ true
 slot_calm low homes rd slot le few within =
@@ -108,10 +112,15 @@ slot_calm low homes rd slot le few within =
     read_is (λ b. list_all (is_calm low homes) (b ∷ []) ≡ true) homes rd slot (grind (arith, free)) (grind (arith, free))
 
 pub cell_calm : (c : SpCell) (low homes rd : ℕ) → low ≤ rd → rd ≤ 20 → rd < homes → list_all (is_calm low homes) (cell_code c rd) ≡ true
-cell_calm c low homes rd le few within = let free = own_free low homes rd le few within in grind (arith, free)
+cell_calm c low homes rd le few within =
+    let free = own_free low homes rd le few within in
+    let address = number_calm low homes rd (address_of c.region c.word) free in
+    grind (arith, free, address)
 
 pub element_calm : (a : SpArray) (low homes rd : ℕ) → low ≤ rd → rd ≤ 20 → rd < homes → list_all (is_calm low homes) (element_code a rd) ≡ true
 element_calm a low homes rd le few within =
     let free = own_free low homes rd le few within in
     let spare = spare_free low homes 27 (omega (arith, le, few)) (omega arith) in
-    grind (arith, free, spare)
+    let length = number_calm low homes 27 a.length spare in
+    let address = number_calm low homes 27 (address_of a.region a.first) spare in
+    grind (arith, free, spare, length, address)

@@ -17,6 +17,10 @@ use Rattle.sp_emit.specs.Expressions.{element_code, unary_code, binary_code, hel
 use Rattle.sp_emit.specs.Functions.{first_counter, function_begin, function_rest, function_code, emitted}
 use Rattle.sp_emit.specs.Means.{HasWordConstants, HasTargetConstants, HasArgsConstants, HasStmtConstants, HasStmtsConstants, HasConstants}
 use Rattle.sp_emit.specs.Statements.{element_write, target_write, args_code, call_code, send_code, overrun_code, slot_set, turns_begin, turns_tail, stmt_code, stmts_code}
+use Rattle.sp_emit.specs.Instructions.{always, under, number_op, set_number}
+use Rattle.patmos_instr.specs.declared.functions.AluFunc.TheVariants as alu
+use Rattle.patmos_instr.specs.declared.functions.ImmFunc.TheVariants as imm
+use Rattle.patmos_instr.specs.declared.instructions.Op.TheVariants.{AluImm, AluLong}
 
 abbrev Wordy : PlainParts → Type 0
 Wordy parts = parts_all has_word parts ≡ true
@@ -44,6 +48,14 @@ two_ways C true less x y z f g h wordy = f refl wordy
 two_ways C false true x y z f g h wordy = g wordy
 two_ways C false false x y z f g h wordy = h wordy
 
+number_word : (rd n : ℕ) → has_word (set_number rd n) ≡ true → n < 2 ^ 32
+unfolding number_op
+number_word rd n = by (nat_lt n 4096) refl
+  where
+    by : (b : Bool) → nat_lt n 4096 ≡ b → has_word (under always (if b then AluImm imm.Add rd 0 n else AluLong alu.Add rd 0 n)) ≡ true → n < 2 ^ 32
+    by true less has = omega (arith, ltb-true n 4096 less)
+    by false more has = ltb-true n (2 ^ 32) has
+
 operand_words : (homes : ℕ) (e : PlainSp) (rd : ℕ) → (Wordy (expr_code homes e rd) → HasWordConstants e) → Wordy (operand_code homes e rd) → HasWordConstants e
 operand_words homes (constant n) rd f h = f h
 operand_words homes (frame_word slot) rd f h = tt
@@ -53,7 +65,7 @@ operand_words homes (before_one op of) rd f h = f h
 operand_words homes (between_two op a b) rd f h = f h
 
 expr_words : (homes : ℕ) (e : PlainSp) (rd : ℕ) → Wordy (expr_code homes e rd) → HasWordConstants e
-expr_words homes (constant n) rd h = ltb-true n (2 ^ 32) (and_parts (nat_lt n (2 ^ 32)) true (and_parts (nat_lt n (2 ^ 32) && true) true h).0).0
+expr_words homes (constant n) rd h = number_word rd n (and_parts (has_word (set_number rd n)) true (and_parts (has_word (set_number rd n) && true) true h).0).0
 expr_words homes (frame_word slot) rd h = tt
 expr_words homes (cell_word cell) rd h = tt
 expr_words homes (array_word array index) rd h = expr_words homes index rd (split (expr_code homes index rd) (one (straight (element_code array rd))) h).0

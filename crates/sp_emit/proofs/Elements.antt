@@ -18,11 +18,11 @@ use Rattle.sp_shape.specs.Run.{Run, Sources, by_words, word_given, once, run, Is
 use Rattle.sp_shape.specs.Trail.{all_done}
 use Rattle.sp_emit.specs.Expressions.{address_of, array_space, element_code}
 use Rattle.sp_emit.specs.Holding.{held}
-use Rattle.sp_emit.specs.Instructions.{always, where_not, set_long, set_short, compute, compare, load_from}
+use Rattle.sp_emit.specs.Instructions.{always, where_not, set_number, set_short, compute, compare, load_from}
 use Rattle.sp_emit.specs.Means.{HasWords}
 use Rattle.sp_emit.specs.declared.registers.TheConstants.{SPARE, TEST}
 use Rattle.sp_emit.proofs.Cells.{element_given, element_address, first_small, few_words}
-use Rattle.sp_emit.proofs.Leaving.{did_set_long, did_compare, did_compute, did_set_short}
+use Rattle.sp_emit.proofs.Leaving.{did_set_number, did_compare, did_compute, did_set_short}
 use Rattle.sp_emit.proofs.Once.{so, with_written, loaded, did_nothing, did_load, whole_written, whole_loaded, got, kept, kept_by_pred, so_got, so_by_register}
 
 -- after the test of the index and the address: what the register and the predicate hold
@@ -65,9 +65,9 @@ reaches from a rd m whole some few len_small at_small =
     let m4 = with_written sum_w m3 in
     let w4 = whole_written sum_w m3 w3 in (
       m4,
-      ap (λ t. looked_up from a rd (once from (compute always alu.Shadd2 rd rd SPARE) (once from (set_long SPARE at) (once from (compare cmp.Ult TEST rd SPARE) t)))) (did_set_long from SPARE a.length m whole)
-          ∙ ap (λ t. looked_up from a rd (once from (compute always alu.Shadd2 rd rd SPARE) (once from (set_long SPARE at) t))) (did_compare from cmp.Ult TEST rd SPARE m1 w1)
-          ∙ ap (λ t. looked_up from a rd (once from (compute always alu.Shadd2 rd rd SPARE) t)) (did_set_long from SPARE at m2 w2)
+      ap (λ t. looked_up from a rd (once from (compute always alu.Shadd2 rd rd SPARE) (once from (set_number SPARE at) (once from (compare cmp.Ult TEST rd SPARE) t)))) (did_set_number from SPARE a.length m whole)
+          ∙ ap (λ t. looked_up from a rd (once from (compute always alu.Shadd2 rd rd SPARE) (once from (set_number SPARE at) t))) (did_compare from cmp.Ult TEST rd SPARE m1 w1)
+          ∙ ap (λ t. looked_up from a rd (once from (compute always alu.Shadd2 rd rd SPARE) t)) (did_set_number from SPARE at m2 w2)
           ∙ ap (looked_up from a rd) (did_compute from alu.Shadd2 rd rd SPARE m3 w3),
       record {
         whole = w4;

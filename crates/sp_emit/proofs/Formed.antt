@@ -17,16 +17,17 @@ use Rattle.sp_shape.specs.Formed.{are_calm, part_formed, parts_formed, function_
 use Rattle.sp_shape.specs.Parts.{straight, repeats, calls_to, leaves, PlainParts, no_part, part, one, joined, PlainShape}
 use Rattle.sp_shape.proofs.Lists.{calm_append}
 use Rattle.sp_emit.proofs.Operands.{operand_is}
-use Rattle.sp_emit.specs.Expressions.{unary_code, binary_code, held_code, element_code, number_of, expr_code, operand_code, value_at, is_immediate}
+use Rattle.sp_emit.specs.Expressions.{unary_code, binary_code, held_code, element_code, number_of, expr_code, operand_code, value_at, is_immediate, address_of}
 use Rattle.sp_emit.specs.Functions.{argument_kept, first_counter, arguments_kept, state_kept, function_begin, function_rest, function_code, emitted}
 use Rattle.sp_shape.specs.Formed.{is_flow}
 use Rattle.sp_emit.specs.Functions.{codes}
-use Rattle.sp_emit.specs.Instructions.{always, set_short}
+use Rattle.sp_emit.specs.Instructions.{always, set_short, number_op}
 use Rattle.sp_emit.specs.Places.{in_register, read_op, set_op, word_cleared, words_cleared, homes_of, fetch_op}
-use Rattle.sp_emit.specs.declared.registers.TheConstants.{RESULT, MASK, FIRST}
+use Rattle.sp_emit.specs.declared.registers.TheConstants.{RESULT, MASK, FIRST, SPARE}
 use Rattle.sp_emit.proofs.Codes.{codes_at, codes_length}
 use Rattle.sp_emit.proofs.WordPlaces.{read_op_is, set_op_is, fetch_op_is}
 use Rattle.sp_emit.specs.Statements.{cell_write, element_write, target_write, mask_handed, way_to, args_code, behind_call, call_code, send_code, overrun_code, slot_set, stmt_code, stmts_code}
+use Rattle.sp_emit.proofs.Numbers.{number_op_is}
 
 -- ---- parts after others
 
@@ -102,14 +103,18 @@ read_flow homes rd slot = read_op_is (λ op. is_flow op ≡ false) homes rd slot
 fetch_flow : (homes slot : ℕ) → is_flow (fetch_op homes slot) ≡ false
 fetch_flow homes slot = fetch_op_is (λ op. is_flow op ≡ false) homes slot refl refl
 
+number_flow : (rd n : ℕ) → is_flow (number_op rd n) ≡ false
+number_flow rd n = number_op_is (λ op. is_flow op ≡ false) rd n refl refl
+
 set_flow : (homes slot rs : ℕ) → is_flow (set_op homes slot rs) ≡ false
 set_flow homes slot rs = set_op_is (λ op. is_flow op ≡ false) homes slot rs refl refl
 
 pub expr_formed : (homes : ℕ) (n : ℕ) (e : PlainSp) (rd : ℕ) → parts_formed n (expr_code homes e rd) ≡ true
-expr_formed homes n (constant v) rd = refl
+expr_formed homes n (constant v) rd = rw (number_flow rd v) refl
 expr_formed homes n (frame_word slot) rd = rw (read_flow homes rd slot) refl
-expr_formed homes n (cell_word cell) rd = refl
-expr_formed homes n (array_word array index) rd = both n (expr_code homes index rd) (one (straight (element_code array rd))) (expr_formed homes n index rd) refl
+expr_formed homes n (cell_word cell) rd = rw (number_flow rd (address_of cell.region cell.word)) refl
+expr_formed homes n (array_word array index) rd = both n (expr_code homes index rd) (one (straight (element_code array rd))) (expr_formed homes n index rd)
+    (rw (number_flow SPARE array.length, number_flow SPARE (address_of array.region array.first)) refl)
 expr_formed homes n (before_one op of) rd =
     both n (operand_code homes of rd) (one (straight (unary_code op rd (value_at homes of rd)))) (operand_is (λ ps. parts_formed n ps ≡ true) homes of rd refl (expr_formed homes n of rd)) (lone n (unary_code op rd (value_at homes of rd)) (unary_calm op rd (value_at homes of rd)))
 expr_formed homes n (between_two op a b) rd =
@@ -129,16 +134,20 @@ expr_formed homes n (between_two op a b) rd =
 -- ---- statements
 
 cell_calm : (homes : ℕ) (mask : ℕ) (r : Region) (word : ℕ) → are_calm (cell_write homes mask (record { region = r; word = word })) ≡ true
-cell_calm homes mask region.Scratch word = rw (fetch_flow homes mask) refl
-cell_calm homes mask region.Comm word = rw (fetch_flow homes mask) refl
-cell_calm homes mask region.Private word = rw (fetch_flow homes mask) refl
-cell_calm homes mask region.Shared word = rw (fetch_flow homes mask) refl
+cell_calm homes mask region.Scratch word = rw (fetch_flow homes mask, number_flow SPARE (address_of region.Scratch word)) refl
+cell_calm homes mask region.Comm word = rw (fetch_flow homes mask, number_flow SPARE (address_of region.Comm word)) refl
+cell_calm homes mask region.Private word = rw (fetch_flow homes mask, number_flow SPARE (address_of region.Private word)) refl
+cell_calm homes mask region.Shared word = rw (fetch_flow homes mask, number_flow SPARE (address_of region.Shared word)) refl
 
 element_calm : (homes : ℕ) (mask : ℕ) (r : Region) (first length : ℕ) → are_calm (element_write homes mask (record { region = r; first = first; length = length })) ≡ true
-element_calm homes mask region.Scratch first length = rw (fetch_flow homes mask) refl
-element_calm homes mask region.Comm first length = rw (fetch_flow homes mask) refl
-element_calm homes mask region.Private first length = rw (fetch_flow homes mask) refl
-element_calm homes mask region.Shared first length = rw (fetch_flow homes mask) refl
+element_calm homes mask region.Scratch first length =
+    rw (fetch_flow homes mask, number_flow SPARE length, number_flow SPARE (address_of region.Scratch first)) refl
+element_calm homes mask region.Comm first length =
+    rw (fetch_flow homes mask, number_flow SPARE length, number_flow SPARE (address_of region.Comm first)) refl
+element_calm homes mask region.Private first length =
+    rw (fetch_flow homes mask, number_flow SPARE length, number_flow SPARE (address_of region.Private first)) refl
+element_calm homes mask region.Shared first length =
+    rw (fetch_flow homes mask, number_flow SPARE length, number_flow SPARE (address_of region.Shared first)) refl
 
 target_formed : (homes : ℕ) (n mask : ℕ) (target : PlainSpTarget) → parts_formed n (target_write homes mask target) ≡ true
 target_formed homes n mask (to_slot slot) = rw (fetch_flow homes mask, set_flow homes slot FIRST) refl

@@ -35,11 +35,12 @@ use Rattle.sp_shape.specs.Run.{Run, Sources, by_words, word_given, first_load, o
 use Rattle.sp_shape.specs.Trail.{Step, all_done, parts_trail}
 use Rattle.sp_emit.specs.Expressions.{truth_to, unary_code, binary_code, computed, both_code, compared_code, held_compared, held_code, address_of, cell_space, cell_code, immediate_below, held_computed}
 use Rattle.sp_emit.specs.Holding.{held}
-use Rattle.sp_emit.specs.Instructions.{always, where_so, set_long, set_short, with_short, compute, compare, compare_short, combine, from_special, load_from, load_slot}
+use Rattle.sp_emit.specs.Instructions.{always, where_so, set_long, set_short, with_short, compute, compare, compare_short, combine, from_special, load_from, load_slot, set_number, under}
 use Rattle.sp_emit.specs.Means.{HasWords}
 use Rattle.sp_emit.specs.declared.registers.TheConstants.{TEST, SECOND}
 use Rattle.sp_emit.proofs.Cells.{cell_given, first_small}
 use Rattle.sp_emit.proofs.Once.{so, with_written, loaded, did_write, did_nothing, did_multiply, did_load, whole_written, got, kept_by_pred, so_got, so_kept, so_by_register}
+use Rattle.sp_emit.proofs.Numbers.{number_op_is}
 
 -- ---- one bundle
 
@@ -65,6 +66,10 @@ did_set_short from g rd n m whole on =
 pub did_set_long : (from : Sources) (rd n : ℕ) (m : Run) → IsWhole m → once from (set_long rd n) m ≡ with_written (write.Register rd ((0 + n) % 2 ^ 32)) m
 did_set_long from rd n m whole =
     did_write from always (AluLong alu.Add rd 0 n) m whole whole.fits.always refl refl ∙ ap (λ z. with_written (write.Register rd ((z + n) % 2 ^ 32)) m) whole.fits.zero
+
+pub did_set_number : (from : Sources) (rd n : ℕ) (m : Run) → IsWhole m → once from (set_number rd n) m ≡ with_written (write.Register rd ((0 + n) % 2 ^ 32)) m
+did_set_number from rd n m whole =
+    number_op_is (λ op. once from (under always op) m ≡ with_written (write.Register rd ((0 + n) % 2 ^ 32)) m) rd n (did_set_short from always rd n m whole whole.fits.always) (did_set_long from rd n m whole)
 
 -- ---- truths
 
@@ -196,6 +201,9 @@ loaded_got from space rd address m whole some few = got rd (word_given from spac
 pub constant_leaves : (from : Sources) (rd n : ℕ) (m : Run) → IsWhole m → 1 ≤ rd → rd < 32 → n < 2 ^ 32 → held rd (once from (set_long rd n) m) ≡ n
 constant_leaves from rd n m whole some few word = ap (held rd) (did_set_long from rd n m whole) ∙ got rd _ m whole some few ∙ omega (arith, word)
 
+pub number_leaves : (from : Sources) (rd n : ℕ) (m : Run) → IsWhole m → 1 ≤ rd → rd < 32 → n < 2 ^ 32 → held rd (once from (set_number rd n) m) ≡ n
+number_leaves from rd n m whole some few word = ap (held rd) (did_set_number from rd n m whole) ∙ got rd _ m whole some few ∙ omega (arith, word)
+
 -- a word of the frame
 pub slot_leaves : (from : Sources) (rd slot : ℕ) (m : Run) → from.stack ≡ true → IsWhole m → 1 ≤ rd → rd < 32 → slot < 128 → held rd (once from (load_slot rd slot) m) ≡ m.stack (m.st + slot)
 slot_leaves from rd slot m told whole some few named =
@@ -224,6 +232,6 @@ cell_leaves c rd w m whole some few formed shows =
     let small = first_small c.region c.word (omega (arith, lies)) in
     let v = (0 + at) % 2 ^ 32 in
     let n = with_written (write.Register rd v) m in
-    ap (λ t. held rd (once by_words (load_from (cell_space c.region) rd rd) t)) (did_set_long by_words rd at m whole)
+    ap (λ t. held rd (once by_words (load_from (cell_space c.region) rd rd) t)) (did_set_number by_words rd at m whole)
     ∙ at_address by_words (cell_space c.region) rd at n (whole_written (write.Register rd v) m whole) some few small (got rd v m whole some few ∙ omega (arith, small))
     ∙ cell_given c.region c.word w n shows (leb-true (first_of c.region) c.word parts.0) lies

@@ -41,6 +41,7 @@ pub mod Passed
 pub mod Passing
 pub mod TargetWrites
 pub mod WordPlaces
+pub mod Numbers
 pub mod Pointing
 pub mod Products
 pub mod Pushed

@@ -14,13 +14,15 @@ use Rattle.sp_tree.specs.Plain.{PlainSp}
 use Rattle.sp_tree.specs.Statements.{PlainSpTarget, to_slot, to_cell, to_array, PlainStmt, masks, writes, calls, transfers, overruns, turns, PlainStmts, no_stmt, stmt, PlainFunction}
 use Rattle.sp_shape.specs.Bundles.{parts_all}
 use Rattle.sp_shape.specs.Parts.{straight, repeats, PlainParts, one, joined}
-use Rattle.sp_emit.specs.Expressions.{expr_code}
+use Rattle.sp_emit.specs.Expressions.{expr_code, address_of}
 use Rattle.sp_emit.specs.Statements.{slot_write, cell_write, element_write, target_write, args_code, call_code, send_code, overrun_code, slot_set, turns_begin, turns_tail, stmt_code, stmts_code}
-use Rattle.sp_emit.specs.declared.registers.TheConstants.{RESULT, MASK, FIRST}
+use Rattle.sp_emit.specs.declared.registers.TheConstants.{RESULT, MASK, FIRST, SPARE}
 use Rattle.sp_emit.specs.Places.{read_op, set_op, fetch_op}
 use Rattle.sp_emit.proofs.WordPlaces.{read_op_is, set_op_is, fetch_op_is}
 use Rattle.sp_emit.proofs.Passing.{is_low, passes}
 use Rattle.sp_emit.proofs.Quiet.{each_joined, each_lone, each_so, is_quiet, expr_quiet, args_quiet}
+use Rattle.sp_emit.specs.Instructions.{number_op}
+use Rattle.sp_emit.proofs.Numbers.{number_op_is}
 
 abbrev pub Low : ℕ → PlainParts → Type 0
 Low count parts = parts_all (passes count) parts ≡ true
@@ -78,6 +80,9 @@ read_low count homes rd slot = read_op_is (λ op. is_low count op ≡ true) home
 fetch_low : (count homes slot : ℕ) → is_low count (fetch_op homes slot) ≡ true
 fetch_low count homes slot = fetch_op_is (λ op. is_low count op ≡ true) homes slot refl refl
 
+number_low : (count rd n : ℕ) → is_low count (number_op rd n) ≡ true
+number_low count rd n = number_op_is (λ op. is_low count op ≡ true) rd n refl refl
+
 pub set_low : (count homes slot rs : ℕ) → slot < count → is_low count (set_op homes slot rs) ≡ true
 set_low count homes slot rs lt = set_op_is (λ op. is_low count op ≡ true) homes slot rs refl (rw (lt-ltb slot count lt) refl)
 
@@ -88,10 +93,17 @@ slot_write_low : (homes : ℕ) (count mask slot : ℕ) → slot < count → AreL
 slot_write_low homes count mask slot lt = rw (fetch_low count homes mask, set_low count homes slot FIRST lt) refl
 
 cell_write_low : (homes : ℕ) (count mask : ℕ) (r : Region) (word : ℕ) → AreLow count (cell_write homes mask (record { region = r; word = word }))
-cell_write_low homes count mask r word = let read = fetch_low count homes mask in grind (arith, read)
+cell_write_low homes count mask r word =
+    let read = fetch_low count homes mask in
+    let address = number_low count SPARE (address_of r word) in
+    grind (arith, read, address)
 
 element_write_low : (homes : ℕ) (count mask : ℕ) (r : Region) (first length : ℕ) → AreLow count (element_write homes mask (record { region = r; first = first; length = length }))
-element_write_low homes count mask r first length = let read = fetch_low count homes mask in grind (arith, read)
+element_write_low homes count mask r first length =
+    let read = fetch_low count homes mask in
+    let size = number_low count SPARE length in
+    let address = number_low count SPARE (address_of r first) in
+    grind (arith, read, size, address)
 
 target_low : (homes : ℕ) (count slots mask : ℕ) (target : PlainSpTarget) → slots ≤ count → target_formed slots target ≡ true → Low count (target_write homes mask target)
 target_low homes count slots mask (to_slot slot) le formed = each_lone (passes count) (slot_write homes mask slot) (slot_write_low homes count mask slot (omega (arith, le, ltb-true slot slots formed)))

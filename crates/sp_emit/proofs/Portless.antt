@@ -15,6 +15,8 @@ use Rattle.sp_shape.specs.Trail.{Step, does, begins, all_done}
 use Rattle.sp_emit.specs.Places.{fetch_word}
 use Rattle.sp_emit.proofs.WordPlaces.{fetch_is}
 use Rattle.sp_emit.specs.Starting.{StartsWell, AllStart, AllWords}
+use Rattle.sp_emit.specs.Instructions.{always, under, set_number}
+use Rattle.sp_emit.proofs.Numbers.{number_op_is}
 
 -- ---- code that stores in no register of the interface
 
@@ -58,3 +60,6 @@ words_right from (begins ∷ xs) ys m words = words_right from xs ys (begun m) w
 -- a word of the frame
 pub portless_fetch : (homes slot : ℕ) → is_portless (fetch_word homes slot) ≡ true
 portless_fetch homes slot = fetch_is (λ b. is_portless b ≡ true) homes slot refl refl
+
+pub portless_number : (rd n : ℕ) → is_portless (set_number rd n) ≡ true
+portless_number rd n = number_op_is (λ op. is_portless (under always op) ≡ true) rd n refl refl

@@ -17,11 +17,13 @@ use Rattle.sp_shape.specs.Formed.{is_always}
 use Rattle.sp_shape.specs.Parts.{PlainPart, straight, repeats, calls_to, leaves, PlainParts, no_part, part, one, joined}
 use Rattle.sp_shape.proofs.Lists.{all_weaker}
 use Rattle.sp_emit.proofs.Operands.{operand_is}
-use Rattle.sp_emit.specs.Expressions.{unary_code, binary_code, held_code, element_code, number_of, expr_code, operand_code, value_at, is_immediate}
+use Rattle.sp_emit.specs.Expressions.{unary_code, binary_code, held_code, element_code, number_of, expr_code, operand_code, value_at, is_immediate, address_of}
 use Rattle.sp_emit.specs.Statements.{args_code}
-use Rattle.sp_emit.specs.Instructions.{always}
+use Rattle.sp_emit.specs.Instructions.{always, number_op}
 use Rattle.sp_emit.specs.Places.{read_op}
 use Rattle.sp_emit.proofs.WordPlaces.{read_op_is}
+use Rattle.sp_emit.proofs.Numbers.{number_op_is}
+use Rattle.sp_emit.specs.declared.registers.TheConstants.{SPARE}
 
 -- ---- each bundle
 
@@ -86,11 +88,15 @@ two_quiet homes op a b rd false false qa qb na nb = each_joined is_quiet (operan
 read_quiet : (homes rd slot : ℕ) → is_quiet_op always (read_op homes rd slot) ≡ true
 read_quiet homes rd slot = read_op_is (λ op. is_quiet_op always op ≡ true) homes rd slot refl refl
 
+number_quiet : (rd n : ℕ) → is_quiet_op always (number_op rd n) ≡ true
+number_quiet rd n = number_op_is (λ op. is_quiet_op always op ≡ true) rd n refl refl
+
 pub expr_quiet : (homes : ℕ) (e : PlainSp) (rd : ℕ) → Quiet (expr_code homes e rd)
-expr_quiet homes (constant v) rd = refl
+expr_quiet homes (constant v) rd = rw (number_quiet rd v) refl
 expr_quiet homes (frame_word slot) rd = rw (read_quiet homes rd slot) refl
-expr_quiet homes (cell_word cell) rd = refl
-expr_quiet homes (array_word array index) rd = each_joined is_quiet (expr_code homes index rd) (one (straight (element_code array rd))) (expr_quiet homes index rd) refl
+expr_quiet homes (cell_word cell) rd = rw (number_quiet rd (address_of cell.region cell.word)) refl
+expr_quiet homes (array_word array index) rd = each_joined is_quiet (expr_code homes index rd) (one (straight (element_code array rd))) (expr_quiet homes index rd)
+    (rw (number_quiet SPARE array.length, number_quiet SPARE (address_of array.region array.first)) refl)
 expr_quiet homes (before_one op of) rd = each_joined is_quiet (operand_code homes of rd) _ (operand_is Quiet homes of rd refl (expr_quiet homes of rd)) (each_lone is_quiet (unary_code op rd (value_at homes of rd)) (unary_quiet op rd (value_at homes of rd)))
 expr_quiet homes (between_two op a b) rd = two_quiet homes op a b rd (is_immediate op b) (nat_lt (need a) (need b)) (operand_is Quiet homes a rd refl (expr_quiet homes a rd)) (operand_is Quiet homes b rd refl (expr_quiet homes b rd)) (operand_is Quiet homes a (rd + 1) refl (expr_quiet homes a (rd + 1))) (operand_is Quiet homes b (rd + 1) refl (expr_quiet homes b (rd + 1)))
 

@@ -15,16 +15,17 @@ use Rattle.sp_shape.specs.Words.{bundles_room, parts_room, bundle_room}
 use Rattle.sp_shape.specs.Parts.{straight, PlainParts, no_part, part, one, joined}
 use Rattle.sp_shape.proofs.Lists.{room_append}
 use Rattle.sp_emit.proofs.Operands.{operand_is}
-use Rattle.sp_emit.specs.Expressions.{unary_code, binary_code, held_code, element_code, number_of, expr_code, operand_code, value_at, immediate_below, is_immediate}
+use Rattle.sp_emit.specs.Expressions.{unary_code, binary_code, held_code, element_code, number_of, expr_code, operand_code, value_at, immediate_below, is_immediate, address_of}
 use Rattle.sp_emit.specs.Functions.{argument_kept, first_counter, arguments_kept, state_kept, function_rest, function_code}
 use Rattle.std.specs.Prelude.{◌-◌}
 use Rattle.patmos_instr.specs.declared.guards.Guard.{Guard}
 use Rattle.c_world.specs.declared.region.Region.TheVariants as region
-use Rattle.sp_emit.specs.Instructions.{always, where_so, under, set_short}
+use Rattle.sp_emit.specs.Instructions.{always, where_so, under, set_short, set_number}
 use Rattle.sp_emit.specs.Places.{in_register, read_word, set_word, word_cleared, words_cleared, fetch_word}
-use Rattle.sp_emit.specs.declared.registers.TheConstants.{RESULT, MASK, FIRST, OVERRUN, TEST}
+use Rattle.sp_emit.specs.declared.registers.TheConstants.{RESULT, MASK, FIRST, OVERRUN, TEST, SPARE}
 use Rattle.sp_emit.proofs.WordPlaces.{read_is, set_op_is, fetch_is}
 use Rattle.sp_emit.specs.Statements.{cell_write, element_write, target_write, args_code, call_code, send_code, overrun_code, slot_set, stmt_code, stmts_code}
+use Rattle.sp_emit.proofs.Numbers.{number_op_is}
 
 room_both : (a b : PlainParts) → parts_room (joined a b) ≡ parts_room a + parts_room b
 room_both no_part b = omega arith
@@ -46,6 +47,9 @@ read_words homes rd slot = read_is (λ b. bundle_room b ≤ 2) homes rd slot (om
 
 fetch_words : (homes slot : ℕ) → bundle_room (fetch_word homes slot) ≤ 2
 fetch_words homes slot = fetch_is (λ b. bundle_room b ≤ 2) homes slot (omega arith) (omega arith)
+
+number_words : (rd n : ℕ) → bundle_room (set_number rd n) ≤ 2
+number_words rd n = number_op_is (λ op. bundle_room (under always op) ≤ 2) rd n (omega arith) (omega arith)
 
 set_words : (homes : ℕ) (g : Guard) (slot rs : ℕ) → bundle_room (set_word homes g slot rs) ≤ 1
 set_words homes g slot rs = set_op_is (λ op. bundle_room (under g op) ≤ 1) homes slot rs (omega arith) (omega arith)
@@ -83,10 +87,10 @@ two_room homes op a b rd false false ha hb na nb = omega (
 )
 
 pub expr_room : (homes : ℕ) (e : PlainSp) (rd : ℕ) → parts_room (expr_code homes e rd) ≤ expr_cost e
-expr_room homes (constant v) rd = omega arith
+expr_room homes (constant v) rd = omega (arith, number_words rd v)
 expr_room homes (frame_word slot) rd = omega (arith, read_words homes rd slot)
-expr_room homes (cell_word cell) rd = omega arith
-expr_room homes (array_word array index) rd = omega (arith, room_both (expr_code homes index rd) (one (straight (element_code array rd))), expr_room homes index rd)
+expr_room homes (cell_word cell) rd = omega (arith, number_words rd (address_of cell.region cell.word))
+expr_room homes (array_word array index) rd = omega (arith, number_words SPARE array.length, number_words SPARE (address_of array.region array.first), room_both (expr_code homes index rd) (one (straight (element_code array rd))), expr_room homes index rd)
 expr_room homes (before_one op of) rd = omega (arith, room_both (operand_code homes of rd) (one (straight (unary_code op rd (value_at homes of rd)))), operand_is (λ ps. parts_room ps ≤ expr_cost of) homes of rd (omega arith) (expr_room homes of rd), unary_room op rd (value_at homes of rd))
 expr_room homes (between_two op a b) rd = omega (arith, operand_counted op b (expr_cost b), two_room homes op a b rd (is_immediate op b) (nat_lt (need a) (need b)) (operand_is (λ ps. parts_room ps ≤ expr_cost a) homes a rd (omega arith) (expr_room homes a rd)) (operand_is (λ ps. parts_room ps ≤ expr_cost b) homes b rd (omega arith) (expr_room homes b rd)) (operand_is (λ ps. parts_room ps ≤ expr_cost a) homes a (rd + 1) (omega arith) (expr_room homes a (rd + 1))) (operand_is (λ ps. parts_room ps ≤ expr_cost b) homes b (rd + 1) (omega arith) (expr_room homes b (rd + 1))))
 
@@ -97,22 +101,22 @@ args_room homes (e ∷ args) rd = omega (arith, room_both (expr_code homes e rd)
 -- ---- statements
 
 cell_room : (homes : ℕ) (mask : ℕ) (r : Region) (word : ℕ) → bundles_room (cell_write homes mask (record { region = r; word = word })) ≤ 7
-cell_room homes mask r word = let read = fetch_words homes mask in by r read
+cell_room homes mask r word = by r (fetch_words homes mask) (number_words SPARE (address_of r word))
   where
-    by : (r : Region) → bundle_room (fetch_word homes mask) ≤ 2 → bundles_room (cell_write homes mask (record { region = r; word = word })) ≤ 7
-    by region.Scratch read = omega (arith, read)
-    by region.Comm read = omega (arith, read)
-    by region.Private read = omega (arith, read)
-    by region.Shared read = omega (arith, read)
+    by : (r : Region) → bundle_room (fetch_word homes mask) ≤ 2 → bundle_room (set_number SPARE (address_of r word)) ≤ 2 → bundles_room (cell_write homes mask (record { region = r; word = word })) ≤ 7
+    by region.Scratch read address = omega (arith, read, address)
+    by region.Comm read address = omega (arith, read, address)
+    by region.Private read address = omega (arith, read, address)
+    by region.Shared read address = omega (arith, read, address)
 
 element_room : (homes : ℕ) (mask : ℕ) (r : Region) (first length : ℕ) → bundles_room (element_write homes mask (record { region = r; first = first; length = length })) ≤ 12
-element_room homes mask r first length = let read = fetch_words homes mask in by r read
+element_room homes mask r first length = by r (fetch_words homes mask) (number_words SPARE length) (number_words SPARE (address_of r first))
   where
-    by : (r : Region) → bundle_room (fetch_word homes mask) ≤ 2 → bundles_room (element_write homes mask (record { region = r; first = first; length = length })) ≤ 12
-    by region.Scratch read = omega (arith, read)
-    by region.Comm read = omega (arith, read)
-    by region.Private read = omega (arith, read)
-    by region.Shared read = omega (arith, read)
+    by : (r : Region) → bundle_room (fetch_word homes mask) ≤ 2 → bundle_room (set_number SPARE length) ≤ 2 → bundle_room (set_number SPARE (address_of r first)) ≤ 2 → bundles_room (element_write homes mask (record { region = r; first = first; length = length })) ≤ 12
+    by region.Scratch read size address = omega (arith, read, size, address)
+    by region.Comm read size address = omega (arith, read, size, address)
+    by region.Private read size address = omega (arith, read, size, address)
+    by region.Shared read size address = omega (arith, read, size, address)
 
 target_room : (homes : ℕ) (mask : ℕ) (target : PlainSpTarget) → parts_room (target_write homes mask target) ≤ target_cost target
 target_room homes mask (to_slot slot) = omega (arith, fetch_words homes mask, set_words homes (where_so TEST) slot FIRST)

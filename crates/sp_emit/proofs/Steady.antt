@@ -10,16 +10,17 @@ use Rattle.sp_tree.specs.Statements.{PlainSpTarget, to_slot, to_cell, to_array, 
 use Rattle.sp_shape.specs.Bundles.{is_steady, parts_all}
 use Rattle.sp_shape.specs.Parts.{straight, PlainParts, one, joined}
 use Rattle.sp_shape.proofs.Lists.{all_append}
-use Rattle.sp_emit.specs.Expressions.{expr_code}
+use Rattle.sp_emit.specs.Expressions.{expr_code, address_of}
 use Rattle.sp_emit.specs.Functions.{argument_kept, first_counter, arguments_kept, state_kept, function_begin, function_rest, function_code}
 use Rattle.patmos_instr.specs.declared.guards.Guard.{Guard}
 use Rattle.sp_tree.specs.Formed.{slots_of}
-use Rattle.sp_emit.specs.Instructions.{always, where_so, under}
+use Rattle.sp_emit.specs.Instructions.{always, where_so, under, set_number}
 use Rattle.sp_emit.specs.Places.{read_word, set_word, words_cleared, fetch_word}
-use Rattle.sp_emit.specs.declared.registers.TheConstants.{RESULT, MASK, FIRST, TEST}
+use Rattle.sp_emit.specs.declared.registers.TheConstants.{RESULT, MASK, FIRST, TEST, SPARE}
 use Rattle.sp_emit.proofs.WordPlaces.{read_is, set_op_is, cleared_all, fetch_is}
 use Rattle.sp_emit.specs.Statements.{cell_write, element_write, target_write, args_code, call_code, send_code, overrun_code, slot_set, stmt_code, stmts_code}
 use Rattle.sp_emit.proofs.Quiet.{each_joined, each_lone, each_so, is_quiet, expr_quiet, args_quiet}
+use Rattle.sp_emit.proofs.Numbers.{number_op_is}
 
 abbrev Steady : PlainParts → Type 0
 Steady parts = parts_all is_steady parts ≡ true
@@ -49,15 +50,25 @@ read_steady homes rd slot = read_is (λ b. is_steady b ≡ true) homes rd slot r
 fetch_steady : (homes slot : ℕ) → is_steady (fetch_word homes slot) ≡ true
 fetch_steady homes slot = fetch_is (λ b. is_steady b ≡ true) homes slot refl refl
 
+number_steady : (rd n : ℕ) → is_steady (set_number rd n) ≡ true
+number_steady rd n = number_op_is (λ op. is_steady (under always op) ≡ true) rd n refl refl
+
 -- a word of the stack or a register, under a guard
 set_steady : (homes : ℕ) (g : Guard) (slot rs : ℕ) → is_steady (set_word homes g slot rs) ≡ true
 set_steady homes g slot rs = set_op_is (λ op. is_steady (under g op) ≡ true) homes slot rs refl refl
 
 cell_write_steady : (homes : ℕ) (mask : ℕ) (r : Region) (word : ℕ) → AreSteady (cell_write homes mask (record { region = r; word = word }))
-cell_write_steady homes mask r word = let read = fetch_steady homes mask in grind (arith, read)
+cell_write_steady homes mask r word =
+    let read = fetch_steady homes mask in
+    let address = number_steady SPARE (address_of r word) in
+    grind (arith, read, address)
 
 element_write_steady : (homes : ℕ) (mask : ℕ) (r : Region) (first length : ℕ) → AreSteady (element_write homes mask (record { region = r; first = first; length = length }))
-element_write_steady homes mask r first length = let read = fetch_steady homes mask in grind (arith, read)
+element_write_steady homes mask r first length =
+    let read = fetch_steady homes mask in
+    let size = number_steady SPARE length in
+    let address = number_steady SPARE (address_of r first) in
+    grind (arith, read, size, address)
 
 target_steady : (homes : ℕ) (mask : ℕ) (target : PlainSpTarget) → Steady (target_write homes mask target)
 target_steady homes mask (to_slot slot) = rw (fetch_steady homes mask, set_steady homes (where_so TEST) slot FIRST) refl

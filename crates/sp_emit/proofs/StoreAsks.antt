@@ -30,16 +30,16 @@ use Rattle.sp_shape.specs.Trail.{all_done}
 use Rattle.sp_emit.specs.Accesses.{IsStoredPlace, MayAsk, Asks, AsksOnly}
 use Rattle.sp_emit.specs.Expressions.{address_of, cell_space, array_space}
 use Rattle.sp_emit.specs.Holding.{held}
-use Rattle.sp_emit.specs.Instructions.{always, where_so, where_not, set_long, set_short, store_to}
+use Rattle.sp_emit.specs.Instructions.{always, where_so, where_not, set_long, set_short, store_to, set_number}
 use Rattle.sp_emit.specs.Statements.{mask_test, masked_store, cell_write, element_write, send_test, send_code}
 use Rattle.sp_emit.specs.declared.registers.TheConstants.{FIRST, SPARE, OVERRUN, TEST}
-use Rattle.sp_emit.proofs.Accessing.{asks_none, asks_then, near_run, near_fetch}
+use Rattle.sp_emit.proofs.Accessing.{asks_none, asks_then, near_run, near_fetch, near_number}
 use Rattle.sp_emit.proofs.Aligned.{stored_aligned}
 use Rattle.sp_emit.proofs.Cells.{cell_in, cell_found, element_found, element_address, few_words, first_small}
-use Rattle.sp_emit.proofs.Leaving.{did_set_short, constant_leaves}
+use Rattle.sp_emit.proofs.Leaving.{did_set_short, constant_leaves, number_leaves}
 use Rattle.sp_emit.proofs.Once.{so, with_written, did_nothing, whole_written, got}
 use Rattle.sp_emit.proofs.TargetWrites.{element_address_made, reaches}
-use Rattle.sp_emit.proofs.Portless.{portless_start, start_append, portless_fetch}
+use Rattle.sp_emit.proofs.Portless.{portless_start, start_append, portless_fetch, portless_number}
 use Rattle.sp_emit.proofs.Starts.{send_starts}
 use Rattle.sp_emit.proofs.Storing.{with_store, did_store}
 
@@ -150,22 +150,22 @@ cell_write_asks homes Named mask c formed named = record { cached = []; asks = a
     asks from m whole =
         let n = run from (all_done (mask_test homes mask)) m in
         let h = run_whole from (all_done (mask_test homes mask)) m whole in
-        let u = once from (set_long SPARE at) n in
-        let hu = run_whole from (all_done (set_long SPARE at ∷ [])) n h in
-        asks_then (near_run Named from (mask_test homes mask) m whole (rw (near_fetch homes mask) refl)) (asks_then (near_run Named from (set_long SPARE at ∷ []) n h refl)
+        let u = once from (set_number SPARE at) n in
+        let hu = run_whole from (all_done (set_number SPARE at ∷ [])) n h in
+        asks_then (near_run Named from (mask_test homes mask) m whole (rw (near_fetch homes mask) refl)) (asks_then (near_run Named from (set_number SPARE at ∷ []) n h (rw (near_number SPARE at) refl))
         (masked_asks Named from (cell_space c.region) SPARE at (so TEST u) u (omega arith) (omega arith) hu refl
-        (λ on. ap (λ a. address_by a 0 4) (constant_leaves from SPARE at n h (omega arith) (omega arith) small) ∙ omega (arith, small))
+        (λ on. ap (λ a. address_by a 0 4) (number_leaves from SPARE at n h (omega arith) (omega arith) small) ∙ omega (arith, small))
         (λ on. inl (c, named, record { formed = formed; space_is = refl; address_is = refl }))))
 
     starts : (from : Sources) (m : Run) → IsWhole m → AllStart from (all_done (cell_write homes mask c)) m
     starts from m whole =
         let n = run from (all_done (mask_test homes mask)) m in
         let h = run_whole from (all_done (mask_test homes mask)) m whole in
-        let u = once from (set_long SPARE at) n in
-        start_append from (all_done (mask_test homes mask)) (all_done (set_long SPARE at ∷ masked_store (cell_space c.region) SPARE)) m (portless_start from (mask_test homes mask) m (rw (portless_fetch homes mask) refl)) (
-          (portless_start from (set_long SPARE at ∷ []) n refl).0,
+        let u = once from (set_number SPARE at) n in
+        start_append from (all_done (mask_test homes mask)) (all_done (set_number SPARE at ∷ masked_store (cell_space c.region) SPARE)) m (portless_start from (mask_test homes mask) m (rw (portless_fetch homes mask) refl)) (
+          (portless_start from (set_number SPARE at ∷ []) n (rw (portless_number SPARE at) refl)).0,
           masked_starts from (cell_space c.region) SPARE at (so TEST u) u refl
-              (λ on. ap (λ a. address_by a 0 4) (constant_leaves from SPARE at n h (omega arith) (omega arith) small) ∙ omega (arith, small))
+              (λ on. ap (λ a. address_by a 0 4) (number_leaves from SPARE at n h (omega arith) (omega arith) small) ∙ omega (arith, small))
               (λ on. subst NoPort (sym (cell_found c.region c.word (ltb-true c.word (room_in c.region all_rooms) (and_parts (nat_le (first_of c.region) c.word) (nat_lt c.word (room_in c.region all_rooms)) formed).1))) (no_port c.region c.word)),
         )
 
@@ -188,7 +188,7 @@ element_write_asks homes Named mask a formed named = record { cached = []; asks 
         let b = so TEST n in
         let r = reaches OVERRUN from b 0 i a.length (address_of a.region a.first) n (omega arith) h refl refl (omega (arith, within, few_words a.region)) (first_small a.region a.first (omega (arith, within))) in
         let less : (b && nat_lt i a.length) ≡ true → i < a.length = λ on. ltb-true i a.length (and_parts b (nat_lt i a.length) on).1 in
-        asks_then (near_run Named from (mask_test homes mask) m whole (rw (near_fetch homes mask) refl)) (asks_then (near_run Named from made n h refl)
+        asks_then (near_run Named from (mask_test homes mask) m whole (rw (near_fetch homes mask) refl)) (asks_then (near_run Named from made n h (rw (near_number SPARE a.length, near_number SPARE (address_of a.region a.first)) refl))
         (masked_asks Named from (array_space a.region) (FIRST + 1) (address_of a.region (a.first + i)) (b && nat_lt i a.length) u (omega arith) (omega arith) r.keeps.whole r.test
         (λ on. ap (λ x. address_by x 0 4) r.at ∙ element_address a.region a.first i (omega (arith, within, less on)))
         (λ on. inr (inl (a, named, record { formed = formed; index = i; within = less on; space_is = refl; address_is = refl })))))
@@ -204,7 +204,7 @@ element_write_asks homes Named mask a formed named = record { cached = []; asks 
         let r = reaches OVERRUN from b 0 i a.length (address_of a.region a.first) n (omega arith) h refl refl (omega (arith, within, few_words a.region)) (first_small a.region a.first (omega (arith, within))) in
         let less : (b && nat_lt i a.length) ≡ true → i < a.length = λ on. ltb-true i a.length (and_parts b (nat_lt i a.length) on).1 in
         start_append from (all_done (mask_test homes mask)) (all_done (made ++ masked_store (array_space a.region) (FIRST + 1))) m (portless_start from (mask_test homes mask) m (rw (portless_fetch homes mask) refl))
-        (start_append from (all_done made) (all_done (masked_store (array_space a.region) (FIRST + 1))) n (portless_start from made n refl)
+        (start_append from (all_done made) (all_done (masked_store (array_space a.region) (FIRST + 1))) n (portless_start from made n (rw (portless_number SPARE a.length, portless_number SPARE (address_of a.region a.first)) refl))
         (masked_starts from (array_space a.region) (FIRST + 1) (address_of a.region (a.first + i)) (b && nat_lt i a.length) u r.test
         (λ on. ap (λ x. address_by x 0 4) r.at ∙ element_address a.region a.first i (omega (arith, within, less on)))
         (λ on. subst NoPort (sym (element_found a.region (a.first + i) (omega (arith, within, less on)))) (no_port a.region (a.first + i)))))

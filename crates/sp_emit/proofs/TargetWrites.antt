@@ -25,17 +25,17 @@ use Rattle.sp_shape.specs.Run.{Run, Sources, by_words, once, run, IsWhole}
 use Rattle.sp_shape.specs.Trail.{Step, all_done, parts_trail}
 use Rattle.sp_emit.specs.Expressions.{address_of, cell_space, array_space, expr_code}
 use Rattle.sp_emit.specs.Holding.{held, Keeps}
-use Rattle.sp_emit.specs.Instructions.{always, set_long, compute, compare, combine}
+use Rattle.sp_emit.specs.Instructions.{always, set_number, compute, compare, combine}
 use Rattle.sp_emit.specs.Means.{HasWordConstants, Follows}
 use Rattle.sp_emit.specs.Statements.{mask_test, cell_write, element_write, masked_store, target_write, stmt_code}
 use Rattle.sp_emit.specs.declared.registers.TheConstants.{FIRST, SPARE, OVERRUN, TEST, SECOND}
 use Rattle.sp_tree.specs.Need.{need}
 use Rattle.sp_emit.proofs.Needs.{some_need}
-use Rattle.sp_emit.proofs.CalmCode.{own_free}
+use Rattle.sp_emit.proofs.CalmCode.{own_free, number_calm, spare_free}
 use Rattle.sp_emit.proofs.Calm.{calm_run}
 use Rattle.sp_emit.proofs.CellWrites.{with_where, local_store, main_store, cached_is_plain, main_is_plain}
 use Rattle.sp_emit.proofs.Cells.{cell_found, element_found, element_address, few_words, first_small}
-use Rattle.sp_emit.proofs.Leaving.{did_set_long, did_compute, did_compare, did_combine}
+use Rattle.sp_emit.proofs.Leaving.{did_set_number, did_compute, did_compare, did_combine}
 use Rattle.sp_emit.proofs.Masks.{Done, ready, follows_still, behind_still, keeps_then, tested}
 use Rattle.sp_emit.proofs.Once.{so, with_written, whole_written, held_written, so_written, got, so_by_register}
 use Rattle.sp_emit.proofs.Values.{behind, fits_of, expr_keeps, run_joined, run_lone, value_left, value_small}
@@ -88,10 +88,10 @@ cell_done homes f frame counter slots mask c e s m most masked cell formed const
     let u = run by_words (all_done (mask_test homes mask)) n in
     let address = address_of c.region c.word in
     let lies = ltb-true c.word (room_in c.region all_rooms) (and_parts (nat_le (first_of c.region) c.word) (nat_lt c.word (room_in c.region all_rooms)) cell).1 in
-    let u2 = once by_words (set_long SPARE address) u in
-    let long = calm_run by_words SPARE homes (all_done (set_long SPARE address ∷ [])) u (omega arith) t.keeps.whole refl in
+    let u2 = once by_words (set_number SPARE address) u in
+    let long = calm_run by_words SPARE homes (all_done (set_number SPARE address ∷ [])) u (omega arith) t.keeps.whole (rw (number_calm SPARE homes SPARE address (spare_free SPARE homes SPARE (omega arith) (omega arith))) refl) in
     let v = (0 + address) % 2 ^ 32 in
-    let set = did_set_long by_words SPARE address u t.keeps.whole in
+    let set = did_set_number by_words SPARE address u t.keeps.whole in
     let small = first_small c.region c.word (omega (arith, lies)) in
     let holds_it : held SPARE u2 ≡ address = ap (held SPARE) set ∙ got SPARE v u t.keeps.whole (omega arith) (omega arith) ∙ omega (arith, small) in
     let done = cell_stored homes slots (counter + 1) c.region c.word SPARE (worth e s) (s.frame mask == 1) s u2 (record {
@@ -126,7 +126,7 @@ same_element true r first length index v s = by (nat_lt index length)
 -- the bundles after the test of the mask: the test of the index joins it, and the address is made
 unfoldable pub element_address_made : List Slots → ℕ → ℕ → List Slots
 element_address_made rest length address =
-    set_long SPARE length ∷ compare cmp.Ult SECOND (FIRST + 1) SPARE ∷ combine comb.Pand TEST TEST SECOND ∷ set_long SPARE address ∷ compute always alu.Shadd2 (FIRST + 1) (FIRST + 1) SPARE ∷ rest
+    set_number SPARE length ∷ compare cmp.Ult SECOND (FIRST + 1) SPARE ∷ combine comb.Pand TEST TEST SECOND ∷ set_number SPARE address ∷ compute always alu.Shadd2 (FIRST + 1) (FIRST + 1) SPARE ∷ rest
 
 pub record Reaches (homes : ℕ) (b : Bool) (v index length address : ℕ) (u t : Run) : Type 0 where
   pub keeps : Keeps (FIRST + 1) homes u t
@@ -151,11 +151,11 @@ reaches homes from b v index length address u within whole test is len_small at_
     let h4 = whole_written w4 m3 h3 in
     let w5 = write.Register (FIRST + 1) ((4 * held (FIRST + 1) m4 + held SPARE m4) % 2 ^ 32) in
     let steps : run from (all_done (element_address_made [] length address)) u ≡ with_written w5 m4 =
-    ap (λ t. once from (compute always alu.Shadd2 (FIRST + 1) (FIRST + 1) SPARE) (once from (set_long SPARE address) (once from (combine comb.Pand TEST TEST SECOND) (once from (compare cmp.Ult SECOND (FIRST + 1) SPARE) t))))
-    (did_set_long from SPARE length u whole)
-    ∙ ap (λ t. once from (compute always alu.Shadd2 (FIRST + 1) (FIRST + 1) SPARE) (once from (set_long SPARE address) (once from (combine comb.Pand TEST TEST SECOND) t))) (did_compare from cmp.Ult SECOND (FIRST + 1) SPARE m1 h1)
-    ∙ ap (λ t. once from (compute always alu.Shadd2 (FIRST + 1) (FIRST + 1) SPARE) (once from (set_long SPARE address) t)) (did_combine from comb.Pand TEST TEST SECOND m2 h2)
-    ∙ ap (once from (compute always alu.Shadd2 (FIRST + 1) (FIRST + 1) SPARE)) (did_set_long from SPARE address m3 h3) ∙ did_compute from alu.Shadd2 (FIRST + 1) (FIRST + 1) SPARE m4 h4 in
+    ap (λ t. once from (compute always alu.Shadd2 (FIRST + 1) (FIRST + 1) SPARE) (once from (set_number SPARE address) (once from (combine comb.Pand TEST TEST SECOND) (once from (compare cmp.Ult SECOND (FIRST + 1) SPARE) t))))
+    (did_set_number from SPARE length u whole)
+    ∙ ap (λ t. once from (compute always alu.Shadd2 (FIRST + 1) (FIRST + 1) SPARE) (once from (set_number SPARE address) (once from (combine comb.Pand TEST TEST SECOND) t))) (did_compare from cmp.Ult SECOND (FIRST + 1) SPARE m1 h1)
+    ∙ ap (λ t. once from (compute always alu.Shadd2 (FIRST + 1) (FIRST + 1) SPARE) (once from (set_number SPARE address) t)) (did_combine from comb.Pand TEST TEST SECOND m2 h2)
+    ∙ ap (once from (compute always alu.Shadd2 (FIRST + 1) (FIRST + 1) SPARE)) (did_set_number from SPARE address m3 h3) ∙ did_compute from alu.Shadd2 (FIRST + 1) (FIRST + 1) SPARE m4 h4 in
     let i1 = held_written w1 (FIRST + 1) u whole (omega arith) ∙ is in
     let l1 = held_written w1 SPARE u whole (omega arith) ∙ (let e : (0 + length) % 2 ^ 32 ≡ length = omega (arith, len_small) in e) in
     let t2 = so_written w2 TEST m1 h1 (omega arith) ∙ so_written w1 TEST u whole (omega arith) ∙ test in
@@ -163,7 +163,13 @@ reaches homes from b v index length address u within whole test is len_small at_
     let i4 = held_written w4 (FIRST + 1) m3 h3 (omega arith) ∙ held_written w3 (FIRST + 1) m2 h2 (omega arith) ∙ held_written w2 (FIRST + 1) m1 h1 (omega arith) ∙ i1 in
     let a4 = held_written w4 SPARE m3 h3 (omega arith) ∙ (let e : (0 + address) % 2 ^ 32 ≡ address = omega (arith, at_small) in e) in
     record {
-      keeps = calm_run from (FIRST + 1) homes (all_done (element_address_made [] length address)) u (omega arith) whole (let free = own_free (FIRST + 1) homes (FIRST + 1) (omega arith) (omega arith) within in grind (arith, free));
+      keeps = calm_run from (FIRST + 1) homes (all_done (element_address_made [] length address)) u (omega arith) whole (
+          let free = own_free (FIRST + 1) homes (FIRST + 1) (omega arith) (omega arith) within in
+          let spare = spare_free (FIRST + 1) homes SPARE (omega arith) (omega arith) in
+          let first = number_calm (FIRST + 1) homes SPARE length spare in
+          let second = number_calm (FIRST + 1) homes SPARE address spare in
+          grind (arith, free, first, second)
+          );
       test = ap (so TEST) steps ∙ so_written w5 TEST m4 h4 (omega arith) ∙ so_written w4 TEST m3 h3 (omega arith) ∙ so_written w3 TEST m2 h2 (omega arith) ∙ ap (λ x. x && so SECOND m2) t2 ∙ ap (λ x. b && x) s2;
       at = ap (held (FIRST + 1)) steps ∙ held_written w5 (FIRST + 1) m4 h4 (omega arith) ∙ ap (λ n. (4 * n + held SPARE m4) % 2 ^ 32) i4 ∙ ap (λ n. (4 * index + n) % 2 ^ 32) a4;
     }

@@ -33,17 +33,17 @@ use Rattle.sp_emit.specs.Accesses.{IsReadPlace, MayLoad, MayAsk, cached_address,
 use Rattle.sp_emit.specs.Expressions.{address_of, cell_space, array_space, unary_code, binary_code, held_code, cell_code, element_code, number_of, expr_code, operand_code, value_at, is_immediate}
 use Rattle.sp_emit.specs.Fits.{ExprFits}
 use Rattle.sp_emit.specs.Holding.{held}
-use Rattle.sp_emit.specs.Instructions.{always, where_not, set_long, set_short, load_from}
+use Rattle.sp_emit.specs.Instructions.{always, where_not, set_number, set_short, load_from}
 use Rattle.sp_emit.specs.Places.{read_word}
 use Rattle.sp_emit.proofs.WordPlaces.{read_is}
-use Rattle.sp_emit.specs.declared.registers.TheConstants.{TEST}
-use Rattle.sp_emit.proofs.Accessing.{asks_append, asks_nothing, is_near, near_asks, near_parts}
+use Rattle.sp_emit.specs.declared.registers.TheConstants.{TEST, SPARE}
+use Rattle.sp_emit.proofs.Accessing.{asks_append, asks_nothing, is_near, near_asks, near_parts, near_number}
 use Rattle.sp_emit.proofs.Cells.{element_address, few_words, first_small}
 use Rattle.sp_emit.proofs.Elements.{Reached, looked_up, reaches, looks_up}
 use Rattle.sp_emit.proofs.Formed.{binary_formed}
-use Rattle.sp_emit.proofs.Leaving.{did_set_long, did_set_short}
+use Rattle.sp_emit.proofs.Leaving.{did_set_number, did_set_short}
 use Rattle.sp_emit.proofs.Needs.{some_need, array_named, index_named, operand_fits, first_fits, second_fits, first_fits_behind, second_fits_behind}
-use Rattle.sp_emit.proofs.Portless.{portless_start}
+use Rattle.sp_emit.proofs.Portless.{portless_start, portless_number}
 use Rattle.sp_emit.proofs.Once.{so, with_written, loaded, did_load, whole_written, whole_loaded, got, so_by_register}
 
 -- a load of a whole word
@@ -70,12 +70,12 @@ cell_asks Named c rd some few formed named = record {
       let h = whole_written (write.Register rd ((0 + at) % 2 ^ 32)) m whole in
       let is : held rd n ≡ at = got rd ((0 + at) % 2 ^ 32) m whole some few ∙ omega (arith, small) in
       asks_load Named (cell_space c.region) rd at m (run from (all_done (cell_code c rd)) m)
-      (ap (λ t. (once from (load_from (cell_space c.region) rd rd) t).asked) (did_set_long from rd at m whole)
+      (ap (λ t. (once from (load_from (cell_space c.region) rd rd) t).asked) (did_set_number from rd at m whole)
       ∙ ap (λ t. t.asked) (did_load from always (cell_space c.region) rd rd 0 n h h.fits.always)
       ∙ ap (λ a. m.asked ++ word_load (cell_space c.region) rd (address_by a 0 4) ∷ []) is
       ∙ ap (λ a. m.asked ++ word_load (cell_space c.region) rd a ∷ []) (let e : (at + 0 * 4) % 2 ^ 32 ≡ at = omega (arith, small) in e))
       (variable_read Named c.region c.word rd formed named);
-  starts = λ from m whole words. portless_start from (cell_code c rd) m refl;
+  starts = λ from m whole words. portless_start from (cell_code c rd) m (rw (portless_number rd at) refl);
 }
   where
     at : ℕ
@@ -135,7 +135,7 @@ looks_at_0 from a rd t whole some few test =
     ∙ ap (λ v. t.asked ++ word_load (array_space a.region) rd (address_by v 0 4) ∷ []) (got rd ((0 + 0) % 2 ^ 32) t whole some few)
 
 pub element_asks : (Named : Use → Type 0) (a : SpArray) (rd : ℕ) → 1 ≤ rd → rd < 21 → array_formed a ≡ true → Named (reads_array a) → AsksOnly Named (all_done (element_code a rd))
-element_asks Named a rd some few formed named = record { cached = []; asks = asks; starts = λ from m whole words. portless_start from (element_code a rd) m refl }
+element_asks Named a rd some few formed named = record { cached = []; asks = asks; starts = λ from m whole words. portless_start from (element_code a rd) m (rw (portless_number SPARE a.length, portless_number SPARE (address_of a.region a.first)) refl) }
   where
     within : a.first + a.length ≤ room_in a.region all_rooms
     within = leb-true (a.first + a.length) (room_in a.region all_rooms) (and_parts (nat_le (first_of a.region) a.first) (nat_le (a.first + a.length) (room_in a.region all_rooms)) formed).1
@@ -213,7 +213,7 @@ read_near : (homes rd slot : ℕ) → list_all is_near (read_word homes rd slot 
 read_near homes rd slot = read_is (λ b. list_all is_near (b ∷ []) ≡ true) homes rd slot refl refl
 
 pub expr_asks : (homes : ℕ) (Named : Use → Type 0) (f : ℕ → List Step) (e : PlainSp) (rd : ℕ) → 1 ≤ rd → ExprFits e rd → AreNamed Named (expr_uses e) → AsksOnly Named (parts_trail f (expr_code homes e rd))
-expr_asks homes Named f (constant n) rd some fits named = asks_lone f (set_long rd n ∷ []) (near_asks Named (set_long rd n ∷ []) refl)
+expr_asks homes Named f (constant n) rd some fits named = asks_lone f (set_number rd n ∷ []) (near_asks Named (set_number rd n ∷ []) (rw (near_number rd n) refl))
 expr_asks homes Named f (frame_word slot) rd some fits named = asks_lone f (read_word homes rd slot ∷ []) (near_asks Named (read_word homes rd slot ∷ []) (read_near homes rd slot))
 expr_asks homes Named f (cell_word cell) rd some fits named = asks_lone f (cell_code cell rd) (cell_asks Named cell rd some (omega (arith, fits.registers)) fits.names named.0)
 expr_asks homes Named f (array_word array index) rd some fits named =

@@ -19,12 +19,12 @@ use Rattle.sp_shape.proofs.Joins.{trail_joined}
 use Rattle.sp_emit.specs.Expressions.{unary_code, binary_code, held_code, cell_code, element_code, number_of, expr_code, operand_code, value_at, is_home, slot_number, is_immediate}
 use Rattle.sp_emit.specs.Fits.{ExprFits}
 use Rattle.sp_emit.specs.Holding.{held, Keeps}
-use Rattle.sp_emit.specs.Instructions.{set_long}
+use Rattle.sp_emit.specs.Instructions.{set_number}
 use Rattle.sp_emit.specs.Means.{HasWords, Shows, IsReady}
 use Rattle.sp_emit.proofs.Calm.{parts_calm, calm_run, parts_trail_calm, keeps_all}
 use Rattle.sp_emit.proofs.CalmCode.{joined_calm, lone_calm, unary_calm, binary_calm, held_calm, constant_calm, slot_calm, cell_calm, element_calm}
 use Rattle.sp_emit.proofs.Elements.{element_leaves}
-use Rattle.sp_emit.proofs.Leaving.{constant_leaves, cell_leaves, unary_leaves, held_leaves}
+use Rattle.sp_emit.proofs.Leaving.{number_leaves, cell_leaves, unary_leaves, held_leaves}
 use Rattle.sp_emit.proofs.Binary.{binary_leaves}
 use Rattle.sp_emit.proofs.Needs.{covers, lesser, greater, some_need, word_named, array_named, index_named, operand_fits, first_fits, second_fits, first_fits_behind, second_fits_behind}
 use Rattle.sp_emit.specs.Places.{read_word}
@@ -54,7 +54,7 @@ pub before : {rd : ℕ} (homes : ℕ) (e : PlainSp) → rd + need e ≤ homes �
 before homes e free = omega (arith, free, some_need e)
 
 expr_calm : (homes low rd : ℕ) (e : PlainSp) → low ≤ rd → ExprFits e rd → rd + need e ≤ homes → parts_calm low homes (expr_code homes e rd) ≡ true
-expr_calm homes low rd (constant n) le fits free = lone_calm low homes (set_long rd n ∷ []) (constant_calm low homes rd n le (left (constant n) fits) (before homes (constant n) free))
+expr_calm homes low rd (constant n) le fits free = lone_calm low homes (set_number rd n ∷ []) (constant_calm low homes rd n le (left (constant n) fits) (before homes (constant n) free))
 expr_calm homes low rd (frame_word slot) le fits free = lone_calm low homes (read_word homes rd slot ∷ []) (slot_calm low homes rd slot le (left (frame_word slot) fits) (before homes (frame_word slot) free))
 expr_calm homes low rd (cell_word cell) le fits free = lone_calm low homes (cell_code cell rd) (cell_calm cell low homes rd le (left (cell_word cell) fits) (before homes (cell_word cell) free))
 expr_calm homes low rd (array_word array index) le fits free =
@@ -265,7 +265,7 @@ both_left {homes} {slots} {rd} {s} {m} f op a b r va vb false false is_it less_i
 -- the code of an expression leaves its value in its register
 pub value_left : {homes : ℕ} {slots rd : ℕ} {s : State} {m : Run} (f : ℕ → List Step) (e : PlainSp) → IsReady homes slots e rd s m → Leaves homes f e rd s m
 unfolding LeavesAnywhere
-value_left {homes} {slots} {rd} {s} {m} f (constant n) r = constant_leaves by_words rd n m r.whole r.some (omega (arith, few_of (constant n) r)) r.constants
+value_left {homes} {slots} {rd} {s} {m} f (constant n) r = number_leaves by_words rd n m r.whole r.some (omega (arith, few_of (constant n) r)) r.constants
 value_left {homes} {slots} {rd} {s} {m} f (frame_word slot) r =
     let word = subst (λ v. v < 2 ^ 32) (sym (r.shows.frame slot (ltb-true slot slots r.names))) (r.words.frame slot (ltb-true slot slots r.names)) in
     read_leaves by_words homes rd slot m refl r.whole r.some (omega (arith, few_of (frame_word slot) r)) (word_named slot (fits_of r)) word ∙ r.shows.frame slot (ltb-true slot slots r.names)

@@ -24,16 +24,17 @@ use Rattle.sp_emit.proofs.Operands.{operand_is}
 use Rattle.sp_emit.specs.Places.{read_word, set_word, fetch_word}
 use Rattle.sp_emit.proofs.WordPlaces.{read_is, set_op_is, fetch_is}
 use Rattle.sp_emit.specs.Chains.{stmt_chain, stmts_chain}
-use Rattle.sp_emit.specs.Expressions.{unary_code, binary_code, held_code, cell_code, element_code, number_of, expr_code, operand_code, value_at, is_immediate}
-use Rattle.sp_emit.specs.Instructions.{always, where_so, under, stack_op}
+use Rattle.sp_emit.specs.Expressions.{unary_code, binary_code, held_code, cell_code, element_code, number_of, expr_code, operand_code, value_at, is_immediate, address_of}
+use Rattle.sp_emit.specs.Instructions.{always, where_so, under, stack_op, set_number}
 use Rattle.sp_emit.specs.Statements.{slot_write, cell_write, element_write, target_write, args_code, mask_handed, call_tail, result_write, call_code, send_code, overrun_code, slot_set, turns_begin, turns_tail, stmt_code, stmts_code}
-use Rattle.sp_emit.specs.declared.registers.TheConstants.{RESULT, MASK, FIRST, TEST}
+use Rattle.sp_emit.specs.declared.registers.TheConstants.{RESULT, MASK, FIRST, TEST, SPARE}
 use Rattle.sp_emit.proofs.Arguments.{did_stack}
 use Rattle.sp_emit.proofs.Calling.{call_run}
 use Rattle.sp_emit.proofs.Formed as formed
 use Rattle.sp_emit.proofs.Pointing.{Points, points_then, points_none, points_one, is_inside, Framed, Stays, stays_then, stays_all, inside_done}
 use Rattle.sp_emit.proofs.Quiet.{each_joined, each_lone}
 use Rattle.sp_emit.proofs.Values.{run_joined, run_lone}
+use Rattle.sp_emit.proofs.Numbers.{number_op_is}
 
 -- ---- values
 
@@ -52,11 +53,17 @@ binary_inside frame op rd ra rb = grind arith
 held_inside : (frame : ℕ) (op : SpBinary) (rd ra n : ℕ) → AreInside frame (held_code op rd ra n)
 held_inside frame op rd ra n = grind arith
 
+number_inside : (frame rd n : ℕ) → is_inside frame (set_number rd n) ≡ true
+number_inside frame rd n = number_op_is (λ op. is_inside frame (under always op) ≡ true) rd n refl refl
+
 cell_inside : (frame : ℕ) (r : Region) (word rd : ℕ) → AreInside frame (cell_code (record { region = r; word = word }) rd)
-cell_inside frame r word rd = grind arith
+cell_inside frame r word rd = let address = number_inside frame rd (address_of r word) in grind (arith, address)
 
 element_inside : (frame : ℕ) (r : Region) (first length rd : ℕ) → AreInside frame (element_code (record { region = r; first = first; length = length }) rd)
-element_inside frame r first length rd = grind arith
+element_inside frame r first length rd =
+    let size = number_inside frame SPARE length in
+    let address = number_inside frame SPARE (address_of r first) in
+    grind (arith, size, address)
 
 pub read_inside : (frame homes rd slot : ℕ) → slot < frame → is_inside frame (read_word homes rd slot) ≡ true
 read_inside frame homes rd slot lt = read_is (λ b. is_inside frame b ≡ true) homes rd slot refl (rw (lt-ltb slot frame lt) refl)
@@ -78,7 +85,7 @@ two_inside homes frame op a b rd false false x y x1 y1 =
     each_joined (is_inside frame) (operand_code homes a rd) _ x (each_joined (is_inside frame) (operand_code homes b (rd + 1)) _ y1 (binary_inside frame op rd (value_at homes a rd) (value_at homes b (rd + 1))))
 
 expr_inside : (homes : ℕ) (frame slots : ℕ) (e : PlainSp) (rd : ℕ) → slots ≤ frame → names_words slots e ≡ true → Inside frame (expr_code homes e rd)
-expr_inside homes frame slots (constant n) rd le named = refl
+expr_inside homes frame slots (constant n) rd le named = rw (number_inside frame rd n) refl
 expr_inside homes frame slots (frame_word slot) rd le named = rw (read_inside frame homes rd slot (omega (arith, le, ltb-true slot slots named))) refl
 expr_inside homes frame slots (cell_word cell) rd le named = each_lone (is_inside frame) (cell_code cell rd) (cell_inside frame cell.region cell.word rd)
 expr_inside homes frame slots (array_word array index) rd le named =
@@ -142,10 +149,17 @@ bundles_stay from f frame bs inside m framed = subst (Stays frame m) (sym (run_l
 -- ---- places
 
 cell_write_inside : (homes : ℕ) (frame mask : ℕ) (r : Region) (word : ℕ) → nat_lt mask frame ≡ true → AreInside frame (cell_write homes mask (record { region = r; word = word }))
-cell_write_inside homes frame mask r word masked = let read = fetch_inside frame homes mask (ltb-true mask frame masked) in grind (arith, read)
+cell_write_inside homes frame mask r word masked =
+    let read = fetch_inside frame homes mask (ltb-true mask frame masked) in
+    let address = number_inside frame SPARE (address_of r word) in
+    grind (arith, read, address)
 
 element_write_inside : (homes : ℕ) (frame mask : ℕ) (r : Region) (first length : ℕ) → nat_lt mask frame ≡ true → AreInside frame (element_write homes mask (record { region = r; first = first; length = length }))
-element_write_inside homes frame mask r first length masked = let read = fetch_inside frame homes mask (ltb-true mask frame masked) in grind (arith, read)
+element_write_inside homes frame mask r first length masked =
+    let read = fetch_inside frame homes mask (ltb-true mask frame masked) in
+    let size = number_inside frame SPARE length in
+    let address = number_inside frame SPARE (address_of r first) in
+    grind (arith, read, size, address)
 
 target_stays : (homes : ℕ) (from : Sources) (f : ℕ → List Step) (frame slots mask : ℕ) (target : PlainSpTarget) → slots ≤ frame → mask < slots → target_formed slots target ≡ true → StaysIn from frame (parts_trail f (target_write homes mask target))
 target_stays homes from f frame slots mask (to_slot slot) le masked is =

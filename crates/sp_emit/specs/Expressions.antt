@@ -25,7 +25,7 @@ use Rattle.sp_tree.specs.declared.operators.SpUnary.{SpUnary}
 use Rattle.sp_tree.specs.declared.operators.SpUnary.TheVariants as unary
 use Rattle.sp_shape.specs.Parts.{straight, PlainParts, no_part, one, joined}
 use Rattle.sp_emit.specs.Division.{quotient_to, rest_to, signed_quotient_to, signed_rest_to, unsigned_division, signed_division}
-use Rattle.sp_emit.specs.Instructions.{always, where_so, where_not, set_long, set_short, compute, with_short, compare, compare_short, combine, multiply, from_special, load_from}
+use Rattle.sp_emit.specs.Instructions.{always, where_so, where_not, set_number, set_short, compute, with_short, compare, compare_short, combine, multiply, from_special, load_from}
 use Rattle.sp_emit.specs.Places.{in_register, read_word}
 use Rattle.sp_emit.specs.declared.registers.TheConstants.{SPARE, TEST, SECOND}
 
@@ -150,15 +150,15 @@ held_code _ rd ra n = []
 -- ---- expressions
 
 abbrev pub cell_code : SpCell → ℕ → List Slots
-cell_code c rd = set_long rd (address_of c.region c.word) ∷ load_from (cell_space c.region) rd rd ∷ []
+cell_code c rd = set_number rd (address_of c.region c.word) ∷ load_from (cell_space c.region) rd rd ∷ []
 
 -- the index stands in the register. Where it is at or past the length the load is made at word 0, and 0 is taken in its
 -- place
 abbrev pub element_code : SpArray → ℕ → List Slots
 element_code a rd =
-    set_long SPARE a.length
+    set_number SPARE a.length
     ∷ compare cmp.Ult TEST rd SPARE
-    ∷ set_long SPARE (address_of a.region a.first)
+    ∷ set_number SPARE (address_of a.region a.first)
     ∷ compute always alu.Shadd2 rd rd SPARE
     ∷ set_short (where_not TEST) rd 0
     ∷ load_from (array_space a.region) rd rd
@@ -186,7 +186,7 @@ abbrev pub unless : Bool → PlainParts → PlainParts
 unless there code = if there then no_part else code
 
 abbrev pub expr_code : ℕ → PlainSp → ℕ → PlainParts
-expr_code homes (constant n) rd = one (straight (set_long rd n ∷ []))
+expr_code homes (constant n) rd = one (straight (set_number rd n ∷ []))
 expr_code homes (frame_word slot) rd = one (straight (read_word homes rd slot ∷ []))
 expr_code homes (cell_word cell) rd = one (straight (cell_code cell rd))
 expr_code homes (array_word array index) rd = joined (expr_code homes index rd) (one (straight (element_code array rd)))

@@ -1,5 +1,5 @@
 -- To be believed. Bundles of one instruction, as compiled code has them (Patmos Reference Handbook, instruction set).
-use Rattle.std.specs.Prelude.{ℕ, pos, true, false, None}
+use Rattle.std.specs.Prelude.{ℕ, pos, true, false, None, nat_lt, if◌then◌else◌}
 use Rattle.patmos_instr.specs.Bundles.{Slots}
 use Rattle.patmos_instr.specs.Instructions.{nop}
 use Rattle.patmos_instr.specs.declared.guards.Guard.{Guard}
@@ -42,6 +42,13 @@ idle = record { first = nop; second = None }
 -- a register gets a whole word, in a bundle of two words; or one of 12 bits
 abbrev pub set_long : ℕ → ℕ → Slots
 set_long rd n = under always (AluLong alu.Add rd 0 n)
+
+-- a number that an instruction holds is set in one word, and others in two
+unfoldable pub number_op : ℕ → ℕ → Op
+number_op rd n = if nat_lt n 4096 then AluImm imm.Add rd 0 n else AluLong alu.Add rd 0 n
+
+abbrev pub set_number : ℕ → ℕ → Slots
+set_number rd n = under always (number_op rd n)
 
 abbrev pub set_short : Guard → ℕ → ℕ → Slots
 set_short guard rd n = under guard (AluImm imm.Add rd 0 n)

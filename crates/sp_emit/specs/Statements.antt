@@ -16,7 +16,7 @@ use Rattle.sp_tree.specs.declared.expressions.SpArray.{SpArray}
 use Rattle.sp_tree.specs.declared.expressions.SpCell.{SpCell}
 use Rattle.sp_shape.specs.Parts.{PlainPart, straight, repeats, calls_to, PlainParts, no_part, one, joined}
 use Rattle.sp_emit.specs.Expressions.{address_of, cell_space, array_space, expr_code}
-use Rattle.sp_emit.specs.Instructions.{always, where_so, where_not, idle, set_long, set_short, compute, with_short, compare, compare_short, combine, stack_op, load_slot, store_to, store_slot, branch, call}
+use Rattle.sp_emit.specs.Instructions.{always, where_so, where_not, idle, set_long, set_number, set_short, compute, with_short, compare, compare_short, combine, stack_op, load_slot, store_to, store_slot, branch, call}
 use Rattle.sp_emit.specs.Places.{read_word, fetch_word, fetched_at, set_word}
 use Rattle.sp_emit.specs.declared.registers.TheConstants.{RESULT, MASK, FIRST, SPARE, OVERRUN, TEST, SECOND}
 
@@ -39,15 +39,15 @@ masked_store mem.M at = set_short (where_not TEST) at 0 ∷ store_to always mem.
 
 abbrev pub cell_write : ℕ → ℕ → SpCell → List Slots
 cell_write homes mask c =
-    mask_test homes mask ++ set_long SPARE (address_of c.region c.word) ∷ masked_store (cell_space c.region) SPARE
+    mask_test homes mask ++ set_number SPARE (address_of c.region c.word) ∷ masked_store (cell_space c.region) SPARE
 
 abbrev pub element_write : ℕ → ℕ → SpArray → List Slots
 element_write homes mask a =
     mask_test homes mask
-    ++ set_long SPARE a.length
+    ++ set_number SPARE a.length
     ∷ compare cmp.Ult SECOND (FIRST + 1) SPARE
     ∷ combine comb.Pand TEST TEST SECOND
-    ∷ set_long SPARE (address_of a.region a.first)
+    ∷ set_number SPARE (address_of a.region a.first)
     ∷ compute always alu.Shadd2 (FIRST + 1) (FIRST + 1) SPARE
     ∷ masked_store (array_space a.region) (FIRST + 1)
 

@@ -8,7 +8,7 @@ ghost use Rattle.sp_tree.specs.Formed.{cell_formed, array_formed};
 ghost use Rattle.sp_tree.specs.Need.{need};
 ghost use Rattle.sp_tree.specs.Plain.{plain_sp, between_two};
 
-use crate::instructions::{always, compare, compute, load_from, set_long, set_short, where_not};
+use crate::instructions::{always, compare, compute, load_from, set_number, set_short, where_not};
 use crate::operators::{binary, held, immediate_below, unary};
 use crate::parts::push_straight;
 use crate::places::{is_in_register, read_word};
@@ -59,7 +59,7 @@ fn cell(out: &mut Vec<Part>, cell: SpCell, rd: Reg) -> Result<(), OutOfMemory>
         ≡ joined (parts_of out.old.items) (one (straight (specs.cell_code cell rd)))) }
 {
     let bundles = [
-        set_long(rd, address_of(cell.region, cell.word)),
+        set_number(rd, address_of(cell.region, cell.word)),
         load_from(cell_space(cell.region), rd, rd),
     ];
     push_straight(out, &bundles)
@@ -74,9 +74,9 @@ fn element(out: &mut Vec<Part>, array: SpArray, rd: Reg) -> Result<(), OutOfMemo
     let spare = reg(SPARE);
     let test = pred(TEST);
     let bundles = [
-        set_long(spare, array.length),
+        set_number(spare, array.length),
         compare(CmpFunc::Ult, test, rd, spare),
-        set_long(spare, address_of(array.region, array.first)),
+        set_number(spare, address_of(array.region, array.first)),
         compute(always(), AluFunc::Shadd2, rd, rd, spare),
         set_short(where_not(test), rd, 0),
         load_from(array_space(array.region), rd, rd),
@@ -166,7 +166,7 @@ pub fn expression(out: &mut Vec<Part>, homes: u32, e: &SpExpr, rd: Reg) -> Resul
         ≡ joined (parts_of out.old.items) (specs.expr_code homes (plain_sp e.now) rd)) }
 {
     match e {
-        SpExpr::Const { value } => push_straight(out, &[set_long(rd, *value)]),
+        SpExpr::Const { value } => push_straight(out, &[set_number(rd, *value)]),
         SpExpr::Frame { slot } => push_straight(out, &[read_word(homes, rd, *slot)]),
         SpExpr::Scalar { cell: of } => cell(out, *of, rd),
         SpExpr::Element { array, index } => {

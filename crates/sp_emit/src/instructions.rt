@@ -61,6 +61,18 @@ pub fn set_long(rd: Reg, n: u32) -> Bundle
     under(always(), op)
 }
 
+/// A register gets a number, in one word where an instruction holds it.
+#[tactic(auto, unfolding(crate::specs::Instructions::number_op))]
+pub fn set_number(rd: Reg, n: u32) -> Bundle
+    ensures { result ≡ code.set_number rd n }
+{
+    if n < 4096 {
+        set_short(always(), rd, n)
+    } else {
+        set_long(rd, n)
+    }
+}
+
 pub fn with_short(guard: Guard, func: ImmFunc, rd: Reg, ra: Reg, n: u32) -> Bundle
     requires { n < 4096 }
     ensures { result ≡ code.with_short guard func rd ra n }

@@ -10,7 +10,7 @@ ghost use Rattle.sp_tree.specs.Shown.{plain_sp_target};
 
 use crate::expressions::{address_of, array_space, cell_space};
 use crate::instructions::{
-    always, combine, compare, compare_short, compute, set_long, set_short, store_to, where_not,
+    always, combine, compare, compare_short, compute, set_number, set_short, store_to, where_not,
     where_so,
 };
 use crate::parts::push_straight;
@@ -75,7 +75,7 @@ pub fn cell_write(
 {
     let mut bundles = Vec::new(*out.allocator());
     bundles.extend_from_slice(&mask_test(homes, mask))?;
-    bundles.push(set_long(reg(SPARE), address_of(cell.region, cell.word)))?;
+    bundles.push(set_number(reg(SPARE), address_of(cell.region, cell.word)))?;
     masked_store(&mut bundles, cell_space(cell.region), reg(SPARE))?;
     push_straight(out, &bundles)
 }
@@ -96,10 +96,10 @@ fn element_bundles(
     let mut bundles = Vec::new(alloc);
     bundles.extend_from_slice(&mask_test(homes, mask))?;
     bundles.extend_from_slice(&[
-        set_long(spare, array.length),
+        set_number(spare, array.length),
         compare(CmpFunc::Ult, second, index, spare),
         combine(PredFunc::Pand, test, test, second),
-        set_long(spare, address_of(array.region, array.first)),
+        set_number(spare, address_of(array.region, array.first)),
         compute(always(), AluFunc::Shadd2, index, index, spare),
     ])?;
     masked_store(&mut bundles, array_space(array.region), index)?;

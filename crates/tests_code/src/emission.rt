@@ -2,7 +2,7 @@
 
 use crate::expect::expect_same;
 use crate::making::{alone, nine};
-use patmos_instr::{AluFunc, Bundle, Imm12, ImmFunc, Op, Reg};
+use patmos_instr::{Bundle, Imm12, ImmFunc, Op, Reg};
 use sp_emit::emit;
 use sp_shape::Part;
 use std::test::Fail;
@@ -28,11 +28,11 @@ fn a_constant_is_kept(rt: HostRuntime) -> Result<(), Fail> {
     expect_same(&rt, functions.len(), 1);
     let parts = functions.first().expect(&rt, "a function").as_slice();
     expect_same(&rt, parts.len(), 5);
-    let nine = alone(Op::AluLong {
-        func: AluFunc::Add,
+    let nine = alone(Op::AluImm {
+        func: ImmFunc::Add,
         rd: Reg::low(3),
         ra: Reg::low(0),
-        constant: 9,
+        imm: Imm12::low(9),
     });
     let kept = alone(Op::AluImm {
         func: ImmFunc::Add,

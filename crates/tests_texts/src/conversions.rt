@@ -112,6 +112,15 @@ const MASKED: &str =
 const CALLS: &str =
     "int g; int f(int a, int b) { if (a < b) { g = g + 1; return b - a; } return a - b; } int main() { int x = f(3, 8); int y = f(x, 2); g = y + g; if (g > 100) { x = f(1, 2); } return x * 100 + g; }";
 
+const COUNTED: &str =
+    "int main() { int s = 0; int i; _Pragma(\"loopbound min 0 max 4\") for (i = 2; i <= 11; i = i + 3) { s = s * 10 + i; } return s + i; }";
+
+const SET_INSIDE: &str =
+    "int main() { int s = 0; int i; _Pragma(\"loopbound min 0 max 5\") for (i = 0; i < 5; i = i + 1) { s = s + i; i = i + 1; } return s * 10 + i; }";
+
+const COUNTED_IN_AN_ARM: &str =
+    "int in[2]; int main() { int s = 1; int i = 9; if (in[1]) { _Pragma(\"loopbound min 3 max 3\") for (i = 0; i < 3; i = i + 1) { s = s + s; } } return s * 10 + i; }";
+
 /// The value that the tree of a text comes to, whether it has an overrun, and whether all is as is meant.
 fn outcome(alloc: Global, text: &str, input: &[u32]) -> Option<(u32, bool, bool)> {
     let both = compare(alloc, text, input)?;
@@ -128,6 +137,10 @@ fn small_programs_come_to_what_they_mean(rt: HostRuntime) {
         (MASKED, [0, 1], 1, false),
         (MASKED, [9, 0], 0, false),
         (CALLS, [0, 0], 504, false),
+        (COUNTED, [0, 0], 2605, false),
+        (SET_INSIDE, [0, 0], 66, false),
+        (COUNTED_IN_AN_ARM, [0, 0], 19, false),
+        (COUNTED_IN_AN_ARM, [0, 1], 83, false),
     ] {
         let came = outcome(rt.alloc(), text, &input);
         expect_same(&rt, (text, came), (text, Some((value, overrun, true))));

@@ -23,7 +23,7 @@ def bound_of_loop(loop: Loop, intervals: Intervals, notes: Notes) -> Bound:
     if found is None:
         text = 'this loop needs a bound: write `_Pragma("loopbound min A max B")` before it'
         raise Refused(loop.at, f"{text}, or tell it with --bound {loop.at}=B")
-    notes.tell(loop.at, f"this loop turns at most {found} times")
+    notes.tell(loop.at, f"this loop iterates at most {found} times")
     return checked(loop.at, Bound(0, found))
 
 

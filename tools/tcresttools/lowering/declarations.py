@@ -311,7 +311,7 @@ class Declarations:
             word, kind = word + part[0], part[1]
         cursor.at += 1
         if not cursor.ended and kind_of(cursor.entry) != "NamedInitializer":
-            raise Refused(place_of(cursor.entry), "a value behind that of a part of a part: name its part too")
+            raise Refused(place_of(cursor.entry), "a value after that of a part of a part: name its part too")
         return self.initial(kind, entry.expr, word)
 
     def is_record(self, node: Any, kind: Record) -> bool:

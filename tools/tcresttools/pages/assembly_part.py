@@ -5,8 +5,8 @@ from __future__ import annotations
 from ..assembly import Code, Row
 from ..explaining import Finding
 from ..job import Job, Task
+from ..row_costs import RowCost
 from .markup import element, heat_bar, number, text
-from .row_costs import RowCost
 from .source_part import LineTime, Link, SourceView, part_key, source_pane
 from .times import CoreTime
 

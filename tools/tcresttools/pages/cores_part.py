@@ -2,6 +2,7 @@
 
 from __future__ import annotations
 
+from ..packets import Passage, passages_of
 from ..report import Core
 from .markup import element, number, text
 from .times import CoreTime
@@ -101,6 +102,22 @@ def legend(bounds: dict[int, tuple[int, int | None]]) -> str:
     return element("ul", *keys, class_="legend")
 
 
+def passage_words(passage: Passage, start: int) -> str:
+    """How long it takes from the start of a sender to the coming of its last word."""
+    return (
+        f"Core {passage.sender} to core {passage.target}: {passage.last - start:,} cycles from end to end, from the"
+        f" start of core {passage.sender} at {start:,} to the arrival of its last word at {passage.last:,}."
+    )
+
+
+def passages(times: list[CoreTime]) -> str:
+    """The end-to-end times of the cores that send to each other, where packets are known."""
+    starts = {time.core.number: time.task.start for time in times if time.task is not None}
+    found = passages_of(packet for time in times for packet in time.packets)
+    items = [element("li", text(passage_words(one, starts[one.sender]))) for one in found]
+    return element("ul", *items, class_="notes") if items else ""
+
+
 def cores_part(times: list[CoreTime], bounds: dict[int, tuple[int, int | None]]) -> str:
     """The section of the cores. The columns of bounds are there where a task has one."""
     ends = [time.core.cycles or 0 for time in times]
@@ -112,4 +129,4 @@ def cores_part(times: list[CoreTime], bounds: dict[int, tuple[int, int | None]])
     rows = "".join(core_row(time, bounds, most) for time in times)
     table = element("table", element("thead", element("tr", head)), element("tbody", rows), class_="cores")
     title = element("div", element("h2", "Cores"), legend(bounds), class_="bar")
-    return element("section", title, element("div", table, class_="wide"), id="cores", class_="card")
+    return element("section", title, element("div", table, class_="wide"), passages(times), id="cores", class_="card")

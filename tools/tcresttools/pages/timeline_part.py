@@ -85,7 +85,7 @@ def notes(times: list[CoreTime]) -> str:
     for time in times:
         if time.unsure:
             cores.setdefault((missing_words(time), time.unsure), []).append(time.core.number)
-        elif time.unsent:
+        if time.unsent and time.unsent != time.unsure:
             cores.setdefault(("the packets are not drawn", time.unsent), []).append(time.core.number)
     items = [f"{core_names(numbers)}: {what}, since {why}." for (what, why), numbers in cores.items()]
     items += [f"{core_names([time.core.number])}: {time.listed}." for time in times if time.listed]
@@ -94,7 +94,8 @@ def notes(times: list[CoreTime]) -> str:
 
 def missing_words(time: CoreTime) -> str:
     """What is missing of a core whose run is not replayed."""
-    return "the waits are not exact, and the packets are not drawn" if time.unsent else "the waits are not exact"
+    both = time.unsent == time.unsure
+    return "the waits are not exact, and the packets are not drawn" if both else "the waits are not exact"
 
 
 def core_names(numbers: list[int]) -> str:

@@ -4,19 +4,18 @@ from __future__ import annotations
 
 from dataclasses import dataclass, field
 
+from ..arrivals import c_packets
 from ..assembly import Code, code_of
-from ..assembly_run import assembly_run, may_send
+from ..assembly_run import assembly_run, may_send, only_run
 from ..events import Bundle, Cause, NoSequence, Sequence
 from ..job import Job, Task
 from ..lives import Life, Lives, Span, merged
 from ..packets import Packet
-from ..recording import Causes, events_of, layout_of, place_of
-from ..replay import Replayed, replay
+from ..replay import Replayed
 from ..report import Core, Report
-from ..sent import NOT_REPORTED
+from ..row_costs import Mark, RowCosts, row_costs
 from ..task_time import TaskTime, time_of
 from .facts import Facts
-from .row_costs import Mark, RowCosts, row_costs
 
 
 @dataclass
@@ -104,10 +103,19 @@ class TimeReader:
             self.add_exact(time, time.task)
         except NoSequence as reason:
             time.unsure = str(reason)
-        if may_send(time.task) and not time.packets:
-            in_c = NOT_REPORTED if time.task.lang == "c" else ""
-            time.unsent = time.unsent or time.unsure or in_c
+        if may_send(time.task):
+            self.add_packets(time, time.task)
         return time
+
+    def add_packets(self, time: CoreTime, task: Task) -> None:
+        """What a task sends, where its replay has not said so, or why that is not known."""
+        if task.lang == "asm":
+            time.unsent = time.unsent or ("" if time.packets else time.unsure)
+            return
+        try:
+            time.packets = c_packets(self.job, task, time.core, self.facts.program)
+        except NoSequence as reason:
+            time.unsent = str(reason)
 
     def add_exact(self, time: CoreTime, task: Task) -> None:
         """What a replay, or the pipeline of the only core, says of a task."""
@@ -125,23 +133,10 @@ class TimeReader:
 
     def add_only(self, time: CoreTime, task: Task) -> None:
         """The only core of a job: its own steps, also where it is stopped or has not ended."""
-        steps, accesses = self.facts.steps, time.core.accesses
-        if not steps:
-            raise NoSequence("it does no bundle")
-        if len(accesses) == self.job.trace and accesses[-1].cycle < steps[-1].cycle:
-            raise NoSequence(f"only its first {self.job.trace:,} transactions are listed")
-        if len(steps) == self.job.trace:
-            accesses = [access for access in accesses if access.cycle < steps[-1].cycle]
-            time.listed = f"only its first {len(steps):,} bundles are listed, up to cycle {steps[-1].cycle:,}"
-        places = [place_of(step) for step in steps]
-        layout = layout_of(task, places, self.facts.program)
-        causes = Causes(layout)
-        events = events_of(steps, accesses, layout, causes)
-        sequence = Sequence(events, layout.functions, causes.known_sizes, time.core.value or 0)
-        replayed = replay(sequence, self.job.slot, self.job.table, 0, task.start)
-        if replayed.accesses != accesses:
-            raise NoSequence("its bundles and transactions do not follow one another as the machine does them")
-        time.add_rows(sequence, replayed)
+        words = self.facts.listing[task.core]
+        run = only_run(task, time.core, self.facts.steps, words, self.job.trace, self.job.slot)
+        time.add_rows(run.sequence, run.replayed)
+        time.listed = run.listed
         if time.listed and time.spans is not None:
             known = Lives(self.job, self.report).last_known()
-            time.spans.append(Span(replayed.end, max(known, replayed.end + 1), "unknown"))
+            time.spans.append(Span(run.replayed.end, max(known, run.replayed.end + 1), "unknown"))

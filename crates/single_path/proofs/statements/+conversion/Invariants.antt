@@ -1,4 +1,4 @@
-use Rattle.std.proofs.Common.{◌≡◌, ◌+◌, drop}
+use Rattle.std.proofs.Common.{◌≡◌, ◌+◌, drop, None}
 use Rattle.sp_tree.specs.Shown.{stmts_of}
 use Rattle.sp_tree.specs.Statements.{joined}
 use Rattle.c_meaning.specs.Shown.{plain_action, actions_of, branches_of}
@@ -8,8 +8,8 @@ use Rattle.single_path.proofs.statements.+conversion.Given as goal
 
 abbrev pub invariant-add_all-loop-action : goal.invariant-add_all-loop-action
 invariant-add_all-loop-action l =
-    joined (stmts_of l.out.items) (made l.part (actions_of (drop l.action-index l.actions)))
-    ≡ joined (stmts_of l.initial.out.items) (made l.part (actions_of l.actions))
+    joined (stmts_of l.out.items) (made l.known l.part (actions_of (drop l.action-index l.actions)))
+    ≡ joined (stmts_of l.initial.out.items) (made None l.part (actions_of l.actions))
 
 abbrev pub decreases-add_action : goal.decreases-add_action
 decreases-add_action l = action_size (plain_action l.action.now)
@@ -22,6 +22,9 @@ decreases-add_choice l = 1 + branches_size (branches_of l.branches.now) + action
 
 abbrev pub decreases-add_arms : goal.decreases-add_arms
 decreases-add_arms l = branches_size (branches_of l.branches.now) + actions_size (actions_of l.otherwise.now)
+
+abbrev pub decreases-add_counted : goal.decreases-add_counted
+decreases-add_counted l = 1 + actions_size (actions_of l.body.now)
 
 abbrev pub decreases-add_repeated : goal.decreases-add_repeated
 decreases-add_repeated l = 1 + actions_size (actions_of l.body.now)

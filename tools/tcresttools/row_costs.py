@@ -4,17 +4,33 @@ from __future__ import annotations
 
 from dataclasses import dataclass, field
 
-from ..assembly import Code
-from ..events import Bundle, Cause, Sequence
-from ..replay import Replayed
+from .assembly import Code
+from .events import Bundle, Cause, Event, Sequence
+from .replay import Replayed
 
 
 @dataclass
 class RowCost:
-    """The cycles of a row, and how often its bundle is done."""
+    """The cycles of a row, how often its bundle is done, its transactions, and the words that they move."""
 
     cycles: int = 0
     bundles: int = 0
+    transactions: int = 0
+    words: int = 0
+
+    @property
+    def stalls(self) -> int:
+        """The cycles in which the core waits: a bundle takes one."""
+        return self.cycles - self.bundles
+
+    def add(self, event: Event, cycles: int) -> None:
+        """Counts a bundle or a transaction, with the cycles up to its end."""
+        self.cycles += cycles
+        if isinstance(event, Bundle):
+            self.bundles += 1
+        else:
+            self.transactions += 1
+            self.words += event.words
 
 
 @dataclass(frozen=True)
@@ -32,11 +48,9 @@ class RowCosts:
     costs: dict[int, RowCost] = field(default_factory=dict)
     marks: list[Mark] = field(default_factory=list)
 
-    def add(self, row: int, begin: int, end: int, bundles: int) -> None:
-        """Counts what a row takes from one cycle up to before another."""
-        cost = self.costs.setdefault(row, RowCost())
-        cost.cycles += end - begin
-        cost.bundles += bundles
+    def add(self, row: int, event: Event, begin: int, end: int) -> None:
+        """Counts what an event of a row takes, from one cycle up to before another."""
+        self.costs.setdefault(row, RowCost()).add(event, end - begin)
         if not self.marks or self.marks[-1].part != row:
             self.marks.append(Mark(begin, row))
 
@@ -65,6 +79,6 @@ def row_costs(code: Code, sequence: Sequence, replayed: Replayed) -> RowCosts:
     found = RowCosts()
     before = replayed.start
     for row, event, free in zip(rows_of(code, sequence), sequence.events, replayed.frees, strict=True):
-        found.add(row, before, free, int(isinstance(event, Bundle)))
+        found.add(row, event, before, free)
         before = free
     return found
