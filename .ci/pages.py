@@ -1,5 +1,7 @@
 #!/usr/bin/env python3
-"""Holds pages and tools against the program: `.ci/pages.py PROGRAM`. Prints each fault, and else nothing.
+"""Holds pages and tools against the programs: `.ci/pages.py PROGRAM [CODE]`. Prints each fault, and else nothing.
+
+CODE is the program that writes code, as bin/tccode; else what TCCODE says, else `tccode` beside PROGRAM.
 
 - The texts of docs/ERRORS.md: the program answers a wrong one as it stands there, and takes a right one.
 - What docs/START.md, docs/LESSONS.md, docs/TIMING.md and docs/GRID.md type after `$` gives what stands below it; so
@@ -40,10 +42,11 @@ def unindented(text: str) -> str:
 
 
 class Pages:
-    """The program under test, and how many faults were printed."""
+    """The programs under test, and how many faults were printed."""
 
-    def __init__(self, program: str) -> None:
+    def __init__(self, program: str, code: str) -> None:
         self.program = program
+        self.code = code
         self.faults = 0
 
     def fault(self, text: str) -> None:
@@ -55,9 +58,9 @@ class Pages:
         return subprocess.run(words, input=given, capture_output=True, text=True, cwd=ROOT, check=False)
 
     def shell(self, line: str) -> Done:
-        """What a line of a page writes, with the program under test in place of bin/tcrest."""
-        environment = {**os.environ, "TCREST": self.program, "PYTHONDONTWRITEBYTECODE": "1"}
-        words = ["bash", "-c", line.replace("bin/tcrest", self.program)]
+        """What a line of a page writes, with the programs under test in place of bin/tcrest and bin/tccode."""
+        environment = {**os.environ, "TCREST": self.program, "TCCODE": self.code, "PYTHONDONTWRITEBYTECODE": "1"}
+        words = ["bash", "-c", line.replace("bin/tcrest", self.program).replace("bin/tccode", self.code)]
         return subprocess.run(words, capture_output=True, text=True, cwd=ROOT, env=environment, check=False)
 
     def check_sample(self, sample: Sample) -> None:
@@ -155,12 +158,16 @@ class Pages:
                 lines += [f"tools/where {example} --csv", f"tools/worst {example}"] if in_c else []
                 for line in lines:
                     self.ends_with(line, (0, 1))
+                # The parts of a bound that do not add up to it would end with 1.
+                for line in (f"tools/bounds {example}", f"tools/bounds {example} --persist --csv") if in_c else ():
+                    self.ends_with(line, (0,))
             self.check_searches(folder)
             for line in (
                 "tools/explain none.toml",
                 "tools/listing examples/grid.toml",
                 "tools/stages examples/two_cores.toml",
                 "tools/where examples/one_core.toml",
+                "tools/bounds examples/one_core.toml",
                 "tools/worst examples/one_core.toml",
             ):
                 found = self.shell(line)
@@ -179,7 +186,7 @@ class Pages:
 
     def check_searches(self, folder: str) -> None:
         """The tools that look for tables and schedules, and the program on files."""
-        deadlines = "examples/c/deadlines.toml --deadline 0=3000 1=6000 2=20000"
+        deadlines = "examples/c/deadlines.toml --deadline 0=3000 1=5000 2=20000"
         for line in (
             f"tools/tables {deadlines} --persist --length 6",
             "tools/tables examples/c/table_even.toml --deadline 0=4000 --length 5 --best 1",
@@ -215,7 +222,9 @@ def blocks(page: str, begin: str, end: str) -> list[str]:
 
 def main() -> int:
     """Looks at all of it."""
-    pages = Pages(str(Path(sys.argv[1]).resolve()))
+    program = Path(sys.argv[1]).resolve()
+    code = sys.argv[2] if len(sys.argv) > 2 else os.environ.get("TCCODE") or str(program.with_name("tccode"))
+    pages = Pages(str(program), str(Path(code).resolve()))
     for entry in read_page():
         for sample in entry.samples:
             pages.check_sample(sample)

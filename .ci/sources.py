@@ -13,6 +13,8 @@ CRATES = {
     name: set(deps.split())
     for name, deps in re.findall(r"^(\w+)[^:#\n]*:(.*)$", (ROOT / "crates.txt").read_text(), re.M)
 }
+# The programs, whose `main` calls all that they do.
+PROGRAMS = ("tcrest", "tccode")
 USE = re.compile(
     r"^\s*(?:ghost )?use Rattle\.(\w+)\.(specs|proofs)\.([\w.\-]+?)(?:\.\{([^}]*)\})?(?: as (\w+))?;?$", re.M
 )
@@ -222,11 +224,11 @@ def closure(places: set[Place], cut: Collection[Place] = ()) -> set[Place]:
 
 @functools.cache
 def reached() -> set[Function]:
-    """The functions that `main` of the program comes to, by the names that bodies call."""
+    """The functions that `main` of a program comes to, by the names that bodies call."""
     by_name: dict[str, list[Function]] = {}
     for function in functions():
         by_name.setdefault(function.name, []).append(function)
-    todo = [function for function in by_name["main"] if function.crate == "tcrest"]
+    todo = [function for function in by_name["main"] if function.crate in PROGRAMS]
     seen: set[Function] = set()
     while todo:
         function = todo.pop()

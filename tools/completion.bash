@@ -42,4 +42,4 @@ _tcrest_tool() {
 
 # bash looks a command up by the last part of its path, so this is for tools/NAME too.
 complete -F _tcrest tcrest
-complete -F _tcrest_tool explain lint listing network page profile stages sweep tables timeline where worst
+complete -F _tcrest_tool bounds explain lint listing network page profile stages sweep tables timeline where worst

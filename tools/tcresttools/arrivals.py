@@ -14,11 +14,10 @@ from math import lcm
 
 from .c_text import Token, number_of, tokens_of
 from .events import NoSequence
-from .job import Job, Task, toml_string
+from .job import MOST_CYCLES, Job, Task, toml_string
 from .linting import counted, is_plain
 from .packets import UNDER_WAY, WINDOW, Packet, Start, next_window, transfers_of
 from .program import run_program
-from .recording import MOST_CYCLES
 from .report import Core, read_report
 
 COMM = 0x10000

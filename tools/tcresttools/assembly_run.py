@@ -16,7 +16,7 @@ from .known_registers import KnownRegisters, offset_of
 from .linting import STORE
 from .packets import Start, Transfers, transfers_of
 from .program import run_program
-from .recording import Causes, alone_job, assembly_layout, events_of, place_of
+from .recording import alone_job, assembly_layout, events_of, place_of
 from .replay import Replayed, difference, replay
 from .report import Core, Report, Step, read_report
 from .sends import targets
@@ -135,9 +135,7 @@ def only_run(task: Task, core: Core, steps: list[Step], words: list[int], most: 
         listed = f"only its first {len(steps):,} bundles are listed, up to cycle {steps[-1].cycle:,}"
     code = code_of(task.source, words)
     layout = assembly_layout(code, [place_of(step) for step in steps])
-    causes = Causes(layout)
-    events = events_of(steps, accesses, layout, causes)
-    sequence = Sequence(events, layout.functions, causes.known_sizes, core.value or 0)
+    sequence = Sequence(events_of(steps, accesses, layout), layout.functions, layout.sizes, core.value or 0)
     replayed = replay(sequence, slot, [0], 0, task.start)
     if replayed.accesses != accesses:
         raise NoSequence("its bundles and transactions do not follow one another as the machine does them")

@@ -1,18 +1,15 @@
-"""The functions and loops of compiled C, known from the places of its bundles; and the cycles of each.
-
-A loop of the code is a body of places whose last bundle goes back to its first one. Divisions are such loops too.
-"""
+"""The functions and loops of compiled C, as its code has them; how often each is run, and the cycles of each."""
 
 from __future__ import annotations
 
 from collections import Counter
+from collections.abc import Iterator
 from dataclasses import dataclass, field
 
+from .code_text import CodeCall, CodeFunction, CodeItem, CodeLoop, TaskCode
 from .events import Bundle, Cause, Event, Sequence
-from .flows import Flow, followed
 from .replay import Replayed
-
-Path = tuple[int, ...]
+from .trail import Open, Walk
 
 
 @dataclass(frozen=True)
@@ -31,20 +28,8 @@ class CodePart:
 
 
 @dataclass(frozen=True)
-class Open:
-    """The parts that are open at an event: those of the callers, and those of the function that it is in."""
-
-    callers: Path
-    own: Path
-
-    @property
-    def innermost(self) -> int:
-        return self.own[-1]
-
-
-@dataclass(frozen=True)
 class Attribution:
-    """The parts of a task's code by their first places, and what is open at each event of its sequence."""
+    """The parts of a task's code by their numbers in it, and what is open at each event of its sequence."""
 
     parts: list[CodePart]
     opens: list[Open]
@@ -78,49 +63,47 @@ class Cost:
         self.accesses += other.accesses
 
 
-def parts_of(places: list[int]) -> list[CodePart]:
-    """The functions and loops of the code whose bundles are run at these places."""
-    ways = followed(places)
-    times = Counter(places)
-    lasts: dict[int, int] = {}
-    entered: Counter[int] = Counter([places[0]])
-    backs: Counter[tuple[int, int, int]] = Counter()
-    for number, place in enumerate(places):
-        function = ways.functions[number]
-        lasts[function] = max(lasts.get(function, 0), place)
-        if ways.flows[number] is Flow.CALL:
-            entered[place] += 1
-        elif ways.flows[number] is Flow.BACK:
-            backs[(function, place, places[number - 1])] += 1
+def runs_of(code: TaskCode) -> Counter[str]:
+    """How often each function is run. A function calls earlier ones of the text alone, and `main` is run once."""
+    runs: Counter[str] = Counter({code.functions[0].name: 1})
+    for function in [code.functions[0], *reversed(code.functions[1:])]:
+        for name, times in calls_in(function.items, 1):
+            runs[name] += runs[function.name] * times
+    return runs
+
+
+def calls_in(items: list[CodeItem], times: int) -> Iterator[tuple[str, int]]:
+    """The functions that items call, and how often where the items are executed so often."""
+    for item in items:
+        if isinstance(item, CodeCall):
+            yield item.name, times
+        elif isinstance(item, CodeLoop):
+            yield from calls_in(item.items, times * item.turns)
+
+
+def parts_of(code: TaskCode) -> list[CodePart]:
+    """The functions and loops of the code by their numbers, also those of functions that are never run."""
+    runs = runs_of(code)
     parts: list[CodePart] = []
-    for function, last in sorted(lasts.items()):
-        parts.append(CodePart(False, function, last, None, entered[function], entered[function]))
-        add_loops(parts, {(first, end): count for (of, first, end), count in backs.items() if of == function}, times)
+    for function in code.functions:
+        times = runs[function.name]
+        parts.append(CodePart(False, function.start, function.last, None, times, times))
+        parts += loops_in(function, function.items, function.number, times)
     return parts
 
 
-def add_loops(parts: list[CodePart], backs: dict[tuple[int, int], int], times: Counter[int]) -> None:
-    """Adds the loops of the last function, an outer one before those inside it."""
-    around = [len(parts) - 1]
-    for (first, last), count in sorted(backs.items(), key=lambda back: (back[0][0], -back[0][1])):
-        while parts[around[-1]].last < first:
-            around.pop()
-        turns = times[first]
-        parts.append(CodePart(True, first, last, around[-1], turns - count, turns))
-        around.append(len(parts) - 1)
+def loops_in(function: CodeFunction, items: list[CodeItem], around: int, times: int) -> Iterator[CodePart]:
+    """The loops of items that are executed so often, an outer one before those inside it."""
+    for item in items:
+        if isinstance(item, CodeLoop):
+            places = (function.start + item.first, function.start + item.last)
+            yield CodePart(True, *places, around, times, times * item.turns)
+            yield from loops_in(function, item.items, item.number, times * item.turns)
 
 
-def function_of(parts: list[CodePart], number: int) -> int:
-    """The number of the function that a part is, or is in."""
-    around = parts[number].around
-    return number if around is None else function_of(parts, around)
-
-
-def attributed(sequence: Sequence) -> Attribution:
+def attributed(code: TaskCode, sequence: Sequence) -> Attribution:
     """The parts of a task's code, and for each event of its sequence those that are open."""
-    places = sequence.places
-    parts = parts_of(places)
-    bundle_opens = opens_of(places, parts)
+    bundle_opens = [step.here.open for step in Walk(code).steps()]
     opens: list[Open] = []
     done = 0
     for event in sequence.events:
@@ -128,34 +111,12 @@ def attributed(sequence: Sequence) -> Attribution:
         here = min(done, len(bundle_opens) - 1) if is_before(event) else done - 1
         opens.append(bundle_opens[here])
         done += isinstance(event, Bundle)
-    return Attribution(parts, opens)
+    return Attribution(parts_of(code), opens)
 
 
 def is_before(event: Event) -> bool:
     """The event is of the bundle that is done now or comes next, and not of the one before."""
     return isinstance(event, Bundle) or event.cause is Cause.FETCH
-
-
-def opens_of(places: list[int], parts: list[CodePart]) -> list[Open]:
-    """The parts that are open at each bundle."""
-    ways = followed(places)
-    around_place = {place: parts_around(place, parts) for place in set(places)}
-    callers: list[Path] = [()]
-    opens: list[Open] = []
-    made: dict[tuple[Path, Path], Open] = {}
-    for number, place in enumerate(places):
-        if ways.flows[number] is Flow.CALL:
-            callers.append(opens[-1].callers + opens[-1].own)
-        elif ways.flows[number] is Flow.RETURN:
-            callers.pop()
-        key = (callers[-1], around_place[place])
-        opens.append(made.setdefault(key, Open(*key)))
-    return opens
-
-
-def parts_around(place: int, parts: list[CodePart]) -> Path:
-    """The parts in which a place is, the outermost first."""
-    return tuple(number for number, part in enumerate(parts) if part.first <= place <= part.last)
 
 
 @dataclass

@@ -3,6 +3,7 @@
 The text is one that the program takes. The order is that of docs/COMPILER.md: the condition of a loop is tested in each
 iteration and once more after them; an index is worked out after the value that is stored there; of two operands the
 one that needs more registers comes first; and what follows `break`, `continue` or `return` in its block has no code.
+A division is a loop of 16 iterations, but for most of those by a number, which are a product or a shift.
 """
 
 from __future__ import annotations
@@ -11,17 +12,21 @@ import re
 from collections.abc import Iterator
 from dataclasses import dataclass, field, replace
 
-from .c_text import Token, tokens_of
+from .c_text import Token, number_of, tokens_of
 from .c_tree import KINDS, LEVELS, UNARY
 
 DIVIDING = {"/": "division", "%": "remainder"}
-DIVISION_TURNS = 32
+DIVISION_TURNS = 16
 SWAPPED = (">", ">=")
+TRUTHS = ("||", "&&", "==", "!=", "<", "<=", *SWAPPED)
+SHIFTS = ("<<", ">>")
+MOST_INT = 2**31 - 1
+WORD = 2**32
 
 
 @dataclass(frozen=True)
 class Division:
-    """A sign `/` or `%`: a loop of 32 iterations in the code. In a loop's condition it is done once more behind."""
+    """A sign `/` or `%` that is a loop in the code. In a loop's condition it is done once more behind."""
 
     sign: str
     at: int
@@ -61,10 +66,13 @@ class Outlined:
 
 @dataclass(frozen=True)
 class Expression:
-    """How many registers an expression needs, and the divisions of its code."""
+    """How many registers an expression needs, the divisions of its code, whether its type is `unsigned`, and its number
+    where it is one."""
 
     need: int = 1
     items: list[Item] = field(default_factory=list)
+    is_unsigned: bool = False
+    number: int | None = None
 
 
 @dataclass(frozen=True)
@@ -81,6 +89,8 @@ class OutlineReader:
     def __init__(self, tokens: list[Token]) -> None:
         self.tokens = tokens
         self.at = 0
+        self.unsigned: list[set[str]] = [set()]  # of each block that is open, the variables that are unsigned
+        self.signed: list[set[str]] = [set()]
 
     def look(self, ahead: int = 0) -> str:
         at = self.at + ahead
@@ -102,22 +112,48 @@ class OutlineReader:
     def read(self) -> list[Outlined]:
         functions = []
         while self.at < len(self.tokens):
-            self.skip_kind()
-            name = self.take()
+            name = self.declared()
             if self.may("("):
                 functions.append(self.function(name))
             else:
                 self.skip_behind(";")
         return functions
 
-    def skip_kind(self) -> None:
+    def declared(self) -> Token:
+        """A kind and a name, which is known in this block from here on."""
         self.may("_SPM")
-        if self.take().text == "unsigned":
+        is_unsigned = self.take().text == "unsigned"
+        if is_unsigned:
             self.may("int")
+        name = self.take()
+        (self.unsigned if is_unsigned else self.signed)[-1].add(name.text)
+        return name
+
+    def is_unsigned(self, name: str) -> bool:
+        """The variable or array of this name has the type `unsigned`: as the innermost block that has one says."""
+        for unsigned, signed in zip(reversed(self.unsigned), reversed(self.signed), strict=True):
+            if name in unsigned or name in signed:
+                return name in unsigned
+        return False
+
+    def open_block(self) -> None:
+        self.unsigned.append(set())
+        self.signed.append(set())
+
+    def close_block(self) -> None:
+        self.unsigned.pop()
+        self.signed.pop()
 
     def function(self, name: Token) -> Outlined:
-        self.skip_behind(")")
+        self.open_block()
+        while not self.may(")"):
+            if self.look() == "void":
+                self.take()
+            else:
+                self.declared()
+            self.may(",")
         body = self.block()
+        self.close_block()
         return Outlined(name.text, name.at, self.tokens[self.at - 1].at, body.items)
 
     # Statements.
@@ -125,6 +161,7 @@ class OutlineReader:
     def block(self) -> Statements:
         """The statements of a block up to its end; what follows one that ends them is left out."""
         self.skip_behind("{")
+        self.open_block()
         items: list[Item] = []
         ends = False
         while not self.may("}"):
@@ -132,6 +169,7 @@ class OutlineReader:
             if not ends:
                 items += found.items
             ends = ends or found.ends
+        self.close_block()
         return Statements(items, ends)
 
     def statement(self) -> Statements:
@@ -154,8 +192,7 @@ class OutlineReader:
     def simple(self, text: str) -> list[Item]:
         """A declaration, a transfer, a call or an assignment, up to its `;`."""
         if text in KINDS:
-            self.skip_kind()
-            self.take()
+            self.declared()
             return self.right() if self.may("=") else []
         if self.look(1) == "(":
             return self.call()
@@ -237,24 +274,53 @@ class OutlineReader:
         return found
 
     def operand(self) -> Expression:
-        while self.look() in UNARY:
+        sign = self.look()
+        if sign in UNARY:
             self.take()
-        if self.look() == "(":
+            return unary(sign, self.operand())
+        if sign == "(":
             return self.parenthesis()
-        self.take()
-        return self.index()
+        token = self.take()
+        number = number_of(token)
+        if number is not None:
+            return Expression(is_unsigned=number > MOST_INT or token.text[-1] in "uU", number=number)
+        return replace(self.index(), is_unsigned=self.is_unsigned(token.text), number=None)
+
+
+def unary(sign: str, operand: Expression) -> Expression:
+    """An operator before an operand. `+` is left out, and the other ones make a number an expression."""
+    if sign == "+":
+        return operand
+    return replace(operand, is_unsigned=operand.is_unsigned and sign != "!", number=None)
 
 
 def both(sign: Token, left: Expression, right: Expression) -> Expression:
     """Two operands and their operator. `a > b` is `b < a`; the one of the greater need comes first."""
+    is_unsigned = left.is_unsigned if sign.text in SHIFTS else left.is_unsigned or right.is_unsigned
+    divides = sign.text in DIVIDING and is_long(right.number, is_unsigned)
     if sign.text in SWAPPED:
         left, right = right, left
     if left.need < right.need:
         first, second = right, left
     else:
         first, second = left, right
-    own: list[Item] = [Division(sign.text, sign.at)] if sign.text in DIVIDING else []
-    return Expression(max(first.need, second.need + 1), first.items + second.items + own)
+    own: list[Item] = [Division(sign.text, sign.at)] if divides else []
+    items = first.items + second.items + own
+    return Expression(max(first.need, second.need + 1), items, is_unsigned and sign.text not in TRUTHS)
+
+
+def is_long(number: int | None, is_unsigned: bool) -> bool:
+    """A division by this number, or by none, is a loop of the code.
+
+    By a power of two it is a shift or a mask. By another number it is a product where that is exact for all dividends.
+    """
+    if number is None or number == 0 or (number > MOST_INT and not is_unsigned):
+        return True
+    scale = WORD << max((number - 1).bit_length() - 1, 0)
+    factor = -(-scale // number)
+    greatest = WORD - 1 if is_unsigned else MOST_INT + 1
+    is_exact = number > 1 and factor < WORD and (factor * number - scale) * greatest < scale
+    return not is_exact and number & (number - 1) != 0
 
 
 def outline_of(source: bytes) -> list[Outlined]:

@@ -42,6 +42,14 @@ def program_path(given: str | None) -> str:
     return path
 
 
+def code_path(given: str | None) -> str:
+    """Where `tccode` is: as TCCODE says, else beside the program."""
+    path = os.environ.get("TCCODE") or str(Path(program_path(given)).parent / "tccode")
+    if not os.path.isfile(path):
+        raise BadInput(f"there is no program {path}, which writes code: run ./build, or name it with TCCODE")
+    return path
+
+
 def read_file(path: str) -> bytes:
     """The bytes of a file, `-` for standard input."""
     try:

@@ -10,12 +10,11 @@ from __future__ import annotations
 from dataclasses import dataclass
 
 from .cli import BadInput
-from .job import MOST_TRACE, Job
+from .job import MOST_CYCLES, MOST_TRACE, Job
 from .program import accepted, run_program
 from .report import Core, read_report
 from .slot_tables import MOST_ENTRIES, toml_table
 
-MOST_CYCLES = 20_000_000
 # How far the table is turned from one run to the next: a number that shares no factor with its length.
 TURN = 27
 

@@ -6,8 +6,8 @@ from dataclasses import dataclass, field
 
 from .bound_parts import TaskBounds, persistent_bounds, task_bounds
 from .cli import BadInput
-from .courses import MOST_CYCLES, Course, course_of
-from .job import Job
+from .courses import Course, course_of
+from .job import MOST_CYCLES, Job
 from .program import accepted, run_program
 from .report import read_report
 from .slot_tables import distances, gap, owned_slots, toml_table

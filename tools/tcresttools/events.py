@@ -41,8 +41,7 @@ Event = Bundle | Transaction
 @dataclass(frozen=True)
 class Sequence:
     """The events of a task in order; for each bundle the first place of its function; the size of each function in
-    words; the task's value when it is alone; and whether the places are those of the image. Where they are not, they
-    number the bundles of each function.
+    words; and the task's value when it is alone.
 
     A transaction of cause DATA follows the bundle that asks for it. One of cause FETCH precedes the first bundle of the
     function that is fetched.
@@ -52,7 +51,6 @@ class Sequence:
     functions: list[int]
     sizes: dict[int, int]
     value: int
-    is_placed: bool = True
 
     @property
     def places(self) -> list[int]:

@@ -15,6 +15,7 @@ except ImportError:  # an older Python: `run_tool` says so
     tomllib = None  # type: ignore[assignment]
 
 MOST_TRACE = 65_536
+MOST_CYCLES = 20_000_000
 
 
 class NoToml(Exception):

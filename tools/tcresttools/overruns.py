@@ -11,9 +11,8 @@ from dataclasses import dataclass
 from itertools import pairwise
 
 from .c_text import bound_match, tokens_of
-from .job import Job, Task, toml_string
+from .job import MOST_CYCLES, Job, Task, toml_string
 from .program import run_program
-from .recording import MOST_CYCLES
 
 # Bounds that all loops are given at once, up to the most that there is: of loops in loops the larger ones are too long.
 TRIED = (65_535, 8_191, 1_023, 127, 15)

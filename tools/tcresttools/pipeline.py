@@ -6,6 +6,7 @@ from dataclasses import dataclass, field
 
 from .assembly import code_of
 from .cli import BadInput
+from .code_text import CodeBundle, CodeItem, CodeLoop, TaskCode
 from .job import Job
 from .report import Report, Step
 
@@ -60,6 +61,25 @@ def texts_of(job: Job, listing: dict[int, list[int]]) -> dict[int, str]:
         elif row.statement.kind == "bundle":
             texts[row.place] = labels.get(row.place, "") + " ".join(row.statement.text.split())
     return texts
+
+
+def compiled_texts(code: TaskCode) -> dict[int, str]:
+    """The bundle at each place of the code of a task in C; the first one of a loop behind the loop's label."""
+    texts: dict[int, str] = {}
+    for function in code.functions:
+        add_texts(texts, function.start, function.items)
+    return texts
+
+
+def add_texts(texts: dict[int, str], start: int, items: list[CodeItem]) -> None:
+    """Adds the bundles of items of the function that starts at a place."""
+    for item in items:
+        if isinstance(item, CodeBundle):
+            texts[start + item.offset] = item.text
+        elif isinstance(item, CodeLoop):
+            add_texts(texts, start, item.items)
+            first = start + item.first
+            texts[first] = f"{item.label}: {texts[first]}"
 
 
 def columns_of(steps: list[Step]) -> list[tuple[int | None, str]]:

@@ -5,7 +5,7 @@ from __future__ import annotations
 import subprocess
 from dataclasses import dataclass
 
-from .cli import BadInput, program_path, read_file
+from .cli import BadInput, code_path, program_path, read_file
 
 STATUSES = range(8)
 
@@ -36,19 +36,27 @@ def run_program(program: str | None, command: str, job: bytes) -> Written:
 
 def run_words(program: str | None, words: list[str], given: bytes = b"") -> Written:
     """What the program writes when it is called with these words."""
-    path = program_path(program)
-    command = " ".join(words)
+    return run_path(program_path(program), words, given)
+
+
+def run_code(program: str | None, job: bytes) -> Written:
+    """What `tccode`, the program beside this one, writes of the code of a job's C tasks."""
+    return run_path(code_path(program), [], job)
+
+
+def run_path(path: str, words: list[str], given: bytes) -> Written:
+    """What the program at this path writes when it is called with these words."""
     try:
         done = subprocess.run([path, *words], input=given, capture_output=True, check=False)
     except OSError as error:
         raise BadInput(f"{path}: {error.strerror}") from None
     if done.returncode not in STATUSES:
-        raise BadInput(f"{path} {command} ended with status {done.returncode}, which the program has not")
+        raise BadInput(f"{' '.join([path, *words])} ended with status {done.returncode}, which the program has not")
     text = done.stdout.decode("utf-8", "replace")
     if done.returncode == 1:
-        raise BadInput(f"{path} does not know the command `{command}`: {text.strip()}")
+        raise BadInput(f"{path} does not know the command `{' '.join(words)}`: {text.strip()}")
     if done.returncode == 7:
-        raise BadInput(f"{path} {command}: memory was refused")
+        raise BadInput(f"{' '.join([path, *words])}: memory was refused")
     return Written(text, done.returncode)
 
 

@@ -7,14 +7,14 @@ from dataclasses import dataclass
 
 from .assembly import Code, code_of
 from .cli import BadInput
+from .code_text import TaskCode, code_of_task
 from .events import Bundle, Cause, Event, NoSequence, Sequence, Transaction
-from .flows import followed
-from .job import MOST_TRACE, Task, toml_string
+from .job import MOST_CYCLES, MOST_TRACE, Task, toml_string
 from .method_cache import MethodCache, fetch_words
 from .program import run_program
 from .report import Access, Report, Step, read_listing, read_report
+from .trail import Walk
 
-MOST_CYCLES = 20_000_000
 ALONE_SLOT = 6
 INTERFACE_TRAP = 6
 SENDS = "it sends to another core, and `pipe` lists the bundles of a core that is alone"
@@ -22,10 +22,10 @@ SENDS = "it sends to another core, and `pipe` lists the bundles of a core that i
 
 @dataclass(frozen=True)
 class Layout:
-    """For each bundle the first place of its function; and for each function the sizes in words that it may have."""
+    """For each bundle the first place of its function; and the size of each function in words."""
 
     functions: list[int]
-    sizes: dict[int, tuple[int, ...]]
+    sizes: dict[int, int]
 
 
 def alone_job(task: Task) -> bytes:
@@ -60,9 +60,8 @@ def recorded(task: Task, program: str | None) -> Sequence | None:
     if is_cut or len(core.accesses) == MOST_TRACE:
         return None
     layout = layout_of(task, [place_of(step) for step in steps], program)
-    causes = Causes(layout)
-    events = events_of(steps, core.accesses, layout, causes)
-    return Sequence(events, layout.functions, causes.known_sizes, core.value or 0)
+    events = events_of(steps, core.accesses, layout)
+    return Sequence(events, layout.functions, layout.sizes, core.value or 0)
 
 
 def place_of(step: Step) -> int:
@@ -73,9 +72,9 @@ def place_of(step: Step) -> int:
 
 
 def layout_of(task: Task, places: list[int], program: str | None) -> Layout:
-    """The functions of a task's code: from its words, which `asm` lists for assembly alone, or from its bundles."""
+    """The functions of a task's code: as `asm` lists its words for assembly, and as `tccode` writes it for C."""
     if task.lang == "c":
-        return compiled_layout(places)
+        return compiled_layout(code_of_task(task, program), places)
     words = read_listing(run_program(program, "asm", alone_job(task)).text)[0]
     return assembly_layout(code_of(task.source, words), places)
 
@@ -84,28 +83,25 @@ def assembly_layout(code: Code, places: list[int]) -> Layout:
     """The functions of bundles at these places, and their sizes, as the words of the code have them."""
     rows = code.rows
     starts = {row.function: row.place + 1 for row in rows if row.offset is None}
-    sizes: dict[int, tuple[int, ...]] = {row.place + 1: (row.words[0],) for row in rows if row.offset is None}
+    sizes = {row.place + 1: row.words[0] for row in rows if row.offset is None}
     owners = {row.place: starts[row.function] for row in rows if row.statement.kind == "bundle"}
     if (other := next((place for place in places if place not in owners), None)) is not None:
         raise BadInput(f"a step is at place {other}, where this text has no bundle")
     return Layout([owners[place] for place in places], sizes)
 
 
-def compiled_layout(places: list[int]) -> Layout:
-    """The functions of compiled C. Its last bundle has one word or two, so a function has one of two sizes.
-
-    All bundles of a function that is called are run, up to the last delay slot of its return.
-    """
-    functions = followed(places).functions
-    last: dict[int, int] = {}
-    for function, place in zip(functions, places, strict=True):
-        last[function] = max(last.get(function, 0), place)
-    return Layout(functions, {start: (end - start + 1, end - start + 2) for start, end in last.items()})
+def compiled_layout(code: TaskCode, places: list[int]) -> Layout:
+    """The functions of compiled C, whose bundles are executed in the order that its code says."""
+    steps = list(Walk(code).steps())
+    if [step.place for step in steps] != places:
+        raise BadInput("the steps that `pipe` lists are not those of the code that `tccode` writes")
+    return Layout([step.here.function.start for step in steps], {one.start: one.words for one in code.functions})
 
 
-def events_of(steps: list[Step], accesses: list[Access], layout: Layout, causes: Causes) -> list[Event]:
+def events_of(steps: list[Step], accesses: list[Access], layout: Layout) -> list[Event]:
     """The steps and accesses of a run as one sequence of events with their causes."""
     take = taker(accesses)
+    causes = Causes(layout.sizes)
     events: list[Event] = [*causes.entering(take(steps[0].cycle), layout.functions[0])]
     for number, step in enumerate(steps):
         events.append(Bundle(place_of(step)))
@@ -138,25 +134,18 @@ def data_of(accesses: list[Access]) -> list[Transaction]:
 class Causes:
     """Tells the fetch of a function from what the bundle before it moves, by the functions that the cache holds."""
 
-    def __init__(self, layout: Layout) -> None:
-        self.sizes = dict(layout.sizes)
+    def __init__(self, sizes: dict[int, int]) -> None:
+        self.sizes = sizes
         self.cache = MethodCache()
-
-    @property
-    def known_sizes(self) -> dict[int, int]:
-        """The size of each function that was fetched."""
-        return {function: sizes[0] for function, sizes in self.sizes.items() if len(sizes) == 1}
 
     def entering(self, accesses: list[Access], function: int) -> list[Transaction]:
         """The transactions between a bundle and the first one of the function that is entered next."""
         if self.cache.holds(function):
             return data_of(accesses)
-        for size in self.sizes[function]:
-            words = fetch_words(size)
-            fetched = accesses[-len(words) :]
-            if [access.words for access in fetched] == words and all(access.kind == "read" for access in fetched):
-                self.sizes[function] = (size,)
-                self.cache.fetch(function, size)
-                moved = data_of(accesses[: -len(words)])
-                return moved + [Transaction(access.kind, access.words, Cause.FETCH) for access in fetched]
-        raise NoSequence(f"the function at place {function} is entered without the transactions of its fetch")
+        words = fetch_words(self.sizes[function])
+        fetched = accesses[-len(words) :]
+        if [access.words for access in fetched] != words or any(access.kind != "read" for access in fetched):
+            raise NoSequence(f"the function at place {function} is entered without the transactions of its fetch")
+        self.cache.fetch(function, self.sizes[function])
+        moved = data_of(accesses[: -len(words)])
+        return moved + [Transaction(access.kind, access.words, Cause.FETCH) for access in fetched]

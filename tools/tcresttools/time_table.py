@@ -4,16 +4,17 @@ from __future__ import annotations
 
 import csv
 import io
+from collections.abc import Sequence
 from dataclasses import dataclass
 
-from .bound_parts import task_bounds
 from .cli import BadInput
+from .code_text import codes_of
 from .job import MOST_TRACE, Job, Task
 from .program import accepted, run_program
 from .replay import Differs
 from .report import Core, read_report
 from .sequence import NoSequence
-from .task_time import Row, TaskTime, time_of
+from .task_time import PartRow, Row, TaskTime, inlined_lines, time_of
 
 BAR = 10
 MOST_TEXT = 60
@@ -22,7 +23,7 @@ WITH_CALLS = "with calls"
 LEFT = ("part", "")
 CSV_HEAD = [
     "core", "function", "part", "depth", "line", "column", "first", "last", "entered", "iterations", "cycles",
-    "percent", "own", "with_calls", "bundles", "fetch", "memory", "fetches", "accesses", "text",
+    "percent", "own", "with_calls", "bundles", "fetch", "memory", "fetches", "accesses", "inlined", "text",
 ]  # fmt: skip
 
 
@@ -56,7 +57,7 @@ def told_of(job: Job, cores: dict[int, Core], program: str | None) -> list[Told]
         try:
             found.append(Told(task, core, time_of(job, task, core, program)))
         except NoSequence as reason:
-            bundles = task_bounds(program, job)[task.core].bound.bundles
+            bundles = codes_of(program, job.data, job.path)[task.core].bundles
             found.append(Told(task, core, None, str(reason), bundles))
     return found
 
@@ -75,7 +76,7 @@ def percent(part: int, whole: int) -> float:
     return 100 * part / whole if whole else 0.0
 
 
-def iterations_text(row: Row) -> str:
+def iterations_text(row: PartRow) -> str:
     """How often a function is run; of a loop its iterations, behind how often it is entered if more than once."""
     part = row.part
     if not part.is_loop or part.entered == 1:
@@ -83,12 +84,12 @@ def iterations_text(row: Row) -> str:
     return f"{part.entered} x {part.turns // part.entered}"
 
 
-def line_text(row: Row, time: TaskTime) -> str:
+def line_text(row: PartRow, rows: Sequence[PartRow]) -> str:
     """The line of a part; with its column, where several parts are in one line."""
     if row.place is None:
         return ""
-    same = [one for one in time.rows if one.place is not None and one.place.line == row.place.line]
-    return str(row.place.line) if len(same) == 1 else f"{row.place.line}:{row.place.column}"
+    columns = {one.place.column for one in rows if one.place is not None and one.place.line == row.place.line}
+    return str(row.place.line) if len(columns) == 1 else f"{row.place.line}:{row.place.column}"
 
 
 def shown_text(text: str) -> str:
@@ -103,11 +104,11 @@ def cells(row: Row, time: TaskTime, calls: bool) -> list[str]:
     share = percent(cost.cycles, whole)
     indent = "  " * (row.named.depth + row.part.is_loop)
     shown = [
-        line_text(row, time),
-        indent + row.named.label,
+        line_text(row, time.rows),
+        indent + row.named.shown,
         str(cost.cycles),
         f"{share:.1f}",
-        "#" * round(share * BAR / 100),
+        bar_of(share),
         str(cost.own),
         str(cost.bundles),
         str(cost.fetch),
@@ -128,6 +129,11 @@ def aligned(rows: list[list[str]], left: set[int]) -> list[str]:
     return lines
 
 
+def bar_of(share: float) -> str:
+    """A bar for a share in per cent."""
+    return "#" * round(share * BAR / 100)
+
+
 def has_calls(time: TaskTime) -> bool:
     return sum(not row.part.is_loop for row in time.rows) > 1
 
@@ -145,9 +151,9 @@ def dearest_line(time: TaskTime) -> str:
     row = time.dearest_loop()
     if row is None:
         return "it has no loop"
-    where = row.named.function if row.place is None else f"line {line_text(row, time)}, in {row.named.function}"
+    where = row.named.function if row.place is None else f"line {line_text(row, time.rows)}, in {row.named.function}"
     share = percent(row.cost.own, time.total.cycles)
-    line = f"the loop that costs most: {row.named.label} at {where}, {row.cost.own} cycles of its own, {share:.1f} %"
+    line = f"the loop that costs most: {row.named.shown} at {where}, {row.cost.own} cycles of its own, {share:.1f} %"
     if row.cost.with_calls == row.cost.cycles:
         return line
     share = percent(row.cost.with_calls, time.total.cycles)
@@ -173,6 +179,7 @@ def told_lines(told: Told) -> list[str]:
         dearest_line(told.time),
         "",
         *table_of(told.time),
+        *inlined_lines(told.time.inlined),
     ]
 
 
@@ -181,12 +188,13 @@ def csv_rows(time: TaskTime) -> list[list[object]]:
     for row in time.rows:
         cost, part, place = row.cost, row.part, row.place
         at: list[object] = ["", ""] if place is None else [place.line, place.column]
-        places: list[object] = [part.first, part.last] if time.sequence.is_placed else ["", ""]
+        places: list[object] = [part.first, part.last]
         rows.append(
             [time.task.core, row.named.function, row.named.label, row.named.depth, *at, *places]
             + [part.entered, part.turns]
             + [cost.cycles, round(percent(cost.cycles, time.total.cycles), 2), cost.own, cost.with_calls]
-            + [cost.bundles, cost.fetch, cost.memory, cost.fetches, cost.accesses, row.text]
+            + [cost.bundles, cost.fetch, cost.memory, cost.fetches, cost.accesses]
+            + [" ".join(row.named.inlined), row.text]
         )
     return rows
 

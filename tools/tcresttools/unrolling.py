@@ -1,52 +1,42 @@
-"""What a C task does in order where that is more than the program lists: worked out from two iterations of each loop.
+"""What a C task does in order, worked out from a run of another text with the same transactions.
 
-The same text with the bound of each loop lowered to two, and the limit of each `for` that counts just to its bound,
-has the same code but for the constants that count iterations.
-An iteration after the second does what the second does: after the first one the data cache holds, at each index, the
-line that it loaded there last, and the stack cache holds what it leaves, so all later ones begin alike and are alike.
+A text with the bound of each loop lowered to two, and the limit of each `for` that counts just to its bound, has the
+same loads, stores and stack instructions. An iteration after the second does what the second does: after the first one
+the data cache holds, at each index, the line that it loaded there last, and the stack cache holds what it leaves. So
+all later ones begin alike and are alike. A text with other statements in place of each `send` has the same ones too,
+since a transfer moves no words of main memory.
+So the bundles are those of the task's own code, and each of them that may move words moves what it does in that run.
 What the method cache does is worked out anew, by its rules.
 """
 
 from __future__ import annotations
 
 import re
+from collections import Counter
 from collections.abc import Iterator
 from dataclasses import dataclass, field, replace
 
-from .attribution import CodePart, parts_of
 from .c_text import Token, number_of, tokens_of
+from .code_text import CodeBundle, CodeItem, CodeLoop, TaskCode
 from .events import Bundle, Cause, Event, NoSequence, Sequence, Transaction
-from .flows import Flow, followed
 from .job import Task
 from .linting import counted_for, is_plain
 from .mending import Edit, Mended
 from .method_cache import MethodCache, fetch_words
-from .naming import functions_of
 from .recording import recorded
+from .trail import Here, Walk
 
 KEPT_TURNS = 2
 MOST_BUNDLES = 2_000_000
 
 
-@dataclass
-class Turns:
-    """A loop that is entered: its first place and its last one, and what each of its iterations does."""
-
-    first: int
-    last: int
-    turns: list[list[Step]]
-
-
 @dataclass(frozen=True)
 class Done:
-    """A bundle that is done: the first place of its function, and the words that it asks for."""
+    """A bundle that is done, the first place of its function, and the words that it moves."""
 
-    bundle: Bundle
+    place: int
     function: int
     data: list[Transaction] = field(default_factory=list)
-
-
-Step = Done | Turns
 
 
 def lowered(source: bytes) -> bytes:
@@ -79,104 +69,60 @@ def lowered_limit(tokens: list[Token], at: int, most: int) -> list[Edit]:
     return [Edit(tokens[at + 8].at, tokens[at + 8].end, str(limit))]
 
 
-def done_of(sequence: Sequence) -> list[Done]:
-    """The bundles of a sequence with the words that they ask for, without the fetches of functions."""
-    found: list[Done] = []
+def moved_by(sequence: Sequence) -> list[list[Transaction]]:
+    """What each bundle of a sequence moves, without the fetches of functions."""
+    found: list[list[Transaction]] = []
     for event in sequence.events:
         if isinstance(event, Bundle):
-            found.append(Done(event, sequence.functions[len(found)]))
+            found.append([])
         elif event.cause is Cause.DATA:
-            found[-1].data.append(event)
+            found[-1].append(event)
     return found
 
 
-class Tree:
-    """The bundles of a run as a tree: what a task does once, and its loops with their iterations."""
-
-    def __init__(self, parts: list[CodePart]) -> None:
-        self.loops = {part.first: part for part in parts if part.is_loop}
-        self.root: list[Step] = []
-        self.open: list[list[Turns]] = [[]]  # of each function that is called, the loops that are entered
-
-    @property
-    def here(self) -> list[Step]:
-        """Where the next bundle goes: the iteration of the innermost loop that is entered."""
-        for loops in reversed(self.open):
-            if loops:
-                return loops[-1].turns[-1]
-        return self.root
-
-    def add(self, done: Done, flow: Flow | None) -> None:
-        place = done.bundle.place
-        if flow is Flow.CALL:
-            self.open.append([])
-        elif flow is Flow.RETURN:
-            self.open.pop()
-        loops = self.open[-1]
-        while loops and not loops[-1].first <= place <= loops[-1].last:
-            loops.pop()
-        if flow is Flow.BACK:
-            while loops[-1].first != place:
-                loops.pop()
-            loops[-1].turns.append([])
-        elif place in self.loops and flow is not Flow.RETURN:
-            begun = Turns(place, self.loops[place].last, [[]])
-            self.here.append(begun)
-            loops.append(begun)
-        self.here.append(done)
-
-
-def tree_of(sequence: Sequence, parts: list[CodePart]) -> list[Step]:
-    """The tree of a sequence."""
-    tree = Tree(parts)
-    dones = done_of(sequence)
-    flows = followed([done.bundle.place for done in dones]).flows
-    for done, flow in zip(dones, flows, strict=True):
-        tree.add(done, flow)
-    return tree.root
-
-
-def turns_in_text(parts: list[CodePart], source: bytes) -> dict[int, int]:
-    """How often each loop of the code iterates by the text, by its first place."""
-    turns = {}
-    for function in functions_of(parts, source, KEPT_TURNS):
-        if function.shown is None:
-            raise NoSequence("it is too long to be listed, and the loops of its text don't fit those of its code")
-        for loop, shown in zip(function.loops, function.shown, strict=True):
-            turns[parts[loop].first] = shown.turns
-    return turns
-
-
-def count(steps: list[Step], turns: dict[int, int]) -> int:
-    """How many bundles are done where each loop iterates so often."""
-    total = 0
-    for step in steps:
-        if isinstance(step, Done):
-            total += 1
+def moves_of(items: list[CodeItem]) -> list[object]:
+    """What of items decides their transactions: instructions that move words, loops and calls, in their order."""
+    found: list[object] = []
+    for item in items:
+        if isinstance(item, CodeBundle):
+            found += [item.moves] if item.may_move else []
         else:
-            counts = [count(turn, turns) for turn in step.turns]
-            total += sum(counts) + counts[-1] * (turns[step.first] - len(counts))
-    return total
+            found.append(moves_of(item.items) if isinstance(item, CodeLoop) else item.name)
+    return found
 
 
-def all_turns(loop: Turns, turns: dict[int, int]) -> list[list[Step]]:
-    """All iterations of a loop: those that were run, and the last of them again and again."""
-    more = turns[loop.first] - len(loop.turns)
-    return loop.turns + [loop.turns[-1]] * more
+def moves_alike(code: TaskCode, other: TaskCode) -> bool:
+    """Both have the same functions, which move words in the same loops and calls. Iterations may differ."""
+    names = [[one.name for one in task.functions] for task in (code, other)]
+    moves = [[moves_of(one.items) for one in task.functions] for task in (code, other)]
+    return names[0] == names[1] and moves[0] == moves[1]
 
 
-def flat(steps: list[Step], turns: dict[int, int]) -> Iterator[Done]:
-    """The bundles that are done, in order."""
-    for step in steps:
-        if isinstance(step, Done):
-            yield step
-        else:
-            for turn in all_turns(step, turns):
-                yield from flat(turn, turns)
+def places_of_moves(code: TaskCode, sequence: Sequence) -> tuple[Here, dict[Here, list[list[Transaction]]]]:
+    """The run of a code: where it begins, and at each place of it what its bundles that may move words move."""
+    walk = Walk(code)
+    found: dict[Here, list[list[Transaction]]] = {}
+    for step, moved in zip(walk.steps(), moved_by(sequence), strict=True):
+        if step.bundle.may_move:
+            found.setdefault(step.here, []).append(moved)
+        elif moved:
+            raise NoSequence(f"the bundle at place {step.place} moves words, and its code names none")
+    return walk.first, found
+
+
+def dones_of(code: TaskCode, first: Here, moves: dict[Here, list[list[Transaction]]]) -> Iterator[Done]:
+    """The bundles of a code in their order, with what they move in the run of another one."""
+    taken: Counter[Here] = Counter()
+    for step in Walk(code).steps(first):
+        data: list[Transaction] = []
+        if step.bundle.may_move and step.beside is not None:
+            data = moves[step.beside][taken[step.here]]
+            taken[step.here] += 1
+        yield Done(step.place, step.here.function.start, data)
 
 
 def with_fetches(dones: Iterator[Done], sizes: dict[int, int], value: int) -> Sequence:
-    """The bundles with the words that they ask for, and with the fetches of functions that the method cache lacks."""
+    """The bundles with the words that they move, and with the fetches of functions that the method cache lacks."""
     cache = MethodCache()
     events: list[Event] = []
     functions: list[int] = []
@@ -186,21 +132,28 @@ def with_fetches(dones: Iterator[Done], sizes: dict[int, int], value: int) -> Se
             size = sizes[done.function]
             cache.fetch(done.function, size)
             events += [Transaction("read", words, Cause.FETCH) for words in fetch_words(size)]
-        events.append(done.bundle)
+        events.append(Bundle(done.place))
         events += done.data
         functions.append(done.function)
     return Sequence(events, functions, sizes, value)
 
 
-def unrolled(task: Task, program: str | None) -> Sequence:
-    """What a C task does in order, worked out from two iterations of each of its loops."""
-    short = recorded(replace(task, source=lowered(task.source)), program)
-    if short is None:
+def recorded_shorter(task: Task, program: str | None) -> tuple[Task, Sequence]:
+    """A text that makes the same transactions, as it is or with two iterations of each loop, and its run."""
+    run = recorded(task, program)
+    if run is not None:
+        return task, run
+    short = replace(task, source=lowered(task.source))
+    run = recorded(short, program)
+    if run is None:
         raise NoSequence("it is too long to be listed, even with two iterations of each of its loops")
-    parts = parts_of(short.places)
-    turns = turns_in_text(parts, task.source)
-    tree = tree_of(short, parts)
-    bundles = count(tree, turns)
-    if bundles > MOST_BUNDLES:
-        raise NoSequence(f"it does {bundles:,} bundles, and {MOST_BUNDLES:,} are the most that are replayed")
-    return with_fetches(flat(tree, turns), short.sizes, short.value)
+    return short, run
+
+
+def worked_out(code: TaskCode, other: TaskCode, run: Sequence) -> Sequence:
+    """What a C task of this code does in order, from the run of another code that makes the same transactions."""
+    if not moves_alike(code, other):
+        raise NoSequence("the text that can be listed in its place has other loads and stores, or other calls")
+    first, moves = places_of_moves(other, run)
+    sizes = {one.start: one.words for one in code.functions}
+    return with_fetches(dones_of(code, first, moves), sizes, run.value)

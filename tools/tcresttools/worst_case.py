@@ -14,7 +14,6 @@ from .job import Job, Task, toml_string
 from .program import accepted, run_program
 from .replay import Differs, Slots, pace_of
 from .report import Core, read_report
-from .sends import targets_of
 from .sequence import MOST_CYCLES, NoSequence, sequence_of
 
 End = Callable[[int], int]
@@ -56,17 +55,11 @@ def cycles_from(job: Job, task: Task, start: int, program: str | None) -> int:
 
 
 def end_of(job: Job, task: Task, slots: Slots, program: str | None) -> tuple[End, bool]:
-    """A call that gives the end from a start, and whether it replays.
-
-    Where the bundles of a task can't be listed, as those of one that sends, it runs the program instead.
-    """
+    """A call that gives the end from a start, and whether it replays. A task that is too long runs instead."""
     try:
-        sequence = None if targets_of(task.source) else sequence_of(task, program)
+        pace = pace_of(sequence_of(task, program))
     except NoSequence:
-        sequence = None
-    if sequence is None:
         return lambda start: start + cycles_from(job, task, start, program), False
-    pace = pace_of(sequence)
     return lambda start: pace.end(slots, start), True
 
 

@@ -42,10 +42,14 @@ def load(name: str) -> ModuleType:
 
 @pytest.fixture(scope="session")
 def program() -> str:
-    """The program: what TCREST names, or bin/tcrest; without one the tests that run it are passed over."""
+    """The program: what TCREST names, or bin/tcrest; without one the tests that run it are passed over.
+
+    TCCODE then names the program that writes code, as it does already, or beside the program.
+    """
     path = os.environ.get("TCREST") or str(ROOT / "bin" / "tcrest")
     if not os.path.isfile(path):
         pytest.skip("there is no program: run ./build, or name it by TCREST")
+    os.environ.setdefault("TCCODE", str(Path(path).resolve().with_name("tccode")))
     return str(Path(path).resolve())
 
 

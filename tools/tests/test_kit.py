@@ -10,6 +10,9 @@ from pathlib import Path
 import pytest
 from conftest import ROOT, Tool, load
 
+from tcresttools.cli import code_path
+from tcresttools.code_text import read_code
+
 
 @pytest.fixture(scope="module")
 def kit(program: str, tmp_path_factory: pytest.TempPathFactory) -> Path:
@@ -17,7 +20,7 @@ def kit(program: str, tmp_path_factory: pytest.TempPathFactory) -> Path:
     folder = tmp_path_factory.mktemp("kit")
     archive = folder / "tcrest-kit.tar.gz"
     module = load("kit")
-    module.pack(archive, module.packed_files(ROOT, Path(program)), "tcrest-kit")
+    module.pack(archive, module.packed_files(ROOT, Path(program), Path(code_path(program))), "tcrest-kit")
     with tarfile.open(archive) as packed:
         packed.extractall(folder / "clean")
     (folder / "path").mkdir()
@@ -48,6 +51,12 @@ def test_the_program_runs(kit: Path) -> None:
     assert (done.returncode, done.stdout) == (0, (ROOT / "examples/one_core.report").read_bytes())
 
 
+def test_the_program_that_writes_code_runs(kit: Path, program: str) -> None:
+    done = call(kit, "bin/tccode", given=(ROOT / "examples/c/filter.toml").read_bytes())
+    (code,) = read_code(done.stdout.decode())
+    assert (done.returncode, [one.name for one in code.functions]) == (0, ["main", "step"])
+
+
 @pytest.mark.parametrize(
     "line,stored",
     [
@@ -59,6 +68,8 @@ def test_the_program_runs(kit: Path) -> None:
         ("tools/profile examples/method_cache.toml", "method_cache.profile"),
         ("tools/timeline examples/stack.toml --svg -", "stack.svg"),
         ("tools/where examples/c/filter.toml", "filter.where"),
+        ("tools/bounds examples/c/deadlines.toml --persist", "deadlines.bounds"),
+        ("tools/listing examples/c/filter.toml", "filter.listing"),
         ("tools/worst examples/c/table_skewed.toml", "table_skewed.worst"),
     ],
 )
@@ -77,14 +88,15 @@ def test_a_sweep_and_a_schema(kit: Path) -> None:
 
 def test_the_same_files_give_the_same_entries(program: str, tmp_path: Path) -> None:
     module = load("kit")
-    files = module.packed_files(ROOT, Path(program))
+    files = module.packed_files(ROOT, Path(program), Path(code_path(program)))
     for name in ("a.tar.gz", "b.tar.gz"):
         module.pack(tmp_path / name, files, "kit")
     with tarfile.open(tmp_path / "a.tar.gz") as one, tarfile.open(tmp_path / "b.tar.gz") as other:
         entries = [(entry.name, entry.size, entry.mode, entry.mtime, entry.uid) for entry in one]
         assert entries == [(entry.name, entry.size, entry.mode, entry.mtime, entry.uid) for entry in other]
     assert {entry[3:] for entry in entries} == {(0, 0)}
-    assert ("kit/bin/tcrest", Path(program).stat().st_size, 0o755, 0, 0) in entries
+    for name, path in (("tcrest", program), ("tccode", code_path(program))):
+        assert (f"kit/bin/{name}", Path(path).stat().st_size, 0o755, 0, 0) in entries
 
 
 def test_the_tool_names_what_it_packed(tool: Tool, tmp_path: Path) -> None:

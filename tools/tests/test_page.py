@@ -11,6 +11,7 @@ import pytest
 from browser import Browser, browser, browser_path
 from conftest import ROOT
 
+from tcresttools.code_text import CodeLoop, bundles_of, codes_of
 from tcresttools.job import MOST_TRACE
 from tcresttools.pages.document import page
 from tcresttools.pages.facts import facts_of
@@ -76,16 +77,57 @@ def line_numbers(job: Path, first: str, last: str) -> list[int]:
     return list(range(begin, end + 1))
 
 
-def test_a_click_on_a_loop_marks_its_code(opened: Any) -> None:
+def places_of(job: Path, program: str) -> tuple[list[int], list[int]]:
+    """The places of the bundles of a job's first loop, and of its second function, as `tccode` writes them."""
+    (code,) = codes_of(program, job.read_bytes(), str(job)).values()
+    main, other = code.functions
+    loop = next(item for item in main.items if isinstance(item, CodeLoop))
+    return [main.start + one.offset for one in bundles_of(loop.items)], [
+        other.start + one.offset for one in bundles_of(other.items)
+    ]
+
+
+MARKED_PLACES = "[...document.querySelectorAll('.code tr.bundle.marked th')].map(place => Number(place.textContent))"
+MARKED_PARTS = "[...document.querySelectorAll('.time tr.marked a')].map(a => a.textContent)"
+
+
+def test_a_click_on_a_loop_marks_its_code(opened: Any, program: str) -> None:
     job = ROOT / "examples/c/filter.toml"
     found = opened(job)
     loop = line_numbers(job, "for (i", "    }")
+    of_loop, of_step = places_of(job, program)
     found.click(".time tr.loop a")
-    assert found.value(MARKED_LINES) == loop
-    found.click(f".source tr[data-line='{loop[2]}'] pre")
-    assert found.value("[...document.querySelectorAll('.time tr.marked a')].map(a => a.textContent)") == ["for"]
+    assert (found.value(MARKED_LINES), found.value(MARKED_PLACES)) == (loop, of_loop)
     found.click(".source tr[data-line='%d'] th" % line_numbers(job, "int step", "}")[0])
-    assert found.value("[...document.querySelectorAll('.time tr.marked a')].map(a => a.textContent)") == ["step()"]
+    assert (found.value(MARKED_PARTS), found.value(MARKED_PLACES)) == ([], of_step)
+    found.click(f".source tr[data-line='{loop[2]}'] pre")
+    assert (found.value(MARKED_PARTS), found.value(MARKED_PLACES)) == (["for"], of_loop)
+    found.click(".code tr.bundle")
+    assert found.value(MARKED_PARTS) == ["main()"]
+    # a bundle of the loop marks the loop
+    found.value("document.querySelectorAll('.code tr.bundle.marked')[25].scrollIntoView()")
+    found.click(".code tr.bundle[data-part='core-0-part-1 core-0-part-0']")
+    assert (found.value(MARKED_LINES), found.value(MARKED_PARTS)) == (loop, ["for"])
+    assert found.complaints() == []
+
+
+def test_code_by_keys_alone(opened: Any, program: str) -> None:
+    job = ROOT / "examples/c/filter.toml"
+    found = opened(job)
+    of_loop, of_step = places_of(job, program)
+    names = "document.activeElement.closest('.pane')?.getAttribute('aria-label')"
+    found.value("document.querySelector('.source a').focus()")
+    for wanted in ("Functions and loops", "Code"):
+        found.key("Tab")
+        assert found.value(names) == wanted
+    found.key("ArrowDown")
+    found.key("Enter")
+    assert (found.value(MARKED_PARTS), found.value(MARKED_PLACES)) == (["for"], of_loop)
+    assert found.value(MARKED_LINES) == line_numbers(job, "for (i", "    }")
+    found.key("ArrowDown")
+    found.key("Enter")
+    assert found.value(MARKED_PLACES) == of_step
+    assert found.value(MARKED_LINES) == line_numbers(job, "int step", "}")
     assert found.complaints() == []
 
 

@@ -13,9 +13,10 @@ from conftest import ROOT, Tool
 
 from tcresttools.c_text import tokens_of
 from tcresttools.cli import BadInput
+from tcresttools.code_text import bundles_of, codes_of
+from tcresttools.extents import behind_bracket
 from tcresttools.job import MOST_TRACE, job_of, toml_values
 from tcresttools.lives import Span, merged
-from tcresttools.pages.c_part import behind_bracket
 from tcresttools.pages.cores_part import cores_part
 from tcresttools.pages.document import page
 from tcresttools.pages.facts import facts_of
@@ -193,8 +194,43 @@ def test_a_page_needs_no_other_file(program: str) -> None:
     assert data_of(made)["kinds"] == KINDS
 
 
+def test_the_code_of_c_is_whole(program: str) -> None:
+    """Each bundle that `tccode` writes is in the page, with its words, in the parts that the code has it in."""
+    job = ROOT / "examples/port/route.toml"
+    made = page_of(job, program)
+    (code,) = codes_of(program, job.read_bytes(), str(job)).values()
+    rows = re.findall(r'<tr class="bundle" data-part="([^"]*)">(.*?)</tr>', made)
+    shown = [unescape(re.sub("<[^>]*>", " ", row)).split() for _, row in rows]
+    wanted = [
+        f"{one.start + bundle.offset} {bundle.offset} {' '.join(f'{word:08x}' for word in bundle.words)} {bundle.text}"
+        for one in code.functions
+        for bundle in bundles_of(one.items)
+    ]
+    assert shown == [line.split() for line in wanted]
+    # the innermost loop of `main`: two loops and the function are around it
+    deepest = [parts.split() for parts, _ in rows if len(parts.split()) == 4]
+    assert {parts[-1] for parts in deepest} == {"core-0-part-0"} and len({tuple(parts) for parts in deepest}) == 1
+
+
+def test_a_loop_that_is_inlined_is_in_the_text_of_its_own_function(program: str) -> None:
+    job = ROOT / "examples/port/route.toml"
+    made = page_of(job, program)
+    line = next(at for at, words in enumerate(job.read_text().splitlines(), 1) if "while (entries[last" in words)
+    row = re.search(rf'<tr data-part="([^"]*)" data-line="{line}">(.*?)</tr>', made)
+    link = r'<a href="#([^"]*)" data-part="[^"]*">([^<]*)</a></td><td class="n" data-of="cycles"'
+    names = dict(re.findall(link, made))
+    assert row is not None
+    assert [names[part] for part in row.group(1).split()] == ["while, append() inlined", "while", "append()"]
+    # the line shows the cycles of both loops, the one that is inlined and the function's own
+    cycles = re.findall(r'>(while[^<]*)</a></td><td class="n" data-of="cycles"><span[^>]*>([0-9,]+)<', made)
+    both = [int(number.replace(",", "")) for _, number in cycles[1:]]
+    assert [name for name, _ in cycles] == ["while", "while, append() inlined", "while"]
+    assert f">{sum(both):,}</span>" in row.group(2)
+    assert "append() is inlined in main(), where line" in made
+
+
 def test_each_link_has_its_goal(program: str) -> None:
-    for path in ("examples/two_cores.toml", "examples/c/filter.toml", "examples/trap.toml"):
+    for path in ("examples/two_cores.toml", "examples/c/filter.toml", "examples/trap.toml", "examples/port/route.toml"):
         made = page_of(ROOT / path, program)
         goals = set(re.findall(r' id="([^"]+)"', made))
         assert set(re.findall(r'href="#([^"]+)"', made)) <= goals

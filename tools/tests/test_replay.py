@@ -2,18 +2,21 @@
 
 from __future__ import annotations
 
+from dataclasses import replace
+
 import pytest
 from conftest import ROOT
 
+from tcresttools.code_text import code_of_task
 from tcresttools.events import Bundle, Cause, Event, Sequence, Transaction
-from tcresttools.job import Task, job_of, read_job, toml_values
+from tcresttools.job import MOST_TRACE, Task, job_of, read_job, toml_values
 from tcresttools.method_cache import MethodCache, fetch_words
 from tcresttools.program import run_program
 from tcresttools.recording import recorded
 from tcresttools.replay import Differs, Replayed, Slots, compared, difference, pace_of, replay
 from tcresttools.report import Access, Core, read_report
 from tcresttools.sequence import sequence_of
-from tcresttools.unrolling import lowered, unrolled
+from tcresttools.unrolling import lowered, worked_out
 from tcresttools.worst_case import platform_job
 
 
@@ -152,9 +155,10 @@ def test_a_replay_is_what_the_program_reports(
 def test_each_function_is_fetched_once(program: str) -> None:
     found = sequence_of(c_task(CALLS), program)
     fetched = [event.words for event in found.transactions if event.cause is Cause.FETCH]
-    # three functions are run, and all stay in the method cache
-    assert len(found.sizes) == 3
-    assert sum(fetched) == sum(size + 1 for size in found.sizes.values())
+    # the functions that are run all stay in the method cache
+    assert sum(fetched) == sum(found.sizes[function] + 1 for function in set(found.functions))
+    # one is never called
+    assert set(found.functions) < set(found.sizes) and len(found.sizes) == 4
 
 
 def test_functions_that_are_evicted_are_fetched_again(program: str) -> None:
@@ -177,12 +181,20 @@ def test_bounds_are_lowered_to_two_turns() -> None:
     )
 
 
+def with_two_turns(task: Task, program: str) -> Sequence:
+    """What the task does, worked out from two iterations of each of its loops."""
+    short = replace(task, source=lowered(task.source))
+    run = recorded(short, program)
+    assert run is not None
+    return worked_out(code_of_task(task, program), code_of_task(short, program), run)
+
+
 @pytest.mark.parametrize("name", ["filter", "sort"])
 def test_two_turns_of_each_loop_give_the_whole(name: str, program: str) -> None:
     task = read_job(str(ROOT / f"examples/c/{name}.toml")).tasks[0]
     whole = recorded(task, program)
     assert whole is not None
-    assert unrolled(task, program).events == whole.events
+    assert with_two_turns(task, program).events == whole.events
 
 
 @pytest.mark.parametrize("most,head,two", [
@@ -202,11 +214,11 @@ def test_loops_that_count_to_their_bounds_count_to_two(most: int, head: str, two
 def test_a_long_task_is_replayed(program: str) -> None:
     source = """
     int t[9];
-    int f(int x) { t[x & 7] = x; return x % 7; }
+    int f(int x) { t[x & 7] = x; return x % t[1]; }
     int main() {
         int i; int s = 0;
-        _Pragma("loopbound min 0 max 290")
-        for (i = 0; i < 290; i = i + 1) { int d = f(i); s = s + d; }
+        _Pragma("loopbound min 0 max 460")
+        for (i = 0; i < 460; i = i + 1) { int d = f(i); s = s + d; }
         return s;
     }
     """
@@ -214,7 +226,7 @@ def test_a_long_task_is_replayed(program: str) -> None:
     text += f"source = '''{source}'''\n"
     job = job_of("job.toml", text.encode(), toml_values(text.encode()))
     found = sequence_of(job.tasks[0], program)
-    assert len(found.functions) > 65_536
+    assert len(found.functions) > MOST_TRACE
     report = read_report(run_program(program, "run", platform_job(job, job.tasks[0], 3)).text)
     assert replay(found, 8, [1, 0], 0, 3).taken == report.cores[0].cycles
 
@@ -236,7 +248,7 @@ def test_fills_in_front_of_a_fetch_are_told_apart(program: str) -> None:
     assert sum(fetched) == sum(size + 1 for size in whole.sizes.values())
     kinds = {event.kind for event in whole.transactions if event.cause is Cause.DATA}
     assert kinds == {"read", "write"}
-    assert unrolled(task, program).events == whole.events
+    assert with_two_turns(task, program).events == whole.events
 
 
 def test_what_a_report_lists() -> None:

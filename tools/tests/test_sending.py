@@ -1,20 +1,19 @@
-"""Tasks that send: their replays are what the program reports, and their loops have the bundles that bounds tell."""
+"""Tasks that send: their replays are what the program reports, on other slots, tables and starts."""
 
 from __future__ import annotations
 
 import pytest
 
-from tcresttools.attribution import attributed, costs_of
-from tcresttools.c_text import tokens_of
+from tcresttools.code_text import code_of_task
 from tcresttools.events import NoSequence
-from tcresttools.job import Task
+from tcresttools.job import MOST_TRACE, Task
 from tcresttools.program import run_program
 from tcresttools.replay import difference, replay
 from tcresttools.report import read_report
-from tcresttools.send_sites import padding, rewritten, site_at, sites_of
+from tcresttools.send_sites import without_sends
 from tcresttools.sends import targets_of
-from tcresttools.sending import Alone
 from tcresttools.sequence import sequence_of
+from tcresttools.unrolling import moves_alike
 
 LOOP = """
 int in[8]; int out[8];
@@ -45,7 +44,22 @@ int main() {
     return t[0];
 }
 """
+DIVIDES = "int a; int main() { send(1, a / 3, shared[2] / a, 3); return comm[0] / 7; }"
+LOADS = "int t[9]; int main() { int j = 1; send(1, t[j] + (t[2] + t[3]), t[5], t[6] & t[7]); return t[0]; }"
+LONG = """
+int t[9];
+int f(int x) { t[x & 7] = x; send(1, x & 3, 2, 1); return x % t[1]; }
+int main() {
+    int i; int s = 0;
+    _Pragma("loopbound min 0 max 600")
+    for (i = 0; i < 600; i = i + 1) { int d = f(i); s = s + d; }
+    return s;
+}
+"""
 NEVER = "int q(int x) { send(1, 0, 0, 1); return x; } int main() { return shared[0]; send(2, 0, 0, 1); }"
+SOURCES = {
+    "loop": LOOP, "calls": CALLS, "in front": IN_FRONT, "never": NEVER, "divides": DIVIDES, "loads": LOADS
+}  # fmt: skip
 
 
 def c_task(source: str) -> Task:
@@ -53,14 +67,13 @@ def c_task(source: str) -> Task:
 
 
 def job_of_task(source: str, slot: int, table: list[int], start: int) -> bytes:
-    head = f"version = 2\ncores = 3\nslot = {slot}\ntable = {table}\ncycles = 100000\ntrace = 65536\n"
+    head = f"version = 2\ncores = 3\nslot = {slot}\ntable = {table}\ncycles = 9000000\ntrace = 65536\n"
     return f"{head}[[task]]\ncore = 0\nlang = \"c\"\nstart = {start}\nsource = '''{source}'''\n".encode()
 
 
-@pytest.mark.parametrize("source", [LOOP, CALLS, IN_FRONT, NEVER], ids=["loop", "calls", "in front", "never"])
+@pytest.mark.parametrize("source", SOURCES.values(), ids=SOURCES)
 def test_a_replay_is_what_the_program_reports(source: str, program: str) -> None:
     sequence = sequence_of(c_task(source), program)
-    assert not sequence.is_placed
     for slot, table, start in ((6, [0, 1, 2], 0), (9, [1, 0, 2, 0, 0], 40), (17, [2, 1, 0], 3)):
         report = read_report(run_program(program, "run", job_of_task(source, slot, table, start)).text)
         replayed = replay(sequence, slot, table, 0, start)
@@ -68,47 +81,49 @@ def test_a_replay_is_what_the_program_reports(source: str, program: str) -> None
         assert replayed.accesses == report.cores[0].accesses
 
 
-@pytest.mark.parametrize("source,turns", [(LOOP, 6), (CALLS, 4), (IN_FRONT, 5)], ids=["loop", "calls", "in front"])
-def test_a_loop_has_the_bundles_that_bounds_tell(source: str, turns: int, program: str) -> None:
-    """One iteration more makes the bound longer by its bundles, with those of the functions that it calls.
-
-    A loop that counts just to its bound counts one further, since its code is another where it does not.
-    """
-    alone = Alone(c_task(source), 3, program)
-    whole = alone.bounds(source.encode())[0].bundles
-    longer = source.replace(f"max {turns}", f"max {turns + 1}").replace(f"i < {turns}", f"i < {turns + 1}")
-    one_more = alone.bounds(longer.encode())[0].bundles
-    sequence = sequence_of(c_task(source), program)
-    assert len(sequence.functions) == whole
-    found = attributed(sequence)
-    costs = costs_of(found, sequence, replay(sequence, 6, [0], 0, 0)).parts
-    loop = next(cost for cost, part in zip(costs, found.parts, strict=True) if part.is_loop)
-    functions = [cost for cost, part in zip(costs, found.parts, strict=True) if not part.is_loop]
-    called = sum(cost.bundles for cost in functions[1:])
-    assert loop.bundles + called == turns * (one_more - whole)
+def test_its_bundles_are_those_of_its_code(program: str) -> None:
+    for source in SOURCES.values():
+        code = code_of_task(c_task(source), program)
+        assert len(sequence_of(c_task(source), program).functions) == code.bundles
 
 
-def test_what_cannot_be_told_is_refused(program: str) -> None:
-    loads = "int t[9]; int main() { int j = 1; send(1, t[j] + (t[2] + t[3]), t[5], t[6] & t[7]); return t[0]; }"
+def test_a_long_task_that_sends(program: str) -> None:
+    """It is longer than what is listed, so it is worked out from two iterations of its loop."""
+    sequence = sequence_of(c_task(LONG), program)
+    assert len(sequence.functions) > MOST_TRACE
+    report = read_report(run_program(program, "run", job_of_task(LONG, 6, [0, 1, 2], 0)).text)
+    assert difference(replay(sequence, 6, [0, 1, 2], 0, 0), report.cores[0]) is None
+
+
+def test_what_is_refused(program: str) -> None:
     for source, reason in (
-        ("int a; int main() { send(1, a / 3, shared[2], 3); return comm[0]; }", "an argument of its `send` divides"),
-        ("int main() { send(99, 0, 0, 1); return 0; }", "no platform has more than 16 cores"),
+        ("int main() { send(99, 0, 0, 1); return 0; }", "no platform has: 16 are the most"),
         ("int main() { send(1, 0, 0); return 0; }", "it is refused with `core 0: Syntax at 12`"),
-        (loads, "how the code around a `send` is scheduled is not known"),
     ):
         with pytest.raises(NoSequence, match=reason):
             sequence_of(c_task(source), program)
 
 
 def test_what_is_in_place_of_a_send() -> None:
-    source = b"int main() { send(2, 1 + 2, (3), 4 - 5); return 0; }"
-    (site,) = sites_of(source)
-    assert source[site.at : site.end] == b"send(2, 1 + 2, (3), 4 - 5);"
-    assert targets_of(source) == [2]
-    # the count is in the third register and takes two, so the index takes three
-    assert rewritten(source, [site]) == (
-        b"int main() { comm[0] = 1 + 2; comm[0] = (3); comm[0] = 4 - 5; comm[((0 + 0) + (0 + 0))] = 0; return 0; }"
+    source = b"int main() { send(2, 1 + 2, (3), 4 - 5); send(1, comm[0], 0, 1); return 0; }"
+    assert targets_of(source) == [1, 2]
+    assert without_sends(source) == (
+        b"int main() { comm[0] = 1 + 2; comm[0] = (3); comm[0] = 4 - 5; comm[0] = comm[0]; comm[0] = 0; comm[0] = 1;"
+        b" return 0; }"
     )
-    assert padding(1) == "0" and padding(2) == "(0 + 0)"
-    deep = b"int main() { send(1, 0, 0, (1+2)+(3+4)); }"
-    assert site_at(deep, tokens_of(deep), 5).instead.count(b"0") == 6 + 8
+
+
+def test_texts_that_move_alike(program: str) -> None:
+    """Loads and stores of main memory, loops and calls have to be the same; what moves nothing may differ."""
+    one, more, other, looped = (
+        code_of_task(c_task(f"int g; int main() {{ {text} return 0; }}"), program)
+        for text in (
+            "g = 1;",
+            "g = 1 + comm[3]; comm[0] = 2;",
+            "g = g;",
+            '_Pragma("loopbound min 2 max 2") while (g < 2) { g = 1; }',
+        )
+    )  # fmt: skip
+    assert moves_alike(one, more)
+    assert not moves_alike(one, other)
+    assert not moves_alike(one, looped)

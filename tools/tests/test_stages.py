@@ -8,6 +8,8 @@ import pytest
 from conftest import ROOT, Tool, load
 
 from tcresttools.cli import BadInput
+from tcresttools.code_text import CodeLoop, codes_of
+from tcresttools.code_text import bundles_of as bundles_in
 from tcresttools.pipeline import bundles_of, columns_of
 from tcresttools.report import Step
 
@@ -81,3 +83,17 @@ def test_konata_counts_cycles(tmp_path: Path) -> None:
     assert sum(int(line.split("\t")[1]) for line in lines if line.startswith("C\t")) == 21 - 12
     retired = {line.split("\t")[1]: line.split("\t")[3] for line in lines if line.startswith("R\t")}
     assert retired == {"0": "0", "1": "0", "2": "0", "3": "1"}
+
+
+def test_bundles_of_c_have_their_texts(tool: Tool, program: str) -> None:
+    """Each row has the bundle that `tccode` writes for its place; the first one of a loop has the loop's label."""
+    path = ROOT / "examples/c/filter.toml"
+    (code,) = codes_of(program, path.read_bytes(), str(path)).values()
+    main = code.functions[0]
+    texts = {main.start + bundle.offset: bundle.text for bundle in bundles_in(main.items)}
+    loop = next(item for item in main.items if isinstance(item, CodeLoop))
+    texts[main.start + loop.first] = f"L0: {texts[main.start + loop.first]}"
+    shown = tool("stages", str(path), "--trace", "40", "--columns", "100").stdout.splitlines()
+    rows = [line for line in shown[1:] if line[:5].strip().isdigit()]
+    assert len(rows) > 30 and any(" L0: " in line for line in rows)
+    assert all(line[5:].startswith(texts[int(line[:5])]) for line in rows)

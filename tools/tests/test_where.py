@@ -5,17 +5,17 @@ from __future__ import annotations
 import csv
 import io
 import os
-import re
 from pathlib import Path
 
 import pytest
 from conftest import ROOT, Tool
 
+from tcresttools import sequence
 from tcresttools.bound_parts import task_bounds
 from tcresttools.job import read_job
 from tcresttools.program import run_program
 from tcresttools.report import read_report
-from tcresttools.sequence import sequence_of
+from tcresttools.time_table import cores_of, told_lines, told_of
 
 FILTER = "examples/c/filter.toml"
 
@@ -46,16 +46,16 @@ def test_sums_are_what_the_program_reports(path: str, tool: Tool, program: str) 
 def test_filter(tool: Tool) -> None:
     done = tool("where", FILTER)
     assert (done.returncode, done.stderr) == (0, "")
-    first, dearest, blank, head, *table = done.stdout.splitlines()
+    first, dearest, blank, head, *table, inlined = done.stdout.splitlines()
     assert first.endswith("they are replayed, and the program reports the same")
     lines = (ROOT / FILTER).read_text().splitlines()
     loop = next(number for number, line in enumerate(lines, 1) if line.strip().startswith("for ("))
     assert dearest.startswith(f"the loop that costs most: for at line {loop}, in main(), ")
     assert (blank, head.split()[:4]) == ("", ["line", "part", "cycles", "%"])
-    assert [line.split()[:2] for line in table] == [
-        [str(loop - 4), "main()"], [str(loop), "for"], [str(loop - 9), "step()"],
-    ]  # fmt: skip
-    # the loop makes twelve turns, and calls `step` in each
+    assert [line.split()[:2] for line in table] == [[str(loop - 4), "main()"], [str(loop), "for"]]
+    # the loop makes twelve iterations, and calls `step` in each, which is inlined and has no row
+    call = next(number for number, line in enumerate(lines, 1) if "= step(" in line)
+    assert inlined == f"step() is inlined in main(), where line {call} calls it: its code counts there"
     assert table[1].split()[9] == "12"
     assert table[1].endswith("  for (i = 0; i < 12; i = i + 1) {")
 
@@ -72,12 +72,14 @@ lang = "c"
 start = 11
 source = '''
 int out[1];
-int never(int x) {{ return x / 3; }}
-int f(int x) {{ return x / 3 + x % 5; }}
+int never(int x) {{ return x / x; }}
+int f(int x) {{ return x / out[0] + x % x + x / 5; }}
+int g(int x) {{ _Pragma("loopbound min 0 max 3") while (x) {{ x = x / 2; }} return x; }}
 int main() {{
     int s = 0; int i;
     _Pragma("loopbound min 0 max 4")
-    while (i < s / 7) {{ i = i + 1; }}
+    while (i < s / i) {{ i = i + 1; s = g(s); }}
+    s = f(s);
     s = f(s);
     out[0] = s;
     return s;
@@ -100,51 +102,54 @@ def several(folder: Path, cycles: int) -> str:
     return str(path)
 
 
-def test_divisions_and_functions_that_nothing_calls(tool: Tool, tmp_path: Path) -> None:
+def test_divisions_and_functions_that_are_inlined(tool: Tool, tmp_path: Path) -> None:
     path = several(tmp_path, 100000)
     text = Path(path).read_text().splitlines()
-    rows = rows_of(tool("where", path, "--csv").stdout)
-    assert {row["core"] for row in rows} == {"1"}
-    shown = [(row["part"], row["depth"], row["entered"], row["iterations"]) for row in rows]
+    rows = [row for row in rows_of(tool("where", path, "--csv").stdout) if row["core"] == "1"]
+    shown = [(row["part"], row["depth"], row["entered"], row["iterations"], row["inlined"]) for row in rows]
+    # g is inlined in the loop of `main`, calls of f outside of loops stay; a division by a number has no loop
     assert shown == [
-        ("main()", "0", "1", "1"), ("while", "0", "1", "4"), ("division", "1", "4", "128"),
-        ("division after it", "0", "1", "32"),
-        ("f()", "0", "1", "1"), ("division", "0", "1", "32"), ("remainder", "0", "1", "32"),
+        ("main()", "0", "1", "1", ""), ("while", "0", "1", "4", ""), ("division", "1", "4", "64", ""),
+        ("while", "1", "4", "12", "g"), ("division after it", "0", "1", "16", ""),
+        ("f()", "0", "2", "2", ""), ("division", "0", "2", "32", ""), ("remainder", "0", "2", "32", ""),
     ]  # fmt: skip
     for row in rows[-2:]:
         # lines are those of the file, and columns those of the sign
         assert text[int(row["line"]) - 1][int(row["column"]) - 1] == {"division": "/", "remainder": "%"}[row["part"]]
-    assert "13" not in {row["line"] for row in rows}
+    for number, line in enumerate(text, 1):
+        if line.startswith("int g"):
+            assert str(number) == rows[3]["line"]
+    done = tool("where", path).stdout.splitlines()
+    calls = [number for number, line in enumerate(text, 1) if "s = g(s)" in line]
+    assert f"g() is inlined in main(), where line {calls[0]} calls it: its code counts there" in done
+    assert not any(line.startswith("f() is inlined") for line in done)
 
 
-def test_a_task_that_cannot_be_replayed_is_refused_and_the_others_are_shown(tool: Tool, tmp_path: Path) -> None:
-    done = tool("where", several(tmp_path, 100000))
-    assert (done.returncode, done.stderr) == (0, "")
-    refused, shown = done.stdout.split("\n\n", 1)
-    assert refused.startswith("core 0 done 0 cycles ")
-    assert "its time by function and loop is not known: it sends to another core" in refused
-    assert shown.startswith("core 1: ") and "from 11 to " in shown
+def test_a_task_that_sends(tool: Tool, tmp_path: Path, program: str) -> None:
+    path = several(tmp_path, 100000)
+    rows = [row for row in rows_of(tool("where", path, "--csv").stdout) if row["core"] == "0"]
+    # `a / 3` is a product, and the rest is straight
+    assert [(row["part"], row["cycles"]) for row in rows] == [("main()", str(cycles_of(path, program)[0]))]
 
 
-def test_a_task_that_cannot_be_replayed_has_its_bundles_in_all(tool: Tool, tmp_path: Path) -> None:
-    head = SEVERAL.format(cycles=100000).split("[[task]]")[0]
-    source = "int a; int main() { send(1, a / 3, 0, 1); return 0; }"
-    path = tmp_path / "job.toml"
-    path.write_text(f'{head}[[task]]\ncore = 0\nlang = "c"\nsource = "{source}"\n')
-    done = tool("where", str(path))
-    assert (done.returncode, done.stderr) == (0, "")
-    report, reason, sums = done.stdout.splitlines()
-    cycles = int(report.split()[5])
-    found = re.fullmatch(r"in all it does (\d+) bundles, and takes (\d+) cycles more for its transactions", sums)
-    assert found is not None and "an argument of its `send` divides" in reason
-    # a division takes 32 iterations of seven bundles
-    assert int(found[1]) > 32 * 7 and int(found[1]) + int(found[2]) == cycles
+def test_a_task_that_is_not_replayed(tmp_path: Path, program: str, monkeypatch: pytest.MonkeyPatch) -> None:
+    """Of a task of more bundles than are replayed, what it does in all is shown, and the others as they are."""
+    job = read_job(several(tmp_path, 100000))
+    bundles = {core: parts.bound.bundles for core, parts in task_bounds(program, job).items()}
+    monkeypatch.setattr(sequence, "MOST_BUNDLES", bundles[0])
+    first, second = told_of(job, cores_of(job, program), program)
+    assert told_lines(first)[0].startswith("core 0: ")
+    report, reason, sums = told_lines(second)
+    assert report == second.core.line
+    assert f"it does {bundles[1]:,} bundles, and {bundles[0]:,} are the most that are replayed" in reason
+    waits = (second.core.cycles or 0) - bundles[1]
+    assert sums == f"in all it does {bundles[1]} bundles, and takes {waits} cycles more for its transactions"
 
 
 def test_bounds_give_the_bundles(program: str) -> None:
     job = read_job(str(ROOT / FILTER))
-    sequence = sequence_of(job.tasks[0], program)
-    assert task_bounds(program, job)[0].bound.bundles == len(sequence.functions)
+    found = sequence.sequence_of(job.tasks[0], program)
+    assert task_bounds(program, job)[0].bound.bundles == len(found.functions)
 
 
 def test_a_job_whose_tasks_all_are_refused(tool: Tool, tmp_path: Path) -> None:

@@ -9,6 +9,7 @@ from pathlib import Path
 import pytest
 from conftest import Tool
 
+from tcresttools import sequence
 from tcresttools.job import Job, job_of, toml_values
 from tcresttools.program import run_program
 from tcresttools.report import read_bounds
@@ -36,9 +37,16 @@ def job_from(text: str) -> Job:
     return job_of("job.toml", text.encode(), toml_values(text.encode()))
 
 
-@pytest.mark.parametrize("number,replayed,start", [(0, True, 1000), (1, False, 0)], ids=["alone", "sends"])
-def test_every_start_of_a_period(number: int, replayed: bool, start: int, program: str) -> None:
+@pytest.mark.parametrize(
+    "number,replayed,start", [(0, True, 1000), (0, False, 1000), (1, True, 0)], ids=["alone", "too long", "sends"]
+)
+def test_every_start_of_a_period(
+    number: int, replayed: bool, start: int, program: str, monkeypatch: pytest.MonkeyPatch
+) -> None:
+    """A task of more bundles than are replayed is run from each of its slots, with the same result."""
     job = job_from(JOB)
+    if not replayed:
+        monkeypatch.setattr(sequence, "MOST_BUNDLES", 1)
     task = job.tasks[number]
     reported = [cycles_from(job, task, at, program) for at in range(30)]
     cases = cases_of(job, task, program)
@@ -56,7 +64,7 @@ def test_the_table(tool: Tool, tmp_path: Path, program: str) -> None:
     lines = done.stdout.splitlines()
     assert lines[0] == "slots of 6 cycles, table 0 1 0 2 2: all starts of a period of 30 cycles, 0 to 29"
     rows = list(csv.DictReader(io.StringIO(tool("worst", str(path), "--csv").stdout)))
-    assert [(row["core"], row["by"]) for row in rows] == [("0", "replay"), ("2", "run")]
+    assert [(row["core"], row["by"]) for row in rows] == [("0", "replay"), ("2", "replay")]
     bounds = read_bounds(run_program(program, "persist", path.read_bytes()).text)
     for row in rows:
         assert (int(row["bound"]), int(row["persist"])) == bounds[int(row["core"])]

@@ -1,4 +1,4 @@
--- For proofs. Numbers of a tree as a word can tell them: none above 2^32 - 1.
+-- To be believed. Numbers of a tree as a word can tell them: none above 2^32 - 1.
 use Rattle.std.specs.Prelude.{ℕ, min}
 
 abbrev pub capped : ℕ → ℕ

@@ -52,9 +52,9 @@ fn branches(arms: &[Arm]) -> u32
     total
 }
 
-// the words of a function
+/// The words that a function keeps.
 #[tactic(auto, using(crate::proofs::Sums::body_framed))]
-fn frame(f: &Function) -> u32
+pub fn frame_of(f: &Function) -> u32
     ensures { result ≡ capped (frame.function_frame f.now.parameters (map plain_stmt f.now.body)) }
 {
     let parameters = u32::try_from(f.parameters.as_slice().len()).unwrap_or(u32::MAX);
@@ -68,5 +68,5 @@ fn frame(f: &Function) -> u32
 pub fn is_large(f: &Function) -> bool
     ensures { result ≡ nat_lt MOST_FRAME_WORDS (frame.function_frame f.now.parameters (map plain_stmt f.now.body)) }
 {
-    frame(f) > MOST_FRAME_WORDS
+    frame_of(f) > MOST_FRAME_WORDS
 }

@@ -24,4 +24,6 @@ mod walk;
 mod weights;
 
 pub use checks::{CheckError, check};
+pub use frames::frame_of;
 pub use laws::{faults_point_at_tokens, least_fault_of_all};
+pub use weights::weight_of;

@@ -162,9 +162,9 @@ fn branches(arms: &[Arm]) -> u32
     total
 }
 
-// what a function weighs
+/// What a function weighs.
 #[tactic(auto, using(crate::proofs::Sums::body_weighed))]
-fn function(f: &Function) -> u32
+pub fn weight_of(f: &Function) -> u32
     ensures { result ≡ capped (weight.function_weight (map plain_stmt f.now.body)) }
 {
     block(f.body.as_slice()).saturating_add(64)
@@ -178,7 +178,7 @@ fn items(items: &[Item]) -> u32
     let mut total: u32 = 0;
     for item in items {
         if let Item::Function { function: f } = item {
-            total = total.saturating_add(function(f));
+            total = total.saturating_add(weight_of(f));
         }
     }
     total
@@ -189,7 +189,7 @@ fn items(items: &[Item]) -> u32
 pub fn is_heavy(f: &Function) -> bool
     ensures { result ≡ nat_lt MOST_FUNCTION_WEIGHT (weight.function_weight (map plain_stmt f.now.body)) }
 {
-    function(f) > MOST_FUNCTION_WEIGHT
+    weight_of(f) > MOST_FUNCTION_WEIGHT
 }
 
 /// Whether a task is too heavy.

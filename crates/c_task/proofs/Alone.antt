@@ -12,7 +12,7 @@ use Rattle.c_mentions.specs.Mentions as source
 use Rattle.sp_tree.specs.Uses.{reads_cell, reads_array, writes_cell, writes_array, uses_of}
 use Rattle.single_path.specs.Single.{single}
 use Rattle.single_path.specs.Used.{same_region, reads_region, writes_region, memory_of}
-use Rattle.single_path.proofs.Used.{reads_only_mentioned, writes_only_assigned}
+use Rattle.single_path.proofs.TakenIn.{taken_reads, taken_writes}
 use Rattle.task_machine.specs.Machines.{IsCommOf, MayChange, IsAlone}
 use Rattle.task_words.specs.Reach.{ReadsIn, WritesIn, MayLoadWord}
 use Rattle.c_task.specs.Programs.{task_of, task_on}
@@ -58,12 +58,12 @@ same_itself r s same = subst (λ k. same_region s k ≡ true) (sym same) (by s)
     by region.Shared = refl
 
 pub mentioned : (items : List PlainItem) (a : Array) → ReadsIn (Contains (uses_of (single items))) (memory_of a) → mentions a items ≡ true
-mentioned items a (inl (c, (at, is))) = reads_only_mentioned a items (any_of (reads_region (memory_of a)) (uses_of (single items)) (reads_cell c) at (same_itself c.region (memory_of a) is))
-mentioned items a (inr (c, (at, is))) = reads_only_mentioned a items (any_of (reads_region (memory_of a)) (uses_of (single items)) (reads_array c) at (same_itself c.region (memory_of a) is))
+mentioned items a (inl (c, (at, is))) = taken_reads a items (any_of (reads_region (memory_of a)) (uses_of (single items)) (reads_cell c) at (same_itself c.region (memory_of a) is))
+mentioned items a (inr (c, (at, is))) = taken_reads a items (any_of (reads_region (memory_of a)) (uses_of (single items)) (reads_array c) at (same_itself c.region (memory_of a) is))
 
 pub assigned : (items : List PlainItem) (a : Array) → WritesIn (Contains (uses_of (single items))) (memory_of a) → assigns a items ≡ true
-assigned items a (inl (c, (at, is))) = writes_only_assigned a items (any_of (writes_region (memory_of a)) (uses_of (single items)) (writes_cell c) at (same_itself c.region (memory_of a) is))
-assigned items a (inr (c, (at, is))) = writes_only_assigned a items (any_of (writes_region (memory_of a)) (uses_of (single items)) (writes_array c) at (same_itself c.region (memory_of a) is))
+assigned items a (inl (c, (at, is))) = taken_writes a items (any_of (writes_region (memory_of a)) (uses_of (single items)) (writes_cell c) at (same_itself c.region (memory_of a) is))
+assigned items a (inr (c, (at, is))) = taken_writes a items (any_of (writes_region (memory_of a)) (uses_of (single items)) (writes_array c) at (same_itself c.region (memory_of a) is))
 
 -- ---- words of different cores
 

@@ -1,14 +1,12 @@
 -- The frames on each chain of calls of a valid program's tree fit the stack: each function weighs more than twice its frame.
-use Rattle.std.proofs.Common.{ℕ, zero, suc, ◌+◌, ◌*◌, ◌≤◌, ◌==◌, Bool, true, false, if◌then◌else◌, List, [], ◌∷◌, ◌++◌, length, None, Some, slice_index_or, arith}
+use Rattle.std.proofs.Common.{ℕ, zero, suc, ◌+◌, ◌*◌, ◌<◌, ◌≤◌, ◌==◌, Bool, true, false, if◌then◌else◌, List, [], ◌∷◌, ◌++◌, length, None, Some, slice_index, slice_index_or, arith}
 use Rattle.std.specs.Prelude.{IsTrue, nat_lt}
 use Rattle.std.proofs.lemmas.List.Sums.{sum_by-cons}
 use Rattle.c_tree.specs.declared.checks.CheckFault.TheVariants as fault
-use Rattle.c_tree.specs.declared.layout.Slot.{Slot}
 use Rattle.c_tree.specs.declared.limits.TheConstants.{MOST_FRAME_WORDS, MOST_FUNCTION_WEIGHT, MOST_PARAMETERS}
 use Rattle.c_tree.specs.declared.units.Parameter.{Parameter}
 use Rattle.c_tree.specs.Checks.{twice_faults}
 use Rattle.c_tree.specs.Frame.{stmt_frame, block_frame, arms_frame, otherwise_frame, body_frame, function_frame}
-use Rattle.c_tree.specs.Layout.{layout_of}
 use Rattle.c_tree.specs.Least.{where_so}
 use Rattle.c_tree.specs.Names.{Named, given}
 use Rattle.c_tree.specs.Plain.{PlainHead, PlainStmt, PlainBlock, PlainArms, PlainOtherwise, PlainItem, global, function}
@@ -22,9 +20,8 @@ use Rattle.stack_cache.specs.declared.stack.TheConstants.{STACK_LOWEST, STACK_EN
 use Rattle.sp_tree.specs.Statements.{PlainStmts, no_stmt, stmt, PlainFunction, no_function}
 use Rattle.sp_tree.specs.Statements as tree
 use Rattle.sp_emit.specs.Chains.{stmt_chain, stmts_chain, chains}
-use Rattle.c_meaning.specs.Resolve.{resolved_items, parameters_in}
-use Rattle.single_path.specs.Single.{made_functions, frames_in, single}
-use Rattle.single_path.proofs.Budgets.{frames_within}
+use Rattle.single_path.specs.Single.{frames_in, single}
+use Rattle.single_path.proofs.TakenIn.{taken_frames}
 
 -- ---- what a function weighs
 
@@ -139,22 +136,23 @@ chains_below fs (suc n) k = by (k == n) (stmts_below (chains fs n) (first_frames
     by true inner other = omega (arith, inner, one_more fs n)
     by false inner other = omega (arith, other, one_more fs n)
 
+-- none has a frame of more words than are counted for it
+frames_sum : (fs : List PlainFunction) (most : List ℕ) → ((k : ℕ) → k < length fs → (slice_index_or fs k no_function).frame ≤ slice_index most k) → all_frames fs ≤ sum most
+frames_sum [] most each = omega arith
+frames_sum (f ∷ fs) [] each =
+    omega (arith, each zero (omega arith), frames_sum fs [] (λ k below. each (suc k) (omega (arith, below))))
+frames_sum (f ∷ fs) (n ∷ most) each =
+    omega (arith, each zero (omega arith), frames_sum fs most (λ k below. each (suc k) (omega (arith, below))))
+
 -- ---- a valid program
 
-made_frames : (slots : List Slot) (fs : List (List ℕ)) (items : List PlainItem) → all_frames (made_functions (parameters_in items) (resolved_items slots fs items)) ≤ sum (frames_in items)
-made_frames slots fs [] = omega arith
-made_frames slots fs (global g ∷ items) = made_frames slots fs items
-made_frames slots fs (function kind text void_word parameters body ∷ items) =
-    let here = frames_within slots fs (function kind text void_word parameters body ∷ items) zero (omega arith) in
-    omega (arith, here, made_frames slots (fs ++ text ∷ []) items)
-
-pub chains_fit : (cores own : ℕ) (items : List PlainItem) → IsValid items cores own
+pub chains_fit : (cores own : ℕ) (items : List PlainItem) → cores ≤ 16 → IsValid items cores own
     → STACK_LOWEST + chains (single items).functions (length (single items).functions) (single items).entry ≤ STACK_END
-chains_fit cores own items valid =
+chains_fit cores own items few valid =
     let fs : List PlainFunction = (single items).functions in
     let chain = chains_below fs (length fs) (single items).entry in
     let all = first_of_all fs (length fs) in
-    let made = made_frames (layout_of items) [] items in
+    let made = frames_sum fs (frames_in items) (taken_frames cores own items few valid) in
     let weigh = frames_weigh cores own given 0 items (in_items cores own items valid) in
-    let few = task_fits cores own items valid in
-    omega (arith, chain, all, made, weigh, few)
+    let fits = task_fits cores own items valid in
+    omega (arith, chain, all, made, weigh, fits)

@@ -1,5 +1,5 @@
 -- The task of a valid program ends within its persistent bound, which is at most its bound.
-use Rattle.std.proofs.Common.{ℕ, ◌+◌, ◌-◌, ◌≤◌, List}
+use Rattle.std.proofs.Common.{◌+◌, ◌-◌, ◌≤◌, List}
 use Rattle.slot_arbiter.specs.declared.place.Place.{Place}
 use Rattle.c_tree.specs.Plain.{PlainItem}
 use Rattle.c_tree.specs.Valid.{IsValid}

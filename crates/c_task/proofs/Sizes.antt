@@ -1,5 +1,5 @@
 -- The code of a valid program fits an image: with its size, each function takes at most as many words as it weighs.
-use Rattle.std.proofs.Common.{◌≡◌, ℕ, zero, suc, ◌+◌, ◌<◌, ◌≤◌, nat_le, true, List, [], ◌∷◌, ◌++◌, length, map, slice_index, slice_index_or, refl, ap, ◌∙◌, arith}
+use Rattle.std.proofs.Common.{◌≡◌, ℕ, zero, suc, ◌+◌, ◌<◌, ◌≤◌, nat_le, true, List, [], ◌∷◌, ◌++◌, length, slice_index, slice_index_or, refl, ap, ◌∙◌, arith}
 use Rattle.std.specs.Prelude.{IsTrue, nat_lt}
 use Rattle.std.proofs.lemmas.Bool.{and_parts, leb-true}
 use Rattle.std.proofs.lemmas.List.Sums.{sum_by-cons}
@@ -7,7 +7,6 @@ use Rattle.c_tree.specs.declared.checks.CheckFault.TheVariants as fault
 use Rattle.c_tree.specs.declared.limits.TheConstants.{MOST_FRAME_WORDS, MOST_FUNCTION_WEIGHT, MOST_PARAMETERS}
 use Rattle.c_tree.specs.Checks.{twice_faults}
 use Rattle.c_tree.specs.Frame.{function_frame}
-use Rattle.c_tree.specs.Layout.{layout_of}
 use Rattle.c_tree.specs.Least.{where_so}
 use Rattle.c_tree.specs.Names.{Named, given}
 use Rattle.c_tree.specs.Plain.{PlainItem, global, function}
@@ -32,8 +31,7 @@ use Rattle.bundle_sched.proofs.WellFormed as schedule_formed
 use Rattle.tc_link.specs.Fits.{FitsImage}
 use Rattle.tc_link.specs.Placed.{words_below, size_of}
 use Rattle.single_path.specs.Single.{weights_in, single}
-use Rattle.single_path.proofs.Budgets.{costs_within}
-use Rattle.single_path.proofs.Whole.{single_is_formed}
+use Rattle.single_path.proofs.TakenIn.{taken_is_formed, taken_costs}
 use Rattle.task_core.specs.Tasks.{code_of}
 
 -- ---- what a function weighs
@@ -110,13 +108,13 @@ function_size u formed k below =
 
 module _ (place : Place) (items : List PlainItem) (valid : IsValid items place.cores place.core) where
   formed : tree.is_formed (single items) ≡ true
-  formed = single_is_formed place.cores place.core items place.in_range.cores_most valid
+  formed = taken_is_formed place.cores place.core items place.in_range.cores_most valid
 
   pub program_formed : shape.is_formed (code_of (single items)) ≡ true
   program_formed = code_formed (single items) formed
 
   tree_size : (k : ℕ) → k < length (single items).functions → 1 + size_of (code_of (single items)) k ≤ slice_index (weights_in items) k
-  tree_size k below = omega (arith, function_size (single items) formed k below, costs_within (layout_of items) [] items k below)
+  tree_size k below = omega (arith, function_size (single items) formed k below, taken_costs place.cores place.core items place.in_range.cores_most valid k below)
 
   pub program_size : (k : ℕ) → k < length (code_of (single items)).functions → 1 + size_of (code_of (single items)) k ≤ slice_index (weights_in items) k
   program_size k below = tree_size k (omega (arith, below, code_length (single items)))

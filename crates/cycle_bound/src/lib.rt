@@ -29,7 +29,7 @@ mod words;
 mod worked;
 
 pub use bundles::{LEAST_EACH, MOST_EACH};
-pub use functions::{cycles_of_fill, cycles_of_functions};
+pub use functions::{cycles_of_fill, cycles_of_functions, fills_of_functions};
 pub use held::{MOST_BOUND, plus};
 pub use known::Known;
 pub use laws::limits;

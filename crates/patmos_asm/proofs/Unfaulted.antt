@@ -29,7 +29,7 @@ AreFree off ls = (n : ℕ) → off ≤ n → n < 2 ^ 64 → is_among (label_name
 free_later : (off later : ℕ) (ls : List (List ℕ)) → off ≤ later → AreFree off ls → AreFree later ls
 free_later off later ls h free n k b = free n (omega (arith, h, k)) b
 
-free_noted : (off : ℕ) (ls : List (List ℕ)) → off < 2 ^ 63 → AreFree off ls → AreFree (off + 1) (noted (label_name off) ls)
+pub free_noted : (off : ℕ) (ls : List (List ℕ)) → off < 2 ^ 63 → AreFree off ls → AreFree (off + 1) (noted (label_name off) ls)
 free_noted off ls h free n k b =
     let here : is_among (label_name off) ls ≡ false = free off (omega arith) (omega arith) in
     let there : is_among (label_name n) ls ≡ false = free n (omega arith) b in
@@ -41,10 +41,10 @@ pub none_first : (i : Item) (fault : Option AsmKind) (rest : Option AsmFault) �
 none_first i None rest e r = r
 none_first i (Some f) rest e r = cc
 
-label_none : (among none : Bool) → among ≡ false → none ≡ false → cond among (Some LabelTwice) (cond none (Some NoFunction) None) ≡ None
+pub label_none : (among none : Bool) → among ≡ false → none ≡ false → cond among (Some LabelTwice) (cond none (Some NoFunction) None) ≡ None
 label_none among none a n = rw (a, n) refl
 
-bundle_none : (known : Bool) (size image : ℕ) (o : Option AsmKind) → known ≡ true → size ≤ 4096 → image ≤ 32768 → o ≡ None →
+pub bundle_none : (known : Bool) (size image : ℕ) (o : Option AsmKind) → known ≡ true → size ≤ 4096 → image ≤ 32768 → o ≡ None →
     cond (not known) (Some NoLabel) (cond (nat_lt 4096 size || nat_lt 32768 image) (Some TooLarge) o) ≡ None
 bundle_none known size image o k s i e = grind (arith, nat_tests)
 

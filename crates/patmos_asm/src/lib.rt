@@ -31,3 +31,4 @@ pub use faults::{AsmError, AsmFault};
 pub use laws::worked_texts;
 pub use patmos_syntax::AsmKind;
 pub use printing::print;
+pub use writers::{write_guard, write_plain};

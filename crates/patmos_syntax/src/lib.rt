@@ -30,5 +30,5 @@ pub use draft_types::{Draft, DraftBundle, DraftInstr, Jump};
 pub use faults::{AsmKind, Refused};
 pub use forms::{Flow, Form};
 pub use items::{Item, items_of};
-pub use readers::Radix;
+pub use readers::{Radix, is_name};
 pub use statements::Where;

@@ -7,7 +7,7 @@ use Rattle.sp_tree.specs.Plain.{PlainSp, constant, frame_word, cell_word, array_
 use Rattle.sp_tree.specs.Straight.{State, Serves, with_sp_target, write_done, args_worth, worth, stmt_done, stmts_done}
 use Rattle.sp_tree.specs.Values.{sp_value, array_value}
 use Rattle.sp_tree.proofs.Runs.{on}
-use Rattle.c_meaning.specs.Actions.{PlainTarget, to_level, PlainAssignment, PlainAction, sets, calls, transfers, chooses, turns, breaks, continues, returns, PlainActions, no_action, action, PlainBranches, no_branch, branch}
+use Rattle.c_meaning.specs.Actions.{PlainTarget, to_level, PlainAssignment}
 use Rattle.c_meaning.specs.Actions as actions
 use Rattle.c_meaning.specs.Resolved as resolved
 use Rattle.c_meaning.specs.Values as values

@@ -21,7 +21,7 @@ use Rattle.c_tree.specs.Valid.{IsValid, has_none, words_of, means_of, function_m
 use Rattle.sp_tree.specs.Uses.{are_apart, uses_of}
 use Rattle.c_meaning.specs.Resolve.{resolved_items, parameters_in}
 use Rattle.c_meaning.specs.Scope.{outside, among_slots}
-use Rattle.single_path.specs.Single.{single}
+use Rattle.single_path.specs.Single.{with_calls}
 use Rattle.single_path.proofs.ArrayWords.{is_array, in_array, Kept, kept_apart, if_past, SameFrom, variable_slot, array_slot}
 use Rattle.single_path.proofs.Checked.{function_checked}
 use Rattle.single_path.proofs.OpenNames.{Keeps, found_same, found_before, keeps_function}
@@ -237,10 +237,10 @@ items_kept all names private scratch fs cores own at (function kind name void_wo
           (laid_function all names private scratch f items name (length ps) (is_some kind) refl laid) (none_right here behind none),
     )
 
-pub valid_apart : (items : List PlainItem) (cores own : ℕ) → IsValid items cores own → are_apart (uses_of (single items)) ≡ true
+pub valid_apart : (items : List PlainItem) (cores own : ℕ) → IsValid items cores own → are_apart (uses_of (with_calls items)) ≡ true
 valid_apart items cores own valid =
     let none = none_left (items_faults cores own given 0 items) (end_faults (sum_by item_size items) items) valid in
-    let all = uses_of (single items) in
+    let all = uses_of (with_calls items) in
     let kept = functions_do (Kept items) (parameters_in items) (resolved_items (layout_of items) [] items)
     (items_kept items given 4 0 [] cores own 0 items (laid_first items cores own none) none) in
     kept_apart items all all kept kept

@@ -3,12 +3,11 @@ use Rattle.std.proofs.Common.{◌≡◌, ℕ, ◌<◌, ◌≤◌, ◌==◌, List
 use Rattle.std.specs.Prelude.{cond}
 use Rattle.c_world.specs.World.{World, with_send}
 use Rattle.sp_tree.specs.Plain.{PlainSp, frame_word}
-use Rattle.sp_tree.specs.Statements.{PlainSpTarget, to_slot, PlainStmt, masks, writes, overruns, PlainStmts, no_stmt, stmt, one, joined}
+use Rattle.sp_tree.specs.Statements.{writes, stmt, one}
 use Rattle.sp_tree.specs.Statements as tree
 use Rattle.sp_tree.specs.Straight.{State, Given, Serves, with_slot, in_world, with_sp_target, with_result, write_done, transfer_done, args_worth, worth, stmt_done, stmts_done}
 use Rattle.sp_tree.proofs.Runs.{on}
 use Rattle.c_meaning.specs.Actions.{PlainTarget, to_level}
-use Rattle.c_meaning.specs.Meaning.{Done, goes_on, then_done, turn_done, turns_done, way_value}
 use Rattle.c_meaning.specs.Meaning as meaning
 use Rattle.c_meaning.specs.Resolved as resolved
 use Rattle.c_meaning.specs.Values as values

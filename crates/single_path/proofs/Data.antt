@@ -11,11 +11,11 @@ use Rattle.sp_tree.specs.Formed.{data_formed}
 use Rattle.c_meaning.specs.Resolve.{resolved_items, parameters_in}
 use Rattle.c_tree.proofs.Faultless.{private_fits}
 use Rattle.c_meaning.proofs.Fits.{initial_fits, input_within}
-use Rattle.single_path.specs.Single.{single}
+use Rattle.single_path.specs.Single.{with_calls}
 use Rattle.single_path.proofs.Ends.{ends_of}
 use Rattle.single_path.proofs.Formed.{as_many, made_length}
 
-pub data_is_formed : (cores own : ℕ) (items : List PlainItem) → IsValid items cores own → data_formed (single items) ≡ true
+pub data_is_formed : (cores own : ℕ) (items : List PlainItem) → IsValid items cores own → data_formed (with_calls items) ≡ true
 data_is_formed cores own items valid =
     let input = input_within 4 items (omega arith) in
     let private = private_fits cores own items valid in
@@ -33,7 +33,7 @@ functions_weigh slots fs (function kind text void_word parameters body ∷ items
     let rest = functions_weigh slots (fs ++ text ∷ []) items in
     omega (arith, rest, sum_by-cons item_weight (function kind text void_word parameters body) items)
 
-pub functions_are_few : (cores own : ℕ) (items : List PlainItem) → IsValid items cores own → length (single items).functions ≤ 512
+pub functions_are_few : (cores own : ℕ) (items : List PlainItem) → IsValid items cores own → length (with_calls items).functions ≤ 512
 functions_are_few cores own items valid =
     let bodies = resolved_items (layout_of items) [] items in
     let same = as_many (layout_of items) [] items in

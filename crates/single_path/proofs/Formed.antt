@@ -27,7 +27,7 @@ use Rattle.c_meaning.specs.Meaning.{parameter_variables}
 use Rattle.c_meaning.specs.Resolve.{resolved_body, resolved_items, parameters_in}
 use Rattle.single_path.specs.Made.{made}
 use Rattle.single_path.specs.PartWords.{outermost}
-use Rattle.single_path.specs.Single.{variables, begun_mask, made_function, made_functions, single}
+use Rattle.single_path.specs.Single.{variables, begun_mask, made_function, made_functions, with_calls}
 use Rattle.single_path.specs.Widths as width
 use Rattle.single_path.proofs.Ends.{ends_of}
 use Rattle.single_path.proofs.Fits.{Fits}
@@ -73,6 +73,7 @@ record FunctionSound (parameters : ℕ) (body : PlainActions) : Type 0 where
 pub record FunctionSmall (parameters : List Parameter) (body : List PlainStmt) : Type 0 where
   pub few : length parameters ≤ 6
   pub frame : function_frame parameters body ≤ 120
+  pub heavy : function_weight body ≤ 4096
 
 pub named_small : (names : List Named) (at : ℕ) (text : List ℕ) (parameters : List Parameter) (body : List PlainStmt)
     → IsTrue (has_none (named_faults names at text parameters body)) → FunctionSmall parameters body
@@ -84,7 +85,9 @@ named_small names at text parameters body none =
     let few = not_so (nat_lt 6 (length parameters)) at fault.Params (none_left many (wide ++ heavy) behind) in
     let narrow = not_so (nat_lt 120 (function_frame parameters body)) at fault.Frame
     (none_left wide heavy (none_right many (wide ++ heavy) behind)) in
-    record { few = grind (arith, nat_tests, few); frame = grind (arith, nat_tests, narrow) }
+    let light = not_so (nat_lt 4096 (function_weight body)) at fault.Heavy
+    (none_right wide heavy (none_right many (wide ++ heavy) behind)) in
+    record { few = grind (arith, nat_tests, few); frame = grind (arith, nat_tests, narrow); heavy = grind (arith, nat_tests, light) }
 
 function_sound : (slots : List Slot) → Each SlotFits slots → (fs : List (List ℕ)) (cores own : ℕ) → cores ≤ 16 → (names : List Named) (at : ℕ)
     (kind : Option Kind) (text : List ℕ) (void_word : Bool) (parameters : List Parameter) (body : List PlainStmt)
@@ -184,7 +187,7 @@ made_length (n ∷ counts) [] same = absurd (omega (arith, same))
 made_length (n ∷ counts) (body ∷ bodies) same = ap suc (made_length counts bodies (omega (arith, same)))
 
 pub functions_are_formed : (cores own : ℕ) (items : List PlainItem) → cores ≤ 16 → IsValid items cores own
-    → functions_formed (single items).functions (length (single items).functions) ≡ true
+    → functions_formed (with_calls items).functions (length (with_calls items).functions) ≡ true
 functions_are_formed cores own items few valid =
     let counts = parameters_in items in
     let bodies = resolved_items (layout_of items) [] items in

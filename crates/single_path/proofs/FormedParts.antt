@@ -5,7 +5,7 @@ use Rattle.std.specs.List.{AllByRecursion as Each}
 use Rattle.std.specs.Prelude.{◌&&◌, ◌||◌}
 use Rattle.sp_tree.specs.Formed.{target_formed, result_formed, callee_formed, stmt_formed, stmts_formed}
 use Rattle.sp_tree.specs.Plain.{PlainSp, frame_word}
-use Rattle.sp_tree.specs.Statements.{PlainStmt, PlainStmts, no_stmt, stmt, joined, PlainFunction, masks, writes, overruns}
+use Rattle.sp_tree.specs.Statements.{PlainStmts, no_stmt, stmt, joined, PlainFunction, masks, writes, overruns}
 use Rattle.sp_tree.specs.Statements as tree
 use Rattle.c_meaning.specs.Actions.{PlainTarget, to_level, to_cell, to_array, PlainAssignment, PlainAction, sets, calls, transfers, chooses, turns, breaks, continues, returns, PlainActions, no_action, action, PlainBranches, no_branch, branch}
 use Rattle.single_path.specs.Counted.{start_of}
@@ -13,7 +13,7 @@ use Rattle.single_path.specs.Made.{made_target, made_assignment, made_step, made
 use Rattle.single_path.specs.declared.counted.Start.{Start}
 use Rattle.single_path.specs.declared.part_words.PartWords.{PartWords}
 use Rattle.single_path.specs.PartWords.{in_arm, in_loop, where_so, where_not_taken, where_other, where_on, where_not_returned, bit_of, not_zero, returned_function, returned_loop}
-use Rattle.single_path.specs.Widths.{result_words, expr_words, args_words, target_words, assignment_words, step_words, words, action_words, branches_words, branches_masks}
+use Rattle.single_path.specs.Widths.{result_words, expr_words, args_words, target_words, step_words, words, action_words, branches_words, branches_masks}
 use Rattle.single_path.specs.Widths as width
 use Rattle.single_path.proofs.Fits.{FitsAction, Fits, FitsBranches}
 use Rattle.single_path.proofs.Frames.{Order}

@@ -7,7 +7,7 @@ use Rattle.c_tree.specs.declared.statements.Kind.{Kind}
 use Rattle.c_tree.specs.declared.units.Parameter.{Parameter}
 use Rattle.c_tree.specs.Layout.{is_unsigned}
 use Rattle.c_tree.specs.Frame.{stmt_frame, block_frame, arms_frame, otherwise_frame, body_frame, function_frame}
-use Rattle.c_tree.specs.Plain.{PlainExpr, PlainRight, PlainHead, PlainStmt, PlainBlock, PlainArms, PlainOtherwise}
+use Rattle.c_tree.specs.Plain.{PlainRight, PlainHead, PlainStmt, PlainBlock, PlainArms, PlainOtherwise}
 use Rattle.c_tree.specs.Plain as plain
 use Rattle.sp_tree.specs.Formed.{stmts_levels}
 use Rattle.sp_tree.specs.Plain.{PlainSp, constant}

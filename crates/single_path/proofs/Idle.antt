@@ -4,12 +4,12 @@ use Rattle.std.specs.Prelude.{bit_and, bit_xor, not, ◌&&◌, ◌||◌}
 use Rattle.c_world.specs.Numbers.{flag, is_true, sum_of, difference_of}
 use Rattle.c_world.specs.World.{World}
 use Rattle.sp_tree.specs.Plain.{PlainSp, constant, frame_word}
-use Rattle.sp_tree.specs.Statements.{PlainSpTarget, to_slot, PlainStmt, masks, writes, overruns, PlainStmts, no_stmt, stmt, one, joined}
+use Rattle.sp_tree.specs.Statements.{PlainSpTarget, to_slot, masks, writes, overruns, PlainStmts, no_stmt, stmt, one, joined}
 use Rattle.sp_tree.specs.Statements as tree
 use Rattle.sp_tree.specs.Straight.{State, Serves, with_slot, args_worth, worth, times, stmt_done, stmts_done}
 use Rattle.sp_tree.proofs.Joins.{joined_done}
 use Rattle.sp_tree.proofs.Masks.{write_off, send_off, overrun_off, call_off}
-use Rattle.c_meaning.specs.Actions.{PlainTarget, to_level, PlainAssignment, PlainAction, sets, calls, transfers, chooses, turns, breaks, continues, returns, PlainActions, no_action, action, PlainBranches, no_branch, branch}
+use Rattle.c_meaning.specs.Actions.{to_level, PlainAssignment, PlainAction, sets, calls, transfers, chooses, turns, breaks, continues, returns, PlainActions, no_action, action, PlainBranches, no_branch, branch}
 use Rattle.c_meaning.specs.Actions as actions
 use Rattle.single_path.specs.declared.counted.Start.{Start}
 use Rattle.single_path.specs.declared.part_words.PartWords.{PartWords}

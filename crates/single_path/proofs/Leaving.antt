@@ -14,7 +14,7 @@ use Rattle.c_meaning.specs.Meaning.{Done, way_value}
 use Rattle.c_meaning.specs.Resolved as resolved
 use Rattle.c_meaning.specs.Values as values
 use Rattle.single_path.specs.declared.part_words.PartWords.{PartWords}
-use Rattle.single_path.specs.PartWords.{in_arm, in_loop, where_so, where_not_taken, where_not_returned, bit_of, not_zero, broken, continued, returned_function, returned_loop}
+use Rattle.single_path.specs.PartWords.{bit_of, broken, continued, returned_function, returned_loop}
 use Rattle.single_path.specs.PartWords as mask
 use Rattle.single_path.specs.Made.{made_action, made_result, made_on, made_after, is_zero, ends}
 use Rattle.single_path.specs.Widths.{expr_words}

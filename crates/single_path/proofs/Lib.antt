@@ -43,3 +43,7 @@ pub mod Budgets
 pub mod Whole
 pub mod OtherMasks
 pub mod Wide
+pub mod TakenIn
+pub mod TakenRests
+pub mod TakenLaws
+pub mod Limited

@@ -12,7 +12,7 @@ use Rattle.sp_tree.proofs.Runs.{on as on_mask}
 use Rattle.c_meaning.specs.Actions.{PlainAssignment, PlainAction}
 use Rattle.c_meaning.specs.declared.ways.Way.{Way}
 use Rattle.c_meaning.specs.declared.ways.Way.TheVariants as way
-use Rattle.c_meaning.specs.Meaning.{Done, goes_on, then_done, turn_done, turns_done, way_value}
+use Rattle.c_meaning.specs.Meaning.{Done, goes_on, turn_done, turns_done, way_value}
 use Rattle.c_meaning.specs.Meaning as meaning
 use Rattle.c_meaning.specs.Resolved as resolved
 use Rattle.c_meaning.specs.Values as values

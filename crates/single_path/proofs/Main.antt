@@ -18,7 +18,7 @@ use Rattle.c_tree.specs.Valid.{IsValid, has_none, means_of, function_means, name
 use Rattle.sp_tree.specs.Formed.{entry_formed}
 use Rattle.sp_tree.specs.Statements.{no_function}
 use Rattle.c_meaning.specs.Resolve.{names_in, resolved_items, parameters_in}
-use Rattle.single_path.specs.Single.{single, entry_of}
+use Rattle.single_path.specs.Single.{with_calls, entry_of}
 use Rattle.single_path.proofs.Ends.{ends_of}
 use Rattle.single_path.proofs.Formed.{as_many, made_length}
 use Rattle.single_path.proofs.Functions.{made_at}
@@ -154,13 +154,13 @@ main_there cores own items valid =
       bare = main.bare;
     }
 
-pub entry_is_formed : (cores own : ℕ) (items : List PlainItem) → IsValid items cores own → entry_formed (single items) ≡ true
+pub entry_is_formed : (cores own : ℕ) (items : List PlainItem) → IsValid items cores own → entry_formed (with_calls items) ≡ true
 entry_is_formed cores own items valid =
     let counts = parameters_in items in
     let bodies = resolved_items (layout_of items) [] items in
     let same = as_many (layout_of items) [] items in
     let main = main_there cores own items valid in
-    ap (λ n. entry_formed (record (single items) { entry = entry_of n })) main.is
-    ∙ and_from _ _ (lt-ltb main.number (length (single items).functions) (omega (arith, main.within, made_length counts bodies same)))
-    (eq-eqb (slice_index_or (single items).functions main.number no_function).parameters 0
+    ap (λ n. entry_formed (record (with_calls items) { entry = entry_of n })) main.is
+    ∙ and_from _ _ (lt-ltb main.number (length (with_calls items).functions) (omega (arith, main.within, made_length counts bodies same)))
+    (eq-eqb (slice_index_or (with_calls items).functions main.number no_function).parameters 0
     (ap (λ f. f.parameters) (made_at counts bodies main.number (omega (arith, main.within, same)) main.within) ∙ main.bare))

@@ -5,7 +5,7 @@ use Rattle.sp_tree.specs.Formed.{stmt_formed, stmts_formed}
 use Rattle.sp_tree.specs.Need.{need}
 use Rattle.sp_tree.specs.declared.operators.SpBinary.TheVariants as binary
 use Rattle.sp_tree.specs.Plain.{PlainSp, constant, frame_word, between_two}
-use Rattle.sp_tree.specs.Statements.{PlainStmt, PlainStmts, no_stmt, stmt, PlainFunction, masks, writes, overruns}
+use Rattle.sp_tree.specs.Statements.{PlainStmt, PlainStmts, no_stmt, stmt, PlainFunction, masks}
 use Rattle.sp_tree.specs.Statements as tree
 use Rattle.sp_tree.proofs.Joins.{joined_formed}
 use Rattle.single_path.specs.declared.part_words.PartWords.{PartWords}

@@ -13,14 +13,14 @@ use Rattle.c_meaning.specs.Resolve.{resolved_items, numbered, parameters_in}
 use Rattle.c_meaning.specs.Resolved as resolved
 use Rattle.c_meaning.proofs.Programs.{program_means}
 use Rattle.single_path.specs.Meant.{IsMeant}
-use Rattle.single_path.specs.Single.{entry_of, made_functions, single}
+use Rattle.single_path.specs.Single.{entry_of, made_functions, with_calls}
 use Rattle.single_path.proofs.Calling.{Serving}
 use Rattle.single_path.proofs.Formed.{as_many, functions_fit, made_length}
 use Rattle.single_path.proofs.Functions.{Callable, functions_serve}
 use Rattle.single_path.proofs.Main.{MainThere, main_there}
 
 pub meant : (cores own : ℕ) (items : List PlainItem) → IsValid items cores own → (input : List ℕ) (shared comm : ℕ → ℕ)
-    → IsMeant (begins.straight (single items) input shared comm) (meaning items input shared comm)
+    → IsMeant (begins.straight (with_calls items) input shared comm) (meaning items input shared comm)
 meant cores own items valid input shared comm = record {
   value = ap (λ (g : straight.Given). g.value) entered ∙ serving.value main.number [] world callable ∙ sym (ap (λ (g : Given). g.value) means);
   world = ap (λ (g : straight.Given). g.world) entered ∙ serving.world main.number [] world callable ∙ sym (ap (λ (g : Given). g.world) means);
@@ -47,7 +47,7 @@ meant cores own items valid input shared comm = record {
     callable : Callable counts (length bodies) main.number 0
     callable = (main.within, sym main.bare)
 
-    entered : begins.straight (single items) input shared comm ≡ straight.serves (made_functions counts bodies) (length bodies) main.number 1 [] world
+    entered : begins.straight (with_calls items) input shared comm ≡ straight.serves (made_functions counts bodies) (length bodies) main.number 1 [] world
     entered =
         ap₂ (λ n k. straight.serves (made_functions counts bodies) n k 1 [] world) (made_length counts bodies same) (ap entry_of main.is)
 

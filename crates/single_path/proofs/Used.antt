@@ -20,13 +20,13 @@ use Rattle.c_meaning.specs.Meaning.{with_variable, names_after, most_turns, para
 use Rattle.c_meaning.specs.Operators.{works_unsigned, gives_unsigned}
 use Rattle.c_tree.specs.Names.{number_of}
 use Rattle.c_meaning.specs.Resolve.{resolved, resolved_steps, resolved_args, resolved_between, resolved_right, resolved_begin, resolved_condition, resolved_next, resolved_stmt, resolved_block, resolved_arms, resolved_otherwise, resolved_body, resolved_items, maybe_sets, variable_target, element_target, slot_cell, slot_array, parameters_in}
-use Rattle.c_meaning.specs.Scope.{Stands, level, outside, slot_region}
+use Rattle.c_meaning.specs.Scope.{level, outside, slot_region}
 use Rattle.c_meaning.specs.Scope as scope
 use Rattle.c_meaning.specs.Values.{Names, named, expr_unsigned}
 use Rattle.c_mentions.specs.Mentions.{Array, comm_array, shared_array, is_at, is_mention, is_assignment, is_send, mentions, assigns, sends_to}
-use Rattle.c_mentions.specs.Uses.{reads, sets, sends, expr_uses, steps_uses, args_uses, right_uses, first_uses, returned_uses, head_uses, stmt_uses, block_uses, arms_uses, otherwise_uses, body_uses, item_uses, items_uses, program_uses}
+use Rattle.c_mentions.specs.Uses.{reads, sets, sends, expr_uses, steps_uses, args_uses, right_uses, head_uses, stmt_uses, block_uses, arms_uses, otherwise_uses, body_uses, items_uses, program_uses}
 use Rattle.c_mentions.specs.Uses as source
-use Rattle.single_path.specs.Single.{single}
+use Rattle.single_path.specs.Single.{with_calls}
 use Rattle.single_path.specs.Used.{IsMadeTo, ComesFrom, same_region, reads_region, writes_region, is_send_to, memory_of}
 use Rattle.single_path.proofs.Doing.{ExprDoes, ResultDoes, StepDoes, Do, BranchesDo, functions_do}
 use Rattle.single_path.proofs.Resolving.{Outside, CellRead, ArrayRead, CellWritten, ArrayWritten, variable_does, element_does, variable_target_does, element_target_does, between_does, signs_do, assigned_does, sets_do, numbered_does, actions_joined, choice_does}
@@ -198,7 +198,7 @@ each_allowed : (P : Use → Type 0) (ss : List source.Use) → ((u : Use) → Co
 each_allowed P [] all = tt
 each_allowed P (s ∷ ss) all = (allowed P s (λ u made. all u (inl made)), each_allowed P ss (λ u from. all u (inr from)))
 
-pub uses_come_from : (items : List PlainItem) → Each (ComesFrom (program_uses items)) (uses_of (single items))
+pub uses_come_from : (items : List PlainItem) → Each (ComesFrom (program_uses items)) (uses_of (with_calls items))
 uses_come_from items =
     let P = ComesFrom (program_uses items) in
     functions_do P (parameters_in items) (resolved_items (layout_of items) [] items)
@@ -253,16 +253,16 @@ send_made : (core : ℕ) (s : source.Use) (u : Use) → IsMadeTo s u → is_send
 send_made core s (tree.sends_to to) made is = ap (is_send core) made ∙ is
 send_made core s u made is = absurd (cc)
 
-pub reads_only_mentioned : (a : Array) (items : List PlainItem) → list_any (reads_region (memory_of a)) (uses_of (single items)) ≡ true
+pub reads_only_mentioned : (a : Array) (items : List PlainItem) → list_any (reads_region (memory_of a)) (uses_of (with_calls items)) ≡ true
     → mentions a items ≡ true
 reads_only_mentioned a items is =
-    any_from (reads_region (memory_of a)) (is_mention a) (read_made a) (program_uses items) (uses_of (single items)) (uses_come_from items) is
+    any_from (reads_region (memory_of a)) (is_mention a) (read_made a) (program_uses items) (uses_of (with_calls items)) (uses_come_from items) is
 
-pub writes_only_assigned : (a : Array) (items : List PlainItem) → list_any (writes_region (memory_of a)) (uses_of (single items)) ≡ true
+pub writes_only_assigned : (a : Array) (items : List PlainItem) → list_any (writes_region (memory_of a)) (uses_of (with_calls items)) ≡ true
     → assigns a items ≡ true
 writes_only_assigned a items is =
-    any_from (writes_region (memory_of a)) (is_assignment a) (write_made a) (program_uses items) (uses_of (single items)) (uses_come_from items) is
+    any_from (writes_region (memory_of a)) (is_assignment a) (write_made a) (program_uses items) (uses_of (with_calls items)) (uses_come_from items) is
 
-pub sends_only_sent : (core : ℕ) (items : List PlainItem) → list_any (is_send_to core) (uses_of (single items)) ≡ true → sends_to core items ≡ true
+pub sends_only_sent : (core : ℕ) (items : List PlainItem) → list_any (is_send_to core) (uses_of (with_calls items)) ≡ true → sends_to core items ≡ true
 sends_only_sent core items is =
-    any_from (is_send_to core) (is_send core) (send_made core) (program_uses items) (uses_of (single items)) (uses_come_from items) is
+    any_from (is_send_to core) (is_send core) (send_made core) (program_uses items) (uses_of (with_calls items)) (uses_come_from items) is

@@ -13,7 +13,7 @@ use Rattle.c_tree.specs.Checks.{callee_faults, call_faults, args_faults, right_f
 use Rattle.c_tree.specs.Least.{where_so}
 use Rattle.c_tree.specs.Names.{Named, last_named, found, declared, number_of}
 use Rattle.c_tree.proofs.LastNamed.{last_pushed}
-use Rattle.c_tree.specs.Plain.{PlainExpr, PlainRight, PlainHead, PlainStmt, PlainBlock, PlainArms, PlainOtherwise}
+use Rattle.c_tree.specs.Plain.{PlainExpr, PlainRight, PlainStmt, PlainBlock, PlainArms, PlainOtherwise}
 use Rattle.c_tree.specs.Plain as plain
 use Rattle.c_tree.specs.Sizes.{kind_size, expr_size, bound_size, head_size, stmt_size, arms_size, block_size}
 use Rattle.c_tree.specs.Valid.{has_none}

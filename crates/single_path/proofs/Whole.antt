@@ -10,15 +10,15 @@ use Rattle.c_meaning.specs.Resolve.{names_in, resolved_items, parameters_in}
 use Rattle.c_tree.proofs.Faultless.{private_fits}
 use Rattle.c_meaning.proofs.Fits.{input_within}
 use Rattle.sp_tree.specs.Formed.{is_formed}
-use Rattle.single_path.specs.Single.{entry_of, single}
+use Rattle.single_path.specs.Single.{entry_of, with_calls}
 use Rattle.single_path.proofs.Apart.{valid_apart}
 use Rattle.single_path.proofs.Data.{data_is_formed, functions_are_few}
 use Rattle.single_path.proofs.Formed.{as_many, functions_are_formed, made_length}
 use Rattle.single_path.proofs.Main.{entry_is_formed, main_there}
 
-pub single_is_formed : (cores own : ℕ) (items : List PlainItem) → cores ≤ 16 → IsValid items cores own → is_formed (single items) ≡ true
+pub single_is_formed : (cores own : ℕ) (items : List PlainItem) → cores ≤ 16 → IsValid items cores own → is_formed (with_calls items) ≡ true
 single_is_formed cores own items few valid =
-    and_from _ _ (le-leb (length (single items).functions) 512 (functions_are_few cores own items valid))
+    and_from _ _ (le-leb (length (with_calls items).functions) 512 (functions_are_few cores own items valid))
     (and_from _ _ (functions_are_formed cores own items few valid)
     (and_from _ _ (entry_is_formed cores own items valid)
     (and_from _ _ (data_is_formed cores own items valid) (valid_apart items cores own valid))))

@@ -1,6 +1,6 @@
 -- To be believed. Loops that count: right before such a loop its variable is set to a constant, the condition is that
 -- the variable is below another, and the step adds a third.
-use Rattle.std.specs.Prelude.{ℕ, zero, suc, ◌+◌, ◌*◌, ◌^◌, ◌==◌, nat_lt, nat_le, Bool, true, false, if◌then◌else◌, ◌&&◌, ◌||◌, Option, None, Some}
+use Rattle.std.specs.Prelude.{ℕ, zero, suc, ◌+◌, ◌*◌, ◌^◌, ◌==◌, nat_lt, nat_le, Bool, false, if◌then◌else◌, ◌&&◌, ◌||◌, Option, None, Some}
 use Rattle.sp_tree.specs.declared.operators.SpBinary.{SpBinary}
 use Rattle.sp_tree.specs.declared.operators.SpBinary.TheVariants as binary
 use Rattle.sp_tree.specs.Plain.{PlainSp, constant, frame_word, between_two}

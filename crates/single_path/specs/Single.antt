@@ -1,5 +1,5 @@
 -- To be believed. The single-path tree of a program: its functions, each made of the actions
--- of one, and the words that it begins with.
+-- of one with the calls in loops that it takes in, and the words that it begins with.
 use Rattle.std.specs.Prelude.{ℕ, ◌+◌, max, List, [], ◌∷◌, Option, None, Some, codes}
 use Rattle.c_tree.specs.Frame.{function_frame}
 use Rattle.c_tree.specs.Layout.{initial_of, input_of, layout_of}
@@ -12,6 +12,7 @@ use Rattle.sp_tree.specs.Statements.{PlainStmts, masks, stmt, PlainFunction, Pla
 use Rattle.c_meaning.specs.Actions.{PlainActions}
 use Rattle.c_tree.specs.Names.{number_of}
 use Rattle.c_meaning.specs.Resolve.{names_in, parameters_in, resolved_items}
+use Rattle.sp_inline.specs.Taken.{unit_taken}
 use Rattle.single_path.specs.Made.{made}
 use Rattle.single_path.specs.declared.part_words.PartWords.{PartWords}
 use Rattle.single_path.specs.PartWords.{outermost}
@@ -53,8 +54,9 @@ abbrev pub entry_of : Option ℕ → ℕ
 entry_of None = 0
 entry_of (Some k) = k
 
-abbrev pub single : List PlainItem → PlainUnit
-single items = record {
+-- each call of the text is one of the tree
+abbrev pub with_calls : List PlainItem → PlainUnit
+with_calls items = record {
   functions = made_functions (parameters_in items) (resolved_items (layout_of items) [] items);
   entry = entry_of (number_of (codes "main") (names_in items));
   initial = initial_of items;
@@ -73,3 +75,9 @@ abbrev pub frames_in : List PlainItem → List ℕ
 frames_in [] = []
 frames_in (global of ∷ items) = frames_in items
 frames_in (function kind its_name void_word parameters body ∷ items) = function_frame parameters body ∷ frames_in items
+
+-- ---- the tree
+
+-- calls in loops are taken in, as far as each function keeps to what it weighs and to the frame that is counted
+abbrev pub single : List PlainItem → PlainUnit
+single items = unit_taken (weights_in items) (frames_in items) (with_calls items)

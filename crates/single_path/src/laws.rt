@@ -10,7 +10,7 @@ ghost use Rattle.single_path.specs.Single.{single};
 /// A function that is run under another mask than 1 changes no word of a memory and no flag, and starts no send,
 /// whatever it calls; and of its frame it changes masks alone: the words of its variables and its result stand, and of
 /// all words each that no `Mask` statement of its body sets. A law: it does nothing.
-#[tactic(auto, using(crate::proofs::OtherMasks::quiet))]
+#[tactic(auto, using(crate::proofs::TakenLaws::taken_quiet))]
 pub fn other_masks_change_nothing()
     ensures world { (items : List PlainItem) (n k under : ℕ) (args : List ℕ) (w : World) → under ≢ 1
         → (serves (single items).functions n k under args w).world ≡ w }

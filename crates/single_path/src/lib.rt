@@ -8,7 +8,8 @@
 //! - `specs/Counted.antt`: loops that count.
 //! - `specs/Made.antt`: the statements that are made of actions.
 //! - `specs/Widths.antt`: how many words of a frame actions need.
-//! - `specs/Single.antt`: functions and units; what each function may weigh, and how many words its frame may have.
+//! - `specs/Single.antt`: functions and units; what each function may weigh, and how many words its frame may have;
+//!   and the tree, whose functions take in calls in loops within these limits.
 //! - `specs/Masked.antt`: in which words of a frame masks are set.
 //! - `specs/Used.antt`: what the tree uses, beside what the text does.
 //!

@@ -1,6 +1,7 @@
 //! Functions and units, made of programs whose names are resolved.
 ghost use Rattle.std.specs.Prelude.{◌≡◌, ◌+◌, ◌<◌, ◌≤◌, ◌^◌, ℕ, List, length, map, slice_index, slice_index_or, IfOk, true};
 ghost use Rattle.std.specs.List.{list_any};
+ghost use Rattle.c_check.specs.Capped.{capped};
 ghost use Rattle.c_tree.specs.Layout as layout;
 ghost use Rattle.c_tree.specs.Plain.{plain, plain_item};
 ghost use Rattle.sp_tree.specs.Begun.{straight};
@@ -21,8 +22,10 @@ use crate::masks::begun_mask;
 use crate::part_words::PartWords;
 use crate::statements::{add_all, add_mask};
 use crate::widths::{exact_levels, exact_width};
+use c_check::{frame_of, weight_of};
 use c_meaning::{Action, InputPlace, Routine, add_initial, input_place, resolve};
 use c_tree::{Checked, Item};
+use sp_inline::take_in;
 use sp_tree::{SpFunction, SpUnit};
 use std::alloc::Global;
 use tc_word::{List, OutOfMemory};
@@ -86,9 +89,9 @@ fn initial_words(alloc: Global, items: &[Item]) -> Result<List<u32>, OutOfMemory
     Ok(List::of(words))
 }
 
-// the tree, part by part
+// the tree with all its calls, part by part
 fn tree_of(alloc: Global, program: &Checked) -> Result<SpUnit, OutOfMemory>
-    ensures { IfOk result (λ u. plain_unit u ≡ specs.single (plain program.now.unit)) }
+    ensures { IfOk result (λ u. plain_unit u ≡ specs.with_calls (plain program.now.unit)) }
 {
     let items = program.unit.items.as_slice();
     let resolved = resolve(alloc, program)?;
@@ -103,6 +106,47 @@ fn tree_of(alloc: Global, program: &Checked) -> Result<SpUnit, OutOfMemory>
         input_at: at as u32,
         input_room: room as u32,
     })
+}
+
+// what the functions weigh, in order
+#[tactic(auto, using(crate::proofs::Limited::next_weight, crate::proofs::Limited::same_weights, crate::proofs::Limited::all_weights))]
+fn weights(alloc: Global, items: &[Item]) -> Result<Vec<u32>, OutOfMemory>
+    ensures { IfOk result (λ ws. ws.items ≡ map capped (specs.weights_in (map plain_item items.now))) }
+{
+    let mut weights = Vec::new(alloc);
+    for item in items {
+        match item {
+            Item::Function { function } => weights.push(weight_of(function))?,
+            Item::Global { .. } => {}
+        }
+    }
+    Ok(weights)
+}
+
+// how many words the frames of the functions may have, in order
+#[tactic(auto, using(crate::proofs::Limited::next_frame, crate::proofs::Limited::same_frames, crate::proofs::Limited::all_frames))]
+fn frames(alloc: Global, items: &[Item]) -> Result<Vec<u32>, OutOfMemory>
+    ensures { IfOk result (λ ws. ws.items ≡ map capped (specs.frames_in (map plain_item items.now))) }
+{
+    let mut frames = Vec::new(alloc);
+    for item in items {
+        match item {
+            Item::Function { function } => frames.push(frame_of(function))?,
+            Item::Global { .. } => {}
+        }
+    }
+    Ok(frames)
+}
+
+// the tree, with the calls in loops that its functions take in
+fn taken_tree(alloc: Global, program: &Checked) -> Result<SpUnit, OutOfMemory>
+    ensures { IfOk result (λ u. plain_unit u ≡ specs.single (plain program.now.unit)) }
+{
+    let items = program.unit.items.as_slice();
+    let tree = tree_of(alloc, program)?;
+    let weights = weights(alloc, items)?;
+    let frames = frames(alloc, items)?;
+    take_in(alloc, weights.as_slice(), frames.as_slice(), tree)
 }
 
 /// The single-path tree of a valid program. It is `Err` where memory runs out.
@@ -132,5 +176,5 @@ pub fn convert(alloc: Global, program: &Checked) -> Result<SpUnit, OutOfMemory>
     ensures sends { IfOk result (λ u. (core : ℕ) → list_any (is_send_to core) (uses_of (plain_unit u)) ≡ true
         → sends_to core (plain program.now.unit) ≡ true) }
 {
-    tree_of(alloc, program)
+    taken_tree(alloc, program)
 }

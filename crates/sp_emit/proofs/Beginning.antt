@@ -1,5 +1,5 @@
 -- What the code leaves with which a function begins: its frame holds the arguments and the mask, and 0 in all other words.
-use Rattle.std.proofs.Common.{◌≡◌, ℕ, zero, suc, ◌+◌, ◌-◌, ◌^◌, ◌<◌, ◌≤◌, ◌⊎◌, inl, inr, if◌then◌else◌, List, length, slice_index, nat_lt, refl, sym, ap, ◌∙◌, subst, arith}
+use Rattle.std.proofs.Common.{◌≡◌, ℕ, zero, suc, ◌+◌, ◌-◌, ◌^◌, ◌<◌, ◌≤◌, ◌⊎◌, inl, inr, Bool, true, false, if◌then◌else◌, List, [], ◌∷◌, length, slice_index, nat_lt, refl, sym, ap, ◌∙◌, subst, arith}
 use Rattle.std.proofs.lemmas.Bool.{cases_lt, cases_eq, lt-ltb, le-ltb, le-leb}
 use Rattle.tc_word.proofs.Items.{past_all}
 use Rattle.shared_order.specs.Words.{put}
@@ -12,7 +12,7 @@ use Rattle.sp_emit.specs.Functions.{argument_kept, arguments_kept}
 use Rattle.patmos_sem.specs.declared.writes.Write.TheVariants as write
 use Rattle.sp_emit.specs.Holding.{held, KeepsFrom}
 use Rattle.sp_emit.specs.Instructions.{always, stack_op}
-use Rattle.sp_emit.specs.Places.{word_of, set_word, word_cleared, words_cleared}
+use Rattle.sp_emit.specs.Places.{in_register, word_of, set_word, word_cleared, words_cleared}
 use Rattle.sp_emit.specs.declared.registers.TheConstants.{FIRST, OVERRUN}
 use Rattle.sp_emit.proofs.Arguments.{did_stack}
 use Rattle.sp_emit.proofs.Frames.{put_same, put_other}
@@ -35,6 +35,14 @@ pub record Taken (homes frame slots : ℕ) (words : ℕ → ℕ) (m t : Run) : T
   pub high : KeepsFrom (homes + slots) m t
   pub flag : held OVERRUN t ≡ held OVERRUN m
 
+-- how many words of the stack are taken, or none
+abbrev pub words_taken : Bool → ℕ → ℕ
+words_taken none frame = if none then 0 else frame
+
+pub taken_few : (none : Bool) (frame : ℕ) → words_taken none frame ≤ frame
+taken_few true frame = omega arith
+taken_few false frame = omega arith
+
 reserved_word : (st count word : ℕ) (stack : ℕ → ℕ) → st - count ≤ word → word < st → reserved st count stack word ≡ 0
 reserved_word st count word stack from below = rw (le-leb (st - count) word from, lt-ltb word st below) refl
 
@@ -53,8 +61,19 @@ record Clears (homes frame slots count : ℕ) (m t : Run) : Type 0 where
   high : KeepsFrom (homes + slots) m t
   flag : held OVERRUN t ≡ held OVERRUN m
 
-takes_frame : (from : Sources) (homes frame slots : ℕ) (m : Run) → IsWhole m → frame ≤ m.st → Clears homes frame slots 0 m (once from (stack_op Sres frame) m)
-takes_frame from homes frame slots m whole enough = subst (Clears homes frame slots 0 m) (sym (did_stack from Sres frame m whole)) (record {
+takes_frame : (from : Sources) (homes frame slots : ℕ) (none : Bool) (m : Run) → IsWhole m → frame ≤ m.st → Clears homes (words_taken none frame) slots 0 m (run from (all_done (if none then [] else stack_op Sres frame ∷ [])) m)
+takes_frame from homes frame slots true m whole enough = record {
+  whole = whole;
+  memory = refl;
+  st = omega arith;
+  cleared = λ x lt. absurd (omega (arith, lt));
+  zeros = λ x lt. absurd (omega (arith, lt));
+  behind = λ a above. refl;
+  low = λ r some before few. refl;
+  high = λ r from lt. refl;
+  flag = refl;
+}
+takes_frame from homes frame slots false m whole enough = subst (Clears homes frame slots 0 m) (sym (did_stack from Sres frame m whole)) (record {
   whole = record { fits = whole.fits; pending = whole.pending };
   memory = refl;
   st = refl;
@@ -66,10 +85,14 @@ takes_frame from homes frame slots m whole enough = subst (Clears homes frame sl
   flag = refl;
 })
 
-clears_words : (from : Sources) (homes frame slots count : ℕ) (m t : Run) → 1 ≤ homes → slots ≤ frame → count ≤ slots → Clears homes frame slots 0 m t → Clears homes frame slots count m (run from (all_done (words_cleared homes count)) t)
-clears_words from homes frame slots zero m t some fits few x = x
-clears_words from homes frame slots (suc n) m t some fits few x =
-    let y = clears_words from homes frame slots n m t some fits (omega (arith, few)) x in
+-- the words that stand in no register stand in the frame
+abbrev pub Outside : ℕ → ℕ → ℕ → Type 0
+Outside homes slots frame = (x : ℕ) → x < slots → in_register homes x ≡ false → x < frame
+
+clears_words : (from : Sources) (homes frame slots count : ℕ) (m t : Run) → 1 ≤ homes → Outside homes slots frame → count ≤ slots → Clears homes frame slots 0 m t → Clears homes frame slots count m (run from (all_done (words_cleared homes count)) t)
+clears_words from homes frame slots zero m t some out few x = x
+clears_words from homes frame slots (suc n) m t some out few x =
+    let y = clears_words from homes frame slots n m t some out (omega (arith, few)) x in
     let u = run from (all_done (words_cleared homes n)) t in
     subst (Clears homes frame slots (suc n) m)
     (sym (ap (λ steps. run from steps t) (done_append (words_cleared homes n) (word_cleared homes n)) ∙ run_append from (all_done (words_cleared homes n)) (all_done (word_cleared homes n)) t))
@@ -89,7 +112,7 @@ clears_words from homes frame slots (suc n) m t some fits few x =
       whole = y.whole;
       memory = y.memory;
       st = y.st;
-      cleared = λ v lt. left u y.cleared (in_stack homes n u none ∙ y.zeros n (omega (arith, few, fits))) v lt (cases_eq n v);
+      cleared = λ v lt. left u y.cleared (in_stack homes n u none ∙ y.zeros n (out n few none)) v lt (cases_eq n v);
       zeros = y.zeros;
       behind = y.behind;
       low = y.low;
@@ -113,10 +136,9 @@ clears_words from homes frame slots (suc n) m t some fits few x =
         less (inl is) = is
         less (inr more) = absurd (other (omega (arith, more, lt)))
 
-takes_words : (from : Sources) (homes frame slots : ℕ) (args : List ℕ) (m : Run) → 1 ≤ homes → slots ≤ frame → IsWhole m → frame ≤ m.st
-    → Taken homes frame slots (first_words 0 args) m (run from (all_done (words_cleared homes slots)) (once from (stack_op Sres frame) m))
-takes_words from homes frame slots args m some fits whole enough =
-    let x = clears_words from homes frame slots slots m (once from (stack_op Sres frame) m) some fits (omega arith) (takes_frame from homes frame slots m whole enough) in
+takes_words : (from : Sources) (homes frame slots : ℕ) (args : List ℕ) (m t : Run) → 1 ≤ homes → Outside homes slots frame → Clears homes frame slots 0 m t → Taken homes frame slots (first_words 0 args) m (run from (all_done (words_cleared homes slots)) t)
+takes_words from homes frame slots args m t some out first =
+    let x = clears_words from homes frame slots slots m t some out (omega arith) first in
     record {
       whole = x.whole;
       memory = x.memory;
@@ -145,16 +167,16 @@ one_more j u args = by (cases_eq j u)
             past (inr same) = absurd (other (omega (arith, more, same)))
 
 -- the words of a frame with one of them set
-stores_word : (homes frame slots slot rs v : ℕ) (words more : ℕ → ℕ) (m t : Run) → 1 ≤ homes → slot < slots → slots ≤ frame → frame ≤ 128 → frame ≤ m.st → held rs t ≡ v → v < 2 ^ 32 → Taken homes frame slots words m t → ((u : ℕ) → put slot v words u ≡ more u)
+stores_word : (homes frame slots slot rs v : ℕ) (words more : ℕ → ℕ) (m t : Run) → 1 ≤ homes → slot < slots → Outside homes slots frame → slots ≤ 128 → frame ≤ m.st → held rs t ≡ v → v < 2 ^ 32 → Taken homes frame slots words m t → ((u : ℕ) → put slot v words u ≡ more u)
     → Taken homes frame slots more m (once by_words (set_word homes always slot rs) t)
-stores_word homes frame slots slot rs v words more m t some named fits most enough is word x each =
+stores_word homes frame slots slot rs v words more m t some named out most enough is word x each =
     let set = sets_word homes slot v t some x.whole in
-    subst (Taken homes frame slots more m) (sym (did_set_word by_words homes always slot rs v t x.whole x.whole.fits.always (omega (arith, named, fits, most)) is word)) (record {
+    subst (Taken homes frame slots more m) (sym (did_set_word by_words homes always slot rs v t x.whole x.whole.fits.always (omega (arith, named, most)) is word)) (record {
       whole = set.whole;
       memory = set.memory ∙ x.memory;
       st = set.st ∙ x.st;
       frame_is = λ u lt. at u lt set (cases_eq slot u) ∙ each u;
-      behind = λ a above. set.stack a (λ same. absurd (omega (arith, same, x.st, above, named, fits, enough))) ∙ x.behind a above;
+      behind = λ a above. set.stack a (λ beside same. absurd (omega (arith, same, x.st, above, out slot named beside, enough))) ∙ x.behind a above;
       low = λ r least before few. set.regs r least few (λ same. absurd (omega (arith, same, before))) ∙ x.low r least before few;
       high = λ r past lt. set.regs r (omega (arith, past, some)) (omega (arith, lt)) (λ same. absurd (omega (arith, same, past, named))) ∙ x.high r past lt;
       flag = set.flag ∙ x.flag;
@@ -165,17 +187,17 @@ stores_word homes frame slots slot rs v words more m t some named fits most enou
     at u lt set (inr other) = set.others u other ∙ x.frame_is u lt ∙ sym (put_other slot u v words other)
 
 -- so many arguments
-stores_arguments : (homes frame slots j : ℕ) (args : List ℕ) (m t : Run) → FIRST + length args ≤ homes → j ≤ length args → length args ≤ slots → length args ≤ 6 → slots ≤ frame → frame ≤ 128 → frame ≤ m.st
+stores_arguments : (homes frame slots j : ℕ) (args : List ℕ) (m t : Run) → FIRST + length args ≤ homes → j ≤ length args → length args ≤ slots → length args ≤ 6 → Outside homes slots frame → slots ≤ 128 → frame ≤ m.st
     → ((i : ℕ) → i < length args → held (FIRST + i) m ≡ slice_index args i) → ((i : ℕ) → slice_index args i < 2 ^ 32) → Taken homes frame slots (first_words 0 args) m t
     → Taken homes frame slots (first_words j args) m (run by_words (all_done (arguments_kept homes j)) t)
-stores_arguments homes frame slots zero args m t before few inside small fits most enough given words x = x
-stores_arguments homes frame slots (suc j) args m t before few inside small fits most enough given words x =
-    let y = stores_arguments homes frame slots j args m t before (omega (arith, few)) inside small fits most enough given words x in
+stores_arguments homes frame slots zero args m t before few inside small out most enough given words x = x
+stores_arguments homes frame slots (suc j) args m t before few inside small out most enough given words x =
+    let y = stores_arguments homes frame slots j args m t before (omega (arith, few)) inside small out most enough given words x in
     let n = run by_words (all_done (arguments_kept homes j)) t in
     let is : held (FIRST + j) n ≡ slice_index args j = y.low (FIRST + j) (omega arith) (omega (arith, few, before)) (omega (arith, few, small)) ∙ given j few in
     subst (Taken homes frame slots (first_words (suc j) args) m)
     (sym (ap (λ steps. run by_words steps t) (done_append (arguments_kept homes j) (argument_kept homes j)) ∙ run_append by_words (all_done (arguments_kept homes j)) (all_done (argument_kept homes j)) t))
-    (stores_word homes frame slots j (FIRST + j) (slice_index args j) (first_words j args) (first_words (suc j) args) m n (omega (arith, before)) (omega (arith, few, inside)) fits most enough is (words j) y (λ u. one_more j u args))
+    (stores_word homes frame slots j (FIRST + j) (slice_index args j) (first_words j args) (first_words (suc j) args) m n (omega (arith, before)) (omega (arith, few, inside)) out most enough is (words j) y (λ u. one_more j u args))
 
 all_words : (args : List ℕ) (u : ℕ) → first_words (length args) args u ≡ slice_index args u
 all_words args u = by (cases_lt u (length args))
@@ -184,14 +206,16 @@ all_words args u = by (cases_lt u (length args))
     by (inl less) = rw (lt-ltb u (length args) less) refl
     by (inr more) = rw (le-ltb u (length args) more) (sym (past_all args u more))
 
-pub begins_frame : (homes frame slots parameters : ℕ) (args : List ℕ) (m : Run) → IsWhole m → length args ≡ parameters → FIRST + parameters ≤ homes → parameters ≤ slots → parameters ≤ 6 → slots ≤ frame → frame ≤ 128 → frame ≤ m.st
+pub begins_frame : (homes frame slots parameters : ℕ) (none : Bool) (args : List ℕ) (m : Run) → IsWhole m → length args ≡ parameters → FIRST + parameters ≤ homes → parameters ≤ slots → parameters ≤ 6 → Outside homes slots (words_taken none frame) → slots ≤ 128 → frame ≤ m.st
     → ((i : ℕ) → i < length args → held (FIRST + i) m ≡ slice_index args i) → ((i : ℕ) → slice_index args i < 2 ^ 32)
-    → Taken homes frame slots (slice_index args) m (run by_words (all_done (arguments_kept homes parameters)) (run by_words (all_done (words_cleared homes slots)) (once by_words (stack_op Sres frame) m)))
-begins_frame homes frame slots parameters args m whole count before inside small fits most enough given words =
-    let t = run by_words (all_done (words_cleared homes slots)) (once by_words (stack_op Sres frame) m) in
-    subst (λ p. Taken homes frame slots (slice_index args) m (run by_words (all_done (arguments_kept homes p)) t)) count
-    (retold (stores_arguments homes frame slots (length args) args m t (omega (arith, count, before)) (omega arith) (omega (arith, count, inside)) (omega (arith, count, small)) fits most enough given words
-    (takes_words by_words homes frame slots args m (omega (arith, before)) fits whole enough)))
+    → Taken homes (words_taken none frame) slots (slice_index args) m (run by_words (all_done (arguments_kept homes parameters)) (run by_words (all_done (words_cleared homes slots)) (run by_words (all_done (if none then [] else stack_op Sres frame ∷ [])) m)))
+begins_frame homes frame slots parameters none args m whole count before inside small out most enough given words =
+    let t0 = run by_words (all_done (if none then [] else stack_op Sres frame ∷ [])) m in
+    let t = run by_words (all_done (words_cleared homes slots)) t0 in
+    let n = words_taken none frame in
+    subst (λ p. Taken homes n slots (slice_index args) m (run by_words (all_done (arguments_kept homes p)) t)) count
+    (retold (stores_arguments homes n slots (length args) args m t (omega (arith, count, before)) (omega arith) (omega (arith, count, inside)) (omega (arith, count, small)) out most (omega (arith, taken_few none frame, enough)) given words
+    (takes_words by_words homes n slots args m t0 (omega (arith, before)) out (takes_frame by_words homes frame slots none m whole enough))))
   where
-    retold : {t : Run} → Taken homes frame slots (first_words (length args) args) m t → Taken homes frame slots (slice_index args) m t
+    retold : {t : Run} → Taken homes (words_taken none frame) slots (first_words (length args) args) m t → Taken homes (words_taken none frame) slots (slice_index args) m t
     retold x = record { whole = x.whole; memory = x.memory; st = x.st; frame_is = λ u lt. x.frame_is u lt ∙ all_words args u; behind = x.behind; low = x.low; high = x.high; flag = x.flag }

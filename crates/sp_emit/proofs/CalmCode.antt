@@ -10,8 +10,11 @@ use Rattle.sp_tree.specs.declared.operators.SpBinary.{SpBinary}
 use Rattle.sp_tree.specs.declared.operators.SpBinary.TheVariants as binary
 use Rattle.sp_tree.specs.declared.operators.SpUnary.{SpUnary}
 use Rattle.sp_shape.specs.Parts.{straight, PlainParts, no_part, part, one, joined}
-use Rattle.sp_emit.specs.Division.{operands, without_signs, digit_tail, quotient_to, rest_to, signed_quotient_to, signed_rest_to, around}
+use Rattle.sp_shape.proofs.Lists.{all_append}
+use Rattle.sp_emit.specs.Division.{operands, without_signs, highest_bit, digit_tail, unsigned_quotient_to, unsigned_rest_to, signed_quotient_to, signed_rest_to, around}
 use Rattle.sp_emit.proofs.Calm.{is_free, is_calm, part_calm, parts_calm}
+use Rattle.sp_emit.proofs.Held.{held_is}
+use Rattle.sp_emit.specs.Divisors.{factor_rest_to}
 use Rattle.sp_emit.specs.Expressions.{unary_code, binary_code, held_code, cell_code, element_code, address_of}
 use Rattle.sp_emit.specs.Instructions.{always, under, set_number}
 use Rattle.sp_emit.specs.Places.{read_word}
@@ -63,7 +66,8 @@ divides low homes le = record {
 around_calm : (low homes : ℕ) (before behind : List Slots) → Divides low homes → list_all (is_calm low homes) before ≡ true → list_all (is_calm low homes) behind ≡ true → parts_calm low homes (around before behind) ≡ true
 around_calm low homes before behind d a b =
     let turn : list_all (is_calm low homes) digit_tail ≡ true = grind (arith, d.spare, d.dividend, d.remainder, d.digits) in
-    and_from (list_all (is_calm low homes) before) _ a (and_from (list_all (is_calm low homes) digit_tail) _ turn (and_from (list_all (is_calm low homes) behind) true b refl))
+    let bit : list_all (is_calm low homes) (highest_bit ∷ []) ≡ true = grind (arith, d.spare) in
+    and_from (list_all (is_calm low homes) (before ++ highest_bit ∷ [])) _ (all_append (is_calm low homes) before (highest_bit ∷ []) a bit) (and_from (list_all (is_calm low homes) digit_tail) _ turn (and_from (list_all (is_calm low homes) behind) true b refl))
 
 operands_calm : (low homes ra rb : ℕ) → Divides low homes → list_all (is_calm low homes) (operands ra rb) ≡ true
 operands_calm low homes ra rb d = grind (arith, d.dividend, d.divisor, d.remainder, d.digits)
@@ -72,13 +76,14 @@ signed_operands_calm : (low homes ra rb : ℕ) → Divides low homes → list_al
 signed_operands_calm low homes ra rb d = grind (arith, d.dividend, d.divisor, d.remainder, d.digits)
 
 pub binary_calm : (op : SpBinary) (low homes rd ra rb : ℕ) → low ≤ rd → rd ≤ 20 → rd < homes → parts_calm low homes (binary_code op rd ra rb) ≡ true
+unfolding unsigned_quotient_to
 binary_calm op low homes rd ra rb le few within = by op (own_free low homes rd le few within) (divides low homes (omega (arith, le, few)))
   where
     by : (op : SpBinary) → is_free low homes rd ≡ true → Divides low homes → parts_calm low homes (binary_code op rd ra rb) ≡ true
     by binary.Divide free d = around_calm low homes (operands ra rb ++ without_signs) (signed_quotient_to rd) d (signed_operands_calm low homes ra rb d) (grind (arith, free))
-    by binary.DivideUnsigned free d = around_calm low homes (operands ra rb) (quotient_to rd) d (operands_calm low homes ra rb d) (grind (arith, free))
+    by binary.DivideUnsigned free d = around_calm low homes (operands ra rb) (unsigned_quotient_to rd ra) d (operands_calm low homes ra rb d) (grind (arith, free, d.dividend))
     by binary.Remainder free d = around_calm low homes (operands ra rb ++ without_signs) (signed_rest_to rd) d (signed_operands_calm low homes ra rb d) (grind (arith, free))
-    by binary.RemainderUnsigned free d = around_calm low homes (operands ra rb) (rest_to rd) d (operands_calm low homes ra rb d) (grind (arith, free))
+    by binary.RemainderUnsigned free d = around_calm low homes (operands ra rb) (unsigned_rest_to rd ra) d (operands_calm low homes ra rb d) (grind (arith, free, d.remainder))
     by binary.Or free d = grind (arith, free)
     by binary.And free d = grind (arith, free)
     by binary.BitOr free d = grind (arith, free)
@@ -98,7 +103,11 @@ binary_calm op low homes rd ra rb le few within = by op (own_free low homes rd l
     by binary.Times free d = grind (arith, free)
 
 pub held_calm : (op : SpBinary) (low homes rd ra n : ℕ) → low ≤ rd → rd ≤ 20 → rd < homes → list_all (is_calm low homes) (held_code op rd ra n) ≡ true
-held_calm op low homes rd ra n le few within = let free = own_free low homes rd le few within in grind (arith, free)
+unfolding factor_rest_to
+held_calm op low homes rd ra n le few within =
+    let free = own_free low homes rd le few within in
+    let d = divides low homes (omega (arith, le, few)) in
+    held_is (λ bs. list_all (is_calm low homes) bs ≡ true) op rd ra n (grind (arith, free, d.dividend)) (grind (arith, free, d.dividend, d.divisor, d.remainder))
 
 pub number_calm : (low homes rd n : ℕ) → is_free low homes rd ≡ true → is_calm low homes (set_number rd n) ≡ true
 number_calm low homes rd n free = number_op_is (λ op. is_calm low homes (under always op) ≡ true) rd n (grind (arith, free)) (grind (arith, free))

@@ -1,9 +1,13 @@
 -- The code of each function of a task.
-use Rattle.std.proofs.Common.{◌≡◌, ℕ, zero, suc, ◌<◌, ◌≤◌, ◌⊎◌, inl, inr, List, [], ◌∷◌, ◌++◌, length, slice_index_or, refl, sym, ap, ◌∙◌, arith}
+use Rattle.std.proofs.Common.{◌≡◌, ℕ, zero, suc, ◌<◌, ◌≤◌, ◌⊎◌, inl, inr, Bool, true, false, if◌then◌else◌, List, [], ◌∷◌, ◌++◌, length, slice_index_or, refl, sym, ap, ◌∙◌, arith}
 use Rattle.std.proofs.lemmas.Bool.{cases_lt}
 use Rattle.sp_tree.specs.Statements.{PlainFunction, no_function}
 use Rattle.sp_shape.specs.Parts.{PlainParts, no_part}
-use Rattle.sp_emit.specs.Functions.{function_code, functions_code, codes}
+use Rattle.patmos_instr.specs.Bundles.{Slots}
+use Rattle.patmos_instr.specs.declared.functions.StackFunc.TheVariants.{Sres, Sfree}
+use Rattle.sp_emit.specs.Chains.{stmts_call}
+use Rattle.sp_emit.specs.Instructions.{stack_op}
+use Rattle.sp_emit.specs.Functions.{place_stored, place_loaded, place_kept, place_brought, needs_none, frame_taken, frame_freed, function_code, functions_code, codes}
 use Rattle.sp_emit.specs.Places.{homes_of, tops, top_of}
 
 length_more : (xs : List PlainParts) (x : PlainParts) → length (xs ++ x ∷ []) ≡ suc (length xs)
@@ -72,3 +76,31 @@ tops_at fs (suc n) k lt = by (λ less. tops_at fs n k less) (cases_lt k n)
         let is : k ≡ length (tops fs n) = let same = tops_length fs n in omega (arith, same, more, lt) in
         let here : k ≡ n = omega (arith, more, lt) in
         ap (λ i. slice_index_or (tops fs n ++ top_of fs n ∷ []) i 0) is ∙ tops_end (tops fs n) (top_of fs n) 0 ∙ ap (top_of fs) (sym here)
+
+-- ---- the place to which a function returns is kept, or stays
+
+pub kept_is : (P : List Slots → Type 0) (f : PlainFunction) → (stmts_call f.body ≡ true → P (place_stored f)) → P [] → P (place_kept f)
+kept_is P f here there = by (stmts_call f.body) refl
+  where
+    by : (b : Bool) → stmts_call f.body ≡ b → P (if b then place_stored f else [])
+    by true is = here is
+    by false is = there
+
+pub brought_is : (P : List Slots → Type 0) (f : PlainFunction) → (stmts_call f.body ≡ true → P (place_loaded f)) → P [] → P (place_brought f)
+brought_is P f here there = by (stmts_call f.body) refl
+  where
+    by : (b : Bool) → stmts_call f.body ≡ b → P (if b then place_loaded f else [])
+    by true is = here is
+    by false is = there
+
+-- ---- a frame is taken and freed, or neither
+
+or_none : (P : List Slots → Type 0) (b : Bool) (bs : List Slots) → P [] → P bs → P (if b then [] else bs)
+or_none P true bs none some = none
+or_none P false bs none some = some
+
+pub taken_is : (P : List Slots → Type 0) (homes : ℕ) (f : PlainFunction) → P [] → P (stack_op Sres f.frame ∷ []) → P (frame_taken homes f)
+taken_is P homes f none some = or_none P (needs_none homes f) (stack_op Sres f.frame ∷ []) none some
+
+pub freed_is : (P : List Slots → Type 0) (homes : ℕ) (f : PlainFunction) → P [] → P (stack_op Sfree f.frame ∷ []) → P (frame_freed homes f)
+freed_is P homes f none some = or_none P (needs_none homes f) (stack_op Sfree f.frame ∷ []) none some

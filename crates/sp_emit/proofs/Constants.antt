@@ -13,6 +13,7 @@ use Rattle.sp_emit.specs.Places.{homes_of}
 use Rattle.sp_emit.proofs.Codes.{codes_at}
 use Rattle.std.proofs.lemmas.Bool.{cases_lt}
 use Rattle.sp_emit.specs.Counts.{HasStmtCounts, HasStmtsCounts, HasCounts}
+use Rattle.sp_emit.proofs.Held.{short_below}
 use Rattle.sp_emit.specs.Expressions.{element_code, unary_code, binary_code, held_code, number_of, expr_code, operand_code, value_at, immediate_below, is_immediate}
 use Rattle.sp_emit.specs.Functions.{first_counter, function_begin, function_rest, function_code, emitted}
 use Rattle.sp_emit.specs.Means.{HasWordConstants, HasTargetConstants, HasArgsConstants, HasStmtConstants, HasStmtsConstants, HasConstants}
@@ -40,7 +41,7 @@ held_small : (op : SpBinary) (n : ℕ) → n < immediate_below op → n < 2 ^ 32
 held_small op n less = grind (arith, less)
 
 held_word : (op : SpBinary) (e : PlainSp) → is_immediate op e ≡ true → HasWordConstants e
-held_word op (constant n) held = held_small op n (ltb-true n (immediate_below op) held)
+held_word op (constant n) held = held_small op n (short_below op n held)
 held_word op _ held = absurd (true≢false (sym held))
 
 two_ways : (C : Type 0) (held less : Bool) (x y z : PlainParts) → (held ≡ true → Wordy x → C) → (Wordy y → C) → (Wordy z → C) → Wordy (if held then x else if less then y else z) → C

@@ -3,64 +3,58 @@ use Rattle.std.proofs.Common.{◌≡◌, ℕ, zero, suc, ◌^◌, ◌<◌, ◌==
 use Rattle.patmos_instr.specs.Bundles.{Slots}
 use Rattle.patmos_instr.specs.declared.functions.CmpFunc.TheVariants as cmp
 use Rattle.patmos_instr.specs.declared.functions.ImmFunc.TheVariants as imm
-use Rattle.patmos_instr.specs.declared.functions.PredFunc.TheVariants as comb
 use Rattle.sp_shape.proofs.Whole.{once_whole, run_whole}
 use Rattle.sp_shape.specs.Parts.{no_part}
 use Rattle.sp_shape.specs.Run.{Run, Sources, Back, branches, once, run, IsWhole}
 use Rattle.sp_shape.specs.Trail.{Step, all_done}
 use Rattle.sp_shape.specs.Turning.{AsksAgain, AsksNoMore, AllTurns, PartsTurn}
-use Rattle.sp_emit.specs.Division.{operands, without_signs, digit, digit_tail, around}
+use Rattle.sp_emit.specs.Division.{operands, without_signs, highest_bit, digit, digit_turn, digit_tail, around}
 use Rattle.sp_emit.specs.Holding.{held}
-use Rattle.sp_emit.specs.Instructions.{always, set_short, copy, with_short, compare_short, combine}
-use Rattle.sp_emit.specs.declared.registers.TheConstants.{DIVIDEND, DIVISOR, REMAINDER, DIGITS, TEST, SECOND, MORE}
+use Rattle.sp_emit.specs.Instructions.{always, set_short, copy, with_short, compare_short}
+use Rattle.sp_emit.specs.declared.registers.TheConstants.{DIVIDEND, DIVISOR, REMAINDER, DIGITS, MORE}
 use Rattle.sp_emit.proofs.Asking.{same_ways, back_again, again, no_more, counts_down, tests_count}
-use Rattle.sp_emit.proofs.Dividing.{compared, taken_off}
+use Rattle.sp_emit.proofs.Dividing.{run_before}
 use Rattle.sp_emit.proofs.Leaving.{did_set_short}
 use Rattle.sp_emit.proofs.Once.{so, got}
 use Rattle.sp_emit.proofs.Untouched.{register, predicate, left_once, left_run}
 
 -- ---- a turn
 
--- the digits that are left, before the branch
+-- the turns that are left, before the branch
 record Counted (n : ℕ) (m t : Run) : Type 0 where
   whole : IsWhole t
   more : so MORE t ≡ not (n == 0)
   left : held DIGITS t ≡ n
   ways : t.ways ≡ m.ways
 
-digit_counted : (from : Sources) (n : ℕ) (m : Run) → IsWhole m → held DIGITS m ≡ suc n → suc n < 2 ^ 32 → Counted n m (run from (all_done digit) m)
-digit_counted from n m whole is word =
-    let m1 = run from (all_done compared) m in
-    let h1 = run_whole from (all_done compared) m whole in
-    let m2 = once from (with_short always imm.Sub DIGITS DIGITS 1) m1 in
-    let h2 = once_whole from (with_short always imm.Sub DIGITS DIGITS 1) m1 h1 in
-    let c2 = counts_down from DIGITS n m1 h1 (omega arith) (omega arith) (left_run from (register DIGITS) compared m (omega arith) whole refl ∙ is) word in
-    let m3 = once from (combine comb.Por TEST TEST SECOND) m2 in
-    let h3 = once_whole from (combine comb.Por TEST TEST SECOND) m2 h2 in
-    let c3 = left_once from (register DIGITS) (combine comb.Por TEST TEST SECOND) m2 (omega arith) h2 refl ∙ c2 in
-    let m4 = once from (compare_short cmp.Neq MORE DIGITS 0) m3 in
-    let h4 = once_whole from (compare_short cmp.Neq MORE DIGITS 0) m3 h3 in
+turn_counted : (from : Sources) (n : ℕ) (m : Run) → IsWhole m → held DIGITS m ≡ suc n → suc n < 2 ^ 32 → Counted n m (run from (all_done digit_turn) m)
+turn_counted from n m whole is word =
+    let m1 = once from (with_short always imm.Sub DIGITS DIGITS 1) m in
+    let h1 = once_whole from (with_short always imm.Sub DIGITS DIGITS 1) m whole in
+    let c1 = counts_down from DIGITS n m whole (omega arith) (omega arith) is word in
+    let m2 = once from (compare_short cmp.Neq MORE DIGITS 0) m1 in
+    let h2 = once_whole from (compare_short cmp.Neq MORE DIGITS 0) m1 h1 in
     record {
-      whole = run_whole from (all_done digit) m whole;
-      more = left_run from (predicate MORE) taken_off m4 (omega arith) h4 refl ∙ tests_count from MORE DIGITS n m3 h3 (omega arith) (omega arith) c3;
-      left = left_run from (register DIGITS) (compare_short cmp.Neq MORE DIGITS 0 ∷ taken_off) m3 (omega arith) h3 refl ∙ c3;
-      ways = same_ways from digit m refl;
+      whole = run_whole from (all_done digit_turn) m whole;
+      more = left_run from (predicate MORE) (digit ++ digit) m2 (omega arith) h2 refl ∙ tests_count from MORE DIGITS n m1 h1 (omega arith) (omega arith) c1;
+      left = left_run from (register DIGITS) (compare_short cmp.Neq MORE DIGITS 0 ∷ digit ++ digit) m1 (omega arith) h1 refl ∙ c1;
+      ways = same_ways from digit_turn m refl;
     }
 
 tail_again : (from : Sources) (n : ℕ) (m : Run) → IsWhole m → held DIGITS m ≡ suc (suc n) → suc (suc n) < 2 ^ 32 → AsksAgain (run from) digit_tail m
 tail_again from n m whole is word =
-    let c = digit_counted from (suc n) m whole is word in
-    again from MORE (run from (all_done digit) m) c.whole (c.more ∙ ap not (ne_eqb (suc n) 0 (omega arith))) ∙ ap (λ w. w ++ branches ∷ []) c.ways
+    let c = turn_counted from (suc n) m whole is word in
+    again from MORE (run from (all_done digit_turn) m) c.whole (c.more ∙ ap not (ne_eqb (suc n) 0 (omega arith))) ∙ ap (λ w. w ++ branches ∷ []) c.ways
 
 tail_no_more : (from : Sources) (m : Run) → IsWhole m → held DIGITS m ≡ 1 → AsksNoMore (run from) digit_tail m
 tail_no_more from m whole is =
-    let c = digit_counted from 0 m whole is (omega arith) in
-    no_more from MORE (run from (all_done digit) m) c.whole c.more ∙ c.ways
+    let c = turn_counted from 0 m whole is (omega arith) in
+    no_more from MORE (run from (all_done digit_turn) m) c.whole c.more ∙ c.ways
 
 tail_left : (from : Sources) (n : ℕ) (m : Run) → IsWhole m → held DIGITS m ≡ suc n → suc n < 2 ^ 32 → held DIGITS (run from (all_done digit_tail) m) ≡ n
 tail_left from n m whole is word =
-    let c = digit_counted from n m whole is word in
-    left_run from (register DIGITS) (back_again MORE) (run from (all_done digit) m) (omega arith) c.whole refl ∙ c.left
+    let c = turn_counted from n m whole is word in
+    left_run from (register DIGITS) (back_again MORE) (run from (all_done digit_turn) m) (omega arith) c.whole refl ∙ c.left
 
 -- ---- all turns
 
@@ -74,21 +68,27 @@ digits_turn from f Called back (suc (suc n)) word m whole is = (
   digits_turn from f Called back (suc n) (omega (arith, word)) (run from (all_done digit_tail) m) (run_whole from (all_done digit_tail) m whole) (tail_left from (suc n) m whole is word),
 )
 
--- the operands stand in their registers, and 32 digits are to be taken
-operands_set : (from : Sources) (ra rb : ℕ) (m : Run) → IsWhole m → held DIGITS (run from (all_done (operands ra rb)) m) ≡ 32
+-- the operands stand in their registers, and 16 turns are to be made
+operands_set : (from : Sources) (ra rb : ℕ) (m : Run) → IsWhole m → held DIGITS (run from (all_done (operands ra rb)) m) ≡ 16
 operands_set from ra rb m whole =
     let n = run from (all_done (copy DIVIDEND ra ∷ copy DIVISOR rb ∷ set_short always REMAINDER 0 ∷ [])) m in
     let h = run_whole from (all_done (copy DIVIDEND ra ∷ copy DIVISOR rb ∷ set_short always REMAINDER 0 ∷ [])) m whole in
-    ap (held DIGITS) (did_set_short from always DIGITS 32 n h h.fits.always) ∙ got DIGITS _ n h (omega arith) (omega arith)
+    ap (held DIGITS) (did_set_short from always DIGITS 16 n h h.fits.always) ∙ got DIGITS _ n h (omega arith) (omega arith)
+
+around_turns : (from : Sources) (f : ℕ → List Step) (Called : ℕ → Run → Type 0) (back : Back) (before behind : List Slots) (m : Run) → IsWhole m → held DIGITS (run from (all_done before) m) ≡ 16
+    → PartsTurn (run from) f Called back (around before behind) m
+around_turns from f Called back before behind m whole is =
+    let n = run from (all_done before) m in
+    let h = run_whole from (all_done before) m whole in
+    let u = run from (all_done (before ++ highest_bit ∷ [])) m in
+    let left : held DIGITS u ≡ 16 = ap (held DIGITS) (run_before from before m) ∙ left_once from (register DIGITS) highest_bit n (omega arith) h refl ∙ is in
+    (tt, (digits_turn from f Called back 16 (omega arith) u (run_whole from (all_done (before ++ highest_bit ∷ [])) m whole) left, (tt, tt)))
 
 pub division_turns : (from : Sources) (f : ℕ → List Step) (Called : ℕ → Run → Type 0) (back : Back) (ra rb : ℕ) (behind : List Slots) (m : Run) → IsWhole m → PartsTurn (run from) f Called back (around (operands ra rb) behind) m
-division_turns from f Called back ra rb behind m whole =
-    let n = run from (all_done (operands ra rb)) m in
-    (tt, (digits_turn from f Called back 32 (omega arith) n (run_whole from (all_done (operands ra rb)) m whole) (operands_set from ra rb m whole), (tt, tt)))
+division_turns from f Called back ra rb behind m whole = around_turns from f Called back (operands ra rb) behind m whole (operands_set from ra rb m whole)
 
 pub signed_division_turns : (from : Sources) (f : ℕ → List Step) (Called : ℕ → Run → Type 0) (back : Back) (ra rb : ℕ) (behind : List Slots) (m : Run) → IsWhole m → PartsTurn (run from) f Called back (around (operands ra rb ++ without_signs) behind) m
 signed_division_turns from f Called back ra rb behind m whole =
     let n = run from (all_done (operands ra rb)) m in
     let h = run_whole from (all_done (operands ra rb)) m whole in
-    let u = run from (all_done without_signs) n in
-    (tt, (digits_turn from f Called back 32 (omega arith) u (run_whole from (all_done without_signs) n h) (left_run from (register DIGITS) without_signs n (omega arith) h refl ∙ operands_set from ra rb m whole), (tt, tt)))
+    around_turns from f Called back (operands ra rb ++ without_signs) behind m whole (left_run from (register DIGITS) without_signs n (omega arith) h refl ∙ operands_set from ra rb m whole)

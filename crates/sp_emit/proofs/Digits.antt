@@ -1,10 +1,9 @@
 -- A digit of a division: what comes of the words of the dividend, which makes way for the quotient, and of what is left.
-use Rattle.std.proofs.Common.{◌≡◌, ℕ, zero, suc, ◌+◌, ◌-◌, ◌*◌, ◌/◌, ◌%◌, ◌^◌, ◌<◌, ◌≤◌, Bool, true, false, ◌||◌, ◌⊎◌, inl, inr, if◌then◌else◌, refl, sym, ap, ◌∙◌, subst, arith, mul-le-mul_right, mul-le-mul_left, pow-suc}
+use Rattle.std.proofs.Common.{◌≡◌, ℕ, zero, suc, ◌+◌, ◌-◌, ◌*◌, ◌/◌, ◌%◌, ◌^◌, ◌<◌, ◌≤◌, Bool, true, false, ◌⊎◌, inl, inr, if◌then◌else◌, refl, sym, ap, ◌∙◌, subst, arith, mul-le-mul_right, mul-le-mul_left, pow-suc}
 use Rattle.std.specs.Prelude.{nat_le}
 use Rattle.std.proofs.Math.Arith.{digits_div, digits_mod}
 use Rattle.std.proofs.Math.Nat.{mod-le}
-use Rattle.std.proofs.lemmas.Bool.{cases_lt, or_cases, or_parts, leb-true, leb-false, eqb-true, eqb-false}
-use Rattle.patmos_sem.specs.Operations.{has_bit}
+use Rattle.std.proofs.lemmas.Bool.{cases_lt, leb-true, leb-false}
 
 -- ---- what a digit makes of them
 
@@ -12,9 +11,9 @@ use Rattle.patmos_sem.specs.Operations.{has_bit}
 abbrev pub shifted : ℕ → ℕ → ℕ
 shifted dividend rest = (2 * rest + dividend / 2 ^ 31) % 2 ^ 32
 
--- whether the divisor goes into it; past a word it does
+-- whether the divisor goes into it
 abbrev pub goes : ℕ → ℕ → ℕ → Bool
-goes divisor dividend rest = nat_le divisor (shifted dividend rest) || has_bit rest 31
+goes divisor dividend rest = nat_le divisor (shifted dividend rest)
 
 abbrev pub next_rest : ℕ → ℕ → ℕ → ℕ
 next_rest divisor dividend rest =
@@ -88,36 +87,23 @@ bit_of a b p u dividend rest all x = by (cases_lt x.l u)
 
 -- ---- the next digit
 
-bit_31 : (rest : ℕ) → rest < 2 ^ 32 → (has_bit rest 31 ≡ true → 2 ^ 31 ≤ rest) × (has_bit rest 31 ≡ false → rest < 2 ^ 31)
-bit_31 rest word = ((λ on. omega (arith, eqb-true (rest / 2 ^ 31 % 2) 1 on, word)), (λ off. by (cases_lt rest (2 ^ 31)) off))
-  where
-    by : (rest < 2 ^ 31) ⊎ (2 ^ 31 ≤ rest) → has_bit rest 31 ≡ false → rest < 2 ^ 31
-    by (inl less) off = less
-    by (inr more) off = absurd (eqb-false (rest / 2 ^ 31 % 2) 1 off (omega (arith, more, word)))
-
--- what is left with a bit after it is the divisor or more exactly where a word says so
-goes_on : (b bit rest : ℕ) → bit ≤ 1 → rest < b → b < 2 ^ 32 → (nat_le b ((2 * rest + bit) % 2 ^ 32) || has_bit rest 31) ≡ true
+-- what is left with a bit after it is a word where the divisor is at most 2^31, so the divisor goes into it exactly where
+-- a word says so
+goes_on : (b bit rest : ℕ) → bit ≤ 1 → rest < b → b ≤ 2 ^ 31 → nat_le b ((2 * rest + bit) % 2 ^ 32) ≡ true
     → (b ≤ 2 * rest + bit) × (((2 * rest + bit) % 2 ^ 32 + (2 ^ 32 - b)) % 2 ^ 32 ≡ 2 * rest + bit - b)
-goes_on b bit rest small less word on = fits (by (or_cases (nat_le b ((2 * rest + bit) % 2 ^ 32)) (has_bit rest 31) on))
-  where
-    fits : b ≤ 2 * rest + bit → (b ≤ 2 * rest + bit) × (((2 * rest + bit) % 2 ^ 32 + (2 ^ 32 - b)) % 2 ^ 32 ≡ 2 * rest + bit - b)
-    fits le = (le, omega (arith, le, small, less, word))
+goes_on b bit rest small less low on =
+    let le = leb-true b ((2 * rest + bit) % 2 ^ 32) on in
+    (omega (arith, le, small, less, low), omega (arith, le, small, less, low))
 
-    by : (nat_le b ((2 * rest + bit) % 2 ^ 32) ≡ true) ⊎ (has_bit rest 31 ≡ true) → b ≤ 2 * rest + bit
-    by (inl le) = omega (arith, leb-true b ((2 * rest + bit) % 2 ^ 32) le)
-    by (inr high) = omega (arith, (bit_31 rest (omega (arith, less, word))).0 high, word)
-
-goes_off : (b bit rest : ℕ) → bit ≤ 1 → rest < b → b < 2 ^ 32 → (nat_le b ((2 * rest + bit) % 2 ^ 32) || has_bit rest 31) ≡ false
+goes_off : (b bit rest : ℕ) → bit ≤ 1 → rest < b → b ≤ 2 ^ 31 → nat_le b ((2 * rest + bit) % 2 ^ 32) ≡ false
     → (2 * rest + bit < b) × ((2 * rest + bit) % 2 ^ 32 ≡ 2 * rest + bit)
-goes_off b bit rest small less word off =
-    let both = or_parts (nat_le b ((2 * rest + bit) % 2 ^ 32)) (has_bit rest 31) off in
-    let low = (bit_31 rest (omega (arith, less, word))).1 both.1 in
-    let is : (2 * rest + bit) % 2 ^ 32 ≡ 2 * rest + bit = omega (arith, low, small) in
-    (omega (arith, is, leb-false b ((2 * rest + bit) % 2 ^ 32) both.0), is)
+goes_off b bit rest small less low off =
+    let past = leb-false b ((2 * rest + bit) % 2 ^ 32) off in
+    (omega (arith, past, small, less, low), omega (arith, small, less, low))
 
-pub next_digit : (a b p u dividend rest : ℕ) → p * u ≡ 2 ^ 31 → a < 2 ^ 32 → b < 2 ^ 32 → Between a b p (2 * u) dividend rest
+pub next_digit : (a b p u dividend rest : ℕ) → p * u ≡ 2 ^ 31 → a < 2 ^ 32 → b ≤ 2 ^ 31 → Between a b p (2 * u) dividend rest
     → Between a b (2 * p) u (next_dividend b dividend rest) (next_rest b dividend rest)
-next_digit a b p u dividend rest all word_a word_b x = by (bit_of a b p u dividend rest all x) (goes b dividend rest) refl
+next_digit a b p u dividend rest all word_a low_b x = by (bit_of a b p u dividend rest all x) (goes b dividend rest) refl
   where
     -- the dividend's digits with one more
     split_by : (y : Bit a b p u dividend rest x) → a ≡ (2 * x.h + y.bit) * u + y.l
@@ -131,8 +117,8 @@ next_digit a b p u dividend rest all word_a word_b x = by (bit_of a b p u divide
     rest_by : (y : Bit a b p u dividend rest x) → shifted dividend rest ≡ (2 * rest + y.bit) % 2 ^ 32
     rest_by y = ap (λ n. (2 * rest + n) % 2 ^ 32) y.top
 
-    goes_by : (y : Bit a b p u dividend rest x) (on : Bool) → goes b dividend rest ≡ on → (nat_le b ((2 * rest + y.bit) % 2 ^ 32) || has_bit rest 31) ≡ on
-    goes_by y on is = ap (λ n. nat_le b n || has_bit rest 31) (sym (rest_by y)) ∙ is
+    goes_by : (y : Bit a b p u dividend rest x) (on : Bool) → goes b dividend rest ≡ on → nat_le b ((2 * rest + y.bit) % 2 ^ 32) ≡ on
+    goes_by y on is = ap (λ n. nat_le b n) (sym (rest_by y)) ∙ is
 
     by : (y : Bit a b p u dividend rest x) → (on : Bool) → goes b dividend rest ≡ on
         → Between a b (2 * p) u (if on then ((dividend + dividend) % 2 ^ 32 + 1) % 2 ^ 32 else (dividend + dividend) % 2 ^ 32)
@@ -145,7 +131,7 @@ next_digit a b p u dividend rest all word_a word_b x = by (bit_of a b p u divide
       low = y.low;
       digits = omega (arith, y.twice, y.room);
       few = omega (arith, x.few);
-      divided = λ some. let d = x.divided some in let f = goes_on b y.bit rest y.small d.1 word_b (goes_by y true is) in (omega (arith, d.0, f.0, f.1, rest_by y), omega (arith, f.0, f.1, d.1, y.small, rest_by y));
+      divided = λ some. let d = x.divided some in let f = goes_on b y.bit rest y.small d.1 low_b (goes_by y true is) in (omega (arith, d.0, f.0, f.1, rest_by y), omega (arith, f.0, f.1, d.1, y.small, rest_by y));
       by_zero = λ none. omega (arith, none, rest_by y, x.by_zero none, upper_word y);
     }
     by y false is = record {
@@ -156,8 +142,8 @@ next_digit a b p u dividend rest all word_a word_b x = by (bit_of a b p u divide
       low = y.low;
       digits = y.twice;
       few = omega (arith, x.few);
-      divided = λ some. let d = x.divided some in let f = goes_off b y.bit rest y.small d.1 word_b (goes_by y false is) in (omega (arith, d.0, f.1, rest_by y), omega (arith, f.0, f.1, rest_by y));
-      by_zero = λ none. absurd (omega (arith, none, leb-false b ((2 * rest + y.bit) % 2 ^ 32) (or_parts (nat_le b ((2 * rest + y.bit) % 2 ^ 32)) (has_bit rest 31) (goes_by y false is)).0));
+      divided = λ some. let d = x.divided some in let f = goes_off b y.bit rest y.small d.1 low_b (goes_by y false is) in (omega (arith, d.0, f.1, rest_by y), omega (arith, f.0, f.1, rest_by y));
+      by_zero = λ none. absurd (omega (arith, none, leb-false b ((2 * rest + y.bit) % 2 ^ 32) (goes_by y false is)));
     }
 
 -- ---- all of them
@@ -170,14 +156,14 @@ abbrev pub turned : ℕ → ℕ → ℕ × ℕ → ℕ × ℕ
 turned zero b d = d
 turned (suc n) b d = turned n b (step b d)
 
-all_digits : (n a b p dividend rest : ℕ) → p * 2 ^ n ≡ 2 ^ 32 → a < 2 ^ 32 → b < 2 ^ 32 → Between a b p (2 ^ n) dividend rest
+all_digits : (n a b p dividend rest : ℕ) → p * 2 ^ n ≡ 2 ^ 32 → a < 2 ^ 32 → b ≤ 2 ^ 31 → Between a b p (2 ^ n) dividend rest
     → Between a b (2 ^ 32) 1 (turned n b (dividend, rest)).0 (turned n b (dividend, rest)).1
-all_digits zero a b p dividend rest all word_a word_b x = subst (λ k. Between a b k 1 dividend rest) (omega (arith, all)) x
-all_digits (suc n) a b p dividend rest all word_a word_b x =
+all_digits zero a b p dividend rest all word_a low_b x = subst (λ k. Between a b k 1 dividend rest) (omega (arith, all)) x
+all_digits (suc n) a b p dividend rest all word_a low_b x =
     let twice : 2 ^ suc n ≡ 2 * 2 ^ n = omega (arith, pow-suc 2 n) in
     let half : p * 2 ^ n ≡ 2 ^ 31 = omega (arith, all, twice, ap (λ k. p * k) twice) in
-    all_digits n a b (2 * p) (next_dividend b dividend rest) (next_rest b dividend rest) (omega (arith, half)) word_a word_b
-    (next_digit a b p (2 ^ n) dividend rest half word_a word_b (subst (λ k. Between a b p k dividend rest) twice x))
+    all_digits n a b (2 * p) (next_dividend b dividend rest) (next_rest b dividend rest) (omega (arith, half)) word_a low_b
+    (next_digit a b p (2 ^ n) dividend rest half word_a low_b (subst (λ k. Between a b p k dividend rest) twice x))
 
 at_first : (a b : ℕ) → a < 2 ^ 32 → Between a b 1 (2 ^ 32) a 0
 at_first a b word = record {
@@ -192,12 +178,12 @@ at_first a b word = record {
   by_zero = λ none. refl;
 }
 
-at_last : (a b : ℕ) → a < 2 ^ 32 → b < 2 ^ 32 → Between a b (2 ^ 32) 1 (turned 32 b (a, 0)).0 (turned 32 b (a, 0)).1
-at_last a b word_a word_b = all_digits 32 a b 1 a 0 refl word_a word_b (at_first a b word_a)
+at_last : (a b : ℕ) → a < 2 ^ 32 → b ≤ 2 ^ 31 → Between a b (2 ^ 32) 1 (turned 32 b (a, 0)).0 (turned 32 b (a, 0)).1
+at_last a b word_a low_b = all_digits 32 a b 1 a 0 refl word_a low_b (at_first a b word_a)
 
--- the quotient and the rest of words, where the divisor is not 0; by 0 the rest is all
-pub divides_words : (a b : ℕ) → a < 2 ^ 32 → b < 2 ^ 32 → 0 < b → ((turned 32 b (a, 0)).0 ≡ a / b) × ((turned 32 b (a, 0)).1 ≡ a % b)
-divides_words a b word_a word_b some = by (turned 32 b (a, 0)).0 (turned 32 b (a, 0)).1 (at_last a b word_a word_b)
+-- the quotient and the rest of words, where the divisor is not 0 and not large; by 0 the rest is all
+pub divides_words : (a b : ℕ) → a < 2 ^ 32 → b ≤ 2 ^ 31 → 0 < b → ((turned 32 b (a, 0)).0 ≡ a / b) × ((turned 32 b (a, 0)).1 ≡ a % b)
+divides_words a b word_a low_b some = by (turned 32 b (a, 0)).0 (turned 32 b (a, 0)).1 (at_last a b word_a low_b)
   where
     by : (dividend rest : ℕ) → Between a b (2 ^ 32) 1 dividend rest → (dividend ≡ a / b) × (rest ≡ a % b)
     by dividend rest x =
@@ -213,12 +199,12 @@ divides_by_zero a word = by (turned 32 0 (a, 0)).0 (turned 32 0 (a, 0)).1 (at_la
     by dividend rest x = x.by_zero refl ∙ omega (arith, x.split, x.low)
 
 -- both are words
-pub quotient_word : (a b : ℕ) → a < 2 ^ 32 → b < 2 ^ 32 → (turned 32 b (a, 0)).0 < 2 ^ 32
-quotient_word a b word_a word_b = by (turned 32 b (a, 0)).0 (turned 32 b (a, 0)).1 (at_last a b word_a word_b)
+pub quotient_word : (a b : ℕ) → a < 2 ^ 32 → b ≤ 2 ^ 31 → (turned 32 b (a, 0)).0 < 2 ^ 32
+quotient_word a b word_a low_b = by (turned 32 b (a, 0)).0 (turned 32 b (a, 0)).1 (at_last a b word_a low_b)
   where
     by : (dividend rest : ℕ) → Between a b (2 ^ 32) 1 dividend rest → dividend < 2 ^ 32
     by dividend rest x = omega (arith, x.digits, x.low, x.few)
 
-pub rest_word : (a b : ℕ) → a < 2 ^ 32 → b < 2 ^ 32 → (turned 32 b (a, 0)).1 < 2 ^ 32
-rest_word a zero word_a word_b = subst (λ n. n < 2 ^ 32) (sym (divides_by_zero a word_a)) word_a
-rest_word a (suc b) word_a word_b = subst (λ n. n < 2 ^ 32) (sym (divides_words a (suc b) word_a word_b (omega arith)).1) (omega (arith, mod-le a (suc b), word_a))
+pub rest_word : (a b : ℕ) → a < 2 ^ 32 → b ≤ 2 ^ 31 → (turned 32 b (a, 0)).1 < 2 ^ 32
+rest_word a zero word_a low_b = subst (λ n. n < 2 ^ 32) (sym (divides_by_zero a word_a)) word_a
+rest_word a (suc b) word_a low_b = subst (λ n. n < 2 ^ 32) (sym (divides_words a (suc b) word_a low_b (omega arith)).1) (omega (arith, mod-le a (suc b), word_a))

@@ -1,8 +1,9 @@
 -- What a function's code leaves before its body: the run is where the tree's state begins.
-use Rattle.std.proofs.Common.{◌≡◌, ℕ, ◌+◌, ◌-◌, ◌^◌, ◌<◌, ◌≤◌, ◌⊎◌, inl, inr, [], ◌∷◌, refl, sym, ap, ◌∙◌, subst, arith}
+use Rattle.std.proofs.Common.{◌≡◌, ℕ, ◌+◌, ◌-◌, ◌^◌, ◌<◌, ◌≤◌, ◌⊎◌, inl, inr, Bool, true, false, if◌then◌else◌, List, [], ◌∷◌, refl, sym, ap, ◌∙◌, subst, arith}
 use Rattle.std.specs.Prelude.{bit_xor}
 use Rattle.std.specs.Int.Bits.{xor_assoc, xor_zero_r}
 use Rattle.shared_order.specs.Words.{put}
+use Rattle.patmos_instr.specs.Bundles.{Slots}
 use Rattle.patmos_instr.specs.declared.functions.ImmFunc.TheVariants as imm
 use Rattle.patmos_instr.specs.declared.instructions.Op.TheVariants.{FromSpecial}
 use Rattle.patmos_instr.specs.declared.specials.Special.{Special}
@@ -19,7 +20,7 @@ use Rattle.sp_emit.specs.Instructions.{always, from_special, with_short, store_s
 use Rattle.sp_emit.specs.Means.{HasWords}
 use Rattle.sp_emit.specs.Serving.{Carries}
 use Rattle.sp_emit.specs.declared.registers.TheConstants.{MASK, SPARE, OVERRUN}
-use Rattle.sp_emit.proofs.Beginning.{Taken}
+use Rattle.sp_emit.proofs.Beginning.{Outside, Taken}
 use Rattle.sp_emit.proofs.Frames.{put_same, put_other}
 use Rattle.sp_emit.proofs.WordPlaces.{with_word, Sets, word_still, did_set_word, sets_word, beside_word}
 use Rattle.sp_emit.proofs.Leaving.{did_with_short}
@@ -64,15 +65,15 @@ stored_enters homes slots top frame slot rs words w m t past named most below x 
     })
 
 -- the mask's word is set
-set_enters : (homes slots top frame slot rs v : ℕ) (words : ℕ → ℕ) (w : World) (m t : Run) → 1 ≤ homes → slot < slots → slots ≤ frame → frame ≤ 128 → top + frame ≤ m.st → held rs t ≡ v → v < 2 ^ 32 → Enters homes slots top words w m t
+set_enters : (homes slots top frame slot rs v : ℕ) (words : ℕ → ℕ) (w : World) (m t : Run) → 1 ≤ homes → slot < slots → Outside homes slots frame → slots ≤ 128 → top + frame ≤ m.st → held rs t ≡ v → v < 2 ^ 32 → Enters homes slots top words w m t
     → Enters homes slots top (put slot v words) w m (once by_words (set_word homes always slot rs) t)
-set_enters homes slots top frame slot rs v words w m t some named fits most below is word x =
+set_enters homes slots top frame slot rs v words w m t some named out most below is word x =
     let set = sets_word homes slot v t some x.carries.whole in
-    subst (Enters homes slots top (put slot v words) w m) (sym (did_set_word by_words homes always slot rs v t x.carries.whole x.carries.whole.fits.always (omega (arith, named, fits, most)) is word)) (record {
+    subst (Enters homes slots top (put slot v words) w m) (sym (did_set_word by_words homes always slot rs v t x.carries.whole x.carries.whole.fits.always (omega (arith, named, most)) is word)) (record {
       carries = record { whole = set.whole; has = subst (HasWords w) (sym set.memory) x.carries.has; words = x.carries.words; flag = set.flag ∙ x.carries.flag };
       st = set.st ∙ x.st;
       frame_is = λ u lt. at u lt set (cases_eq slot u);
-      behind = λ a above. set.stack a (λ same. absurd (omega (arith, same, x.st, above, named, fits, below))) ∙ x.behind a above;
+      behind = λ a above. set.stack a (λ beside same. absurd (omega (arith, same, x.st, above, out slot named beside, below))) ∙ x.behind a above;
       high = λ q past lt. set.regs q (omega (arith, past, some)) (omega (arith, lt)) (λ same. absurd (omega (arith, same, past, named))) ∙ x.high q past lt;
     })
   where
@@ -90,13 +91,24 @@ special_enters homes slots top frame slot s words w m t past named most below x 
     subst (λ n. Enters homes slots top words w m (once by_words (store_slot always slot SPARE) n)) (sym (did_write by_words always (FromSpecial SPARE s) t x.carries.whole x.carries.whole.fits.always refl refl))
     (stored_enters homes slots top frame slot SPARE words w m n past named most below y)
 
--- the mask comes to its word, and the place to which the function returns is kept
-pub enters : (homes slots frame mask_slot mask : ℕ) (args : ℕ → ℕ) (w : World) (m t : Run) → MASK < homes → slots + 2 ≤ frame → frame ≤ 128 → frame ≤ m.st → mask_slot < slots → held MASK m ≡ bit_xor mask 1 → mask < 2 ^ 32 → Carries w m → Taken homes frame slots args m t
-    → Enters homes slots (m.st - frame) (put mask_slot mask args) w m (run by_words (all_done (with_short always imm.Xor MASK MASK 1 ∷ set_word homes always mask_slot MASK ∷ from_special SPARE special.Srb ∷ store_slot always (frame - 2) SPARE
-    ∷ from_special SPARE special.Sro ∷ store_slot always (frame - 1) SPARE ∷ [])) t)
-enters homes slots frame mask_slot mask args w m t before room most enough named masked word carries x =
-    let top = m.st - frame in
-    let below : top + frame ≤ m.st = omega (arith, enough) in
+-- the place to which the function returns is kept, where it calls others
+abbrev place_of : ℕ → Bool → List Slots
+place_of frame calls =
+    if calls then from_special SPARE special.Srb ∷ store_slot always (frame - 2) SPARE ∷ from_special SPARE special.Sro ∷ store_slot always (frame - 1) SPARE ∷ [] else []
+
+place_enters : (homes slots top frame : ℕ) (calls : Bool) (words : ℕ → ℕ) (w : World) (m t : Run) → slots + 2 ≤ frame → frame ≤ 128 → (calls ≡ true → top + frame ≤ m.st) → Enters homes slots top words w m t
+    → Enters homes slots top words w m (run by_words (all_done (place_of frame calls)) t)
+place_enters homes slots top frame true words w m t room most below x =
+    let a = special_enters homes slots top frame (frame - 2) special.Srb words w m t (omega (arith, room)) (omega (arith, room)) most (below refl) x in
+    special_enters homes slots top frame (frame - 1) special.Sro words w m _ (omega (arith, room)) (omega (arith, room)) most (below refl) a
+place_enters homes slots top frame false words w m t room most below x = x
+
+-- the mask comes to its word before
+pub enters : (homes slots taken frame mask_slot mask : ℕ) (calls : Bool) (args : ℕ → ℕ) (w : World) (m t : Run) → MASK < homes → slots + 2 ≤ frame → frame ≤ 128 → taken ≤ m.st → (calls ≡ true → frame ≤ taken) → Outside homes slots taken → mask_slot < slots → held MASK m ≡ bit_xor mask 1 → mask < 2 ^ 32 → Carries w m → Taken homes taken slots args m t
+    → Enters homes slots (m.st - taken) (put mask_slot mask args) w m (run by_words (all_done (with_short always imm.Xor MASK MASK 1 ∷ set_word homes always mask_slot MASK ∷ place_of frame calls)) t)
+enters homes slots taken frame mask_slot mask calls args w m t before room most enough within out named masked word carries x =
+    let top = m.st - taken in
+    let below : top + taken ≤ m.st = omega (arith, enough) in
     let first : Enters homes slots top args w m t = record {
       carries = record { whole = x.whole; has = subst (HasWords w) (sym x.memory) carries.has; words = carries.words; flag = x.flag ∙ carries.flag };
       st = x.st;
@@ -108,8 +120,6 @@ enters homes slots frame mask_slot mask args w m t before room most enough named
     let n = with_written (write.Register MASK v) t in
     let y = written_enters homes slots top args w m t MASK v (λ same. absurd (omega (arith, same))) (λ q from lt same. omega (arith, same, from, before)) first in
     let is : held MASK n ≡ mask = got MASK v t x.whole (omega arith) (omega arith) ∙ ap (λ b. bit_xor b 1) (x.low MASK (omega arith) before (omega arith) ∙ masked) ∙ mask_back mask in
-    let z = set_enters homes slots top frame mask_slot MASK mask args w m n (omega (arith, before)) named (omega (arith, room)) most below is word y in
-    let a = special_enters homes slots top frame (frame - 2) special.Srb (put mask_slot mask args) w m _ (omega (arith, room)) (omega (arith, room)) most below z in
-    let b = special_enters homes slots top frame (frame - 1) special.Sro (put mask_slot mask args) w m _ (omega (arith, room)) (omega (arith, room)) most below a in
-    subst (λ n. Enters homes slots top (put mask_slot mask args) w m (run by_words (all_done (set_word homes always mask_slot MASK ∷ from_special SPARE special.Srb ∷ store_slot always (frame - 2) SPARE ∷ from_special SPARE special.Sro ∷ store_slot always (frame - 1) SPARE ∷ [])) n))
-    (sym (did_with_short by_words imm.Xor MASK MASK 1 t x.whole)) b
+    let z = set_enters homes slots top taken mask_slot MASK mask args w m n (omega (arith, before)) named out (omega (arith, room, most)) below is word y in
+    subst (λ n. Enters homes slots top (put mask_slot mask args) w m (run by_words (all_done (set_word homes always mask_slot MASK ∷ place_of frame calls)) n))
+    (sym (did_with_short by_words imm.Xor MASK MASK 1 t x.whole)) (place_enters homes slots top frame calls (put mask_slot mask args) w m _ room most (λ has. omega (arith, below, within has)) z)

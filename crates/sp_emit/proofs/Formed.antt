@@ -17,8 +17,12 @@ use Rattle.sp_shape.specs.Formed.{are_calm, part_formed, parts_formed, function_
 use Rattle.sp_shape.specs.Parts.{straight, repeats, calls_to, leaves, PlainParts, no_part, part, one, joined, PlainShape}
 use Rattle.sp_shape.proofs.Lists.{calm_append}
 use Rattle.sp_emit.proofs.Operands.{operand_is}
+use Rattle.sp_emit.proofs.Held.{held_is}
+use Rattle.sp_emit.specs.Division.{unsigned_quotient_to}
+use Rattle.sp_emit.specs.Divisors.{factor_rest_to}
 use Rattle.sp_emit.specs.Expressions.{unary_code, binary_code, held_code, element_code, number_of, expr_code, operand_code, value_at, is_immediate, address_of}
-use Rattle.sp_emit.specs.Functions.{argument_kept, first_counter, arguments_kept, state_kept, function_begin, function_rest, function_code, emitted}
+use Rattle.sp_emit.proofs.Codes.{kept_is, brought_is, taken_is, freed_is}
+use Rattle.sp_emit.specs.Functions.{argument_kept, first_counter, arguments_kept, mask_kept, state_kept, place_brought, frame_taken, result_given, function_begin, function_end, function_rest, function_code, emitted}
 use Rattle.sp_shape.specs.Formed.{is_flow}
 use Rattle.sp_emit.specs.Functions.{codes}
 use Rattle.sp_emit.specs.Instructions.{always, set_short, number_op}
@@ -52,6 +56,7 @@ unary_calm unary.Complement rd ra = refl
 unary_calm unary.Not rd ra = refl
 
 pub binary_formed : (n : ℕ) (op : SpBinary) (rd ra rb : ℕ) → parts_formed n (binary_code op rd ra rb) ≡ true
+unfolding unsigned_quotient_to
 binary_formed n binary.Or rd ra rb = refl
 binary_formed n binary.And rd ra rb = refl
 binary_formed n binary.BitOr rd ra rb = refl
@@ -75,27 +80,8 @@ binary_formed n binary.Remainder rd ra rb = refl
 binary_formed n binary.RemainderUnsigned rd ra rb = refl
 
 held_calm : (op : SpBinary) (rd ra n : ℕ) → are_calm (held_code op rd ra n) ≡ true
-held_calm binary.Or rd ra n = refl
-held_calm binary.And rd ra n = refl
-held_calm binary.BitOr rd ra n = refl
-held_calm binary.BitXor rd ra n = refl
-held_calm binary.BitAnd rd ra n = refl
-held_calm binary.Equal rd ra n = refl
-held_calm binary.NotEqual rd ra n = refl
-held_calm binary.Less rd ra n = refl
-held_calm binary.LessUnsigned rd ra n = refl
-held_calm binary.LessEqual rd ra n = refl
-held_calm binary.LessEqualUnsigned rd ra n = refl
-held_calm binary.ShiftLeft rd ra n = refl
-held_calm binary.ShiftRight rd ra n = refl
-held_calm binary.ShiftRightUnsigned rd ra n = refl
-held_calm binary.Plus rd ra n = refl
-held_calm binary.Minus rd ra n = refl
-held_calm binary.Times rd ra n = refl
-held_calm binary.Divide rd ra n = refl
-held_calm binary.DivideUnsigned rd ra n = refl
-held_calm binary.Remainder rd ra n = refl
-held_calm binary.RemainderUnsigned rd ra n = refl
+unfolding factor_rest_to
+held_calm op rd ra n = held_is (λ bs. are_calm bs ≡ true) op rd ra n (grind arith) (grind arith)
 
 read_flow : (homes rd slot : ℕ) → is_flow (read_op homes rd slot) ≡ false
 read_flow homes rd slot = read_op_is (λ op. is_flow op ≡ false) homes rd slot refl refl
@@ -216,8 +202,10 @@ cleared_calm homes (suc n) = calm_append (words_cleared homes n) (word_cleared h
 
 begin_calm : (homes : ℕ) (f : PlainFunction) → are_calm (function_begin homes f) ≡ true
 begin_calm homes f =
-    calm_append (words_cleared homes (tree.slots_of f)) (arguments_kept homes f.parameters ++ state_kept homes f) (cleared_calm homes (tree.slots_of f))
-    (calm_append (arguments_kept homes f.parameters) (state_kept homes f) (kept_calm homes f.parameters) (rw (set_flow homes f.mask MASK) refl))
+    calm_append (frame_taken homes f) (words_cleared homes (tree.slots_of f) ++ (arguments_kept homes f.parameters ++ state_kept homes f)) (taken_is (λ bs. are_calm bs ≡ true) homes f refl refl)
+    (calm_append (words_cleared homes (tree.slots_of f)) (arguments_kept homes f.parameters ++ state_kept homes f) (cleared_calm homes (tree.slots_of f))
+    (calm_append (arguments_kept homes f.parameters) (state_kept homes f) (kept_calm homes f.parameters)
+    (kept_is (λ bs. are_calm (mask_kept homes f ++ bs) ≡ true) f (λ has. rw (set_flow homes f.mask MASK) refl) (rw (set_flow homes f.mask MASK) refl))))
 
 -- a function ends as what stands after parts does
 ends : (n : ℕ) (a b : PlainParts) → parts_formed n a ≡ true → function_formed n b ≡ true → function_formed n (joined a b) ≡ true
@@ -238,7 +226,9 @@ function_is_formed homes fs n f h =
     let b = tree_body fs n f h in
     and_from (are_calm (function_begin homes f)) (function_formed n (joined (stmts_code homes f.frame (first_counter f) f.body) (function_rest homes f))) (begin_calm homes f)
     (ends n (stmts_code homes f.frame (first_counter f) f.body) (function_rest homes f)
-    (stmts_formed homes fs n (tree.slots_of f) f.frame (first_counter f) f.body b) (rw (read_flow homes RESULT f.result) refl))
+    (stmts_formed homes fs n (tree.slots_of f) f.frame (first_counter f) f.body b)
+    (and_from (are_calm (function_end homes f)) true (calm_append (place_brought f) (result_given homes f) (brought_is (λ bs. are_calm bs ≡ true) f (λ has. refl) refl)
+    (rw (read_flow homes RESULT f.result) (freed_is (λ bs. are_calm bs ≡ true) homes f refl refl))) refl))
   where
     tree_body : (fs : List PlainFunction) (n : ℕ) (f : PlainFunction) → tree.function_formed fs n f ≡ true → tree.stmts_formed fs n (tree.slots_of f) f.body ≡ true
     tree_body fs n f h =

@@ -1,7 +1,7 @@
 -- A function returns to the place that was set when it began, whatever its loads from other memories give.
-use Rattle.std.proofs.Common.{◌≡◌, ℕ, Bool, true, false, ◌&&◌, if◌then◌else◌, is_none, Option, None, Some, List, [], ◌∷◌, refl, sym, ◌∙◌, true≢false}
+use Rattle.std.proofs.Common.{◌≡◌, ℕ, zero, suc, Bool, true, false, ◌&&◌, if◌then◌else◌, is_none, Option, None, Some, List, [], ◌∷◌, ◌++◌, nat_lt, refl, sym, ◌∙◌, subst, arith, true≢false}
 use Rattle.std.specs.List.{list_all}
-use Rattle.std.proofs.lemmas.Bool.{and_parts}
+use Rattle.std.proofs.lemmas.Bool.{and_parts, ltb-true}
 use Rattle.patmos_instr.specs.Bundles.{Slots}
 use Rattle.patmos_instr.specs.declared.functions.StackFunc.TheVariants.{Sres, Sens, Sfree}
 use Rattle.patmos_instr.specs.declared.instructions.Instr.{Instr}
@@ -18,9 +18,12 @@ use Rattle.patmos_sem.specs.declared.pending.Pending.{Pending}
 use Rattle.patmos_sem.specs.declared.pending.Pending.TheVariants as pending
 use Rattle.patmos_sem.specs.declared.writes.Write.{Write}
 use Rattle.patmos_sem.specs.declared.writes.Write.TheVariants as write
-use Rattle.sp_shape.proofs.Whole.{behind}
+use Rattle.sp_shape.proofs.Whole.{behind, run_append}
+use Rattle.sp_shape.specs.Bundles.{part_all, parts_all}
+use Rattle.sp_shape.specs.Formed.{is_turn, part_formed, parts_formed}
+use Rattle.sp_shape.specs.Parts.{PlainPart, straight, repeats, calls_to, leaves, PlainParts, no_part, part}
 use Rattle.sp_shape.specs.Run.{Run, Sources, once, effected, run}
-use Rattle.sp_shape.specs.Trail.{all_done}
+use Rattle.sp_shape.specs.Trail.{Step, all_done, copies, part_trail, parts_trail}
 
 -- the place that is set, in another state
 pub record SameBack (m t : Run) : Type 0 where
@@ -67,7 +70,7 @@ back_effected from (effect.StackOp Sfree count) m = record { base = refl; offset
 back_effected from (effect.Flow kind) m = record { base = refl; offset = refl }
 
 -- nor does an instruction that writes no special register
-abbrev sets_none : Op → Bool
+abbrev pub sets_none : Op → Bool
 sets_none (ToSpecial special ra) = false
 sets_none _ = true
 
@@ -121,3 +124,29 @@ done_back from [] m keeps = record { base = refl; offset = refl }
 done_back from (b ∷ bs) m keeps =
     let both = and_parts (keeps_place b) (list_all keeps_place bs) keeps in
     back_then (once_back from b m both.0) (done_back from bs (once from b m) both.1)
+
+-- ---- code that calls no function
+
+back_copies : (from : Sources) (n : ℕ) (turn : List Step) → ((m : Run) → SameBack m (run from turn m)) → (m : Run) → SameBack m (run from (copies n turn) m)
+back_copies from zero turn one m = record { base = refl; offset = refl }
+back_copies from (suc n) turn one m = subst (SameBack m) (sym (run_append from turn (copies n turn) m)) (back_then (one m) (back_copies from n turn one (run from turn m)))
+
+mutual
+  part_back : (from : Sources) (f : ℕ → List Step) (p : PlainPart) → part_formed 0 p ≡ true → part_all keeps_place p ≡ true → (m : Run) → SameBack m (run from (part_trail f p) m)
+  part_back from f (straight bs) formed each m = done_back from bs m each
+  part_back from f (repeats n body tail) formed each m =
+      let a = and_parts (nat_lt 0 n) (parts_formed 0 body && is_turn tail) formed in
+      let b = and_parts (parts_formed 0 body) (is_turn tail) a.1 in
+      let c = and_parts (parts_all keeps_place body) (list_all keeps_place tail) each in
+      back_copies from n (parts_trail f body ++ all_done tail) (λ t. subst (SameBack t) (sym (run_append from (parts_trail f body) (all_done tail) t))
+      (back_then (parts_back from f body b.0 c.0 t) (done_back from tail (run from (parts_trail f body) t) c.1))) m
+  part_back from f (calls_to k tail) formed each m = let less = ltb-true k 0 (and_parts (nat_lt k 0) _ formed).0 in absurd (omega (arith, less))
+  part_back from f (leaves tail) formed each m = absurd (true≢false (sym formed))
+
+  pub parts_back : (from : Sources) (f : ℕ → List Step) (ps : PlainParts) → parts_formed 0 ps ≡ true → parts_all keeps_place ps ≡ true → (m : Run) → SameBack m (run from (parts_trail f ps) m)
+  parts_back from f no_part formed each m = record { base = refl; offset = refl }
+  parts_back from f (part p rest) formed each m =
+      let a = and_parts (part_formed 0 p) (parts_formed 0 rest) formed in
+      let c = and_parts (part_all keeps_place p) (parts_all keeps_place rest) each in
+      subst (SameBack m) (sym (run_append from (part_trail f p) (parts_trail f rest) m))
+      (back_then (part_back from f p a.0 c.0 m) (parts_back from f rest a.1 c.1 (run from (part_trail f p) m)))

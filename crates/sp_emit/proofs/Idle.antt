@@ -9,6 +9,7 @@ use Rattle.sp_tree.specs.declared.operators.SpBinary.{SpBinary}
 use Rattle.sp_shape.specs.Bundles.{part_idle, parts_idle}
 use Rattle.sp_shape.specs.Parts.{straight, PlainParts, no_part, part, one, joined}
 use Rattle.sp_emit.proofs.Operands.{operand_is}
+use Rattle.sp_emit.specs.Division.{unsigned_quotient_to}
 use Rattle.sp_emit.specs.Expressions.{unary_code, binary_code, held_code, element_code, number_of, expr_code, operand_code, value_at, is_immediate}
 use Rattle.sp_emit.specs.Functions.{first_counter, function_rest, function_code}
 use Rattle.sp_emit.specs.Statements.{element_write, target_write, args_code, call_code, send_code, overrun_code, slot_set, stmt_code, stmts_code}
@@ -23,6 +24,7 @@ both (part p a) b ia ib =
     and_from (part_idle p) (parts_idle (joined a b)) parts.0 (both a b parts.1 ib)
 
 binary_idle : (op : SpBinary) (rd ra rb : ℕ) → Idles (binary_code op rd ra rb)
+unfolding unsigned_quotient_to
 binary_idle op rd ra rb = grind arith
 
 two_idle : (homes : ℕ) (op : SpBinary) (a b : PlainSp) (rd : ℕ) (held less : Bool) → Idles (operand_code homes a rd) → Idles (operand_code homes b rd) → Idles (operand_code homes a (rd + 1)) → Idles (operand_code homes b (rd + 1))

@@ -9,6 +9,7 @@ use Rattle.sp_tree.specs.Statements.{PlainUnit, no_function}
 use Rattle.sp_shape.specs.Bundles.{is_steady, parts_all, parts_idle}
 use Rattle.sp_shape.specs.Parts.{no_part, PlainShape}
 use Rattle.sp_shape.specs.Words.{parts_room}
+use Rattle.sp_emit.specs.Chains.{takes_at_most}
 use Rattle.sp_emit.specs.Functions.{function_code, emitted}
 use Rattle.sp_emit.specs.Places.{homes_of}
 use Rattle.sp_emit.proofs.Codes.{codes_at}
@@ -16,6 +17,7 @@ use Rattle.sp_emit.proofs.Alone.{function_alone}
 use Rattle.sp_emit.proofs.Idle.{function_idle}
 use Rattle.sp_emit.proofs.Room.{function_room}
 use Rattle.sp_emit.proofs.Steady.{function_steady}
+use Rattle.sp_emit.proofs.Taking.{function_takes}
 
 code_at : (s : PlainShape) (u : PlainUnit) → s ≡ emitted u → (k : ℕ) → k < length u.functions
     → slice_index_or s.functions k no_part ≡ function_code (homes_of u.functions k) (slice_index_or u.functions k no_function)
@@ -29,6 +31,12 @@ alone_as s u told k below = ap (parts_all (λ b. is_none b.second)) (code_at s u
 
 pub steady_as : (s : PlainShape) (u : PlainUnit) → s ≡ emitted u → (k : ℕ) → k < length u.functions → parts_all is_steady (slice_index_or s.functions k no_part) ≡ true
 steady_as s u told k below = ap (parts_all is_steady) (code_at s u told k below) ∙ function_steady (homes_of u.functions k) (slice_index_or u.functions k no_function)
+
+pub frames_as : (s : PlainShape) (u : PlainUnit) → s ≡ emitted u → (k : ℕ) → k < length u.functions
+    → parts_all (takes_at_most (slice_index_or u.functions k no_function).frame) (slice_index_or s.functions k no_part) ≡ true
+frames_as s u told k below =
+    let f = slice_index_or u.functions k no_function in
+    ap (parts_all (takes_at_most f.frame)) (code_at s u told k below) ∙ function_takes (homes_of u.functions k) f
 
 pub room_as : (s : PlainShape) (u : PlainUnit) → s ≡ emitted u → tree.is_formed u ≡ true → (k : ℕ) → k < length u.functions
     → 1 + parts_room (slice_index_or s.functions k no_part) ≤ cost (slice_index_or u.functions k no_function)

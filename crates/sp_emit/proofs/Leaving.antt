@@ -26,14 +26,13 @@ use Rattle.c_world.specs.World.{World}
 use Rattle.sp_tree.specs.Formed.{all_rooms, first_of, cell_formed}
 use Rattle.sp_tree.specs.Values.{cell_value}
 use Rattle.sp_tree.specs.declared.expressions.SpCell.{SpCell}
-use Rattle.sp_tree.specs.Operators.{unary_value, binary_value}
-use Rattle.sp_tree.specs.declared.operators.SpBinary.{SpBinary}
+use Rattle.sp_tree.specs.Operators.{unary_value}
 use Rattle.sp_tree.specs.declared.operators.SpBinary.TheVariants as binary
 use Rattle.sp_tree.specs.declared.operators.SpUnary.{SpUnary}
 use Rattle.sp_tree.specs.declared.operators.SpUnary.TheVariants as unary
 use Rattle.sp_shape.specs.Run.{Run, Sources, by_words, word_given, first_load, once, run, IsWhole}
 use Rattle.sp_shape.specs.Trail.{Step, all_done, parts_trail}
-use Rattle.sp_emit.specs.Expressions.{truth_to, unary_code, binary_code, computed, both_code, compared_code, held_compared, held_code, address_of, cell_space, cell_code, immediate_below, held_computed}
+use Rattle.sp_emit.specs.Expressions.{truth_to, unary_code, binary_code, computed, both_code, compared_code, held_compared, address_of, cell_space, cell_code, held_computed}
 use Rattle.sp_emit.specs.Holding.{held}
 use Rattle.sp_emit.specs.Instructions.{always, where_so, set_long, set_short, with_short, compute, compare, compare_short, combine, from_special, load_from, load_slot, set_number, under}
 use Rattle.sp_emit.specs.Means.{HasWords}
@@ -97,7 +96,7 @@ compared_leaves from func rd ra rb m whole some few =
     ap (λ t. held rd (run from (all_done (truth_to rd)) t)) (did_compare from func TEST ra rb m whole)
     ∙ truth_leaves from rd b (with_written (write.Predicate TEST b) m) (whole_written (write.Predicate TEST b) m whole) some few (so_got TEST b m whole (omega arith) (omega arith))
 
-held_compared_leaves : (from : Sources) (func : CmpFunc) (rd ra n : ℕ) (m : Run) → IsWhole m → 1 ≤ rd → rd < 32
+pub held_compared_leaves : (from : Sources) (func : CmpFunc) (rd ra n : ℕ) (m : Run) → IsWhole m → 1 ≤ rd → rd < 32
     → held rd (run from (all_done (held_compared func rd ra n)) m) ≡ flag (compare_value func (held ra m) n)
 held_compared_leaves from func rd ra n m whole some few =
     let b = compare_value func (held ra m) n in
@@ -160,37 +159,9 @@ not_lt a b = by (cases_lt b a)
     by (inl less) = rw (lt-leb a b less, lt-ltb b a less) refl
     by (inr more) = rw (le-leb a b more, le-ltb b a more) refl
 
-none_below : (n : ℕ) → nat_lt n 0 ≡ true → ⊥
-none_below n less = omega (arith, ltb-true n 0 less)
-
-held_computed_leaves : (from : Sources) (func : ImmFunc) (rd ra n : ℕ) (m : Run) → IsWhole m → 1 ≤ rd → rd < 32
+pub held_computed_leaves : (from : Sources) (func : ImmFunc) (rd ra n : ℕ) (m : Run) → IsWhole m → 1 ≤ rd → rd < 32
     → held rd (run from (all_done (held_computed func rd ra n)) m) ≡ alu_value (alu_of func) (held ra m) n
 held_computed_leaves from func rd ra n m whole some few = ap (held rd) (did_with_short from func rd ra n m whole) ∙ got rd _ m whole some few
-
--- an operator whose second operand an instruction holds
-pub held_leaves : (from : Sources) (op : SpBinary) (rd ra n : ℕ) (m : Run) → IsWhole m → 1 ≤ rd → rd < 32 → nat_lt n (immediate_below op) ≡ true
-    → held rd (run from (all_done (held_code op rd ra n)) m) ≡ binary_value op (held ra m) n
-held_leaves from binary.BitAnd rd ra n m whole some few small = held_computed_leaves from imm.And rd ra n m whole some few
-held_leaves from binary.Equal rd ra n m whole some few small = held_compared_leaves from cmp.Eq rd ra n m whole some few
-held_leaves from binary.NotEqual rd ra n m whole some few small = held_compared_leaves from cmp.Neq rd ra n m whole some few
-held_leaves from binary.Less rd ra n m whole some few small = held_compared_leaves from cmp.Lt rd ra n m whole some few
-held_leaves from binary.LessUnsigned rd ra n m whole some few small = held_compared_leaves from cmp.Ult rd ra n m whole some few
-held_leaves from binary.LessEqual rd ra n m whole some few small = held_compared_leaves from cmp.Le rd ra n m whole some few
-held_leaves from binary.LessEqualUnsigned rd ra n m whole some few small = held_compared_leaves from cmp.Ule rd ra n m whole some few ∙ ap flag (not_lt (held ra m) n)
-held_leaves from binary.Or rd ra n m whole some few small = absurd (none_below n small)
-held_leaves from binary.And rd ra n m whole some few small = absurd (none_below n small)
-held_leaves from binary.BitOr rd ra n m whole some few small = held_computed_leaves from imm.Or rd ra n m whole some few
-held_leaves from binary.BitXor rd ra n m whole some few small = held_computed_leaves from imm.Xor rd ra n m whole some few
-held_leaves from binary.ShiftLeft rd ra n m whole some few small = held_computed_leaves from imm.Sl rd ra n m whole some few
-held_leaves from binary.ShiftRight rd ra n m whole some few small = held_computed_leaves from imm.Sra rd ra n m whole some few
-held_leaves from binary.ShiftRightUnsigned rd ra n m whole some few small = held_computed_leaves from imm.Sr rd ra n m whole some few
-held_leaves from binary.Plus rd ra n m whole some few small = held_computed_leaves from imm.Add rd ra n m whole some few
-held_leaves from binary.Minus rd ra n m whole some few small = held_computed_leaves from imm.Sub rd ra n m whole some few
-held_leaves from binary.Times rd ra n m whole some few small = absurd (none_below n small)
-held_leaves from binary.Divide rd ra n m whole some few small = absurd (none_below n small)
-held_leaves from binary.DivideUnsigned rd ra n m whole some few small = absurd (none_below n small)
-held_leaves from binary.Remainder rd ra n m whole some few small = absurd (none_below n small)
-held_leaves from binary.RemainderUnsigned rd ra n m whole some few small = absurd (none_below n small)
 
 -- ---- accesses
 

@@ -2,7 +2,9 @@ pub mod Accessing
 pub mod Alone
 pub mod Apart
 pub mod Arguments
+pub mod Around
 pub mod Asking
+pub mod Bare
 pub mod Beginning
 pub mod Binary
 pub mod Calling
@@ -16,14 +18,17 @@ pub mod Counters
 pub mod DigitTurns
 pub mod Digits
 pub mod Dividing
+pub mod ByConstants
 pub mod Elements
 pub mod Entering
+pub mod Factors
 pub mod Fitting
 pub mod Formed
 pub mod Frames
 pub mod FunctionAdded
 pub mod FunctionTurns
 pub mod Homing
+pub mod Held
 pub mod Idle
 pub mod Kept
 pub mod Least
@@ -39,6 +44,7 @@ pub mod Operands
 pub mod Overruns
 pub mod Passed
 pub mod Passing
+pub mod Taking
 pub mod TargetWrites
 pub mod WordPlaces
 pub mod Numbers
@@ -60,6 +66,7 @@ pub mod Storing
 pub mod TaskAsks
 pub mod Tasks
 pub mod Turns
+pub mod Uncalled
 pub mod Untouched
 pub mod ValueAsks
 pub mod Values
@@ -68,4 +75,5 @@ pub mod WithinStack
 pub mod Words
 pub mod Aligned
 pub mod Portless
+pub mod Standing
 pub mod Starts

@@ -16,7 +16,7 @@ use Rattle.sp_shape.specs.Turning.{PartsTurn}
 use Rattle.sp_emit.proofs.Operands.{operand_is}
 use Rattle.sp_emit.specs.Places.{set_word}
 use Rattle.sp_emit.specs.Counts.{HasStmtCounts, HasStmtsCounts}
-use Rattle.sp_emit.specs.Division.{quotient_to, rest_to, signed_quotient_to, signed_rest_to}
+use Rattle.sp_emit.specs.Division.{unsigned_quotient_to, unsigned_rest_to, signed_quotient_to, signed_rest_to}
 use Rattle.sp_emit.specs.Expressions.{unary_code, binary_code, held_code, element_code, number_of, expr_code, operand_code, value_at, is_immediate}
 use Rattle.sp_emit.specs.Holding.{held}
 use Rattle.sp_emit.specs.Instructions.{always, set_long}
@@ -43,9 +43,9 @@ turns_joined from f Called back (part p xs) ys m x y =
 
 binary_turns : (from : Sources) (f : ℕ → List Step) (Called : ℕ → Run → Type 0) (back : Back) (op : SpBinary) (rd ra rb : ℕ) (m : Run) → IsWhole m → PartsTurn (run from) f Called back (binary_code op rd ra rb) m
 binary_turns from f Called back binary.Divide rd ra rb m whole = signed_division_turns from f Called back ra rb (signed_quotient_to rd) m whole
-binary_turns from f Called back binary.DivideUnsigned rd ra rb m whole = division_turns from f Called back ra rb (quotient_to rd) m whole
+binary_turns from f Called back binary.DivideUnsigned rd ra rb m whole = division_turns from f Called back ra rb (unsigned_quotient_to rd ra) m whole
 binary_turns from f Called back binary.Remainder rd ra rb m whole = signed_division_turns from f Called back ra rb (signed_rest_to rd) m whole
-binary_turns from f Called back binary.RemainderUnsigned rd ra rb m whole = division_turns from f Called back ra rb (rest_to rd) m whole
+binary_turns from f Called back binary.RemainderUnsigned rd ra rb m whole = division_turns from f Called back ra rb (unsigned_rest_to rd ra) m whole
 binary_turns from f Called back binary.Or rd ra rb m whole = (tt, tt)
 binary_turns from f Called back binary.And rd ra rb m whole = (tt, tt)
 binary_turns from f Called back binary.BitOr rd ra rb m whole = (tt, tt)

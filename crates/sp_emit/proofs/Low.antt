@@ -1,10 +1,11 @@
 -- The code of statements stores no word of the stack after the next counter of turns.
-use Rattle.std.proofs.Common.{◌≡◌, ℕ, ◌+◌, ◌-◌, ◌<◌, ◌≤◌, ◌==◌, true, ◌&&◌, List, Option, None, Some, length, nat_lt, refl, arith}
+use Rattle.std.proofs.Common.{◌≡◌, ℕ, ◌+◌, ◌-◌, ◌<◌, ◌≤◌, ◌==◌, Bool, true, false, if◌then◌else◌, ◌&&◌, List, Option, None, Some, length, nat_lt, refl, arith}
 use Rattle.std.specs.List.{list_all}
 use Rattle.std.proofs.lemmas.Bool.{and_parts, and_from, lt-ltb, ltb-true}
 use Rattle.patmos_instr.specs.Bundles.{Slots}
 use Rattle.patmos_instr.specs.declared.instructions.Op.{Op}
 use Rattle.patmos_instr.specs.declared.instructions.Op.TheVariants.{AluImm, AluReg, AluLong, Mul, Cmp, CmpImm, Comb, ToSpecial, FromSpecial, Stack, Load, Store, Branch, Call, BranchFill, Return}
+use Rattle.patmos_instr.specs.declared.functions.ImmFunc.TheVariants as imm
 use Rattle.patmos_instr.specs.declared.functions.StackFunc.TheVariants.{Sres, Sens, Sfree}
 use Rattle.patmos_instr.specs.declared.memories.Mem.TheVariants as mem
 use Rattle.patmos_instr.specs.declared.memories.StoreWidth.TheVariants as store
@@ -17,7 +18,7 @@ use Rattle.sp_shape.specs.Parts.{straight, repeats, PlainParts, one, joined}
 use Rattle.sp_emit.specs.Expressions.{expr_code, address_of}
 use Rattle.sp_emit.specs.Statements.{slot_write, cell_write, element_write, target_write, args_code, call_code, send_code, overrun_code, slot_set, turns_begin, turns_tail, stmt_code, stmts_code}
 use Rattle.sp_emit.specs.declared.registers.TheConstants.{RESULT, MASK, FIRST, SPARE}
-use Rattle.sp_emit.specs.Places.{read_op, set_op, fetch_op}
+use Rattle.sp_emit.specs.Places.{in_register, read_op, set_op, fetch_op}
 use Rattle.sp_emit.proofs.WordPlaces.{read_op_is, set_op_is, fetch_op_is}
 use Rattle.sp_emit.proofs.Passing.{is_low, passes}
 use Rattle.sp_emit.proofs.Quiet.{each_joined, each_lone, each_so, is_quiet, expr_quiet, args_quiet}
@@ -83,8 +84,17 @@ fetch_low count homes slot = fetch_op_is (λ op. is_low count op ≡ true) homes
 number_low : (count rd n : ℕ) → is_low count (number_op rd n) ≡ true
 number_low count rd n = number_op_is (λ op. is_low count op ≡ true) rd n refl refl
 
-pub set_low : (count homes slot rs : ℕ) → slot < count → is_low count (set_op homes slot rs) ≡ true
+set_low : (count homes slot rs : ℕ) → slot < count → is_low count (set_op homes slot rs) ≡ true
 set_low count homes slot rs lt = set_op_is (λ op. is_low count op ≡ true) homes slot rs refl (rw (lt-ltb slot count lt) refl)
+
+-- where it stands in the stack, it is one of the first so many
+pub set_beside : (count homes slot rs : ℕ) → (in_register homes slot ≡ false → slot < count) → is_low count (set_op homes slot rs) ≡ true
+unfolding set_op
+set_beside count homes slot rs out = by (in_register homes slot) refl
+  where
+    by : (b : Bool) → in_register homes slot ≡ b → is_low count (if b then AluImm imm.Add (homes + slot) rs 0 else Store mem.S store.Word 0 rs slot) ≡ true
+    by true is = refl
+    by false is = rw (lt-ltb slot count (out is)) refl
 
 slot_low : (homes : ℕ) (count slot : ℕ) → slot < count → Low count (slot_set homes slot)
 slot_low homes count slot lt = rw (set_low count homes slot FIRST lt) refl

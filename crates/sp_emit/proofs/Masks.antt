@@ -50,7 +50,7 @@ keeps_slot homes slots count slot v m some whole inside named =
     let set = sets_word homes slot v m some whole in
     record {
       st = set.st;
-      stack = λ a above. set.stack a (λ is. absurd (omega (arith, is, above, named)));
+      stack = λ a above. set.stack a (λ out is. absurd (omega (arith, is, above, named)));
       high = λ r at lt. set.regs r (omega (arith, at, some)) (omega (arith, lt)) (λ is. absurd (omega (arith, is, at, inside)));
     }
 

@@ -184,6 +184,10 @@ pub so_by_register : (rd v q : ℕ) (m : Run) → IsWhole m → q < 8 → so q (
 so_by_register rd v zero m whole lt = stays_true (write.Register rd v) m whole
 so_by_register rd v (suc q) m whole lt = so_written (write.Register rd v) (suc q) m whole lt ∙ rw (ne_eqb (suc q) 0 (omega arith))
 
+pub so_by_product : (low high q : ℕ) (m : Run) → IsWhole m → q < 8 → so q (with_written (write.Product low high) m) ≡ so q m
+so_by_product low high zero m whole lt = stays_true (write.Product low high) m whole
+so_by_product low high (suc q) m whole lt = so_written (write.Product low high) (suc q) m whole lt ∙ rw (ne_eqb (suc q) 0 (omega arith)) refl
+
 pub whole_loaded : (from : Sources) (space : Mem) (rd address : ℕ) (m : Run) → IsWhole m → IsWhole (loaded from space rd address m)
 whole_loaded from space rd address m whole =
     let w = whole_written (write.Register rd (word_given from space address m)) m whole in

@@ -1,49 +1,52 @@
 -- Functions leave the whole stack as it was, whatever their loads give.
-use Rattle.std.proofs.Common.{◌≡◌, ℕ, zero, suc, ◌+◌, ◌-◌, ◌*◌, ◌<◌, ◌≤◌, ◌==◌, ◌⊎◌, inl, inr, Bool, true, false, if◌then◌else◌, List, [], ◌∷◌, length, slice_index_or, refl, sym, ◌∙◌, subst, arith}
+use Rattle.std.proofs.Common.{◌≡◌, ℕ, zero, suc, ◌+◌, ◌-◌, ◌*◌, ◌<◌, ◌≤◌, ◌==◌, ◌⊎◌, inl, inr, Bool, true, false, if◌then◌else◌, List, [], ◌∷◌, ◌++◌, length, slice_index_or, refl, sym, ap, ◌∙◌, subst, arith}
 use Rattle.std.proofs.lemmas.Bool.{cases_lt, and_parts, lt-ltb, eqb-false}
 use Rattle.patmos_instr.specs.Bundles.{Slots}
 use Rattle.patmos_instr.specs.declared.functions.StackFunc.TheVariants.{Sres, Sfree}
-use Rattle.patmos_instr.specs.declared.specials.WritableSpecial.TheVariants as writable
 use Rattle.sp_tree.specs.Formed.{slots_of, function_formed, functions_formed}
 use Rattle.sp_tree.specs.Statements.{PlainFunction, no_function}
 use Rattle.sp_shape.specs.Parts.{no_part}
-use Rattle.sp_shape.specs.Run.{Run, Sources, once, run, IsWhole}
+use Rattle.sp_shape.specs.Run.{Run, Sources, run, IsWhole}
 use Rattle.sp_shape.specs.Trail.{Step, all_done, parts_trail}
 use Rattle.sp_shape.proofs.Lists.{all_append}
-use Rattle.sp_emit.specs.Functions.{argument_kept, arguments_kept, state_kept, base_slot, offset_slot, first_counter, function_code, return_tail}
-use Rattle.sp_emit.specs.Instructions.{copy, load_slot, to_special, stack_op}
+use Rattle.sp_emit.specs.Functions.{argument_kept, arguments_kept, mask_kept, state_kept, place_brought, result_given, needs_none, frame_taken, frame_freed, base_slot, offset_slot, first_counter, function_end, function_code, return_tail}
+use Rattle.sp_emit.specs.Instructions.{copy, stack_op}
 use Rattle.sp_emit.specs.Statements.{stmts_code}
-use Rattle.sp_emit.specs.declared.registers.TheConstants.{RESULT, MASK, FIRST, SPARE, OVERRUN}
+use Rattle.sp_emit.specs.declared.registers.TheConstants.{RESULT, MASK, FIRST, OVERRUN}
 use Rattle.sp_emit.proofs.Arguments.{did_stack}
-use Rattle.sp_emit.proofs.Beginning.{reserved_behind}
+use Rattle.sp_emit.specs.Chains.{stmts_call}
+use Rattle.sp_emit.proofs.Bare.{needs_parts, bare_body, outside}
+use Rattle.sp_emit.proofs.Beginning.{Outside, words_taken, taken_few, reserved_behind}
 use Rattle.sp_emit.specs.Functions.{codes}
 use Rattle.sp_emit.specs.Places.{read_word, words_cleared, homes_of}
-use Rattle.sp_emit.proofs.Codes.{codes_at}
+use Rattle.sp_emit.proofs.Codes.{codes_at, kept_is, brought_is}
 use Rattle.sp_emit.proofs.WordPlaces.{cleared_all}
 use Rattle.sp_emit.proofs.Formed as formed
-use Rattle.sp_emit.proofs.Low.{AreLow, stmts_low, read_low, set_low}
+use Rattle.sp_emit.proofs.Low.{AreLow, stmts_low, read_low, set_beside}
 use Rattle.sp_emit.proofs.Passing.{AllPass, Passes, passes, passes_done, passes_parts}
-use Rattle.sp_emit.proofs.Serves.{Parts, parts_of_function, function_run, code_of}
+use Rattle.sp_emit.proofs.Serves.{Parts, parts_of_function, whole_frame, function_run, code_of}
 
 -- ---- before and after the body
 
-arguments_low : (homes : ℕ) (count n : ℕ) → n ≤ count → AreLow count (arguments_kept homes n)
-arguments_low homes count zero le = refl
-arguments_low homes count (suc n) le = all_append (passes count) (arguments_kept homes n) (argument_kept homes n) (arguments_low homes count n (omega (arith, le))) (rw (set_low count homes n (FIRST + n) le) refl)
+arguments_low : (homes slots count n : ℕ) → n ≤ slots → Outside homes slots count → AreLow count (arguments_kept homes n)
+arguments_low homes slots count zero le out = refl
+arguments_low homes slots count (suc n) le out = all_append (passes count) (arguments_kept homes n) (argument_kept homes n) (arguments_low homes slots count n (omega (arith, le)) out) (rw (set_beside count homes n (FIRST + n) (out n le)) refl)
 
-state_low : (homes : ℕ) (count : ℕ) (f : PlainFunction) → f.mask < count → base_slot f < count → offset_slot f < count → AreLow count (state_kept homes f)
-state_low homes count f mask base offset = rw (set_low count homes f.mask MASK mask, lt-ltb (base_slot f) count base, lt-ltb (offset_slot f) count offset) refl
+state_low : (homes count : ℕ) (f : PlainFunction) → f.mask < slots_of f → Outside homes (slots_of f) count → (stmts_call f.body ≡ true → f.frame ≤ count) → 2 ≤ f.frame → AreLow count (state_kept homes f)
+state_low homes count f mask out whole some =
+    let set = set_beside count homes f.mask MASK (out f.mask mask) in
+    kept_is (λ bs. AreLow count (mask_kept homes f ++ bs)) f (λ has. rw (set, lt-ltb (base_slot f) count (omega (arith, whole has, some)), lt-ltb (offset_slot f) count (omega (arith, whole has, some))) refl) (rw (set) refl)
 
 -- the end of a function, before its frame is freed
+abbrev pub result_read : ℕ → PlainFunction → List Slots
+result_read homes f = read_word homes RESULT f.result ∷ copy MASK OVERRUN ∷ []
+
 abbrev pub given_back : ℕ → PlainFunction → List Slots
-given_back homes f =
-    load_slot SPARE (base_slot f)
-    ∷ to_special writable.Srb SPARE
-    ∷ load_slot SPARE (offset_slot f)
-    ∷ to_special writable.Sro SPARE
-    ∷ read_word homes RESULT f.result
-    ∷ copy MASK OVERRUN
-    ∷ []
+given_back homes f = place_brought f ++ result_read homes f
+
+-- and then it is
+pub end_run : (homes : ℕ) (from : Sources) (f : PlainFunction) (m : Run) → run from (all_done (function_end homes f)) m ≡ run from (all_done (frame_freed homes f)) (run from (all_done (given_back homes f)) m)
+end_run homes from f m = brought_is (λ bs. run from (all_done (bs ++ result_given homes f)) m ≡ run from (all_done (frame_freed homes f)) (run from (all_done (bs ++ result_read homes f)) m)) f (λ has. refl) refl
 
 -- ---- functions
 
@@ -61,11 +64,11 @@ in_frame_still le enough x p = record {
 }
 
 -- the states of a function's run
-unfoldable pub taken : Sources → PlainFunction → Run → Run
-taken from f m = once from (stack_op Sres f.frame) m
+unfoldable pub taken : ℕ → Sources → PlainFunction → Run → Run
+taken homes from f m = run from (all_done (frame_taken homes f)) m
 
 unfoldable pub cleared : ℕ → Sources → PlainFunction → Run → Run
-cleared homes from f m = run from (all_done (words_cleared homes (slots_of f))) (taken from f m)
+cleared homes from f m = run from (all_done (words_cleared homes (slots_of f))) (taken homes from f m)
 
 unfoldable pub entered : ℕ → Sources → PlainFunction → Run → Run
 entered homes from f m = run from (all_done (state_kept homes f)) (run from (all_done (arguments_kept homes f.parameters)) (cleared homes from f m))
@@ -73,39 +76,57 @@ entered homes from f m = run from (all_done (state_kept homes f)) (run from (all
 unfoldable pub worked : ℕ → Sources → (ℕ → List Step) → PlainFunction → Run → Run
 worked homes from code f m = run from (parts_trail code (stmts_code homes f.frame (first_counter f) f.body)) (entered homes from f m)
 
-takes_room : (from : Sources) (frame : ℕ) (m : Run) → IsWhole m → frame ≤ m.st → InFrame frame m (once from (stack_op Sres frame) m)
-takes_room from frame m whole enough = subst (InFrame frame m) (sym (did_stack from Sres frame m whole)) (record {
+takes_room : (from : Sources) (frame : ℕ) (none : Bool) (m : Run) → IsWhole m → frame ≤ m.st → InFrame (words_taken none frame) m (run from (all_done (if none then [] else stack_op Sres frame ∷ [])) m)
+takes_room from frame true m whole enough = record { whole = whole; st = omega arith; behind = λ a above. refl }
+takes_room from frame false m whole enough = subst (InFrame frame m) (sym (did_stack from Sres frame m whole)) (record {
   whole = record { fits = whole.fits; pending = whole.pending };
   st = refl;
   behind = λ a above. reserved_behind m.st frame a m.stack above;
 })
 
-pub enters_frame : (homes : ℕ) (from : Sources) (fs : List PlainFunction) (number : ℕ) (f : PlainFunction) (m : Run) → Parts fs number f → IsWhole m → f.frame ≤ m.st → InFrame f.frame m (entered homes from f m)
+pub enters_frame : (homes : ℕ) (from : Sources) (fs : List PlainFunction) (number : ℕ) (f : PlainFunction) (m : Run) → Parts fs number f → IsWhole m → f.frame ≤ m.st → InFrame (words_taken (needs_none homes f) f.frame) m (entered homes from f m)
 unfolding entered cleared taken
 enters_frame homes from fs number f m p whole enough =
-    let first = takes_room from f.frame m whole enough in
-    let c = passes_done from f.frame (words_cleared homes (slots_of f)) (taken from f m) p.frame first.whole (cleared_all (passes f.frame) homes (slots_of f) (λ r. refl)) in
-    let second = in_frame_still (omega arith) enough first c in
-    let a = passes_done from f.frame (arguments_kept homes f.parameters) (cleared homes from f m) p.frame c.whole (arguments_low homes f.frame f.parameters (omega (arith, p.before_mask, p.mask, p.room))) in
-    let third = in_frame_still (omega arith) enough second a in
-    let b = passes_done from f.frame (state_kept homes f) (run from (all_done (arguments_kept homes f.parameters)) (cleared homes from f m)) p.frame a.whole
-    (state_low homes f.frame f (omega (arith, p.mask, p.room)) (omega (arith, p.mask, p.room)) (omega (arith, p.mask, p.room))) in
-    in_frame_still (omega arith) enough third b
+    let n = words_taken (needs_none homes f) f.frame in
+    let few = taken_few (needs_none homes f) f.frame in
+    let most : n ≤ 128 = omega (arith, few, p.frame) in
+    let room : n ≤ m.st = omega (arith, few, enough) in
+    let out = outside homes f (omega (arith, p.room)) (needs_none homes f) refl in
+    let first = takes_room from f.frame (needs_none homes f) m whole enough in
+    let c = passes_done from n (words_cleared homes (slots_of f)) (taken homes from f m) most first.whole (cleared_all (passes n) homes (slots_of f) (λ r. refl)) in
+    let second = in_frame_still (omega arith) room first c in
+    let a = passes_done from n (arguments_kept homes f.parameters) (cleared homes from f m) most c.whole (arguments_low homes (slots_of f) n f.parameters (omega (arith, p.before_mask, p.mask)) out) in
+    let third = in_frame_still (omega arith) room second a in
+    let b = passes_done from n (state_kept homes f) (run from (all_done (arguments_kept homes f.parameters)) (cleared homes from f m)) most a.whole
+    (state_low homes n f p.mask out (whole_frame homes f) (omega (arith, p.room))) in
+    in_frame_still (omega arith) room third b
 
 pub works_in_frame : (homes : ℕ) (from : Sources) (code : ℕ → List Step) (fs : List PlainFunction) (number low : ℕ) (f : PlainFunction) (m : Run) → Parts fs number f → AllPass from code number low → IsWhole m → low + 128 ≤ m.st
-    → Passes (first_counter f + 1) (entered homes from f m) (worked homes from code f m)
+    → Passes (words_taken (needs_none homes f) (first_counter f + 1)) (entered homes from f m) (worked homes from code f m)
 unfolding worked
 works_in_frame homes from code fs number low f m p others whole enough =
     let x = enters_frame homes from fs number f m p whole (omega (arith, enough, p.frame)) in
-    let body = stmts_code homes f.frame (first_counter f) f.body in
-    passes_parts from code number low (first_counter f + 1) (omega (arith, p.frame)) others body (formed.stmts_formed homes fs number (slots_of f) f.frame (first_counter f) f.body p.body)
-    (stmts_low homes fs number (slots_of f) f.frame (first_counter f) f.body (omega (arith, p.mask)) (omega (arith, p.room, p.mask)) p.body) (entered homes from f m) x.whole (omega (arith, x.st, enough, p.frame))
+    by (needs_none homes f) refl x.whole (omega (arith, x.st, taken_few (needs_none homes f) f.frame, enough, p.frame))
+  where
+    by : (b : Bool) → needs_none homes f ≡ b → IsWhole (entered homes from f m) → low ≤ (entered homes from f m).st
+        → Passes (words_taken b (first_counter f + 1)) (entered homes from f m) (run from (parts_trail code (stmts_code homes f.frame (first_counter f) f.body)) (entered homes from f m))
+    by true none here room = bare_body homes from code fs number f p.body (needs_parts homes f none) (entered homes from f m) here
+    by false some here room =
+        let body = stmts_code homes f.frame (first_counter f) f.body in
+        passes_parts from code number low (first_counter f + 1) (omega (arith, p.frame)) others body (formed.stmts_formed homes fs number (slots_of f) f.frame (first_counter f) f.body p.body)
+        (stmts_low homes fs number (slots_of f) f.frame (first_counter f) f.body (omega (arith, p.mask)) (omega (arith, p.room, p.mask)) p.body) (entered homes from f m) here room
 
-frees_frame : (from : Sources) (frame : ℕ) (m n : Run) → frame ≤ m.st → InFrame frame m n → Passes 0 m (once from (stack_op Sfree frame) n)
-frees_frame from frame m n enough x = subst (Passes 0 m) (sym (did_stack from Sfree frame n x.whole)) (record {
+frees_frame : (from : Sources) (frame : ℕ) (none : Bool) (m n : Run) → frame ≤ m.st → InFrame (words_taken none frame) m n → Passes 0 m (run from (all_done (if none then [] else stack_op Sfree frame ∷ [])) n)
+frees_frame from frame true m n enough x = record { whole = x.whole; keeps = record { st = omega (arith, x.st); stack = λ a above. x.behind a (omega (arith, above)) } }
+frees_frame from frame false m n enough x = subst (Passes 0 m) (sym (did_stack from Sfree frame n x.whole)) (record {
   whole = record { fits = x.whole.fits; pending = x.whole.pending };
   keeps = record { st = omega (arith, x.st, enough); stack = λ a above. x.behind a (omega (arith, above)) };
 })
+
+-- the body uses no more than is taken
+used_few : (none : Bool) (used frame : ℕ) → used ≤ frame → words_taken none used ≤ words_taken none frame
+used_few true used frame le = omega arith
+used_few false used frame le = le
 
 pub passes_function : (homes : ℕ) (from : Sources) (code : ℕ → List Step) (fs : List PlainFunction) (number low : ℕ) (f : PlainFunction) → function_formed fs number f ≡ true → AllPass from code number low
     → (m : Run) → IsWhole m → low + 128 ≤ m.st → Passes 0 m (run from (parts_trail code (function_code homes f)) m)
@@ -114,12 +135,15 @@ passes_function homes from code fs number low f formed others m whole enough =
     let p = parts_of_function fs number f formed in
     let room = (let e : f.frame ≤ m.st = omega (arith, enough, p.frame) in e) in
     let x = enters_frame homes from fs number f m p whole room in
-    let y = in_frame_still (omega (arith, p.room, p.mask)) room x (works_in_frame homes from code fs number low f m p others whole enough) in
-    let z = in_frame_still (omega arith) room y (passes_done from 0 (given_back homes f) (worked homes from code f m) (omega arith) y.whole (rw (read_low 0 homes RESULT f.result) refl)) in
+    let none = needs_none homes f in
+    let fits : words_taken none f.frame ≤ m.st = omega (arith, taken_few none f.frame, room) in
+    let y = in_frame_still (used_few none (first_counter f + 1) f.frame (omega (arith, p.room, p.mask))) fits x (works_in_frame homes from code fs number low f m p others whole enough) in
+    let z = in_frame_still (omega arith) fits y (passes_done from 0 (given_back homes f) (worked homes from code f m) (omega arith) y.whole
+    (brought_is (λ bs. AreLow 0 (bs ++ result_read homes f)) f (λ has. rw (read_low 0 homes RESULT f.result) refl) (rw (read_low 0 homes RESULT f.result) refl))) in
     let n = run from (all_done (given_back homes f)) (worked homes from code f m) in
-    let w = frees_frame from f.frame m n room z in
-    let r = passes_done from 0 return_tail (once from (stack_op Sfree f.frame) n) (omega arith) w.whole refl in
-    subst (Passes 0 m) (sym (function_run homes from code f m)) (record {
+    let w = frees_frame from f.frame none m n room z in
+    let r = passes_done from 0 return_tail (run from (all_done (frame_freed homes f)) n) (omega arith) w.whole refl in
+    subst (Passes 0 m) (sym (function_run homes from code f m ∙ ap (run from (all_done return_tail)) (end_run homes from f (worked homes from code f m)))) (record {
       whole = r.whole;
       keeps = record { st = r.keeps.st ∙ w.keeps.st; stack = λ a above. r.keeps.stack a (omega (arith, above, w.keeps.st)) ∙ w.keeps.stack a above };
     })

@@ -10,7 +10,7 @@ use Rattle.sp_shape.proofs.Joins.{shown, joined-assoc}
 use Rattle.sp_shape.specs.Parts.{PlainParts, no_part, part, straight, repeats, one, joined}
 use Rattle.sp_shape.specs.Shown.{plain_part, parts_of}
 use Rattle.sp_shape.specs.declared.parts.Part.{Part, Straight}
-use Rattle.sp_emit.specs.Division.{digits, around}
+use Rattle.sp_emit.specs.Division.{highest_bit, digits, around}
 use Rattle.sp_emit.specs.Functions.{function_begin, function_end, leaving, function_code}
 use Rattle.sp_emit.specs.Statements.{mask_handed, way_to, behind_call, call_code, turns_begin, turns_tail, stmt_code, stmts_code}
 use Rattle.sp_tree.specs.Shown.{plain_function, stmts_of}
@@ -32,9 +32,9 @@ pub three_pushed : (old first second third a b c : PlainParts) → first ≡ joi
 three_pushed old first second third a b c one two three = three ∙ ap (λ p. joined p c) (two_pushed old first second a b one two) ∙ joined-assoc old (joined a b) c
     ∙ ap (joined old) (joined-assoc a b c)
 
-pub around_pushed : (old first second third : PlainParts) (before behind : List Slots) → first ≡ joined old (one (straight before)) → second ≡ joined first (one digits)
+pub around_pushed : (old first second third : PlainParts) (before behind : List Slots) → first ≡ joined old (one (straight (before ++ highest_bit ∷ []))) → second ≡ joined first (one digits)
     → third ≡ joined second (one (straight behind)) → third ≡ joined old (around before behind)
-around_pushed old first second third before behind one two three = three_pushed old first second third (part (straight before) no_part) (part digits no_part) (part (straight behind) no_part) one two three
+around_pushed old first second third before behind one two three = three_pushed old first second third (part (straight (before ++ highest_bit ∷ [])) no_part) (part digits no_part) (part (straight behind) no_part) one two three
 
 pub function_pushed : (homes : ℕ) (f : SpFunction) (xs : List Part) (ts : List SpStmt) (first second third fourth : PlainParts) → xs ≡ [] → ts ≡ f.body
     → first ≡ joined (parts_of xs) (one (straight (function_begin homes (plain_function f)))) → second ≡ joined first (stmts_code homes f.frame (f.frame - 3) (stmts_of ts))

@@ -1,13 +1,13 @@
--- What is said of each bundle of code; and the code of values, which stores nothing, leaves the stack, and loads in any
--- case.
+-- What is said of each bundle of code; and the code of values, which stores nothing, leaves the stack and the special
+-- registers, loads in any case, and has one instruction in each bundle.
 use Rattle.std.proofs.Common.{◌≡◌, ℕ, ◌+◌, Bool, true, false, List, [], ◌∷◌, refl, arith, if◌then◌else◌}
-use Rattle.std.specs.Prelude.{nat_lt}
+use Rattle.std.specs.Prelude.{nat_lt, ◌&&◌, is_none}
 use Rattle.std.specs.List.{list_all}
 use Rattle.std.proofs.lemmas.Bool.{and_parts, and_from}
 use Rattle.patmos_instr.specs.Bundles.{Slots}
 use Rattle.patmos_instr.specs.declared.guards.Guard.{Guard}
 use Rattle.patmos_instr.specs.declared.instructions.Op.{Op}
-use Rattle.patmos_instr.specs.declared.instructions.Op.TheVariants.{Stack, Load, Store}
+use Rattle.patmos_instr.specs.declared.instructions.Op.TheVariants.{ToSpecial, Stack, Load, Store}
 use Rattle.sp_tree.specs.Need.{need}
 use Rattle.sp_tree.specs.Plain.{PlainSp, constant, frame_word, cell_word, array_word, before_one, between_two}
 use Rattle.sp_tree.specs.declared.operators.SpBinary.{SpBinary}
@@ -17,6 +17,9 @@ use Rattle.sp_shape.specs.Formed.{is_always}
 use Rattle.sp_shape.specs.Parts.{PlainPart, straight, repeats, calls_to, leaves, PlainParts, no_part, part, one, joined}
 use Rattle.sp_shape.proofs.Lists.{all_weaker}
 use Rattle.sp_emit.proofs.Operands.{operand_is}
+use Rattle.sp_emit.proofs.Held.{held_is}
+use Rattle.sp_emit.specs.Division.{unsigned_quotient_to}
+use Rattle.sp_emit.specs.Divisors.{factor_rest_to}
 use Rattle.sp_emit.specs.Expressions.{unary_code, binary_code, held_code, element_code, number_of, expr_code, operand_code, value_at, is_immediate, address_of}
 use Rattle.sp_emit.specs.Statements.{args_code}
 use Rattle.sp_emit.specs.Instructions.{always, number_op}
@@ -57,10 +60,11 @@ abbrev pub is_quiet_op : Guard → Op → Bool
 is_quiet_op g (Load space width rd ra imm) = is_always g
 is_quiet_op g (Store space width ra rs imm) = false
 is_quiet_op g (Stack func count) = false
+is_quiet_op g (ToSpecial special ra) = false
 is_quiet_op g _ = true
 
 abbrev pub is_quiet : Slots → Bool
-is_quiet b = is_quiet_op b.first.guard b.first.op
+is_quiet b = is_quiet_op b.first.guard b.first.op && is_none b.second
 
 abbrev Quiet : PlainParts → Type 0
 Quiet parts = parts_all is_quiet parts ≡ true
@@ -72,10 +76,12 @@ unary_quiet : (op : SpUnary) (rd ra : ℕ) → AreQuiet (unary_code op rd ra)
 unary_quiet op rd ra = grind arith
 
 binary_quiet : (op : SpBinary) (rd ra rb : ℕ) → Quiet (binary_code op rd ra rb)
+unfolding unsigned_quotient_to
 binary_quiet op rd ra rb = grind arith
 
 held_quiet : (op : SpBinary) (rd ra n : ℕ) → AreQuiet (held_code op rd ra n)
-held_quiet op rd ra n = grind arith
+unfolding factor_rest_to
+held_quiet op rd ra n = held_is AreQuiet op rd ra n (grind arith) (grind arith)
 
 two_quiet : (homes : ℕ) (op : SpBinary) (a b : PlainSp) (rd : ℕ) (held less : Bool) → Quiet (operand_code homes a rd) → Quiet (operand_code homes b rd) → Quiet (operand_code homes a (rd + 1)) → Quiet (operand_code homes b (rd + 1))
     → Quiet (if held then joined (operand_code homes a rd) (one (straight (held_code op rd (value_at homes a rd) (number_of b))))

@@ -1,6 +1,9 @@
 -- What the code of quotients and remainders leaves: the words of both operands are taken, divided digit by digit, and
 -- what is asked for is put into a register.
-use Rattle.std.proofs.Common.{◌≡◌, ℕ, zero, suc, ◌+◌, ◌-◌, ◌/◌, ◌%◌, ◌^◌, ◌<◌, ◌≤◌, ◌==◌, Bool, true, false, if◌then◌else◌, List, [], ◌++◌, refl, sym, ap, ◌∙◌, subst, arith, append-nil, ne_eqb}
+use Rattle.std.proofs.Common.{◌≡◌, ℕ, zero, suc, ◌+◌, ◌-◌, ◌*◌, ◌/◌, ◌%◌, ◌^◌, ◌<◌, ◌≤◌, ◌==◌, ◌⊎◌, inl, inr, Bool, true, false, ◌&&◌, if◌then◌else◌, List, [], ◌∷◌, ◌++◌, refl, sym, ap, ◌∙◌, subst, arith, append-nil, ne_eqb}
+use Rattle.std.specs.Prelude.{nat_le}
+use Rattle.std.proofs.Math.Arith.{digits_div, digits_mod}
+use Rattle.std.proofs.lemmas.Bool.{cases_lt, leb-true, leb-false, eqb-true, eqb-false}
 use Rattle.patmos_instr.specs.Bundles.{Slots}
 use Rattle.patmos_instr.specs.declared.functions.AluFunc.TheVariants as alu
 use Rattle.patmos_instr.specs.declared.functions.CmpFunc.TheVariants as cmp
@@ -10,25 +13,27 @@ use Rattle.patmos_instr.specs.declared.instructions.Op.TheVariants.{AluImm, AluR
 use Rattle.patmos_sem.specs.Operations.{has_bit}
 use Rattle.patmos_sem.specs.declared.writes.Write.TheVariants as write
 use Rattle.tc_word.specs.Word.{quotient, rest, quotient_unsigned, rest_unsigned}
-use Rattle.sp_shape.proofs.Whole.{run_append}
+use Rattle.sp_shape.proofs.Whole.{once_whole, run_whole, run_append}
 use Rattle.sp_shape.specs.Run.{Run, Sources, once, run, IsWhole}
 use Rattle.sp_shape.specs.Trail.{Step, all_done, copies, parts_trail}
-use Rattle.sp_emit.specs.Division.{operands, without_signs, digit_tail, quotient_to, rest_to, signed_quotient_to, signed_rest_to, around, unsigned_division, signed_division}
+use Rattle.sp_emit.specs.Division.{operands, without_signs, highest_bit, digit_tail, is_large, large_quotient, large_rest, quotient_to, rest_to, unsigned_quotient_to, unsigned_rest_to, signed_quotient_to, signed_rest_to, around, unsigned_division, signed_division}
 use Rattle.sp_emit.specs.Holding.{held}
-use Rattle.sp_emit.specs.Instructions.{always, where_so, set_short, copy, compute, compare_short, combine}
-use Rattle.sp_emit.specs.declared.registers.TheConstants.{DIVIDEND, DIVISOR, REMAINDER, DIGITS, TEST, REST_NEGATIVE, QUOTIENT_NEGATIVE}
+use Rattle.sp_emit.specs.Instructions.{always, where_so, set_short, copy, with_short, compute, compare, compare_short, combine}
+use Rattle.sp_emit.specs.declared.registers.TheConstants.{DIVIDEND, DIVISOR, REMAINDER, DIGITS, TEST, SECOND, REST_NEGATIVE, QUOTIENT_NEGATIVE}
 use Rattle.sp_emit.proofs.Digits.{turned, divides_words, divides_by_zero, quotient_word, rest_word}
-use Rattle.sp_emit.proofs.Dividing.{Signs, Divides, digits_done}
-use Rattle.sp_emit.proofs.Leaving.{did_compare_short, did_combine, did_set_short}
-use Rattle.sp_emit.proofs.Once.{so, with_written, did_write, did_nothing, whole_written, held_written, so_written, got, kept, so_by_register}
-use Rattle.sp_emit.proofs.Signs.{signed, size_of, differ, size_word, signed_quotient, signed_rest}
+use Rattle.sp_emit.proofs.Calm.{calm_run}
+use Rattle.sp_emit.proofs.Dividing.{Signs, Divides, still_divides, written_where, run_before, digits_done}
+use Rattle.sp_emit.proofs.Leaving.{did_compare, did_compare_short, did_combine, did_set_short}
+use Rattle.sp_emit.proofs.Once.{so, with_written, did_write, did_nothing, whole_written, held_written, so_written, got, kept, so_got, so_by_register}
+use Rattle.sp_emit.proofs.Signs.{signed, size_of, differ, size_word, size_most, signed_quotient, signed_rest}
+use Rattle.sp_emit.proofs.Untouched.{register, predicate, left_once, left_run}
 
 -- ---- before the digits
 
 pub did_copy : (from : Sources) (rd ra : ℕ) (m : Run) → IsWhole m → once from (copy rd ra) m ≡ with_written (write.Register rd ((held ra m + 0) % 2 ^ 32)) m
 did_copy from rd ra m whole = did_write from always (AluImm imm.Add rd ra 0) m whole whole.fits.always refl refl
 
-word_copied : (a : ℕ) → a < 2 ^ 32 → (a + 0) % 2 ^ 32 ≡ a
+pub word_copied : (a : ℕ) → a < 2 ^ 32 → (a + 0) % 2 ^ 32 ≡ a
 word_copied a word = omega (arith, word)
 
 -- the operands stand in their registers, and nothing is left so far; the predicates of the signs are as they were
@@ -45,11 +50,11 @@ starts from ra rb a b m whole few is_a is_b word_a word_b =
     let w3 = write.Register REMAINDER 0 in
     let m3 = with_written w3 m2 in
     let h3 = whole_written w3 m2 h2 in
-    let w4 = write.Register DIGITS 32 in
+    let w4 = write.Register DIGITS 16 in
     let steps : run from (all_done (operands ra rb)) m ≡ with_written w4 m3 =
-    ap (λ t. once from (set_short always DIGITS 32) (once from (set_short always REMAINDER 0) (once from (copy DIVISOR rb) t))) (did_copy from DIVIDEND ra m whole)
-    ∙ ap (λ t. once from (set_short always DIGITS 32) (once from (set_short always REMAINDER 0) t)) (did_copy from DIVISOR rb m1 h1)
-    ∙ ap (once from (set_short always DIGITS 32)) (did_set_short from always REMAINDER 0 m2 h2 h2.fits.always) ∙ did_set_short from always DIGITS 32 m3 h3 h3.fits.always in
+    ap (λ t. once from (set_short always DIGITS 16) (once from (set_short always REMAINDER 0) (once from (copy DIVISOR rb) t))) (did_copy from DIVIDEND ra m whole)
+    ∙ ap (λ t. once from (set_short always DIGITS 16) (once from (set_short always REMAINDER 0) t)) (did_copy from DIVISOR rb m1 h1)
+    ∙ ap (once from (set_short always DIGITS 16)) (did_set_short from always REMAINDER 0 m2 h2 h2.fits.always) ∙ did_set_short from always DIGITS 16 m3 h3 h3.fits.always in
     let b1 : held rb m1 ≡ b = kept DIVIDEND v rb m whole (omega (arith, few)) (λ same. absurd (omega (arith, same, few))) ∙ is_b in
     let d1 = held_written w1 DIVIDEND m whole (omega arith) ∙ ap (λ n. (n + 0) % 2 ^ 32) is_a ∙ word_copied a word_a in
     let d2 = held_written w2 DIVISOR m1 h1 (omega arith) ∙ ap (λ n. (n + 0) % 2 ^ 32) b1 ∙ word_copied b word_b in
@@ -65,13 +70,13 @@ starts from ra rb a b m whole few is_a is_b word_a word_b =
 -- ---- signs
 
 -- a register is negated where a predicate says so, and all other registers and predicates are as they were
-record Negated (r : ℕ) (on : Bool) (m t : Run) : Type 0 where
-  whole : IsWhole t
-  value : held r t ≡ signed on (held r m)
-  others : (x : ℕ) → x < 32 → (r ≡ x → ⊥) → held x t ≡ held x m
-  preds : (p : ℕ) → p < 8 → so p t ≡ so p m
+pub record Negated (r : ℕ) (on : Bool) (m t : Run) : Type 0 where
+  pub whole : IsWhole t
+  pub value : held r t ≡ signed on (held r m)
+  pub others : (x : ℕ) → x < 32 → (r ≡ x → ⊥) → held x t ≡ held x m
+  pub preds : (p : ℕ) → p < 8 → so p t ≡ so p m
 
-negates : (from : Sources) (p r : ℕ) (on : Bool) (m : Run) → IsWhole m → 1 ≤ r → r < 32 → so p m ≡ on → Negated r on m (once from (compute (where_so p) alu.Sub r 0 r) m)
+pub negates : (from : Sources) (p r : ℕ) (on : Bool) (m : Run) → IsWhole m → 1 ≤ r → r < 32 → so p m ≡ on → Negated r on m (once from (compute (where_so p) alu.Sub r 0 r) m)
 negates from p r true m whole some few on =
     let v = (held 0 m + (2 ^ 32 - held r m)) % 2 ^ 32 in
     subst (Negated r true m) (sym (did_write from (where_so p) (AluReg alu.Sub r 0 r) m whole on refl refl)) (record {
@@ -170,44 +175,234 @@ quotient_given from signs q r b rd m d some few word =
     })
     by t false off g = subst (Given signs rd q) (sym (did_nothing from (where_so TEST) (AluImm imm.Add rd 0 0) t g.whole off)) g
 
+-- ---- large divisors
+
+-- whether a divisor is large and goes into the dividend
+abbrev large_goes : ℕ → ℕ → Bool
+large_goes a b = nat_le b a && has_bit b 31
+
+record Large (signs : Signs) (q r a b ra : ℕ) (m : Run) : Type 0 where
+  divides : Divides signs q r b m
+  dividend : held ra m ≡ a
+  large : so SECOND m ≡ has_bit b 31
+  goes : so TEST m ≡ large_goes a b
+
+tests_large : (from : Sources) (signs : Signs) (q r a b ra : ℕ) (m : Run) → Divides signs q r b m → ra < 32 → held ra m ≡ a → Large signs q r a b ra (run from (all_done (is_large ra)) m)
+tests_large from signs q r a b ra m d few is_a =
+    let b1 = compare_short cmp.Btest SECOND DIVISOR 31 in
+    let b2 = compare cmp.Ule TEST DIVISOR ra in
+    let b3 = combine comb.Pand TEST TEST SECOND in
+    let m1 = once from b1 m in
+    let h1 = once_whole from b1 m d.whole in
+    let m2 = once from b2 m1 in
+    let h2 = once_whole from b2 m1 h1 in
+    let large_1 : so SECOND m1 ≡ has_bit b 31 =
+    ap (so SECOND) (did_compare_short from cmp.Btest SECOND DIVISOR 31 m d.whole) ∙ so_got SECOND _ m d.whole (omega arith) (omega arith) ∙ ap (λ n. has_bit n 31) d.divisor_is in
+    let goes_2 : so TEST m2 ≡ nat_le b a =
+    ap (so TEST) (did_compare from cmp.Ule TEST DIVISOR ra m1 h1) ∙ so_got TEST _ m1 h1 (omega arith) (omega arith)
+    ∙ ap (λ n. nat_le n (held ra m1)) (left_once from (register DIVISOR) b1 m (omega arith) d.whole refl ∙ d.divisor_is)
+    ∙ ap (nat_le b) (left_once from (register ra) b1 m few d.whole refl ∙ is_a) in
+    let large_2 = left_once from (predicate SECOND) b2 m1 (omega arith) h1 refl ∙ large_1 in
+    record {
+      divides = still_divides from signs q r b (is_large ra) m refl d;
+      dividend = left_run from (register ra) (is_large ra) m few d.whole refl ∙ is_a;
+      large = left_once from (predicate SECOND) b3 m2 (omega arith) h2 refl ∙ large_2;
+      goes = ap (so TEST) (did_combine from comb.Pand TEST TEST SECOND m2 h2) ∙ so_got TEST _ m2 h2 (omega arith) (omega arith)
+          ∙ ap (λ x. x && so SECOND m2) goes_2 ∙ ap (λ x. nat_le b a && x) large_2;
+    }
+
+-- the quotient is set, and what is left
+abbrev with_large : ℕ → ℕ → ℕ → ℕ
+with_large a b q = if large_goes a b then 1 else (if has_bit b 31 then 0 else q)
+
+sets_quotient : (from : Sources) (signs : Signs) (q r a b ra : ℕ) (m : Run) → Divides signs q r b m → ra < 32 → held ra m ≡ a → Divides signs (with_large a b q) r b (run from (all_done (large_quotient ra)) m)
+sets_quotient from signs q r a b ra m d few is_a =
+    let t = run from (all_done (is_large ra)) m in
+    let x = tests_large from signs q r a b ra m d few is_a in
+    let e = x.divides in
+    let zero = set_short (where_so SECOND) DIVIDEND 0 in
+    let one = set_short (where_so TEST) DIVIDEND 1 in
+    let t1 = once from zero t in
+    let h1 = once_whole from zero t e.whole in
+    let zeroed : held DIVIDEND t1 ≡ (if has_bit b 31 then 0 else q) =
+    written_where from SECOND DIVIDEND _ (AluImm imm.Add DIVIDEND 0 0) t e.whole (omega arith) (omega arith) refl refl refl
+    ∙ ap (λ on. if on then (held 0 t + 0) % 2 ^ 32 else held DIVIDEND t) x.large
+    ∙ ap (λ z. if has_bit b 31 then (z + 0) % 2 ^ 32 else held DIVIDEND t) e.whole.fits.zero
+    ∙ ap (λ n. if has_bit b 31 then 0 else n) e.dividend_is in
+    let goes_1 = left_once from (predicate TEST) zero t (omega arith) e.whole refl ∙ x.goes in
+    let both = zero ∷ one ∷ [] in
+    record {
+      whole = run_whole from (all_done both) t e.whole;
+      rest_negative = left_run from (predicate REST_NEGATIVE) both t (omega arith) e.whole refl ∙ e.rest_negative;
+      quotient_negative = left_run from (predicate QUOTIENT_NEGATIVE) both t (omega arith) e.whole refl ∙ e.quotient_negative;
+      dividend_is = written_where from TEST DIVIDEND _ (AluImm imm.Add DIVIDEND 0 1) t1 h1 (omega arith) (omega arith) refl refl refl
+          ∙ ap (λ on. if on then (held 0 t1 + 1) % 2 ^ 32 else held DIVIDEND t1) goes_1
+          ∙ ap (λ z. if large_goes a b then (z + 1) % 2 ^ 32 else held DIVIDEND t1) h1.fits.zero
+          ∙ ap (λ n. if large_goes a b then 1 else n) zeroed;
+      rest_is = left_run from (register REMAINDER) both t (omega arith) e.whole refl ∙ e.rest_is;
+      divisor_is = left_run from (register DIVISOR) both t (omega arith) e.whole refl ∙ e.divisor_is;
+    }
+
+abbrev left_by_large : ℕ → ℕ → ℕ → ℕ
+left_by_large a b r = if large_goes a b then ((if has_bit b 31 then a else r) + (2 ^ 32 - b)) % 2 ^ 32 else (if has_bit b 31 then a else r)
+
+sets_rest : (from : Sources) (signs : Signs) (q r a b ra : ℕ) (m : Run) → Divides signs q r b m → ra < 32 → held ra m ≡ a → a < 2 ^ 32 → Divides signs q (left_by_large a b r) b (run from (all_done (large_rest ra)) m)
+sets_rest from signs q r a b ra m d few is_a word =
+    let t = run from (all_done (is_large ra)) m in
+    let x = tests_large from signs q r a b ra m d few is_a in
+    let e = x.divides in
+    let all = with_short (where_so SECOND) imm.Add REMAINDER ra 0 in
+    let off = compute (where_so TEST) alu.Sub REMAINDER REMAINDER DIVISOR in
+    let t1 = once from all t in
+    let h1 = once_whole from all t e.whole in
+    let big = has_bit b 31 in
+    let taken : held REMAINDER t1 ≡ (if big then a else r) =
+    written_where from SECOND REMAINDER _ (AluImm imm.Add REMAINDER ra 0) t e.whole (omega arith) (omega arith) refl refl refl
+    ∙ ap (λ on. if on then (held ra t + 0) % 2 ^ 32 else held REMAINDER t) x.large
+    ∙ ap (λ n. if big then n else held REMAINDER t) (ap (λ n. (n + 0) % 2 ^ 32) x.dividend ∙ word_copied a word)
+    ∙ ap (λ n. if big then a else n) e.rest_is in
+    let goes_1 = left_once from (predicate TEST) all t (omega arith) e.whole refl ∙ x.goes in
+    let divisor_1 = left_once from (register DIVISOR) all t (omega arith) e.whole refl ∙ e.divisor_is in
+    let both = all ∷ off ∷ [] in
+    record {
+      whole = run_whole from (all_done both) t e.whole;
+      rest_negative = left_run from (predicate REST_NEGATIVE) both t (omega arith) e.whole refl ∙ e.rest_negative;
+      quotient_negative = left_run from (predicate QUOTIENT_NEGATIVE) both t (omega arith) e.whole refl ∙ e.quotient_negative;
+      dividend_is = left_run from (register DIVIDEND) both t (omega arith) e.whole refl ∙ e.dividend_is;
+      rest_is = written_where from TEST REMAINDER _ (AluReg alu.Sub REMAINDER REMAINDER DIVISOR) t1 h1 (omega arith) (omega arith) refl refl refl
+          ∙ ap (λ on. if on then (held REMAINDER t1 + (2 ^ 32 - held DIVISOR t1)) % 2 ^ 32 else held REMAINDER t1) goes_1
+          ∙ ap (λ n. if large_goes a b then (n + (2 ^ 32 - held DIVISOR t1)) % 2 ^ 32 else n) taken
+          ∙ ap (λ n. if large_goes a b then ((if big then a else r) + (2 ^ 32 - n)) % 2 ^ 32 else (if big then a else r)) divisor_1;
+      divisor_is = left_run from (register DIVISOR) both t (omega arith) e.whole refl ∙ e.divisor_is;
+    }
+
+-- what they come to
+large_bit : (b : ℕ) → b < 2 ^ 32 → has_bit b 31 ≡ true → 2 ^ 31 ≤ b
+large_bit b word on = omega (arith, eqb-true (b / 2 ^ 31 % 2) 1 on, word)
+
+small_bit : (b : ℕ) → b < 2 ^ 32 → has_bit b 31 ≡ false → b < 2 ^ 31
+small_bit b word off = by (cases_lt b (2 ^ 31))
+  where
+    by : (b < 2 ^ 31) ⊎ (2 ^ 31 ≤ b) → b < 2 ^ 31
+    by (inl less) = less
+    by (inr more) = absurd (eqb-false (b / 2 ^ 31 % 2) 1 off (omega (arith, more, word)))
+
+-- the result of a division of words, and that it is a word
+record Comes (v w : ℕ) (b : ℕ) : Type 0 where
+  word : v < 2 ^ 32
+  is : 0 < b → v ≡ w
+
+large_quotient_is : (a b q : ℕ) → a < 2 ^ 32 → b < 2 ^ 32 → (b ≤ 2 ^ 31 → q < 2 ^ 32) → (b ≤ 2 ^ 31 → 0 < b → q ≡ a / b) → Comes (with_large a b q) (a / b) b
+large_quotient_is a b q word_a word_b word_q is_q = by (has_bit b 31) refl (nat_le b a) refl
+  where
+    by : (big : Bool) → has_bit b 31 ≡ big → (le : Bool) → nat_le b a ≡ le → Comes (if le && big then 1 else (if big then 0 else q)) (a / b) b
+    by true on true le =
+        let much = large_bit b word_b on in
+        let within = leb-true b a le in
+        let lt : a - b < b = omega (arith, much, word_a, within) in
+        let whole : 1 * b + (a - b) ≡ a = omega (arith, within) in
+        record { word = omega arith; is = λ some. sym (digits_div 1 lt) ∙ ap (λ n. n / b) whole }
+    by true on false past =
+        let lt : a < b = leb-false b a past in
+        let whole : 0 * b + a ≡ a = omega arith in
+        record { word = omega arith; is = λ some. sym (digits_div 0 lt) ∙ ap (λ n. n / b) whole }
+    by false off true le = let low = small_bit b word_b off in record { word = word_q (omega (arith, low)); is = is_q (omega (arith, low)) }
+    by false off false past = let low = small_bit b word_b off in record { word = word_q (omega (arith, low)); is = is_q (omega (arith, low)) }
+
+large_rest_is : (a b r : ℕ) → a < 2 ^ 32 → b < 2 ^ 32 → (b ≤ 2 ^ 31 → r < 2 ^ 32) → (b ≤ 2 ^ 31 → 0 < b → r ≡ a % b) → Comes (left_by_large a b r) (a % b) b
+large_rest_is a b r word_a word_b word_r is_r = by (has_bit b 31) refl (nat_le b a) refl
+  where
+    by : (big : Bool) → has_bit b 31 ≡ big → (le : Bool) → nat_le b a ≡ le → Comes (if le && big then ((if big then a else r) + (2 ^ 32 - b)) % 2 ^ 32 else (if big then a else r)) (a % b) b
+    by true on true le =
+        let much = large_bit b word_b on in
+        let within = leb-true b a le in
+        let lt : a - b < b = omega (arith, much, word_a, within) in
+        let less : (a + (2 ^ 32 - b)) % 2 ^ 32 ≡ a - b = omega (arith, within, word_a, word_b) in
+        let whole : 1 * b + (a - b) ≡ a = omega (arith, within) in
+        record { word = omega (arith, less, word_a); is = λ some. less ∙ sym (digits_mod 1 lt) ∙ ap (λ n. n % b) whole }
+    by true on false past =
+        let lt : a < b = leb-false b a past in
+        let whole : 0 * b + a ≡ a = omega arith in
+        record { word = word_a; is = λ some. sym (digits_mod 0 lt) ∙ ap (λ n. n % b) whole }
+    by false off true le = let low = small_bit b word_b off in record { word = word_r (omega (arith, low)); is = is_r (omega (arith, low)) }
+    by false off false past = let low = small_bit b word_b off in record { word = word_r (omega (arith, low)); is = is_r (omega (arith, low)) }
+
 -- ---- the whole
 
 run_around : (from : Sources) (f : ℕ → List Step) (before behind : List Slots) (m : Run)
-    → run from (parts_trail f (around before behind)) m ≡ run from (all_done behind) (run from (copies 32 (all_done digit_tail)) (run from (all_done before) m))
+    → run from (parts_trail f (around before behind)) m ≡ run from (all_done behind) (run from (copies 16 (all_done digit_tail)) (once from highest_bit (run from (all_done before) m)))
 run_around from f before behind m =
-    run_append from (all_done before) (copies 32 (all_done digit_tail) ++ (all_done behind ++ [])) m
-    ∙ run_append from (copies 32 (all_done digit_tail)) (all_done behind ++ []) (run from (all_done before) m)
-    ∙ ap (λ steps. run from steps (run from (copies 32 (all_done digit_tail)) (run from (all_done before) m))) (append-nil (all_done behind))
+    let first = all_done (before ++ highest_bit ∷ []) in
+    run_append from first (copies 16 (all_done digit_tail) ++ (all_done behind ++ [])) m
+    ∙ run_append from (copies 16 (all_done digit_tail)) (all_done behind ++ []) (run from first m)
+    ∙ ap (λ steps. run from steps (run from (copies 16 (all_done digit_tail)) (run from first m))) (append-nil (all_done behind))
+    ∙ ap (λ t. run from (all_done behind) (run from (copies 16 (all_done digit_tail)) t)) (run_before from before m)
 
-unsigned_divided : (from : Sources) (ra rb a b : ℕ) (m : Run) → IsWhole m → rb < 27 → held ra m ≡ a → held rb m ≡ b → a < 2 ^ 32 → b < 2 ^ 32
-    → Divides (record { rest = so REST_NEGATIVE m; quotient = so QUOTIENT_NEGATIVE m }) (turned 32 b (a, 0)).0 (turned 32 b (a, 0)).1 b (run from (copies 32 (all_done digit_tail)) (run from (all_done (operands ra rb)) m))
-unsigned_divided from ra rb a b m whole few is_a is_b word_a word_b = digits_done from _ 32 a 0 b (run from (all_done (operands ra rb)) m) (starts from ra rb a b m whole few is_a is_b word_a word_b)
+-- after the digits of unsigned words: the dividend still stands in its register
+record UnsignedDivided (a b ra : ℕ) (m t : Run) : Type 0 where
+  divides : Divides (record { rest = so REST_NEGATIVE m; quotient = so QUOTIENT_NEGATIVE m }) (turned 32 b (a, 0)).0 (turned 32 b (a, 0)).1 b t
+  dividend : held ra t ≡ a
 
-quotient_is : (a b : ℕ) → a < 2 ^ 32 → b < 2 ^ 32 → (if b == 0 then 0 else (turned 32 b (a, 0)).0) ≡ (if b == 0 then 0 else a / b)
-quotient_is a zero word_a word_b = refl
-quotient_is a (suc b) word_a word_b = ap (λ n. if suc b == 0 then 0 else n) (divides_words a (suc b) word_a word_b (omega arith)).0
+unsigned_divided : (from : Sources) (ra rb a b : ℕ) (m : Run) → IsWhole m → ra < 27 → rb < 27 → held ra m ≡ a → held rb m ≡ b → a < 2 ^ 32 → b < 2 ^ 32
+    → UnsignedDivided a b ra m (run from (copies 16 (all_done digit_tail)) (once from highest_bit (run from (all_done (operands ra rb)) m)))
+unsigned_divided from ra rb a b m whole low few is_a is_b word_a word_b =
+    let before = operands ra rb ++ highest_bit ∷ [] in
+    let n = run from (all_done before) m in
+    let k1 = calm_run from 27 0 (all_done before) m (omega arith) whole refl in
+    let k2 = calm_run from 27 0 (copies 16 (all_done digit_tail)) n (omega arith) k1.whole refl in
+    record {
+      divides = digits_done from _ a b (run from (all_done (operands ra rb)) m) (starts from ra rb a b m whole few is_a is_b word_a word_b);
+      dividend = k2.low ra low ∙ k1.low ra low ∙ is_a;
+    }
 
-rest_is : (a b : ℕ) → a < 2 ^ 32 → b < 2 ^ 32 → (turned 32 b (a, 0)).1 ≡ (if b == 0 then a else a % b)
-rest_is a zero word_a word_b = divides_by_zero a word_a
-rest_is a (suc b) word_a word_b = (divides_words a (suc b) word_a word_b (omega arith)).1 ∙ ap (λ on. if on then a else a % suc b) (sym (ne_eqb (suc b) 0 (omega arith)))
+-- by 0 too
+unsigned_is : (v w b : ℕ) → Comes v w b → (if b == 0 then 0 else v) ≡ (if b == 0 then 0 else w)
+unsigned_is v w zero c = refl
+unsigned_is v w (suc b) c = ap (λ n. if suc b == 0 then 0 else n) (c.is (omega arith))
 
-pub unsigned_quotient_left : (from : Sources) (f : ℕ → List Step) (rd ra rb a b : ℕ) (m : Run) → IsWhole m → 1 ≤ rd → rd < 32 → rb < 27 → held ra m ≡ a → held rb m ≡ b → a < 2 ^ 32 → b < 2 ^ 32
-    → held rd (run from (parts_trail f (unsigned_division (quotient_to rd) ra rb)) m) ≡ quotient_unsigned a b
-unsigned_quotient_left from f rd ra rb a b m whole some few low is_a is_b word_a word_b =
-    ap (held rd) (run_around from f (operands ra rb) (quotient_to rd) m)
-    ∙ (quotient_given from _ _ _ b rd _ (unsigned_divided from ra rb a b m whole low is_a is_b word_a word_b) some few (quotient_word a b word_a word_b)).value ∙ quotient_is a b word_a word_b
+pub unsigned_quotient_left : (from : Sources) (f : ℕ → List Step) (rd ra rb a b : ℕ) (m : Run) → IsWhole m → 1 ≤ rd → rd < 32 → ra < 27 → rb < 27 → held ra m ≡ a → held rb m ≡ b → a < 2 ^ 32 → b < 2 ^ 32
+    → held rd (run from (parts_trail f (unsigned_division (unsigned_quotient_to rd ra) ra rb)) m) ≡ quotient_unsigned a b
+unfolding unsigned_quotient_to
+unsigned_quotient_left from f rd ra rb a b m whole some few low_a low is_a is_b word_a word_b =
+    let u = unsigned_divided from ra rb a b m whole low_a low is_a is_b word_a word_b in
+    let c = large_quotient_is a b (turned 32 b (a, 0)).0 word_a word_b (λ low_b. quotient_word a b word_a low_b) (λ low_b some_b. (divides_words a b word_a low_b some_b).0) in
+    ap (held rd) (run_around from f (operands ra rb) (unsigned_quotient_to rd ra) m)
+    ∙ (quotient_given from _ _ _ b rd _ (sets_quotient from _ _ _ a b ra _ u.divides (omega (arith, low_a)) u.dividend) some few c.word).value ∙ unsigned_is _ (a / b) b c
 
-pub unsigned_rest_left : (from : Sources) (f : ℕ → List Step) (rd ra rb a b : ℕ) (m : Run) → IsWhole m → 1 ≤ rd → rd < 32 → rb < 27 → held ra m ≡ a → held rb m ≡ b → a < 2 ^ 32 → b < 2 ^ 32
-    → held rd (run from (parts_trail f (unsigned_division (rest_to rd) ra rb)) m) ≡ rest_unsigned a b
-unsigned_rest_left from f rd ra rb a b m whole some few low is_a is_b word_a word_b =
-    ap (held rd) (run_around from f (operands ra rb) (rest_to rd) m)
-    ∙ (rest_given from _ _ _ b rd _ (unsigned_divided from ra rb a b m whole low is_a is_b word_a word_b) some few (rest_word a b word_a word_b)).value ∙ rest_is a b word_a word_b
+rest_left : (a b r v : ℕ) → v ≡ left_by_large a b r → (b ≡ 0 → r ≡ a) → Comes v (a % b) b → v ≡ rest_unsigned a b
+rest_left a zero r v is none c = is ∙ by (nat_le 0 a)
+  where
+    by : (le : Bool) → (if le && false then (r + (2 ^ 32 - 0)) % 2 ^ 32 else r) ≡ a
+    by true = none refl
+    by false = none refl
+rest_left a (suc b) r v is none c = c.is (omega arith) ∙ ap (λ on. if on then a else a % suc b) (sym (ne_eqb (suc b) 0 (omega arith)))
+
+-- what is left by 0 is all
+left_by_zero : (a b : ℕ) → a < 2 ^ 32 → b ≡ 0 → (turned 32 b (a, 0)).1 ≡ a
+left_by_zero a b word none = ap (λ n. (turned 32 n (a, 0)).1) none ∙ divides_by_zero a word
+
+pub unsigned_rest_left : (from : Sources) (f : ℕ → List Step) (rd ra rb a b : ℕ) (m : Run) → IsWhole m → 1 ≤ rd → rd < 32 → ra < 27 → rb < 27 → held ra m ≡ a → held rb m ≡ b → a < 2 ^ 32 → b < 2 ^ 32
+    → held rd (run from (parts_trail f (unsigned_division (unsigned_rest_to rd ra) ra rb)) m) ≡ rest_unsigned a b
+unsigned_rest_left from f rd ra rb a b m whole some few low_a low is_a is_b word_a word_b =
+    let u = unsigned_divided from ra rb a b m whole low_a low is_a is_b word_a word_b in
+    let c = large_rest_is a b (turned 32 b (a, 0)).1 word_a word_b (λ low_b. rest_word a b word_a low_b) (λ low_b some_b. (divides_words a b word_a low_b some_b).1) in
+    ap (held rd) (run_around from f (operands ra rb) (unsigned_rest_to rd ra) m)
+    ∙ (rest_given from _ _ _ b rd _ (sets_rest from _ _ _ a b ra _ u.divides (omega (arith, low_a)) u.dividend word_a) some few c.word).value ∙ rest_left a b (turned 32 b (a, 0)).1 _ refl (left_by_zero a b word_a) c
+
+-- signed words without their signs are at most 2^31
+quotient_is : (a b : ℕ) → a < 2 ^ 32 → b ≤ 2 ^ 31 → (if b == 0 then 0 else (turned 32 b (a, 0)).0) ≡ (if b == 0 then 0 else a / b)
+quotient_is a zero word_a low_b = refl
+quotient_is a (suc b) word_a low_b = ap (λ n. if suc b == 0 then 0 else n) (divides_words a (suc b) word_a low_b (omega arith)).0
+
+rest_is : (a b : ℕ) → a < 2 ^ 32 → b ≤ 2 ^ 31 → (turned 32 b (a, 0)).1 ≡ (if b == 0 then a else a % b)
+rest_is a zero word_a low_b = divides_by_zero a word_a
+rest_is a (suc b) word_a low_b = (divides_words a (suc b) word_a low_b (omega arith)).1 ∙ ap (λ on. if on then a else a % suc b) (sym (ne_eqb (suc b) 0 (omega arith)))
 
 signed_divided : (from : Sources) (ra rb a b : ℕ) (m : Run) → IsWhole m → rb < 27 → held ra m ≡ a → held rb m ≡ b → a < 2 ^ 32 → b < 2 ^ 32
     → Divides (record { rest = has_bit a 31; quotient = differ (has_bit a 31) (has_bit b 31) }) (turned 32 (size_of b) (size_of a, 0)).0 (turned 32 (size_of b) (size_of a, 0)).1 (size_of b)
-    (run from (copies 32 (all_done digit_tail)) (run from (all_done (operands ra rb ++ without_signs)) m))
+    (run from (copies 16 (all_done digit_tail)) (once from highest_bit (run from (all_done (operands ra rb ++ without_signs)) m)))
 signed_divided from ra rb a b m whole few is_a is_b word_a word_b =
-    digits_done from _ 32 (size_of a) 0 (size_of b) (run from (all_done (operands ra rb ++ without_signs)) m)
+    digits_done from _ (size_of a) (size_of b) (run from (all_done (operands ra rb ++ without_signs)) m)
     (signs_go from _ a b (run from (all_done (operands ra rb)) m) (starts from ra rb a b m whole few is_a is_b word_a word_b))
 
 pub signed_quotient_left : (from : Sources) (f : ℕ → List Step) (rd ra rb a b : ℕ) (m : Run) → IsWhole m → 1 ≤ rd → rd < 32 → rb < 27 → held ra m ≡ a → held rb m ≡ b → a < 2 ^ 32 → b < 2 ^ 32
@@ -215,17 +410,17 @@ pub signed_quotient_left : (from : Sources) (f : ℕ → List Step) (rd ra rb a 
 signed_quotient_left from f rd ra rb a b m whole some few low is_a is_b word_a word_b =
     let on = differ (has_bit a 31) (has_bit b 31) in
     let g = quotient_given from _ _ _ (size_of b) rd _ (signed_divided from ra rb a b m whole low is_a is_b word_a word_b) some few
-    (quotient_word (size_of a) (size_of b) (size_word a word_a) (size_word b word_b)) in
+    (quotient_word (size_of a) (size_of b) (size_word a word_a) (size_most b word_b)) in
     ap (held rd) (run_around from f (operands ra rb ++ without_signs) (signed_quotient_to rd) m)
     ∙ (negates from QUOTIENT_NEGATIVE rd on _ g.whole some few g.quotient_negative).value ∙ ap (signed on) g.value
-    ∙ ap (signed on) (quotient_is (size_of a) (size_of b) (size_word a word_a) (size_word b word_b)) ∙ sym (signed_quotient a b word_a word_b)
+    ∙ ap (signed on) (quotient_is (size_of a) (size_of b) (size_word a word_a) (size_most b word_b)) ∙ sym (signed_quotient a b word_a word_b)
 
 pub signed_rest_left : (from : Sources) (f : ℕ → List Step) (rd ra rb a b : ℕ) (m : Run) → IsWhole m → 1 ≤ rd → rd < 32 → rb < 27 → held ra m ≡ a → held rb m ≡ b → a < 2 ^ 32 → b < 2 ^ 32
     → held rd (run from (parts_trail f (signed_division (signed_rest_to rd) ra rb)) m) ≡ rest a b
 signed_rest_left from f rd ra rb a b m whole some few low is_a is_b word_a word_b =
     let on = has_bit a 31 in
     let g = rest_given from _ _ _ (size_of b) rd _ (signed_divided from ra rb a b m whole low is_a is_b word_a word_b) some few
-    (rest_word (size_of a) (size_of b) (size_word a word_a) (size_word b word_b)) in
+    (rest_word (size_of a) (size_of b) (size_word a word_a) (size_most b word_b)) in
     ap (held rd) (run_around from f (operands ra rb ++ without_signs) (signed_rest_to rd) m)
     ∙ (negates from REST_NEGATIVE rd on _ g.whole some few g.rest_negative).value ∙ ap (signed on) g.value
-    ∙ ap (signed on) (rest_is (size_of a) (size_of b) (size_word a word_a) (size_word b word_b)) ∙ sym (signed_rest a b word_a word_b)
+    ∙ ap (signed on) (rest_is (size_of a) (size_of b) (size_word a word_a) (size_most b word_b)) ∙ sym (signed_rest a b word_a word_b)

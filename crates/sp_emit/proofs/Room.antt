@@ -15,8 +15,12 @@ use Rattle.sp_shape.specs.Words.{bundles_room, parts_room, bundle_room}
 use Rattle.sp_shape.specs.Parts.{straight, PlainParts, no_part, part, one, joined}
 use Rattle.sp_shape.proofs.Lists.{room_append}
 use Rattle.sp_emit.proofs.Operands.{operand_is}
-use Rattle.sp_emit.specs.Expressions.{unary_code, binary_code, held_code, element_code, number_of, expr_code, operand_code, value_at, immediate_below, is_immediate, address_of}
-use Rattle.sp_emit.specs.Functions.{argument_kept, first_counter, arguments_kept, state_kept, function_rest, function_code}
+use Rattle.sp_emit.proofs.Held.{held_is}
+use Rattle.sp_emit.specs.Division.{unsigned_quotient_to}
+use Rattle.sp_emit.specs.Divisors.{factor_rest_to}
+use Rattle.sp_emit.specs.Expressions.{unary_code, binary_code, held_code, element_code, number_of, expr_code, operand_code, value_at, is_immediate, address_of}
+use Rattle.sp_emit.proofs.Codes.{kept_is, brought_is, taken_is, freed_is}
+use Rattle.sp_emit.specs.Functions.{argument_kept, first_counter, arguments_kept, mask_kept, state_kept, frame_taken, result_given, function_rest, function_code}
 use Rattle.std.specs.Prelude.{◌-◌}
 use Rattle.patmos_instr.specs.declared.guards.Guard.{Guard}
 use Rattle.c_world.specs.declared.region.Region.TheVariants as region
@@ -37,10 +41,12 @@ unary_room : (op : SpUnary) (rd ra : ℕ) → bundles_room (unary_code op rd ra)
 unary_room op rd ra = grind arith
 
 binary_room : (op : SpBinary) (rd ra rb : ℕ) → parts_room (binary_code op rd ra rb) ≤ binary_cost op
+unfolding unsigned_quotient_to
 binary_room op rd ra rb = grind arith
 
 held_room : (op : SpBinary) (rd ra n : ℕ) → bundles_room (held_code op rd ra n) ≤ binary_cost op
-held_room op rd ra n = grind arith
+unfolding factor_rest_to
+held_room op rd ra n = held_is (λ bs. bundles_room bs ≤ binary_cost op) op rd ra n (grind arith) (grind arith)
 
 read_words : (homes rd slot : ℕ) → bundle_room (read_word homes rd slot) ≤ 2
 read_words homes rd slot = read_is (λ b. bundle_room b ≤ 2) homes rd slot (omega arith) (omega arith)
@@ -55,7 +61,7 @@ set_words : (homes : ℕ) (g : Guard) (slot rs : ℕ) → bundle_room (set_word 
 set_words homes g slot rs = set_op_is (λ op. bundle_room (under g op) ≤ 1) homes slot rs (omega arith) (omega arith)
 
 -- what the cost counts as held by an instruction is
-held_counted : (op : SpBinary) (n words : ℕ) → (if nat_lt n (immediate_below op) then 0 else words) ≤ (if nat_lt n (held_below op) then 0 else words)
+held_counted : (op : SpBinary) (n words : ℕ) → (if is_immediate op (constant n) then 0 else words) ≤ (if nat_lt n (held_below op) then 0 else words)
 held_counted op n words = grind (arith, nat_tests)
 
 operand_counted : (op : SpBinary) (b : PlainSp) (words : ℕ) → (if is_immediate op b then 0 else words) ≤ (if is_held op b then 0 else words)
@@ -193,12 +199,15 @@ function_room homes fs n f h before =
     let few = and_parts (nat_le f.parameters 6) _ a.1 in
     omega (
       arith,
+      taken_is (λ bs. bundles_room bs ≤ 1) homes f (omega arith) (omega arith),
+      kept_is (λ bs. bundles_room (mask_kept homes f ++ bs) ≤ 6) f (λ has. omega (arith, set_words homes always f.mask MASK)) (omega (arith, set_words homes always f.mask MASK)),
+      brought_is (λ bs. bundles_room (bs ++ result_given homes f) ≤ 10) f (λ has. omega (arith, freed_is (λ bs. bundles_room bs ≤ 1) homes f (omega arith) (omega arith), read_words homes RESULT f.result))
+          (omega (arith, freed_is (λ bs. bundles_room bs ≤ 1) homes f (omega arith) (omega arith), read_words homes RESULT f.result)),
+      room_append (frame_taken homes f) (words_cleared homes (tree.slots_of f) ++ (arguments_kept homes f.parameters ++ state_kept homes f)),
       leb-true f.parameters 6 few.0,
       before,
       kept_room homes f.parameters,
       (cleared_room homes (tree.slots_of f)).least,
-      set_words homes always f.mask MASK,
-      read_words homes RESULT f.result,
       room_append (words_cleared homes (tree.slots_of f)) (arguments_kept homes f.parameters ++ state_kept homes f),
       room_append (arguments_kept homes f.parameters) (state_kept homes f),
       room_both (stmts_code homes f.frame (first_counter f) f.body) (function_rest homes f),

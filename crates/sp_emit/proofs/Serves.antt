@@ -8,22 +8,22 @@ use Rattle.sp_tree.specs.Formed.{args_formed, result_formed, callee_formed, stmt
 use Rattle.sp_tree.specs.Plain.{PlainSp}
 use Rattle.sp_tree.specs.Statements.{PlainFunction, no_function, calls}
 use Rattle.sp_tree.specs.Straight.{State, Given, Serves, stmts_done, begun_frame, function_given, serves}
-use Rattle.patmos_instr.specs.declared.functions.StackFunc.TheVariants.{Sres}
 use Rattle.sp_shape.proofs.Whole.{run_append}
 use Rattle.sp_shape.specs.Parts.{no_part, joined}
-use Rattle.sp_emit.specs.Instructions.{stack_op}
-use Rattle.sp_shape.specs.Run.{Run, Sources, by_words, once, run}
+use Rattle.sp_shape.specs.Run.{Run, Sources, by_words, run, IsWhole}
 use Rattle.sp_shape.specs.Trail.{Step, all_done, parts_trail, trails}
 use Rattle.sp_shape.proofs.Lists.{done_append}
-use Rattle.sp_emit.specs.Functions.{arguments_kept, state_kept, function_begin, function_end, function_rest, function_code, first_counter, return_tail}
-use Rattle.sp_emit.specs.Means.{Follows, HasStmtConstants, HasStmtsConstants, HasConstants}
+use Rattle.sp_emit.specs.Functions.{arguments_kept, state_kept, needs_none, frame_taken, function_begin, function_end, function_rest, function_code, first_counter, return_tail}
+use Rattle.sp_emit.specs.Means.{Follows, KeepsBehind, HasStmtConstants, HasStmtsConstants, HasConstants}
 use Rattle.sp_emit.specs.declared.registers.TheConstants.{OVERRUN}
 use Rattle.sp_emit.specs.Serving.{CalledWith}
 use Rattle.sp_emit.specs.Functions.{codes}
+use Rattle.sp_emit.specs.Chains.{stmts_call}
 use Rattle.sp_emit.specs.Places.{words_cleared, homes_over, homes_of, tops, top_of, stmt_least}
 use Rattle.sp_emit.proofs.Codes.{codes_at, tops_at}
 use Rattle.sp_emit.specs.Statements.{stmts_code}
-use Rattle.sp_emit.proofs.Beginning.{begins_frame}
+use Rattle.sp_emit.proofs.Bare.{needs_parts, calls_need, bare_body, outside}
+use Rattle.sp_emit.proofs.Beginning.{words_taken, taken_few, begins_frame}
 use Rattle.sp_emit.proofs.Calling.{Returns, ServedBy, call_is_done}
 use Rattle.sp_emit.proofs.Entering.{enters}
 use Rattle.sp_emit.proofs.Frames.{put_word}
@@ -60,14 +60,20 @@ parts_of_function fs number f formed =
       room = omega (arith, mask);
     }
 
+-- one that calls others takes its whole frame
+pub whole_frame : (homes : ℕ) (f : PlainFunction) → stmts_call f.body ≡ true → f.frame ≤ words_taken (needs_none homes f) f.frame
+whole_frame homes f has = let same = ap (λ b. words_taken b f.frame) (calls_need homes f has) in omega (arith, same)
+
 -- what a function begins with, piece by piece
 pub begin_run : (homes : ℕ) (from : Sources) (f : PlainFunction) (m : Run) → run from (all_done (function_begin homes f)) m
-    ≡ run from (all_done (state_kept homes f)) (run from (all_done (arguments_kept homes f.parameters)) (run from (all_done (words_cleared homes (slots_of f))) (once from (stack_op Sres f.frame) m)))
+    ≡ run from (all_done (state_kept homes f)) (run from (all_done (arguments_kept homes f.parameters)) (run from (all_done (words_cleared homes (slots_of f))) (run from (all_done (frame_taken homes f)) m)))
 begin_run homes from f m =
-    let t0 = once from (stack_op Sres f.frame) m in
+    let t0 = run from (all_done (frame_taken homes f)) m in
     let c = run from (all_done (words_cleared homes (slots_of f))) t0 in
     let rest = arguments_kept homes f.parameters ++ state_kept homes f in
-    ap (λ steps. run from steps t0) (done_append (words_cleared homes (slots_of f)) rest)
+    ap (λ steps. run from steps m) (done_append (frame_taken homes f) (words_cleared homes (slots_of f) ++ rest))
+    ∙ run_append from (all_done (frame_taken homes f)) (all_done (words_cleared homes (slots_of f) ++ rest)) m
+    ∙ ap (λ steps. run from steps t0) (done_append (words_cleared homes (slots_of f)) rest)
     ∙ run_append from (all_done (words_cleared homes (slots_of f))) (all_done rest) t0
     ∙ ap (λ steps. run from steps c) (done_append (arguments_kept homes f.parameters) (state_kept homes f))
     ∙ run_append from (all_done (arguments_kept homes f.parameters)) (all_done (state_kept homes f)) c
@@ -76,15 +82,16 @@ begin_run homes from f m =
 pub function_run : (homes : ℕ) (from : Sources) (code : ℕ → List Step) (f : PlainFunction) (m : Run)
     → run from (parts_trail code (function_code homes f)) m
     ≡ run from (all_done return_tail) (run from (all_done (function_end homes f)) (run from (parts_trail code (stmts_code homes f.frame (first_counter f) f.body))
-    (run from (all_done (state_kept homes f)) (run from (all_done (arguments_kept homes f.parameters)) (run from (all_done (words_cleared homes (slots_of f))) (once from (stack_op Sres f.frame) m))))))
+    (run from (all_done (state_kept homes f)) (run from (all_done (arguments_kept homes f.parameters)) (run from (all_done (words_cleared homes (slots_of f))) (run from (all_done (frame_taken homes f)) m))))))
 function_run homes from code f m =
-    let t0 = once from (stack_op Sres f.frame) m in
+    let t0 = run from (all_done (frame_taken homes f)) m in
     let body = stmts_code homes f.frame (first_counter f) f.body in
     let rest = parts_trail code (joined body (function_rest homes f)) in
     let c = run from (all_done (words_cleared homes (slots_of f))) t0 in
     run_append from (all_done (function_begin homes f)) rest m
     ∙ ap (run from rest) (begin_run homes from f m)
     ∙ run_joined from code body (function_rest homes f) (run from (all_done (state_kept homes f)) (run from (all_done (arguments_kept homes f.parameters)) c))
+    ∙ run_append from (all_done (function_end homes f)) (all_done return_tail) (run from (parts_trail code body) (run from (all_done (state_kept homes f)) (run from (all_done (arguments_kept homes f.parameters)) c)))
 
 -- a function over what the earlier ones do
 pub function_serves : (homes : ℕ) (tops : List ℕ) (code : ℕ → List Step) (g : Serves) (fs : List PlainFunction) (number low : ℕ) (f : PlainFunction) → function_formed fs number f ≡ true → HasStmtsConstants f.body → homes_over tops f ≤ homes
@@ -93,10 +100,14 @@ pub function_serves : (homes : ℕ) (tops : List ℕ) (code : ℕ → List Step)
 function_serves homes tops code g fs number low f formed constants least others mask args w m count enough x =
     let p = parts_of_function fs number f formed in
     let slots = slots_of f in
-    let t1 = run by_words (all_done (arguments_kept homes f.parameters)) (run by_words (all_done (words_cleared homes slots)) (once by_words (stack_op Sres f.frame) m)) in
-    let taken = begins_frame homes f.frame slots f.parameters args m x.carries.whole count (omega (arith, least)) (omega (arith, p.before_mask, p.mask)) p.parameters (omega (arith, p.room)) p.frame (omega (arith, p.frame, enough)) x.given x.arg_words in
+    let t1 = run by_words (all_done (arguments_kept homes f.parameters)) (run by_words (all_done (words_cleared homes slots)) (run by_words (all_done (frame_taken homes f)) m)) in
+    let none = needs_none homes f in
+    let n = words_taken none f.frame in
+    let few = taken_few none f.frame in
+    let out = outside homes f (omega (arith, p.room)) none refl in
+    let taken = begins_frame homes f.frame slots f.parameters none args m x.carries.whole count (omega (arith, least)) (omega (arith, p.before_mask, p.mask)) p.parameters out (omega (arith, p.room, p.frame)) (omega (arith, p.frame, enough)) x.given x.arg_words in
     let t2 = run by_words (all_done (state_kept homes f)) t1 in
-    let e = enters homes slots f.frame f.mask mask (slice_index args) w m t1 (omega (arith, least)) (omega (arith, p.room)) p.frame (omega (arith, p.frame, enough)) p.mask x.masked x.mask_word x.carries taken in
+    let e = enters homes slots n f.frame f.mask mask (stmts_call f.body) (slice_index args) w m t1 (omega (arith, least)) (omega (arith, p.room)) p.frame (omega (arith, few, p.frame, enough)) (λ has. whole_frame homes f has) out p.mask x.masked x.mask_word x.carries taken in
     let s : State = record { frame = begun_frame f mask args; world = w } in
     let y : Follows homes slots s t2 = record {
       whole = e.carries.whole;
@@ -105,10 +116,10 @@ function_serves homes tops code g fs number low f formed constants least others 
       flag = e.carries.flag;
     } in
     let d = stmts_run homes tops code g fs number f.frame slots (first_counter f) low others (omega (arith, p.room, p.frame)) (omega (arith, p.room, p.frame, p.mask)) (omega (arith, p.room, p.mask)) f.body (omega (arith, p.room, p.mask)) p.body constants (omega (arith, least)) s t2
-    (omega (arith, e.st, enough, p.frame)) y in
+    (omega (arith, e.st, few, enough, p.frame)) y in
     let t3 = run by_words (parts_trail code (stmts_code homes f.frame (first_counter f) f.body)) t2 in
     let z = stmts_done g f.body s in
-    let r = returns_value homes z.world f.frame (f.frame - 2) (f.frame - 1) f.result (z.frame f.result) t3 (record { whole = d.follows.whole; has = d.follows.shows.world; words = d.follows.words.world; flag = d.follows.flag })
+    let r = returns_value homes z.world f.frame (f.frame - 2) (f.frame - 1) none f.result (z.frame f.result) (stmts_call f.body) t3 (record { whole = d.follows.whole; has = d.follows.shows.world; words = d.follows.words.world; flag = d.follows.flag })
     (omega (arith, least)) (omega (arith, p.result, p.room, p.frame)) (d.follows.shows.frame f.result p.result) (d.follows.words.frame f.result p.result) in
     subst (Returns (homes + slots) (function_given g f mask args w) m) (sym (function_run homes by_words code f m)) (record {
       answers = record {
@@ -116,11 +127,21 @@ function_serves homes tops code g fs number low f formed constants least others 
         value = r.value;
         flagged = r.flagged;
         value_word = d.follows.words.frame f.result p.result;
-        st = omega (arith, r.st, d.keeps.st, e.st, enough, p.frame);
-        stack = λ a above. ap (λ words. words a) r.stack ∙ d.keeps.stack a (omega (arith, e.st, above, p.frame, p.room, enough)) ∙ e.behind a above;
+        st = omega (arith, r.st, d.keeps.st, e.st, few, enough, p.frame);
+        stack = λ a above. ap (λ words. words a) r.stack ∙ stands none refl e.carries.whole e.st d.keeps a above ∙ e.behind a above;
       };
       high = λ q from lt. r.high q (omega (arith, from)) lt ∙ d.keeps.high q from lt ∙ e.high q from lt;
     })
+  where
+    -- its body leaves the stack of its callers
+    stands : {t : Run} (b : Bool) → needs_none homes f ≡ b → IsWhole t → t.st ≡ m.st - words_taken (needs_none homes f) f.frame → KeepsBehind (homes + slots_of f) (first_counter f + 1) t (run by_words (parts_trail code (stmts_code homes f.frame (first_counter f) f.body)) t)
+        → (a : ℕ) → m.st ≤ a → (run by_words (parts_trail code (stmts_code homes f.frame (first_counter f) f.body)) t).stack a ≡ t.stack a
+    stands {t} true none whole st keeps a above =
+        let p = parts_of_function fs number f formed in
+        (bare_body homes by_words code fs number f p.body (needs_parts homes f none) t whole).keeps.stack a (omega (arith, st, above))
+    stands {t} false some whole st keeps a above =
+        let p = parts_of_function fs number f formed in
+        keeps.stack a (let same = ap (λ b. words_taken b f.frame) some in omega (arith, st, same, above, p.frame, p.room, p.mask, enough))
 
 -- ---- all of them, in order
 

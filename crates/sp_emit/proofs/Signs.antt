@@ -84,7 +84,43 @@ signed_rest a (suc b) word_a word_b =
     ∙ rests a (suc b) (read_of a word_a) (read_of (suc b) word_b)
     ∙ ap (λ on. signed (has_bit a 31) (if on then size_of a else size_of a % size_of (suc b))) (sym (size_some (suc b) word_b (omega arith)))
 
+-- ---- by a number without a sign
+
+record Plain (n : ℕ) : Type 0 where
+  off : has_bit n 31 ≡ false
+  other : (n == 0) ≡ false
+
+plain_of : (n : ℕ) → 1 ≤ n → n < 2 ^ 31 → Plain n
+plain_of n some small = record { off = ne_eqb (n / 2 ^ 31 % 2) 1 (omega (arith, small)); other = ne_eqb n 0 (omega (arith, some)) }
+
+differ_not : (on : Bool) → differ on false ≡ on
+differ_not true = refl
+differ_not false = refl
+
+pub signed_quotient_by : (a n : ℕ) → a < 2 ^ 32 → 1 ≤ n → n < 2 ^ 31 → quotient a n ≡ signed (has_bit a 31) (size_of a / n)
+signed_quotient_by a n word some small =
+    let p = plain_of n some small in
+    signed_quotient a n word (omega (arith, small))
+    ∙ ap (λ b. signed (differ (has_bit a 31) b) (if signed b n == 0 then 0 else size_of a / signed b n)) p.off
+    ∙ ap (λ b. signed (differ (has_bit a 31) false) (if b then 0 else size_of a / n)) p.other
+    ∙ ap (λ b. signed b (size_of a / n)) (differ_not (has_bit a 31))
+
+pub signed_rest_by : (a n : ℕ) → a < 2 ^ 32 → 1 ≤ n → n < 2 ^ 31 → rest a n ≡ signed (has_bit a 31) (size_of a % n)
+signed_rest_by a n word some small =
+    let p = plain_of n some small in
+    signed_rest a n word (omega (arith, small))
+    ∙ ap (λ b. signed (has_bit a 31) (if signed b n == 0 then size_of a else size_of a % signed b n)) p.off
+    ∙ ap (λ b. signed (has_bit a 31) (if b then size_of a else size_of a % n)) p.other
+
 -- ---- results are words
+
+-- the greatest word without its sign is that of the least number
+pub size_most : (a : ℕ) → a < 2 ^ 32 → size_of a ≤ 2 ^ 31
+size_most a word = by (read_of a word)
+  where
+    by : Read a → size_of a ≤ 2 ^ 31
+    by (plain less off read) = subst (λ n. n ≤ 2 ^ 31) (sym (ap (λ on. signed on a) off)) (omega (arith, less))
+    by (minus k is small on read negated) = subst (λ n. n ≤ 2 ^ 31) (sym (ap (λ b. signed b a) on ∙ negated)) small
 
 pub signed_word : (on : Bool) (a : ℕ) → a < 2 ^ 32 → signed on a < 2 ^ 32
 signed_word true a word = mod-lt (0 + (2 ^ 32 - a)) (lit< tt)

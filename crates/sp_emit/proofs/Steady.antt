@@ -1,113 +1,135 @@
--- Where compiled code may have a transaction with main memory, its instruction is always done.
-use Rattle.std.proofs.Common.{◌≡◌, ℕ, zero, suc, ◌-◌, true, List, refl, arith, Option, None, Some, ◌++◌, ◌+◌}
-use Rattle.std.specs.Prelude.{◌&&◌}
+-- Where compiled code may have a transaction with main memory, its instruction is always done; and each bundle of
+-- statements is one instruction, which sets no special register and takes no words of the stack.
+use Rattle.std.proofs.Common.{◌≡◌, ℕ, ◌-◌, true, false, List, refl, arith, Option, None, Some}
+use Rattle.std.specs.Prelude.{Bool, ◌&&◌}
 use Rattle.std.specs.List.{list_all}
-use Rattle.std.proofs.lemmas.Bool.{and_from}
+use Rattle.std.proofs.lemmas.Bool.{and_parts, and_from}
 use Rattle.patmos_instr.specs.Bundles.{Slots}
+use Rattle.patmos_instr.specs.declared.functions.StackFunc.TheVariants.{Sres}
+use Rattle.patmos_instr.specs.declared.instructions.Op.{Op}
+use Rattle.patmos_instr.specs.declared.instructions.Op.TheVariants.{Stack}
+use Rattle.sp_emit.specs.Chains.{takes_at_most}
 use Rattle.c_world.specs.declared.region.Region.{Region}
 use Rattle.sp_tree.specs.Plain.{PlainSp}
 use Rattle.sp_tree.specs.Statements.{PlainSpTarget, to_slot, to_cell, to_array, PlainStmt, masks, writes, calls, transfers, overruns, turns, PlainStmts, no_stmt, stmt, PlainFunction}
 use Rattle.sp_shape.specs.Bundles.{is_steady, parts_all}
 use Rattle.sp_shape.specs.Parts.{straight, PlainParts, one, joined}
-use Rattle.sp_shape.proofs.Lists.{all_append}
 use Rattle.sp_emit.specs.Expressions.{expr_code, address_of}
-use Rattle.sp_emit.specs.Functions.{argument_kept, first_counter, arguments_kept, state_kept, function_begin, function_rest, function_code}
+use Rattle.sp_emit.specs.Functions.{first_counter, function_begin, function_end, function_rest, function_code}
 use Rattle.patmos_instr.specs.declared.guards.Guard.{Guard}
-use Rattle.sp_tree.specs.Formed.{slots_of}
 use Rattle.sp_emit.specs.Instructions.{always, where_so, under, set_number}
-use Rattle.sp_emit.specs.Places.{read_word, set_word, words_cleared, fetch_word}
+use Rattle.sp_emit.specs.Places.{read_word, set_word, fetch_word}
 use Rattle.sp_emit.specs.declared.registers.TheConstants.{RESULT, MASK, FIRST, TEST, SPARE}
-use Rattle.sp_emit.proofs.WordPlaces.{read_is, set_op_is, cleared_all, fetch_is}
+use Rattle.sp_emit.proofs.WordPlaces.{read_is, set_op_is, fetch_is}
 use Rattle.sp_emit.specs.Statements.{cell_write, element_write, target_write, args_code, call_code, send_code, overrun_code, slot_set, stmt_code, stmts_code}
 use Rattle.sp_emit.proofs.Quiet.{each_joined, each_lone, each_so, is_quiet, expr_quiet, args_quiet}
+use Rattle.sp_emit.proofs.Around.{begin_all, end_all}
+use Rattle.sp_emit.proofs.Homing.{keeps_place}
 use Rattle.sp_emit.proofs.Numbers.{number_op_is}
 
-abbrev Steady : PlainParts → Type 0
-Steady parts = parts_all is_steady parts ≡ true
+-- an instruction that takes no words of the stack
+abbrev takes_none : Op → Bool
+takes_none (Stack Sres count) = false
+takes_none _ = true
 
-abbrev AreSteady : List Slots → Type 0
-AreSteady bs = list_all is_steady bs ≡ true
+-- such a bundle is one instruction, which sets no special register and takes no words of the stack
+abbrev pub is_firm : Slots → Bool
+is_firm b = is_steady b && (keeps_place b && takes_none b.first.op)
 
-both : (a b : PlainParts) → Steady a → Steady b → Steady (joined a b)
-both = each_joined is_steady
+abbrev Firm : PlainParts → Type 0
+Firm parts = parts_all is_firm parts ≡ true
+
+abbrev AreFirm : List Slots → Type 0
+AreFirm bs = list_all is_firm bs ≡ true
+
+both : (a b : PlainParts) → Firm a → Firm b → Firm (joined a b)
+both = each_joined is_firm
 
 -- ---- expressions
 
-steady_quiet : (b : Slots) → is_quiet b ≡ true → is_steady b ≡ true
-steady_quiet b quiet = grind (arith, quiet)
+firm_quiet : (b : Slots) → is_quiet b ≡ true → is_firm b ≡ true
+firm_quiet b quiet = grind (arith, quiet)
 
-expr_steady : (homes : ℕ) (e : PlainSp) (rd : ℕ) → Steady (expr_code homes e rd)
-expr_steady homes e rd = each_so is_quiet is_steady steady_quiet (expr_code homes e rd) (expr_quiet homes e rd)
+expr_firm : (homes : ℕ) (e : PlainSp) (rd : ℕ) → Firm (expr_code homes e rd)
+expr_firm homes e rd = each_so is_quiet is_firm firm_quiet (expr_code homes e rd) (expr_quiet homes e rd)
 
-args_steady : (homes : ℕ) (args : List PlainSp) (rd : ℕ) → Steady (args_code homes args rd)
-args_steady homes args rd = each_so is_quiet is_steady steady_quiet (args_code homes args rd) (args_quiet homes args rd)
+args_firm : (homes : ℕ) (args : List PlainSp) (rd : ℕ) → Firm (args_code homes args rd)
+args_firm homes args rd = each_so is_quiet is_firm firm_quiet (args_code homes args rd) (args_quiet homes args rd)
 
 -- ---- statements
 
-read_steady : (homes rd slot : ℕ) → is_steady (read_word homes rd slot) ≡ true
-read_steady homes rd slot = read_is (λ b. is_steady b ≡ true) homes rd slot refl refl
+read_firm : (homes rd slot : ℕ) → is_firm (read_word homes rd slot) ≡ true
+read_firm homes rd slot = read_is (λ b. is_firm b ≡ true) homes rd slot refl refl
 
-fetch_steady : (homes slot : ℕ) → is_steady (fetch_word homes slot) ≡ true
-fetch_steady homes slot = fetch_is (λ b. is_steady b ≡ true) homes slot refl refl
+fetch_firm : (homes slot : ℕ) → is_firm (fetch_word homes slot) ≡ true
+fetch_firm homes slot = fetch_is (λ b. is_firm b ≡ true) homes slot refl refl
 
-number_steady : (rd n : ℕ) → is_steady (set_number rd n) ≡ true
-number_steady rd n = number_op_is (λ op. is_steady (under always op) ≡ true) rd n refl refl
+number_firm : (rd n : ℕ) → is_firm (set_number rd n) ≡ true
+number_firm rd n = number_op_is (λ op. is_firm (under always op) ≡ true) rd n refl refl
 
 -- a word of the stack or a register, under a guard
-set_steady : (homes : ℕ) (g : Guard) (slot rs : ℕ) → is_steady (set_word homes g slot rs) ≡ true
-set_steady homes g slot rs = set_op_is (λ op. is_steady (under g op) ≡ true) homes slot rs refl refl
+set_firm : (homes : ℕ) (g : Guard) (slot rs : ℕ) → is_firm (set_word homes g slot rs) ≡ true
+set_firm homes g slot rs = set_op_is (λ op. is_firm (under g op) ≡ true) homes slot rs refl refl
 
-cell_write_steady : (homes : ℕ) (mask : ℕ) (r : Region) (word : ℕ) → AreSteady (cell_write homes mask (record { region = r; word = word }))
-cell_write_steady homes mask r word =
-    let read = fetch_steady homes mask in
-    let address = number_steady SPARE (address_of r word) in
+cell_write_firm : (homes : ℕ) (mask : ℕ) (r : Region) (word : ℕ) → AreFirm (cell_write homes mask (record { region = r; word = word }))
+cell_write_firm homes mask r word =
+    let read = fetch_firm homes mask in
+    let address = number_firm SPARE (address_of r word) in
     grind (arith, read, address)
 
-element_write_steady : (homes : ℕ) (mask : ℕ) (r : Region) (first length : ℕ) → AreSteady (element_write homes mask (record { region = r; first = first; length = length }))
-element_write_steady homes mask r first length =
-    let read = fetch_steady homes mask in
-    let size = number_steady SPARE length in
-    let address = number_steady SPARE (address_of r first) in
+element_write_firm : (homes : ℕ) (mask : ℕ) (r : Region) (first length : ℕ) → AreFirm (element_write homes mask (record { region = r; first = first; length = length }))
+element_write_firm homes mask r first length =
+    let read = fetch_firm homes mask in
+    let size = number_firm SPARE length in
+    let address = number_firm SPARE (address_of r first) in
     grind (arith, read, size, address)
 
-target_steady : (homes : ℕ) (mask : ℕ) (target : PlainSpTarget) → Steady (target_write homes mask target)
-target_steady homes mask (to_slot slot) = rw (fetch_steady homes mask, set_steady homes (where_so TEST) slot FIRST) refl
-target_steady homes mask (to_cell cell) = each_lone is_steady (cell_write homes mask cell) (cell_write_steady homes mask cell.region cell.word)
-target_steady homes mask (to_array array index) = both (expr_code homes index 4) (one (straight (element_write homes mask array))) (expr_steady homes index 4)
-    (each_lone is_steady (element_write homes mask array) (element_write_steady homes mask array.region array.first array.length))
+target_firm : (homes : ℕ) (mask : ℕ) (target : PlainSpTarget) → Firm (target_write homes mask target)
+target_firm homes mask (to_slot slot) = rw (fetch_firm homes mask, set_firm homes (where_so TEST) slot FIRST) refl
+target_firm homes mask (to_cell cell) = each_lone is_firm (cell_write homes mask cell) (cell_write_firm homes mask cell.region cell.word)
+target_firm homes mask (to_array array index) = both (expr_code homes index 4) (one (straight (element_write homes mask array))) (expr_firm homes index 4)
+    (each_lone is_firm (element_write homes mask array) (element_write_firm homes mask array.region array.first array.length))
 
-call_steady : (homes : ℕ) (frame mask k : ℕ) (result : Option ℕ) → Steady (call_code homes frame mask k result)
-call_steady homes frame mask k None = rw (read_steady homes MASK mask) refl
-call_steady homes frame mask k (Some slot) = rw (read_steady homes MASK mask, fetch_steady homes mask, set_steady homes (where_so TEST) slot RESULT) refl
+call_firm : (homes : ℕ) (frame mask k : ℕ) (result : Option ℕ) → Firm (call_code homes frame mask k result)
+call_firm homes frame mask k None = rw (read_firm homes MASK mask) refl
+call_firm homes frame mask k (Some slot) = rw (read_firm homes MASK mask, fetch_firm homes mask, set_firm homes (where_so TEST) slot RESULT) refl
 
 mutual
-  stmt_steady : (homes : ℕ) (frame counter : ℕ) (t : PlainStmt) → Steady (stmt_code homes frame counter t)
-  stmt_steady homes frame counter (masks slot e) = both (expr_code homes e 3) (slot_set homes slot) (expr_steady homes e 3) (rw (set_steady homes always slot FIRST) refl)
-  stmt_steady homes frame counter (writes mask target e) = both (expr_code homes e 3) (target_write homes mask target) (expr_steady homes e 3) (target_steady homes mask target)
-  stmt_steady homes frame counter (calls mask k args result) = both (args_code homes args 3) (call_code homes frame mask k result) (args_steady homes args 3) (call_steady homes frame mask k result)
-  stmt_steady homes frame counter (transfers mask core source target count) =
+  stmt_firm : (homes : ℕ) (frame counter : ℕ) (t : PlainStmt) → Firm (stmt_code homes frame counter t)
+  stmt_firm homes frame counter (masks slot e) = both (expr_code homes e 3) (slot_set homes slot) (expr_firm homes e 3) (rw (set_firm homes always slot FIRST) refl)
+  stmt_firm homes frame counter (writes mask target e) = both (expr_code homes e 3) (target_write homes mask target) (expr_firm homes e 3) (target_firm homes mask target)
+  stmt_firm homes frame counter (calls mask k args result) = both (args_code homes args 3) (call_code homes frame mask k result) (args_firm homes args 3) (call_firm homes frame mask k result)
+  stmt_firm homes frame counter (transfers mask core source target count) =
       let sent = one (straight (send_code homes mask core)) in
-      both (expr_code homes source 3) (joined (expr_code homes target 4) (joined (expr_code homes count 5) sent)) (expr_steady homes source 3)
-      (both (expr_code homes target 4) (joined (expr_code homes count 5) sent) (expr_steady homes target 4) (both (expr_code homes count 5) sent (expr_steady homes count 5) (rw (fetch_steady homes mask) refl)))
-  stmt_steady homes frame counter (overruns mask e) = both (expr_code homes e 3) (one (straight (overrun_code homes mask))) (expr_steady homes e 3) (rw (fetch_steady homes mask) refl)
-  stmt_steady homes frame counter (turns count body) =
-      let turn = and_from (parts_all is_steady (stmts_code homes frame (counter - 1) body)) true (stmts_steady homes frame (counter - 1) body) refl in
-      and_from (parts_all is_steady (stmts_code homes frame (counter - 1) body) && true) true turn refl
+      both (expr_code homes source 3) (joined (expr_code homes target 4) (joined (expr_code homes count 5) sent)) (expr_firm homes source 3)
+      (both (expr_code homes target 4) (joined (expr_code homes count 5) sent) (expr_firm homes target 4) (both (expr_code homes count 5) sent (expr_firm homes count 5) (rw (fetch_firm homes mask) refl)))
+  stmt_firm homes frame counter (overruns mask e) = both (expr_code homes e 3) (one (straight (overrun_code homes mask))) (expr_firm homes e 3) (rw (fetch_firm homes mask) refl)
+  stmt_firm homes frame counter (turns count body) =
+      let turn = and_from (parts_all is_firm (stmts_code homes frame (counter - 1) body)) true (stmts_firm homes frame (counter - 1) body) refl in
+      and_from (parts_all is_firm (stmts_code homes frame (counter - 1) body) && true) true turn refl
 
-  stmts_steady : (homes : ℕ) (frame counter : ℕ) (ts : PlainStmts) → Steady (stmts_code homes frame counter ts)
-  stmts_steady homes frame counter no_stmt = refl
-  stmts_steady homes frame counter (stmt t rest) =
-      both (stmt_code homes frame counter t) (stmts_code homes frame counter rest) (stmt_steady homes frame counter t) (stmts_steady homes frame counter rest)
+  pub stmts_firm : (homes : ℕ) (frame counter : ℕ) (ts : PlainStmts) → Firm (stmts_code homes frame counter ts)
+  stmts_firm homes frame counter no_stmt = refl
+  stmts_firm homes frame counter (stmt t rest) =
+      both (stmt_code homes frame counter t) (stmts_code homes frame counter rest) (stmt_firm homes frame counter t) (stmts_firm homes frame counter rest)
+
+pub place_firm : (b : Slots) → is_firm b ≡ true → keeps_place b ≡ true
+place_firm b firm = (and_parts (keeps_place b) (takes_none b.first.op) (and_parts (is_steady b) (keeps_place b && takes_none b.first.op) firm).1).0
+
+pub takes_firm : (most : ℕ) (b : Slots) → is_firm b ≡ true → takes_at_most most b ≡ true
+takes_firm most b firm = none b.first.op (and_parts (keeps_place b) (takes_none b.first.op) (and_parts (is_steady b) (keeps_place b && takes_none b.first.op) firm).1).1
+  where
+    none : (op : Op) → takes_none op ≡ true → takes_at_most most (under always op) ≡ true
+    none op taken = grind (arith, taken)
 
 -- ---- functions
 
-kept_steady : (homes : ℕ) (n : ℕ) → AreSteady (arguments_kept homes n)
-kept_steady homes zero = refl
-kept_steady homes (suc n) = all_append is_steady (arguments_kept homes n) (argument_kept homes n) (kept_steady homes n) (rw (set_steady homes always n (FIRST + n)) refl)
+steady_firm : (b : Slots) → is_firm b ≡ true → is_steady b ≡ true
+steady_firm b firm = (and_parts (is_steady b) (keeps_place b && takes_none b.first.op) firm).0
 
-pub function_steady : (homes : ℕ) (f : PlainFunction) → Steady (function_code homes f)
+pub function_steady : (homes : ℕ) (f : PlainFunction) → parts_all is_steady (function_code homes f) ≡ true
 function_steady homes f =
-    and_from (list_all is_steady (function_begin homes f)) (parts_all is_steady (joined (stmts_code homes f.frame (first_counter f) f.body) (function_rest homes f)))
-    (all_append is_steady (words_cleared homes (slots_of f)) (arguments_kept homes f.parameters ++ state_kept homes f) (cleared_all is_steady homes (slots_of f) (λ r. refl))
-    (all_append is_steady (arguments_kept homes f.parameters) (state_kept homes f) (kept_steady homes f.parameters) (rw (set_steady homes always f.mask MASK) refl)))
-    (both (stmts_code homes f.frame (first_counter f) f.body) (function_rest homes f) (stmts_steady homes f.frame (first_counter f) f.body) (rw (read_steady homes RESULT f.result) refl))
+    let body = stmts_code homes f.frame (first_counter f) f.body in
+    and_from (list_all is_steady (function_begin homes f)) (parts_all is_steady (joined body (function_rest homes f))) (begin_all is_steady homes f refl (λ r. refl) (λ slot rs. steady_firm (set_word homes always slot rs) (set_firm homes always slot rs)) refl refl)
+    (each_joined is_steady body (function_rest homes f) (each_so is_firm is_steady steady_firm body (stmts_firm homes f.frame (first_counter f) f.body))
+    (and_from (list_all is_steady (function_end homes f)) true (end_all is_steady homes f refl (steady_firm (read_word homes RESULT f.result) (read_firm homes RESULT f.result)) refl refl) refl))

@@ -12,17 +12,16 @@ use Rattle.sp_tree.specs.Uses.{Use, expr_uses, args_uses, target_uses, stmt_uses
 use Rattle.sp_shape.specs.Bundles.{parts_all}
 use Rattle.sp_shape.specs.Parts.{straight, no_part, one, joined}
 use Rattle.sp_shape.specs.Trail.{Step, all_done, parts_trail, trails, trail}
-use Rattle.sp_shape.proofs.Lists.{all_append}
 use Rattle.sp_emit.specs.Accesses.{AsksOnly}
 use Rattle.sp_emit.specs.Expressions.{expr_code}
-use Rattle.sp_emit.specs.Functions.{arguments_kept, argument_kept, state_kept, first_counter, function_begin, function_end, function_rest, function_code, return_tail, emitted}
+use Rattle.sp_emit.specs.Functions.{first_counter, function_begin, function_end, function_rest, function_code, return_tail, emitted}
 use Rattle.sp_emit.specs.Statements.{slot_write, cell_write, element_write, target_write, args_code, call_code, send_code, overrun_code, slot_set, turns_begin, turns_tail, stmt_code, stmts_code}
 use Rattle.sp_emit.specs.Instructions.{always, where_so}
 use Rattle.sp_emit.specs.declared.registers.TheConstants.{RESULT, MASK, FIRST, TEST}
 use Rattle.sp_emit.proofs.Accessing.{asks_append, asks_nothing, asks_copies, is_near, near_asks, near_parts, near_read, near_set, near_fetch}
-use Rattle.sp_emit.specs.Places.{set_word, words_cleared, homes_of}
-use Rattle.sp_emit.proofs.WordPlaces.{cleared_all}
+use Rattle.sp_emit.specs.Places.{set_word, homes_of}
 use Rattle.sp_emit.specs.Functions.{codes}
+use Rattle.sp_emit.proofs.Around.{begin_all, end_all}
 use Rattle.sp_emit.proofs.Codes.{codes_at, codes_length}
 use Rattle.sp_emit.proofs.Formed.{call_formed}
 use Rattle.sp_emit.proofs.Serves.{parts_of_function, code_of}
@@ -111,18 +110,13 @@ mutual
 
 -- ---- functions
 
-arguments_near : (homes : ℕ) (n : ℕ) → list_all is_near (arguments_kept homes n) ≡ true
-arguments_near homes zero = refl
-arguments_near homes (suc n) = all_append is_near (arguments_kept homes n) (argument_kept homes n) (arguments_near homes n) (rw (near_set homes always n (FIRST + n)) refl)
-
 function_asks : (homes : ℕ) (Named : Use → Type 0) (code : ℕ → List Step) (fs : List PlainFunction) (number : ℕ) (f : PlainFunction) → ((k : ℕ) → k < number → AsksOnly Named (code k)) → functions_formed fs number ≡ true → function_formed fs number f ≡ true
     → AreNamed Named (stmts_uses f.body) → AsksOnly Named (parts_trail code (function_code homes f))
 function_asks homes Named code fs number f called earlier formed named =
     let p = parts_of_function fs number f formed in
-    asks_append (near_asks Named (function_begin homes f) (all_append is_near (words_cleared homes (slots_of f)) (arguments_kept homes f.parameters ++ state_kept homes f) (cleared_all is_near homes (slots_of f) (λ r. refl))
-    (all_append is_near (arguments_kept homes f.parameters) (state_kept homes f) (arguments_near homes f.parameters) (rw (near_set homes always f.mask MASK) refl))))
+    asks_append (near_asks Named (function_begin homes f) (begin_all is_near homes f refl (λ r. refl) (λ slot rs. near_set homes always slot rs) refl refl))
     (asks_joined code (stmts_code homes f.frame (first_counter f) f.body) (function_rest homes f) (stmts_ask homes Named code fs number (slots_of f) f.frame (first_counter f) called earlier (omega (arith, p.room, p.frame)) f.body p.body named)
-    (asks_append (near_asks Named (function_end homes f) (rw (near_read homes RESULT f.result) refl)) (asks_append (near_asks Named return_tail refl) (asks_nothing Named))))
+    (asks_append (near_asks Named (function_end homes f) (end_all is_near homes f refl (near_read homes RESULT f.result) refl refl)) (asks_append (near_asks Named return_tail refl) (asks_nothing Named))))
 
 -- what is said of all uses is said of each function's
 function_named : (Named : Use → Type 0) (fs : List PlainFunction) (k : ℕ) → AreNamed Named (functions_uses fs) → k < length fs → AreNamed Named (stmts_uses (slice_index_or fs k no_function).body)

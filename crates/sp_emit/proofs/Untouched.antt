@@ -14,7 +14,7 @@ use Rattle.sp_shape.specs.Run.{Run, Sources, once, run, IsWhole}
 use Rattle.sp_shape.specs.Trail.{all_done}
 use Rattle.sp_emit.specs.Holding.{held}
 use Rattle.sp_emit.specs.Instructions.{under}
-use Rattle.sp_emit.proofs.Once.{so, with_written, did_write, did_nothing, did_branch, kept, kept_by_pred, so_kept, so_by_register}
+use Rattle.sp_emit.proofs.Once.{so, with_written, did_write, did_nothing, did_multiply, did_branch, kept, kept_by_pred, kept_by_product, so_kept, so_by_register, so_by_product}
 
 -- ---- what an instruction leaves
 
@@ -46,6 +46,9 @@ no_predicate (predicate p) pd = not (pd == p)
 abbrev leaves_op : Operand → Op → Bool
 leaves_op x (AluImm func rd ra imm) = no_register x rd
 leaves_op x (AluReg func rd ra rb) = no_register x rd
+leaves_op x (AluLong func rd ra constant) = no_register x rd
+leaves_op x (Mul unsigned ra rb) = true
+leaves_op x (FromSpecial rd special) = no_register x rd
 leaves_op x (Cmp func pd ra rb) = no_predicate x pd
 leaves_op x (CmpImm func pd ra imm) = no_predicate x pd
 leaves_op x (Comb func pd a b) = no_predicate x pd
@@ -76,19 +79,23 @@ by_predicate : (x : Operand) (pd : ℕ) (b : Bool) (m : Run) → IsThere x → I
 by_predicate (register r) pd b m there whole left = kept_by_pred pd b r m whole there
 by_predicate (predicate p) pd b m there whole left = so_kept pd b p m whole there (apart pd p left)
 
+by_product : (x : Operand) (low high : ℕ) (m : Run) → IsThere x → IsWhole m → Same x m (with_written (write.Product low high) m)
+by_product (register r) low high m there whole = kept_by_product low high r m whole there
+by_product (predicate p) low high m there whole = so_by_product low high p m whole there
+
 -- one whose guard is true
 left_on : (from : Sources) (x : Operand) (g : Guard) (op : Op) (m : Run) → IsThere x → IsWhole m → leaves_op x op ≡ true → holds m.regs g ≡ true → Same x m (once from (under g op) m)
 left_on from x g (AluImm func rd ra imm) m there whole left on = subst (Same x m) (sym (did_write from g (AluImm func rd ra imm) m whole on refl refl)) (by_register x rd _ m there whole left)
 left_on from x g (AluReg func rd ra rb) m there whole left on = subst (Same x m) (sym (did_write from g (AluReg func rd ra rb) m whole on refl refl)) (by_register x rd _ m there whole left)
+left_on from x g (AluLong func rd ra constant) m there whole left on = subst (Same x m) (sym (did_write from g (AluLong func rd ra constant) m whole on refl refl)) (by_register x rd _ m there whole left)
+left_on from x g (FromSpecial rd special) m there whole left on = subst (Same x m) (sym (did_write from g (FromSpecial rd special) m whole on refl refl)) (by_register x rd _ m there whole left)
+left_on from x g (Mul unsigned ra rb) m there whole left on = subst (Same x m) (sym (did_multiply from g unsigned ra rb m whole on)) (by_product x _ _ m there whole)
 left_on from x g (Cmp func pd ra rb) m there whole left on = subst (Same x m) (sym (did_write from g (Cmp func pd ra rb) m whole on refl refl)) (by_predicate x pd _ m there whole left)
 left_on from x g (CmpImm func pd ra imm) m there whole left on = subst (Same x m) (sym (did_write from g (CmpImm func pd ra imm) m whole on refl refl)) (by_predicate x pd _ m there whole left)
 left_on from x g (Comb func pd a b) m there whole left on = subst (Same x m) (sym (did_write from g (Comb func pd a b) m whole on refl refl)) (by_predicate x pd _ m there whole left)
 left_on from (register r) g (Branch offset) m there whole left on = subst (Same (register r) m) (sym (did_branch from g offset m whole on)) refl
 left_on from (predicate p) g (Branch offset) m there whole left on = subst (Same (predicate p) m) (sym (did_branch from g offset m whole on)) refl
-left_on from x g (AluLong func rd ra constant) m there whole left on = absurd (true≢false (sym left))
-left_on from x g (Mul unsigned ra rb) m there whole left on = absurd (true≢false (sym left))
 left_on from x g (ToSpecial special ra) m there whole left on = absurd (true≢false (sym left))
-left_on from x g (FromSpecial rd special) m there whole left on = absurd (true≢false (sym left))
 left_on from x g (Stack func count) m there whole left on = absurd (true≢false (sym left))
 left_on from x g (Load space width rd ra imm) m there whole left on = absurd (true≢false (sym left))
 left_on from x g (Store space width ra rs imm) m there whole left on = absurd (true≢false (sym left))

@@ -30,6 +30,9 @@ use Rattle.sp_shape.specs.Run.{Run, Sources, word_given, once, run, IsWhole}
 use Rattle.sp_shape.specs.Trail.{Step, all_done, parts_trail}
 use Rattle.sp_emit.proofs.Operands.{operand_is}
 use Rattle.sp_emit.specs.Accesses.{IsReadPlace, MayLoad, MayAsk, cached_address, Asks, AsksOnly}
+use Rattle.sp_emit.proofs.Held.{held_is}
+use Rattle.sp_emit.specs.Division.{unsigned_quotient_to}
+use Rattle.sp_emit.specs.Divisors.{factor_rest_to}
 use Rattle.sp_emit.specs.Expressions.{address_of, cell_space, array_space, unary_code, binary_code, held_code, cell_code, element_code, number_of, expr_code, operand_code, value_at, is_immediate}
 use Rattle.sp_emit.specs.Fits.{ExprFits}
 use Rattle.sp_emit.specs.Holding.{held}
@@ -183,9 +186,11 @@ unary_near : (op : SpUnary) (rd ra : ℕ) → list_all is_near (unary_code op rd
 unary_near op rd ra = grind arith
 
 held_near : (op : SpBinary) (rd ra n : ℕ) → list_all is_near (held_code op rd ra n) ≡ true
-held_near op rd ra n = grind arith
+unfolding factor_rest_to
+held_near op rd ra n = held_is (λ bs. list_all is_near bs ≡ true) op rd ra n (grind arith) (grind arith)
 
 binary_near : (op : SpBinary) (rd ra rb : ℕ) → parts_all is_near (binary_code op rd ra rb) ≡ true
+unfolding unsigned_quotient_to
 binary_near op rd ra rb = grind arith
 
 pub asks_joined : {Named : Use → Type 0} (f : ℕ → List Step) (xs ys : PlainParts) → AsksOnly Named (parts_trail f xs) → AsksOnly Named (parts_trail f ys) → AsksOnly Named (parts_trail f (joined xs ys))

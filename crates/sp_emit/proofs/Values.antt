@@ -24,7 +24,8 @@ use Rattle.sp_emit.specs.Means.{HasWords, Shows, IsReady}
 use Rattle.sp_emit.proofs.Calm.{parts_calm, calm_run, parts_trail_calm, keeps_all}
 use Rattle.sp_emit.proofs.CalmCode.{joined_calm, lone_calm, unary_calm, binary_calm, held_calm, constant_calm, slot_calm, cell_calm, element_calm}
 use Rattle.sp_emit.proofs.Elements.{element_leaves}
-use Rattle.sp_emit.proofs.Leaving.{number_leaves, cell_leaves, unary_leaves, held_leaves}
+use Rattle.sp_emit.proofs.Leaving.{number_leaves, cell_leaves, unary_leaves}
+use Rattle.sp_emit.proofs.Held.{held_leaves}
 use Rattle.sp_emit.proofs.Binary.{binary_leaves}
 use Rattle.sp_emit.proofs.Needs.{covers, lesser, greater, some_need, word_named, array_named, index_named, operand_fits, first_fits, second_fits, first_fits_behind, second_fits_behind}
 use Rattle.sp_emit.specs.Places.{read_word}
@@ -169,10 +170,10 @@ second_ready op a b r from t above registers free keeps = record {
 -- ---- what is left, operand by operand
 
 -- the operator, once its operands stand in two registers
-applied : (f : ℕ → List Step) (op : SpBinary) (rd ra rb a b : ℕ) (m : Run) → IsWhole m → 1 ≤ rd → rd < 32 → rb < 27 → a < 2 ^ 32 → b < 2 ^ 32 → held ra m ≡ a → held rb m ≡ b
+applied : (f : ℕ → List Step) (op : SpBinary) (rd ra rb a b : ℕ) (m : Run) → IsWhole m → 1 ≤ rd → rd < 32 → ra < 27 → rb < 27 → a < 2 ^ 32 → b < 2 ^ 32 → held ra m ≡ a → held rb m ≡ b
     → held rd (run by_words (parts_trail f (binary_code op rd ra rb)) m) ≡ binary_value op a b
-applied f op rd ra rb a b m whole some few low wa wb is_a is_b =
-    binary_leaves by_words f op rd ra rb m whole some few low (subst (λ n. n < 2 ^ 32) (sym is_a) wa) (subst (λ n. n < 2 ^ 32) (sym is_b) wb)
+applied f op rd ra rb a b m whole some few low_a low wa wb is_a is_b =
+    binary_leaves by_words f op rd ra rb m whole some few low_a low (subst (λ n. n < 2 ^ 32) (sym is_a) wa) (subst (λ n. n < 2 ^ 32) (sym is_b) wb)
     ∙ ap (λ n. binary_value op n (held rb m)) is_a ∙ ap (binary_value op a) is_b
 
 -- of an expression, wherever it is ready
@@ -230,7 +231,8 @@ both_left : {homes : ℕ} {slots rd : ℕ} {s : State} {m : Run} (f : ℕ → Li
 both_left {homes} {slots} {rd} {s} {m} f op a (constant n) r va vb true less is_it less_is =
     let ready = first_ready op a (constant n) r rd m (omega arith) (first_fits op a (constant n) (fits_of r)).registers (omega (arith, r.free, (covers (nat_lt (need a) 1) (need a) 1).0)) (keeps_all rd homes m r.whole) in
     ap (held rd) (run_joined by_words f (operand_code homes a rd) (one (straight (held_code op rd (value_at homes a rd) n))) m ∙ run_lone by_words f (held_code op rd (value_at homes a rd) n) (operand_behind homes f a rd m))
-    ∙ held_leaves by_words op rd (value_at homes a rd) n (operand_behind homes f a rd m) (operand_keeps f a ready).whole r.some (omega (arith, few_of (between_two op a (constant n)) r)) is_it
+    ∙ held_leaves by_words op rd (value_at homes a rd) n (operand_behind homes f a rd m) (operand_keeps f a ready).whole r.some (omega (arith, few_of (between_two op a (constant n)) r)) (value_low homes rd a (omega (arith, few_of (between_two op a (constant n)) r)))
+    (subst (λ v. v < 2 ^ 32) (sym (operand_left f a ready va)) (value_small a ready)) is_it
     ∙ ap (λ v. binary_value op v n) (operand_left f a ready va)
 both_left f op a (frame_word slot) r va vb true less is_it less_is = absurd (true≢false (sym is_it))
 both_left f op a (cell_word cell) r va vb true less is_it less_is = absurd (true≢false (sym is_it))
@@ -247,7 +249,7 @@ both_left {homes} {slots} {rd} {s} {m} f op a b r va vb false true is_it less_is
     let few = few_of (between_two op a b) r in
     let code = binary_code op rd (value_at homes a (rd + 1)) (value_at homes b rd) in
     ap (held rd) (run_joined by_words f (operand_code homes b rd) (joined (operand_code homes a (rd + 1)) code) m ∙ run_joined by_words f (operand_code homes a (rd + 1)) code n)
-    ∙ applied f op rd (value_at homes a (rd + 1)) (value_at homes b rd) (sp_value s.frame s.world a) (sp_value s.frame s.world b) (operand_behind homes f a (rd + 1) n) keeps_other.whole r.some (omega (arith, few)) (value_low homes rd b (omega (arith, few)))
+    ∙ applied f op rd (value_at homes a (rd + 1)) (value_at homes b rd) (sp_value s.frame s.world a) (sp_value s.frame s.world b) (operand_behind homes f a (rd + 1) n) keeps_other.whole r.some (omega (arith, few)) (value_low homes (rd + 1) a (omega (arith, few))) (value_low homes rd b (omega (arith, few)))
     (value_small a other) (value_small b ready) (operand_left f a other va) (value_stays rd b n (operand_behind homes f a (rd + 1) n) (omega arith) keeps_other ∙ operand_left f b ready vb)
 both_left {homes} {slots} {rd} {s} {m} f op a b r va vb false false is_it less_is =
     let whole_fits = fits_of r in
@@ -259,7 +261,7 @@ both_left {homes} {slots} {rd} {s} {m} f op a b r va vb false false is_it less_i
     let few = few_of (between_two op a b) r in
     let code = binary_code op rd (value_at homes a rd) (value_at homes b (rd + 1)) in
     ap (held rd) (run_joined by_words f (operand_code homes a rd) (joined (operand_code homes b (rd + 1)) code) m ∙ run_joined by_words f (operand_code homes b (rd + 1)) code n)
-    ∙ applied f op rd (value_at homes a rd) (value_at homes b (rd + 1)) (sp_value s.frame s.world a) (sp_value s.frame s.world b) (operand_behind homes f b (rd + 1) n) keeps_other.whole r.some (omega (arith, few)) (value_low homes (rd + 1) b (omega (arith, few)))
+    ∙ applied f op rd (value_at homes a rd) (value_at homes b (rd + 1)) (sp_value s.frame s.world a) (sp_value s.frame s.world b) (operand_behind homes f b (rd + 1) n) keeps_other.whole r.some (omega (arith, few)) (value_low homes rd a (omega (arith, few))) (value_low homes (rd + 1) b (omega (arith, few)))
     (value_small a ready) (value_small b other) (value_stays rd a n (operand_behind homes f b (rd + 1) n) (omega arith) keeps_other ∙ operand_left f a ready va) (operand_left f b other vb)
 
 -- the code of an expression leaves its value in its register

@@ -21,9 +21,17 @@ use Rattle.sp_shape.specs.Run.{Run, IsWhole, Sources, once, run, begun}
 use Rattle.sp_shape.specs.Trail.{Step, all_done, copies, part_trail, parts_trail}
 use Rattle.patmos_instr.specs.declared.guards.Guard.{Guard}
 use Rattle.sp_emit.proofs.Operands.{operand_is}
-use Rattle.sp_emit.specs.Places.{read_word, set_word, fetch_word}
+use Rattle.patmos_instr.specs.declared.functions.ImmFunc.TheVariants as imm
+use Rattle.patmos_instr.specs.declared.instructions.Op.TheVariants.{AluImm, Load, Store}
+use Rattle.patmos_instr.specs.declared.memories.Mem.TheVariants as mem
+use Rattle.patmos_instr.specs.declared.memories.StoreWidth.TheVariants as store
+use Rattle.patmos_instr.specs.declared.memories.Width.TheVariants as load
+use Rattle.sp_emit.specs.Places.{in_register, read_op, read_word, set_op, set_word, fetch_word}
 use Rattle.sp_emit.proofs.WordPlaces.{read_is, set_op_is, fetch_is}
 use Rattle.sp_emit.specs.Chains.{stmt_chain, stmts_chain}
+use Rattle.sp_emit.proofs.Held.{held_is}
+use Rattle.sp_emit.specs.Division.{unsigned_quotient_to}
+use Rattle.sp_emit.specs.Divisors.{factor_rest_to}
 use Rattle.sp_emit.specs.Expressions.{unary_code, binary_code, held_code, cell_code, element_code, number_of, expr_code, operand_code, value_at, is_immediate, address_of}
 use Rattle.sp_emit.specs.Instructions.{always, where_so, under, stack_op, set_number}
 use Rattle.sp_emit.specs.Statements.{slot_write, cell_write, element_write, target_write, args_code, mask_handed, call_tail, result_write, call_code, send_code, overrun_code, slot_set, turns_begin, turns_tail, stmt_code, stmts_code}
@@ -48,10 +56,12 @@ unary_inside : (frame : ℕ) (op : SpUnary) (rd ra : ℕ) → AreInside frame (u
 unary_inside frame op rd ra = grind arith
 
 binary_inside : (frame : ℕ) (op : SpBinary) (rd ra rb : ℕ) → Inside frame (binary_code op rd ra rb)
+unfolding unsigned_quotient_to
 binary_inside frame op rd ra rb = grind arith
 
 held_inside : (frame : ℕ) (op : SpBinary) (rd ra n : ℕ) → AreInside frame (held_code op rd ra n)
-held_inside frame op rd ra n = grind arith
+unfolding factor_rest_to
+held_inside frame op rd ra n = held_is (AreInside frame) op rd ra n (grind arith) (grind arith)
 
 number_inside : (frame rd n : ℕ) → is_inside frame (set_number rd n) ≡ true
 number_inside frame rd n = number_op_is (λ op. is_inside frame (under always op) ≡ true) rd n refl refl
@@ -73,6 +83,23 @@ fetch_inside frame homes slot lt = fetch_is (λ b. is_inside frame b ≡ true) h
 
 pub set_inside : (frame homes : ℕ) (g : Guard) (slot rs : ℕ) → slot < frame → is_inside frame (set_word homes g slot rs) ≡ true
 set_inside frame homes g slot rs lt = set_op_is (λ op. is_inside frame (under g op) ≡ true) homes slot rs refl (rw (lt-ltb slot frame lt) refl)
+
+-- where it stands in the stack, it is one of the frame
+pub read_beside : (frame homes rd slot : ℕ) → (in_register homes slot ≡ false → slot < frame) → is_inside frame (read_word homes rd slot) ≡ true
+unfolding read_op
+read_beside frame homes rd slot out = by (in_register homes slot) refl
+  where
+    by : (b : Bool) → in_register homes slot ≡ b → is_inside frame (under always (if b then AluImm imm.Add rd (homes + slot) 0 else Load mem.S load.Word rd 0 slot)) ≡ true
+    by true is = refl
+    by false is = rw (lt-ltb slot frame (out is)) refl
+
+pub set_within : (frame homes : ℕ) (g : Guard) (slot rs : ℕ) → (in_register homes slot ≡ false → slot < frame) → is_inside frame (set_word homes g slot rs) ≡ true
+unfolding set_op
+set_within frame homes g slot rs out = by (in_register homes slot) refl
+  where
+    by : (b : Bool) → in_register homes slot ≡ b → is_inside frame (under g (if b then AluImm imm.Add (homes + slot) rs 0 else Store mem.S store.Word 0 rs slot)) ≡ true
+    by true is = refl
+    by false is = rw (lt-ltb slot frame (out is)) refl
 
 two_inside : (homes : ℕ) (frame : ℕ) (op : SpBinary) (a b : PlainSp) (rd : ℕ) (held less : Bool) → Inside frame (operand_code homes a rd) → Inside frame (operand_code homes b rd) → Inside frame (operand_code homes a (rd + 1)) → Inside frame (operand_code homes b (rd + 1))
     → Inside frame (if held then joined (operand_code homes a rd) (one (straight (held_code op rd (value_at homes a rd) (number_of b))))
@@ -128,7 +155,7 @@ mutual
   stay_part from f frame (calls_to k tail) is inside m framed = let less = ltb-true k 0 (and_parts (nat_lt k 0) _ is).0 in absurd (omega (arith, less))
   stay_part from f frame (leaves tail) is inside m framed = absurd (true≢false (sym is))
 
-  stay_parts : (from : Sources) (f : ℕ → List Step) (frame : ℕ) (ps : PlainParts) → parts_formed 0 ps ≡ true → parts_all (is_inside frame) ps ≡ true → StaysIn from frame (parts_trail f ps)
+  pub stay_parts : (from : Sources) (f : ℕ → List Step) (frame : ℕ) (ps : PlainParts) → parts_formed 0 ps ≡ true → parts_all (is_inside frame) ps ≡ true → StaysIn from frame (parts_trail f ps)
   stay_parts from f frame no_part is inside m framed = stays_all frame m framed
   stay_parts from f frame (part p rest) is inside m framed =
       let a = and_parts (part_formed 0 p) (parts_formed 0 rest) is in

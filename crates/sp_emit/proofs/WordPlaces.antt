@@ -144,7 +144,7 @@ pub record Sets (homes slot v : ℕ) (m t : Run) : Type 0 where
   pub others : (u : ℕ) → (slot ≡ u → ⊥) → word_of homes u t ≡ word_of homes u m
   pub regs : (r : ℕ) → 1 ≤ r → r < 32 → (homes + slot ≡ r → ⊥) → held r t ≡ held r m
   pub flag : held OVERRUN t ≡ held OVERRUN m
-  pub stack : (a : ℕ) → (m.st + slot ≡ a → ⊥) → t.stack a ≡ m.stack a
+  pub stack : (a : ℕ) → (in_register homes slot ≡ false → m.st + slot ≡ a → ⊥) → t.stack a ≡ m.stack a
 
 pub sets_register : (homes slot v : ℕ) (m : Run) → 1 ≤ homes → IsWhole m → homes + slot < OVERRUN → Sets homes slot v m (with_written (write.Register (homes + slot) v) m)
 unfolding word_of
@@ -179,7 +179,7 @@ sets_stack homes slot v m whole is = record {
   others = λ u apart. word u apart (in_register homes u);
   regs = λ r least few apart. refl;
   flag = refl;
-  stack = λ a apart. put_other (m.st + slot) a v m.stack apart;
+  stack = λ a apart. put_other (m.st + slot) a v m.stack (apart is);
 }
   where
     t : Run

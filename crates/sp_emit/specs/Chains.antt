@@ -1,6 +1,30 @@
--- To be believed. How many words the frames take on a chain of calls.
-use Rattle.std.specs.Prelude.{ℕ, zero, suc, ◌+◌, ◌==◌, max, List, slice_index_or, if◌then◌else◌}
+-- To be believed. What calls: which statements do, and how many words of the stack the frames take, each of its own and
+-- all on a chain of calls.
+use Rattle.std.specs.Prelude.{ℕ, zero, suc, ◌+◌, ◌==◌, max, nat_le, Bool, true, false, ◌||◌, List, slice_index_or, if◌then◌else◌}
+use Rattle.patmos_instr.specs.Bundles.{Slots}
+use Rattle.patmos_instr.specs.declared.functions.StackFunc.TheVariants.{Sres}
+use Rattle.patmos_instr.specs.declared.instructions.Op.{Op}
+use Rattle.patmos_instr.specs.declared.instructions.Op.TheVariants.{Stack}
 use Rattle.sp_tree.specs.Statements.{PlainStmt, calls, turns, PlainStmts, no_stmt, stmt, PlainFunction, no_function}
+
+-- whether statements call a function
+abbrev mutual
+  pub stmt_calls : PlainStmt → Bool
+  stmt_calls (calls mask k args result) = true
+  stmt_calls (turns count body) = stmts_call body
+  stmt_calls _ = false
+
+  pub stmts_call : PlainStmts → Bool
+  stmts_call no_stmt = false
+  stmts_call (stmt t rest) = stmt_calls t || stmts_call rest
+
+-- a bundle of one instruction that takes no more words of the stack than so many
+abbrev takes_op : ℕ → Op → Bool
+takes_op most (Stack Sres count) = nat_le count most
+takes_op most _ = true
+
+abbrev pub takes_at_most : ℕ → Slots → Bool
+takes_at_most most b = takes_op most b.first.op
 
 -- the most that the calls of statements take, over what functions take by their number
 abbrev mutual

@@ -1,5 +1,5 @@
--- To be believed. The code of quotients and remainders: 32 turns of long division in base 2, which take the same
--- bundles whatever the words are (restoring division: Knuth, The Art of Computer Programming, volume 2, 4.3.1).
+-- To be believed. The code of quotients and remainders: long division in base 2, two digits in each of 16 turns, which
+-- take the same bundles whatever the words are (restoring division: Knuth, The Art of Computer Programming, volume 2, 4.3.1).
 use Rattle.std.specs.Prelude.{ℕ, List, [], ◌∷◌, ◌++◌}
 use Rattle.patmos_instr.specs.Bundles.{Slots}
 use Rattle.patmos_instr.specs.declared.functions.AluFunc.TheVariants as alu
@@ -10,9 +10,9 @@ use Rattle.sp_shape.specs.Parts.{PlainPart, straight, repeats, PlainParts, no_pa
 use Rattle.sp_emit.specs.Instructions.{always, where_so, idle, set_short, copy, with_short, compute, compare, compare_short, combine, branch}
 use Rattle.sp_emit.specs.declared.registers.TheConstants.{SPARE, DIVIDEND, DIVISOR, REMAINDER, DIGITS, TEST, SECOND, REST_NEGATIVE, QUOTIENT_NEGATIVE, MORE}
 
--- the operands stand in two registers; nothing is left so far, and 32 digits are to be taken
+-- the operands stand in two registers; nothing is left so far, and 16 turns are to be made
 abbrev pub operands : ℕ → ℕ → List Slots
-operands ra rb = copy DIVIDEND ra ∷ copy DIVISOR rb ∷ set_short always REMAINDER 0 ∷ set_short always DIGITS 32 ∷ []
+operands ra rb = copy DIVIDEND ra ∷ copy DIVISOR rb ∷ set_short always REMAINDER 0 ∷ set_short always DIGITS 16 ∷ []
 
 -- signed words are divided as what they are without their signs
 abbrev pub without_signs : List Slots
@@ -24,29 +24,46 @@ without_signs =
     ∷ combine comb.Pxor QUOTIENT_NEGATIVE REST_NEGATIVE QUOTIENT_NEGATIVE
     ∷ []
 
--- a digit: the highest bit of the dividend goes to what is left; where the divisor then goes into that, it is taken
--- off, and the quotient's digit is 1. What is left may have 33 bits, of which the highest is the second predicate.
--- The digits still to be taken are counted in between: so the bundles stand in pairs, of which the second reads
--- nothing that the first writes, and a pair can be one bundle
+-- the highest bit of the dividend stands apart
+abbrev pub highest_bit : Slots
+highest_bit = with_short always imm.Sr SPARE DIVIDEND 31
+
+-- a digit: the bit that stands apart goes to what is left; where the divisor then goes into that, it is taken off, and
+-- the quotient's digit is 1. The dividend's next bit stands apart then. The bundles stand in pairs, of which the second
+-- reads nothing that the first writes, so a pair can be one bundle
 abbrev pub digit : List Slots
 digit =
-    compare_short cmp.Btest SECOND REMAINDER 31
-    ∷ with_short always imm.Sr SPARE DIVIDEND 31
-    ∷ compute always alu.Shadd REMAINDER REMAINDER SPARE
+    compute always alu.Shadd REMAINDER REMAINDER SPARE
     ∷ compute always alu.Add DIVIDEND DIVIDEND DIVIDEND
     ∷ compare cmp.Ule TEST DIVISOR REMAINDER
-    ∷ with_short always imm.Sub DIGITS DIGITS 1
-    ∷ combine comb.Por TEST TEST SECOND
-    ∷ compare_short cmp.Neq MORE DIGITS 0
+    ∷ highest_bit
     ∷ compute (where_so TEST) alu.Sub REMAINDER REMAINDER DIVISOR
     ∷ with_short (where_so TEST) imm.Add DIVIDEND DIVIDEND 1
     ∷ []
 
+-- a turn is counted, and whether one more comes; it takes two digits
+abbrev pub counted : List Slots
+counted = with_short always imm.Sub DIGITS DIGITS 1 ∷ compare_short cmp.Neq MORE DIGITS 0 ∷ []
+
+abbrev pub digit_turn : List Slots
+digit_turn = counted ++ digit ++ digit
+
 abbrev pub digit_tail : List Slots
-digit_tail = digit ++ branch MORE ∷ idle ∷ idle ∷ []
+digit_tail = digit_turn ++ branch MORE ∷ idle ∷ idle ∷ []
 
 abbrev pub digits : PlainPart
-digits = repeats 32 no_part digit_tail
+digits = repeats 16 no_part digit_tail
+
+-- A divisor from 2^31 on goes into a dividend once or not at all; what is left of so large a divisor may be more than a
+-- word while digits are taken, so its quotient, and what is left, are set afterwards.
+abbrev pub is_large : ℕ → List Slots
+is_large ra = compare_short cmp.Btest SECOND DIVISOR 31 ∷ compare cmp.Ule TEST DIVISOR ra ∷ combine comb.Pand TEST TEST SECOND ∷ []
+
+abbrev pub large_quotient : ℕ → List Slots
+large_quotient ra = is_large ra ++ set_short (where_so SECOND) DIVIDEND 0 ∷ set_short (where_so TEST) DIVIDEND 1 ∷ []
+
+abbrev pub large_rest : ℕ → List Slots
+large_rest ra = is_large ra ++ with_short (where_so SECOND) imm.Add REMAINDER ra 0 ∷ compute (where_so TEST) alu.Sub REMAINDER REMAINDER DIVISOR ∷ []
 
 -- the quotient, 0 where the divisor is 0; and what is left
 abbrev pub quotient_to : ℕ → List Slots
@@ -54,6 +71,13 @@ quotient_to rd = compare_short cmp.Eq TEST DIVISOR 0 ∷ copy rd DIVIDEND ∷ se
 
 abbrev pub rest_to : ℕ → List Slots
 rest_to rd = copy rd REMAINDER ∷ []
+
+-- the same of unsigned words, by large divisors too
+unfoldable pub unsigned_quotient_to : ℕ → ℕ → List Slots
+unsigned_quotient_to rd ra = large_quotient ra ++ quotient_to rd
+
+abbrev pub unsigned_rest_to : ℕ → ℕ → List Slots
+unsigned_rest_to rd ra = large_rest ra ++ rest_to rd
 
 -- the same of signed words, each with its sign
 abbrev pub signed_quotient_to : ℕ → List Slots
@@ -64,7 +88,7 @@ signed_rest_to rd = rest_to rd ++ compute (where_so REST_NEGATIVE) alu.Sub rd 0 
 
 -- before and after the digits
 abbrev pub around : List Slots → List Slots → PlainParts
-around before behind = part (straight before) (part digits (part (straight behind) no_part))
+around before behind = part (straight (before ++ highest_bit ∷ [])) (part digits (part (straight behind) no_part))
 
 abbrev pub unsigned_division : List Slots → ℕ → ℕ → PlainParts
 unsigned_division behind ra rb = around (operands ra rb) behind

@@ -1,6 +1,6 @@
 -- To be believed. The code of expressions: it leaves a value in a register and uses only registers from that one on,
 -- and those that are spare. Of two operands the one of the greater need is worked out first, so that registers suffice.
-use Rattle.std.specs.Prelude.{ℕ, ◌+◌, ◌*◌, nat_lt, Bool, false, if◌then◌else◌, List, [], ◌∷◌}
+use Rattle.std.specs.Prelude.{ℕ, ◌+◌, ◌-◌, ◌*◌, ◌^◌, ◌&&◌, ◌||◌, nat_lt, nat_le, Bool, true, false, if◌then◌else◌, List, [], ◌∷◌}
 use Rattle.patmos_instr.specs.Bundles.{Slots}
 use Rattle.patmos_instr.specs.declared.functions.AluFunc.{AluFunc}
 use Rattle.patmos_instr.specs.declared.functions.AluFunc.TheVariants as alu
@@ -24,10 +24,11 @@ use Rattle.sp_tree.specs.declared.operators.SpBinary.TheVariants as binary
 use Rattle.sp_tree.specs.declared.operators.SpUnary.{SpUnary}
 use Rattle.sp_tree.specs.declared.operators.SpUnary.TheVariants as unary
 use Rattle.sp_shape.specs.Parts.{straight, PlainParts, no_part, one, joined}
-use Rattle.sp_emit.specs.Division.{quotient_to, rest_to, signed_quotient_to, signed_rest_to, unsigned_division, signed_division}
+use Rattle.sp_emit.specs.Divisors.{is_power, is_exact, power_quotient_to, power_rest_to, factor_quotient_to, factor_rest_to, signed_to}
+use Rattle.sp_emit.specs.Division.{unsigned_quotient_to, unsigned_rest_to, signed_quotient_to, signed_rest_to, unsigned_division, signed_division}
 use Rattle.sp_emit.specs.Instructions.{always, where_so, where_not, set_number, set_short, compute, with_short, compare, compare_short, combine, multiply, from_special, load_from}
 use Rattle.sp_emit.specs.Places.{in_register, read_word}
-use Rattle.sp_emit.specs.declared.registers.TheConstants.{SPARE, TEST, SECOND}
+use Rattle.sp_emit.specs.declared.registers.TheConstants.{SPARE, DIVIDEND, TEST, SECOND}
 
 -- ---- addresses
 
@@ -96,12 +97,12 @@ binary_code binary.Plus rd ra rb = computed alu.Add rd ra rb
 binary_code binary.Minus rd ra rb = computed alu.Sub rd ra rb
 binary_code binary.Times rd ra rb = one (straight (multiply ra rb ∷ from_special rd special.Sl ∷ []))
 binary_code binary.Divide rd ra rb = signed_division (signed_quotient_to rd) ra rb
-binary_code binary.DivideUnsigned rd ra rb = unsigned_division (quotient_to rd) ra rb
+binary_code binary.DivideUnsigned rd ra rb = unsigned_division (unsigned_quotient_to rd ra) ra rb
 binary_code binary.Remainder rd ra rb = signed_division (signed_rest_to rd) ra rb
-binary_code binary.RemainderUnsigned rd ra rb = unsigned_division (rest_to rd) ra rb
+binary_code binary.RemainderUnsigned rd ra rb = unsigned_division (unsigned_rest_to rd ra) ra rb
 
--- the constants that an instruction holds as its second operand are those below this number: arithmetic and logic have
--- 12 bits for it, a comparison 5
+-- the constants of which an operator has code of its own as its second operand are below this number: arithmetic and
+-- logic have 12 bits for it in their instruction, a comparison 5, and a signed division takes those that are not negative
 abbrev pub immediate_below : SpBinary → ℕ
 immediate_below binary.BitOr = 4096
 immediate_below binary.BitXor = 4096
@@ -117,35 +118,69 @@ immediate_below binary.Less = 32
 immediate_below binary.LessUnsigned = 32
 immediate_below binary.LessEqual = 32
 immediate_below binary.LessEqualUnsigned = 32
+immediate_below binary.Divide = 2 ^ 31
+immediate_below binary.DivideUnsigned = 2 ^ 32
+immediate_below binary.Remainder = 2 ^ 31
+immediate_below binary.RemainderUnsigned = 2 ^ 32
 immediate_below _ = 0
 
+-- where one instruction holds the constant; of a division where it holds a power of two's place, or that power less 1
+abbrev pub is_short : SpBinary → ℕ → Bool
+is_short binary.Divide n = is_power n
+is_short binary.DivideUnsigned n = is_power n
+is_short binary.Remainder n = is_power n && nat_le n 4096
+is_short binary.RemainderUnsigned n = is_power n && nat_le n 4096
+is_short _ n = true
+
+-- the greatest dividend of a division, without its sign
+abbrev pub greatest : SpBinary → ℕ
+greatest binary.Divide = 2 ^ 31
+greatest binary.Remainder = 2 ^ 31
+greatest _ = 2 ^ 32 - 1
+
 abbrev pub is_immediate : SpBinary → PlainSp → Bool
-is_immediate op (constant n) = nat_lt n (immediate_below op)
+is_immediate op (constant n) = nat_lt n (immediate_below op) && (is_short op n || is_exact (greatest op) n)
 is_immediate op _ = false
 
--- the same where the second operand is a constant that an instruction holds
+-- the same where the second operand is such a constant
 abbrev pub held_computed : ImmFunc → ℕ → ℕ → ℕ → List Slots
 held_computed func rd ra n = with_short always func rd ra n ∷ []
 
 abbrev pub held_compared : CmpFunc → ℕ → ℕ → ℕ → List Slots
 held_compared func rd ra n = compare_short func TEST ra n ∷ truth_to rd
 
+abbrev pub short_code : SpBinary → ℕ → ℕ → ℕ → List Slots
+short_code binary.BitOr rd ra n = held_computed imm.Or rd ra n
+short_code binary.BitXor rd ra n = held_computed imm.Xor rd ra n
+short_code binary.BitAnd rd ra n = held_computed imm.And rd ra n
+short_code binary.ShiftLeft rd ra n = held_computed imm.Sl rd ra n
+short_code binary.ShiftRight rd ra n = held_computed imm.Sra rd ra n
+short_code binary.ShiftRightUnsigned rd ra n = held_computed imm.Sr rd ra n
+short_code binary.Plus rd ra n = held_computed imm.Add rd ra n
+short_code binary.Minus rd ra n = held_computed imm.Sub rd ra n
+short_code binary.Equal rd ra n = held_compared cmp.Eq rd ra n
+short_code binary.NotEqual rd ra n = held_compared cmp.Neq rd ra n
+short_code binary.Less rd ra n = held_compared cmp.Lt rd ra n
+short_code binary.LessUnsigned rd ra n = held_compared cmp.Ult rd ra n
+short_code binary.LessEqual rd ra n = held_compared cmp.Le rd ra n
+short_code binary.LessEqualUnsigned rd ra n = held_compared cmp.Ule rd ra n
+short_code binary.Divide rd ra n = signed_to rd ra (power_quotient_to rd DIVIDEND n)
+short_code binary.DivideUnsigned rd ra n = power_quotient_to rd ra n
+short_code binary.Remainder rd ra n = signed_to rd ra (power_rest_to rd DIVIDEND n)
+short_code binary.RemainderUnsigned rd ra n = power_rest_to rd ra n
+short_code _ rd ra n = []
+
+-- and of a division by another constant
+abbrev pub factor_code : SpBinary → ℕ → ℕ → ℕ → List Slots
+factor_code binary.Divide rd ra n = signed_to rd ra (factor_quotient_to rd DIVIDEND n)
+factor_code binary.DivideUnsigned rd ra n = factor_quotient_to rd ra n
+factor_code binary.Remainder rd ra n = signed_to rd ra (factor_rest_to rd DIVIDEND n)
+factor_code binary.RemainderUnsigned rd ra n = factor_rest_to rd ra n
+factor_code _ rd ra n = []
+
+-- the one or the other
 abbrev pub held_code : SpBinary → ℕ → ℕ → ℕ → List Slots
-held_code binary.BitOr rd ra n = held_computed imm.Or rd ra n
-held_code binary.BitXor rd ra n = held_computed imm.Xor rd ra n
-held_code binary.BitAnd rd ra n = held_computed imm.And rd ra n
-held_code binary.ShiftLeft rd ra n = held_computed imm.Sl rd ra n
-held_code binary.ShiftRight rd ra n = held_computed imm.Sra rd ra n
-held_code binary.ShiftRightUnsigned rd ra n = held_computed imm.Sr rd ra n
-held_code binary.Plus rd ra n = held_computed imm.Add rd ra n
-held_code binary.Minus rd ra n = held_computed imm.Sub rd ra n
-held_code binary.Equal rd ra n = held_compared cmp.Eq rd ra n
-held_code binary.NotEqual rd ra n = held_compared cmp.Neq rd ra n
-held_code binary.Less rd ra n = held_compared cmp.Lt rd ra n
-held_code binary.LessUnsigned rd ra n = held_compared cmp.Ult rd ra n
-held_code binary.LessEqual rd ra n = held_compared cmp.Le rd ra n
-held_code binary.LessEqualUnsigned rd ra n = held_compared cmp.Ule rd ra n
-held_code _ rd ra n = []
+held_code op rd ra n = if is_short op n then short_code op rd ra n else factor_code op rd ra n
 
 -- ---- expressions
 

@@ -1,16 +1,17 @@
--- To be believed. The code of functions and tasks. A function takes its frame from the stack:
--- first the words that its tree names; last the place to which it returns; and before that the
+-- To be believed. The code of functions and tasks. A function takes its frame from the stack, where its code needs one:
+-- first the words that its tree names; last the place to which it returns, where it calls others; and before that the
 -- counters of turns, those inside others before them.
-use Rattle.std.specs.Prelude.{ℕ, zero, suc, ◌+◌, ◌-◌, List, [], ◌∷◌, ◌++◌, length, slice_index_or}
+use Rattle.std.specs.Prelude.{ℕ, zero, suc, ◌+◌, ◌-◌, ◌==◌, nat_le, Bool, not, ◌&&◌, if◌then◌else◌, List, [], ◌∷◌, ◌++◌, length, slice_index_or}
 use Rattle.patmos_instr.specs.Bundles.{Slots}
 use Rattle.patmos_instr.specs.declared.functions.ImmFunc.TheVariants as imm
 use Rattle.patmos_instr.specs.declared.functions.StackFunc.TheVariants.{Sres, Sfree}
 use Rattle.patmos_instr.specs.declared.specials.Special.TheVariants as special
 use Rattle.patmos_instr.specs.declared.specials.WritableSpecial.TheVariants as writable
-use Rattle.sp_tree.specs.Formed.{slots_of}
+use Rattle.sp_tree.specs.Formed.{slots_of, stmts_levels}
 use Rattle.sp_tree.specs.Statements.{PlainFunction, no_function, PlainUnit}
 use Rattle.sp_shape.specs.Parts.{PlainPart, straight, leaves, PlainParts, no_part, part, joined, PlainShape}
 use Rattle.sp_emit.specs.Instructions.{always, idle, copy, with_short, from_special, to_special, stack_op, load_slot, store_slot, return}
+use Rattle.sp_emit.specs.Chains.{stmts_call}
 use Rattle.sp_emit.specs.Places.{read_word, set_word, words_cleared, homes_of}
 use Rattle.sp_emit.specs.Statements.{stmts_code}
 use Rattle.sp_emit.specs.declared.registers.TheConstants.{RESULT, MASK, FIRST, SPARE, OVERRUN}
@@ -34,31 +35,61 @@ offset_slot f = f.frame - 1
 abbrev pub first_counter : PlainFunction → ℕ
 first_counter f = f.frame - 3
 
--- so do the mask and the place to which it returns
-abbrev pub state_kept : ℕ → PlainFunction → List Slots
-state_kept homes f =
-    with_short always imm.Xor MASK MASK 1
-    ∷ set_word homes always f.mask MASK
-    ∷ from_special SPARE special.Srb
+-- the place to which it returns goes there, and comes back from there
+abbrev pub place_stored : PlainFunction → List Slots
+place_stored f =
+    from_special SPARE special.Srb
     ∷ store_slot always (base_slot f) SPARE
     ∷ from_special SPARE special.Sro
     ∷ store_slot always (offset_slot f) SPARE
     ∷ []
 
-abbrev pub function_begin : ℕ → PlainFunction → List Slots
-function_begin homes f =
-    stack_op Sres f.frame ∷ (words_cleared homes (slots_of f) ++ (arguments_kept homes f.parameters ++ state_kept homes f))
-
-abbrev pub function_end : ℕ → PlainFunction → List Slots
-function_end homes f =
+abbrev pub place_loaded : PlainFunction → List Slots
+place_loaded f =
     load_slot SPARE (base_slot f)
     ∷ to_special writable.Srb SPARE
     ∷ load_slot SPARE (offset_slot f)
     ∷ to_special writable.Sro SPARE
-    ∷ read_word homes RESULT f.result
-    ∷ copy MASK OVERRUN
-    ∷ stack_op Sfree f.frame
     ∷ []
+
+-- both where it calls others, each of which sets another place; else its own stays set
+abbrev pub place_kept : PlainFunction → List Slots
+place_kept f = if stmts_call f.body then place_stored f else []
+
+abbrev pub place_brought : PlainFunction → List Slots
+place_brought f = if stmts_call f.body then place_loaded f else []
+
+-- the mask goes to its word
+abbrev pub mask_kept : ℕ → PlainFunction → List Slots
+mask_kept homes f = with_short always imm.Xor MASK MASK 1 ∷ set_word homes always f.mask MASK ∷ []
+
+abbrev pub state_kept : ℕ → PlainFunction → List Slots
+state_kept homes f = mask_kept homes f ++ place_kept f
+
+-- whether code needs no word of the stack: it calls no function and makes no turns, and registers hold all words that
+-- its tree names
+abbrev pub needs_none : ℕ → PlainFunction → Bool
+needs_none homes f =
+    not (stmts_call f.body) && ((stmts_levels f.body == 0) && nat_le (homes + slots_of f) OVERRUN)
+
+-- then it takes no frame
+abbrev pub frame_taken : ℕ → PlainFunction → List Slots
+frame_taken homes f = if needs_none homes f then [] else stack_op Sres f.frame ∷ []
+
+abbrev pub frame_freed : ℕ → PlainFunction → List Slots
+frame_freed homes f = if needs_none homes f then [] else stack_op Sfree f.frame ∷ []
+
+abbrev pub function_begin : ℕ → PlainFunction → List Slots
+function_begin homes f =
+    frame_taken homes f
+    ++ (words_cleared homes (slots_of f) ++ (arguments_kept homes f.parameters ++ state_kept homes f))
+
+-- the result and the flag are given, and the frame is freed
+abbrev pub result_given : ℕ → PlainFunction → List Slots
+result_given homes f = read_word homes RESULT f.result ∷ copy MASK OVERRUN ∷ frame_freed homes f
+
+abbrev pub function_end : ℕ → PlainFunction → List Slots
+function_end homes f = place_brought f ++ result_given homes f
 
 abbrev pub return_tail : List Slots
 return_tail = return ∷ idle ∷ idle ∷ idle ∷ []

@@ -76,6 +76,9 @@ combine func pd a b = under always (Comb func pd (where_so a) (where_so b))
 abbrev pub multiply : ℕ → ℕ → Slots
 multiply ra rb = under always (Mul false ra rb)
 
+abbrev pub multiply_unsigned : ℕ → ℕ → Slots
+multiply_unsigned ra rb = under always (Mul true ra rb)
+
 abbrev pub from_special : ℕ → Special → Slots
 from_special rd special = under always (FromSpecial rd special)
 

@@ -2,6 +2,7 @@ pub mod Accesses
 pub mod Chains
 pub mod Counts
 pub mod Division
+pub mod Divisors
 pub mod Expressions
 pub mod Fits
 pub mod Functions

@@ -8,8 +8,8 @@ use Rattle.sp_tree.specs.Straight.{Given, State}
 use Rattle.sp_tree.specs.declared.limits.TheConstants.{MOST_FRAME}
 use Rattle.sp_shape.specs.Run.{Run, IsWhole}
 use Rattle.sp_emit.specs.Holding.{held}
-use Rattle.sp_emit.specs.Means.{Follows, HasConstants, HasStmtsConstants, HasWords, HoldsWords}
-use Rattle.sp_emit.specs.Places.{stmts_least, tops}
+use Rattle.sp_emit.specs.Means.{Follows, HasConstants, HasStmtsConstants, HasWords, HoldsWords, KeepsBehind}
+use Rattle.sp_emit.specs.Places.{word_of, stmts_least, tops}
 use Rattle.sp_emit.specs.declared.registers.TheConstants.{RESULT, MASK, FIRST, OVERRUN}
 
 -- the words of a world, and its flag
@@ -56,3 +56,28 @@ pub record AreStatements (fs : List PlainFunction) (n homes frame slots counter 
   pub room : n * MOST_FRAME ≤ m.st
   pub homed : stmts_least (tops fs n) ts ≤ homes
   pub follows : Follows homes slots s m
+
+-- ---- where a tree changes nothing of its world, as all do under a mask of 0 that set what they set under their masks
+
+-- all memories but word 0 of private memory are as they were, no transfer was started, and the flag stands
+pub record WorldStands (m t : Run) : Type 0 where
+  pub scratch : (word : ℕ) → t.memory.scratch word ≡ m.memory.scratch word
+  pub comm : (word : ℕ) → t.memory.comm word ≡ m.memory.comm word
+  pub private : (word : ℕ) → 1 ≤ word → t.memory.private word ≡ m.memory.private word
+  pub shared : (word : ℕ) → t.memory.shared word ≡ m.memory.shared word
+  pub starts : t.memory.starts ≡ m.memory.starts
+  pub flag : held OVERRUN t ≡ held OVERRUN m
+
+-- a function whose window ends before a register: the stack stands from the caller's frame on, and so do the words that
+-- trees name in the frames of its callers, in registers or in the stack
+pub record Unchanged (top : ℕ) (m t : Run) : Type 0 where
+  pub world : WorldStands m t
+  pub st : t.st ≡ m.st
+  pub stack : (a : ℕ) → m.st ≤ a → t.stack a ≡ m.stack a
+  pub callers : (homes slot : ℕ) → top ≤ homes → word_of homes slot t ≡ word_of homes slot m
+
+-- statements: a word of the own frame stands where the tree's does, the same after as before
+pub record OwnUnchanged (homes slots count : ℕ) (before after : ℕ → ℕ) (m t : Run) : Type 0 where
+  pub world : WorldStands m t
+  pub frame : (slot : ℕ) → slot < slots → after slot ≡ before slot → word_of homes slot t ≡ word_of homes slot m
+  pub behind : KeepsBehind (homes + slots) count m t

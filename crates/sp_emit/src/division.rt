@@ -27,7 +27,7 @@ fn operands(ra: Reg, rb: Reg) -> [Bundle; 4]
         copy(reg(DIVIDEND), ra),
         copy(reg(DIVISOR), rb),
         set_short(always(), reg(REMAINDER), 0),
-        set_short(always(), reg(DIGITS), 32),
+        set_short(always(), reg(DIGITS), 16),
     ]
 }
 
@@ -46,25 +46,61 @@ fn without_signs() -> [Bundle; 5]
     ]
 }
 
-// the bundles of one digit, with the branch after them
-fn digit() -> [Bundle; 13]
-    ensures { result ≡ specs.digit_tail }
+// the highest bit of the dividend stands apart
+fn highest_bit() -> Bundle
+    ensures { result ≡ specs.highest_bit }
+{
+    with_short(always(), ImmFunc::Sr, reg(SPARE), reg(DIVIDEND), 31)
+}
+
+// the bundles of one digit
+fn digit() -> [Bundle; 6]
+    ensures { result ≡ specs.digit }
 {
     let (dividend, divisor) = (reg(DIVIDEND), reg(DIVISOR));
-    let (remainder, spare) = (reg(REMAINDER), reg(SPARE));
-    let (test, second, more) = (pred(TEST), pred(SECOND), pred(MORE));
+    let (remainder, spare, test) = (reg(REMAINDER), reg(SPARE), pred(TEST));
     [
-        compare_short(CmpFunc::Btest, second, remainder, 31),
-        with_short(always(), ImmFunc::Sr, spare, dividend, 31),
         compute(always(), AluFunc::Shadd, remainder, remainder, spare),
         compute(always(), AluFunc::Add, dividend, dividend, dividend),
         compare(CmpFunc::Ule, test, divisor, remainder),
-        with_short(always(), ImmFunc::Sub, reg(DIGITS), reg(DIGITS), 1),
-        combine(PredFunc::Por, test, test, second),
-        compare_short(CmpFunc::Neq, more, reg(DIGITS), 0),
+        highest_bit(),
         compute(where_so(test), AluFunc::Sub, remainder, remainder, divisor),
         with_short(where_so(test), ImmFunc::Add, dividend, dividend, 1),
-        branch(more),
+    ]
+}
+
+// a turn is counted
+fn counted() -> [Bundle; 2]
+    ensures { result ≡ specs.counted }
+{
+    [
+        with_short(always(), ImmFunc::Sub, reg(DIGITS), reg(DIGITS), 1),
+        compare_short(CmpFunc::Neq, pred(MORE), reg(DIGITS), 0),
+    ]
+}
+
+// the bundles of a turn, with the branch after them
+fn digit_tail() -> [Bundle; 17]
+    ensures { result ≡ specs.digit_tail }
+{
+    let [count, more] = counted();
+    let [shift, double, test, next, less, one] = digit();
+    [
+        count,
+        more,
+        shift,
+        double,
+        test,
+        next,
+        less,
+        one,
+        shift,
+        double,
+        test,
+        next,
+        less,
+        one,
+        branch(pred(MORE)),
         idle(),
         idle(),
     ]
@@ -75,9 +111,9 @@ fn digit() -> [Bundle; 13]
 fn digits(alloc: Global) -> Result<Part, OutOfMemory>
     ensures { IfOk result (λ p. plain_part p ≡ specs.digits) }
 {
-    let tail = listed(alloc, &digit())?;
+    let tail = listed(alloc, &digit_tail())?;
     Ok(Part::Repeat {
-        count: 32,
+        count: 16,
         body: List::of(Vec::new(alloc)),
         tail,
     })
@@ -89,7 +125,10 @@ fn around(out: &mut Vec<Part>, before: &[Bundle], behind: &[Bundle]) -> Result<(
     ensures { OnOk result (parts_of out.new.items
         ≡ joined (parts_of out.old.items) (specs.around before.now behind.now)) }
 {
-    push_straight(out, before)?;
+    let mut first = Vec::new(*out.allocator());
+    first.extend_from_slice(before)?;
+    first.push(highest_bit())?;
+    push_straight(out, &first)?;
     let digits = digits(*out.allocator())?;
     push(out, digits)?;
     push_straight(out, behind)
@@ -124,8 +163,62 @@ pub fn signed_division(
     around(out, &before, behind)
 }
 
-/// The quotient goes to a register, 0 where the divisor is 0.
-pub fn quotient_to(rd: Reg) -> [Bundle; 3]
+// whether the divisor is large, and whether it then goes into the dividend
+fn is_large(ra: Reg) -> [Bundle; 3]
+    ensures { result ≡ specs.is_large ra }
+{
+    let (test, second) = (pred(TEST), pred(SECOND));
+    [
+        compare_short(CmpFunc::Btest, second, reg(DIVISOR), 31),
+        compare(CmpFunc::Ule, test, reg(DIVISOR), ra),
+        combine(PredFunc::Pand, test, test, second),
+    ]
+}
+
+/// The quotient of unsigned words goes to a register, 0 where the divisor is 0.
+#[tactic(auto, unfolding(crate::specs::Division::unsigned_quotient_to))]
+pub fn unsigned_quotient_to(rd: Reg, ra: Reg) -> [Bundle; 8]
+    ensures { result ≡ specs.unsigned_quotient_to rd ra }
+{
+    let dividend = reg(DIVIDEND);
+    let [large, within, goes] = is_large(ra);
+    let [zero, quotient, none] = quotient_to(rd);
+    [
+        large,
+        within,
+        goes,
+        set_short(where_so(pred(SECOND)), dividend, 0),
+        set_short(where_so(pred(TEST)), dividend, 1),
+        zero,
+        quotient,
+        none,
+    ]
+}
+
+/// What is left of unsigned words goes to a register.
+pub fn unsigned_rest_to(rd: Reg, ra: Reg) -> [Bundle; 6]
+    ensures { result ≡ specs.unsigned_rest_to rd ra }
+{
+    let (remainder, divisor) = (reg(REMAINDER), reg(DIVISOR));
+    let [large, within, goes] = is_large(ra);
+    [
+        large,
+        within,
+        goes,
+        with_short(where_so(pred(SECOND)), ImmFunc::Add, remainder, ra, 0),
+        compute(
+            where_so(pred(TEST)),
+            AluFunc::Sub,
+            remainder,
+            remainder,
+            divisor,
+        ),
+        copy(rd, remainder),
+    ]
+}
+
+// the quotient goes to a register, 0 where the divisor is 0
+fn quotient_to(rd: Reg) -> [Bundle; 3]
     ensures { result ≡ specs.quotient_to rd }
 {
     let test = pred(TEST);
@@ -134,13 +227,6 @@ pub fn quotient_to(rd: Reg) -> [Bundle; 3]
         copy(rd, reg(DIVIDEND)),
         set_short(where_so(test), rd, 0),
     ]
-}
-
-/// What is left goes to a register.
-pub fn rest_to(rd: Reg) -> [Bundle; 1]
-    ensures { result ≡ specs.rest_to rd }
-{
-    [copy(rd, reg(REMAINDER))]
 }
 
 /// The quotient of signed words, with its sign.

@@ -6,10 +6,10 @@ ghost use Rattle.sp_shape.specs.Shown.{parts_of};
 ghost use Rattle.sp_emit.specs.Fits.{ExprFits};
 ghost use Rattle.sp_tree.specs.Formed.{cell_formed, array_formed};
 ghost use Rattle.sp_tree.specs.Need.{need};
-ghost use Rattle.sp_tree.specs.Plain.{plain_sp, between_two};
+ghost use Rattle.sp_tree.specs.Plain.{plain_sp, constant, between_two};
 
 use crate::instructions::{always, compare, compute, load_from, set_number, set_short, where_not};
-use crate::operators::{binary, held, immediate_below, unary};
+use crate::operators::{binary, held, is_immediate, unary};
 use crate::parts::push_straight;
 use crate::places::{is_in_register, read_word};
 use crate::registers::{SPARE, TEST, behind, pred, reg};
@@ -145,14 +145,14 @@ fn is_second_first(a: &SpExpr, b: &SpExpr) -> bool
     need_of(a) < need_of(b)
 }
 
-// the number of a constant that an instruction for the operator holds
+// the number of a constant for which the operator has code of its own
 #[tactic(auto, unfolding(sp_tree::specs::Plain::plain_sp))]
 fn held_constant(op: SpBinary, b: &SpExpr) -> Option<u32>
     ensures held { SomeIff result (specs.is_immediate op (plain_sp b.now) ≡ true) (specs.number_of (plain_sp b.now)) }
-    ensures below { IfSome result (λ n. n < specs.immediate_below op) }
+    ensures immediate { IfSome result (λ n. specs.is_immediate op (constant n) ≡ true) }
 {
     match b {
-        SpExpr::Const { value } if *value < immediate_below(op) => Some(*value),
+        SpExpr::Const { value } if is_immediate(op, *value) => Some(*value),
         _ => None,
     }
 }

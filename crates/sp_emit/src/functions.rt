@@ -1,6 +1,7 @@
 //! Functions and tasks.
 ghost use Rattle.std.specs.Prelude.{◌≡◌, ◌+◌, ◌++◌, ◌<◌, ◌≤◌, ℕ, List, [], true, IfOk, OnOk, length, slice_index_or, is_none};
 ghost use Rattle.sp_emit.specs.Functions as specs;
+ghost use Rattle.sp_emit.specs.Chains.{takes_at_most};
 ghost use Rattle.sp_emit.specs.Fits.{FunctionFits};
 ghost use Rattle.sp_emit.specs.Means.{HasConstants, HoldsWords};
 ghost use Rattle.sp_emit.specs.Places as places;
@@ -25,7 +26,9 @@ use crate::instructions::{
     to_special, with_short,
 };
 use crate::parts::{listed, push, push_straight};
-use crate::places::{homes_over, is_in_register, read_word, set_word, words_of};
+use crate::places::{
+    have_calls, homes_over, is_in_register, needs_none, read_word, set_word, words_of,
+};
 use crate::registers::{FIRST, MASK, OVERRUN, RESULT, SPARE, reg};
 use crate::statements::statements;
 use patmos_instr::{Bundle, ImmFunc, Special, StackFunc, WritableSpecial};
@@ -66,53 +69,101 @@ fn clear_word(bundles: &mut Vec<Bundle>, homes: u32, slot: u32) -> Result<(), Ou
     Ok(())
 }
 
+// the place to which a function returns is kept, where it calls others
+#[tactic(auto, using(crate::proofs::Fitting::frame_most, crate::proofs::Fitting::frame_least))]
+fn keep_place(bundles: &mut Vec<Bundle>, f: &SpFunction) -> Result<(), OutOfMemory>
+    requires fits { FunctionFits (plain_function f.now) }
+    ensures { OnOk result (bundles.new.items ≡ bundles.old.items ++ specs.place_kept (plain_function f.now)) }
+{
+    let spare = reg(SPARE);
+    if have_calls(f.body.as_slice()) {
+        bundles.extend_from_slice(&[
+            from_special(spare, Special::Srb),
+            store_slot(always(), f.frame - 2, spare),
+            from_special(spare, Special::Sro),
+            store_slot(always(), f.frame - 1, spare),
+        ])?;
+    }
+    Ok(())
+}
+
+// and is brought back
+#[tactic(auto, using(crate::proofs::Fitting::frame_most, crate::proofs::Fitting::frame_least))]
+fn bring_place(bundles: &mut Vec<Bundle>, f: &SpFunction) -> Result<(), OutOfMemory>
+    requires fits { FunctionFits (plain_function f.now) }
+    ensures { OnOk result (bundles.new.items ≡ bundles.old.items ++ specs.place_brought (plain_function f.now)) }
+{
+    let spare = reg(SPARE);
+    if have_calls(f.body.as_slice()) {
+        bundles.extend_from_slice(&[
+            load_slot(spare, f.frame - 2),
+            to_special(WritableSpecial::Srb, spare),
+            load_slot(spare, f.frame - 1),
+            to_special(WritableSpecial::Sro, spare),
+        ])?;
+    }
+    Ok(())
+}
+
+// a frame is taken, where code needs one
+#[tactic(auto, using(crate::proofs::Fitting::frame_most))]
+fn take_frame(bundles: &mut Vec<Bundle>, homes: u32, f: &SpFunction) -> Result<(), OutOfMemory>
+    requires fits { FunctionFits (plain_function f.now) }
+    ensures { OnOk result (bundles.new.items ≡ bundles.old.items ++ specs.frame_taken homes (plain_function f.now)) }
+{
+    if !needs_none(homes, f) {
+        bundles.push(stack_op(StackFunc::Sres, f.frame))?;
+    }
+    Ok(())
+}
+
+// and is freed
+#[tactic(auto, using(crate::proofs::Fitting::frame_most))]
+fn free_frame(bundles: &mut Vec<Bundle>, homes: u32, f: &SpFunction) -> Result<(), OutOfMemory>
+    requires fits { FunctionFits (plain_function f.now) }
+    ensures { OnOk result (bundles.new.items ≡ bundles.old.items ++ specs.frame_freed homes (plain_function f.now)) }
+{
+    if !needs_none(homes, f) {
+        bundles.push(stack_op(StackFunc::Sfree, f.frame))?;
+    }
+    Ok(())
+}
+
 // a function takes its frame, and keeps its arguments, its mask and the place to which it returns
-#[tactic(auto, using(crate::proofs::Fitting::frame_most, crate::proofs::Fitting::frame_least, crate::proofs::Fitting::few_parameters, crate::proofs::Fitting::mask_fits))]
+#[tactic(auto, using(crate::proofs::Fitting::few_parameters, crate::proofs::Fitting::mask_fits))]
 fn begin(out: &mut Vec<Part>, homes: u32, f: &SpFunction) -> Result<(), OutOfMemory>
     requires fits { FunctionFits (plain_function f.now) }
     ensures { OnOk result (parts_of out.new.items
         ≡ joined (parts_of out.old.items) (one (straight (specs.function_begin homes (plain_function f.now))))) }
 {
-    let (mask, spare) = (reg(MASK), reg(SPARE));
+    let mask = reg(MASK);
     let mut bundles = Vec::new(*out.allocator());
-    bundles.push(stack_op(StackFunc::Sres, f.frame))?;
+    take_frame(&mut bundles, homes, f)?;
     clear_words(&mut bundles, homes, words_of(f))?;
     keep_arguments(&mut bundles, homes, f.parameters)?;
     bundles.extend_from_slice(&[
         with_short(always(), ImmFunc::Xor, mask, mask, 1),
         set_word(homes, always(), f.mask, mask),
-        from_special(spare, Special::Srb),
-        store_slot(always(), f.frame - 2, spare),
-        from_special(spare, Special::Sro),
-        store_slot(always(), f.frame - 1, spare),
     ])?;
+    keep_place(&mut bundles, f)?;
     push_straight(out, &bundles)
 }
 
-// a function gives its result and the flag, and frees its frame
-#[tactic(auto, using(crate::proofs::Fitting::frame_most, crate::proofs::Fitting::frame_least, crate::proofs::Fitting::result_fits))]
-fn end_of(homes: u32, f: &SpFunction) -> [Bundle; 7]
-    requires fits { FunctionFits (plain_function f.now) }
-    ensures { result ≡ specs.function_end homes (plain_function f.now) }
-{
-    let spare = reg(SPARE);
-    [
-        load_slot(spare, f.frame - 2),
-        to_special(WritableSpecial::Srb, spare),
-        load_slot(spare, f.frame - 1),
-        to_special(WritableSpecial::Sro, spare),
-        read_word(homes, reg(RESULT), f.result),
-        copy(reg(MASK), reg(OVERRUN)),
-        stack_op(StackFunc::Sfree, f.frame),
-    ]
-}
-
+// a function brings back the place to which it returns, gives its result and the flag, and frees its frame
+#[tactic(auto, using(crate::proofs::Fitting::result_fits))]
 fn end(out: &mut Vec<Part>, homes: u32, f: &SpFunction) -> Result<(), OutOfMemory>
     requires fits { FunctionFits (plain_function f.now) }
     ensures { OnOk result (parts_of out.new.items
         ≡ joined (parts_of out.old.items) (one (straight (specs.function_end homes (plain_function f.now))))) }
 {
-    push_straight(out, &end_of(homes, f))
+    let mut bundles = Vec::new(*out.allocator());
+    bring_place(&mut bundles, f)?;
+    bundles.extend_from_slice(&[
+        read_word(homes, reg(RESULT), f.result),
+        copy(reg(MASK), reg(OVERRUN)),
+    ])?;
+    free_frame(&mut bundles, homes, f)?;
+    push_straight(out, &bundles)
 }
 
 // the return
@@ -205,6 +256,9 @@ pub fn emit(alloc: Global, unit: &SpUnit) -> Result<Shape, OutOfMemory>
     ensures room { IfOk result (λ s. (k : ℕ) → k < length (plain_unit unit.now).functions
         → 1 + parts_room (slice_index_or (plain_shape s).functions k no_part)
         ≤ cost (slice_index_or (plain_unit unit.now).functions k no_function)) }
+    ensures frames { IfOk result (λ s. (k : ℕ) → k < length (plain_unit unit.now).functions
+        → parts_all (takes_at_most (slice_index_or (plain_unit unit.now).functions k no_function).frame)
+        (slice_index_or (plain_shape s).functions k no_part) ≡ true) }
 {
     let shape = shape_of(alloc, unit)?;
     Ok(shape)

@@ -147,6 +147,17 @@ pub fn multiply(ra: Reg, rb: Reg) -> Bundle
     under(always(), op)
 }
 
+pub fn multiply_unsigned(ra: Reg, rb: Reg) -> Bundle
+    ensures { result ≡ code.multiply_unsigned ra rb }
+{
+    let op = Op::Mul {
+        unsigned: true,
+        ra,
+        rb,
+    };
+    under(always(), op)
+}
+
 pub fn from_special(rd: Reg, special: Special) -> Bundle
     ensures { result ≡ code.from_special rd special }
 {

@@ -7,8 +7,9 @@
 //!
 //! [`emit`] writes the code of a well-formed task, as the shape that `specs/Functions.antt` defines. It
 //! promises besides that the shape is well formed, that each of its bundles is one instruction, that its
-//! delay slots do nothing, that whatever may have a transaction with main memory is always done, and that a
-//! function takes at most as many words as its tree costs.
+//! delay slots do nothing, that whatever may have a transaction with main memory is always done, that a
+//! function has at most as many words as its tree costs, and that it takes at most as many words of the stack as its
+//! tree's frame has.
 //!
 //! [`tasks_do_what_they_mean`] says that what comes of a task's code is what its tree means, where each load
 //! gives what was stored last in its word. [`expressions_are_worked_out`] says it of an expression, and what
@@ -20,11 +21,11 @@
 //!
 //! - `specs/Instructions.antt` has the bundles, `src/registers.rt` which registers they use for what, and
 //!   `specs/Places.antt` where the words of a frame stand: in a window of registers, or in the stack.
-//! - `specs/Expressions.antt` and `specs/Division.antt` have the code of values, `specs/Statements.antt` that of what
-//!   statements do, `specs/Functions.antt` that of functions and tasks.
+//! - `specs/Expressions.antt`, `specs/Division.antt` and `specs/Divisors.antt` have the code of values,
+//!   `specs/Statements.antt` that of what statements do, `specs/Functions.antt` that of functions and tasks.
 //! - `specs/Fits.antt` says when a statement's code fits a frame, `specs/Ran.antt` what comes of a task's code.
 //! - `specs/Accesses.antt` says what code may ask for, `specs/Counts.antt` that the counts of turns are words,
-//!   `specs/Chains.antt` how many words frames take on a chain of calls.
+//!   `specs/Chains.antt` which statements call, and how many words frames take, each and on a chain of calls.
 //! - `specs/Holding.antt` says what code keeps, `specs/Means.antt` when a run shows the words that a tree works on,
 //!   `specs/Serving.antt` what a function's code has where it begins and leaves where it has returned.
 //!
@@ -33,6 +34,7 @@
 
 mod calls;
 mod division;
+mod divisors;
 mod expressions;
 mod functions;
 mod instructions;

@@ -1,18 +1,25 @@
 //! Operators on the words of registers.
-ghost use Rattle.std.specs.Prelude.{◌≡◌, ◌<◌, OnOk};
+ghost use Rattle.std.specs.Prelude.{◌≡◌, ◌<◌, ◌≤◌, ◌^◌, true, false, OnOk};
+ghost use Rattle.sp_emit.specs.Divisors.{factor};
 ghost use Rattle.sp_emit.specs.Expressions as specs;
 ghost use Rattle.sp_shape.specs.Parts.{straight, one, joined};
 ghost use Rattle.sp_shape.specs.Shown.{parts_of};
+ghost use Rattle.sp_tree.specs.Plain.{constant};
 
 use crate::division::{
-    quotient_to, rest_to, signed_division, signed_quotient_to, signed_rest_to, unsigned_division,
+    signed_division, signed_quotient_to, signed_rest_to, unsigned_division, unsigned_quotient_to,
+    unsigned_rest_to,
+};
+use crate::divisors::{
+    factor_quotient_to, factor_rest_to, is_exact, is_power, power_quotient_to, power_rest_to,
+    push_signed,
 };
 use crate::instructions::{
     always, combine, compare, compare_short, compute, from_special, multiply, set_short, where_so,
     with_short,
 };
 use crate::parts::push_straight;
-use crate::registers::{SECOND, TEST, pred, reg};
+use crate::registers::{DIVIDEND, SECOND, TEST, pred, reg};
 use patmos_instr::{AluFunc, Bundle, CmpFunc, ImmFunc, PredFunc, Reg, Special};
 use sp_shape::Part;
 use sp_tree::{SpBinary, SpUnary};
@@ -120,9 +127,9 @@ pub fn binary(
         SpBinary::Minus => computed(out, AluFunc::Sub, rd, ra, rb),
         SpBinary::Times => push_straight(out, &[multiply(ra, rb), from_special(rd, Special::Sl)]),
         SpBinary::Divide => signed_division(out, &signed_quotient_to(rd), ra, rb),
-        SpBinary::DivideUnsigned => unsigned_division(out, &quotient_to(rd), ra, rb),
+        SpBinary::DivideUnsigned => unsigned_division(out, &unsigned_quotient_to(rd, ra), ra, rb),
         SpBinary::Remainder => signed_division(out, &signed_rest_to(rd), ra, rb),
-        SpBinary::RemainderUnsigned => unsigned_division(out, &rest_to(rd), ra, rb),
+        SpBinary::RemainderUnsigned => unsigned_division(out, &unsigned_rest_to(rd, ra), ra, rb),
     }
 }
 
@@ -157,8 +164,8 @@ fn held_compared(
     push_straight(out, &[compare_short(func, pred(TEST), ra, n), zero, one])
 }
 
-/// The constants that an instruction for an operator holds as its second operand are those below this number.
-pub fn immediate_below(op: SpBinary) -> u32
+// the constants of which an operator has code of its own as its second operand are below this number
+fn immediate_below(op: SpBinary) -> u64
     ensures { result ≡ specs.immediate_below op }
 {
     match op {
@@ -176,15 +183,61 @@ pub fn immediate_below(op: SpBinary) -> u32
         | SpBinary::LessUnsigned
         | SpBinary::LessEqual
         | SpBinary::LessEqualUnsigned => 32,
+        SpBinary::Divide | SpBinary::Remainder => 0x8000_0000,
+        SpBinary::DivideUnsigned | SpBinary::RemainderUnsigned => 0x1_0000_0000,
         _ => 0,
     }
 }
 
-/// The value of an operator on a register's word and such a constant goes there. It is `Err` where memory runs out.
+// whether one instruction holds the constant, or that less 1
+fn is_short(op: SpBinary, n: u32) -> bool
+    ensures { result ≡ specs.is_short op n }
+{
+    match op {
+        SpBinary::Divide | SpBinary::DivideUnsigned => is_power(n),
+        SpBinary::Remainder | SpBinary::RemainderUnsigned => is_power(n) && n <= 4096,
+        _ => true,
+    }
+}
+
+// the greatest dividend
+fn greatest(op: SpBinary) -> u32
+    ensures { result ≡ specs.greatest op }
+{
+    match op {
+        SpBinary::Divide | SpBinary::Remainder => 0x8000_0000,
+        _ => u32::MAX,
+    }
+}
+
+/// Whether an operator has code of its own for a constant as its second operand.
+pub fn is_immediate(op: SpBinary, n: u32) -> bool
+    ensures { result ≡ specs.is_immediate op (constant n) }
+{
+    u64::from(n) < immediate_below(op) && (is_short(op, n) || is_exact(greatest(op), n))
+}
+
+/// The value of an operator on a register's word and such a constant goes to a register. It is `Err` where memory runs
+/// out.
+#[tactic(auto, using(crate::proofs::Held::short_below, crate::proofs::Held::factor_some, crate::proofs::Held::factor_word))]
 pub fn held(out: &mut Vec<Part>, op: SpBinary, rd: Reg, ra: Reg, n: u32) -> Result<(), OutOfMemory>
-    requires { n < specs.immediate_below op }
+    requires { specs.is_immediate op (constant n) ≡ true }
     ensures { OnOk result (parts_of out.new.items
         ≡ joined (parts_of out.old.items) (one (straight (specs.held_code op rd ra n)))) }
+{
+    if is_short(op, n) {
+        short(out, op, rd, ra, n)
+    } else {
+        by_factor(out, op, rd, ra, n)
+    }
+}
+
+// the same where one instruction holds the constant, or that less 1
+fn short(out: &mut Vec<Part>, op: SpBinary, rd: Reg, ra: Reg, n: u32) -> Result<(), OutOfMemory>
+    requires below { n < specs.immediate_below op }
+    requires held { specs.is_short op n ≡ true }
+    ensures { OnOk result (parts_of out.new.items
+        ≡ joined (parts_of out.old.items) (one (straight (specs.short_code op rd ra n)))) }
 {
     match op {
         SpBinary::BitOr => held_computed(out, ImmFunc::Or, rd, ra, n),
@@ -201,6 +254,27 @@ pub fn held(out: &mut Vec<Part>, op: SpBinary, rd: Reg, ra: Reg, n: u32) -> Resu
         SpBinary::LessUnsigned => held_compared(out, CmpFunc::Ult, rd, ra, n),
         SpBinary::LessEqual => held_compared(out, CmpFunc::Le, rd, ra, n),
         SpBinary::LessEqualUnsigned => held_compared(out, CmpFunc::Ule, rd, ra, n),
+        SpBinary::Divide => push_signed(out, rd, ra, &power_quotient_to(rd, reg(DIVIDEND), n)),
+        SpBinary::DivideUnsigned => push_straight(out, &power_quotient_to(rd, ra, n)),
+        SpBinary::Remainder => push_signed(out, rd, ra, &power_rest_to(rd, reg(DIVIDEND), n)),
+        SpBinary::RemainderUnsigned => push_straight(out, &power_rest_to(rd, ra, n)),
+        _ => unreachable!(),
+    }
+}
+
+// a quotient, or what is left, by a constant that has a factor
+fn by_factor(out: &mut Vec<Part>, op: SpBinary, rd: Reg, ra: Reg, n: u32) -> Result<(), OutOfMemory>
+    requires division { specs.is_short op n ≡ false }
+    requires some { 1 ≤ n }
+    requires word { factor n < 2 ^ 32 }
+    ensures { OnOk result (parts_of out.new.items
+        ≡ joined (parts_of out.old.items) (one (straight (specs.factor_code op rd ra n)))) }
+{
+    match op {
+        SpBinary::Divide => push_signed(out, rd, ra, &factor_quotient_to(rd, reg(DIVIDEND), n)),
+        SpBinary::DivideUnsigned => push_straight(out, &factor_quotient_to(rd, ra, n)),
+        SpBinary::Remainder => push_signed(out, rd, ra, &factor_rest_to(rd, reg(DIVIDEND), n)),
+        SpBinary::RemainderUnsigned => push_straight(out, &factor_rest_to(rd, ra, n)),
         _ => unreachable!(),
     }
 }

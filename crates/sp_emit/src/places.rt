@@ -1,11 +1,13 @@
 //! Where the words of a frame stand.
 ghost use Rattle.std.specs.Prelude.{◌≡◌, ◌<◌, map, slice_index_or};
+ghost use Rattle.sp_emit.specs.Chains.{stmt_calls, stmts_call};
 ghost use Rattle.sp_emit.specs.Places.{capped};
 ghost use Rattle.sp_emit.specs.Fits.{ArgsFit, TargetFits, StmtFits, StmtsFit, FunctionFits};
 ghost use Rattle.sp_emit.specs.declared.registers.TheConstants.{FIRST};
 ghost use Rattle.sp_tree.specs.Formed.{stmt_levels, stmts_levels, slots_of};
 ghost use Rattle.sp_tree.specs.Plain.{plain_sp};
 ghost use Rattle.sp_tree.specs.Shown.{plain_sp_target, plain_stmt, stmts_of, plain_function};
+ghost use Rattle.sp_emit.specs.Functions as functions;
 ghost use Rattle.sp_emit.specs.Places as specs;
 
 use crate::expressions::need_of;
@@ -106,6 +108,45 @@ pub fn words_of(f: &SpFunction) -> u32
     ensures { result ≡ slots_of (plain_function f.now) }
 {
     f.frame - (levels_of(f.body.as_slice()) + 2)
+}
+
+// ---- whether a function calls others
+
+#[cycle(calls)]
+#[tactic(auto, unfolding(sp_tree::specs::Shown::plain_stmt))]
+fn has_call(t: &SpStmt) -> bool
+    ensures { result ≡ stmt_calls (plain_stmt t.now) }
+{
+    match t {
+        SpStmt::Call { .. } => true,
+        SpStmt::Turns { body, .. } => have_calls(body.as_slice()),
+        _ => false,
+    }
+}
+
+/// Whether statements call a function.
+#[cycle(calls)]
+#[tactic(auto)]
+pub fn have_calls(stmts: &[SpStmt]) -> bool
+    ensures { result ≡ stmts_call (stmts_of stmts.now) }
+{
+    for t in stmts {
+        if has_call(t) {
+            return true;
+        }
+    }
+    false
+}
+
+/// Whether the code of a function needs no word of the stack, where its first word stands in the register of this
+/// number.
+pub fn needs_none(homes: u32, f: &SpFunction) -> bool
+    requires { FunctionFits (plain_function f.now) }
+    ensures { result ≡ functions.needs_none homes (plain_function f.now) }
+{
+    let words = words_of(f);
+    let kept = homes <= OVERRUN && words <= OVERRUN - homes;
+    !have_calls(f.body.as_slice()) && levels_of(f.body.as_slice()) == 0 && kept
 }
 
 // ---- from which register on they stand

@@ -21,13 +21,13 @@ pub const SPARE: u32 = 27;
 /// What is divided; while it is, the digits of the quotient come in from the right.
 pub const DIVIDEND: u32 = 28;
 
-/// By what it is divided.
+/// By what it is divided, or that number's factor.
 pub const DIVISOR: u32 = 29;
 
 /// What is left of the digits that were taken so far.
 pub const REMAINDER: u32 = 30;
 
-/// How many digits are still to be taken.
+/// How many turns of a division are still to be made.
 pub const DIGITS: u32 = 31;
 
 /// Whether a loop went past its bound, in all functions of the task: 0 or 1.
@@ -36,7 +36,7 @@ pub const OVERRUN: u32 = 26;
 /// The predicate of a test, or of a mask.
 pub const TEST: u32 = 1;
 
-/// The predicate of a second test, which is joined with the first; and the highest bit of what is left in a division.
+/// The predicate of a second test, which is joined with the first; and that a divisor is large.
 pub const SECOND: u32 = 2;
 
 /// The predicate that what is left of a signed division is negative.
@@ -45,7 +45,7 @@ pub const REST_NEGATIVE: u32 = 3;
 /// The predicate that the quotient is negative.
 pub const QUOTIENT_NEGATIVE: u32 = 4;
 
-/// The predicate that digits are still to be taken.
+/// The predicate that a division makes one more turn.
 pub const MORE: u32 = 5;
 
 /// The register of a number.

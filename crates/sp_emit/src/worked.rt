@@ -25,8 +25,9 @@ pub fn worked_calls()
         ∷ [])).memory.private 4 ≡ 1 }
 {}
 
-/// Quotients and what is left: signed words, by 0, the least word by -1, and unsigned words past 2^31.
-#[tactic(auto, unfolding(crate::specs::Places::read_op, crate::specs::Places::fetch_op, crate::specs::Places::set_op, crate::specs::Places::word_cleared, crate::specs::Instructions::number_op))]
+/// Quotients and what is left: signed words, by 0, the least word by -1, unsigned words past 2^31; by powers of two, by
+/// other constants, and by a word that is not known.
+#[tactic(auto, unfolding(crate::specs::Places::read_op, crate::specs::Places::fetch_op, crate::specs::Places::set_op, crate::specs::Places::word_cleared, crate::specs::Instructions::number_op, crate::specs::Divisors::highest, crate::specs::Divisors::is_power, crate::specs::Divisors::moved, crate::specs::Divisors::scale, crate::specs::Divisors::factor, crate::specs::Divisors::surplus, crate::specs::Divisors::is_exact, crate::specs::Divisors::factor_rest_to, crate::specs::Division::unsigned_quotient_to))]
 pub fn worked_divisions()
     ensures quotient { word_in (ran_alone
         (small.unit_of (one (masks 1 (between_two binary.Divide (constant (2 ^ 32 - 7)) (constant 2))))) []).regs 1
@@ -51,9 +52,20 @@ pub fn worked_divisions()
     ensures unsigned { word_in (ran_alone
         (small.unit_of (one (masks 1 (between_two binary.DivideUnsigned (constant (2 ^ 32 - 7))
         (constant 2))))) []).regs 1 ≡ 2147483644 }
-    ensures large { word_in (ran_alone
+    ensures factor { word_in (ran_alone
+        (small.unit_of (one (masks 1 (between_two binary.Divide (constant (2 ^ 32 - 7)) (constant 3))))) []).regs 1
+        ≡ 2 ^ 32 - 2 }
+    ensures rest_by_factor { word_in (ran_alone
         (small.unit_of (one (masks 1 (between_two binary.RemainderUnsigned (constant (2 ^ 32 - 1))
-        (constant (2 ^ 31 + 1)))))) []).regs 1 ≡ 2147483646 }
+        (constant 10))))) []).regs 1 ≡ 5 }
+    ensures by_word { word_in (ran_alone
+        (small.unit_of (stmt (masks 0 (constant 3)) (one
+        (masks 1 (between_two binary.DivideUnsigned (constant (2 ^ 32 - 7)) (frame_word 0)))))) []).regs 1
+        ≡ 1431655763 }
+    ensures large { word_in (ran_alone
+        (small.unit_of (stmt (masks 0 (constant (2 ^ 31 + 1))) (one
+        (masks 1 (between_two binary.RemainderUnsigned (constant (2 ^ 32 - 1)) (frame_word 0)))))) []).regs 1
+        ≡ 2147483646 }
 {}
 
 /// Turns, masks and what they keep off: a store at main memory goes to word 0. The flag, and a send.

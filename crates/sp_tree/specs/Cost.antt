@@ -17,7 +17,7 @@ unary_cost unary.Complement = 1
 unary_cost unary.Not = 3
 
 -- `||` and `&&` compare both operands with 0, and join what comes of it; a comparison sets 0 and, under its predicate,
--- 1; a product is fetched from a register of its own; quotients and remainders take 32 turns
+-- 1; a product is fetched from a register of its own; quotients and remainders take at most 16 turns
 abbrev pub binary_cost : SpBinary → ℕ
 binary_cost binary.Or = 5
 binary_cost binary.And = 5

@@ -12,15 +12,15 @@ use Rattle.tc_job.specs.declared.task.Task.{Task}
 use Rattle.tc_report.specs.declared.rows.Row.{Row}
 use Rattle.tcrest.specs.declared.command.Command.TheVariants.{OfJob}
 use Rattle.tcrest.specs.declared.command.JobCommand.TheVariants.{Run}
-use Rattle.tcrest.specs.declared.top.TheConstants.{MOST_BYTES}
+use Rattle.job_tasks.specs.declared.calls.TheConstants.{MOST_BYTES}
 use Rattle.tcrest.specs.Answer.{answer_or, command_answer, job_answer, report_of}
 use Rattle.tcrest.specs.Complete.{HasCode, assembles, compiles, IsWhole}
 use Rattle.tcrest.specs.Machine.{cores_from, machine_of}
 use Rattle.tcrest.specs.Rows.{rows_of, is_early, status_of}
-use Rattle.tcrest.specs.Tasks.{Coded, Made, coded_from, coded_on, coded, made_by, made_in, of_code, of_program, on_core, runs_on, taken, task_on, ◌>>=◌}
+use Rattle.job_tasks.specs.Tasks.{Coded, Made, coded_from, coded_on, coded, made_by, made_in, of_code, of_program, on_core, runs_on, taken, task_on, ◌>>=◌}
 use Rattle.tcrest.specs.Telling.{HasReport}
 use Rattle.tcrest.proofs.Outcomes.{bytes_answer-within}
-use Rattle.tcrest.proofs.TasksFound.{found_among}
+use Rattle.job_tasks.proofs.TasksFound.{found_among}
 
 record IsMade (job : Job) (t : Task) : Type 0 where
   pub made : Made

@@ -1,18 +1,14 @@
 -- The cores of a job, one after another.
 use Rattle.std.proofs.Common.{◌≡◌, ℕ, zero, suc, ◌+◌, arith, List, [], ◌∷◌, ◌++◌, length, map, sym, ap, ◌∙◌, subst, Option, IfSome, slice_get}
 use Rattle.std.proofs.lemmas.List.{map-append, length-map}
-use Rattle.slot_arbiter.specs.declared.place.Place.{Place}
-use Rattle.slot_arbiter.specs.Place.HasNumbers.{HasNumbers}
-use Rattle.patmos_code.specs.Images.{Parts}
-use Rattle.patmos_model.specs.Apart.{site_of}
 use Rattle.global_step.specs.declared.loaded.LoadedCore.{LoadedCore}
 use Rattle.global_step.specs.Machine.{first_core}
 use Rattle.tc_job.specs.declared.job.Job.{Job}
-use Rattle.tcrest.specs.declared.tasks.CodedTask.{CodedTask}
-use Rattle.tcrest.specs.declared.tasks.CoreTask.{CoreTask}
-use Rattle.tcrest.specs.Tasks.{Coded, runs_on}
-use Rattle.tcrest.specs.Coding.{runs, shown, all_shown}
-use Rattle.tcrest.specs.Machine.{core_with, cores_from, site_on}
+use Rattle.job_tasks.specs.declared.tasks.CodedTask.{CodedTask}
+use Rattle.job_tasks.specs.declared.tasks.CoreTask.{CoreTask}
+use Rattle.job_tasks.specs.Tasks.{Coded, runs_on}
+use Rattle.job_tasks.specs.Coding.{runs, shown, all_shown}
+use Rattle.tcrest.specs.Machine.{core_with, cores_from}
 use Rattle.tcrest.specs.Loading.{IsPlaced}
 
 -- one more core stands after the others
@@ -54,15 +50,3 @@ get_push (d ∷ ls) l (suc k) P each last = get_push ls l k (λ j. P (suc j)) (�
 pub next_placed : (job : Job) (core : ℕ) (prefix pushed : List LoadedCore) (l : LoadedCore) → length prefix ≡ core → pushed ≡ prefix ++ l ∷ [] → IsPlaced job core l → ArePlaced job prefix → ArePlaced job pushed
 next_placed job core prefix pushed l count push is so_far = λ k.
     subst (λ ls. IfSome (slice_get ls k) (IsPlaced job k)) (sym push) (get_push prefix l k (IsPlaced job) so_far (subst (λ n. IsPlaced job n l) (sym count) is))
-
--- the place with the job's numbers is where the job's core stands
-pub same_site : (job : Job) (core start : ℕ) (place : Place) (image : Parts) → HasNumbers place job.cores core job.slot start → place.table ≡ job.table
-    → site_of place image ≡ site_on job core start image
-same_site job core start place image h table = λ i. record {
-  cores = h.cores_are i;
-  core = h.core_is i;
-  slot = h.slot_is i;
-  table = table i;
-  start = h.start_is i;
-  image = image;
-}

@@ -1,10 +1,7 @@
 pub mod Outcomes
-pub mod Periods
 pub mod CoresFound
 pub mod OutputFound
 pub mod RowsFound
-pub mod TasksFound
-pub mod TasksCoded
 pub mod Lines
 pub mod Piped
 pub mod Outs

@@ -12,12 +12,12 @@ use Rattle.tc_job.specs.declared.job.Job.{Job}
 use Rattle.tc_report.specs.declared.rows.Row.{Row}
 use Rattle.tc_report.specs.Report.{platform_line, state_line}
 use Rattle.tcrest.specs.Answer.{rows_at_end}
-use Rattle.tcrest.specs.Coding.{told_row, pipe_told}
+use Rattle.tcrest.specs.PipeTold.{told_row, pipe_told}
 use Rattle.tcrest.specs.Loading.{IsLoadedFor}
 use Rattle.tcrest.specs.Machine.{begun_on, cores_from, machine_of}
 use Rattle.tcrest.specs.Pipe.{pipe_of, steps_text}
 use Rattle.tcrest.specs.Rows.{row_of, running, status_of}
-use Rattle.tcrest.specs.Tasks.{Coded, Runs, nothing, assembly, program, runs_made}
+use Rattle.job_tasks.specs.Tasks.{Coded, Runs, nothing, assembly, program, runs_made}
 use Rattle.tcrest.proofs.RowsFound.{same_machine}
 
 -- rows that tell the same of state, bound and data have the same line

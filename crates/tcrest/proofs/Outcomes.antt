@@ -1,5 +1,5 @@
 -- How a call that ended meets the sentences on what was written.
-use Rattle.std.proofs.Common.{◌≡◌, inl, inr, ℕ, ◌<◌, ◌≤◌, List, [], length, take, refl, sym, subst, IfOk, ◌∙◌, ◌≢◌, ◌↔◌, ap, slice_index, map, arith, Option, Some, None, IfSome}
+use Rattle.std.proofs.Common.{◌≡◌, inl, inr, ℕ, ◌<◌, ◌≤◌, List, [], length, refl, sym, ◌∙◌, ◌≢◌, ◌↔◌, ap, slice_index, map, arith, Option, Some, None, IfSome}
 use Rattle.std.proofs.lemmas.Bool.{cases_lt}
 use Rattle.std.proofs.lemmas.Bool.Decides.{nat_tests}
 use Rattle.job_gen.specs.Generator.{generated}
@@ -12,8 +12,8 @@ use Rattle.std.specs.List.{list_any}
 use Rattle.tc_report.specs.declared.rows.Row.{Row}
 use Rattle.std.specs.Prelude.{Result, Ok, Err, Bool, true, false, if◌then◌else◌, ◌∷◌}
 use Rattle.patmos_model.specs.State.{Core}
-use Rattle.tcrest.specs.declared.top.TheConstants.{MOST_BYTES}
-use Rattle.tcrest.specs.declared.answers.Answer.{Answer}
+use Rattle.job_tasks.specs.declared.calls.TheConstants.{MOST_BYTES}
+use Rattle.job_tasks.specs.declared.answers.Answer.{Answer}
 use Rattle.tcrest.specs.declared.command.Command.{Command}
 use Rattle.tcrest.specs.declared.command.Command.TheVariants.{OfJob, Grid, Gen, Bench, Usage}
 use Rattle.argo_grid.specs.declared.fault.GridFault.{GridFault}
@@ -25,7 +25,7 @@ use Rattle.argo_grid.specs.Report.{by_check, report_on}
 use Rattle.argo_grid.specs.Schedule.{Schedule}
 use Rattle.tcrest.specs.declared.command.JobCommand.{JobCommand}
 use Rattle.tcrest.specs.declared.command.JobCommand.TheVariants.{Run, Bound, Asm, Mean, Pipe, Persist}
-use Rattle.tcrest.specs.declared.refusal.CoreRefusal.{CoreRefusal}
+use Rattle.job_tasks.specs.declared.refusal.CoreRefusal.{CoreRefusal}
 use Rattle.tcrest.specs.Bounds.{bounds_text}
 use Rattle.tcrest.specs.declared.bounds.Bounds.TheVariants.{Plain, Persistent}
 use Rattle.tcrest.specs.Command.{command_of, ReadsNothing}
@@ -34,9 +34,10 @@ use Rattle.tcrest.specs.Machine.{begun_on, cores_from, machine_of}
 use Rattle.tcrest.specs.Meanings.{meanings}
 use Rattle.tcrest.specs.Pipe.{pipe_of}
 use Rattle.tcrest.specs.Rows.{rows_of, is_early, status_of}
-use Rattle.tcrest.specs.Tasks.{Coded, Runs, coded_from, runs_made, runs_on}
-use Rattle.tcrest.specs.Answer.{read_fault, too_long, no_job, no_task, whole, report_of, answer_with, answer_or, is_taken, one_core, pipe_with, rows_at_end, answer_by, job_answer, of_grid, text_answer, bytes_answer, command_answer, answer}
-use Rattle.tcrest.specs.Outcome.{IsSent, Ends, HasWritten}
+use Rattle.job_tasks.specs.Tasks.{Coded, coded_from, runs_on}
+use Rattle.job_tasks.specs.Answer.{too_long, no_job, no_task, whole}
+use Rattle.tcrest.specs.Answer.{report_of, answer_with, answer_or, is_taken, one_core, pipe_with, rows_at_end, answer_by, job_answer, of_grid, text_answer, bytes_answer, command_answer, answer}
+use Rattle.job_tasks.specs.Outcome.{IsSent, Ends}
 
 -- the answer to a job has the status of a whole text or of a refused task
 abbrev IsOfTasks : ℕ → Type 0
@@ -156,11 +157,6 @@ text_answer-not_long (Gen number) bytes = λ same. absurd (let status : 0 ≡ 2 
 text_answer-not_long (Bench number) bytes = (job_answer-is Run (job_of (generated number))).not_long
 text_answer-not_long Usage bytes = λ same. absurd (let status : 1 ≡ 2 = ap (λ (a : Answer). a.status) same in omega (arith, status))
 
--- each of these answers has a status below those of faults of the outside
-pub below_if : {E : Type 0} (result : Result Answer E) (a : Answer) → IfOk result (λ x. x ≡ a) → a.status < 5 → IfOk result (λ x. x.status < 5)
-below_if (Ok x) a is low = subst (λ y. y.status < 5) (sym is) low
-below_if (Err e) a is low = tt
-
 pub grid_below : (bytes : List ℕ) → (of_grid (grid.report_of bytes)).status < 5
 grid_below bytes = (grid_answer-is (schedule_of bytes)).below
 
@@ -215,69 +211,3 @@ module _ (failed : Type 0) (status faults faults' : ℕ) (taken taken' : Option 
       → IfSome left (λ bytes. Ends (bytes_answer command bytes) failed status faults faults' taken taken')
   sent_within command None came all within sent = tt
   sent_within command (Some bytes) came all within sent = rw (← all, bytes_answer-within command came within) (inr (inl sent))
-
--- a sink that tells its bytes was handed a text
-HasWritten-Ends : (a : Answer) (failed : Type 0) (status faults faults' : ℕ) (taken taken' : Option (List ℕ)) → a.status < 5
-    → Ends a failed status faults faults' taken taken' → HasWritten a failed status taken taken'
-HasWritten-Ends a failed status faults faults' None taken' low ends = tt
-HasWritten-Ends a failed status faults faults' (Some t) None low ends = tt
-HasWritten-Ends a failed status faults faults' (Some t) (Some t') low (inl nothing) = (
-  [],
-  nothing.1,
-  record {
-    answered = λ below. absurd (omega (arith, nothing.0));
-    at_read_fault = λ five. absurd (omega (arith, nothing.0));
-    at_write_fault = λ six. absurd (omega (arith, nothing.0));
-    at_memory = λ _. refl;
-    known = omega (arith, nothing.0);
-  },
-)
-HasWritten-Ends a failed status faults faults' (Some t) (Some t') low (inr (inl (inl whole))) = (
-  a.text,
-  whole.1,
-  record {
-    answered = λ _. (whole.0, refl);
-    at_read_fault = λ five. absurd (omega (arith, whole.0));
-    at_write_fault = λ six. absurd (omega (arith, whole.0));
-    at_memory = λ seven. absurd (omega (arith, whole.0));
-    known = omega (arith, whole.0);
-  },
-)
-HasWritten-Ends a failed status faults faults' (Some t) (Some t') low (inr (inl (inr cut))) = (
-  take cut.2 a.text,
-  cut.4,
-  record {
-    answered = λ below. absurd (omega (arith, cut.0));
-    at_read_fault = λ five. absurd (omega (arith, cut.0));
-    at_write_fault = λ _. inl (cut.2, cut.3, refl);
-    at_memory = λ seven. absurd (omega (arith, cut.0));
-    known = omega (arith, cut.0);
-  },
-)
-HasWritten-Ends a failed status faults faults' (Some t) (Some t') low (inr (inr (inl line, read))) = (
-  read_fault.text,
-  line.1,
-  record {
-    answered = λ below. absurd (omega (arith, line.0));
-    at_read_fault = λ _. refl;
-    at_write_fault = λ six. absurd (omega (arith, line.0));
-    at_memory = λ seven. absurd (omega (arith, line.0));
-    known = omega (arith, line.0);
-  },
-)
-HasWritten-Ends a failed status faults faults' (Some t) (Some t') low (inr (inr (inr cut, read))) = (
-  take cut.2 read_fault.text,
-  cut.4,
-  record {
-    answered = λ below. absurd (omega (arith, cut.0));
-    at_read_fault = λ five. absurd (omega (arith, cut.0));
-    at_write_fault = λ _. inr ((cut.2, cut.3, refl), read);
-    at_memory = λ seven. absurd (omega (arith, cut.0));
-    known = omega (arith, cut.0);
-  },
-)
-
-pub written_if : (a : List ℕ → Answer) (failed : Type 0) (status faults faults' : ℕ) (taken taken' left : Option (List ℕ)) → ((bytes : List ℕ) → (a bytes).status < 5)
-    → IfSome left (λ bytes. Ends (a bytes) failed status faults faults' taken taken') → IfSome left (λ bytes. HasWritten (a bytes) failed status taken taken')
-written_if a failed status faults faults' taken taken' None low ends = tt
-written_if a failed status faults faults' taken taken' (Some bytes) low ends = HasWritten-Ends (a bytes) failed status faults faults' taken taken' (low bytes) ends

@@ -12,11 +12,11 @@ use Rattle.tc_job.specs.declared.job.Job.{Job}
 use Rattle.tc_report.specs.declared.rows.Row.{Row}
 use Rattle.tc_report.specs.Line.{step_line}
 use Rattle.tc_report.specs.Report.{platform_line, state_line}
-use Rattle.tcrest.specs.declared.answers.Answer.{Answer}
-use Rattle.tcrest.specs.Coding.{end_row, pipe_told}
+use Rattle.job_tasks.specs.declared.answers.Answer.{Answer}
+use Rattle.tcrest.specs.PipeTold.{end_row, pipe_told}
 use Rattle.tcrest.specs.Pipe.{step_text, steps_text}
 use Rattle.tcrest.specs.Rows.{status_of}
-use Rattle.tcrest.specs.Tasks.{Runs}
+use Rattle.job_tasks.specs.Tasks.{Runs}
 
 -- in each cycle there is at most one bundle
 one_at_most : (cycle : ℕ) (c : Core) → length (done_by cycle c) ≤ 1

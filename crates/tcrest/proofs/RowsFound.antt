@@ -15,14 +15,14 @@ use Rattle.global_step.specs.Machine.{first_core, core_among, machine, at_limit}
 use Rattle.tc_run.specs.Final.{IsFinalCore, AreFinal}
 use Rattle.tc_job.specs.declared.job.Job.{Job}
 use Rattle.tc_report.specs.declared.rows.Row.{Row}
-use Rattle.tcrest.specs.declared.answers.Answer.{Answer}
+use Rattle.job_tasks.specs.declared.answers.Answer.{Answer}
 use Rattle.tcrest.specs.Answer.{reported, report_of}
-use Rattle.tcrest.specs.declared.tasks.CoreTask.{CoreTask}
-use Rattle.tcrest.specs.Coding.{runs}
+use Rattle.job_tasks.specs.declared.tasks.CoreTask.{CoreTask}
+use Rattle.job_tasks.specs.Coding.{runs}
 use Rattle.tcrest.specs.Machine.{core_in, cores_from, machine_of}
 use Rattle.tcrest.specs.Rows.{row_of, rows_from, rows_of, running}
 use Rattle.tcrest.specs.Loading.{IsLoadedFor}
-use Rattle.tcrest.specs.Tasks.{Coded, Runs, runs_on}
+use Rattle.job_tasks.specs.Tasks.{Coded, Runs, runs_on}
 
 -- one more row stands after the others
 rows_from-push : (limit trace : ℕ) (all : List Running) (core : ℕ) (rs : List Runs) (r : Runs) (m : State Core)

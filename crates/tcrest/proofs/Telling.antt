@@ -8,7 +8,7 @@ use Rattle.slot_arbiter.specs.declared.place.Place.{Place}
 use Rattle.slot_arbiter.specs.declared.place.TheConstants.{LATEST_START}
 use Rattle.shared_order.specs.Machine.{State, cycled}
 use Rattle.c_mentions.specs.Alone as alone
-use Rattle.c_mentions.specs.Alone.{Running, is_alone}
+use Rattle.c_mentions.specs.Alone.{Running}
 use Rattle.c_tree.specs.Plain.{PlainItem}
 use Rattle.c_tree.specs.Valid.{IsValid}
 use Rattle.c_world.specs.Numbers.{flag}
@@ -35,10 +35,12 @@ use Rattle.tcrest.specs.declared.command.Command.{Command}
 use Rattle.tcrest.specs.declared.command.JobCommand.{JobCommand}
 use Rattle.tcrest.specs.declared.command.JobCommand.TheVariants.{Run, Bound, Asm, Mean, Pipe, Persist}
 use Rattle.tcrest.specs.Answer.{is_taken}
-use Rattle.tcrest.specs.Machine.{core_with, core_in, cores_from, machine_of, site_on}
+use Rattle.job_tasks.specs.Sites.{site_on}
+use Rattle.tcrest.specs.Machine.{core_with, core_in, cores_from, machine_of}
 use Rattle.tcrest.specs.Rows.{is_flagged, program_row, row_of, row_state, rows_from, running}
-use Rattle.tcrest.specs.Tasks.{Bounded, Coded, coded_from, runs_by, runs_on}
-use Rattle.tcrest.specs.Telling.{IsPlaceOf, TellsMeaning, TellsTask, TellsTasks, TellsAllBounds, TellsOf, TellsJob, TellsTasksOf, end_of, IsCompiled, IsMadeFor, IsMadeOn, AreMade}
+use Rattle.job_tasks.specs.Tasks.{Bounded, Coded, coded_from, runs_by, runs_on}
+use Rattle.job_tasks.specs.Making.{IsCompiled, IsMadeFor, IsMadeOn, AreMade}
+use Rattle.tcrest.specs.Telling.{IsPlaceOf, TellsMeaning, TellsTask, TellsTasks, TellsAllBounds, TellsOf, TellsJob, TellsTasksOf, end_of}
 use Rattle.tcrest.proofs.Outs.{outs_are}
 
 -- ---- one row

@@ -3,23 +3,20 @@ use Rattle.std.specs.Prelude.{ℕ, nat_lt, Bool, true, if◌then◌else◌, List
 use Rattle.argo_grid.specs.declared.report.GridReport.{GridReport}
 use Rattle.argo_grid.specs.Report as grid
 use Rattle.job_gen.specs.Generator.{generated}
-use Rattle.tc_toml.specs.Fault.{Fault, fault_text}
+use Rattle.tc_toml.specs.Fault.{Fault}
 use Rattle.tc_job.specs.Job.{job_of}
 use Rattle.tc_job.specs.declared.job.Job.{Job}
 use Rattle.tc_report.specs.declared.rows.Row.{Row}
-use Rattle.tc_report.specs.Line.{line, core_name}
 use Rattle.tc_report.specs.Report.{report_text}
-use Rattle.tcrest.specs.declared.top.TheConstants.{MOST_BYTES}
-use Rattle.tcrest.specs.declared.answers.Answer.{Answer}
+use Rattle.job_tasks.specs.declared.calls.TheConstants.{MOST_BYTES}
+use Rattle.job_tasks.specs.declared.answers.Answer.{Answer}
 use Rattle.tcrest.specs.declared.command.Command.{Command}
 use Rattle.tcrest.specs.declared.command.Command.TheVariants.{OfJob, Grid, Gen, Bench, Usage}
 use Rattle.tcrest.specs.declared.command.JobCommand.{JobCommand}
 use Rattle.tcrest.specs.declared.command.JobCommand.TheVariants.{Run, Bound, Asm, Mean, Pipe, Persist}
 use Rattle.tcrest.specs.declared.pipe.PipeFault.{PipeFault}
 use Rattle.tcrest.specs.declared.pipe.PipeFault.TheVariants.{OneCore}
-use Rattle.tcrest.specs.declared.top.TextFault.{TextFault}
-use Rattle.tcrest.specs.declared.top.TextFault.TheVariants.{TooLong}
-use Rattle.tcrest.specs.declared.refusal.CoreRefusal.{CoreRefusal}
+use Rattle.job_tasks.specs.declared.refusal.CoreRefusal.{CoreRefusal}
 use Rattle.tcrest.specs.Bounds.{bounds_text}
 use Rattle.tcrest.specs.declared.bounds.Bounds.TheVariants.{Plain, Persistent}
 use Rattle.tcrest.specs.Command.{command_of}
@@ -28,37 +25,11 @@ use Rattle.tcrest.specs.Machine.{begun_on, cores_from, machine_of}
 use Rattle.tcrest.specs.Meanings.{meanings}
 use Rattle.tcrest.specs.Pipe.{fault_name, is_lone, pipe_of}
 use Rattle.tcrest.specs.Rows.{rows_of, status_of, report_rows}
-use Rattle.tcrest.specs.Tasks.{Coded, coded_from, refusal_text, runs_on}
-
--- an answer of one line
-abbrev pub lone_line : ℕ → List ℕ → Answer
-lone_line status text = record { status = status; text = line text }
+use Rattle.job_tasks.specs.Answer.{lone_line, too_long, no_job, no_task, whole}
+use Rattle.job_tasks.specs.Tasks.{Coded, coded_from, runs_on}
 
 abbrev pub usage : Answer
 usage = lone_line 1 (codes "usage: tcrest run|bound|asm|mean|gen N|bench N|pipe|grid|persist")
-
--- the source failed
-abbrev pub read_fault : Answer
-read_fault = lone_line 5 (codes "read fault")
-
--- the number of a fault that is found before a text is read as a job, before those of any job
-abbrev pub text_fault_number : TextFault → ℕ
-text_fault_number TooLong = 1
-
-abbrev pub too_long : Answer
-too_long = lone_line 2 (codes "job: TooLong")
-
--- the bytes are no job
-abbrev pub no_job : Fault → Answer
-no_job fault = lone_line 2 (fault_text fault.kind fault.task fault.key)
-
--- the task of a core is refused
-abbrev pub no_task : CoreRefusal → Answer
-no_task r = lone_line 4 (core_name r.core ++ codes ": " ++ refusal_text r.refusal)
-
--- a whole text
-abbrev pub whole : List ℕ → Answer
-whole text = record { status = 0; text = text }
 
 -- the report of rows, under their status
 abbrev pub reported : Job → List Row → Answer

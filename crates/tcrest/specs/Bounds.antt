@@ -7,7 +7,7 @@ use Rattle.tc_report.specs.Line.{line, about}
 use Rattle.tc_report.specs.Report.{platform_line}
 use Rattle.tcrest.specs.declared.bounds.Bounds.{Bounds}
 use Rattle.tcrest.specs.declared.bounds.Bounds.TheVariants.{Plain, Persistent}
-use Rattle.tcrest.specs.Tasks.{Bounded, Coded, Runs, nothing, assembly, program, runs_on, told_from}
+use Rattle.job_tasks.specs.Tasks.{Bounded, Coded, Runs, nothing, assembly, program, runs_on, told_from}
 
 -- the persistent bound, where it is told
 abbrev pub persist_text : Bounds → ℕ → List ℕ

@@ -9,9 +9,9 @@ use Rattle.patmos_asm.specs.Assembly.{CodeParts, code_of}
 use Rattle.tc_job.specs.declared.job.Job.{Job}
 use Rattle.tc_job.specs.declared.task.Task.{Task}
 use Rattle.tc_job.specs.declared.task.Lang.TheVariants.{Asm, C}
-use Rattle.tcrest.specs.declared.answers.Answer.{Answer}
+use Rattle.job_tasks.specs.declared.answers.Answer.{Answer}
 use Rattle.tcrest.specs.Answer.{report_of}
-use Rattle.tcrest.specs.Tasks.{Coded, coded_from}
+use Rattle.job_tasks.specs.Tasks.{Coded, coded_from}
 use Rattle.tcrest.specs.Telling.{HasReport}
 
 -- a task with code: its text is assembly, or a program that is valid on its core and whose bound is not too long

@@ -1,16 +1,13 @@
 pub mod Command
-pub mod Tasks
-pub mod Coding
-pub mod Gives
 pub mod Listing
 pub mod Meanings
 pub mod Machine
 pub mod Loading
 pub mod Rows
 pub mod Pipe
+pub mod PipeTold
 pub mod Answer
 pub mod Bounds
-pub mod Outcome
 pub mod Telling
 pub mod Complete
 pub mod Worked

@@ -4,7 +4,7 @@ use Rattle.std.specs.List.{flat_map}
 use Rattle.std.specs.Fmt.{decimal}
 use Rattle.tc_io.specs.Hex.{hex8}
 use Rattle.tc_report.specs.Line.{line, core_name}
-use Rattle.tcrest.specs.Tasks.{Made, Coded, told_from}
+use Rattle.job_tasks.specs.Tasks.{Made, Coded, told_from}
 
 -- each word is a line of eight hexadecimal digits
 abbrev pub word_line : ℕ → List ℕ

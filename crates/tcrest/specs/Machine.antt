@@ -1,25 +1,13 @@
 -- To be believed. The machine that a job asks for: the job's platform, and on each core its task, if it has one.
 use Rattle.std.specs.Prelude.{ℕ, ◌+◌, List, [], ◌∷◌, Option, None, Some, slice_get}
 use Rattle.shared_order.specs.Machine.{State, cycled}
-use Rattle.patmos_code.specs.Images.{Parts}
-use Rattle.patmos_model.specs.Site.{Site}
 use Rattle.patmos_model.specs.State.{Core}
 use Rattle.patmos_model.specs.Begin.{begun, idle, no_code}
 use Rattle.patmos_model.specs.Cycle.{turn}
 use Rattle.global_step.specs.Machine.{core_among}
 use Rattle.tc_job.specs.declared.job.Job.{Job}
-use Rattle.tcrest.specs.Tasks.{Coded}
-
--- where a core stands on the platform, the cycle at which its task starts, and the task's image
-abbrev pub site_on : Job → ℕ → ℕ → Parts → Site
-site_on job core start image = record {
-  cores = job.cores;
-  core = core;
-  slot = job.slot;
-  table = job.table;
-  start = start;
-  image = image;
-}
+use Rattle.job_tasks.specs.Sites.{site_on}
+use Rattle.job_tasks.specs.Tasks.{Coded}
 
 -- a core before the first cycle: without a task, and with one
 abbrev pub idle_on : Job → ℕ → Core

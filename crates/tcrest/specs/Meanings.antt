@@ -8,7 +8,7 @@ use Rattle.c_meaning.specs.Meaning.{Given}
 use Rattle.c_run.specs.Told.{slot_words, output_number}
 use Rattle.c_world.specs.World.{World}
 use Rattle.tc_report.specs.Line.{line, about, mean_line, outs_from}
-use Rattle.tcrest.specs.Tasks.{Bounded, Made, Coded, told_from}
+use Rattle.job_tasks.specs.Tasks.{Bounded, Made, Coded, told_from}
 
 -- the words of the array `out` at the end, where there is one
 abbrev pub outs_of : ℕ → World → Option Slot → List ℕ

@@ -4,13 +4,13 @@ use Rattle.std.specs.Prelude.{ℕ, zero, suc, ◌+◌, ◌==◌, min, Bool, true
 use Rattle.slot_arbiter.specs.Slot.{period}
 use Rattle.patmos_model.specs.State.{Core}
 use Rattle.pipe_five.specs.Stages.{stages_of}
-use Rattle.pipe_five.specs.Steps.{core_before, done_below, first_of, number}
+use Rattle.pipe_five.specs.Steps.{done_below, first_of, number}
 use Rattle.tc_job.specs.declared.job.Job.{Job}
 use Rattle.tc_job.specs.declared.task.Task.{Task}
 use Rattle.tc_report.specs.declared.rows.Row.{Row}
 use Rattle.tc_report.specs.Line.{step_line}
 use Rattle.tc_report.specs.Report.{platform_line, state_line}
-use Rattle.tcrest.specs.declared.answers.Answer.{Answer}
+use Rattle.job_tasks.specs.declared.answers.Answer.{Answer}
 use Rattle.tcrest.specs.declared.pipe.PipeFault.{PipeFault}
 use Rattle.tcrest.specs.declared.pipe.PipeFault.TheVariants.{OneCore}
 use Rattle.tcrest.specs.Rows.{status_of}

@@ -19,7 +19,7 @@ use Rattle.tc_report.specs.declared.rows.Rows.{Rows}
 use Rattle.tc_report.specs.declared.rows.RowState.{RowState}
 use Rattle.tc_report.specs.declared.rows.RowState.TheVariants.{Idle, Limit, Done, Trap}
 use Rattle.tcrest.specs.Meanings.{output_slot}
-use Rattle.tcrest.specs.Tasks.{Bounded, Runs, nothing, assembly, program}
+use Rattle.job_tasks.specs.Tasks.{Bounded, Runs, nothing, assembly, program}
 
 -- what became of a task
 abbrev pub row_state : CoreState → RowState

@@ -1,24 +1,17 @@
 -- To be believed. What the report of a job tells of its C tasks, in terms of what their
 -- texts mean and of the times of their code.
-use Rattle.std.specs.Prelude.{◌≡◌, ℕ, ◌+◌, ◌-◌, ◌<◌, ◌≤◌, ◌⊎◌, true, List, take, map, Option, Some, IfSome, Ok, slice_get}
-use Rattle.std.specs.List.{AllByRecursion as Each}
+use Rattle.std.specs.Prelude.{◌≡◌, ℕ, ◌+◌, ◌-◌, ◌<◌, ◌≤◌, ◌⊎◌, true, List, take, map, Option, Some, Ok, slice_get}
 use Rattle.slot_arbiter.specs.declared.place.Place.{Place}
-use Rattle.slot_arbiter.specs.declared.place.TheConstants.{LATEST_START}
 use Rattle.shared_order.specs.Machine.{State}
 use Rattle.shared_order.specs.Words.{zeros}
 use Rattle.c_tree.specs.Plain.{PlainItem}
-use Rattle.c_tree.specs.Valid.{IsValid}
 use Rattle.c_meaning.specs.Meaning.{Given}
 use Rattle.core_pace.specs.Growth.{below}
 use Rattle.job_gen.specs.Generator.{generated}
-use Rattle.patmos_code.specs.Images.{Parts}
-use Rattle.patmos_model.specs.Range.{HasCode, IsWord}
 use Rattle.patmos_model.specs.State.{Core}
-use Rattle.single_path.specs.Single.{single}
-use Rattle.task_core.specs.Tasks.{IsCode}
 use Rattle.c_task.specs.Programs.{said}
 use Rattle.c_task.specs.Telling.{FitsWorld, OwnsOperations}
-use Rattle.c_task.specs.Translation.{IsWorld, bound as bound_of, bound_on, persist_on, times, translation}
+use Rattle.c_task.specs.Translation.{IsWorld, bound as bound_of, times}
 use Rattle.tc_job.specs.Job.{job_of}
 use Rattle.tc_job.specs.declared.job.Job.{Job}
 use Rattle.tc_report.specs.declared.rows.Row.{Row}
@@ -31,7 +24,7 @@ use Rattle.tcrest.specs.Machine.{cores_from, machine_of}
 use Rattle.tcrest.specs.Meanings.{output_slot}
 use Rattle.tcrest.specs.Pipe.{is_lone}
 use Rattle.tcrest.specs.Rows.{rows_of, words_out}
-use Rattle.tcrest.specs.Tasks.{Bounded, Coded, coded_from, runs_on}
+use Rattle.job_tasks.specs.Tasks.{Bounded, Coded, coded_from, runs_on}
 
 -- a place on the platform of a job, at which a task starts in a cycle
 pub record IsPlaceOf (job : Job) (start : ℕ) (place : Place) : Type 0 where
@@ -119,28 +112,3 @@ TellsTasksOf Usage bytes = Unit {0}
 -- the statuses with which a report is written
 abbrev pub HasReport : ℕ → Type 0
 HasReport status = (status ≡ 0) ⊎ (status ≡ 3)
-
--- ---- what is known of tasks that are made
-
--- a program that was compiled for a core
-pub record IsCompiled (job : Job) (core : ℕ) (image : Parts) (p : Bounded) : Type 0 where
-  pub valid : IsValid p.items job.cores core
-  pub code : IsCode (single p.items)
-  pub image_is : image ≡ (translation p.items).image
-  pub bound : p.bound ≡ bound_on job.table job.slot core p.items
-  pub persist : p.persist ≡ persist_on job.table job.slot core p.items
-
--- a core's task is of that core, its input and its image are words, and its program was compiled for it
-pub record IsMadeFor (job : Job) (core : ℕ) (c : Coded) : Type 0 where
-  pub core_is : c.task.core ≡ core
-  pub start : c.task.start ≤ LATEST_START
-  pub given : Each IsWord c.task.input
-  pub code : HasCode c.made.image
-  pub initial : Each IsWord c.made.image.initial
-  pub compiled : IfSome c.made.program (IsCompiled job core c.made.image)
-
-abbrev pub IsMadeOn : Job → ℕ → Option Coded → Type 0
-IsMadeOn job core c = IfSome c (IsMadeFor job core)
-
-abbrev pub AreMade : Job → List (Option Coded) → Type 0
-AreMade job coded = (core : ℕ) → IfSome (slice_get coded core) (IsMadeOn job core)

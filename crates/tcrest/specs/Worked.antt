@@ -7,7 +7,7 @@ use Rattle.tc_job.specs.declared.task.Lang.TheVariants.{Asm}
 use Rattle.tc_report.specs.declared.rows.Row.{Row}
 use Rattle.tcrest.specs.Machine.{begun_on, machine_of}
 use Rattle.tcrest.specs.Rows.{rows_of}
-use Rattle.tcrest.specs.Tasks.{assembly, of_code}
+use Rattle.job_tasks.specs.Tasks.{assembly, of_code}
 
 -- the code of `addi r1 = r0, 7; ret; nop; nop; nop`
 abbrev pub seven : CodeParts

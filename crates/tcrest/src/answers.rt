@@ -3,12 +3,14 @@ ghost use Rattle.std.specs.Prelude.{◌≡◌, ◌<◌, All, [], Option, Ok, tru
 ghost use Rattle.argo_grid.specs.Report as grid;
 ghost use Rattle.job_gen.specs.Generator.{generated};
 ghost use Rattle.tc_job.specs.Job.{job_of};
+ghost use Rattle.job_tasks.specs.Answer as answers;
 ghost use Rattle.tcrest.specs.Answer as specs;
 ghost use Rattle.tcrest.specs.Command as words;
 ghost use Rattle.tcrest.specs.declared.command.JobCommand.TheVariants as variants;
-ghost use Rattle.tcrest.specs.Tasks.{Coded, coded_from};
-ghost use Rattle.tcrest.specs.Telling.{AreMade, TellsJob, TellsOf, TellsTasks, TellsTasksOf};
-ghost use Rattle.tcrest.specs.Coding.{all_shown, IsAmong};
+ghost use Rattle.job_tasks.specs.Tasks.{Coded, coded_from};
+ghost use Rattle.job_tasks.specs.Making.{AreMade};
+ghost use Rattle.tcrest.specs.Telling.{TellsJob, TellsOf, TellsTasks, TellsTasksOf};
+ghost use Rattle.job_tasks.specs.Coding.{all_shown, IsAmong};
 
 use crate::bounds::{Bounds, bounds_text};
 use crate::command::{Command, JobCommand};
@@ -16,13 +18,11 @@ use crate::listing::listings;
 use crate::loading::loaded_of;
 use crate::meanings::meanings;
 use crate::pipe::{PipeFault, fault_answer, is_lone, pipe_with};
-use crate::ranged::RangedJob;
-use crate::refusal::{Halt, refusal_answer};
 use crate::rows::{report_text_of, rows_of, status_of};
-use crate::tasks::{CodedTask, coded_tasks};
 use argo_grid::{GridReport, grid_report};
 use global_step::machine_keeps_ranges;
 use job_gen::generate;
+use job_tasks::{Answer, CodedTask, Halt, RangedJob, coded_tasks, no_job, refusal_answer, whole};
 use std::alloc::{AllocError, Global};
 use std::sync::Wait;
 use std::thread::Threads;
@@ -30,21 +30,14 @@ use tc_io::Gate;
 use tc_job::{Job, read_job};
 use tc_report::Row;
 use tc_run::{loaded_with_words, run_machine};
-use tc_toml::{JobError, JobFault, put_fault};
+use tc_toml::JobError;
 use tc_word::{List, OutOfMemory};
-
-/// A status and the text that is written with it.
-#[derive(Debug, Drop)]
-pub struct Answer {
-    pub status: u8,
-    pub text: List<u8>,
-}
 
 /// The line that tells the commands.
 pub const USAGE: &[u8] = b"usage: tcrest run|bound|asm|mean|gen N|bench N|pipe|grid|persist\n";
 
 /// The answer that a command that reads owes a text that is not too long.
-#[tactic(auto, using(crate::proofs::Outcomes::below_if, crate::proofs::Outcomes::grid_below))]
+#[tactic(auto, using(job_tasks::proofs::Outcomes::below_if, crate::proofs::Outcomes::grid_below))]
 pub fn text_answer<R: Threads + Wait + Sync, G: Gate + Sync>(
     alloc: Global,
     rt: &R,
@@ -89,13 +82,13 @@ pub fn unread_answer<R: Threads + Wait + Sync, G: Gate + Sync>(
 
 // the text of a generated job
 fn gen_answer(alloc: Global, number: u32) -> Result<Answer, OutOfMemory>
-    ensures { IfOk result (λ answer. answer ≡ specs.whole (generated number)) }
+    ensures { IfOk result (λ answer. answer ≡ answers.whole (generated number)) }
 {
     Ok(whole(generate(alloc, u64::from(number))?))
 }
 
 // what `run` writes for it
-#[tactic(auto, using(crate::proofs::Outcomes::below_if))]
+#[tactic(auto, using(job_tasks::proofs::Outcomes::below_if))]
 fn bench_answer<R: Threads + Wait + Sync, G: Gate + Sync>(
     alloc: Global,
     rt: &R,
@@ -129,7 +122,7 @@ fn grid_answer(alloc: Global, bytes: &[u8]) -> Result<Answer, OutOfMemory>
 }
 
 // the answer to the bytes of a job
-#[tactic(auto, using(crate::proofs::Outcomes::below_if))]
+#[tactic(auto, using(job_tasks::proofs::Outcomes::below_if))]
 fn job_answer<R: Threads + Wait + Sync, G: Gate + Sync>(
     alloc: Global,
     rt: &R,
@@ -148,24 +141,8 @@ fn job_answer<R: Threads + Wait + Sync, G: Gate + Sync>(
     }
 }
 
-// the answer to bytes that are no job
-fn no_job(
-    alloc: Global,
-    kind: JobFault,
-    task: Option<u32>,
-    key: &str,
-) -> Result<Answer, OutOfMemory>
-    ensures { IfOk result (λ answer. answer ≡ specs.no_job (record { kind = kind; task = task; key = key.now })) }
-{
-    let mut text = Vec::new(alloc);
-    put_fault(&mut text, kind, task, key)?;
-    text.extend_from_slice(b"\n")?;
-    let text = List::of(text);
-    Ok(Answer { status: 2, text })
-}
-
 // the answer to a job
-#[tactic(auto, using(crate::proofs::Outcomes::below_if, crate::proofs::Outcomes::answer_by_below))]
+#[tactic(auto, using(job_tasks::proofs::Outcomes::below_if, crate::proofs::Outcomes::answer_by_below))]
 fn answer_by<R: Threads + Wait + Sync, G: Gate + Sync>(
     alloc: Global,
     rt: &R,
@@ -255,14 +232,4 @@ fn reported(alloc: Global, job: &RangedJob, rows: Vec<Row>) -> Result<Answer, Ou
     let status = status_of(rows.as_slice());
     let text = List::of(report_text_of(alloc, job, rows)?);
     Ok(Answer { status, text })
-}
-
-// a whole text
-fn whole(text: Vec<u8>) -> Answer
-    ensures { result ≡ specs.whole text.items }
-{
-    Answer {
-        status: 0,
-        text: List::of(text),
-    }
 }

@@ -1,10 +1,9 @@
 ghost use Rattle.std.specs.Prelude.{◌≡◌, ◌++◌, IfOk, OnOk};
 ghost use Rattle.tcrest.specs.Bounds as specs;
-ghost use Rattle.tcrest.specs.Coding.{bounded, shown, all_shown};
-ghost use Rattle.tcrest.specs.Tasks.{told_from};
+ghost use Rattle.job_tasks.specs.Coding.{bounded, shown, all_shown};
+ghost use Rattle.job_tasks.specs.Tasks.{told_from};
 
-use crate::ranged::RangedJob;
-use crate::tasks::{CodedTask, Program};
+use job_tasks::{CodedTask, Program, RangedJob};
 use std::alloc::Global;
 use tc_io::put_number;
 use tc_report::{put_core_name, put_platform_line};

@@ -16,7 +16,8 @@ ghost use Rattle.tcrest.specs.declared.command.Command.{Command};
 ghost use Rattle.tcrest.specs.declared.command.TheConstants.{MOST_DIGITS};
 ghost use Rattle.tcrest.specs.declared.command.Command.TheVariants.{OfJob, Grid, Gen, Bench, Usage};
 ghost use Rattle.tcrest.specs.declared.command.JobCommand.TheVariants.{Run, Bound, Asm, Mean, Pipe, Persist};
-ghost use Rattle.tcrest.specs.Answer.{answer, bytes_answer, text_fault_number, too_long, usage};
+ghost use Rattle.job_tasks.specs.Answer.{too_long};
+ghost use Rattle.tcrest.specs.Answer.{answer, bytes_answer, usage};
 ghost use Rattle.tcrest.specs.Command.{command_of, number_in};
 ghost use Rattle.tcrest.specs.Complete.{HasCode, IsWhole};
 ghost use Rattle.tcrest.specs.Loading.{IsLoadedFor};
@@ -26,9 +27,8 @@ ghost use Rattle.tcrest.specs.Pipe.{fault_number};
 ghost use Rattle.tcrest.specs.Rows.{status_of};
 ghost use Rattle.tcrest.specs.Worked.{lone_rows};
 ghost use Rattle.tcrest.specs.declared.pipe.PipeFault.TheVariants.{OneCore};
-ghost use Rattle.tcrest.specs.declared.top.TextFault.TheVariants.{TooLong};
 
-use crate::top::MOST_BYTES;
+use job_tasks::MOST_BYTES;
 
 /// When the answers of usage and of a text that is too long come.
 pub fn refusals_in_order()
@@ -72,8 +72,6 @@ pub fn trees_are_a_reading()
 
 /// The numbers that the answer cites. A law: it does nothing.
 pub fn limits()
-    ensures bytes { MOST_BYTES ≡ 1048576 }
-    ensures too_long { text_fault_number TooLong ≡ 1 }
     ensures one_core { fault_number OneCore ≡ 9 }
     ensures digits { MOST_DIGITS ≡ 10 }
 {}

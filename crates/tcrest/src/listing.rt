@@ -1,9 +1,9 @@
 ghost use Rattle.std.specs.Prelude.{◌≡◌, ◌++◌, ◌<◌, ◌^◌, length, IfOk, OnOk};
 ghost use Rattle.std.specs.List.{flat_map};
 ghost use Rattle.tcrest.specs.Listing as specs;
-ghost use Rattle.tcrest.specs.Coding.{shown, all_shown};
+ghost use Rattle.job_tasks.specs.Coding.{shown, all_shown};
 
-use crate::tasks::CodedTask;
+use job_tasks::CodedTask;
 use std::alloc::Global;
 use tc_io::{put_hex8, put_number};
 use tc_report::put_core_name;

@@ -3,14 +3,14 @@ ghost use Rattle.patmos_model.specs.Begin.{begun};
 ghost use Rattle.tc_job.specs.Ranges.{IsTaskAmong};
 ghost use Rattle.global_step.specs.Machine.{first_core};
 ghost use Rattle.global_step.specs.Loaded.{AreOnePlatform};
+ghost use Rattle.job_tasks.specs.Sites.{site_on};
 ghost use Rattle.tcrest.specs.Machine as specs;
-ghost use Rattle.tcrest.specs.Coding.{runs, shown, all_shown, IsAmong};
+ghost use Rattle.job_tasks.specs.Coding.{runs, shown, all_shown, IsAmong};
 ghost use Rattle.tcrest.specs.Loading.{IsLoadedFor, IsPlaced};
-ghost use Rattle.tcrest.specs.Tasks.{runs_on};
+ghost use Rattle.job_tasks.specs.Tasks.{runs_on};
 
-use crate::ranged::RangedJob;
-use crate::tasks::{CodedTask, CoreTask};
 use global_step::{Loaded, LoadedCore};
+use job_tasks::{CodedTask, CoreTask, RangedJob};
 use patmos_code::Image;
 use std::alloc::Global;
 use tc_job::Task;
@@ -108,7 +108,7 @@ fn begun_on(
     requires number { core < job.now.cores }
     requires task { IsTaskAmong job.now.cores task.now }
     ensures core { IfOk result (λ l. first_core l
-        ≡ begun (specs.site_on job.now core task.now.start image) task.now.input) }
+        ≡ begun (site_on job.now core task.now.start image) task.now.input) }
     ensures placed { IfOk result (IsPlaced job.now core) }
 {
     let input = List::of(Vec::from_slice(alloc, task.input.as_slice())?);

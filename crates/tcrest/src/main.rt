@@ -16,10 +16,7 @@ mod loading;
 mod meanings;
 mod output;
 mod pipe;
-mod ranged;
-mod refusal;
 mod rows;
-mod tasks;
 #[cfg(test)]
 mod test_jobs;
 #[cfg(test)]
@@ -28,27 +25,11 @@ mod tests;
 mod thread_tests;
 mod top;
 
-use std::alloc::{AllocError, Global};
-use std::io::ErrorKind;
+use job_tasks::{MEMORY, words_of};
+use std::io;
 use std::process::ExitCode;
-use std::{env, io};
 use tc_io::{FreeGate, StdSink, StdSource};
-use tc_word::{OutOfMemory, Text};
-use top::{MEMORY, tcrest};
-
-/// The words after the program's name. A word that is not text leaves none, which call no command.
-fn words_of(alloc: Global, rt: &HostRuntime) -> Result<Vec<Text>, OutOfMemory> {
-    let mut words = Vec::new(alloc);
-    let given = match env::args(rt) {
-        Ok(given) => given,
-        Err(error) if error.kind() == ErrorKind::OutOfMemory => return Err(AllocError),
-        Err(_) => return Ok(words),
-    };
-    for word in given.skip(1) {
-        words.push(Text::of(word))?;
-    }
-    Ok(words)
-}
+use top::tcrest;
 
 fn main(rt: HostRuntime) -> ExitCode {
     let alloc = rt.alloc();

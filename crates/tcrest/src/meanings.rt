@@ -2,12 +2,12 @@ ghost use Rattle.std.specs.Prelude.{◌≡◌, ◌++◌, IfOk, OnOk, map};
 ghost use Rattle.c_run.specs.Told.{slot_words};
 ghost use Rattle.c_tree.specs.Plain.{plain};
 ghost use Rattle.c_world.specs.World.{World};
-ghost use Rattle.tcrest.specs.Coding.{bounded, shown, all_shown};
+ghost use Rattle.job_tasks.specs.Coding.{bounded, shown, all_shown};
 ghost use Rattle.tcrest.specs.Meanings as specs;
 
-use crate::tasks::{CodedTask, Program};
 use c_run::{Outcome, mean, output_of};
 use c_tree::Checked;
+use job_tasks::{CodedTask, Program};
 use std::alloc::Global;
 use tc_report::{put_core_name, put_mean_line, put_outs};
 use tc_word::OutOfMemory;

@@ -6,15 +6,14 @@ ghost use Rattle.pipe_five.specs.Pipe.{StandsFor, IsThrough, limit_of};
 ghost use Rattle.pipe_five.specs.Steps.{done_below};
 ghost use Rattle.tcrest.specs.Answer as answers;
 ghost use Rattle.tc_report.specs.Report.{state_line};
-ghost use Rattle.tcrest.specs.Coding.{runs, shown, all_shown, pipe_told, told_row, IsAmong};
+ghost use Rattle.job_tasks.specs.Coding.{runs, shown, all_shown, IsAmong};
+ghost use Rattle.tcrest.specs.PipeTold.{pipe_told, told_row};
 ghost use Rattle.tcrest.specs.Pipe as specs;
 ghost use Rattle.tcrest.specs.Rows as rows_specs;
 
-use crate::answers::Answer;
-use crate::ranged::RangedJob;
 use crate::rows::{all_running, is_flagged, row_state, status_of};
-use crate::tasks::{CodedTask, CoreTask};
 use c_mentions::is_alone;
+use job_tasks::{Answer, CodedTask, CoreTask, RangedJob};
 use patmos_code::Image;
 use patmos_core::CoreState;
 use pipe_five::{Beat, PipeCore};

@@ -7,15 +7,14 @@ ghost use Rattle.global_step.specs.Machine.{at_limit};
 ghost use Rattle.c_mentions.specs.Tasks.{running as mentioned};
 ghost use Rattle.c_tree.specs.Plain.{plain};
 ghost use Rattle.tc_run.specs.Final.{IsFinalCore, AreFinal};
-ghost use Rattle.tcrest.specs.Coding.{runs};
+ghost use Rattle.job_tasks.specs.Coding.{runs};
 ghost use Rattle.tcrest.specs.Meanings.{output_slot};
 ghost use Rattle.tcrest.specs.Rows as specs;
 
 use crate::output::{Output, output_in};
-use crate::ranged::RangedJob;
-use crate::tasks::{CoreTask, Program};
 use c_mentions as mentions;
 use c_mentions::is_alone;
+use job_tasks::{CoreTask, Program, RangedJob};
 use patmos_core::{Core, CoreState};
 use std::alloc::Global;
 use tc_report::{Row, RowState, Rows, report};

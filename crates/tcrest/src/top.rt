@@ -1,28 +1,19 @@
-ghost use Rattle.std.specs.Prelude.{◌≡◌, ◌⊎◌, [], IfSome};
+ghost use Rattle.std.specs.Prelude.{◌≡◌, [], IfSome};
 ghost use Rattle.tc_io.specs.Faults.{Rose};
 ghost use Rattle.tcrest.specs.Answer as answers;
-ghost use Rattle.tcrest.specs.Answer.{answer, command_answer, bytes_answer, text_fault_number};
+ghost use Rattle.tcrest.specs.Answer.{answer, command_answer, bytes_answer};
 ghost use Rattle.tcrest.specs.Command as commands;
 ghost use Rattle.tcrest.specs.Telling.{HasReport, TellsTasksOf};
-ghost use Rattle.tcrest.specs.Outcome.{Ends, IsAnswered, IsSent, HasWritten};
+ghost use Rattle.job_tasks.specs.Outcome.{Ends, IsAnswered, HasWritten};
 
 use crate::answers::{text_answer, unread_answer};
 use crate::command::{Command, command_of};
+use job_tasks::{MEMORY, MOST_BYTES, READ_FAULT, READ_FAULT_LINE, TOO_LONG_LINE, finish};
 use std::alloc::Global;
 use std::sync::Wait;
 use std::thread::Threads;
-use tc_io::{Gate, ReadError, Sink, Source, read_all, write_all};
+use tc_io::{Gate, ReadError, Sink, Source, read_all};
 use tc_word::Text;
-
-/// How many bytes the text of a job or of a schedule has at most.
-pub const MOST_BYTES: usize = 1_048_576;
-
-/// The status that says that memory was refused.
-pub const MEMORY: u8 = 7;
-
-const WRITE_FAULT: u8 = 6;
-
-const READ_FAULT: u8 = 5;
 
 /// Does what the words ask for: reads the text from `source` where they are a command that reads one,
 /// writes the answer to `sink`, and returns the status.
@@ -107,24 +98,6 @@ fn perform<R: Threads + Wait + Sync, S: Source, K: Sink, G: Gate + Sync>(
     }
 }
 
-/// What is wrong with a text before it is read as a job or a schedule.
-#[derive(Clone, Copy, Debug, PartialEq, Eq)]
-pub enum TextFault {
-    /// It has more than [`MOST_BYTES`] bytes.
-    TooLong,
-}
-
-impl TextFault {
-    /// The fault's number, before those of any job.
-    pub fn number(self) -> u32
-        ensures { result ≡ text_fault_number self }
-    {
-        match self {
-            TextFault::TooLong => 1,
-        }
-    }
-}
-
 /// Answers a command that reads: all bytes are read, and a text that is not too long is answered.
 fn answer_input<R: Threads + Wait + Sync, S: Source, K: Sink, G: Gate + Sync>(
     alloc: Global,
@@ -144,8 +117,8 @@ fn answer_input<R: Threads + Wait + Sync, S: Source, K: Sink, G: Gate + Sync>(
 {
     let bytes = match read_all(alloc, source, MOST_BYTES) {
         Ok(bytes) => bytes,
-        Err(ReadError::ReadFault) => return finish(sink, READ_FAULT, b"read fault\n"),
-        Err(ReadError::TooLong) => return finish(sink, 2, b"job: TooLong\n"),
+        Err(ReadError::ReadFault) => return finish(sink, READ_FAULT, READ_FAULT_LINE),
+        Err(ReadError::TooLong) => return finish(sink, 2, TOO_LONG_LINE),
         Err(ReadError::Memory) => return MEMORY,
     };
     match text_answer(alloc, rt, command, bytes.as_slice(), gate) {
@@ -172,17 +145,5 @@ fn answer_unread<R: Threads + Wait + Sync, K: Sink, G: Gate + Sync>(
     match unread_answer(alloc, rt, command, gate) {
         Ok(answer) => finish(sink, answer.status, answer.text.as_slice()),
         Err(_) => MEMORY,
-    }
-}
-
-/// Sends the text and answers its status, unless the sink fails.
-fn finish<K: Sink>(sink: &mut K, status: u8, text: &[u8]) -> u8
-    ensures sent { IsSent (record { status = status; text = text.now }) result
-        (K.faults sink.old) (K.faults sink.new) (K.taken sink.old) (K.taken sink.new) }
-    ensures status { (result ≡ status) ⊎ (result ≡ 6) }
-{
-    match write_all(sink, text) {
-        Ok(()) => status,
-        Err(_) => WRITE_FAULT,
     }
 }

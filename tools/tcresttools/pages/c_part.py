@@ -1,12 +1,13 @@
-"""A C task: its source beside its functions, loops and divisions with what each takes, linked both ways."""
+"""A C task: its source beside its functions, loops and divisions with what each takes, and its code; all linked."""
 
 from __future__ import annotations
 
-from bisect import bisect_right
-from dataclasses import dataclass
+from collections import defaultdict
 
-from ..c_text import NoTokens, Token, tokens_of
+from ..c_text import NoTokens, tokens_of
+from ..code_listing import BundleRow, CodeListing, PartHead
 from ..explaining import Finding
+from ..extents import extent_of
 from ..job import Job, Task
 from ..task_time import Row, TaskTime
 from .markup import element, heat_bar, number, share, text
@@ -23,71 +24,72 @@ HEAD = {
     "memory": "cycles in which data moves, or waits to",
     "iterations": "of a loop its iterations, of a function its calls",
 }
-CLOSING = {"(": ")", "{": "}"}
+CODE_HEAD = ["place", "offset", "words", "code"]
+CODE_NUMBERS = {"place", "offset"}
 
 
-@dataclass(frozen=True)
-class Extent:
-    """The bytes of a function, a loop or a division in the text."""
+class PartLines:
+    """The parts of a task's code by the lines of the source that they are in, with what they take.
 
-    at: int
-    end: int
+    A loop of a function that is inlined is in the code several times, so several parts are in the same bytes.
+    """
 
+    def __init__(self, listing: CodeListing, time: TaskTime) -> None:
+        self.core = time.task.core
+        self.taken = max(time.replayed.taken, 1)
+        self.costs = {row.number: row.cost for row in time.rows}
+        self.extents: dict[tuple[int, int], list[int]] = defaultdict(list)
+        tokens = tokens_of(time.task.source)
+        self.ends = {token.at: token.end for token in tokens}
+        loops = {part for part, code in enumerate(time.attribution.parts) if code.is_loop}
+        for part, named in enumerate(listing.named):
+            if named.at is not None:
+                extent = extent_of(tokens, named.at, part in loops)
+                self.extents[extent.at, extent.end].append(part)
+        for parts in self.extents.values():
+            parts.sort(key=lambda part: -self.own(part))
 
-def behind_bracket(tokens: list[Token], at: int) -> int:
-    """The number of the token behind the bracket that closes the one at this number."""
-    depth = 0
-    opening, closing = tokens[at].text, CLOSING[tokens[at].text]
-    while at < len(tokens):
-        depth += (tokens[at].text == opening) - (tokens[at].text == closing)
-        at += 1
-        if depth == 0:
-            break
-    return at
+    def own(self, part: int) -> int:
+        return self.costs[part].own if part in self.costs else 0
 
+    def cycles(self, part: int) -> int:
+        return self.costs[part].cycles if part in self.costs else 0
 
-def extent_of(tokens: list[Token], row: Row) -> Extent | None:
-    """Where a part is in the text: a function and a loop with their block, a division its sign."""
-    if row.named.at is None:
-        return None
-    first = bisect_right([token.at for token in tokens], row.named.at) - 1
-    if not row.part.is_loop or tokens[first].text in ("for", "while"):
-        block = behind_bracket(tokens, first + 1)
-        return Extent(tokens[first].at, tokens[behind_bracket(tokens, block) - 1].end)
-    return Extent(tokens[first].at, tokens[first].end)
+    def links(self) -> list[Link]:
+        """A link at the first word of each function, loop and division."""
+        return [Link(at, self.ends[at], part_key(self.core, parts[0])) for (at, _), parts in self.extents.items()]
+
+    def line(self, view: SourceView, line: int) -> LineTime:
+        """What a line shows: the cycles of the parts that begin in it, and its parts, the innermost first."""
+        lines = {
+            (at, end): parts
+            for (at, end), parts in self.extents.items()
+            if view.line_of(at) <= line <= view.line_of(end - 1)
+        }
+        around = [lines[extent] for extent in sorted(lines, key=lambda extent: (extent[1] - extent[0], extent[0]))]
+        begins = [
+            sum(self.cycles(part) for part in parts) for (at, _), parts in lines.items() if view.line_of(at) == line
+        ]
+        own = sum(self.own(part) for part in around[0]) if around else 0
+        keys = tuple(part_key(self.core, part) for parts in around for part in parts)
+        return LineTime(max(begins, default=None), keys, own / self.taken)
 
 
 def view_of(job: Job, task: Task, time: TaskTime | None, findings: list[Finding]) -> SourceView:
     """The source with the cycles of each part at its first line, and its lines tinted by those of the innermost one."""
     if time is None:
         return SourceView(job, task, 0, [], {}, findings)
-    tokens = tokens_of(task.source)
-    extents = [extent_of(tokens, row) for row in time.rows]
-    links = []
-    for at, (row, extent) in enumerate(zip(time.rows, extents, strict=True)):
-        if extent is not None:
-            word = next(token for token in tokens if token.at == extent.at)
-            links.append(Link(word.at, word.end, part_key(task.core, at)))
-    view = SourceView(job, task, time.replayed.taken, links, {}, findings)
-    ranges = [None if one is None else (view.line_of(one.at), view.line_of(one.end - 1)) for one in extents]
+    parts = PartLines(CodeListing(job, task, time.code), time)
+    view = SourceView(job, task, time.replayed.taken, parts.links(), {}, findings)
     for line in range(len(view.begins)):
-        view.lines[line] = line_time(task.core, line, ranges, time)
+        view.lines[line] = parts.line(view, line)
     return view
 
 
-def line_time(core: int, line: int, ranges: list[tuple[int, int] | None], time: TaskTime) -> LineTime:
-    """What a line shows: the cycles of the parts that begin in it, and its parts, the innermost first."""
-    around = [at for at, one in enumerate(ranges) if one is not None and one[0] <= line <= one[1]]
-    begins = [time.rows[at].cost.cycles for at, one in enumerate(ranges) if one is not None and one[0] == line]
-    own = time.rows[around[-1]].cost.own if around else 0
-    parts = tuple(part_key(core, at) for at in reversed(around))
-    return LineTime(max(begins, default=None), parts, own / max(time.replayed.taken, 1))
-
-
-def time_row(core: int, at: int, row: Row, time: TaskTime) -> str:
+def time_row(core: int, row: Row, time: TaskTime) -> str:
     """A function, a loop or a division with what it takes."""
-    part, cost, taken = part_key(core, at), row.cost, time.replayed.taken
-    name = element("a", text(row.named.label), href=f"#{part}", data_part=part)
+    part, cost, taken = part_key(core, row.number), row.cost, time.replayed.taken
+    name = element("a", text(row.named.shown), href=f"#{part}", data_part=part)
     depth = row.named.depth + row.part.is_loop
     cells = [
         element("th", "" if row.place is None else str(row.place.line), class_="n", scope="row"),
@@ -112,7 +114,7 @@ def total_row(time: TaskTime) -> str:
 
 def time_pane(task: Task, time: TaskTime) -> str:
     """The parts as a table in a pane of its own."""
-    body = "".join(time_row(task.core, at, row, time) for at, row in enumerate(time.rows))
+    body = "".join(time_row(task.core, row, time) for row in time.rows)
     head = "".join(
         element("th", words, class_="n" if words != "part" else None, scope="col", title=meaning)
         for words, meaning in HEAD.items()
@@ -127,12 +129,62 @@ def time_pane(task: Task, time: TaskTime) -> str:
     return element("div", table, class_="pane", role="region", aria_label="Functions and loops", tabindex=-1)
 
 
+class CodePane:
+    """The code of a task as a table: each function and loop begins with a link, and each bundle is in its parts."""
+
+    def __init__(self, listing: CodeListing, time: TaskTime) -> None:
+        self.listing = listing
+        self.core = time.task.core
+        self.parts = time.attribution.parts
+        self.run = {row.number for row in time.rows}
+
+    def around(self, part: int) -> list[str]:
+        """The keys of a part and of those around it, the innermost first."""
+        outer = self.parts[part].around
+        return [part_key(self.core, part), *([] if outer is None else self.around(outer))]
+
+    def head_row(self, head: PartHead) -> str:
+        """A function or a loop begins. A part that is never run has no other row, so its key names this one."""
+        keys = self.around(head.part)
+        link = element("a", text(head.text), href=f"#{keys[0]}", data_part=keys[0])
+        cells = element("th", "", scope="row") + element("td", "") + element("td", "")
+        cells += element("td", element("pre", link), style=f"--depth:{head.depth}", class_="name")
+        name = None if head.part in self.run else keys[0]
+        kind = "label" if self.parts[head.part].is_loop else "function"
+        return element("tr", cells, id=name, class_=kind, data_part=" ".join(keys))
+
+    def bundle_row(self, row: BundleRow) -> str:
+        words = " ".join(f"{word:08x}" for word in row.bundle.words)
+        cells = [
+            element("th", str(row.place), class_="n", scope="row"),
+            element("td", str(row.bundle.offset), class_="n"),
+            element("td", words, class_="words"),
+            element("td", element("pre", text(row.bundle.text)), style=f"--depth:{row.depth}", class_="name"),
+        ]
+        return element("tr", *cells, class_="bundle", data_part=" ".join(self.around(row.part)))
+
+    def pane(self) -> str:
+        rows = ""
+        for row in self.listing.rows():
+            if isinstance(row, PartHead):
+                rows += self.head_row(row)
+            elif isinstance(row, BundleRow):
+                rows += self.bundle_row(row)
+        head = "".join(
+            element("th", words, class_="n" if words in CODE_NUMBERS else None, scope="col") for words in CODE_HEAD
+        )
+        table = element("table", element("thead", element("tr", head)), element("tbody", rows), class_="code")
+        return element("div", table, class_="pane", role="region", aria_label="Code", tabindex=-1)
+
+
 def c_part(job: Job, task: Task, time: CoreTime | None, findings: list[Finding]) -> str:
-    """Source and parts side by side; the source alone where its time is not known."""
+    """Source on one side, parts and code on the other; the source alone where its time is not known."""
     found = None if time is None else time.c_time
     try:
         source = source_pane(view_of(job, task, found, findings))
     except NoTokens:
         source = source_pane(view_of(job, task, None, findings))
-    beside = time_pane(task, found) if found is not None else ""
-    return element("div", source, beside, class_="panes" if beside else "panes single")
+    if found is None:
+        return element("div", source, class_="panes single")
+    code = CodePane(CodeListing(job, task, found.code), found).pane()
+    return element("div", source, element("div", time_pane(task, found), code, class_="beside"), class_="panes")

@@ -6,6 +6,7 @@ from pathlib import Path
 
 from ..explaining import Finding
 from ..job import Job, Task
+from ..task_time import inlined_lines
 from .assembly_part import assembly_part
 from .c_part import c_part
 from .cores_part import cores_part, ended_words, task_name
@@ -53,10 +54,13 @@ def exactness(time: CoreTime) -> str:
         return element("p", text(f"The cycles are those of a part of the run: {time.listed}."), class_="help")
     if time.unsure:
         return element("p", text(f"The cycles of its parts are not known exactly: {time.unsure}."), class_="help")
-    words = (
-        "The cycles of a function do not include the functions that it calls. Those of a loop include its inner loops."
-    )
-    return element("p", words, class_="help") if time.c_time is not None else ""
+    if time.c_time is None:
+        return ""
+    words = [
+        "The cycles of a function do not include the functions that it calls. Those of a loop include its inner loops.",
+        *(f"{line}." for line in inlined_lines(time.c_time.inlined)),
+    ]
+    return element("p", text(" ".join(words)), class_="help")
 
 
 def task_part(facts: Facts, job: Job, task: Task, time: CoreTime | None) -> str:

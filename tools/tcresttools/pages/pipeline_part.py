@@ -3,7 +3,7 @@
 from __future__ import annotations
 
 from ..job import Job
-from ..pipeline import Bundle, bundles_of, columns_of, texts_of
+from ..pipeline import Bundle, bundles_of, columns_of, compiled_texts, texts_of
 from ..report import Step
 from .markup import element, number, text
 from .times import CoreTime
@@ -44,23 +44,13 @@ def block(columns: list[Column], steps: list[Step], bundles: list[Bundle], texts
     return element("table", element("thead", element("tr", head)), element("tbody", rows), class_="stages")
 
 
-def part_texts(bundles: list[Bundle], time: CoreTime) -> dict[int, str]:
-    """The function and the loops of each bundle of a C task, by its place."""
-    found: dict[int, str] = {}
-    if time.c_time is not None:
-        for bundle in bundles:
-            around = [row for row in time.c_time.rows if row.part.first <= bundle.place <= row.part.last]
-            found[bundle.place] = ", ".join(row.named.label for row in around)
-    return found
-
-
 def pipeline_part(job: Job, steps: list[Step], listing: dict[int, list[int]], time: CoreTime) -> str:
     """The section of the pipeline; nothing where there are no steps."""
     if not steps:
         return ""
     drawn = steps[:MOST_STEPS]
     bundles, columns = bundles_of(drawn), columns_of(drawn)
-    texts = texts_of(job, listing) or part_texts(bundles, time)
+    texts = texts_of(job, listing) if time.c_time is None else compiled_texts(time.c_time.code)
     blocks = "".join(
         block(columns[begin : begin + COLUMNS], drawn, bundles, texts) for begin in range(0, len(columns), COLUMNS)
     )

@@ -7,7 +7,7 @@ use Rattle.sp_shape.specs.Trail.{trail}
 use Rattle.sp_emit.specs.Ran.{begun_memory}
 use Rattle.sp_emit.specs.Serving.{Answers}
 use Rattle.sp_emit.proofs.Formed.{formed_as}
-use Rattle.sp_emit.proofs.Kept.{idle_as, alone_as, steady_as, room_as}
+use Rattle.sp_emit.proofs.Kept.{idle_as, alone_as, steady_as, frames_as, room_as}
 use Rattle.sp_emit.proofs.Tasks.{task_does}
 use Rattle.sp_emit.proofs.functions.emit.Goals as goal
 
@@ -28,6 +28,9 @@ returns-clause-alone c = λ k below. alone_as (plain_shape c.in_ok-shape.shape) 
 
 pub returns-clause-steady : goal.returns-clause-steady
 returns-clause-steady c = λ k below. steady_as (plain_shape c.in_ok-shape.shape) (plain_unit c.args.unit.now) c.in_ok-shape.ensures k below
+
+pub returns-clause-frames : goal.returns-clause-frames
+returns-clause-frames c = λ k below. frames_as (plain_shape c.in_ok-shape.shape) (plain_unit c.args.unit.now) c.in_ok-shape.ensures k below
 
 pub returns-clause-room : goal.returns-clause-room
 returns-clause-room c = λ k below. room_as (plain_shape c.in_ok-shape.shape) (plain_unit c.args.unit.now) c.in_ok-shape.ensures c.requires.formed k below

@@ -1,4 +1,4 @@
-use Rattle.std.proofs.Common.{ℕ, ◌+◌, ◌*◌, List, arith}
+use Rattle.std.proofs.Common.{ℕ, ◌+◌, ◌*◌, List, sym, ◌∙◌, arith}
 use Rattle.sp_emit.specs.Places.{tops}
 use Rattle.sp_emit.proofs.WordPlaces.{word_kept}
 use Rattle.sp_tree.specs.Statements.{PlainFunction, PlainStmts}
@@ -11,6 +11,7 @@ use Rattle.sp_emit.proofs.Calling.{ServedBy}
 use Rattle.sp_emit.proofs.Masks.{Done}
 use Rattle.sp_emit.proofs.Runs.{stmts_run}
 use Rattle.sp_emit.proofs.Serves.{AllServe, all_serve, calls_run, code_of}
+use Rattle.sp_emit.proofs.Standing.{world_stands}
 use Rattle.sp_emit.proofs.laws.functions_do_what_they_give.Goals as goal
 
 pub returns-clause-function : goal.returns-clause-function
@@ -30,6 +31,28 @@ done fs n homes frame slots counter ts s m h =
     stmts_run homes (tops fs n) (code_of fs n) (serves fs n) fs n frame slots counter (n * 128)
     (calls_run homes fs n frame slots h.functions.formed h.named (all_serve fs h.functions.constants n h.functions.within h.functions.formed))
     h.named h.counted h.framed ts h.levels h.formed h.constants h.homed s m h.room h.follows
+
+pub returns-clause-unchanged : goal.returns-clause-unchanged
+unfolding AllServe ServedBy
+returns-clause-unchanged c fs n k mask args w m are less count room called same =
+    let r = all_serve fs are.constants n are.within are.formed k less mask args w m count room called in
+    let t = run by_words (code_of fs n k) m in
+    record {
+      world = world_stands (serves fs n k mask args w).world w m t same called.carries.has r.answers.carries.has called.carries.flag r.answers.carries.flag;
+      st = r.answers.st;
+      stack = r.answers.stack;
+      callers = λ homes slot top. word_kept homes slot m t (λ q from lt. r.high q (omega (arith, top, from)) lt) r.answers.stack r.answers.st;
+    }
+
+pub returns-clause-own_unchanged : goal.returns-clause-own_unchanged
+returns-clause-own_unchanged c fs n homes frame slots counter ts s m h same =
+    let d = done fs n homes frame slots counter ts s m h in
+    let z = stmts_done (serves fs n) ts s in
+    record {
+      world = world_stands z.world s.world m (run by_words (parts_trail (code_of fs n) (stmts_code homes frame counter ts)) m) same h.follows.shows.world d.follows.shows.world h.follows.flag d.follows.flag;
+      frame = λ slot lt is. d.follows.shows.frame slot lt ∙ is ∙ sym (h.follows.shows.frame slot lt);
+      behind = d.keeps;
+    }
 
 pub returns-clause-statements : goal.returns-clause-statements
 returns-clause-statements c fs n homes frame slots counter ts s m h = (done fs n homes frame slots counter ts s m h).follows

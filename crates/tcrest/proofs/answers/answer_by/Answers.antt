@@ -1,7 +1,7 @@
 use Rattle.std.proofs.Common.{◌≡◌, false, arith}
 use Rattle.std.proofs.lemmas.Grind.{common_steps}
 use Rattle.tcrest.specs.Answer.{is_taken}
-use Rattle.tcrest.specs.Coding.{all_shown}
+use Rattle.job_tasks.specs.Coding.{all_shown}
 use Rattle.tcrest.proofs.Telling.{always, told_of, untaken}
 use Rattle.tcrest.proofs.answers.answer_by.Goals as goal
 

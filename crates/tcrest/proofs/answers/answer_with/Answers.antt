@@ -1,7 +1,7 @@
 use Rattle.std.proofs.Common.{◌≡◌, length, sym, subst, IfOk, arith}
 use Rattle.std.proofs.lemmas.List.{length-map}
 use Rattle.argo_ni.specs.Packet.{comm_word}
-use Rattle.tcrest.specs.Coding.{all_shown, shown}
+use Rattle.job_tasks.specs.Coding.{all_shown, shown}
 use Rattle.tcrest.specs.Telling.{TellsOf}
 use Rattle.tcrest.proofs.Telling.{always, begin_fits, bounds_tell, report_tells}
 use Rattle.tcrest.proofs.answers.answer_with.Goals as goal

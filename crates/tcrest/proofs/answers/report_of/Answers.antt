@@ -2,7 +2,7 @@ use Rattle.std.proofs.Common.{map, sym, subst, ap, ◌∙◌}
 use Rattle.global_step.specs.Machine.{at_limit}
 use Rattle.global_step.specs.Range.{board_words}
 use Rattle.tc_run.specs.Final.{AreFinal}
-use Rattle.tcrest.specs.Coding.{runs, all_shown}
+use Rattle.job_tasks.specs.Coding.{runs, all_shown}
 use Rattle.tcrest.specs.Machine.{cores_from}
 use Rattle.tcrest.specs.Rows.{rows_of}
 use Rattle.tcrest.proofs.RowsFound.{begin_in_range, report_is}

@@ -1,7 +1,7 @@
 use Rattle.std.proofs.Common.{◌≡◌, ◌++◌, drop}
-use Rattle.tcrest.specs.Coding.{all_shown}
+use Rattle.job_tasks.specs.Coding.{all_shown}
 use Rattle.tcrest.specs.Bounds.{bound_line_on}
-use Rattle.tcrest.specs.Tasks.{told_from}
+use Rattle.job_tasks.specs.Tasks.{told_from}
 use Rattle.tcrest.proofs.bounds.put_bounds.Given as goal
 
 abbrev pub invariant-loop-core : goal.invariant-loop-core

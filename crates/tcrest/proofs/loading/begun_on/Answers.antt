@@ -1,6 +1,6 @@
 use Rattle.std.proofs.Common.{ap, ◌∙◌, rules}
 use Rattle.patmos_model.specs.Begin.{begun}
-use Rattle.tcrest.specs.Machine.{site_on}
+use Rattle.job_tasks.specs.Sites.{site_on}
 use Rattle.tcrest.proofs.loading.begun_on.Goals as goal
 
 pub returns-clause-core : goal.returns-clause-core
@@ -9,4 +9,9 @@ returns-clause-core c =
     ∙ ap (begun (site_on c.args.job.now c.args.core c.args.task.now.start c.args.image)) (search rules)
 
 pub returns-clause-placed : goal.returns-clause-placed
-returns-clause-placed c = c.place_of.ensures.placed _ _
+returns-clause-placed c = record {
+  cores = c.place_of.ensures.cores;
+  core = c.place_of.ensures.core;
+  slot = c.place_of.ensures.slot;
+  table = c.place_of.ensures.table;
+}

@@ -1,6 +1,6 @@
 use Rattle.std.proofs.Common.{◌≡◌, ◌++◌, ◌∷◌, [], length, refl, sym, subst, rules, arith, length-append}
 use Rattle.global_step.specs.Machine.{first_core}
-use Rattle.tcrest.specs.Coding.{shown}
+use Rattle.job_tasks.specs.Coding.{shown}
 use Rattle.tcrest.specs.Machine.{core_with}
 use Rattle.tcrest.specs.Loading.{IsPlaced}
 use Rattle.tcrest.proofs.CoresFound.{next_loaded, next_placed, next_run}

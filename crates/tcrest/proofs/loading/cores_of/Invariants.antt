@@ -1,8 +1,8 @@
 use Rattle.std.proofs.Common.{◌≡◌, length, map}
 use Rattle.global_step.specs.Machine.{first_core}
 use Rattle.tcrest.specs.Machine.{cores_from}
-use Rattle.tcrest.specs.Coding.{runs, all_shown}
-use Rattle.tcrest.specs.Tasks.{runs_on}
+use Rattle.job_tasks.specs.Coding.{runs, all_shown}
+use Rattle.job_tasks.specs.Tasks.{runs_on}
 use Rattle.tcrest.proofs.CoresFound.{ArePlaced}
 use Rattle.tcrest.proofs.loading.cores_of.Given as goal
 

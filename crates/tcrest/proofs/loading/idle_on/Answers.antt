@@ -6,4 +6,9 @@ pub returns-clause-core : goal.returns-clause-core
 returns-clause-core c = ap idle (c.place_of.ensures.site no_code)
 
 pub returns-clause-placed : goal.returns-clause-placed
-returns-clause-placed c = c.place_of.ensures.placed _ _
+returns-clause-placed c = record {
+  cores = c.place_of.ensures.cores;
+  core = c.place_of.ensures.core;
+  slot = c.place_of.ensures.slot;
+  table = c.place_of.ensures.table;
+}

@@ -1,7 +1,7 @@
 use Rattle.std.proofs.Common.{◌≡◌, ◌++◌, drop}
-use Rattle.tcrest.specs.Coding.{all_shown}
+use Rattle.job_tasks.specs.Coding.{all_shown}
 use Rattle.tcrest.specs.Meanings.{lines_on, meanings}
-use Rattle.tcrest.specs.Tasks.{told_from}
+use Rattle.job_tasks.specs.Tasks.{told_from}
 use Rattle.tcrest.proofs.meanings.meanings.Given as goal
 
 abbrev pub invariant-loop-core : goal.invariant-loop-core

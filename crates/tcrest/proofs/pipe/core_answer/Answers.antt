@@ -1,10 +1,11 @@
 use Rattle.std.proofs.Common.{◌≡◌, ◌∙◌, Some, ap, subst, rules, IfOk}
 use Rattle.patmos_model.specs.Begin.{begun}
 use Rattle.patmos_model.specs.Apart.{site_of}
-use Rattle.tcrest.specs.Machine.{site_on}
+use Rattle.job_tasks.specs.Sites.{site_on}
 use Rattle.global_step.specs.declared.loaded.LoadedCore.{LoadedCore}
-use Rattle.tcrest.specs.Coding.{coded_of, made_of, pipe_told, runs}
-use Rattle.tcrest.specs.Tasks.{Coded, runs_made}
+use Rattle.job_tasks.specs.Coding.{coded_of, made_of, runs}
+use Rattle.tcrest.specs.PipeTold.{pipe_told}
+use Rattle.job_tasks.specs.Tasks.{Coded, runs_made}
 use Rattle.tcrest.proofs.Lines.{told_as_reported}
 use Rattle.tcrest.proofs.pipe.core_answer.Goals as goal
 

@@ -6,7 +6,8 @@ use Rattle.patmos_model.specs.Outcome.{state_at}
 use Rattle.patmos_model.specs.State.{Core}
 use Rattle.pipe_five.specs.Steps.{core_before, done_below}
 use Rattle.tc_report.specs.Report.{platform_line}
-use Rattle.tcrest.specs.Coding.{pipe_told, runs, told_row}
+use Rattle.job_tasks.specs.Coding.{runs}
+use Rattle.tcrest.specs.PipeTold.{pipe_told, told_row}
 use Rattle.tcrest.specs.Pipe.{steps_text}
 use Rattle.tcrest.proofs.Piped.{told_whole}
 use Rattle.tcrest.proofs.pipe.stages_answer.Goals as goal

@@ -1,6 +1,6 @@
 use Rattle.std.proofs.Common.{◌≡◌, map, take}
 use Rattle.c_mentions.specs.Tasks.{running as mentioned}
-use Rattle.tcrest.specs.Coding.{runs}
+use Rattle.job_tasks.specs.Coding.{runs}
 use Rattle.tcrest.specs.Rows.{running}
 use Rattle.tcrest.proofs.rows.all_running.Given as goal
 

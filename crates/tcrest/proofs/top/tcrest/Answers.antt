@@ -1,5 +1,6 @@
 use Rattle.tcrest.specs.Answer.{answer}
-use Rattle.tcrest.proofs.Outcomes.{answer-status, written_if}
+use Rattle.job_tasks.proofs.Outcomes.{written_if}
+use Rattle.tcrest.proofs.Outcomes.{answer-status}
 use Rattle.tcrest.proofs.top.tcrest.Goals as goal
 
 pub returns-clause-written : goal.returns-clause-written

@@ -1,0 +1,10 @@
+pub mod Adding
+pub mod Image
+pub mod Inline
+pub mod Labeled
+pub mod Named
+pub mod Ordered
+pub mod Placing
+pub mod Reading
+pub mod Standing
+pub mod Writing

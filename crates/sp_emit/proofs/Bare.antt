@@ -1,0 +1,219 @@
+-- The code of statements reads and stores nothing of the stack, where registers hold all words of their tree and they call
+-- no function and make no turns.
+use Rattle.std.proofs.Common.{◌≡◌, ℕ, ◌+◌, ◌<◌, ◌≤◌, ◌==◌, Bool, true, false, not, ◌&&◌, if◌then◌else◌, List, nat_lt, refl, sym, ap, ◌∙◌, arith, true≢false}
+use Rattle.std.specs.Prelude.{nat_le}
+use Rattle.std.specs.List.{list_all}
+use Rattle.std.proofs.lemmas.Bool.{and_parts, not-true, ltb-true, lt-ltb, leb-true, eqb-true}
+use Rattle.patmos_instr.specs.Bundles.{Slots}
+use Rattle.patmos_instr.specs.declared.guards.Guard.{Guard}
+use Rattle.patmos_instr.specs.declared.instructions.Op.{Op}
+use Rattle.patmos_instr.specs.declared.instructions.Op.TheVariants.{Stack, Load, Store}
+use Rattle.patmos_instr.specs.declared.memories.Mem.TheVariants as mem
+use Rattle.c_world.specs.declared.region.Region.{Region}
+use Rattle.sp_tree.specs.Formed.{slots_of, names_words, array_formed, send_formed, target_formed, expr_formed, stmt_formed, stmts_formed, stmt_levels, stmts_levels}
+use Rattle.sp_tree.specs.Need.{need}
+use Rattle.sp_tree.specs.Plain.{PlainSp, constant, frame_word, cell_word, array_word, before_one, between_two}
+use Rattle.sp_tree.specs.Statements.{PlainSpTarget, to_slot, to_cell, to_array, PlainStmt, masks, writes, calls, transfers, overruns, turns, PlainStmts, no_stmt, stmt, PlainFunction}
+use Rattle.sp_tree.specs.declared.operators.SpBinary.{SpBinary}
+use Rattle.sp_tree.specs.declared.operators.SpUnary.{SpUnary}
+use Rattle.sp_shape.specs.Bundles.{parts_all}
+use Rattle.sp_shape.specs.Formed.{parts_formed}
+use Rattle.sp_shape.specs.Run.{Run, Sources, run, IsWhole}
+use Rattle.sp_shape.specs.Trail.{Step, parts_trail}
+use Rattle.sp_emit.specs.Functions.{first_counter, needs_none}
+use Rattle.sp_shape.specs.Parts.{straight, PlainParts, one, joined}
+use Rattle.sp_emit.specs.Chains.{stmt_calls, stmts_call}
+use Rattle.sp_emit.specs.Division.{unsigned_quotient_to}
+use Rattle.sp_emit.specs.Divisors.{factor_rest_to}
+use Rattle.sp_emit.specs.Expressions.{unary_code, binary_code, held_code, cell_code, element_code, number_of, expr_code, operand_code, value_at, is_immediate, address_of}
+use Rattle.sp_emit.specs.Instructions.{always, where_so, set_number}
+use Rattle.sp_emit.specs.Places.{read_op, read_word, fetch_op, fetch_word, set_op, set_word}
+use Rattle.sp_emit.specs.Statements.{cell_write, element_write, target_write, send_code, overrun_code, slot_set, stmt_code, stmts_code}
+use Rattle.sp_emit.specs.declared.registers.TheConstants.{FIRST, SPARE, OVERRUN, TEST}
+use Rattle.sp_emit.proofs.Held.{held_is}
+use Rattle.sp_emit.proofs.Numbers.{number_op_is}
+use Rattle.sp_emit.proofs.Operands.{operand_is}
+use Rattle.sp_emit.proofs.Beginning.{words_taken, Outside}
+use Rattle.sp_emit.proofs.Formed as forms
+use Rattle.sp_emit.proofs.Passing.{passes, Passes, passes_parts}
+use Rattle.sp_emit.proofs.Pointing.{is_inside}
+use Rattle.sp_emit.proofs.Quiet.{each_joined, each_lone, each_so}
+use Rattle.sp_emit.proofs.Uncalled.{neither, stmts_uncalled}
+
+-- an instruction that has nothing to do with the stack
+abbrev is_bare_op : Op → Bool
+is_bare_op (Load mem.S width rd ra imm) = false
+is_bare_op (Store mem.S width ra rs imm) = false
+is_bare_op (Stack func count) = false
+is_bare_op _ = true
+
+abbrev pub is_bare : Slots → Bool
+is_bare b = is_bare_op b.first.op
+
+abbrev Bare : PlainParts → Type 0
+Bare parts = parts_all is_bare parts ≡ true
+
+abbrev AreBare : List Slots → Type 0
+AreBare bs = list_all is_bare bs ≡ true
+
+pub bare_passes : (b : Slots) → is_bare b ≡ true → passes 0 b ≡ true
+bare_passes b bare = grind (arith, bare)
+
+pub bare_inside : (b : Slots) → is_bare b ≡ true → is_inside 0 b ≡ true
+bare_inside b bare = grind (arith, bare)
+
+both : (a b : PlainParts) → Bare a → Bare b → Bare (joined a b)
+both = each_joined is_bare
+
+-- ---- values
+
+unary_bare : (op : SpUnary) (rd ra : ℕ) → AreBare (unary_code op rd ra)
+unary_bare op rd ra = grind arith
+
+binary_bare : (op : SpBinary) (rd ra rb : ℕ) → Bare (binary_code op rd ra rb)
+unfolding unsigned_quotient_to
+binary_bare op rd ra rb = grind arith
+
+held_bare : (op : SpBinary) (rd ra n : ℕ) → AreBare (held_code op rd ra n)
+unfolding factor_rest_to
+held_bare op rd ra n = held_is AreBare op rd ra n (grind arith) (grind arith)
+
+number_bare : (rd n : ℕ) → is_bare (set_number rd n) ≡ true
+number_bare rd n = number_op_is (λ op. is_bare_op op ≡ true) rd n refl refl
+
+read_bare : (homes rd slot : ℕ) → homes + slot < OVERRUN → is_bare (read_word homes rd slot) ≡ true
+unfolding read_op
+read_bare homes rd slot lt = rw (lt-ltb (homes + slot) OVERRUN lt) refl
+
+fetch_bare : (homes slot : ℕ) → homes + slot < OVERRUN → is_bare (fetch_word homes slot) ≡ true
+unfolding fetch_op
+fetch_bare homes slot lt = rw (lt-ltb (homes + slot) OVERRUN lt) refl
+
+set_bare : (homes : ℕ) (g : Guard) (slot rs : ℕ) → homes + slot < OVERRUN → is_bare (set_word homes g slot rs) ≡ true
+unfolding set_op
+set_bare homes g slot rs lt = rw (lt-ltb (homes + slot) OVERRUN lt) refl
+
+cell_bare : (r : Region) (word rd : ℕ) → AreBare (cell_code (record { region = r; word = word }) rd)
+cell_bare r word rd = let address = number_bare rd (address_of r word) in grind (arith, address)
+
+element_bare : (r : Region) (first length rd : ℕ) → AreBare (element_code (record { region = r; first = first; length = length }) rd)
+element_bare r first length rd =
+    let size = number_bare SPARE length in
+    let address = number_bare SPARE (address_of r first) in
+    grind (arith, size, address)
+
+two_bare : (homes : ℕ) (op : SpBinary) (a b : PlainSp) (rd : ℕ) (held less : Bool) → Bare (operand_code homes a rd) → Bare (operand_code homes b rd) → Bare (operand_code homes a (rd + 1)) → Bare (operand_code homes b (rd + 1))
+    → Bare (if held then joined (operand_code homes a rd) (one (straight (held_code op rd (value_at homes a rd) (number_of b))))
+    else if less then joined (operand_code homes b rd) (joined (operand_code homes a (rd + 1)) (binary_code op rd (value_at homes a (rd + 1)) (value_at homes b rd)))
+    else joined (operand_code homes a rd) (joined (operand_code homes b (rd + 1)) (binary_code op rd (value_at homes a rd) (value_at homes b (rd + 1)))))
+two_bare homes op a b rd true less qa qb na nb = both (operand_code homes a rd) _ qa (each_lone is_bare (held_code op rd (value_at homes a rd) (number_of b)) (held_bare op rd (value_at homes a rd) (number_of b)))
+two_bare homes op a b rd false true qa qb na nb = both (operand_code homes b rd) _ qb (both (operand_code homes a (rd + 1)) _ na (binary_bare op rd (value_at homes a (rd + 1)) (value_at homes b rd)))
+two_bare homes op a b rd false false qa qb na nb = both (operand_code homes a rd) _ qa (both (operand_code homes b (rd + 1)) _ nb (binary_bare op rd (value_at homes a rd) (value_at homes b (rd + 1))))
+
+expr_bare : (homes slots : ℕ) (e : PlainSp) (rd : ℕ) → homes + slots ≤ OVERRUN → names_words slots e ≡ true → Bare (expr_code homes e rd)
+expr_bare homes slots (constant n) rd fits named = rw (number_bare rd n) refl
+expr_bare homes slots (frame_word slot) rd fits named = rw (read_bare homes rd slot (omega (arith, fits, ltb-true slot slots named))) refl
+expr_bare homes slots (cell_word cell) rd fits named = each_lone is_bare (cell_code cell rd) (cell_bare cell.region cell.word rd)
+expr_bare homes slots (array_word array index) rd fits named =
+    both (expr_code homes index rd) (one (straight (element_code array rd))) (expr_bare homes slots index rd fits (and_parts (array_formed array) (names_words slots index) named).1)
+    (each_lone is_bare (element_code array rd) (element_bare array.region array.first array.length rd))
+expr_bare homes slots (before_one op of) rd fits named =
+    both (operand_code homes of rd) (one (straight (unary_code op rd (value_at homes of rd)))) (operand_is Bare homes of rd refl (expr_bare homes slots of rd fits named)) (each_lone is_bare (unary_code op rd (value_at homes of rd)) (unary_bare op rd (value_at homes of rd)))
+expr_bare homes slots (between_two op a b) rd fits named =
+    let parts = and_parts (names_words slots a) (names_words slots b) named in
+    two_bare homes op a b rd (is_immediate op b) (nat_lt (need a) (need b)) (operand_is Bare homes a rd refl (expr_bare homes slots a rd fits parts.0)) (operand_is Bare homes b rd refl (expr_bare homes slots b rd fits parts.1)) (operand_is Bare homes a (rd + 1) refl (expr_bare homes slots a (rd + 1) fits parts.0)) (operand_is Bare homes b (rd + 1) refl (expr_bare homes slots b (rd + 1) fits parts.1))
+
+value_bare : (homes slots : ℕ) (e : PlainSp) (rd : ℕ) → homes + slots ≤ OVERRUN → expr_formed slots e ≡ true → Bare (expr_code homes e rd)
+value_bare homes slots e rd fits formed = expr_bare homes slots e rd fits (and_parts (names_words slots e) (nat_le (need e) 12) formed).0
+
+-- ---- statements
+
+cell_write_bare : (homes mask : ℕ) (r : Region) (word : ℕ) → homes + mask < OVERRUN → AreBare (cell_write homes mask (record { region = r; word = word }))
+cell_write_bare homes mask r word lt =
+    let read = fetch_bare homes mask lt in
+    let address = number_bare SPARE (address_of r word) in
+    grind (arith, read, address)
+
+element_write_bare : (homes mask : ℕ) (r : Region) (first length : ℕ) → homes + mask < OVERRUN → AreBare (element_write homes mask (record { region = r; first = first; length = length }))
+element_write_bare homes mask r first length lt =
+    let read = fetch_bare homes mask lt in
+    let size = number_bare SPARE length in
+    let address = number_bare SPARE (address_of r first) in
+    grind (arith, read, size, address)
+
+target_bare : (homes slots mask : ℕ) (target : PlainSpTarget) → homes + slots ≤ OVERRUN → mask < slots → target_formed slots target ≡ true → Bare (target_write homes mask target)
+target_bare homes slots mask (to_slot slot) fits masked formed =
+    rw (fetch_bare homes mask (omega (arith, fits, masked)), set_bare homes (where_so TEST) slot FIRST (omega (arith, fits, ltb-true slot slots formed))) refl
+target_bare homes slots mask (to_cell cell) fits masked formed = each_lone is_bare (cell_write homes mask cell) (cell_write_bare homes mask cell.region cell.word (omega (arith, fits, masked)))
+target_bare homes slots mask (to_array array index) fits masked formed =
+    both (expr_code homes index (FIRST + 1)) (one (straight (element_write homes mask array))) (value_bare homes slots index (FIRST + 1) fits (and_parts (array_formed array) (expr_formed slots index) formed).1)
+    (each_lone is_bare (element_write homes mask array) (element_write_bare homes mask array.region array.first array.length (omega (arith, fits, masked))))
+
+stmt_bare : (homes : ℕ) (fs : List PlainFunction) (number slots frame counter : ℕ) (t : PlainStmt) → homes + slots ≤ OVERRUN → stmt_calls t ≡ false → stmt_levels t ≡ 0 → stmt_formed fs number slots t ≡ true → Bare (stmt_code homes frame counter t)
+stmt_bare homes fs number slots frame counter (masks slot e) fits none flat formed =
+    let parts = and_parts (nat_lt slot slots) (expr_formed slots e) formed in
+    both (expr_code homes e FIRST) (slot_set homes slot) (value_bare homes slots e FIRST fits parts.1) (rw (set_bare homes always slot FIRST (omega (arith, fits, ltb-true slot slots parts.0))) refl)
+stmt_bare homes fs number slots frame counter (writes mask target e) fits none flat formed =
+    let parts = and_parts (nat_lt mask slots) (target_formed slots target && expr_formed slots e) formed in
+    let targets = and_parts (target_formed slots target) (expr_formed slots e) parts.1 in
+    both (expr_code homes e FIRST) (target_write homes mask target) (value_bare homes slots e FIRST fits targets.1) (target_bare homes slots mask target fits (ltb-true mask slots parts.0) targets.0)
+stmt_bare homes fs number slots frame counter (calls mask k args result) fits none flat formed = absurd (true≢false none)
+stmt_bare homes fs number slots frame counter (transfers mask core source target count) fits none flat formed =
+    let parts = and_parts (nat_lt mask slots) (send_formed slots core source target count) formed in
+    let send = and_parts (nat_lt core 16) (expr_formed slots source && (expr_formed slots target && expr_formed slots count)) parts.1 in
+    let first = and_parts (expr_formed slots source) (expr_formed slots target && expr_formed slots count) send.1 in
+    let rest = and_parts (expr_formed slots target) (expr_formed slots count) first.1 in
+    let sent = one (straight (send_code homes mask core)) in
+    both (expr_code homes source FIRST) (joined (expr_code homes target (FIRST + 1)) (joined (expr_code homes count (FIRST + 2)) sent)) (value_bare homes slots source FIRST fits first.0)
+    (both (expr_code homes target (FIRST + 1)) (joined (expr_code homes count (FIRST + 2)) sent) (value_bare homes slots target (FIRST + 1) fits rest.0)
+    (both (expr_code homes count (FIRST + 2)) sent (value_bare homes slots count (FIRST + 2) fits rest.1) (rw (fetch_bare homes mask (omega (arith, fits, ltb-true mask slots parts.0))) refl)))
+stmt_bare homes fs number slots frame counter (overruns mask e) fits none flat formed =
+    let parts = and_parts (nat_lt mask slots) (expr_formed slots e) formed in
+    both (expr_code homes e FIRST) (one (straight (overrun_code homes mask))) (value_bare homes slots e FIRST fits parts.1) (rw (fetch_bare homes mask (omega (arith, fits, ltb-true mask slots parts.0))) refl)
+stmt_bare homes fs number slots frame counter (turns count body) fits none flat formed = absurd (omega (arith, flat))
+
+pub stmts_bare : (homes : ℕ) (fs : List PlainFunction) (number slots frame counter : ℕ) (ts : PlainStmts) → homes + slots ≤ OVERRUN → stmts_call ts ≡ false → stmts_levels ts ≡ 0 → stmts_formed fs number slots ts ≡ true → Bare (stmts_code homes frame counter ts)
+stmts_bare homes fs number slots frame counter no_stmt fits none flat formed = refl
+stmts_bare homes fs number slots frame counter (stmt t rest) fits none flat formed =
+    let each = neither (stmt_calls t) (stmts_call rest) none in
+    let parts = and_parts (stmt_formed fs number slots t) (stmts_formed fs number slots rest) formed in
+    both (stmt_code homes frame counter t) (stmts_code homes frame counter rest) (stmt_bare homes fs number slots frame counter t fits each.0 (omega (arith, flat)) parts.0)
+    (stmts_bare homes fs number slots frame counter rest fits each.1 (omega (arith, flat)) parts.1)
+
+-- ---- a function that needs none
+
+pub record NeedsNone (homes : ℕ) (f : PlainFunction) : Type 0 where
+  pub calls : stmts_call f.body ≡ false
+  pub levels : stmts_levels f.body ≡ 0
+  pub homed : homes + slots_of f ≤ OVERRUN
+
+pub needs_parts : (homes : ℕ) (f : PlainFunction) → needs_none homes f ≡ true → NeedsNone homes f
+needs_parts homes f none =
+    let a = and_parts (not (stmts_call f.body)) ((stmts_levels f.body == 0) && nat_le (homes + slots_of f) OVERRUN) none in
+    let b = and_parts (stmts_levels f.body == 0) (nat_le (homes + slots_of f) OVERRUN) a.1 in
+    record { calls = not-true (stmts_call f.body) a.0; levels = eqb-true (stmts_levels f.body) 0 b.0; homed = leb-true (homes + slots_of f) OVERRUN b.1 }
+
+-- one that calls needs some
+pub calls_need : (homes : ℕ) (f : PlainFunction) → stmts_call f.body ≡ true → needs_none homes f ≡ false
+calls_need homes f has = ap (λ b. not b && ((stmts_levels f.body == 0) && nat_le (homes + slots_of f) OVERRUN)) has
+
+-- its body
+pub body_bare : (homes : ℕ) (fs : List PlainFunction) (number : ℕ) (f : PlainFunction) → stmts_formed fs number (slots_of f) f.body ≡ true → NeedsNone homes f → parts_all is_bare (stmts_code homes f.frame (first_counter f) f.body) ≡ true
+body_bare homes fs number f formed none = stmts_bare homes fs number (slots_of f) f.frame (first_counter f) f.body none.homed none.calls none.levels formed
+
+pub body_lone : (homes : ℕ) (fs : List PlainFunction) (number : ℕ) (f : PlainFunction) → stmts_formed fs number (slots_of f) f.body ≡ true → NeedsNone homes f → parts_formed 0 (stmts_code homes f.frame (first_counter f) f.body) ≡ true
+body_lone homes fs number f formed none = forms.stmts_formed homes fs 0 (slots_of f) f.frame (first_counter f) f.body (stmts_uncalled fs number (slots_of f) f.body none.calls formed)
+
+-- leaves the whole stack
+pub bare_body : (homes : ℕ) (from : Sources) (code : ℕ → List Step) (fs : List PlainFunction) (number : ℕ) (f : PlainFunction) → stmts_formed fs number (slots_of f) f.body ≡ true → NeedsNone homes f → (m : Run) → IsWhole m
+    → Passes 0 m (run from (parts_trail code (stmts_code homes f.frame (first_counter f) f.body)) m)
+bare_body homes from code fs number f formed none m whole =
+    let body = stmts_code homes f.frame (first_counter f) f.body in
+    passes_parts from code 0 0 0 (omega arith) (record { called = λ k less. absurd (omega (arith, less)) }) body (body_lone homes fs number f formed none) (each_so is_bare (passes 0) bare_passes body (body_bare homes fs number f formed none)) m whole (omega arith)
+
+-- the words of a function that stand in no register stand in the frame that it takes
+pub outside : (homes : ℕ) (f : PlainFunction) → slots_of f ≤ f.frame → (b : Bool) → needs_none homes f ≡ b → Outside homes (slots_of f) (words_taken b f.frame)
+outside homes f room true none x lt is =
+    let homed = (needs_parts homes f none).homed in
+    absurd (true≢false (sym (lt-ltb (homes + x) OVERRUN (omega (arith, homed, lt))) ∙ is))
+outside homes f room false some x lt is = omega (arith, room, lt)

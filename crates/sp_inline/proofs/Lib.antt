@@ -1,0 +1,11 @@
+pub mod Windows
+pub mod Alike
+pub mod Taking
+pub mod Limits
+pub mod Used
+pub mod Forms
+pub mod Parts
+pub mod Steps
+pub mod Growth
+pub mod Walks
+pub mod InOrder

@@ -1,0 +1,113 @@
+-- One step more of what is written in the place of a call.
+use Rattle.std.proofs.Common.{◌≡◌, ℕ, zero, suc, ◌+◌, ◌<◌, ◌≤◌, List, [], ◌∷◌, ◌++◌, length, map, get_or, drop, sym, ◌∙◌, ap, ap₂, arith}
+use Rattle.std.specs.Prelude.{◌-◌, Option, Result, Ok, Err, OnOk}
+use Rattle.std.proofs.lemmas.List.{length-map}
+use Rattle.tc_word.proofs.Items.{drop_item}
+use Rattle.sp_tree.specs.declared.expressions.SpExpr.{SpExpr}
+use Rattle.sp_tree.specs.declared.statements.SpStmt.{SpStmt}
+use Rattle.sp_tree.specs.Formed.{slots_of}
+use Rattle.sp_tree.specs.Plain.{PlainSp, plain_sp, constant, frame_word}
+use Rattle.sp_tree.specs.Shown.{plain_stmt, stmts_of}
+use Rattle.sp_tree.specs.Statements.{PlainStmts, no_stmt, stmt, one, joined, masks, PlainFunction}
+use Rattle.sp_tree.proofs.Joins.{joined_shown}
+use Rattle.sp_inline.specs.Moved.{stmts_moved}
+use Rattle.sp_inline.specs.Taken.{begun_words, given_set, call_statements}
+use Rattle.sp_inline.proofs.Parts.{joined_joined, joined_none}
+
+pub one_more : (out : List SpStmt) (t : SpStmt) → stmts_of (out ++ t ∷ []) ≡ joined (stmts_of out) (one (plain_stmt t))
+one_more out t = joined_shown out (t ∷ [])
+
+-- one statement more, and those that come after it
+followed : (old new rest : PlainStmts) (more : PlainStmts) → new ≡ joined old more → joined new rest ≡ joined old (joined more rest)
+followed old new rest more is = ap (λ xs. joined xs rest) is ∙ joined_joined old more rest
+
+-- what is so where all was done
+pub on_done : {E A : Type 0} {P Q : Type 0} (r : Result A E) → (P → Q) → OnOk r P → OnOk r Q
+on_done (Ok v) f h = f h
+on_done (Err e) f h = h
+
+-- ---- arguments
+
+begun_next : (at n : ℕ) (e : PlainSp) (args : List PlainSp) → 0 < n → begun_words at n (e ∷ args) ≡ stmt (masks at e) (begun_words (at + 1) (n - 1) args)
+begun_next at zero e args some = absurd (omega (arith, some))
+begun_next at (suc n) e args some = ap (λ m. stmt (masks at e) (begun_words (at + 1) m args)) (omega arith)
+
+pub next_argument : (place k : ℕ) (args : List SpExpr) (e : SpExpr) (old new whole : PlainStmts) → k < length args → e ≡ get_or args k e
+    → new ≡ joined old (one (masks (place + k) (plain_sp e)))
+    → joined old (begun_words (place + k) (length args - k) (map plain_sp (drop k args))) ≡ whole
+    → joined new (begun_words (place + (k + 1)) (length args - (k + 1)) (map plain_sp (drop (k + 1) args))) ≡ whole
+next_argument place k args e old new whole within is added so_far =
+    let rest = begun_words (place + (k + 1)) (length args - (k + 1)) (map plain_sp (drop (k + 1) args)) in
+    followed old new rest (one (masks (place + k) (plain_sp e))) added
+    ∙ ap (λ xs. joined old (stmt (masks (place + k) (plain_sp e)) xs))
+    (ap₂ (λ at n. begun_words at n (map plain_sp (drop (k + 1) args))) (omega arith) (omega arith))
+    ∙ sym (ap (joined old) (ap (λ xs. begun_words (place + k) (length args - k) (map plain_sp xs)) (drop_item args k e within is)
+    ∙ begun_next (place + k) (length args - k) (plain_sp e) (map plain_sp (drop (k + 1) args)) (omega (arith, within))))
+    ∙ so_far
+
+pub no_argument : (place k : ℕ) (args : List SpExpr) (out whole : PlainStmts) → length args ≤ k
+    → joined out (begun_words (place + k) (length args - k) (map plain_sp (drop k args))) ≡ whole → out ≡ whole
+no_argument place k args out whole past so_far =
+    let none : length args - k ≡ 0 = omega (arith, past) in
+    sym (joined_none out) ∙ sym (ap (λ n. joined out (begun_words (place + k) n (map plain_sp (drop k args)))) none) ∙ so_far
+
+-- ---- words that are 0
+
+zero_next : (at n : ℕ) → 0 < n → begun_words at n [] ≡ stmt (masks at (constant 0)) (begun_words (at + 1) (n - 1) [])
+zero_next at zero some = absurd (omega (arith, some))
+zero_next at (suc n) some = ap (λ m. stmt (masks at (constant 0)) (begun_words (at + 1) m [])) (omega arith)
+
+pub next_zero : (slot to : ℕ) (old new whole : PlainStmts) → slot < to → new ≡ joined old (begun_words slot 1 [])
+    → joined old (begun_words slot (to - slot) []) ≡ whole → joined new (begun_words (slot + 1) (to - (slot + 1)) []) ≡ whole
+next_zero slot to old new whole below added so_far =
+    followed old new (begun_words (slot + 1) (to - (slot + 1)) []) (begun_words slot 1 []) added
+    ∙ ap (λ n. joined old (stmt (masks slot (constant 0)) (begun_words (slot + 1) n []))) (omega arith)
+    ∙ sym (ap (joined old) (zero_next slot (to - slot) (omega (arith, below)))) ∙ so_far
+
+pub no_zero : (slot to : ℕ) (out whole : PlainStmts) → to ≤ slot → joined out (begun_words slot (to - slot) []) ≡ whole → out ≡ whole
+no_zero slot to out whole past so_far =
+    let none : to - slot ≡ 0 = omega (arith, past) in
+    sym (joined_none out) ∙ sym (ap (λ n. joined out (begun_words slot n [])) none) ∙ so_far
+
+-- ---- all words that are begun
+
+begun_split : (at m : ℕ) (args : List PlainSp) → joined (begun_words at (length args) args) (begun_words (at + length args) m []) ≡ begun_words at (length args + m) args
+begun_split at m [] = ap₂ (λ a n. begun_words a n []) (omega arith) (omega arith)
+begun_split at m (e ∷ args) =
+    ap (λ a. joined (begun_words at (length (e ∷ args)) (e ∷ args)) (begun_words a m [])) moved_on
+    ∙ ap (stmt (masks at e)) (begun_split (at + 1) m args) ∙ ap (λ n. begun_words at n (e ∷ args)) more
+  where
+    moved_on : at + length (e ∷ args) ≡ (at + 1) + length args
+    moved_on = omega arith
+
+    more : suc (length args + m) ≡ length (e ∷ args) + m
+    more = omega arith
+
+pub all_begun : (place words : ℕ) (args : List SpExpr) (old middle new : PlainStmts) → length args ≤ words
+    → middle ≡ joined old (begun_words place (length args) (map plain_sp args))
+    → new ≡ joined middle (begun_words (place + length args) (place + words - (place + length args)) [])
+    → new ≡ joined old (begun_words place words (map plain_sp args))
+all_begun place words args old middle new few first second =
+    second ∙ followed old middle (begun_words (place + length args) (place + words - (place + length args)) []) (begun_words place (length args) (map plain_sp args)) first
+    ∙ ap (joined old)
+    (ap (λ n. joined (begun_words place n (map plain_sp args)) (begun_words (place + n) (place + words - (place + length args)) [])) (sym count)
+    ∙ begun_split place (place + words - (place + length args)) (map plain_sp args)
+    ∙ ap (λ n. begun_words place n (map plain_sp args)) (omega (arith, few, count)))
+  where
+    count : length (map plain_sp args) ≡ length args
+    count = length-map args plain_sp
+
+-- ---- a call
+
+pub nothing_set : (out : PlainStmts) → out ≡ joined out no_stmt
+nothing_set out = sym (joined_none out)
+
+pub call_added : (o mask words : ℕ) (f : PlainFunction) (args : List PlainSp) (result : Option ℕ) (old begun entered moved new : PlainStmts) → words ≡ slots_of f
+    → begun ≡ joined old (begun_words o words args) → entered ≡ joined begun (one (masks (o + f.mask) (frame_word mask)))
+    → moved ≡ joined entered (stmts_moved o f.body) → new ≡ joined moved (given_set mask result (o + f.result))
+    → new ≡ joined old (call_statements o f mask args result)
+call_added o mask words f args result old begun entered moved new same a b c d =
+    let last = given_set mask result (o + f.result) in
+    d ∙ followed entered moved last (stmts_moved o f.body) c ∙ followed begun entered (joined (stmts_moved o f.body) last) (one (masks (o + f.mask) (frame_word mask))) b
+    ∙ followed old begun (stmt (masks (o + f.mask) (frame_word mask)) (joined (stmts_moved o f.body) last)) (begun_words o words args) a
+    ∙ ap (λ n. joined old (joined (begun_words o n args) (stmt (masks (o + f.mask) (frame_word mask)) (joined (stmts_moved o f.body) last)))) same

@@ -1,0 +1,8 @@
+use Rattle.sp_tree.specs.Shown.{stmts_of}
+use Rattle.sp_inline.proofs.Steps.{on_done, all_begun}
+use Rattle.sp_inline.proofs.calls.add_begun.Goals as goal
+
+pub returns : goal.returns
+returns c =
+    on_done c.add_zeros.result (λ last. all_begun c.args.place c.args.words c.args.args.now (stmts_of c.args.out.now.items) (stmts_of c.add_arguments.new.out.items)
+    (stmts_of c.add_zeros.new.out.items) c.requires.few c.in_ok-add_arguments.ensures last) c.add_zeros.ensures

@@ -1,0 +1,5 @@
+pub mod Capped
+pub mod Moved
+pub mod Reach
+pub mod Shown
+pub mod Taken

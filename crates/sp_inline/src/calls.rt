@@ -1,0 +1,154 @@
+//! The statements that stand in the place of a call.
+ghost use Rattle.std.specs.Prelude.{◌≡◌, ◌+◌, ◌-◌, ◌<◌, ◌≤◌, ◌^◌, [], length, map, OnOk};
+ghost use Rattle.sp_tree.specs.Plain.{plain_sp, frame_word};
+ghost use Rattle.sp_tree.specs.Shown.{plain_function, plain_stmt, stmts_of};
+ghost use Rattle.sp_tree.specs.Formed.{slots_of};
+ghost use Rattle.sp_tree.specs.Statements.{joined, one, masks};
+ghost use Rattle.sp_inline.specs.Shown.{statements_for};
+ghost use Rattle.sp_inline.specs.Taken as specs;
+ghost use Rattle.sp_inline.specs.Reach.{stmts_reach};
+
+use crate::moves::add_moved;
+use sp_tree::{SpExpr, SpFunction, SpStmt, SpTarget, copied};
+use std::alloc::Global;
+use tc_word::OutOfMemory;
+
+/// A call: the word of its mask, the number of its function, its arguments, and the word that is set, if one is.
+#[derive(Clone, Copy, Debug)]
+pub struct Call<'a> {
+    pub mask: u32,
+    pub function: u32,
+    pub args: &'a [SpExpr],
+    pub result: Option<u32>,
+}
+
+/// One statement more.
+#[tactic(auto, using(crate::proofs::Steps::one_more))]
+pub fn add(out: &mut Vec<SpStmt>, statement: SpStmt) -> Result<(), OutOfMemory>
+    ensures { OnOk result (stmts_of out.new.items ≡ joined (stmts_of out.old.items) (one (plain_stmt statement))) }
+{
+    out.push(statement)?;
+    Ok(())
+}
+
+// a word is set in any case
+#[tactic(auto, unfolding(sp_tree::specs::Shown::plain_stmt))]
+fn add_mask(out: &mut Vec<SpStmt>, slot: u32, value: SpExpr) -> Result<(), OutOfMemory>
+    ensures { OnOk result (stmts_of out.new.items
+        ≡ joined (stmts_of out.old.items) (one (masks slot (plain_sp value)))) }
+{
+    add(out, SpStmt::Mask { slot, value })
+}
+
+// a word is set to another
+#[tactic(auto, unfolding(sp_tree::specs::Plain::plain_sp))]
+fn add_copy(out: &mut Vec<SpStmt>, slot: u32, from: u32) -> Result<(), OutOfMemory>
+    ensures { OnOk result (stmts_of out.new.items
+        ≡ joined (stmts_of out.old.items) (one (masks slot (frame_word from)))) }
+{
+    add_mask(out, slot, SpExpr::Frame { slot: from })
+}
+
+// the words from a place on are set to the arguments
+fn add_arguments(
+    alloc: Global,
+    place: u32,
+    args: &[SpExpr],
+    out: &mut Vec<SpStmt>,
+) -> Result<(), OutOfMemory>
+    requires { place + length args.now < 2 ^ 32 }
+    ensures { OnOk result (stmts_of out.new.items
+        ≡ joined (stmts_of out.old.items) (specs.begun_words place (length args.now) (map plain_sp args.now))) }
+{
+    for (k, e) in args.iter().enumerate() {
+        let value = copied(alloc, e)?;
+        add_mask(out, place + k as u32, value)?;
+    }
+    Ok(())
+}
+
+// a word is set to 0
+#[tactic(auto, unfolding(sp_tree::specs::Plain::plain_sp))]
+fn add_zero(out: &mut Vec<SpStmt>, slot: u32) -> Result<(), OutOfMemory>
+    ensures { OnOk result (stmts_of out.new.items
+        ≡ joined (stmts_of out.old.items) (specs.begun_words slot 1 [])) }
+{
+    add_mask(out, slot, SpExpr::Const { value: 0 })
+}
+
+// the words from one on up to another are set to 0
+fn add_zeros(out: &mut Vec<SpStmt>, from: u32, to: u32) -> Result<(), OutOfMemory>
+    requires { from ≤ to }
+    ensures { OnOk result (stmts_of out.new.items
+        ≡ joined (stmts_of out.old.items) (specs.begun_words from (to - from) [])) }
+{
+    for slot in from..to {
+        add_zero(out, slot)?;
+    }
+    Ok(())
+}
+
+// so many words from a place on are set to the arguments, and then to 0
+fn add_begun(
+    alloc: Global,
+    place: u32,
+    words: u32,
+    args: &[SpExpr],
+    out: &mut Vec<SpStmt>,
+) -> Result<(), OutOfMemory>
+    requires room { place + words < 2 ^ 32 }
+    requires few { length args.now ≤ words }
+    ensures { OnOk result (stmts_of out.new.items
+        ≡ joined (stmts_of out.old.items) (specs.begun_words place words (map plain_sp args.now))) }
+{
+    add_arguments(alloc, place, args, out)?;
+    add_zeros(out, place + args.len() as u32, place + words)
+}
+
+// under a mask a word is set to another, if one is to be set
+#[tactic(auto, using(crate::proofs::Steps::nothing_set), unfolding(sp_tree::specs::Plain::plain_sp, sp_tree::specs::Shown::plain_stmt))]
+fn add_given(
+    out: &mut Vec<SpStmt>,
+    mask: u32,
+    given: Option<u32>,
+    from: u32,
+) -> Result<(), OutOfMemory>
+    ensures { OnOk result (stmts_of out.new.items
+        ≡ joined (stmts_of out.old.items) (specs.given_set mask given from)) }
+{
+    match given {
+        None => Ok(()),
+        Some(slot) => add(
+            out,
+            SpStmt::Write {
+                mask,
+                target: SpTarget::Frame { slot },
+                value: SpExpr::Frame { slot: from },
+            },
+        ),
+    }
+}
+
+/// The statements of a function that may name so many words, over the words from a place on, in the place of a call.
+pub fn add_call(
+    alloc: Global,
+    place: u32,
+    words: u32,
+    function: &SpFunction,
+    call: &Call<'_>,
+    out: &mut Vec<SpStmt>,
+) -> Result<(), OutOfMemory>
+    requires words { words ≡ slots_of (plain_function function.now) }
+    requires room { place + words < 2 ^ 32 }
+    requires few { length call.now.args.now ≤ words }
+    requires reach { stmts_reach (stmts_of function.now.body) ≤ words }
+    requires mask { function.now.mask < words }
+    requires result { function.now.result < words }
+    ensures { OnOk result (stmts_of out.new.items ≡ joined (stmts_of out.old.items)
+        (statements_for place (plain_function function.now) call.now)) }
+{
+    add_begun(alloc, place, words, call.args, out)?;
+    add_copy(out, place + function.mask, call.mask)?;
+    add_moved(alloc, place, out, function.body.as_slice())?;
+    add_given(out, call.mask, call.result, place + function.result)
+}

@@ -1,0 +1,34 @@
+//! Calls in loops of single-path trees, in the place of which the statements of their functions stand.
+//!
+//! A call costs a load of the function's code into the method cache and the words that pass its arguments and its
+//! result, at each turn of the loop that it stands in. So [`take_in`] puts the statements of the function in its place,
+//! over further words of the caller's frame, for as long as the caller keeps to its most words of code and of its
+//! frame. It goes through each function once, and measures each once as it stands and once as it becomes.
+//!
+//! - What is made: `specs/Taken.antt`, over statements that are moved (`specs/Moved.antt`) and the words and functions
+//!   that they name (`specs/Reach.antt`). [`take_in`] makes exactly that, of every unit.
+//! - What holds of it: [`taken_calls_change_nothing`], [`taken_calls_are_formed`], [`taken_calls_keep_limits`] and
+//!   [`taken_calls_use_no_more`].
+//!
+//! What its words mean stands in [the glossary](../../../docs/GLOSSARY.md).
+#![tactic(auto)]
+
+mod callees;
+mod callers;
+mod calls;
+mod costs;
+mod laws;
+mod levels;
+mod measured;
+mod moves;
+mod reach;
+mod room;
+mod units;
+mod walk;
+
+pub use laws::{
+    taken_calls_are_formed, taken_calls_change_nothing, taken_calls_keep_limits,
+    taken_calls_use_no_more,
+};
+pub use room::Room;
+pub use units::take_in;

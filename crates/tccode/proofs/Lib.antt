@@ -1,0 +1,4 @@
+pub mod Coding
+pub mod Naming
+pub mod Outcomes
+pub mod Programs
