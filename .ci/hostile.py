@@ -377,10 +377,10 @@ def task_of_weight(ask: Asker, kind: str, array: str) -> None:
 # Loops, and bounds up to 2^62.
 
 
-def loops_of(turns: Words, inner: str = "") -> str:
-    """Loops of these turns inside one another."""
-    text = "".join(f"{LOOP % count}while (g < 1) {{ " for count in turns)
-    return f"int g; int main() {{ {text}{inner}{'} ' * len(turns)}return g; }}\n"
+def loops_of(iterations: Words, inner: str = "") -> str:
+    """Loops of these iterations inside one another."""
+    text = "".join(f"{LOOP % count}while (g < 1) {{ " for count in iterations)
+    return f"int g; int main() {{ {text}{inner}{'} ' * len(iterations)}return g; }}\n"
 
 
 def doubled(depth: int) -> str:
@@ -390,14 +390,15 @@ def doubled(depth: int) -> str:
 
 
 def long_loops(ask: Asker) -> None:
-    """Loops of the most turns: three in one another are told a bound, a fourth of 16,385 turns is too many for any.
+    """Loops of the most iterations: three in one another are told a bound, a fourth of 16,385 is too many for any.
 
-    Turns multiply what stands in them, so the bound is a line over the outermost loop's turns, and is told up to 2^62.
+    Iterations multiply what stands in them, so the bound is a line over those of the outermost loop, and is told up to
+    2^62.
     """
     most = [65535] * 3
     text = f"int g; int main() {{ {LOOP % 65535}while (g < 65535) {{ g = g + 1; }} return g; }}\n"
     ask.taken("one loop of 65,535", text, 65535, cycles=5_000_000)
-    bounds = [ask.endless(f"a fourth loop of {turns}", loops_of([turns] + most)) for turns in [2, 3, 4]]
+    bounds = [ask.endless(f"a fourth loop of {iterations}", loops_of([iterations] + most)) for iterations in [2, 3, 4]]
     step = bounds[1] - bounds[0]
     if step < 65535**3 or bounds[2] - bounds[1] != step:
         ask.fault("a fourth loop", f"its bounds are no line: {bounds}")
@@ -406,59 +407,59 @@ def long_loops(ask: Asker) -> None:
     told = ask.endless(f"a fourth loop of {last}", loops_of([last] + most))
     if told != bounds[0] + (last - 2) * step:
         ask.fault(f"a fourth loop of {last}", f"its bound is {told}, off the line of {bounds}")
-    for turns in [last + 1, 16385, 65535]:
-        ask.refused(f"a fourth loop of {turns}", loops_of([turns] + most), "Long")
+    for iterations in [last + 1, 16385, 65535]:
+        ask.refused(f"a fourth loop of {iterations}", loops_of([iterations] + most), "Long")
     ask.refused("ten loops", loops_of([65535] * 10), "Long")
     ask.refused("a loop of 65,536", loops_of([65536]), "BoundRange at 8")
 
 
-def summed_loops(turns: Words, statements: int) -> str:
-    """Loops behind one another: of four levels, and two each of three, two and one; the outermost turn so often."""
+def summed_loops(iterations: Words, statements: int) -> str:
+    """Loops behind one another: of four levels, and two each of three, two and one; the outermost iterate so often."""
     loops = []
-    for count, levels in zip(turns, [3, 2, 2, 1, 1, 0, 0]):
+    for count, levels in zip(iterations, [3, 2, 2, 1, 1, 0, 0]):
         loops.append(f"{LOOP % count}while (g < 1) {{ {nested(LOOP % 65535 + 'while (g < 1) { ', '', '} ', levels)}}} ")
     return f"int g; int main() {{ {''.join(loops)}{'g = g; ' * statements}return g; }}\n"
 
 
 def longest_bounds(ask: Asker) -> None:
-    """A text whose bound is 2^62, as its turns say, and the same with one more statement, which is too long.
+    """A text whose bound is 2^62, as its iterations say, and the same with one more statement, which is too long.
 
-    The bound is a line over the turns of each loop, of a step of its own. So turns are found that leave a rest below
-    the least step, and as many statements as leave none.
+    The bound is a line over the iterations of each loop, of a step of its own. So iterations are found that leave a
+    rest below the least step, and as many statements as leave none.
     """
     fewest = [2] + [4096] * 6
     base = ask.bound_of("loops behind one another", summed_loops(fewest, 0))
     steps = []
     for at in [0, 1, 3, 5]:
-        turns = [count + (place == at) for place, count in enumerate(fewest)]
-        steps.append(ask.bound_of("loops behind one another", summed_loops(turns, 0)) - base)
+        iterations = [count + (place == at) for place, count in enumerate(fewest)]
+        steps.append(ask.bound_of("loops behind one another", summed_loops(iterations, 0)) - base)
     if min(steps) <= 0:
         ask.fault("loops behind one another", f"their steps are {steps}")
         return
     for statements in range(40):
         rest = 2**62 - ask.bound_of("loops behind one another", summed_loops(fewest, statements))
-        turns = list(fewest)
+        iterations = list(fewest)
         for step, places in zip(steps, [[0], [1, 2], [3, 4], [5, 6]]):
             for place in places:
-                more = min(rest // step, 4095 - turns[0] if place == 0 else 65535 - 4096)
-                turns[place] += more
+                more = min(rest // step, 4095 - iterations[0] if place == 0 else 65535 - 4096)
+                iterations[place] += more
                 rest -= more * step
         if statements == 0:
-            near_longest(ask, turns, rest)
+            near_longest(ask, iterations, rest)
         if rest == 0:
-            told = ask.endless("a bound of 2^62", summed_loops(turns, statements))
+            told = ask.endless("a bound of 2^62", summed_loops(iterations, statements))
             if told != 2**62:
                 ask.fault("a bound of 2^62", f"it is {told}")
-            ask.refused("a bound above 2^62", summed_loops(turns, statements + 1), "Long")
+            ask.refused("a bound above 2^62", summed_loops(iterations, statements + 1), "Long")
             return
 
 
-def near_longest(ask: Asker, turns: list[int], rest: int) -> None:
+def near_longest(ask: Asker, iterations: list[int], rest: int) -> None:
     """The bound is as far below 2^62 as the rest says, which is below the step of the last loop."""
-    told = ask.endless("a bound near 2^62", summed_loops(turns, 0))
+    told = ask.endless("a bound near 2^62", summed_loops(iterations, 0))
     if told != 2**62 - rest:
         ask.fault("a bound near 2^62", f"it is {told}, and not {2**62 - rest}")
-    ask.refused("a bound a turn above 2^62", summed_loops(turns[:6] + [turns[6] + 1], 0), "Long")
+    ask.refused("a bound an iteration above 2^62", summed_loops(iterations[:6] + [iterations[6] + 1], 0), "Long")
 
 
 def long_calls(ask: Asker) -> None:

@@ -186,7 +186,7 @@ class Pages:
 
     def check_searches(self, folder: str) -> None:
         """The tools that look for tables and schedules, and the program on files."""
-        deadlines = "examples/c/deadlines.toml --deadline 0=3000 1=5000 2=20000"
+        deadlines = "examples/c/deadlines.toml --deadline 0=3000 1=4500 2=20000"
         for line in (
             f"tools/tables {deadlines} --persist --length 6",
             "tools/tables examples/c/table_even.toml --deadline 0=4000 --length 5 --best 1",

@@ -12,10 +12,10 @@ from __future__ import annotations
 from dataclasses import dataclass
 from math import lcm
 
+from .c_loops import counted, is_plain
 from .c_text import Token, number_of, tokens_of
 from .events import NoSequence
 from .job import MOST_CYCLES, Job, Task, toml_string
-from .linting import counted, is_plain
 from .packets import UNDER_WAY, WINDOW, Packet, Start, next_window, transfers_of
 from .program import run_program
 from .report import Core, read_report

@@ -16,7 +16,7 @@ from .trail import Open, Walk
 class CodePart:
     """A function or a loop of the code: its first place and its last one, the part around it, and how often it is run.
 
-    Of a loop `entered` counts how often it is entered, and `turns` all its iterations. A function has a turn each run.
+    Of a loop `entered` counts how often it is entered, and `iterations` all its iterations. A function has one a run.
     """
 
     is_loop: bool
@@ -24,7 +24,7 @@ class CodePart:
     last: int
     around: int | None
     entered: int
-    turns: int
+    iterations: int
 
 
 @dataclass(frozen=True)
@@ -78,7 +78,7 @@ def calls_in(items: list[CodeItem], times: int) -> Iterator[tuple[str, int]]:
         if isinstance(item, CodeCall):
             yield item.name, times
         elif isinstance(item, CodeLoop):
-            yield from calls_in(item.items, times * item.turns)
+            yield from calls_in(item.items, times * item.iterations)
 
 
 def parts_of(code: TaskCode) -> list[CodePart]:
@@ -97,8 +97,8 @@ def loops_in(function: CodeFunction, items: list[CodeItem], around: int, times: 
     for item in items:
         if isinstance(item, CodeLoop):
             places = (function.start + item.first, function.start + item.last)
-            yield CodePart(True, *places, around, times, times * item.turns)
-            yield from loops_in(function, item.items, item.number, times * item.turns)
+            yield CodePart(True, *places, around, times, times * item.iterations)
+            yield from loops_in(function, item.items, item.number, times * item.iterations)
 
 
 def attributed(code: TaskCode, sequence: Sequence) -> Attribution:

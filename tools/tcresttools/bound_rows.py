@@ -94,12 +94,12 @@ class Counter:
         self.functions = {one.name: one for one in code.functions}
         self.costs[0].fetches += code.functions[0].fetches
         for function in code.functions:
-            if self.parts[function.number].turns:
+            if self.parts[function.number].iterations:
                 self.items(function, function.items, function.number)
 
     def items(self, function: CodeFunction, items: list[CodeItem], part: int) -> None:
         """Items of a part, which are executed as often as it iterates."""
-        times = self.parts[part].turns
+        times = self.parts[part].iterations
         for item in items:
             if isinstance(item, CodeBundle):
                 self.costs[part].add(BoundCost(1, 0, item.data, item.stack), times)
@@ -119,7 +119,7 @@ class Counter:
 
 def stays(code: TaskCode, parts: list[CodePart]) -> bool:
     """All functions that are run fit into the method cache together."""
-    run = [one.words for one in code.functions if parts[one.number].turns]
+    run = [one.words for one in code.functions if parts[one.number].iterations]
     return len(run) <= MOST_FUNCTIONS and sum(run) <= MOST_WORDS
 
 

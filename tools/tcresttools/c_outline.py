@@ -16,7 +16,7 @@ from .c_text import Token, number_of, tokens_of
 from .c_tree import KINDS, LEVELS, UNARY
 
 DIVIDING = {"/": "division", "%": "remainder"}
-DIVISION_TURNS = 16
+DIVISION_ITERATIONS = 16
 SWAPPED = (">", ">=")
 TRUTHS = ("||", "&&", "==", "!=", "<", "<=", *SWAPPED)
 SHIFTS = ("<<", ">>")
@@ -30,7 +30,7 @@ class Division:
 
     sign: str
     at: int
-    is_after_turns: bool = False
+    is_after_iterations: bool = False
 
 
 @dataclass(frozen=True)
@@ -221,7 +221,7 @@ class OutlineReader:
         body = self.block().items
         if most == 0:
             return first + condition
-        again = [replace(item, is_after_turns=True) for item in condition if isinstance(item, Division)]
+        again = [replace(item, is_after_iterations=True) for item in condition if isinstance(item, Division)]
         return [*first, Loop(word.text, word.at, most, condition + body + step), *again]
 
     def assignment(self, end: str) -> list[Item]:

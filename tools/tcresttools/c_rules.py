@@ -158,18 +158,18 @@ def wrong_type(scene: Checked) -> Advice | None:
 
 
 def no_bound(scene: Checked) -> Advice | None:
-    turns = turns_of(scene.tokens, scene.number)
+    times = iterations_of(scene.tokens, scene.number)
     mend = (Edit(scene.token.at, scene.token.at, '_Pragma("loopbound min 0 max 1") '),)
-    if turns is None:
+    if times is None:
         text = 'write `_Pragma("loopbound min A max B")` right before it, with the fewest iterations and the most.'
         return Advice(text, mend=mend)
     return Advice(
-        f'write `_Pragma("loopbound min {turns} max {turns}")` right before it: it iterates {turns} times.', mend=mend
+        f'write `_Pragma("loopbound min {times} max {times}")` right before it: it iterates {times} times.', mend=mend
     )
 
 
-def turns_of(tokens: list[Token], at: int) -> int | None:
-    """How often `for (i = A; i < B; i = i + C)` turns: A, B and C are numbers, and the block leaves `i` as it is."""
+def iterations_of(tokens: list[Token], at: int) -> int | None:
+    """How often `for (i = A; i < B; i = i + C)` iterates: A, B and C are numbers, and the block leaves `i` as it is."""
     texts = [token.text for token in tokens[at : at + 17]]
     if len(texts) < 17 or texts[0] != "for" or len({texts[2], texts[6], texts[10], texts[12]}) != 1:
         return None
@@ -180,8 +180,8 @@ def turns_of(tokens: list[Token], at: int) -> int | None:
     first, last, step = (number or 0 for number in numbers)
     if step == 0 or last < first:
         return None
-    turns = max(0, -((first - last - (texts[7] == "<=")) // step))
-    return turns if turns <= 65_535 and not leaves_loop(tokens, at + 16, texts[2]) else None
+    iterations = max(0, -((first - last - (texts[7] == "<=")) // step))
+    return iterations if iterations <= 65_535 and not leaves_loop(tokens, at + 16, texts[2]) else None
 
 
 def leaves_loop(tokens: list[Token], at: int, name: str) -> bool:

@@ -104,8 +104,8 @@ class CodeListing:
     def loop_text(self, loop: CodeLoop) -> str:
         """What a loop is: its name, its iterations, and the calls that are inlined in it."""
         named = self.named[loop.number]
-        turns = f"{loop.turns} iteration{'' if loop.turns == 1 else 's'}"
-        texts = [f"{named.shown}: {loop.label}, {turns}"]
+        iterations = f"{loop.iterations} iteration{'' if loop.iterations == 1 else 's'}"
+        texts = [f"{named.shown}: {loop.label}, {iterations}"]
         if named.inlined and named.at is not None:
             texts[0] += f": {self.line_text(named.at)}"
         texts += [f"{call.name}() of line {self.shown_line(call.at)} is inlined" for call in named.calls]

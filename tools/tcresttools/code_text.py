@@ -23,7 +23,7 @@ TASK = re.compile(
     r"# core (\d+) words (\d+) bundles (\d+) transactions (\d+) bound (\d+) persist (\d+)",
 )
 FUNCTION = re.compile(r"# function (\S+) words (\d+) stack (\d+) (?:bundles (\d+) transactions (\d+)|long)")
-LOOP = re.compile(r"# loop (L\d+) turns (\d+)")
+LOOP = re.compile(r"# loop (L\d+) iterations (\d+)")
 LOOP_END = re.compile(r"# end (L\d+)")
 NAME = re.compile(r"\.func (\S+)")
 LABEL = re.compile(r"(L\d+):")
@@ -65,7 +65,7 @@ class CodeLoop:
 
     number: int
     label: str
-    turns: int
+    iterations: int
     items: list[CodeItem] = field(default_factory=list)
 
     @property
@@ -208,10 +208,10 @@ class CodeReader:
         self.open = [functions[-1].items]
         return True
 
-    def loop(self, label: str, turns: int) -> bool:
+    def loop(self, label: str, iterations: int) -> bool:
         if not self.open or self.call:
             return False
-        made = CodeLoop(self.parts, label, turns)
+        made = CodeLoop(self.parts, label, iterations)
         self.parts += 1
         self.open[-1].append(made)
         self.open.append(made.items)

@@ -112,7 +112,7 @@ def most_loaded(packets: list[Packet]) -> tuple[str, int]:
 
 
 class Placing:
-    """Places packets in a period of one length. A packet without room puts out those that are least in its way."""
+    """Places packets in a period of one length. A packet without room evicts those that are least in its way."""
 
     def __init__(self, packets: list[Packet], length: int, draws: random.Random) -> None:
         self.schedule = Schedule(length, packets, [None] * len(packets))
@@ -121,7 +121,7 @@ class Placing:
         self.routes = [[links[link] for link in packet.route] for packet in packets]
         # Which packet uses a link in each slot of the period.
         self.users: list[list[int | None]] = [[None] * length for _ in links]
-        # How often a packet was put out: it is the harder to put out again.
+        # How often a packet was evicted: it is the harder to evict again.
         self.evictions = [0] * len(packets)
 
     def run(self, placings: int) -> bool:
@@ -138,7 +138,7 @@ class Placing:
         return not waiting
 
     def place(self, number: int) -> list[int]:
-        """Gives a packet the slot in which least is in its way, and gives back the packets that it puts out."""
+        """Gives a packet the slot in which least is in its way, and gives back the packets that it evicts."""
         best: list[tuple[int, set[int]]] = []
         least = 0
         for slot in range(self.schedule.length):

@@ -11,7 +11,7 @@ from __future__ import annotations
 from collections.abc import Iterator
 from dataclasses import dataclass
 
-from .c_outline import DIVIDING, DIVISION_TURNS, Call, Division, Item, Loop, image_order, outline_of
+from .c_outline import DIVIDING, DIVISION_ITERATIONS, Call, Division, Item, Loop, image_order, outline_of
 from .code_text import CodeBundle, CodeCall, CodeItem, CodeLoop, TaskCode
 
 
@@ -57,8 +57,8 @@ class TextLoop:
     items: list[Text]
 
     @property
-    def turns(self) -> int:
-        return self.item.most if isinstance(self.item, Loop) else DIVISION_TURNS
+    def iterations(self) -> int:
+        return self.item.most if isinstance(self.item, Loop) else DIVISION_ITERATIONS
 
 
 @dataclass(frozen=True)
@@ -176,7 +176,7 @@ class Fitter:
     def loop(self, code: list[CodeItem], begin: int, item: TextLoop) -> Fitting | None:
         """An item of the code as a loop of the text."""
         loop = code[begin] if begin < len(code) else None
-        if not isinstance(loop, CodeLoop) or loop.turns != item.turns:
+        if not isinstance(loop, CodeLoop) or loop.iterations != item.iterations:
             return None
         key = (loop.number, item)
         if key not in self.found:
@@ -200,7 +200,7 @@ def label_of(item: Loop | Division) -> str:
     """The word of a loop; of a division what it gives, and whether it is that of a condition after the loop."""
     if isinstance(item, Loop):
         return item.word
-    return DIVIDING[item.sign] + (" after it" if item.is_after_turns else "")
+    return DIVIDING[item.sign] + (" after it" if item.is_after_iterations else "")
 
 
 def named_loops(items: list[CodeItem], fitting: Fitting | None, function: str, depth: int) -> Iterator[Named]:

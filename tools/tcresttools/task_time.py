@@ -88,7 +88,7 @@ def part_rows(job: Job, task: Task, named: list[Named], parts: list[CodePart]) -
     rows = []
     for number, (name, part) in enumerate(zip(named, parts, strict=True)):
         place = None if name.at is None else job.source_place(task, name.at)
-        if part.turns:
+        if part.iterations:
             rows.append(PartRow(number, name, place, part))
     return rows
 

@@ -80,8 +80,8 @@ def iterations_text(row: PartRow) -> str:
     """How often a function is run; of a loop its iterations, behind how often it is entered if more than once."""
     part = row.part
     if not part.is_loop or part.entered == 1:
-        return str(part.turns)
-    return f"{part.entered} x {part.turns // part.entered}"
+        return str(part.iterations)
+    return f"{part.entered} x {part.iterations // part.entered}"
 
 
 def line_text(row: PartRow, rows: Sequence[PartRow]) -> str:
@@ -191,7 +191,7 @@ def csv_rows(time: TaskTime) -> list[list[object]]:
         places: list[object] = [part.first, part.last]
         rows.append(
             [time.task.core, row.named.function, row.named.label, row.named.depth, *at, *places]
-            + [part.entered, part.turns]
+            + [part.entered, part.iterations]
             + [cost.cycles, round(percent(cost.cycles, time.total.cycles), 2), cost.own, cost.with_calls]
             + [cost.bundles, cost.fetch, cost.memory, cost.fetches, cost.accesses]
             + [" ".join(row.named.inlined), row.text]

@@ -77,17 +77,18 @@ class Walk:
             if isinstance(item, CodeCall):
                 yield from self.called(self.functions[item.name], here, others)
             else:
-                yield from self.turned(item, here, others)
+                yield from self.iterated(item, here, others)
 
     def called(self, function: CodeFunction, here: Here, others: list[Here]) -> Iterator[Executed]:
         made = Here(function, self.open(here.open.callers + here.open.own, (function.number,)))
         here.inside[-1].append(made)
         yield from self.steps_of(function.items, made, others[0] if others else None)
 
-    def turned(self, loop: CodeLoop, here: Here, others: list[Here]) -> Iterator[Executed]:
+    def iterated(self, loop: CodeLoop, here: Here, others: list[Here]) -> Iterator[Executed]:
         """All iterations: where the other code made fewer, its last one again and again."""
-        turns = here.inside[-1]
+        iterations = here.inside[-1]
         opened = self.open(here.open.callers, (*here.open.own, loop.number))
-        for turn in range(loop.turns):
-            turns.append(Here(here.function, opened))
-            yield from self.steps_of(loop.items, turns[-1], others[min(turn, len(others) - 1)] if others else None)
+        for number in range(loop.iterations):
+            iterations.append(Here(here.function, opened))
+            other = others[min(number, len(others) - 1)] if others else None
+            yield from self.steps_of(loop.items, iterations[-1], other)

@@ -16,17 +16,17 @@ from collections import Counter
 from collections.abc import Iterator
 from dataclasses import dataclass, field, replace
 
+from .c_loops import counted_for, is_plain
 from .c_text import Token, number_of, tokens_of
 from .code_text import CodeBundle, CodeItem, CodeLoop, TaskCode
 from .events import Bundle, Cause, Event, NoSequence, Sequence, Transaction
 from .job import Task
-from .linting import counted_for, is_plain
 from .mending import Edit, Mended
 from .method_cache import MethodCache, fetch_words
 from .recording import recorded
 from .trail import Here, Walk
 
-KEPT_TURNS = 2
+KEPT_ITERATIONS = 2
 MOST_BUNDLES = 2_000_000
 
 
@@ -54,18 +54,18 @@ def lowered(source: bytes) -> bytes:
 
 
 def lowered_bound(token: Token) -> str:
-    return re.sub(r"\d+", lambda found: str(min(int(found.group(0)), KEPT_TURNS)), token.text)
+    return re.sub(r"\d+", lambda found: str(min(int(found.group(0)), KEPT_ITERATIONS)), token.text)
 
 
 def lowered_limit(tokens: list[Token], at: int, most: int) -> list[Edit]:
     """Another limit for a `for` that makes just so many iterations, more than two; none for other loops."""
     loop = counted_for(tokens, at) if tokens[at].text == "for" else None
-    if loop is None or most <= KEPT_TURNS or not is_plain(tokens, loop) or tokens[at + 7].text not in ("<", "<="):
+    if loop is None or most <= KEPT_ITERATIONS or not is_plain(tokens, loop) or tokens[at + 7].text not in ("<", "<="):
         return []
     step = number_of(tokens[at + 14]) or 1
     if (loop.most - loop.least) // step + 1 != most:
         return []
-    limit = loop.least + (KEPT_TURNS - 1) * step + (tokens[at + 7].text == "<")
+    limit = loop.least + (KEPT_ITERATIONS - 1) * step + (tokens[at + 7].text == "<")
     return [Edit(tokens[at + 8].at, tokens[at + 8].end, str(limit))]
 
 

@@ -21,9 +21,9 @@ class Lines:
             self.at += size
         return self
 
-    def loop(self, label: str, turns: int, body: Lines) -> Lines:
+    def loop(self, label: str, iterations: int, body: Lines) -> Lines:
         """A loop around lines that were written from here on."""
-        self.lines += [f"# loop {label} turns {turns}", f"{label}:", *body.lines, f"# end {label}"]
+        self.lines += [f"# loop {label} iterations {iterations}", f"{label}:", *body.lines, f"# end {label}"]
         self.at = body.at
         return self
 

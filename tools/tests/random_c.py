@@ -267,20 +267,20 @@ class Generator:
 
     def loop(self, names: Names, depth: int, kind: int) -> list[str]:
         """A loop of one of the three kinds, whose counter nothing else sets."""
-        counter, turns = self.name("c"), self.random.randrange(1, 5)
+        counter, iterations = self.name("c"), self.random.randrange(1, 5)
         inner = Names([*names.narrow], names.wide, names.arrays)
         body = self.body(inner, depth - 1, True)
         if kind == 8:
-            step = self.pick(f"{counter}++", f"{counter} += 1", f"++{counter}", f"{counter}++, g1 ^= {turns}")
+            step = self.pick(f"{counter}++", f"{counter} += 1", f"++{counter}", f"{counter}++, g1 ^= {iterations}")
             read = [f"{self.random.choice(names.narrow)} += {counter};"]
-            return [f"for (int {counter} = 0; {counter} < {turns}; {step})", "{", *read, *body[1:]]
+            return [f"for (int {counter} = 0; {counter} < {iterations}; {step})", "{", *read, *body[1:]]
         if kind == 9:
             test = self.pick(f"{counter}-- > 0", f"--{counter}", f"{counter}-- && {self.value(names, 1)}")
-            pragma = f'_Pragma( "loopbound min 0 max {turns + 1}" )'
-            return ["{", f"int {counter} = {turns};", pragma, f"while ({test})", *body, "}"]
-        test = self.pick(f"{counter}-- > 1", f"--{counter} > 0", f"{counter}++ < {turns}")
-        pragma = f'_Pragma( "loopbound min 1 max {turns + 2}" )'
-        begin = 0 if "++" in test else turns
+            pragma = f'_Pragma( "loopbound min 0 max {iterations + 1}" )'
+            return ["{", f"int {counter} = {iterations};", pragma, f"while ({test})", *body, "}"]
+        test = self.pick(f"{counter}-- > 1", f"--{counter} > 0", f"{counter}++ < {iterations}")
+        pragma = f'_Pragma( "loopbound min 1 max {iterations + 2}" )'
+        begin = 0 if "++" in test else iterations
         return ["{", f"int {counter} = {begin};", pragma, "do", *body, f"while ({test});", "}"]
 
     def switch(self, names: Names, depth: int, in_loop: bool) -> list[str]:

@@ -26,8 +26,8 @@ def code() -> TaskCode:
 
 
 INNER = [7, 8, 9]
-TURN = [5, 6, *INNER * 3, 10, 12]
-PLACES = [1, 3, 4, *TURN * 2, 13, 15, 16, 17, 18, 22, 23, 24, 25, 19, 20]
+ITERATION = [5, 6, *INNER * 3, 10, 12]
+PLACES = [1, 3, 4, *ITERATION * 2, 13, 15, 16, 17, 18, 22, 23, 24, 25, 19, 20]
 
 
 def test_the_order_of_bundles() -> None:

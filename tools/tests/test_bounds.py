@@ -29,7 +29,7 @@ BY_HAND = """\
 # function main words 13 stack 0 bundles 39 transactions 18
 .func main
   addi r3 = r0, 1;  # 0 00000000
-# loop L0 turns 3
+# loop L0 iterations 3
 L0:
   call f;  # 1 00000000
   nop;  # 2 00000000

@@ -15,11 +15,11 @@ NEVER = '_Pragma("loopbound min 0 max 0")'
 
 
 def shown(source: bytes, items: list[Item]) -> str:
-    """The items in one line: a division by what is behind its sign, a call by its name, a loop with its turns."""
+    """The items in one line: a division by what is behind its sign, a call by its name, a loop with its iterations."""
     words = []
     for item in items:
         if isinstance(item, Division):
-            mark = "'" if item.is_after_turns else ""
+            mark = "'" if item.is_after_iterations else ""
             words.append(source[item.at : item.at + 2].decode() + mark)
         elif isinstance(item, Call):
             words.append(item.name)
@@ -76,7 +76,7 @@ def test_order_of_operands(expression: str, wanted: str) -> None:
         ("if (x) { return x/p; f(x); } x = x/q;", "/p /q"),
         ("{ return; } x = x/q;", ""),
         (f"{BOUND} while (x) {{ if (x) {{ break; x = x/p; }} continue; x = x/q; }} x = x/r;", "while5() /r"),
-        # a condition is tested in each turn, and once more
+        # a condition is tested in each iteration, and once more
         (f"{BOUND} while (x/p) {{ x = x/q; }}", "while5(/p /q) /p'"),
         (f"{BOUND} for (x = y/p; x < y/q; x = x + y/r) {{ f(x/s); }}", "/p for5(/q /s f /r) /q'"),
         (f"{NEVER} for (x = y/p; x < y/q; x = x + y/r) {{ f(x/s); }}", "/p /q"),
@@ -144,7 +144,7 @@ def test_divisions_by_numbers(program: str) -> None:
             text = f"int main() {{ {kind} x = in[0]; {lines} return x; }}".encode()
             code = code_of_task(Task(0, 0, "c", b"int in[1]; " + text, [], 0), program)
             loops = [item for item in code.functions[0].items if isinstance(item, CodeLoop)]
-            assert [loop.turns for loop in loops] == [16] * len(loops)
+            assert [loop.iterations for loop in loops] == [16] * len(loops)
             assert len(list(bundles_of(code.functions[0].items))) > len(numbers)
             assert len(loops) == sum(is_long(number, kind == "unsigned") for number in numbers)
 

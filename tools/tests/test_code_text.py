@@ -31,7 +31,7 @@ BY_HAND = """\
 .func main
   { sres 9 ; addi r5 = r0, 0 };  # 0 83c0000f 000a0000
   addl r27 = r0, 12;  # 2 85b60000 0000000c
-# loop L0 turns 3
+# loop L0 iterations 3
 L0:
   (p1) swm [r4 + 0] = r3;  # 4 04464180
   br L0;  # 5 0cbfffc3
@@ -64,7 +64,7 @@ def test_by_hand() -> None:
     assert (first.data, first.stack, first.moves) == (0, 3, "sres 9")
     assert (second.offset, second.words, second.may_move) == (2, (0x85B60000, 12), False)
     assert isinstance(loop, CodeLoop)
-    assert (loop.label, loop.turns, loop.first, loop.last) == ("L0", 3, 4, 6)
+    assert (loop.label, loop.iterations, loop.first, loop.last) == ("L0", 3, 4, 6)
     assert [bundle.data for bundle in bundles_of(loop.items)] == [1, 0, 0]
     assert (load.data, load.moves) == (1, "lwc")
     # the call comes behind its delay slots, and the stack is ensured in the last of them
@@ -82,7 +82,7 @@ def test_transactions_of_the_stack(words: int, transactions: int) -> None:
 
 
 @pytest.mark.parametrize("old,new", [
-    ("turns 3", "turns"), ("# end L0", "# end L1"), ("L0:", "L1:"), (".func f", ".func g"),
+    ("iterations 3", "iterations"), ("# end L0", "# end L1"), ("L0:", "L1:"), (".func f", ".func g"),
     ("# 2 85b60000", "# 3 85b60000"),
     ("call f", "call g"), ("words 19", "words 20"), ("words 14", "words 15"), ("  nop;  # 6 00000000", "  nop  # 6"),
     ("# core 3", "# core"), ("# end L0\n", ""),

@@ -174,14 +174,14 @@ def test_functions_that_are_evicted_are_fetched_again(program: str) -> None:
     assert not [event for event in found.transactions if event.cause is Cause.DATA]
 
 
-def test_bounds_are_lowered_to_two_turns() -> None:
+def test_bounds_are_lowered_to_two_iterations() -> None:
     text = b'a _Pragma("loopbound min 3 max 40") b\n#pragma loopbound min 0 max 1\n _Pragma("loopbound min 0 max 2") 40'
     assert lowered(text) == (
         b'a _Pragma("loopbound min 2 max 2") b\n#pragma loopbound min 0 max 1\n _Pragma("loopbound min 0 max 2") 40'
     )
 
 
-def with_two_turns(task: Task, program: str) -> Sequence:
+def with_two_iterations(task: Task, program: str) -> Sequence:
     """What the task does, worked out from two iterations of each of its loops."""
     short = replace(task, source=lowered(task.source))
     run = recorded(short, program)
@@ -190,11 +190,11 @@ def with_two_turns(task: Task, program: str) -> Sequence:
 
 
 @pytest.mark.parametrize("name", ["filter", "sort"])
-def test_two_turns_of_each_loop_give_the_whole(name: str, program: str) -> None:
+def test_two_iterations_of_each_loop_give_the_whole(name: str, program: str) -> None:
     task = read_job(str(ROOT / f"examples/c/{name}.toml")).tasks[0]
     whole = recorded(task, program)
     assert whole is not None
-    assert with_two_turns(task, program).events == whole.events
+    assert with_two_iterations(task, program).events == whole.events
 
 
 @pytest.mark.parametrize("most,head,two", [
@@ -248,7 +248,7 @@ def test_fills_in_front_of_a_fetch_are_told_apart(program: str) -> None:
     assert sum(fetched) == sum(size + 1 for size in whole.sizes.values())
     kinds = {event.kind for event in whole.transactions if event.cause is Cause.DATA}
     assert kinds == {"read", "write"}
-    assert with_two_turns(task, program).events == whole.events
+    assert with_two_iterations(task, program).events == whole.events
 
 
 def test_what_a_report_lists() -> None:

@@ -1,5 +1,5 @@
 -- To be believed. The schedule that bytes stand for, or the first of their faults. The form is our own: a text in TOML
--- with the keys `columns`, `rows`, `length` and `entries`, whose faults are told as those of a job.
+-- with the keys `columns`, `rows`, `length` and `entries`, whose faults are reported as those of a job.
 use Rattle.std.specs.Prelude.{ℕ, ℤ, pos, negsuc, ◌*◌, Bool, ◌&&◌, ◌||◌, nat_le, if◌then◌else◌, List, [], ◌∷◌, length, codes, bytes_eq, Option, Some, None, Result, Ok, Err}
 use Rattle.std.specs.Option.{option_and_then}
 use Rattle.toml.specs.Data.{Data, Members, get_member, as_integer, as_array}

@@ -75,7 +75,7 @@ fn schedule_report(alloc: Global, job: &GridJob) -> Result<GridReport, OutOfMemo
     })
 }
 
-/// Appends the line in which a fault of a schedule is told, without its end.
+/// Appends the line in which a fault of a schedule is reported, without its end.
 fn put_grid_fault(text: &mut Vec<u8>, fault: GridFault) -> Result<(), OutOfMemory>
     ensures { OnOk result (text.new.items ≡ text.old.items ++ specs.grid_fault_text fault) }
 {
@@ -92,7 +92,7 @@ fn put_grid_fault(text: &mut Vec<u8>, fault: GridFault) -> Result<(), OutOfMemor
     }
 }
 
-/// Appends all that is told of a schedule that is right.
+/// Appends all that is reported of a schedule that is right.
 #[tactic(auto, unfolding(crate::specs::Report::right_text))]
 fn put_right(text: &mut Vec<u8>, job: &GridJob) -> Result<(), OutOfMemory>
     ensures { OnOk result (text.new.items ≡ text.old.items ++ specs.right_text job.now) }

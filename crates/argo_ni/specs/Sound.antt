@@ -46,12 +46,12 @@ pub record IsSound (n core : ℕ) (ports : List Port) (packets : List Packet) (f
   pub queue : IsQueue n core from packets
   pub sent : Each (λ p. 2 * p.due ≤ from + 16) packets
 
--- the same of an interface as a whole
+-- an interface is sound: its parts are
 abbrev pub IsSoundAt : Standing → Type 0
 IsSoundAt s =
     IsSound s.interface.cores s.interface.core s.interface.ports s.interface.under_way s.from
 
--- The same, and the cycle of the next injection is kept: it comes soon, and where there is none nothing is ever
+-- A sound interface whose cycle of the next injection is kept: it comes soon, and where there is none nothing is ever
 -- injected.
 pub record IsKept (s : Standing) (sending : Option ℕ) : Type 0 where
   pub sound : IsSoundAt s

@@ -3,7 +3,7 @@ use Rattle.std.proofs.Common.{◌≡◌, ℕ, zero, suc, ◌+◌, ◌*◌, ◌<�
 use Rattle.std.proofs.lemmas.Bool.{and_parts, eqb-true, eqb-false, ne_eqb, ltb-true}
 use Rattle.std.proofs.lemmas.List.Sums.{sum_by-cons}
 use Rattle.sp_shape.specs.Parts.{PlainPart, straight, repeats, calls_to, leaves, PlainParts, no_part, part, PlainShape}
-use Rattle.sp_shape.specs.Formed.{is_turn, is_way, is_call, part_formed, parts_formed, function_formed, functions_formed, is_formed}
+use Rattle.sp_shape.specs.Formed.{is_iteration, is_way, is_call, part_formed, parts_formed, function_formed, functions_formed, is_formed}
 use Rattle.cycle_bound.specs.Bound.{fill_moves, bundles_bound, part_bound, parts_bound, bounds, fill_bound, shape_bound}
 use Rattle.cycle_bound.proofs.Earlier.{shape_parts}
 use Rattle.bound_persist.specs.Persist.{runs, fetched_once, persist}
@@ -85,17 +85,17 @@ module _ (fs : List PlainParts) (each all n : ℕ) where
       part_less (straight bs) formed = let e = none_fills in omega (arith, e)
       part_less (repeats zero body tail) formed = absurd (true≢false (sym formed))
       part_less (repeats (suc count) body tail) formed =
-          let a = and_parts (nat_lt 0 (suc count)) (parts_formed n body && is_turn tail) formed in
-          let b = and_parts (parts_formed n body) (is_turn tail) a.1 in
+          let a = and_parts (nat_lt 0 (suc count)) (parts_formed n body && is_iteration tail) formed in
+          let b = and_parts (parts_formed n body) (is_iteration tail) a.1 in
           let h = parts_less body b.0 in
           let r : ℕ = run_of body in
           let f : ℕ = fills (λ j. parts_reach (reaches fs j n) body) in
           let p : ℕ = most_of body in
           let t : ℕ = bundles_bound each tail in
-          turns count r f p t h
+          iterations count r f p t h
         where
-          turns : (c r f p t : ℕ) → r + f ≤ p → suc c * (r + t) + f ≤ suc c * (p + t)
-          turns c r f p t h = let m = mul-le-mul_left c h in omega (arith, h, m)
+          iterations : (c r f p t : ℕ) → r + f ≤ p → suc c * (r + t) + f ≤ suc c * (p + t)
+          iterations c r f p t h = let m = mul-le-mul_left c h in omega (arith, h, m)
       part_less (calls_to k tail) formed =
           let there : k < n = ltb-true k n (and_parts (nat_lt k n) (is_way is_call tail) formed).0 in
           let h = less k there in

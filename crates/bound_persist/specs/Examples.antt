@@ -3,7 +3,7 @@ use Rattle.std.specs.Prelude.{ℕ, zero, suc, List, [], ◌∷◌, ◌++◌}
 use Rattle.sp_shape.specs.Parts.{repeats, calls_to, PlainParts, part, one}
 use Rattle.sp_shape.specs.Small as small
 
--- one that calls the first function in each of three turns
+-- one that calls the first function in each of three iterations
 abbrev pub thrice : PlainParts
 thrice = part (repeats 3 (one (calls_to 0 small.call)) small.again) small.empty
 

@@ -1,5 +1,5 @@
 -- To be believed. The persistent bound of a shape: where all functions that are reached fit into the method cache
--- together, none of them is ever put out, so that each is fetched at most once, and no call or return has to fetch
+-- together, none of them is ever evicted, so that each is fetched at most once, and no call or return has to fetch
 -- besides (after the persistence analyses of the method cache; the cache's sizes are our own profile TP1's).
 use Rattle.std.specs.Prelude.{ℕ, ◌+◌, ◌-◌, ◌*◌, if◌then◌else◌, List, length, sum_by}
 use Rattle.sp_shape.specs.Parts.{PlainParts, PlainShape}

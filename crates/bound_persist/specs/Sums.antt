@@ -6,7 +6,7 @@ use Rattle.cycle_bound.specs.Held.{held}
 use Rattle.bound_persist.specs.Reached.{functions_words}
 use Rattle.bound_persist.specs.declared.sums.Sums.{Sums as Told}
 
--- what is told of functions: how many they are, their words, and the cycles of a fetch of each
+-- what is reported of functions: how many they are, their words, and the cycles of a fetch of each
 pub record AreSums (fs : List PlainParts) (each : ℕ) (numbers : List ℕ) (sums : Told) : Type 0 where
   pub count : sums.count ≡ length numbers
   pub words : sums.words ≡ held (functions_words fs numbers)

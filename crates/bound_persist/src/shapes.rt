@@ -71,7 +71,7 @@ pub fn persist_bound<L: Ledger>(
     within(plus(sums.fills, run_of_function(functions, entry, each, steps)))
 }
 
-/// The same, where nobody reads the count of steps.
+/// The persistent bound of a task, where nobody reads the count of steps.
 pub fn persist_bound_uncounted(shape: &Shape, place: &Place) -> Result<u64, Long>
     requires formed { is_formed (plain_shape shape.now) ≡ true }
     ensures exact { (far : ℕ) → IsGap (is_slot_start place.now.table place.now.slot place.now.core) far

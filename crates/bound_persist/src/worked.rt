@@ -19,11 +19,11 @@ pub fn worked_persistent_bounds()
     // one function: as the bound
     ensures empty { persist 29 (small.shape_of (small.empty ∷ []) 0) ≡ 62 }
 
-    // 4 + 2 transactions to fetch both functions once; 1 bundle; three turns of 4 bundles, the 4
+    // 4 + 2 transactions to fetch both functions once; 1 bundle; three iterations of 4 bundles, the 4
     // that are called, and 3; 1 bundle; 4 bundles
     ensures caller { persist 29 (small.shape_of (small.empty ∷ small.caller 0 ∷ []) 1) ≡ 213 }
 
-    // 3 + 2 transactions; three turns of 4 + 4 + 3 bundles, and 4
+    // 3 + 2 transactions; three iterations of 4 + 4 + 3 bundles, and 4
     ensures thrice { persist 29 (small.shape_of (small.empty ∷ example.thrice ∷ []) 1) ≡ 182 }
 
     // a function that is not reached is not fetched

@@ -13,7 +13,7 @@ use Rattle.sp_shape.proofs.Joins.{trail_joined}
 use Rattle.sp_shape.proofs.Lists.{done_append}
 use Rattle.bundle_sched.specs.Ordered.{goes_by}
 use Rattle.bundle_sched.specs.Packed.{can_join, pair, lone, last_or}
-use Rattle.bundle_sched.specs.Packing.{packed, can_move, lets_pass, has_room, filled, but_last, goes_down, kept_by_one, way_by_one, kept_after, way_after, freed, kept, way, before_branch, from_branch, turned, turn_packed, straights, left_over, parts_merged, function_merged, merged}
+use Rattle.bundle_sched.specs.Packing.{packed, can_move, lets_pass, has_room, filled, but_last, goes_down, kept_by_one, way_by_one, kept_after, way_after, freed, kept, way, before_branch, from_branch, turned, iteration_packed, straights, left_over, parts_merged, function_merged, merged}
 use Rattle.bundle_sched.specs.declared.slots.TheConstants.{MOST_SLOTS}
 use Rattle.bundle_sched.proofs.Commute.{idle_is, idle_once}
 use Rattle.bundle_sched.proofs.BehindFlow.{moved_once}
@@ -132,8 +132,8 @@ tail_split [] = refl
 tail_split (b ∷ bs) =
     elim (is_branch b.first.op) as (λ back. (if back then [] else b ∷ before_branch bs) ++ (if back then b ∷ bs else from_branch bs) ≡ b ∷ bs) [ true ↦ refl | false ↦ ap (λ xs. b ∷ xs) (tail_split bs) ]
 
-pub turn_alike : (from : Sources) (held tail : List Slots) → Alike from (all_done (turn_packed held tail)) (all_done held ++ all_done tail)
-turn_alike from held tail =
+pub iteration_alike : (from : Sources) (held tail : List Slots) → Alike from (all_done (iteration_packed held tail)) (all_done held ++ all_done tail)
+iteration_alike from held tail =
     let front = before_branch tail in
     let back = from_branch tail in
     let p = packed (held ++ front) in
@@ -144,10 +144,10 @@ turn_alike from held tail =
     (ap (λ xs. xs ++ all_done back) (done_append held front) ∙ append_assoc (all_done held) (all_done front) (all_done back)
     ∙ ap (λ xs. all_done held ++ xs) (sym (done_append front back) ∙ ap all_done (tail_split tail))))))
 
--- a turn, of whose body some straight code comes with the tail
-pub body_alike : (from : Sources) (xs us : List Step) (left tail : List Slots) → Alike from (xs ++ all_done left) us → Alike from (xs ++ all_done (turn_packed left tail)) (us ++ all_done tail)
+-- an iteration, of whose body some straight code comes with the tail
+pub body_alike : (from : Sources) (xs us : List Step) (left tail : List Slots) → Alike from (xs ++ all_done left) us → Alike from (xs ++ all_done (iteration_packed left tail)) (us ++ all_done tail)
 body_alike from xs us left tail a =
-    alike_on (alike_then (alike_same from xs) (turn_alike from left tail))
+    alike_on (alike_then (alike_same from xs) (iteration_alike from left tail))
     (alike_on (alike_is from (xs ++ (all_done left ++ all_done tail)) ((xs ++ all_done left) ++ all_done tail) (sym (append_assoc xs (all_done left) (all_done tail)))) (alike_then a (alike_same from (all_done tail))))
 
 -- ---- parts, over trails of functions that leave the same
@@ -173,7 +173,7 @@ module _ (from : Sources) (f g : ℕ → List Step) (each : (k : ℕ) → Alike 
   call_front held k tail = way_front held tail (begins ∷ g k) (begins ∷ f k) (alike_begun (each k))
 
   pub repeat_front : (held : List Slots) (count : ℕ) (body : PlainParts) (tail : List Slots) → Alike from (parts_trail g (parts_merged [] body) ++ all_done (left_over [] body)) (parts_trail f body)
-      → Alike from (all_done (packed held) ++ copies count (parts_trail g (parts_merged [] body) ++ all_done (turn_packed (left_over [] body) tail))) (all_done held ++ copies count (parts_trail f body ++ all_done tail))
+      → Alike from (all_done (packed held) ++ copies count (parts_trail g (parts_merged [] body) ++ all_done (iteration_packed (left_over [] body) tail))) (all_done held ++ copies count (parts_trail f body ++ all_done tail))
   repeat_front held count body tail a =
       alike_then (packed_alike from held) (alike_copies (body_alike from (parts_trail g (parts_merged [] body)) (parts_trail f body) (left_over [] body) tail a) count)
 
@@ -194,7 +194,7 @@ module _ (from : Sources) (f g : ℕ → List Step) (each : (k : ℕ) → Alike 
       (alike_is from (all_done (held ++ bs) ++ parts_trail f rest) (all_done held ++ (all_done bs ++ parts_trail f rest))
       (ap (λ xs. xs ++ parts_trail f rest) (done_append held bs) ∙ append_assoc (all_done held) (all_done bs) (parts_trail f rest)))
   merged_alike held (part (repeats count body tail) rest) =
-      then_left (packed held) held (left_over [] rest) (repeats count (parts_merged [] body) (turn_packed (left_over [] body) tail)) (repeats count body tail) (parts_merged [] rest) rest
+      then_left (packed held) held (left_over [] rest) (repeats count (parts_merged [] body) (iteration_packed (left_over [] body) tail)) (repeats count body tail) (parts_merged [] rest) rest
       (repeat_front held count body tail (merged_alike [] body)) (merged_alike [] rest)
   merged_alike held (part (calls_to k tail) rest) =
       then_left (kept (packed held) tail) held (left_over [] rest) (calls_to k (way (packed held) tail)) (calls_to k tail) (parts_merged [] rest) rest (call_front held k tail) (merged_alike [] rest)

@@ -7,8 +7,8 @@ use Rattle.std.proofs.lemmas.Bool.{and_parts, and_from, not-true}
 use Rattle.std.proofs.Math.Bool.{and-true}
 use Rattle.patmos_instr.specs.Bundles.{Slots, is_legal}
 use Rattle.patmos_instr.specs.Instructions.{is_long, is_second_kind}
-use Rattle.sp_shape.specs.Bundles.{is_idle_op, is_idle, way_idles, turn_idles, parts_idle}
-use Rattle.sp_shape.specs.Formed.{is_branch, is_call, is_return, is_fill, is_flow, is_always, are_calm, are_delay_slots, is_turn, is_way}
+use Rattle.sp_shape.specs.Bundles.{is_idle_op, is_idle, way_idles, iteration_idles, parts_idle}
+use Rattle.sp_shape.specs.Formed.{is_branch, is_call, is_return, is_fill, is_flow, is_always, are_calm, are_delay_slots, is_iteration, is_way}
 use Rattle.sp_shape.specs.Parts.{PlainPart, straight, repeats, calls_to, leaves, PlainParts, no_part, part}
 use Rattle.sp_shape.specs.Small.{idle}
 use Rattle.sp_shape.specs.Words.{is_late}
@@ -23,7 +23,7 @@ use Rattle.bundle_sched.specs.Placed.{is_awaited, spaced, parts_placed}
 use Rattle.bundle_sched.specs.Ordered.{without_nop, put, ordered_behind, ordered}
 use Rattle.bundle_sched.specs.Packed.{is_small, can_join, can_pair, mergeable, none_mergeable, first_apart, pair, is_nop, is_filled, holds_special, last_or, slot_used, is_used, can_follow, some_bundle, part_packed, parts_packed, lone}
 use Rattle.bundle_sched.specs.Legal.{has_legal_flow, parts_legal}
-use Rattle.bundle_sched.specs.Packing.{paired, in_pairs, packed, can_move, spares_guard, lets_pass, has_room, filled, but_last, goes_down, kept_by_one, way_by_one, kept_after, way_after, can_leave, freed, kept, way, before_branch, from_branch, turn_packed, straights, left_over, parts_merged}
+use Rattle.bundle_sched.specs.Packing.{paired, in_pairs, packed, can_move, spares_guard, lets_pass, has_room, filled, but_last, goes_down, kept_by_one, way_by_one, kept_after, way_after, can_leave, freed, kept, way, before_branch, from_branch, iteration_packed, straights, left_over, parts_merged}
 use Rattle.bundle_sched.specs.declared.slots.TheConstants.{MOST_SLOTS}
 use Rattle.bundle_sched.proofs.EachStep.{cleaned, pairs_cleaned, put_steps}
 use Rattle.bundle_sched.proofs.Shaped.{parts_shaped}
@@ -424,14 +424,14 @@ way_alone is_it flows (t ∷ slots) h idles legal =
         (alone.filled, λ b. alone.room b (or_first (is_always t.first.guard) _ always))
 
 -- of a branch
-turn_alone : (tail : List Slots) → is_turn tail ≡ true → turn_idles tail ≡ true → has_legal_flow (from_branch tail) ≡ true → list_all is_filled (freed (from_branch tail)) ≡ true
-turn_alone [] h idles legal = refl
-turn_alone (t ∷ slots) h idles legal =
-    elim (is_branch t.first.op) as (λ back. is_branch t.first.op ≡ back → (if back then are_delay_slots 2 slots else (not (is_flow t.first.op) && is_turn slots)) ≡ true
-    → (if back then list_all is_idle slots else turn_idles slots) ≡ true → has_legal_flow (if back then t ∷ slots else from_branch slots) ≡ true
+iteration_alone : (tail : List Slots) → is_iteration tail ≡ true → iteration_idles tail ≡ true → has_legal_flow (from_branch tail) ≡ true → list_all is_filled (freed (from_branch tail)) ≡ true
+iteration_alone [] h idles legal = refl
+iteration_alone (t ∷ slots) h idles legal =
+    elim (is_branch t.first.op) as (λ back. is_branch t.first.op ≡ back → (if back then are_delay_slots 2 slots else (not (is_flow t.first.op) && is_iteration slots)) ≡ true
+    → (if back then list_all is_idle slots else iteration_idles slots) ≡ true → has_legal_flow (if back then t ∷ slots else from_branch slots) ≡ true
     → list_all is_filled (freed (if back then t ∷ slots else from_branch slots)) ≡ true) [
       | true ↦ λ is two idles legal. so slots idles two (ap (λ back. if back then true else (if is_call t.first.op then true else (if is_return t.first.op then true else is_fill t.first.op))) is) legal
-      | false ↦ λ is turn idles legal. turn_alone slots (and_parts (not (is_flow t.first.op)) (is_turn slots) turn).1 idles legal
+      | false ↦ λ is iteration idles legal. iteration_alone slots (and_parts (not (is_flow t.first.op)) (is_iteration slots) iteration).1 idles legal
     ] refl h idles legal
   where
     so : (slots : List Slots) → list_all is_idle slots ≡ true → are_delay_slots 2 slots ≡ true → is_flow t.first.op ≡ true → is_legal t.first t.second ≡ true → list_all is_filled (freed (t ∷ slots)) ≡ true
@@ -453,12 +453,12 @@ return_flows _ h = absurd (true≢false (sym h))
 then_packed : (p : PlainPart) (rest : PlainParts) → part_packed p ≡ true → can_follow p rest ≡ true → parts_packed rest ≡ true → parts_packed (part p rest) ≡ true
 then_packed p rest hp follows h = and_from (part_packed p) (can_follow p rest && parts_packed rest) hp (and_from (can_follow p rest) (parts_packed rest) follows h)
 
-turn_filled : (held tail : List Slots) → list_all is_filled (freed (from_branch tail)) ≡ true → list_all is_filled (spaced (turn_packed held tail)) ≡ true
-turn_filled held tail filled =
+iteration_filled : (held tail : List Slots) → list_all is_filled (freed (from_branch tail)) ≡ true → list_all is_filled (spaced (iteration_packed held tail)) ≡ true
+iteration_filled held tail filled =
     let p = packed (held ++ before_branch tail) in
     let back = from_branch tail in
     let front = all_weaker is_good is_filled good_fills p (good_packed (held ++ before_branch tail)) in
-    filled_spaced (turn_packed held tail)
+    filled_spaced (iteration_packed held tail)
     (all_append is_filled (kept p back) (way p back) (all_kept is_filled MOST_SLOTS p (freed back) front) (all_way is_filled MOST_SLOTS p (freed back) front filled))
 
 way_filled : (bs tail : List Slots) → list_all is_good bs ≡ true → list_all is_filled (freed tail) ≡ true → list_all is_filled (spaced (way bs tail)) ≡ true
@@ -470,17 +470,17 @@ merged_packed held (part (straight bs) rest) calm shaped idles legal =
     let s = and_parts (are_calm bs) (parts_shaped rest) shaped in
     merged_packed (held ++ bs) rest (calm_append held bs calm s.0) s.1 idles legal
 merged_packed held (part (repeats count body tail) rest) calm shaped idles legal =
-    let s = and_parts (parts_shaped body && is_turn tail) (parts_shaped rest) shaped in
-    let own_s = and_parts (parts_shaped body) (is_turn tail) s.0 in
-    let i = and_parts (parts_idle body && turn_idles tail) (parts_idle rest) idles in
-    let own_i = and_parts (parts_idle body) (turn_idles tail) i.0 in
+    let s = and_parts (parts_shaped body && is_iteration tail) (parts_shaped rest) shaped in
+    let own_s = and_parts (parts_shaped body) (is_iteration tail) s.0 in
+    let i = and_parts (parts_idle body && iteration_idles tail) (parts_idle rest) idles in
+    let own_i = and_parts (parts_idle body) (iteration_idles tail) i.0 in
     let l = and_parts (parts_legal body && has_legal_flow (from_branch tail)) (parts_legal rest) legal in
     let own_l = and_parts (parts_legal body) (has_legal_flow (from_branch tail)) l.0 in
     let left = left_over [] body in
-    straights_packed (packed held) (part (repeats count (parts_merged [] body) (turn_packed left tail)) (parts_merged [] rest)) (good_packed held) (packed_pairless held) refl
-    (then_packed (repeats count (parts_placed (parts_merged [] body)) (spaced (turn_packed left tail))) (parts_placed (parts_merged [] rest))
-    (and_from (parts_packed (parts_placed (parts_merged [] body))) (list_all is_filled (spaced (turn_packed left tail)))
-    (merged_packed [] body refl own_s.0 own_i.0 own_l.0) (turn_filled left tail (turn_alone tail own_s.1 own_i.1 own_l.1)))
+    straights_packed (packed held) (part (repeats count (parts_merged [] body) (iteration_packed left tail)) (parts_merged [] rest)) (good_packed held) (packed_pairless held) refl
+    (then_packed (repeats count (parts_placed (parts_merged [] body)) (spaced (iteration_packed left tail))) (parts_placed (parts_merged [] rest))
+    (and_from (parts_packed (parts_placed (parts_merged [] body))) (list_all is_filled (spaced (iteration_packed left tail)))
+    (merged_packed [] body refl own_s.0 own_i.0 own_l.0) (iteration_filled left tail (iteration_alone tail own_s.1 own_i.1 own_l.1)))
     refl (merged_packed [] rest refl s.1 i.1 l.1))
 merged_packed held (part (calls_to k tail) rest) calm shaped idles legal =
     let s = and_parts (is_way is_call tail) (parts_shaped rest) shaped in

@@ -160,7 +160,7 @@ flow_legal (u ∷ us) t is legal = ap (λ x. is_legal x.first x.second) (sym is)
 
 -- ---- delay slot by delay slot
 
--- one turn more
+-- one iteration more
 pub kept_more : (n k : ℕ) (bs tail next slots whole : List Slots) → k < n → next ≡ kept_by_one bs tail → slots ≡ way_by_one bs tail → kept_after (n - k) bs tail ≡ whole → kept_after (n - (k + 1)) next slots ≡ whole
 kept_more n k bs tail next slots whole within front back before =
     let one : n - k ≡ suc (n - (k + 1)) = omega (arith, within) in

@@ -13,7 +13,7 @@ pub mod NoneLost
 pub mod Once
 pub mod OneByOne
 pub mod PackedFormed
-pub mod PackedTurns
+pub mod PackedIterations
 pub mod PackingParts
 pub mod Pairing
 pub mod Placing
@@ -24,9 +24,9 @@ pub mod Shaped
 pub mod SpacedAll
 pub mod SpacedFormed
 pub mod SpacedRuns
-pub mod SpacedTurns
+pub mod SpacedIterations
 pub mod Swapping
-pub mod Turns
+pub mod Iterations
 pub mod TwoInOne
 pub mod Unwritten
 pub mod Waiting

@@ -15,7 +15,7 @@ use Rattle.sp_shape.specs.Words.{is_late, bundle_words, bundle_room, bundles_roo
 use Rattle.sp_shape.proofs.Lists.{all_append, room_append}
 use Rattle.bundle_sched.specs.Ordered.{without_nop}
 use Rattle.bundle_sched.specs.Packed.{can_join, pair, lone, last_or}
-use Rattle.bundle_sched.specs.Packing.{packed, filled, but_last, goes_down, kept_by_one, way_by_one, kept_after, way_after, freed, kept, way, before_branch, from_branch, turn_packed, straights, left_over, parts_merged, function_merged}
+use Rattle.bundle_sched.specs.Packing.{packed, filled, but_last, goes_down, kept_by_one, way_by_one, kept_after, way_after, freed, kept, way, before_branch, from_branch, iteration_packed, straights, left_over, parts_merged, function_merged}
 use Rattle.bundle_sched.specs.declared.slots.TheConstants.{MOST_SLOTS}
 use Rattle.bundle_sched.proofs.Alike.{tail_split}
 use Rattle.bundle_sched.proofs.Freed.{without_nop_as, freed_as}
@@ -102,8 +102,8 @@ all_straights holds (b ∷ bs) rest hb h = and_from (list_all holds (b ∷ bs)) 
 
 module _ (holds : Slots → Bool) (alone : (b : Slots) → holds b ≡ true → holds (lone b.first) ≡ true) (second : (i : Instr) → is_second_kind i.op ≡ true → holds (lone i) ≡ true)
     (closed : (a b : Slots) → is_idle b ≡ false → can_join a b ≡ true → holds a ≡ true → holds b ≡ true → holds (pair a b) ≡ true) where
-  all_turn : (before tail : List Slots) → list_all holds before ≡ true → list_all holds tail ≡ true → list_all holds (turn_packed before tail) ≡ true
-  all_turn before tail hb h =
+  all_iteration : (before tail : List Slots) → list_all holds before ≡ true → list_all holds tail ≡ true → list_all holds (iteration_packed before tail) ≡ true
+  all_iteration before tail hb h =
       let p = packed (before ++ before_branch tail) in
       let back = from_branch tail in
       let own = all_split holds tail h in
@@ -118,9 +118,9 @@ module _ (holds : Slots → Bool) (alone : (b : Slots) → holds b ≡ true → 
   all_merged held (part (repeats count body tail) rest) hh h =
       let both = and_parts (parts_all holds body && list_all holds tail) (parts_all holds rest) h in
       let own = and_parts (parts_all holds body) (list_all holds tail) both.0 in
-      all_straights holds (packed held) (part (repeats count (parts_merged [] body) (turn_packed (left_over [] body) tail)) (parts_merged [] rest)) (all_packed holds alone closed held hh)
-      (and_from (parts_all holds (parts_merged [] body) && list_all holds (turn_packed (left_over [] body) tail)) (parts_all holds (parts_merged [] rest))
-      (and_from (parts_all holds (parts_merged [] body)) (list_all holds (turn_packed (left_over [] body) tail)) (all_merged [] body refl own.0) (all_turn (left_over [] body) tail (left_all holds [] body refl own.0) own.1)) (all_merged [] rest refl both.1))
+      all_straights holds (packed held) (part (repeats count (parts_merged [] body) (iteration_packed (left_over [] body) tail)) (parts_merged [] rest)) (all_packed holds alone closed held hh)
+      (and_from (parts_all holds (parts_merged [] body) && list_all holds (iteration_packed (left_over [] body) tail)) (parts_all holds (parts_merged [] rest))
+      (and_from (parts_all holds (parts_merged [] body)) (list_all holds (iteration_packed (left_over [] body) tail)) (all_merged [] body refl own.0) (all_iteration (left_over [] body) tail (left_all holds [] body refl own.0) own.1)) (all_merged [] rest refl both.1))
   all_merged held (part (calls_to k tail) rest) hh h =
       let both = and_parts (list_all holds tail) (parts_all holds rest) h in
       let own = all_packed holds alone closed held hh in
@@ -229,8 +229,8 @@ straights_room : (bs : List Slots) (rest : PlainParts) → parts_room (straights
 straights_room [] rest = omega arith
 straights_room (b ∷ bs) rest = refl
 
-turn_room : (before tail : List Slots) → bundles_room (turn_packed before tail) ≤ bundles_room before + bundles_room tail
-turn_room before tail =
+iteration_room : (before tail : List Slots) → bundles_room (iteration_packed before tail) ≤ bundles_room before + bundles_room tail
+iteration_room before tail =
     let front = before_branch tail in
     let back = from_branch tail in
     let p = packed (before ++ front) in
@@ -241,11 +241,11 @@ merged_room held no_part = omega arith
 merged_room held (part (straight bs) rest) = let a = merged_room (held ++ bs) rest in let b = room_append held bs in omega (arith, a, b)
 merged_room held (part (repeats count body tail) rest) =
     let left = left_over [] body in
-    let a = straights_room (packed held) (part (repeats count (parts_merged [] body) (turn_packed left tail)) (parts_merged [] rest)) in
+    let a = straights_room (packed held) (part (repeats count (parts_merged [] body) (iteration_packed left tail)) (parts_merged [] rest)) in
     let b = packed_room held in
     let c = merged_room [] body in
     let d = merged_room [] rest in
-    let e = turn_room left tail in
+    let e = iteration_room left tail in
     omega (arith, a, b, c, d, e)
 merged_room held (part (calls_to k tail) rest) =
     let a = straights_room (kept (packed held) tail) (part (calls_to k (way (packed held) tail)) (parts_merged [] rest)) in

@@ -10,7 +10,7 @@ use Rattle.sp_shape.specs.Bundles.{is_idle, part_all, parts_all}
 use Rattle.sp_shape.specs.Parts.{straight, repeats, calls_to, leaves, PlainParts, no_part, part, joined}
 use Rattle.bundle_sched.specs.Ordered.{without_nop}
 use Rattle.bundle_sched.specs.Packed.{can_join, pair, lone, last_or}
-use Rattle.bundle_sched.specs.Packing.{packed, can_move, lets_pass, has_room, filled, but_last, goes_down, kept_by_one, way_by_one, kept_after, way_after, freed, kept, way, before_branch, from_branch, turn_packed, straights, left_over, parts_merged, function_merged}
+use Rattle.bundle_sched.specs.Packing.{packed, can_move, lets_pass, has_room, filled, but_last, goes_down, kept_by_one, way_by_one, kept_after, way_after, freed, kept, way, before_branch, from_branch, iteration_packed, straights, left_over, parts_merged, function_merged}
 use Rattle.bundle_sched.specs.declared.slots.TheConstants.{MOST_SLOTS}
 use Rattle.bundle_sched.proofs.Alike.{tail_split}
 use Rattle.bundle_sched.proofs.Freed.{without_nop_as, nop_idle, freed_as}
@@ -84,8 +84,8 @@ module _ (holds : Slots → Bool) (dropped : (b : Slots) → is_idle b ≡ true 
   slots_had : (bs tail : List Slots) → list_all holds (kept bs tail) ≡ true → list_all holds (way bs tail) ≡ true → (list_all holds bs ≡ true) × (list_all holds tail ≡ true)
   slots_had bs tail hk hw = let had = way_had MOST_SLOTS bs (freed tail) hk hw in (had.0, freed_had tail had.1)
 
-  turn_had : (before tail : List Slots) → list_all holds (turn_packed before tail) ≡ true → (list_all holds before ≡ true) × (list_all holds tail ≡ true)
-  turn_had before tail h =
+  iteration_had : (before tail : List Slots) → list_all holds (iteration_packed before tail) ≡ true → (list_all holds before ≡ true) × (list_all holds tail ≡ true)
+  iteration_had before tail h =
       let front = before_branch tail in
       let back = from_branch tail in
       let p = packed (before ++ front) in
@@ -106,13 +106,13 @@ module _ (holds : Slots → Bool) (dropped : (b : Slots) → is_idle b ≡ true 
       (own.0, and_from (list_all holds bs) (parts_all holds rest) own.1 both.1)
   merged_had held (part (repeats count body tail) rest) h end =
       let left = left_over [] body in
-      let both = straights_had (packed held) (part (repeats count (parts_merged [] body) (turn_packed left tail)) (parts_merged [] rest)) h in
-      let one = and_parts (parts_all holds (parts_merged [] body) && list_all holds (turn_packed left tail)) (parts_all holds (parts_merged [] rest)) both.1 in
-      let two = and_parts (parts_all holds (parts_merged [] body)) (list_all holds (turn_packed left tail)) one.0 in
-      let turn = turn_had left tail two.1 in (
+      let both = straights_had (packed held) (part (repeats count (parts_merged [] body) (iteration_packed left tail)) (parts_merged [] rest)) h in
+      let one = and_parts (parts_all holds (parts_merged [] body) && list_all holds (iteration_packed left tail)) (parts_all holds (parts_merged [] rest)) both.1 in
+      let two = and_parts (parts_all holds (parts_merged [] body)) (list_all holds (iteration_packed left tail)) one.0 in
+      let iteration = iteration_had left tail two.1 in (
         packed_had held both.0,
         and_from (parts_all holds body && list_all holds tail) (parts_all holds rest)
-            (and_from (parts_all holds body) (list_all holds tail) (merged_had [] body two.0 turn.0).1 turn.1) (merged_had [] rest one.1 end).1,
+            (and_from (parts_all holds body) (list_all holds tail) (merged_had [] body two.0 iteration.0).1 iteration.1) (merged_had [] rest one.1 end).1,
       )
   merged_had held (part (calls_to k tail) rest) h end =
       let p = packed held in

@@ -6,21 +6,21 @@ use Rattle.std.proofs.lemmas.Bool.{and_parts, and_from, not-true}
 use Rattle.std.proofs.lemmas.List.{length-map}
 use Rattle.patmos_instr.specs.Bundles.{Slots}
 use Rattle.patmos_instr.specs.declared.instructions.Op.{Op}
-use Rattle.sp_shape.specs.Bundles.{is_idle_op, is_idle, turn_idles, way_idles, parts_idle}
-use Rattle.sp_shape.specs.Formed.{is_branch, is_call, is_return, is_fill, is_flow, is_always, are_calm, are_delay_slots, is_turn, is_way, part_formed, parts_formed, function_formed, functions_formed, is_formed}
+use Rattle.sp_shape.specs.Bundles.{is_idle_op, is_idle, iteration_idles, way_idles, parts_idle}
+use Rattle.sp_shape.specs.Formed.{is_branch, is_call, is_return, is_fill, is_flow, is_always, are_calm, are_delay_slots, is_iteration, is_way, part_formed, parts_formed, function_formed, functions_formed, is_formed}
 use Rattle.sp_shape.specs.Parts.{straight, repeats, calls_to, leaves, PlainPart, PlainParts, no_part, part, PlainShape}
 use Rattle.sp_shape.specs.Words.{is_late}
 use Rattle.sp_tree.specs.declared.limits.TheConstants.{MOST_FUNCTIONS}
 use Rattle.sp_shape.proofs.Functions.{function_then}
 use Rattle.sp_shape.proofs.Lists.{calm_append, all_append}
 use Rattle.bundle_sched.specs.Packed.{lone, last_or, holds_special}
-use Rattle.bundle_sched.specs.Packing.{packed, can_move, has_room, filled, but_last, goes_down, kept_by_one, way_by_one, kept_after, way_after, freed, kept, way, before_branch, from_branch, turn_packed, straights, left_over, parts_merged, function_merged, merged}
+use Rattle.bundle_sched.specs.Packing.{packed, can_move, has_room, filled, but_last, goes_down, kept_by_one, way_by_one, kept_after, way_after, freed, kept, way, before_branch, from_branch, iteration_packed, straights, left_over, parts_merged, function_merged, merged}
 use Rattle.bundle_sched.specs.declared.slots.TheConstants.{MOST_SLOTS}
 use Rattle.bundle_sched.proofs.Merged.{all_packed, all_but_last, all_kept}
 use Rattle.bundle_sched.proofs.Alike.{merged_at}
 use Rattle.bundle_sched.proofs.Freed.{freed_holds}
 use Rattle.bundle_sched.proofs.Shaped.{parts_shaped, parts_are_shaped, left_calm, function_same}
-use Rattle.bundle_sched.proofs.SpacedFormed.{is_prompt, turn_prompt, way_prompt, parts_prompt, idle_early, turn_front}
+use Rattle.bundle_sched.proofs.SpacedFormed.{is_prompt, iteration_prompt, way_prompt, parts_prompt, idle_early, iteration_front}
 
 -- ---- delay slots that do nothing are prompt
 
@@ -143,48 +143,48 @@ from_at [] = refl
 from_at (b ∷ bs) =
     elim (is_branch b.first.op) as (λ back. is_branch b.first.op ≡ back → at_branch (if back then b ∷ bs else from_branch bs) ≡ true) [ true ↦ λ is. is | false ↦ λ is. from_at bs ] refl
 
-from_idles : (tail : List Slots) → turn_idles tail ≡ true → turn_idles (from_branch tail) ≡ true
+from_idles : (tail : List Slots) → iteration_idles tail ≡ true → iteration_idles (from_branch tail) ≡ true
 from_idles [] h = refl
 from_idles (b ∷ bs) h =
-    elim (is_branch b.first.op) as (λ back. is_branch b.first.op ≡ back → (if back then list_all is_idle bs else turn_idles bs) ≡ true → turn_idles (if back then b ∷ bs else from_branch bs) ≡ true) [
-      | true ↦ λ is idles. ap (λ back. if back then list_all is_idle bs else turn_idles bs) is ∙ idles
+    elim (is_branch b.first.op) as (λ back. is_branch b.first.op ≡ back → (if back then list_all is_idle bs else iteration_idles bs) ≡ true → iteration_idles (if back then b ∷ bs else from_branch bs) ≡ true) [
+      | true ↦ λ is idles. ap (λ back. if back then list_all is_idle bs else iteration_idles bs) is ∙ idles
       | false ↦ λ is idles. from_idles bs idles
     ] refl h
 
-plain_then : (xs ys : List Slots) → list_all is_plain xs ≡ true → turn_prompt ys ≡ true → turn_prompt (xs ++ ys) ≡ true
+plain_then : (xs ys : List Slots) → list_all is_plain xs ≡ true → iteration_prompt ys ≡ true → iteration_prompt (xs ++ ys) ≡ true
 plain_then [] ys plain h = h
 plain_then (x ∷ xs) ys plain h =
     let both = and_parts (is_plain x) (list_all is_plain xs) plain in
-    ap (λ back. if back then list_all is_prompt (xs ++ ys) else turn_prompt (xs ++ ys)) (not-true (is_branch x.first.op) both.0) ∙ plain_then xs ys both.1 h
+    ap (λ back. if back then list_all is_prompt (xs ++ ys) else iteration_prompt (xs ++ ys)) (not-true (is_branch x.first.op) both.0) ∙ plain_then xs ys both.1 h
 
-idle_turn : (tail : List Slots) → turn_idles tail ≡ true → turn_prompt tail ≡ true
-idle_turn [] h = refl
-idle_turn (b ∷ bs) h =
-    elim (is_branch b.first.op) as (λ back. (if back then list_all is_idle bs else turn_idles bs) ≡ true → (if back then list_all is_prompt bs else turn_prompt bs) ≡ true) [
+idle_iteration : (tail : List Slots) → iteration_idles tail ≡ true → iteration_prompt tail ≡ true
+idle_iteration [] h = refl
+idle_iteration (b ∷ bs) h =
+    elim (is_branch b.first.op) as (λ back. (if back then list_all is_idle bs else iteration_idles bs) ≡ true → (if back then list_all is_prompt bs else iteration_prompt bs) ≡ true) [
       | true ↦ λ idles. idles_prompt bs idles
-      | false ↦ λ idles. idle_turn bs idles
+      | false ↦ λ idles. idle_iteration bs idles
     ] h
 
 -- the branch first, and then slots of which something holds
 abbrev at_prompt : List Slots → Bool
-at_prompt tail = at_branch tail && turn_prompt tail
+at_prompt tail = at_branch tail && iteration_prompt tail
 
-abbrev at_turn : List Slots → Bool
-at_turn tail = at_branch tail && is_turn tail
+abbrev at_iteration : List Slots → Bool
+at_iteration tail = at_branch tail && is_iteration tail
 
-filled_prompt_turn : (b : Slots) (tail : List Slots) → can_move b ≡ true → at_prompt tail ≡ true → at_prompt (filled b tail) ≡ true
-filled_prompt_turn b [] can h = h
-filled_prompt_turn b (t ∷ []) can h = h
-filled_prompt_turn b (t ∷ slot ∷ slots) can h =
-    let both = and_parts (is_branch t.first.op) (turn_prompt (t ∷ slot ∷ slots)) h in
-    let own = ap (λ back. if back then list_all is_prompt (slot ∷ slots) else turn_prompt (slot ∷ slots)) (sym both.0) ∙ both.1 in
-    and_from (is_branch t.first.op) (turn_prompt (t ∷ b ∷ but_last slot slots)) both.0
-    (ap (λ back. if back then list_all is_prompt (b ∷ but_last slot slots) else turn_prompt (b ∷ but_last slot slots)) both.0
+filled_prompt_iteration : (b : Slots) (tail : List Slots) → can_move b ≡ true → at_prompt tail ≡ true → at_prompt (filled b tail) ≡ true
+filled_prompt_iteration b [] can h = h
+filled_prompt_iteration b (t ∷ []) can h = h
+filled_prompt_iteration b (t ∷ slot ∷ slots) can h =
+    let both = and_parts (is_branch t.first.op) (iteration_prompt (t ∷ slot ∷ slots)) h in
+    let own = ap (λ back. if back then list_all is_prompt (slot ∷ slots) else iteration_prompt (slot ∷ slots)) (sym both.0) ∙ both.1 in
+    and_from (is_branch t.first.op) (iteration_prompt (t ∷ b ∷ but_last slot slots)) both.0
+    (ap (λ back. if back then list_all is_prompt (b ∷ but_last slot slots) else iteration_prompt (b ∷ but_last slot slots)) both.0
     ∙ and_from (is_prompt b) (list_all is_prompt (but_last slot slots)) (move_parts b can).0 (all_but_last is_prompt slot slots own).0)
 
-way_prompt_turn : (bs tail : List Slots) → at_branch tail ≡ true → turn_idles tail ≡ true → turn_prompt (way bs tail) ≡ true
-way_prompt_turn bs tail at h =
-    (and_parts (at_branch (way bs tail)) (turn_prompt (way bs tail)) (slots_hold at_prompt filled_prompt_turn (λ flow slots h. h) bs tail (and_from (at_branch tail) (turn_prompt tail) at (idle_turn tail h)))).1
+way_prompt_iteration : (bs tail : List Slots) → at_branch tail ≡ true → iteration_idles tail ≡ true → iteration_prompt (way bs tail) ≡ true
+way_prompt_iteration bs tail at h =
+    (and_parts (at_branch (way bs tail)) (iteration_prompt (way bs tail)) (slots_hold at_prompt filled_prompt_iteration (λ flow slots h. h) bs tail (and_from (at_branch tail) (iteration_prompt tail) at (idle_iteration tail h)))).1
 
 calm_branch : (op : Op) → is_flow op ≡ false → is_branch op ≡ false
 calm_branch op h = elim (is_branch op) as (λ back. (if back then true else (if is_call op then true else (if is_return op then true else is_fill op))) ≡ false → back ≡ false) [ true ↦ λ x. x | false ↦ λ x. refl ] h
@@ -195,59 +195,59 @@ calm_plain (b ∷ bs) h =
     let both = and_parts (not (is_flow b.first.op)) (are_calm bs) h in
     and_from (is_plain b) (list_all is_plain bs) (ap not (calm_branch b.first.op (not-true (is_flow b.first.op) both.0))) (calm_plain bs both.1)
 
-prompt_turn : (before tail : List Slots) → are_calm before ≡ true → turn_idles tail ≡ true → turn_prompt (turn_packed before tail) ≡ true
-prompt_turn before tail calm h =
+prompt_iteration : (before tail : List Slots) → are_calm before ≡ true → iteration_idles tail ≡ true → iteration_prompt (iteration_packed before tail) ≡ true
+prompt_iteration before tail calm h =
     let all = before ++ before_branch tail in
     let p = packed all in
     let back = from_branch tail in
     plain_then (kept p back) (way p back)
     (all_kept is_plain MOST_SLOTS p (freed back) (all_packed is_plain (λ b h. h) (λ a b busy can ha hb. ha) all (all_append is_plain before (before_branch tail) (calm_plain before calm) (before_plain tail))))
-    (way_prompt_turn p back (from_at tail) (from_idles tail h))
+    (way_prompt_iteration p back (from_at tail) (from_idles tail h))
 
-calm_before : (tail : List Slots) → is_turn tail ≡ true → are_calm (before_branch tail) ≡ true
+calm_before : (tail : List Slots) → is_iteration tail ≡ true → are_calm (before_branch tail) ≡ true
 calm_before [] h = refl
 calm_before (b ∷ bs) h =
-    elim (is_branch b.first.op) as (λ back. (if back then are_delay_slots 2 bs else (not (is_flow b.first.op) && is_turn bs)) ≡ true → are_calm (if back then [] else b ∷ before_branch bs) ≡ true) [
-      | true ↦ λ turn. refl
-      | false ↦ λ turn.
-          let both = and_parts (not (is_flow b.first.op)) (is_turn bs) turn in
+    elim (is_branch b.first.op) as (λ back. (if back then are_delay_slots 2 bs else (not (is_flow b.first.op) && is_iteration bs)) ≡ true → are_calm (if back then [] else b ∷ before_branch bs) ≡ true) [
+      | true ↦ λ iteration. refl
+      | false ↦ λ iteration.
+          let both = and_parts (not (is_flow b.first.op)) (is_iteration bs) iteration in
           and_from (not (is_flow b.first.op)) (are_calm (before_branch bs)) both.0 (calm_before bs both.1)
     ] h
 
-from_turn : (tail : List Slots) → is_turn tail ≡ true → is_turn (from_branch tail) ≡ true
-from_turn [] h = h
-from_turn (b ∷ bs) h =
-    elim (is_branch b.first.op) as (λ back. is_branch b.first.op ≡ back → (if back then are_delay_slots 2 bs else (not (is_flow b.first.op) && is_turn bs)) ≡ true
-    → is_turn (if back then b ∷ bs else from_branch bs) ≡ true) [
-      | true ↦ λ is turn. ap (λ back. if back then are_delay_slots 2 bs else (not (is_flow b.first.op) && is_turn bs)) is ∙ turn
-      | false ↦ λ is turn. from_turn bs (and_parts (not (is_flow b.first.op)) (is_turn bs) turn).1
+from_iteration : (tail : List Slots) → is_iteration tail ≡ true → is_iteration (from_branch tail) ≡ true
+from_iteration [] h = h
+from_iteration (b ∷ bs) h =
+    elim (is_branch b.first.op) as (λ back. is_branch b.first.op ≡ back → (if back then are_delay_slots 2 bs else (not (is_flow b.first.op) && is_iteration bs)) ≡ true
+    → is_iteration (if back then b ∷ bs else from_branch bs) ≡ true) [
+      | true ↦ λ is iteration. ap (λ back. if back then are_delay_slots 2 bs else (not (is_flow b.first.op) && is_iteration bs)) is ∙ iteration
+      | false ↦ λ is iteration. from_iteration bs (and_parts (not (is_flow b.first.op)) (is_iteration bs) iteration).1
     ] refl h
 
-calm_turn : (xs ys : List Slots) → are_calm xs ≡ true → is_turn ys ≡ true → is_turn (xs ++ ys) ≡ true
-calm_turn [] ys calm h = h
-calm_turn (x ∷ xs) ys calm h =
+calm_iteration : (xs ys : List Slots) → are_calm xs ≡ true → is_iteration ys ≡ true → is_iteration (xs ++ ys) ≡ true
+calm_iteration [] ys calm h = h
+calm_iteration (x ∷ xs) ys calm h =
     let both = and_parts (not (is_flow x.first.op)) (are_calm xs) calm in
-    turn_front x (xs ++ ys) (calm_branch x.first.op (not-true (is_flow x.first.op) both.0)) both.0 (calm_turn xs ys both.1 h)
+    iteration_front x (xs ++ ys) (calm_branch x.first.op (not-true (is_flow x.first.op) both.0)) both.0 (calm_iteration xs ys both.1 h)
 
-filled_turn : (b : Slots) (tail : List Slots) → can_move b ≡ true → at_turn tail ≡ true → at_turn (filled b tail) ≡ true
-filled_turn b [] can h = h
-filled_turn b (t ∷ []) can h = h
-filled_turn b (t ∷ slot ∷ slots) can h =
-    let both = and_parts (is_branch t.first.op) (is_turn (t ∷ slot ∷ slots)) h in
-    let own = ap (λ back. if back then are_delay_slots 2 (slot ∷ slots) else (not (is_flow t.first.op) && is_turn (slot ∷ slots))) (sym both.0) ∙ both.1 in
-    and_from (is_branch t.first.op) (is_turn (t ∷ b ∷ but_last slot slots)) both.0
-    (ap (λ back. if back then are_delay_slots 2 (b ∷ but_last slot slots) else (not (is_flow t.first.op) && is_turn (b ∷ but_last slot slots))) both.0 ∙ slots_filled 2 b slot slots can own)
+filled_iteration : (b : Slots) (tail : List Slots) → can_move b ≡ true → at_iteration tail ≡ true → at_iteration (filled b tail) ≡ true
+filled_iteration b [] can h = h
+filled_iteration b (t ∷ []) can h = h
+filled_iteration b (t ∷ slot ∷ slots) can h =
+    let both = and_parts (is_branch t.first.op) (is_iteration (t ∷ slot ∷ slots)) h in
+    let own = ap (λ back. if back then are_delay_slots 2 (slot ∷ slots) else (not (is_flow t.first.op) && is_iteration (slot ∷ slots))) (sym both.0) ∙ both.1 in
+    and_from (is_branch t.first.op) (is_iteration (t ∷ b ∷ but_last slot slots)) both.0
+    (ap (λ back. if back then are_delay_slots 2 (b ∷ but_last slot slots) else (not (is_flow t.first.op) && is_iteration (b ∷ but_last slot slots))) both.0 ∙ slots_filled 2 b slot slots can own)
 
-way_turn : (bs tail : List Slots) → at_branch tail ≡ true → is_turn tail ≡ true → is_turn (way bs tail) ≡ true
-way_turn bs tail at h =
-    (and_parts (at_branch (way bs tail)) (is_turn (way bs tail)) (slots_hold at_turn filled_turn (λ flow slots h. h) bs tail (and_from (at_branch tail) (is_turn tail) at h))).1
+way_iteration : (bs tail : List Slots) → at_branch tail ≡ true → is_iteration tail ≡ true → is_iteration (way bs tail) ≡ true
+way_iteration bs tail at h =
+    (and_parts (at_branch (way bs tail)) (is_iteration (way bs tail)) (slots_hold at_iteration filled_iteration (λ flow slots h. h) bs tail (and_from (at_branch tail) (is_iteration tail) at h))).1
 
-turn_formed : (before tail : List Slots) → are_calm before ≡ true → is_turn tail ≡ true → is_turn (turn_packed before tail) ≡ true
-turn_formed before tail calm h =
+iteration_formed : (before tail : List Slots) → are_calm before ≡ true → is_iteration tail ≡ true → is_iteration (iteration_packed before tail) ≡ true
+iteration_formed before tail calm h =
     let all = before ++ before_branch tail in
     let p = packed all in
     let back = from_branch tail in
-    calm_turn (kept p back) (way p back) (calm_kept MOST_SLOTS p (freed back) (calm_packed all (calm_append before (before_branch tail) calm (calm_before tail h)))) (way_turn p back (from_at tail) (from_turn tail h))
+    calm_iteration (kept p back) (way p back) (calm_kept MOST_SLOTS p (freed back) (calm_packed all (calm_append before (before_branch tail) calm (calm_before tail h)))) (way_iteration p back (from_at tail) (from_iteration tail h))
 
 -- ---- parts
 
@@ -259,14 +259,14 @@ pub merged_prompt : (held : List Slots) (ps : PlainParts) → parts_shaped ps �
 merged_prompt held no_part shaped h = refl
 merged_prompt held (part (straight bs) rest) shaped h = merged_prompt (held ++ bs) rest (and_parts (are_calm bs) (parts_shaped rest) shaped).1 h
 merged_prompt held (part (repeats count body tail) rest) shaped h =
-    let s = and_parts (parts_shaped body && is_turn tail) (parts_shaped rest) shaped in
-    let body_shaped = (and_parts (parts_shaped body) (is_turn tail) s.0).0 in
-    let both = and_parts (parts_idle body && turn_idles tail) (parts_idle rest) h in
-    let own = and_parts (parts_idle body) (turn_idles tail) both.0 in
+    let s = and_parts (parts_shaped body && is_iteration tail) (parts_shaped rest) shaped in
+    let body_shaped = (and_parts (parts_shaped body) (is_iteration tail) s.0).0 in
+    let both = and_parts (parts_idle body && iteration_idles tail) (parts_idle rest) h in
+    let own = and_parts (parts_idle body) (iteration_idles tail) both.0 in
     let left = left_over [] body in
-    prompt_straights (packed held) (part (repeats count (parts_merged [] body) (turn_packed left tail)) (parts_merged [] rest))
-    (and_from (parts_prompt (parts_merged [] body) && turn_prompt (turn_packed left tail)) (parts_prompt (parts_merged [] rest))
-    (and_from (parts_prompt (parts_merged [] body)) (turn_prompt (turn_packed left tail)) (merged_prompt [] body body_shaped own.0) (prompt_turn left tail (left_calm [] body refl body_shaped) own.1)) (merged_prompt [] rest s.1 both.1))
+    prompt_straights (packed held) (part (repeats count (parts_merged [] body) (iteration_packed left tail)) (parts_merged [] rest))
+    (and_from (parts_prompt (parts_merged [] body) && iteration_prompt (iteration_packed left tail)) (parts_prompt (parts_merged [] rest))
+    (and_from (parts_prompt (parts_merged [] body)) (iteration_prompt (iteration_packed left tail)) (merged_prompt [] body body_shaped own.0) (prompt_iteration left tail (left_calm [] body refl body_shaped) own.1)) (merged_prompt [] rest s.1 both.1))
 merged_prompt held (part (calls_to k tail) rest) shaped h =
     let s = and_parts (is_way is_call tail) (parts_shaped rest) shaped in
     let both = and_parts (way_idles tail) (parts_idle rest) h in
@@ -289,11 +289,11 @@ merged_formed n held (part (straight bs) rest) hh h =
     merged_formed n (held ++ bs) rest (calm_append held bs hh both.0) both.1
 merged_formed n held (part (repeats count body tail) rest) hh h =
     let both = and_parts (part_formed n (repeats count body tail)) (parts_formed n rest) h in
-    let some = and_parts (nat_lt 0 count) (parts_formed n body && is_turn tail) both.0 in
-    let own = and_parts (parts_formed n body) (is_turn tail) some.1 in
-    formed_straights n (packed held) (part (repeats count (parts_merged [] body) (turn_packed (left_over [] body) tail)) (parts_merged [] rest)) (calm_packed held hh)
-    (and_from (part_formed n (repeats count (parts_merged [] body) (turn_packed (left_over [] body) tail))) (parts_formed n (parts_merged [] rest))
-    (and_from (nat_lt 0 count) (parts_formed n (parts_merged [] body) && is_turn (turn_packed (left_over [] body) tail)) some.0 (and_from (parts_formed n (parts_merged [] body)) (is_turn (turn_packed (left_over [] body) tail)) (merged_formed n [] body refl own.0) (turn_formed (left_over [] body) tail (left_calm [] body refl (parts_are_shaped n body own.0)) own.1)))
+    let some = and_parts (nat_lt 0 count) (parts_formed n body && is_iteration tail) both.0 in
+    let own = and_parts (parts_formed n body) (is_iteration tail) some.1 in
+    formed_straights n (packed held) (part (repeats count (parts_merged [] body) (iteration_packed (left_over [] body) tail)) (parts_merged [] rest)) (calm_packed held hh)
+    (and_from (part_formed n (repeats count (parts_merged [] body) (iteration_packed (left_over [] body) tail))) (parts_formed n (parts_merged [] rest))
+    (and_from (nat_lt 0 count) (parts_formed n (parts_merged [] body) && is_iteration (iteration_packed (left_over [] body) tail)) some.0 (and_from (parts_formed n (parts_merged [] body)) (is_iteration (iteration_packed (left_over [] body) tail)) (merged_formed n [] body refl own.0) (iteration_formed (left_over [] body) tail (left_calm [] body refl (parts_are_shaped n body own.0)) own.1)))
     (merged_formed n [] rest refl both.1))
 merged_formed n held (part (calls_to k tail) rest) hh h =
     let both = and_parts (nat_lt k n && is_way is_call tail) (parts_formed n rest) h in
@@ -316,11 +316,11 @@ merged_function n held (part (straight bs) rest) hh h =
     merged_function n (held ++ bs) rest (calm_append held bs hh both.0) both.1
 merged_function n held (part (repeats count body tail) rest) hh h =
     let both = and_parts (part_formed n (repeats count body tail)) (function_formed n rest) h in
-    let some = and_parts (nat_lt 0 count) (parts_formed n body && is_turn tail) both.0 in
-    let own = and_parts (parts_formed n body) (is_turn tail) some.1 in
-    function_straights n (packed held) (repeats count (parts_merged [] body) (turn_packed (left_over [] body) tail)) (parts_merged [] rest) (calm_packed held hh)
-    (function_then n (repeats count (parts_merged [] body) (turn_packed (left_over [] body) tail)) (parts_merged [] rest)
-    (and_from (nat_lt 0 count) (parts_formed n (parts_merged [] body) && is_turn (turn_packed (left_over [] body) tail)) some.0 (and_from (parts_formed n (parts_merged [] body)) (is_turn (turn_packed (left_over [] body) tail)) (merged_formed n [] body refl own.0) (turn_formed (left_over [] body) tail (left_calm [] body refl (parts_are_shaped n body own.0)) own.1)))
+    let some = and_parts (nat_lt 0 count) (parts_formed n body && is_iteration tail) both.0 in
+    let own = and_parts (parts_formed n body) (is_iteration tail) some.1 in
+    function_straights n (packed held) (repeats count (parts_merged [] body) (iteration_packed (left_over [] body) tail)) (parts_merged [] rest) (calm_packed held hh)
+    (function_then n (repeats count (parts_merged [] body) (iteration_packed (left_over [] body) tail)) (parts_merged [] rest)
+    (and_from (nat_lt 0 count) (parts_formed n (parts_merged [] body) && is_iteration (iteration_packed (left_over [] body) tail)) some.0 (and_from (parts_formed n (parts_merged [] body)) (is_iteration (iteration_packed (left_over [] body) tail)) (merged_formed n [] body refl own.0) (iteration_formed (left_over [] body) tail (left_calm [] body refl (parts_are_shaped n body own.0)) own.1)))
     (merged_function n [] rest refl both.1))
 merged_function n held (part (calls_to k tail) rest) hh h =
     let both = and_parts (nat_lt k n && is_way is_call tail) (function_formed n rest) h in

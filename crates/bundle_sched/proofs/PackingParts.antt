@@ -12,7 +12,7 @@ use Rattle.sp_shape.specs.Shown.{plain_part, parts_of}
 use Rattle.sp_shape.specs.declared.parts.Part.{Part, Straight, CallTo, Leave}
 use Rattle.sp_shape.specs.declared.parts.Part.TheViews.{Repeat}
 use Rattle.bundle_sched.specs.Legal.{has_legal_flow, part_legal, parts_legal}
-use Rattle.bundle_sched.specs.Packing.{packed, kept, way, from_branch, turn_packed, straights, left_over, parts_merged, function_merged}
+use Rattle.bundle_sched.specs.Packing.{packed, kept, way, from_branch, iteration_packed, straights, left_over, parts_merged, function_merged}
 
 -- ---- a part goes out
 
@@ -44,10 +44,10 @@ module _ (p : Part) (held before next : List Slots) (out mid all : List Part) (r
       ap (λ h. joined (parts_of all) (parts_merged h rest)) none ∙ pushed mid all q said (parts_merged [] rest) added same ∙ went (part said (parts_merged [] rest))
 
 pub repeat_packed : (p : Part) (count : ℕ) (body done : List Part) (tail slots held next : List Slots) (out mid all : List Part) (rest : PlainParts) → p ≡ Repeat count body tail → next ≡ []
-    → ((more : PlainParts) → joined (parts_of mid) more ≡ joined (parts_of out) (straights (packed held) more)) → parts_of done ≡ parts_merged [] (parts_of body) → slots ≡ turn_packed (left_over [] (parts_of body)) tail
+    → ((more : PlainParts) → joined (parts_of mid) more ≡ joined (parts_of out) (straights (packed held) more)) → parts_of done ≡ parts_merged [] (parts_of body) → slots ≡ iteration_packed (left_over [] (parts_of body)) tail
     → all ≡ mid ++ Repeat count done slots ∷ [] → joined (parts_of all) (parts_merged next rest) ≡ joined (parts_of out) (parts_merged held (part (plain_part p) rest))
 repeat_packed p count body done tail slots held next out mid all rest is none went same kept added =
-    went_out p held (packed held) next out mid all rest none went (Repeat count done slots) (repeats count (parts_merged [] (parts_of body)) (turn_packed (left_over [] (parts_of body)) tail))
+    went_out p held (packed held) next out mid all rest none went (Repeat count done slots) (repeats count (parts_merged [] (parts_of body)) (iteration_packed (left_over [] (parts_of body)) tail))
     (repeat_said (Repeat count done slots) count done slots refl ∙ (λ k. repeats count (same k) (kept k))) added
     ∙ ap (λ x. joined (parts_of out) (parts_merged held (part x rest))) (sym (repeat_said p count body tail is))
 

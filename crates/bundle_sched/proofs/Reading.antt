@@ -1,4 +1,4 @@
--- What an instruction does hangs on what it reads alone.
+-- What an instruction does depends on what it reads alone.
 use Rattle.std.proofs.Common.{◌≡◌, ℕ, ◌*◌, ◌+◌, Bool, true, false, not, true≢false, if◌then◌else◌, List, [], ◌∷◌, refl, sym, ap}
 use Rattle.std.specs.Prelude.{◌&&◌}
 use Rattle.std.specs.List.{list_all}

@@ -5,7 +5,7 @@ use Rattle.std.specs.List.{list_all}
 use Rattle.std.proofs.lemmas.Bool.{and_parts, and_from}
 use Rattle.patmos_instr.specs.Bundles.{Slots}
 use Rattle.sp_shape.specs.Bundles.{parts_all}
-use Rattle.sp_shape.specs.Formed.{is_call, is_return, are_calm, is_turn, is_way, part_formed, parts_formed, function_formed}
+use Rattle.sp_shape.specs.Formed.{is_call, is_return, are_calm, is_iteration, is_way, part_formed, parts_formed, function_formed}
 use Rattle.sp_shape.specs.Parts.{PlainPart, straight, repeats, calls_to, leaves, PlainParts, no_part, part}
 use Rattle.sp_shape.proofs.Joins.{joined-nothing}
 use Rattle.sp_shape.proofs.Lists.{calm_append, all_append}
@@ -15,7 +15,7 @@ use Rattle.sp_shape.specs.Parts.{joined}
 abbrev mutual
   pub part_shaped : PlainPart → Bool
   part_shaped (straight bs) = are_calm bs
-  part_shaped (repeats count body tail) = parts_shaped body && is_turn tail
+  part_shaped (repeats count body tail) = parts_shaped body && is_iteration tail
   part_shaped (calls_to k tail) = is_way is_call tail
   part_shaped (leaves tail) = is_way is_return tail
 
@@ -27,8 +27,8 @@ mutual
   part_is_shaped : (n : ℕ) (p : PlainPart) → part_formed n p ≡ true → part_shaped p ≡ true
   part_is_shaped n (straight bs) h = h
   part_is_shaped n (repeats count body tail) h =
-      let both = and_parts (parts_formed n body) (is_turn tail) (and_parts (nat_lt 0 count) (parts_formed n body && is_turn tail) h).1 in
-      and_from (parts_shaped body) (is_turn tail) (parts_are_shaped n body both.0) both.1
+      let both = and_parts (parts_formed n body) (is_iteration tail) (and_parts (nat_lt 0 count) (parts_formed n body && is_iteration tail) h).1 in
+      and_from (parts_shaped body) (is_iteration tail) (parts_are_shaped n body both.0) both.1
   part_is_shaped n (calls_to k tail) h = (and_parts (nat_lt k n) (is_way is_call tail) h).1
   part_is_shaped n (leaves tail) h = absurd (true≢false (sym h))
 
@@ -57,7 +57,7 @@ function_is_shaped n (part (calls_to k tail) rest) h =
 pub left_calm : (held : List Slots) (ps : PlainParts) → are_calm held ≡ true → parts_shaped ps ≡ true → are_calm (left_over held ps) ≡ true
 left_calm held no_part hh h = hh
 left_calm held (part (straight bs) rest) hh h = let both = and_parts (are_calm bs) (parts_shaped rest) h in left_calm (held ++ bs) rest (calm_append held bs hh both.0) both.1
-left_calm held (part (repeats count body tail) rest) hh h = left_calm [] rest refl (and_parts (parts_shaped body && is_turn tail) (parts_shaped rest) h).1
+left_calm held (part (repeats count body tail) rest) hh h = left_calm [] rest refl (and_parts (parts_shaped body && is_iteration tail) (parts_shaped rest) h).1
 left_calm held (part (calls_to k tail) rest) hh h = left_calm [] rest refl (and_parts (is_way is_call tail) (parts_shaped rest) h).1
 left_calm held (part (leaves tail) rest) hh h = left_calm [] rest refl (and_parts (is_way is_return tail) (parts_shaped rest) h).1
 

@@ -10,7 +10,7 @@ use Rattle.patmos_instr.specs.declared.instructions.Op.TheVariants.{Load, Mul}
 use Rattle.patmos_instr.specs.declared.memories.Mem.{Mem}
 use Rattle.patmos_instr.specs.declared.memories.Width.{Width}
 use Rattle.sp_shape.specs.Bundles.{is_idle_op}
-use Rattle.sp_shape.specs.Formed.{is_branch, is_call, is_return, is_flow, is_always, are_calm, are_delay_slots, is_turn, is_way, part_formed, parts_formed, function_formed, functions_formed, is_formed}
+use Rattle.sp_shape.specs.Formed.{is_branch, is_call, is_return, is_flow, is_always, are_calm, are_delay_slots, is_iteration, is_way, part_formed, parts_formed, function_formed, functions_formed, is_formed}
 use Rattle.sp_shape.specs.Parts.{straight, repeats, calls_to, leaves, PlainPart, PlainParts, no_part, part, PlainShape}
 use Rattle.sp_shape.specs.Small.{idle}
 use Rattle.sp_shape.specs.Words.{is_late}
@@ -55,9 +55,9 @@ abbrev pub is_prompt : Slots → Bool
 is_prompt b = not (is_late b.first.op)
 
 -- of the slots after the flow of a tail
-abbrev pub turn_prompt : List Slots → Bool
-turn_prompt [] = true
-turn_prompt (b ∷ bs) = if is_branch b.first.op then list_all is_prompt bs else turn_prompt bs
+abbrev pub iteration_prompt : List Slots → Bool
+iteration_prompt [] = true
+iteration_prompt (b ∷ bs) = if is_branch b.first.op then list_all is_prompt bs else iteration_prompt bs
 
 abbrev pub way_prompt : List Slots → Bool
 way_prompt [] = true
@@ -66,7 +66,7 @@ way_prompt (b ∷ bs) = list_all is_prompt bs
 abbrev mutual
   pub part_prompt : PlainPart → Bool
   part_prompt (straight bs) = true
-  part_prompt (repeats count body tail) = parts_prompt body && turn_prompt tail
+  part_prompt (repeats count body tail) = parts_prompt body && iteration_prompt tail
   part_prompt (calls_to k tail) = way_prompt tail
   part_prompt (leaves tail) = way_prompt tail
 
@@ -85,7 +85,7 @@ way_stays is_it early [] h slots = refl
 way_stays is_it early (b ∷ bs) h slots =
     early_stays b bs (early b.first.op (and_parts (is_it b.first.op) (is_always b.first.guard && are_delay_slots 3 bs) h).0) (prompts_stay bs slots)
 
--- ---- bundles without a flow, and turns
+-- ---- bundles without a flow, and iterations
 
 calm_spaced : (bs : List Slots) → are_calm bs ≡ true → are_calm (spaced bs) ≡ true
 calm_spaced [] h = refl
@@ -94,24 +94,24 @@ calm_spaced (b ∷ bs) h =
     let calm = and_from (not (is_flow b.first.op)) (are_calm (spaced bs)) both.0 (calm_spaced bs both.1) in
     elim (is_awaited b bs) as (λ awaited. are_calm ((if awaited then b ∷ idle ∷ [] else b ∷ []) ++ spaced bs) ≡ true) [ true ↦ calm | false ↦ calm ]
 
-pub turn_front : (b : Slots) (bs : List Slots) → is_branch b.first.op ≡ false → not (is_flow b.first.op) ≡ true → is_turn bs ≡ true → is_turn (b ∷ bs) ≡ true
-turn_front b bs other calm h =
-    ap (λ back. if back then are_delay_slots 2 bs else (not (is_flow b.first.op) && is_turn bs)) other ∙ and_from (not (is_flow b.first.op)) (is_turn bs) calm h
+pub iteration_front : (b : Slots) (bs : List Slots) → is_branch b.first.op ≡ false → not (is_flow b.first.op) ≡ true → is_iteration bs ≡ true → is_iteration (b ∷ bs) ≡ true
+iteration_front b bs other calm h =
+    ap (λ back. if back then are_delay_slots 2 bs else (not (is_flow b.first.op) && is_iteration bs)) other ∙ and_from (not (is_flow b.first.op)) (is_iteration bs) calm h
 
-turn_spaced : (tail : List Slots) → is_turn tail ≡ true → turn_prompt tail ≡ true → is_turn (spaced tail) ≡ true
-turn_spaced [] h idles = h
-turn_spaced (b ∷ bs) h idles = so (is_branch b.first.op) refl (λ h idles. turn_spaced bs h idles)
+iteration_spaced : (tail : List Slots) → is_iteration tail ≡ true → iteration_prompt tail ≡ true → is_iteration (spaced tail) ≡ true
+iteration_spaced [] h idles = h
+iteration_spaced (b ∷ bs) h idles = so (is_branch b.first.op) refl (λ h idles. iteration_spaced bs h idles)
   where
-    so : (back : Bool) → is_branch b.first.op ≡ back → (is_turn bs ≡ true → turn_prompt bs ≡ true → is_turn (spaced bs) ≡ true) → is_turn (spaced (b ∷ bs)) ≡ true
+    so : (back : Bool) → is_branch b.first.op ≡ back → (is_iteration bs ≡ true → iteration_prompt bs ≡ true → is_iteration (spaced bs) ≡ true) → is_iteration (spaced (b ∷ bs)) ≡ true
     so true is more =
-        let slots = ap (λ back. if back then list_all is_prompt bs else turn_prompt bs) (sym is) ∙ idles in
-        ap is_turn (early_stays b bs (branch_early b.first.op is) (prompts_stay bs slots)) ∙ h
+        let slots = ap (λ back. if back then list_all is_prompt bs else iteration_prompt bs) (sym is) ∙ idles in
+        ap is_iteration (early_stays b bs (branch_early b.first.op is) (prompts_stay bs slots)) ∙ h
     so false is more =
-        let both = and_parts (not (is_flow b.first.op)) (is_turn bs) (ap (λ back. if back then are_delay_slots 2 bs else (not (is_flow b.first.op) && is_turn bs)) (sym is) ∙ h) in
-        let others = more both.1 (ap (λ back. if back then list_all is_prompt bs else turn_prompt bs) (sym is) ∙ idles) in
-        elim (is_awaited b bs) as (λ awaited. is_turn ((if awaited then b ∷ idle ∷ [] else b ∷ []) ++ spaced bs) ≡ true) [
-          | true ↦ turn_front b (idle ∷ spaced bs) is both.0 others
-          | false ↦ turn_front b (spaced bs) is both.0 others
+        let both = and_parts (not (is_flow b.first.op)) (is_iteration bs) (ap (λ back. if back then are_delay_slots 2 bs else (not (is_flow b.first.op) && is_iteration bs)) (sym is) ∙ h) in
+        let others = more both.1 (ap (λ back. if back then list_all is_prompt bs else iteration_prompt bs) (sym is) ∙ idles) in
+        elim (is_awaited b bs) as (λ awaited. is_iteration ((if awaited then b ∷ idle ∷ [] else b ∷ []) ++ spaced bs) ≡ true) [
+          | true ↦ iteration_front b (idle ∷ spaced bs) is both.0 others
+          | false ↦ iteration_front b (spaced bs) is both.0 others
         ]
 
 -- ---- parts
@@ -120,11 +120,11 @@ mutual
   part_stays_formed : (n : ℕ) (p : PlainPart) → part_formed n p ≡ true → part_prompt p ≡ true → part_formed n (part_placed p) ≡ true
   part_stays_formed n (straight bs) h idles = calm_spaced bs h
   part_stays_formed n (repeats count body tail) h idles =
-      let some = and_parts (nat_lt 0 count) (parts_formed n body && is_turn tail) h in
-      let both = and_parts (parts_formed n body) (is_turn tail) some.1 in
-      let slots = and_parts (parts_prompt body) (turn_prompt tail) idles in
-      and_from (nat_lt 0 count) (parts_formed n (parts_placed body) && is_turn (spaced tail)) some.0
-      (and_from (parts_formed n (parts_placed body)) (is_turn (spaced tail)) (parts_stay_formed n body both.0 slots.0) (turn_spaced tail both.1 slots.1))
+      let some = and_parts (nat_lt 0 count) (parts_formed n body && is_iteration tail) h in
+      let both = and_parts (parts_formed n body) (is_iteration tail) some.1 in
+      let slots = and_parts (parts_prompt body) (iteration_prompt tail) idles in
+      and_from (nat_lt 0 count) (parts_formed n (parts_placed body) && is_iteration (spaced tail)) some.0
+      (and_from (parts_formed n (parts_placed body)) (is_iteration (spaced tail)) (parts_stay_formed n body both.0 slots.0) (iteration_spaced tail both.1 slots.1))
   part_stays_formed n (calls_to k tail) h idles =
       ap (λ way. nat_lt k n && is_way is_call way) (way_stays is_call call_early tail (and_parts (nat_lt k n) (is_way is_call tail) h).1 idles) ∙ h
   part_stays_formed n (leaves tail) h idles = h

@@ -187,7 +187,7 @@ can_pass from a b bs m whole none = so (is_late a.first.op) refl
         let ignored = not-false (ignores_both a.first.op b) (sym (ap (λ l. l && not (ignores_both a.first.op b)) late_one) ∙ none) in
         sym (unread_late from b (late from a m) (late_fits from a m whole.fits) (unread_behind from a b m ignored))
 
--- what comes of spaced code hangs on what its first bundle leaves
+-- what comes of spaced code depends on what its first bundle leaves
 by_first : (from : Sources) (b : Slots) (bs : List Slots) (m n : Run) → late from b m ≡ late from b n → run_late from (all_done (spaced (b ∷ bs))) m ≡ run_late from (all_done (spaced (b ∷ bs))) n
 by_first from b bs m n same =
     elim (is_awaited b bs) as (λ awaited. run_late from (all_done ((if awaited then b ∷ idle ∷ [] else b ∷ []) ++ spaced bs)) m ≡ run_late from (all_done ((if awaited then b ∷ idle ∷ [] else b ∷ []) ++ spaced bs)) n) [

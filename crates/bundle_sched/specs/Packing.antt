@@ -27,7 +27,7 @@ abbrev pub in_pairs : List Slots → List Slots
 in_pairs [] = []
 in_pairs (b ∷ bs) = if is_idle b then in_pairs bs else paired b bs
 
--- the same, after a bundle that there may be
+-- bundles in pairs, after a bundle that there may be
 abbrev pub behind : Option Slots → List Slots → List Slots
 behind None bs = in_pairs bs
 behind (Some a) bs = paired a bs
@@ -89,7 +89,7 @@ abbrev pub way_by_one : List Slots → List Slots → List Slots
 way_by_one [] tail = tail
 way_by_one (b ∷ bs) tail = if goes_down (b ∷ bs) tail then filled (last_or b bs) tail else tail
 
--- the same for so many bundles
+-- what is left, and the tail then, for so many bundles
 abbrev pub kept_after : ℕ → List Slots → List Slots → List Slots
 kept_after zero bs tail = bs
 kept_after (suc n) bs tail = kept_after n (kept_by_one bs tail) (way_by_one bs tail)
@@ -139,8 +139,8 @@ abbrev pub turned : List Slots → List Slots → List Slots
 turned front back = kept front back ++ way front back
 
 -- straight code that is held, and what stands before the branch, are packed as one piece
-abbrev pub turn_packed : List Slots → List Slots → List Slots
-turn_packed held tail = turned (packed (held ++ before_branch tail)) (from_branch tail)
+abbrev pub iteration_packed : List Slots → List Slots → List Slots
+iteration_packed held tail = turned (packed (held ++ before_branch tail)) (from_branch tail)
 
 -- ---- parts
 
@@ -162,7 +162,7 @@ parts_merged held no_part = no_part
 parts_merged held (part (straight bs) rest) = parts_merged (held ++ bs) rest
 parts_merged held (part (repeats count body tail) rest) =
     straights (packed held)
-    (part (repeats count (parts_merged [] body) (turn_packed (left_over [] body) tail)) (parts_merged [] rest))
+    (part (repeats count (parts_merged [] body) (iteration_packed (left_over [] body) tail)) (parts_merged [] rest))
 parts_merged held (part (calls_to k tail) rest) =
     straights (kept (packed held) tail) (part (calls_to k (way (packed held) tail)) (parts_merged [] rest))
 parts_merged held (part (leaves tail) rest) =

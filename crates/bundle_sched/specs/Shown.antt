@@ -34,7 +34,7 @@ turning =
     part (repeats 3 (one (straight (add_to 2 ∷ small.idle ∷ add_to 3 ∷ []))) (test ∷ small.load ∷ add_to 4
     ∷ small.again)) small.empty
 
--- all of the turn is one piece: the last bundle before the branch stands in its first delay slot, and the branch fills
+-- all of the iteration is one piece: the last bundle before the branch stands in its first delay slot, and the branch fills
 -- the time of the load
 abbrev pub packed_turning : PlainParts
 packed_turning =
@@ -47,7 +47,7 @@ packed_turning =
 abbrev pub set : ℕ → Slots
 set r = small.under small.always (AluImm imm.Add r 0 1)
 
--- the same where p1 is true
+-- a register = 1 where p1 is true
 abbrev pub set_on : ℕ → Slots
 set_on r = small.under small.p1 (AluImm imm.Add r 0 1)
 

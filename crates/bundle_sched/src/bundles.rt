@@ -47,7 +47,7 @@ fn ignores(late: &Op, op: &Op) -> bool
     }
 }
 
-// the same, of both slots
+// both slots of a bundle ignore the value that comes late
 fn ignores_both(late: &Op, bundle: &Bundle) -> bool
     ensures { result ≡ specs.ignores_both late.now bundle.now }
 {

@@ -23,7 +23,7 @@
 //!
 //! - What comes of the answer's trail, read late, is what comes of the argument's, read at once, from all states in
 //!   which nothing is pending, wherever loads take their values from: registers, memories, and what was asked for.
-//! - Where each loop of the argument makes all its turns, each of the answer's does, wherever returns go; and where
+//! - Where each loop of the argument makes all its iterations, each of the answer's does, wherever returns go; and where
 //!   each return goes to the place that was set, so does the answer's.
 //! - The answer is well formed. Where whatever may have a transaction with main memory is always done, it still is. A
 //!   function takes at most as many words as sp_shape's `specs/Words.antt` gives it room.

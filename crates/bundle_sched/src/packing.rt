@@ -7,7 +7,7 @@ ghost use Rattle.sp_shape.specs.Parts.{PlainParts, joined};
 ghost use Rattle.sp_shape.specs.Shown.{plain_part, parts_of};
 
 use crate::ordering::packed;
-use crate::slots::{turn, way};
+use crate::slots::{iteration, way};
 use patmos_instr::Bundle;
 use sp_shape::Part;
 use std::alloc::Global;
@@ -40,7 +40,7 @@ fn push_held(out: &mut Vec<Part>, held: &mut Vec<Bundle>) -> Result<(), OutOfMem
     Ok(())
 }
 
-// the same before a call's or a return's tail, whose first delay slot takes the last of it where it can
+// pushes what is held before a call's or a return's tail, whose first delay slot takes the last of it where it can
 fn push_before(
     out: &mut Vec<Part>,
     held: &mut Vec<Bundle>,
@@ -80,7 +80,7 @@ fn push_packed(out: &mut Vec<Part>, held: &mut Vec<Bundle>, part: &Part) -> Resu
             let alloc = *out.allocator();
             let mut end = Vec::new(alloc);
             let body = parts_packed(alloc, body.as_slice(), &mut end)?;
-            let tail = turn(alloc, end, tail.as_slice())?;
+            let tail = iteration(alloc, end, tail.as_slice())?;
             push_held(out, held)?;
             out.push(Part::Repeat {
                 count: *count,

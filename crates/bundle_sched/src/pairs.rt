@@ -101,7 +101,7 @@ pub fn joined(a: &Bundle, b: &Bundle) -> Option<Bundle>
     }
 }
 
-// the same where no value of the first comes late
+// the pair of two bundles, where no value of the first comes late
 fn paired(a: &Bundle, b: &Bundle) -> Option<Bundle>
     ensures some { IfSome result (λ both. (specs.can_pair a.now b.now ≡ true) × (both ≡ specs.pair a.now b.now)) }
     ensures none { IsNone result → specs.can_pair a.now b.now ≡ false }

@@ -215,14 +215,14 @@ fn branch_at(tail: &[Bundle]) -> usize
     at
 }
 
-/// The tail of a loop's turn: straight code that is held, and what stands before the branch, packed as one piece, and
+/// The tail of a loop's iteration: straight code that is held, and what stands before the branch, packed as one piece, and
 /// the last of it in the branch's delay slots where it goes there.
-pub fn turn(
+pub fn iteration(
     alloc: Global,
     mut held: Vec<Bundle>,
     tail: &[Bundle],
 ) -> Result<List<Bundle>, OutOfMemory>
-    ensures turn { IfOk result (λ list. list ≡ packing.turn_packed held.items tail.now) }
+    ensures iteration { IfOk result (λ list. list ≡ packing.iteration_packed held.items tail.now) }
     ensures legal { IfOk result (λ list. legal.has_legal_flow (packing.from_branch tail.now) ≡ true) }
 {
     let (front, back) = tail.split_at(branch_at(tail));

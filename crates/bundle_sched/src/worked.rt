@@ -3,7 +3,7 @@
 ghost use Rattle.std.specs.Prelude.{◌≡◌, [], ◌∷◌, ◌++◌, replicate, true, false};
 ghost use Rattle.bundle_sched.specs.Ordered.{ordered};
 ghost use Rattle.bundle_sched.specs.Packed.{pair, is_packed};
-ghost use Rattle.bundle_sched.specs.Packing.{packed, way, turn_packed};
+ghost use Rattle.bundle_sched.specs.Packing.{packed, way, iteration_packed};
 ghost use Rattle.bundle_sched.specs.Placed.{spaced, part_placed, placed};
 ghost use Rattle.bundle_sched.specs.Scheduled.{scheduled};
 ghost use Rattle.bundle_sched.specs.Shown.{add_to, set, set_on, test, ready, packed_ready, turning, packed_turning, waiting, ordered_waiting};
@@ -12,14 +12,14 @@ ghost use Rattle.sp_shape.specs.Parts.{one, part, straight, repeats, calls_to};
 ghost use Rattle.sp_shape.specs.Small as small;
 
 /// After a load and after a product that the next bundle reads, or that is the last, and nowhere else: in a body that
-/// is repeated and in the tail of its turn too. The tail of a call has no such place.
+/// is repeated and in the tail of its iteration too. The tail of a call has no such place.
 pub fn worked_places()
     ensures nowhere { spaced (small.add 1 ∷ small.add 2 ∷ []) ≡ small.add 1 ∷ small.add 2 ∷ [] }
     ensures load { spaced (small.load ∷ small.add 1 ∷ []) ≡ small.load ∷ small.idle ∷ small.add 1 ∷ [] }
     ensures product { spaced (small.load ∷ small.square ∷ [])
         ≡ small.load ∷ small.idle ∷ small.square ∷ small.idle ∷ [] }
     ensures ignored { spaced (small.square ∷ small.add 1 ∷ []) ≡ small.square ∷ small.add 1 ∷ [] }
-    ensures turns { part_placed (repeats 3 (one (straight (small.load ∷ []))) (small.load ∷ small.again))
+    ensures iterations { part_placed (repeats 3 (one (straight (small.load ∷ []))) (small.load ∷ small.again))
         ≡ repeats 3 (one (straight (small.load ∷ small.idle ∷ []))) (small.load ∷ small.again) }
     ensures call { part_placed (calls_to 1 small.call) ≡ calls_to 1 small.call }
 {}
@@ -68,9 +68,9 @@ pub fn worked_ordering()
 /// The straight code at the end of a loop's body is one piece with what stands before its branch, and the last of it
 /// goes into the branch's delay slots, but not where it sets the predicate that the branch asks for.
 pub fn worked_loops()
-    ensures slot { turn_packed [] (test ∷ small.load ∷ add_to 2 ∷ small.again)
+    ensures slot { iteration_packed [] (test ∷ small.load ∷ add_to 2 ∷ small.again)
         ≡ test ∷ small.load ∷ small.under small.p1 small.branch ∷ add_to 2 ∷ small.idle ∷ [] }
-    ensures guard { turn_packed [] (add_to 2 ∷ test ∷ small.again) ≡ pair (add_to 2) test ∷ small.again }
+    ensures guard { iteration_packed [] (add_to 2 ∷ test ∷ small.again) ≡ pair (add_to 2) test ∷ small.again }
     ensures function { scheduled (small.shape_of (turning ∷ []) 0) ≡ small.shape_of (packed_turning ∷ []) 0 }
 {}
 

@@ -11,7 +11,7 @@ use Rattle.c_tree.specs.declared.checks.Meaning.TheVariants as meaning
 use Rattle.c_tree.specs.declared.checks.Within.{Within}
 use Rattle.c_tree.specs.declared.expressions.Expr.{Expr, Chain', Unary', Element', Paren', Number, Name}
 use Rattle.c_tree.specs.declared.expressions.Expr.TheBlock.{Row_of-Step, end_of-Step, more_of-Step}
-use Rattle.c_tree.specs.declared.limits.TheConstants.{MOST_DEPTH, MOST_FRAME_WORDS, MOST_FUNCTION_WEIGHT, MOST_PARAMETERS, MOST_PRIVATE_WORDS, MOST_SCRATCH_WORDS, MOST_TASK_WEIGHT, MOST_TURNS}
+use Rattle.c_tree.specs.declared.limits.TheConstants.{MOST_DEPTH, MOST_FRAME_WORDS, MOST_FUNCTION_WEIGHT, MOST_PARAMETERS, MOST_PRIVATE_WORDS, MOST_SCRATCH_WORDS, MOST_TASK_WEIGHT, MOST_ITERATIONS}
 use Rattle.c_tree.specs.declared.statements.Bound.{Bound}
 use Rattle.c_tree.specs.declared.statements.Head.{Head}
 use Rattle.c_tree.specs.declared.statements.Head.TheVariants as head
@@ -280,7 +280,7 @@ bound_pointed : (all : List Token) (at : ℕ) (bound : Option Bound) (h : Head) 
     → All (PointsAmong all) (bound_faults at bound)
 bound_pointed all at None h ts s = where_pointed all true at fault.NoBound (loop_here all at h ts s)
 bound_pointed all at (Some b) h ts s =
-    where_pointed all (nat_lt b.max b.min || nat_lt MOST_TURNS b.max) at fault.BoundRange
+    where_pointed all (nat_lt b.max b.min || nat_lt MOST_ITERATIONS b.max) at fault.BoundRange
     (subst (λ t. IsTrue (is_bound t)) (sym (token_here all at (token.Bound b.min b.max) (head_tokens h ++ ts) s)) refl)
 
 head_pointed : (all : List Token) (names : List Named) (at : ℕ) (h : Head) → Stands all at (head_tokens h)

@@ -1,4 +1,4 @@
 pub mod Capped
 pub mod Open
 pub mod Pointed
-pub mod Told
+pub mod Reported

@@ -30,8 +30,8 @@ is_loop (Some (token.Keyword keyword.While)) = true
 is_loop (Some (token.Keyword keyword.For)) = true
 is_loop _ = false
 
--- A fault is told at the name that it is about, at the number of a send's core, at a loop's bound, or at the keyword of
--- a loop without one. The others are told at the first token of what is wrong, or at the end of all.
+-- A fault is reported at the name that it is about, at the number of a send's core, at a loop's bound, or at the keyword of
+-- a loop without one. The others are reported at the first token of what is wrong, or at the end of all.
 abbrev pub is_pointed : List Token → Fault → Bool
 is_pointed ts f = elim f.kind as (λ _. Bool) [
   | fault.Unknown ↦ is_name (token_at ts f.at)

@@ -3,7 +3,7 @@ ghost use Rattle.std.specs.Prelude.{◌≡◌, None, IfOk, IfErr};
 ghost use Rattle.c_tree.specs.Plain.{plain};
 ghost use Rattle.c_tree.specs.Valid.{fault_of};
 ghost use Rattle.c_tree.specs.Layout.{layout_of};
-ghost use Rattle.c_check.specs.Told.{TellsFault};
+ghost use Rattle.c_check.specs.Reported.{TellsFault};
 
 use crate::layouts::layout;
 use crate::units::least_fault;

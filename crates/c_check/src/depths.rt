@@ -1,4 +1,4 @@
-//! How deep an expression is, where a depth above 2^32 - 1 is told as that.
+//! How deep an expression is, where a depth above 2^32 - 1 is counted as that.
 ghost use Rattle.std.specs.Prelude.{◌≡◌, nat_lt};
 ghost use Rattle.c_tree.specs.declared.limits.TheConstants.{MOST_DEPTH};
 ghost use Rattle.c_tree.specs.Depth.{expr_depth, steps_depth};

@@ -1,4 +1,4 @@
-//! The words that a function keeps on the stack, where a number above 2^32 - 1 is told as that.
+//! The words that a function keeps on the stack, where a number above 2^32 - 1 is counted as that.
 ghost use Rattle.std.specs.Prelude.{◌≡◌, nat_lt, map};
 ghost use Rattle.c_tree.specs.declared.limits.TheConstants.{MOST_FRAME_WORDS};
 ghost use Rattle.c_tree.specs.Frame as frame;

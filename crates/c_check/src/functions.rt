@@ -37,7 +37,7 @@ fn meaning(f: &Function, inside: bool) -> Meaning
     }
 }
 
-// what is told at a function's name
+// what is reported at a function's name
 #[tactic(auto, using(c_tree::proofs::Leasts::least_of_both))]
 fn named(names: &Names<'_>, walk: &mut Walk, f: &Function)
     ensures at { walk.new.at ≡ walk.old.at }

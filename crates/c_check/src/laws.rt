@@ -1,4 +1,4 @@
-//! What the least fault is, which programs have none, and where faults are told.
+//! What the least fault is, which programs have none, and where faults are reported.
 ghost use Rattle.std.specs.Prelude.{◌≡◌, ℕ, List, false, None, Some};
 ghost use Rattle.std.specs.List.{All, Contains};
 ghost use Rattle.c_tree.specs.declared.checks.Fault.{Fault};

@@ -12,7 +12,9 @@ ghost use Rattle.c_check.specs.Open.{names_of};
 use crate::expressions::{argument, array, call, right, scalar, whole};
 use crate::names::Names;
 use crate::walk::Walk;
-use c_tree::{Arm, Bound, CheckFault, Expr, Head, Kind, MOST_TURNS, Meaning, Right, Stmt, Within};
+use c_tree::{
+    Arm, Bound, CheckFault, Expr, Head, Kind, MOST_ITERATIONS, Meaning, Right, Stmt, Within,
+};
 use tc_word::{OutOfMemory, Text};
 
 /// How many tokens a type is written with.
@@ -127,7 +129,7 @@ struct Range<'a> {
     count: &'a Expr,
 }
 
-// what a send is told, from its first word on
+// the faults of a send, from its first word on
 #[tactic(auto, using(crate::proofs::StmtRows::send_told))]
 fn send(
     within: &Within,
@@ -167,7 +169,7 @@ fn bound(walk: &mut Walk, bound: Option<Bound>) -> Result<(), OutOfMemory>
         }
         Some(bound) => {
             walk.note_if(
-                bound.max < bound.min || bound.max > MOST_TURNS,
+                bound.max < bound.min || bound.max > MOST_ITERATIONS,
                 CheckFault::BoundRange,
             );
             walk.pass(1)

@@ -196,7 +196,7 @@ fn has_main(items: &[Item]) -> bool
     false
 }
 
-// what is told of the whole, at its end
+// what is reported of the whole, at its end
 #[tactic(auto, using(c_tree::proofs::Leasts::least_of_both))]
 fn whole(walk: &mut Walk, items: &[Item])
     ensures { walk.new.least ≡ least_with walk.old.least (valid.end_faults walk.old.at (map plain_item items.now)) }

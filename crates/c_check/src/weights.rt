@@ -1,4 +1,4 @@
-//! Weights, where those above 2^32 - 1 are told as that.
+//! Weights, where those above 2^32 - 1 are counted as that.
 ghost use Rattle.std.specs.Prelude.{◌≡◌, ◌+◌, ◌*◌, nat_lt, map, sum_by};
 ghost use Rattle.c_tree.specs.declared.limits.TheConstants.{MOST_FUNCTION_WEIGHT, MOST_TASK_WEIGHT};
 ghost use Rattle.c_tree.specs.Weight as weight;

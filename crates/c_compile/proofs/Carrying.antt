@@ -12,7 +12,7 @@ use Rattle.sp_shape.specs.Formed as shape
 use Rattle.sp_shape.specs.Parts.{no_part, PlainShape}
 use Rattle.sp_shape.specs.Run.{IsWhole, by_words}
 use Rattle.sp_emit.proofs.Constants.{constants_are_words, counts_are_words}
-use Rattle.sp_emit.proofs.FunctionTurns.{task_turns}
+use Rattle.sp_emit.proofs.FunctionIterations.{task_iterations}
 use Rattle.sp_emit.proofs.Tasks.{task_does}
 use Rattle.sp_emit.specs.Functions.{emitted}
 use Rattle.sp_emit.specs.Means.{HoldsWords}
@@ -20,7 +20,7 @@ use Rattle.sp_emit.specs.Ran.{begun_memory}
 use Rattle.sp_emit.specs.Serving.{Answers}
 use Rattle.bundle_sched.proofs.Kept.{none_lost, word_dropped, word_paired, word_apart}
 use Rattle.bundle_sched.proofs.Runs.{runs_as}
-use Rattle.bundle_sched.proofs.Turns.{turns_as}
+use Rattle.bundle_sched.proofs.Iterations.{iterations_as}
 use Rattle.sp_emit.proofs.Formed.{emitted_formed}
 use Rattle.tc_link.proofs.Constants.{function_words_fit}
 use Rattle.tc_link.proofs.Followed.{shape_followed}
@@ -53,8 +53,8 @@ carried_out u formed well_formed small fits input shared comm words =
     let m = begun_run u input shared comm in
     let whole = begun_whole u input shared comm in
     let backs = backs_of (code_of u) in
-    let turns = task_turns u by_words (begun_memory u input shared comm) [] backs refl formed (counts_are_words u (code_words u fits)) in
-    let follows = shape_followed (code_of u) by_words m well_formed small fits whole.fits refl (turns_as (emitted u) (code_of u) refl (emitted_formed u formed) by_words m whole turns) in
+    let iterations = task_iterations u by_words (begun_memory u input shared comm) [] backs refl formed (counts_are_words u (code_words u fits)) in
+    let follows = shape_followed (code_of u) by_words m well_formed small fits whole.fits refl (iterations_as (emitted u) (code_of u) refl (emitted_formed u formed) by_words m whole iterations) in
     let does = task_does u input shared comm backs formed (constants_are_words u (code_words u fits)) words in
     let same = follows.run ∙ runs_as (emitted u) (code_of u) refl by_words m whole in
     record { follows = follows; answers = subst (Answers (straight u input shared comm) m) (sym same) does }

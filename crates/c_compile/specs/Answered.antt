@@ -12,7 +12,7 @@ use Rattle.c_compile.specs.Texts.{Refused, no_token_at, too_wide_at, no_program_
 use Rattle.c_compile.specs.declared.faults.CompileFault.{CompileFault}
 use Rattle.c_compile.specs.declared.faults.CompileFault.TheVariants.{Lex, Parse, Check, Long, Memory}
 
--- what a step's fault is to the whole: want of memory is told as such
+-- what a step's fault is to the whole: want of memory is reported as such
 abbrev pub of_lex : LexFault → CompileFault
 of_lex (lex.Char at) = Lex (lex.Char at)
 of_lex (lex.Wide at) = Lex (lex.Wide at)

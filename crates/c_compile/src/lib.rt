@@ -7,7 +7,7 @@
 //!
 //! - its transactions and its end are the same, and its end is within both bounds;
 //! - no check stops it;
-//! - it comes to what the text means, where each of its own loads of a word that others reach gives what
+//! - it gives what the text means, where each of its own loads of a word that others reach gives what
 //!   it stored there last, else the word of a world;
 //! - of the words that others reach, and of the cores, it touches only those that the text mentions.
 //!

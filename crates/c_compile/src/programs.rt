@@ -16,9 +16,9 @@ use std::alloc::Global;
 use tc_word::List;
 
 /// The program of a C text that is valid on a core's place, or the first refusal: that it has no tokens, that these are
-/// no program, or the least fault of the program. Want of memory is told of a text of 2^32 bytes or more too.
+/// no program, or the least fault of the program. Want of memory is reported of a text of 2^32 bytes or more too.
 pub fn program_of(alloc: Global, source: &str, place: &Place) -> Result<Checked, CompileFault>
-    ensures told { Gives (λ c. plain c.unit) result
+    ensures reported { Gives (λ c. plain c.unit) result
         (specs.program_on place.now.cores place.now.core (lexed source.now)) }
     ensures place { IfOk result (λ c. c.place ≡ place.now) }
 {
@@ -32,7 +32,7 @@ pub fn program_of(alloc: Global, source: &str, place: &Place) -> Result<Checked,
 // tokens are refused where they are no program
 fn parsed(alloc: Global, tokens: &List<Token>, place: &Place) -> Result<Checked, CompileFault>
     requires few { length tokens.now < 2 ^ 32 }
-    ensures told { Gives (λ c. plain c.unit) result (specs.parsed place.now.cores place.now.core tokens.now) }
+    ensures reported { Gives (λ c. plain c.unit) result (specs.parsed place.now.cores place.now.core tokens.now) }
     ensures place { IfOk result (λ c. c.place ≡ place.now) }
 {
     let program = parse(alloc, tokens)?;
@@ -41,7 +41,7 @@ fn parsed(alloc: Global, tokens: &List<Token>, place: &Place) -> Result<Checked,
 
 // a program is refused for its least fault
 fn checked(alloc: Global, program: Unit, place: &Place) -> Result<Checked, CompileFault>
-    ensures told { Gives (λ c. plain c.unit) result
+    ensures reported { Gives (λ c. plain c.unit) result
         (specs.checked (plain program) (fault_of (plain program) place.now.cores place.now.core)) }
     ensures place { IfOk result (λ c. c.place ≡ place.now) }
 {

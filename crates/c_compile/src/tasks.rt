@@ -2,7 +2,7 @@
 ghost use Rattle.std.specs.Prelude.{◌≡◌, ◌+◌, ◌<◌, ◌≤◌, ℕ, length, slice_index, IfOk};
 ghost use Rattle.c_compile.specs.Answered.{Gives};
 ghost use Rattle.c_compile.specs.Texts as specs;
-ghost use Rattle.c_mentions.specs.Told.{Tells};
+ghost use Rattle.c_mentions.specs.Reported.{Tells};
 ghost use Rattle.c_task.specs.Doing.{ComesToMeaning, KeepsTimes, NeverTraps, TouchesMentioned};
 ghost use Rattle.c_task.specs.Translation.{bound, persist, times, translation};
 ghost use Rattle.c_tree.specs.Plain.{plain};
@@ -44,7 +44,7 @@ pub struct Compiled {
 // the code of a valid program
 fn code_by(alloc: Global, program: &Checked, place: &Place) -> Result<Code, OutOfMemory>
     requires place { program.now.place ≡ place.now }
-    ensures told { IfOk result (λ c. plain_shape c.shape ≡ (translation (plain program.now.unit)).scheduled) }
+    ensures reported { IfOk result (λ c. plain_shape c.shape ≡ (translation (plain program.now.unit)).scheduled) }
     ensures image { IfOk result (λ c. c.image ≡ (translation (plain program.now.unit)).image) }
     ensures code { IfOk result (λ _. IsCode (translation (plain program.now.unit)).tree) }
 {
@@ -55,12 +55,12 @@ fn code_by(alloc: Global, program: &Checked, place: &Place) -> Result<Code, OutO
 
 /// The task of a C text for a core's place, whatever its input is. It is `Err` exactly where the text has no tokens,
 /// these are no program, the program is not valid on its core, or its bound is more than [`cycle_bound::MOST_BOUND`]:
-/// the first of these counts. Want of memory is told of a text of 2^32 bytes or more too.
+/// the first of these counts. Want of memory is reported of a text of 2^32 bytes or more too.
 pub fn compile(alloc: Global, source: &str, place: &Place) -> Result<Compiled, CompileFault>
-    ensures told { Gives (λ c. plain c.program.unit) result
+    ensures reported { Gives (λ c. plain c.program.unit) result
         (specs.task_on place.now.cores place.now.table place.now.slot place.now.core source.now) }
 
-    // What is told of a program is its own, and nothing else's.
+    // What is reported of a program is its own, and nothing else's.
     ensures place { IfOk result (λ c. c.program.place ≡ place.now) }
     ensures image { IfOk result (λ c. c.image ≡ (translation (plain c.program.unit)).image) }
     ensures shape { IfOk result (λ c. plain_shape c.shape ≡ (translation (plain c.program.unit)).scheduled) }
@@ -73,7 +73,7 @@ pub fn compile(alloc: Global, source: &str, place: &Place) -> Result<Compiled, C
         → 1 + size_of (plain_shape c.shape) k ≤ slice_index (weights_in (plain c.program.unit)) k) }
 
     // Whatever words are put in and read, a core that runs the image apart has the program's times, which are within
-    // both of its bounds, the persistent one of which is no more than the other; no check stops it; it comes to what
+    // both of its bounds, the persistent one of which is no more than the other; no check stops it; it gives what
     // the text means; and it touches only what the text mentions.
     ensures times { IfOk result (λ c. KeepsTimes (plain c.program.unit) place.now c.image) }
     ensures within { IfOk result (λ c. (times place.now (plain c.program.unit)).end ≤ place.now.start + c.bound) }

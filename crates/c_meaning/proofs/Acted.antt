@@ -10,7 +10,7 @@ use Rattle.c_meaning.specs.declared.actions.Action.TheBlock.{hidden-the_row-Acti
 use Rattle.c_meaning.specs.declared.actions.Assignment.{Assignment}
 use Rattle.c_meaning.specs.declared.actions.Branch.{Branch}
 use Rattle.c_meaning.specs.declared.actions.Routine.{Routine}
-use Rattle.c_meaning.specs.Actions.{PlainActions, no_action, action, PlainBranches, no_branch, branch, chooses, turns, one, joined}
+use Rattle.c_meaning.specs.Actions.{PlainActions, no_action, action, PlainBranches, no_branch, branch, chooses, iterations, one, joined}
 use Rattle.c_meaning.specs.Resolve.{choice}
 use Rattle.c_meaning.specs.Shown.{plain_action, plain_row, plain_branches, plain_assignment, actions_of, branches_of, bodies_of}
 
@@ -30,9 +30,9 @@ unfolding plain_action
 plain_choose branches otherwise = ap₂ chooses (row_branches branches) (row_actions otherwise)
 
 pub plain_loop : (most : ℕ) (condition : SpExpr) (body : List Action) (step : Option Assignment)
-    → plain_action (Loop most condition body step) ≡ turns most (plain_sp condition) (actions_of body) (option_map plain_assignment step)
+    → plain_action (Loop most condition body step) ≡ iterations most (plain_sp condition) (actions_of body) (option_map plain_assignment step)
 unfolding plain_action
-plain_loop most condition body step = ap (λ b. turns most (plain_sp condition) b (option_map plain_assignment step)) (row_actions body)
+plain_loop most condition body step = ap (λ b. iterations most (plain_sp condition) b (option_map plain_assignment step)) (row_actions body)
 
 -- no branches, and what is chosen
 pub chosen_none : (branches : List Branch) (otherwise : PlainActions) → length branches ≡ 0 → choice (branches_of branches) otherwise ≡ otherwise

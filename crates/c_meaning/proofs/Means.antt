@@ -8,11 +8,11 @@ use Rattle.c_tree.specs.Plain as plain
 use Rattle.sp_tree.specs.Plain.{PlainSp, constant}
 use Rattle.c_meaning.specs.declared.ways.Way.{Way}
 use Rattle.c_meaning.specs.declared.ways.Way.TheVariants as way
-use Rattle.c_meaning.specs.Actions.{PlainTarget, to_level, PlainAssignment, turns, chooses, PlainActions, no_action, action, PlainBranches, no_branch, branch, one, joined}
-use Rattle.c_meaning.specs.Meaning.{Done, goes_on, in_world, with_level, with_variable, with_variable_set, with_element_set, right_given, declare_done, head_condition, head_begun, head_stepped, turns_done, then_done, most_turns, names_after, stmt_done, block_done, arms_done, otherwise_done, body_done, assigned, return_value}
+use Rattle.c_meaning.specs.Actions.{PlainTarget, to_level, PlainAssignment, iterations, chooses, PlainActions, no_action, action, PlainBranches, no_branch, branch, one, joined}
+use Rattle.c_meaning.specs.Meaning.{Done, goes_on, in_world, with_level, with_variable, with_variable_set, with_element_set, right_outcome, declare_done, head_condition, head_begun, head_stepped, iterations_done, then_done, most_iterations, names_after, stmt_done, block_done, arms_done, otherwise_done, body_done, assigned, return_value}
 use Rattle.c_tree.specs.Names.{number_of}
 use Rattle.c_meaning.specs.Resolve.{resolved, resolved_args, variable_target, element_target, assignment_to, maybe_sets, numbered_call, resolved_right, resolved_declaration, resolved_assignment, resolved_condition, resolved_begin, resolved_next, resolved_return, choice, resolved_stmt, resolved_block, resolved_arms, resolved_otherwise, resolved_body, numbered, calls_by, fresh_at}
-use Rattle.c_meaning.specs.Resolved.{Serves, worth, holds, args_worth, with_result, step_done, given_done, action_done, actions_done, branches_done}
+use Rattle.c_meaning.specs.Resolved.{Serves, worth, holds, args_worth, with_result, step_done, outcome_done, action_done, actions_done, branches_done}
 use Rattle.c_meaning.specs.Scope.{Stands, level, outside, nothing, slot_region, slot_word}
 use Rattle.c_meaning.specs.Values.{State, Names, named, expr_value}
 use Rattle.c_meaning.proofs.Worths.{worth_of, worth_of_args}
@@ -74,20 +74,20 @@ fresh_world None s = refl
 fresh_world (Some at) s = refl
 
 called_done : (g : Serves) (k : Option ℕ) (args : List PlainSp) (result : Option PlainTarget) (s : State)
-    → actions_done g (numbered_call k args result) s ≡ goes_on (given_done result s (numbered g k (args_worth args s) s.world))
+    → actions_done g (numbered_call k args result) s ≡ goes_on (outcome_done result s (numbered g k (args_worth args s) s.world))
 called_done g None args result s = sets_done g result (constant 0) s
 called_done g (Some k) args result s = refl
 
 right_done : (fs : List (List ℕ)) (names : Names) (fresh : Option ℕ) (result : Option PlainTarget) (r : PlainRight) (g : Serves) (s : State)
     → actions_done g (resolved_right fs names fresh result r) s
-    ≡ goes_on (given_done result s (right_given (calls_by fs g) names (fresh_at fresh s) r))
+    ≡ goes_on (outcome_done result s (right_outcome (calls_by fs g) names (fresh_at fresh s) r))
 right_done fs names fresh result (plain.value e) g s =
     sets_done g result (resolved names fresh e) s
     ∙ ap (λ n. goes_on (with_result result n s)) (worth_of names fresh e s)
     ∙ ap (λ w. goes_on (with_result result (expr_value names (fresh_at fresh s) e) (in_world s w))) (sym (fresh_world fresh s))
 right_done fs names fresh result (plain.call text args) g s =
     called_done g (number_of text fs) (resolved_args names fresh args) result s
-    ∙ ap₂ (λ ns w. goes_on (given_done result s (numbered g (number_of text fs) ns w))) (worth_of_args names fresh args s) (sym (fresh_world fresh s))
+    ∙ ap₂ (λ ns w. goes_on (outcome_done result s (numbered g (number_of text fs) ns w))) (worth_of_args names fresh args s) (sym (fresh_world fresh s))
 
 put_twice : (at n : ℕ) (f : ℕ → ℕ) → put at n f ≡ put at n (put at 0 f)
 put_twice at n f = λ i u. by (at == u) u i
@@ -100,7 +100,7 @@ declaration_done : (fs : List (List ℕ)) (names : Names) (at : ℕ) (r : Option
     → actions_done g (resolved_declaration fs names at r) s ≡ goes_on (declare_done (calls_by fs g) names at r s)
 declaration_done fs names at None g s = refl
 declaration_done fs names at (Some r) g s =
-    let given = right_given (calls_by fs g) names (with_level at 0 s) r in
+    let given = right_outcome (calls_by fs g) names (with_level at 0 s) r in
     right_done fs names (Some at) (Some (to_level at)) r g s
     ∙ ap (λ f. goes_on (record { locals = f; world = given.world })) (put_twice at given.value s.locals)
 
@@ -117,21 +117,21 @@ assignment_set names text e s =
     by (Some t) = refl
 
 step_is : (names : Names) (head : PlainHead) (s : State) → step_done (resolved_next names head) s ≡ head_stepped names head s
-step_is names (plain.turns_while condition) s = refl
-step_is names (plain.turns_for first from condition to_set to) s = assignment_set names to_set to s
+step_is names (plain.iterations_while condition) s = refl
+step_is names (plain.iterations_for first from condition to_set to) s = assignment_set names to_set to s
 
 maybe_done : (g : Serves) (a : Option PlainAssignment) (s : State) → actions_done g (maybe_sets a) s ≡ goes_on (step_done a s)
 maybe_done g None s = refl
 maybe_done g (Some a) s = refl
 
 begin_is : (names : Names) (head : PlainHead) (s : State) → step_done (resolved_begin names head) s ≡ head_begun names head s
-begin_is names (plain.turns_while condition) s = refl
-begin_is names (plain.turns_for first from condition to_set to) s = assignment_set names first from s
+begin_is names (plain.iterations_while condition) s = refl
+begin_is names (plain.iterations_for first from condition to_set to) s = assignment_set names first from s
 
 condition_is : (names : Names) (head : PlainHead) (s : State)
     → holds (resolved_condition names head) s ≡ is_true (expr_value names s (head_condition head))
-condition_is names (plain.turns_while condition) s = ap is_true (worth_of names None condition s)
-condition_is names (plain.turns_for first from condition to_set to) s = ap is_true (worth_of names None condition s)
+condition_is names (plain.iterations_while condition) s = ap is_true (worth_of names None condition s)
+condition_is names (plain.iterations_for first from condition to_set to) s = ap is_true (worth_of names None condition s)
 
 return_is : (names : Names) (e : Option PlainExpr) (s : State) → worth (resolved_return names e) s ≡ return_value names s e
 return_is names None s = refl
@@ -144,11 +144,11 @@ mutual
       → actions_done g (resolved_stmt fs names s) t ≡ stmt_done (calls_by fs g) names s t
   stmt_means fs names g (plain.declared kind text r) t = declaration_done fs (with_variable names kind text) (length names.variables) r g t
   stmt_means fs names g (plain.set text r) t =
-      let given = right_given (calls_by fs g) names t r in
+      let given = right_outcome (calls_by fs g) names t r in
       right_done fs names None (variable_target (named names text)) r g t
       ∙ ap goes_on (target_set (named names text) given.value (in_world t given.world))
   stmt_means fs names g (plain.set_element text index r) t =
-      let given = right_given (calls_by fs g) names t r in
+      let given = right_outcome (calls_by fs g) names t r in
       let behind = in_world t given.world in
       right_done fs names None (element_target (named names text) (resolved names None index)) r g t
       ∙ ap goes_on (element_set (named names text) (resolved names None index) (expr_value names behind index) given.value behind (worth_of names None index behind))
@@ -163,15 +163,15 @@ mutual
       ∙ arms_mean fs names g arms (actions_done g (resolved_otherwise fs names otherwise)) (otherwise_done (calls_by fs g) names otherwise)
       (λ i u. otherwise_means fs names g otherwise u i) t
   stmt_means fs names g (plain.looped bound head body) t =
-      let loop = turns (most_turns bound) (resolved_condition names head) (resolved_block fs names body) (resolved_next names head) in
+      let loop = iterations (most_iterations bound) (resolved_condition names head) (resolved_block fs names body) (resolved_next names head) in
       done_joined g (maybe_sets (resolved_begin names head)) (one loop) t
       ∙ ap (then_done (actions_done g (one loop))) (maybe_done g (resolved_begin names head) t ∙ ap goes_on (begin_is names head t))
       ∙ then_none g (action_done g loop (head_begun names head t))
-      ∙ ap (λ h. turns_done h (actions_done g (resolved_block fs names body)) (step_done (resolved_next names head)) (most_turns bound) (head_begun names head t))
+      ∙ ap (λ h. iterations_done h (actions_done g (resolved_block fs names body)) (step_done (resolved_next names head)) (most_iterations bound) (head_begun names head t))
       (λ i u. condition_is names head u i)
-      ∙ ap (λ f. turns_done (λ u. is_true (expr_value names u (head_condition head))) f (step_done (resolved_next names head)) (most_turns bound)
+      ∙ ap (λ f. iterations_done (λ u. is_true (expr_value names u (head_condition head))) f (step_done (resolved_next names head)) (most_iterations bound)
       (head_begun names head t)) (λ i u. block_means fs names g body u i)
-      ∙ ap (λ f. turns_done (λ u. is_true (expr_value names u (head_condition head))) (block_done (calls_by fs g) names body) f (most_turns bound)
+      ∙ ap (λ f. iterations_done (λ u. is_true (expr_value names u (head_condition head))) (block_done (calls_by fs g) names body) f (most_iterations bound)
       (head_begun names head t)) (λ i u. step_is names head u i)
   stmt_means fs names g plain.broken t = refl
   stmt_means fs names g plain.continued t = refl

@@ -5,7 +5,7 @@ use Rattle.std.specs.Option.{option_map}
 use Rattle.c_tree.specs.declared.layout.Slot.{Slot}
 use Rattle.c_tree.specs.Names.{Called, Found, last_named, number_of}
 use Rattle.c_tree.proofs.LastNamed.{mapped, last_mapped, number_among}
-use Rattle.c_names.specs.Open.{told, found_among}
+use Rattle.c_names.specs.Open.{met_as, found_among}
 use Rattle.c_meaning.specs.Entries.{shown_open}
 use Rattle.c_meaning.specs.Scope.{Variable, Stands, level, among_slots, stands}
 
@@ -17,7 +17,7 @@ pub number_found : {T : Type 0} → (name : List ℕ) (names : List (Called T)) 
 number_found {T = T} name names f is =
     ap (option_map (λ t. t.0)) is ∙ by (last_named (λ n. n.name) 0 name names) ∙ sym (number_among (λ n. n.name) name names)
   where
-    by : (l : Option (Found (Called T))) → option_map (λ t. t.0) (option_map told l) ≡ option_map (λ x. x.at) l
+    by : (l : Option (Found (Called T))) → option_map (λ t. t.0) (option_map met_as l) ≡ option_map (λ x. x.at) l
     by None = refl
     by (Some x) = refl
 
@@ -35,6 +35,6 @@ found_stands name slots names f is =
     or_outside : Option (Found Variable) → Stands
     or_outside l = elim l as (λ _. Stands) [ Some v ↦ level v.at v.is.unsigned | None ↦ among_slots name slots ]
 
-    by : (l : Option (Found (Called Bool))) → stands_as (option_map told l) (among_slots name slots) ≡ or_outside (option_map (mapped shown_open) l)
+    by : (l : Option (Found (Called Bool))) → stands_as (option_map met_as l) (among_slots name slots) ≡ or_outside (option_map (mapped shown_open) l)
     by None = refl
     by (Some v) = refl

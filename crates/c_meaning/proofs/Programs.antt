@@ -11,10 +11,10 @@ use Rattle.c_tree.specs.Plain as plain
 use Rattle.c_world.specs.World.{World}
 use Rattle.c_tree.proofs.LastNamed.{number_pushed, number_within}
 use Rattle.c_meaning.specs.Actions.{PlainActions, no_action}
-use Rattle.c_meaning.specs.Meaning.{Done, Given, Calls, calls_with, calls_of, function_given, parameter_variables, way_value, program_given}
+use Rattle.c_meaning.specs.Meaning.{Done, Outcome, Calls, calls_with, calls_of, function_outcome, parameter_variables, way_value, program_outcome}
 use Rattle.c_tree.specs.Names.{number_of}
 use Rattle.c_meaning.specs.Resolve.{resolved_body, resolved_items, names_in, numbered, calls_by}
-use Rattle.c_meaning.specs.Resolved.{Serves, serves, routine_given}
+use Rattle.c_meaning.specs.Resolved.{Serves, serves, routine_outcome}
 use Rattle.c_meaning.proofs.Means.{body_means}
 
 -- ---- numbers of functions
@@ -32,34 +32,34 @@ serves_front rs more zero within = refl
 serves_front rs more (suc n) within =
     let before = serves_front rs more n (omega arith) in
     let body : slice_index_or (rs ++ more) n no_action ≡ slice_index_or rs n no_action = get_or_append_left rs more no_action n (omega arith) in
-    let next : Serves → PlainActions → Serves = λ g b k args world. if k == n then routine_given g b args world else g k args world in
+    let next : Serves → PlainActions → Serves = λ g b k args world. if k == n then routine_outcome g b args world else g k args world in
     ap₂ next before body
 
 serves_last : (rs : List PlainActions) (r : PlainActions) (n : ℕ) (args : List ℕ) (world : World) → length rs ≡ n
-    → serves (rs ++ r ∷ []) (suc n) n args world ≡ routine_given (serves rs n) r args world
+    → serves (rs ++ r ∷ []) (suc n) n args world ≡ routine_outcome (serves rs n) r args world
 serves_last rs r n args world count =
     let first : n - n ≡ 0 = omega arith in
     let body : slice_index_or (rs ++ r ∷ []) n no_action ≡ r =
     get_or-append_right rs (r ∷ []) n n no_action count (omega arith) ∙ ap (λ i. slice_index_or (r ∷ []) i no_action) first in
-    ap (λ b. if b then routine_given (serves (rs ++ r ∷ []) n) (slice_index_or (rs ++ r ∷ []) n no_action) args world
+    ap (λ b. if b then routine_outcome (serves (rs ++ r ∷ []) n) (slice_index_or (rs ++ r ∷ []) n no_action) args world
     else serves (rs ++ r ∷ []) n n args world) (eq-eqb n n refl)
-    ∙ ap₂ (λ g b. routine_given g b args world) (serves_front rs (r ∷ []) n (omega arith)) body
+    ∙ ap₂ (λ g b. routine_outcome g b args world) (serves_front rs (r ∷ []) n (omega arith)) body
 
 serves_earlier : (rs : List PlainActions) (r : PlainActions) (n k : ℕ) (args : List ℕ) (world : World) → length rs ≡ n → k < n
     → serves (rs ++ r ∷ []) (suc n) k args world ≡ serves rs n k args world
 serves_earlier rs r n k args world count below =
     let other : k ≢ n = omega arith in
-    ap (λ b. if b then routine_given (serves (rs ++ r ∷ []) n) (slice_index_or (rs ++ r ∷ []) n no_action) args world
+    ap (λ b. if b then routine_outcome (serves (rs ++ r ∷ []) n) (slice_index_or (rs ++ r ∷ []) n no_action) args world
     else serves (rs ++ r ∷ []) n k args world) (ne_eqb k n other)
     ∙ ap (λ (g : Serves). g k args world) (serves_front rs (r ∷ []) n (omega arith))
 
 -- ---- one function more
 
 routine_means : (slots : List Slot) (fs : List (List ℕ)) (g : Serves) (parameters : List Parameter) (body : List PlainStmt) (args : List ℕ) (world : World)
-    → routine_given g (resolved_body fs (record { slots = slots; variables = parameter_variables parameters }) body) args world
-    ≡ function_given slots (calls_by fs g) parameters body args world
+    → routine_outcome g (resolved_body fs (record { slots = slots; variables = parameter_variables parameters }) body) args world
+    ≡ function_outcome slots (calls_by fs g) parameters body args world
 routine_means slots fs g parameters body args world =
-    ap (λ (d : Done). let given : Given = record { value = way_value d.way; world = d.state.world } in given)
+    ap (λ (d : Done). let given : Outcome = record { value = way_value d.way; world = d.state.world } in given)
     (body_means fs (record { slots = slots; variables = parameter_variables parameters }) g body (record { locals = slice_index args; world = world }))
 
 one_more : (slots : List Slot) (fs : List (List ℕ)) (rs : List PlainActions) (n : ℕ) (kind : Option Kind) (its_name : List ℕ) (void_word : Bool)
@@ -78,7 +78,7 @@ one_more slots fs rs n kind its_name void_word parameters body count_fs count_rs
     earlier (Some k) args world below = sym (serves_earlier rs r n k args world count_rs (below k refl))
 
     by : (b : Bool) (text args : List ℕ) (world : World) → bytes_eq its_name text ≡ b
-        → (if b then function_given slots (calls_by fs (serves rs n)) parameters body args world else calls_by fs (serves rs n) text args world)
+        → (if b then function_outcome slots (calls_by fs (serves rs n)) parameters body args world else calls_by fs (serves rs n) text args world)
         ≡ numbered (serves (rs ++ r ∷ []) (suc n)) (number_of text (fs ++ its_name ∷ [])) args world
     by true text args world is =
         sym (ap (λ k. numbered (serves (rs ++ r ∷ []) (suc n)) k args world) (number_same text fs its_name is ∙ ap Some count_fs)
@@ -111,7 +111,7 @@ items_mean slots fs rs n (plain.function kind its_name void_word parameters body
     (is_all ∙ sym (append_assoc rs (r ∷ []) (resolved_items slots (fs ++ its_name ∷ []) items)))
 
 pub program_means : (items : List PlainItem) (world : World)
-    → program_given items world
+    → program_outcome items world
     ≡ numbered (serves (resolved_items (layout_of items) [] items) (length (resolved_items (layout_of items) [] items)))
     (number_of (codes "main") (names_in items)) [] world
 program_means items world =

@@ -14,8 +14,8 @@ use Rattle.c_tree.specs.declared.statements.Stmt.TheViews.{If, Loop, Inner}
 use Rattle.c_tree.specs.Plain.{PlainStmt, plain_expr, plain_right, plain_head, plain_stmt}
 use Rattle.c_tree.specs.Plain as tree
 use Rattle.c_tree.proofs.Plains.{block_of, arms_of, otherwise_of, plain_inner, plain_loop, plain_if}
-use Rattle.c_meaning.specs.Actions.{no_action, transfers, turns, breaks, continues, returns, branch, one, joined}
-use Rattle.c_meaning.specs.Meaning.{with_variable, names_after, most_turns}
+use Rattle.c_meaning.specs.Actions.{no_action, transfers, iterations, breaks, continues, returns, branch, one, joined}
+use Rattle.c_meaning.specs.Meaning.{with_variable, names_after, most_iterations}
 use Rattle.c_meaning.specs.Open.{closed}
 use Rattle.c_tree.specs.Names.{number_of}
 use Rattle.c_meaning.specs.Resolve.{resolved, resolved_args, variable_target, element_target, maybe_sets, numbered_call, resolved_right, resolved_declaration, resolved_condition, resolved_begin, resolved_next, resolved_return, choice, resolved_stmt, resolved_block, resolved_arms, resolved_otherwise, resolved_body}
@@ -67,7 +67,7 @@ if_else_resolved fs names s arms otherwise body is some =
 pub loop_resolved : (fs : List (List ℕ)) (names : Names) (s : Stmt) (bound : Option Bound) (head : Head) (body : List Stmt) → s ≡ Loop bound head body
     → resolved_stmt fs names (plain_stmt s)
     ≡ joined (maybe_sets (resolved_begin names (plain_head head)))
-    (one (turns (most_turns bound) (resolved_condition names (plain_head head)) (resolved_block fs names (block_of body)) (resolved_next names (plain_head head))))
+    (one (iterations (most_iterations bound) (resolved_condition names (plain_head head)) (resolved_block fs names (block_of body)) (resolved_next names (plain_head head))))
 loop_resolved fs names s bound head body is =
     ap (λ x. resolved_stmt fs names (plain_stmt x)) is ∙ ap (resolved_stmt fs names) (plain_loop bound head body)
 

@@ -22,7 +22,7 @@ mutual
     calls : ℕ → List PlainSp → Option PlainTarget → PlainAction
     transfers : ℕ → PlainSp → PlainSp → PlainSp → PlainAction
     chooses : PlainBranches → PlainActions → PlainAction
-    turns : ℕ → PlainSp → PlainActions → Option PlainAssignment → PlainAction
+    iterations : ℕ → PlainSp → PlainActions → Option PlainAssignment → PlainAction
     breaks : PlainAction
     continues : PlainAction
     returns : PlainSp → PlainAction

@@ -1,10 +1,10 @@
--- To be believed. What a C task begins with, and what is told of it at its end.
+-- To be believed. What a C task begins with, and what is reported of it at its end.
 use Rattle.std.specs.Prelude.{ℕ, ◌-◌, nat_lt, nat_le, false, ◌&&◌, if◌then◌else◌, List, [], length, slice_index}
 use Rattle.local_store.specs.declared.store.TheConstants.{FIRST_DATA_WORD}
 use Rattle.c_world.specs.World.{World}
 use Rattle.c_tree.specs.Plain.{PlainItem}
 use Rattle.c_tree.specs.Layout.{initial_of, input_of}
-use Rattle.c_meaning.specs.Meaning.{Given, program_given}
+use Rattle.c_meaning.specs.Meaning.{Outcome, program_outcome}
 
 -- private memory: the first values from the first data word on, and the input over them as far as its array reaches
 abbrev pub begun_private : List PlainItem → List ℕ → ℕ → ℕ
@@ -26,5 +26,5 @@ begun items input shared comm = record {
 }
 
 -- what a task means on its input: the value of `main`, and the world after it
-abbrev pub meaning : List PlainItem → List ℕ → (ℕ → ℕ) → (ℕ → ℕ) → Given
-meaning items input shared comm = program_given items (begun items input shared comm)
+abbrev pub meaning : List PlainItem → List ℕ → (ℕ → ℕ) → (ℕ → ℕ) → Outcome
+meaning items input shared comm = program_outcome items (begun items input shared comm)

@@ -24,13 +24,13 @@ pub record Done : Type 0 where
   pub state : State
 
 -- what a function gives, and the world after it
-pub record Given : Type 0 where
+pub record Outcome : Type 0 where
   pub value : ℕ
   pub world : World
 
 -- what the earlier functions of a program give: of a name and arguments, in a world
 abbrev pub Calls : Type 0
-Calls = List ℕ → List ℕ → World → Given
+Calls = List ℕ → List ℕ → World → Outcome
 
 abbrev pub goes_on : State → Done
 goes_on s = record { way = way.On; state = s }
@@ -64,29 +64,29 @@ abbrev pub in_world : State → World → State
 in_world s world = record s { world = world }
 
 -- what a right side gives: a value, and the world after it where a function was called
-abbrev pub call_given : Calls → Names → State → List ℕ → List PlainExpr → Given
-call_given calls names s text args = calls text (args_value names s args) s.world
+abbrev pub call_outcome : Calls → Names → State → List ℕ → List PlainExpr → Outcome
+call_outcome calls names s text args = calls text (args_value names s args) s.world
 
-abbrev pub right_given : Calls → Names → State → PlainRight → Given
-right_given calls names s (plain.value e) = record { value = expr_value names s e; world = s.world }
-right_given calls names s (plain.call text args) = call_given calls names s text args
+abbrev pub right_outcome : Calls → Names → State → PlainRight → Outcome
+right_outcome calls names s (plain.value e) = record { value = expr_value names s e; world = s.world }
+right_outcome calls names s (plain.call text args) = call_outcome calls names s text args
 
 -- a declaration: the new variable is 0, and so it stands in its own first value
 abbrev pub declare_done : Calls → Names → ℕ → Option PlainRight → State → State
 declare_done calls names at None s = with_level at 0 s
 declare_done calls names at (Some r) s =
     let fresh = with_level at 0 s in
-    let given = right_given calls names fresh r in
+    let given = right_outcome calls names fresh r in
     with_level at given.value (in_world fresh given.world)
 
 abbrev pub set_done : Calls → Names → List ℕ → PlainRight → State → State
 set_done calls names text r s =
-    let given = right_given calls names s r in with_variable_set (named names text) given.value (in_world s given.world)
+    let given = right_outcome calls names s r in with_variable_set (named names text) given.value (in_world s given.world)
 
 -- the right side comes before the index
 abbrev pub set_element_done : Calls → Names → List ℕ → PlainExpr → PlainRight → State → State
 set_element_done calls names text index r s =
-    let given = right_given calls names s r in
+    let given = right_outcome calls names s r in
     let behind = in_world s given.world in
     with_element_set (named names text) (expr_value names behind index) given.value behind
 
@@ -95,37 +95,37 @@ assigned names text e s = with_variable_set (named names text) (expr_value names
 
 -- ---- loops
 
--- the condition of a loop, what stands before its first turn, and what stands after each
+-- the condition of a loop, what stands before its first iteration, and what stands after each
 abbrev pub head_condition : PlainHead → PlainExpr
-head_condition (plain.turns_while condition) = condition
-head_condition (plain.turns_for first from condition to_set to) = condition
+head_condition (plain.iterations_while condition) = condition
+head_condition (plain.iterations_for first from condition to_set to) = condition
 
 abbrev pub head_begun : Names → PlainHead → State → State
-head_begun names (plain.turns_while condition) s = s
-head_begun names (plain.turns_for first from condition to_set to) s = assigned names first from s
+head_begun names (plain.iterations_while condition) s = s
+head_begun names (plain.iterations_for first from condition to_set to) s = assigned names first from s
 
 abbrev pub head_stepped : Names → PlainHead → State → State
-head_stepped names (plain.turns_while condition) s = s
-head_stepped names (plain.turns_for first from condition to_set to) s = assigned names to_set to s
+head_stepped names (plain.iterations_while condition) s = s
+head_stepped names (plain.iterations_for first from condition to_set to) s = assigned names to_set to s
 
--- so many turns at most: before each the condition is tested. Where it still holds after the last, the loop ends and
+-- so many iterations at most: before each the condition is tested. Where it still holds after the last, the loop ends and
 -- the flag is set; a loop that is left otherwise sets nothing. `continue` goes to the step
-abbrev pub turn_done : (State → Done) → (State → State) → Done → Done
-turn_done more step d = elim d.way as (λ _. Done) [
+abbrev pub iteration_done : (State → Done) → (State → State) → Done → Done
+iteration_done more step d = elim d.way as (λ _. Done) [
   | way.On ↦ more (step d.state)
   | way.Broken ↦ goes_on d.state
   | way.Continued ↦ more (step d.state)
   | way.Returned value ↦ d
 ]
 
-abbrev pub turns_done : (State → Bool) → (State → Done) → (State → State) → ℕ → State → Done
-turns_done holds body step zero s = goes_on (in_world s (with_overrun (holds s) s.world))
-turns_done holds body step (suc n) s =
-    elim (holds s) as (λ _. Done) [ true ↦ turn_done (turns_done holds body step n) step (body s) | false ↦ goes_on s ]
+abbrev pub iterations_done : (State → Bool) → (State → Done) → (State → State) → ℕ → State → Done
+iterations_done holds body step zero s = goes_on (in_world s (with_overrun (holds s) s.world))
+iterations_done holds body step (suc n) s =
+    elim (holds s) as (λ _. Done) [ true ↦ iteration_done (iterations_done holds body step n) step (body s) | false ↦ goes_on s ]
 
-abbrev pub most_turns : Option Bound → ℕ
-most_turns None = 0
-most_turns (Some b) = b.max
+abbrev pub most_iterations : Option Bound → ℕ
+most_iterations None = 0
+most_iterations (Some b) = b.max
 
 -- ---- statements
 
@@ -158,14 +158,14 @@ abbrev mutual
       goes_on (declare_done calls (with_variable names kind text) (length names.variables) r s)
   stmt_done calls names (plain.set text r) s = goes_on (set_done calls names text r s)
   stmt_done calls names (plain.set_element text index r) s = goes_on (set_element_done calls names text index r s)
-  stmt_done calls names (plain.called text args) s = goes_on (in_world s (call_given calls names s text args).world)
+  stmt_done calls names (plain.called text args) s = goes_on (in_world s (call_outcome calls names s text args).world)
   stmt_done calls names (plain.sent core core_unsigned source target count) s =
       goes_on (send_done names core source target count s)
   stmt_done calls names (plain.chosen arms otherwise) s =
       arms_done calls names arms (otherwise_done calls names otherwise) s
   stmt_done calls names (plain.looped bound head body) s =
-      turns_done (λ t. is_true (expr_value names t (head_condition head))) (block_done calls names body)
-      (head_stepped names head) (most_turns bound)
+      iterations_done (λ t. is_true (expr_value names t (head_condition head))) (block_done calls names body)
+      (head_stepped names head) (most_iterations bound)
       (head_begun names head s)
   stmt_done calls names plain.broken s = record { way = way.Broken; state = s }
   stmt_done calls names plain.continued s = record { way = way.Continued; state = s }
@@ -208,8 +208,8 @@ way_value (way.Returned value) = value
 way_value _ = 0
 
 -- the parameters have the arguments' words, by their levels
-abbrev pub function_given : List Slot → Calls → List Parameter → List PlainStmt → List ℕ → World → Given
-function_given slots calls parameters body args world =
+abbrev pub function_outcome : List Slot → Calls → List Parameter → List PlainStmt → List ℕ → World → Outcome
+function_outcome slots calls parameters body args world =
     let done = body_done calls (record { slots = slots; variables = parameter_variables parameters }) body
     (record { locals = slice_index args; world = world }) in
     record { value = way_value done.way; world = done.state.world }
@@ -222,7 +222,7 @@ no_calls text args world = record { value = 0; world = world }
 abbrev pub calls_with : List Slot → Calls → PlainItem → Calls
 calls_with slots calls (plain.global of) text args world = calls text args world
 calls_with slots calls (plain.function kind its_name void_word parameters body) text args world =
-    if bytes_eq its_name text then function_given slots calls parameters body args world else calls text args world
+    if bytes_eq its_name text then function_outcome slots calls parameters body args world else calls text args world
 
 abbrev pub calls_of : List Slot → Calls → List PlainItem → Calls
 calls_of slots calls [] = calls
@@ -231,5 +231,5 @@ calls_of slots calls (i ∷ items) = calls_of slots (calls_with slots calls i) i
 -- ---- programs
 
 -- what `main` gives in a world
-abbrev pub program_given : List PlainItem → World → Given
-program_given items world = calls_of (layout_of items) no_calls items (codes "main") [] world
+abbrev pub program_outcome : List PlainItem → World → Outcome
+program_outcome items world = calls_of (layout_of items) no_calls items (codes "main") [] world

@@ -15,8 +15,8 @@ use Rattle.sp_tree.specs.declared.expressions.SpCell.{SpCell}
 use Rattle.sp_tree.specs.declared.operators.SpBinary.{SpBinary}
 use Rattle.sp_tree.specs.declared.operators.SpBinary.TheVariants as sp
 use Rattle.sp_tree.specs.declared.operators.SpUnary.TheVariants as sp_unary
-use Rattle.c_meaning.specs.Actions.{PlainTarget, to_level, to_cell, to_array, PlainAssignment, sets, calls, transfers, chooses, turns, breaks, continues, returns, PlainActions, no_action, PlainBranches, no_branch, branch, one, joined}
-use Rattle.c_meaning.specs.Meaning.{Given, Calls, with_variable, names_after, most_turns, parameter_variables, with_level}
+use Rattle.c_meaning.specs.Actions.{PlainTarget, to_level, to_cell, to_array, PlainAssignment, sets, calls, transfers, chooses, iterations, breaks, continues, returns, PlainActions, no_action, PlainBranches, no_branch, branch, one, joined}
+use Rattle.c_meaning.specs.Meaning.{Outcome, Calls, with_variable, names_after, most_iterations, parameter_variables, with_level}
 use Rattle.c_meaning.specs.Operators.{works_unsigned, gives_unsigned}
 use Rattle.c_meaning.specs.Resolved.{Serves}
 use Rattle.c_meaning.specs.Scope.{Stands, level, outside, nothing, slot_region, slot_word}
@@ -158,16 +158,16 @@ abbrev pub resolved_assignment : Names → List ℕ → PlainExpr → Option Pla
 resolved_assignment names text e = assignment_to (variable_target (named names text)) (resolved names None e)
 
 abbrev pub resolved_condition : Names → PlainHead → PlainSp
-resolved_condition names (plain.turns_while condition) = resolved names None condition
-resolved_condition names (plain.turns_for first from condition to_set to) = resolved names None condition
+resolved_condition names (plain.iterations_while condition) = resolved names None condition
+resolved_condition names (plain.iterations_for first from condition to_set to) = resolved names None condition
 
 abbrev pub resolved_begin : Names → PlainHead → Option PlainAssignment
-resolved_begin names (plain.turns_while condition) = None
-resolved_begin names (plain.turns_for first from condition to_set to) = resolved_assignment names first from
+resolved_begin names (plain.iterations_while condition) = None
+resolved_begin names (plain.iterations_for first from condition to_set to) = resolved_assignment names first from
 
 abbrev pub resolved_next : Names → PlainHead → Option PlainAssignment
-resolved_next names (plain.turns_while condition) = None
-resolved_next names (plain.turns_for first from condition to_set to) = resolved_assignment names to_set to
+resolved_next names (plain.iterations_while condition) = None
+resolved_next names (plain.iterations_for first from condition to_set to) = resolved_assignment names to_set to
 
 abbrev pub resolved_return : Names → Option PlainExpr → PlainSp
 resolved_return names None = constant 0
@@ -188,7 +188,7 @@ abbrev mutual
       choice (resolved_arms fs names arms) (resolved_otherwise fs names otherwise)
   resolved_stmt fs names (plain.looped bound head body) =
       joined (maybe_sets (resolved_begin names head))
-      (one (turns (most_turns bound) (resolved_condition names head) (resolved_block fs names body)
+      (one (iterations (most_iterations bound) (resolved_condition names head) (resolved_block fs names body)
       (resolved_next names head)))
   resolved_stmt fs names plain.broken = one breaks
   resolved_stmt fs names plain.continued = one continues
@@ -238,7 +238,7 @@ resolved_items slots fs (plain.function kind its_name void_word parameters body 
 -- ---- what resolved names are to mean
 
 -- calls by name, from calls by number
-abbrev pub numbered : Serves → Option ℕ → List ℕ → World → Given
+abbrev pub numbered : Serves → Option ℕ → List ℕ → World → Outcome
 numbered g None args world = record { value = 0; world = world }
 numbered g (Some k) args world = g k args world
 

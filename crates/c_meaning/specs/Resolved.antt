@@ -5,13 +5,13 @@ use Rattle.c_world.specs.World.{World, with_word, with_element, with_send}
 use Rattle.sp_tree.specs.Plain.{PlainSp}
 use Rattle.sp_tree.specs.Values.{sp_value}
 use Rattle.c_meaning.specs.declared.ways.Way.TheVariants as way
-use Rattle.c_meaning.specs.Actions.{PlainTarget, to_level, to_cell, to_array, PlainAssignment, PlainAction, sets, calls, transfers, chooses, turns, breaks, continues, returns, PlainActions, no_action, action, PlainBranches, no_branch, branch}
+use Rattle.c_meaning.specs.Actions.{PlainTarget, to_level, to_cell, to_array, PlainAssignment, PlainAction, sets, calls, transfers, chooses, iterations, breaks, continues, returns, PlainActions, no_action, action, PlainBranches, no_branch, branch}
 use Rattle.c_meaning.specs.Values.{State}
-use Rattle.c_meaning.specs.Meaning.{Done, Given, goes_on, in_world, with_level, turns_done, then_done, way_value}
+use Rattle.c_meaning.specs.Meaning.{Done, Outcome, goes_on, in_world, with_level, iterations_done, then_done, way_value}
 
 -- what functions give, by their numbers
 abbrev pub Serves : Type 0
-Serves = ℕ → List ℕ → World → Given
+Serves = ℕ → List ℕ → World → Outcome
 
 abbrev pub worth : PlainSp → State → ℕ
 worth e s = sp_value s.locals s.world e
@@ -42,8 +42,8 @@ step_done None s = s
 step_done (Some a) s = assignment_done a s
 
 -- what a function gave is set after the call
-abbrev pub given_done : Option PlainTarget → State → Given → State
-given_done result s given = with_result result given.value (in_world s given.world)
+abbrev pub outcome_done : Option PlainTarget → State → Outcome → State
+outcome_done result s given = with_result result given.value (in_world s given.world)
 
 abbrev pub transfer_done : ℕ → PlainSp → PlainSp → PlainSp → State → State
 transfer_done core source target count s =
@@ -52,11 +52,11 @@ transfer_done core source target count s =
 abbrev mutual
   pub action_done : Serves → PlainAction → State → Done
   action_done g (sets assignment) s = goes_on (assignment_done assignment s)
-  action_done g (calls k args result) s = goes_on (given_done result s (g k (args_worth args s) s.world))
+  action_done g (calls k args result) s = goes_on (outcome_done result s (g k (args_worth args s) s.world))
   action_done g (transfers core source target count) s = goes_on (transfer_done core source target count s)
   action_done g (chooses branches otherwise) s = branches_done g branches (actions_done g otherwise) s
-  action_done g (turns most condition body step) s =
-      turns_done (holds condition) (actions_done g body) (step_done step) most s
+  action_done g (iterations most condition body step) s =
+      iterations_done (holds condition) (actions_done g body) (step_done step) most s
   action_done g breaks s = record { way = way.Broken; state = s }
   action_done g continues s = record { way = way.Continued; state = s }
   action_done g (returns e) s = record { way = way.Returned (worth e s); state = s }
@@ -76,8 +76,8 @@ abbrev mutual
 
 -- ---- functions in order, of which each calls the earlier ones
 
-abbrev pub routine_given : Serves → PlainActions → List ℕ → World → Given
-routine_given g body args world =
+abbrev pub routine_outcome : Serves → PlainActions → List ℕ → World → Outcome
+routine_outcome g body args world =
     let done = actions_done g body (record { locals = slice_index args; world = world }) in
     record { value = way_value done.way; world = done.state.world }
 
@@ -85,4 +85,4 @@ routine_given g body args world =
 abbrev pub serves : List PlainActions → ℕ → Serves
 serves fs zero k args world = record { value = 0; world = world }
 serves fs (suc n) k args world =
-    if k == n then routine_given (serves fs n) (slice_index_or fs n no_action) args world else serves fs n k args world
+    if k == n then routine_outcome (serves fs n) (slice_index_or fs n no_action) args world else serves fs n k args world

@@ -8,7 +8,7 @@ use Rattle.c_meaning.specs.declared.actions.Branch.{Branch}
 use Rattle.c_meaning.specs.declared.actions.Routine.{Routine}
 use Rattle.c_meaning.specs.declared.actions.Target.{Target}
 use Rattle.c_meaning.specs.declared.actions.Target.TheVariants as target
-use Rattle.c_meaning.specs.Actions.{PlainTarget, to_level, to_cell, to_array, PlainAssignment, PlainAction, sets, calls, transfers, chooses, turns, breaks, continues, returns, PlainActions, no_action, action, PlainBranches, no_branch, branch}
+use Rattle.c_meaning.specs.Actions.{PlainTarget, to_level, to_cell, to_array, PlainAssignment, PlainAction, sets, calls, transfers, chooses, iterations, breaks, continues, returns, PlainActions, no_action, action, PlainBranches, no_branch, branch}
 
 abbrev pub plain_target : Target → PlainTarget
 plain_target (target.Variable level) = to_level level.number
@@ -26,7 +26,7 @@ unfoldable mutual
   plain_action (Send core source aim count) = transfers core (plain_sp source) (plain_sp aim) (plain_sp count)
   plain_action (Choose' l branches k otherwise) = chooses (plain_branches branches) (plain_row otherwise)
   plain_action (Loop' most condition l body step) =
-      turns most (plain_sp condition) (plain_row body) (option_map plain_assignment step)
+      iterations most (plain_sp condition) (plain_row body) (option_map plain_assignment step)
   plain_action Break = breaks
   plain_action Continue = continues
   plain_action (Return e) = returns (plain_sp e)
@@ -40,7 +40,7 @@ unfoldable mutual
   plain_branches (more_of-Branch condition l body rest) =
       branch (plain_sp condition) (plain_row body) (plain_branches rest)
 
--- the same of plain lists
+-- plain actions of a plain list
 abbrev pub actions_of : List Action → PlainActions
 actions_of [] = no_action
 actions_of (a ∷ rest) = action (plain_action a) (actions_of rest)

@@ -38,11 +38,11 @@ abbrev pub block_of : List PlainStmt → PlainBlock
 block_of [] = plain.no_stmt
 block_of (s ∷ body) = plain.stmt s (block_of body)
 
--- a loop that turns so often at most: `for (i = 0; i < 10; i = i + 1) { BODY }`
-abbrev pub ten_turns : ℕ → List PlainStmt → PlainStmt
-ten_turns most body =
+-- a loop of so many iterations at most: `for (i = 0; i < 10; i = i + 1) { BODY }`
+abbrev pub ten_iterations : ℕ → List PlainStmt → PlainStmt
+ten_iterations most body =
     plain.looped (Some (record { min = 0; max = most }))
-    (plain.turns_for (codes "i") (number 0) (between 7 binary.Less (variable (codes "i")) (number 10)) (codes "i")
+    (plain.iterations_for (codes "i") (number 0) (between 7 binary.Less (variable (codes "i")) (number 10)) (codes "i")
     (between 9 binary.Plus (variable (codes "i")) (number 1)))
     (block_of body)
 
@@ -53,19 +53,19 @@ main_of body = function_of (codes "main") [] body
 abbrev pub sum_program : ℕ → List PlainItem
 sum_program most = main_of (
     declared (codes "s") (number 0) ∷ declared (codes "i") (number 0)
-    ∷ ten_turns most (set_to (codes "s") (between 9 binary.Plus (variable (codes "s")) (variable (codes "i"))) ∷ [])
+    ∷ ten_iterations most (set_to (codes "s") (between 9 binary.Plus (variable (codes "s")) (variable (codes "i"))) ∷ [])
     ∷ returned (variable (codes "s")) ∷ []) ∷ []
 
 -- `int main() { int i = 0; for (i = 0; i < 10; i = i + 1) { continue; i = 20; } return i; }`
 abbrev pub continue_program : List PlainItem
 continue_program = main_of (
-    declared (codes "i") (number 0) ∷ ten_turns 10 (plain.continued ∷ set_to (codes "i") (number 20) ∷ [])
+    declared (codes "i") (number 0) ∷ ten_iterations 10 (plain.continued ∷ set_to (codes "i") (number 20) ∷ [])
     ∷ returned (variable (codes "i")) ∷ []) ∷ []
 
--- `int main() { while (1) { BODY } }`, which turns so often at most
-abbrev pub turning_program : ℕ → List PlainStmt → List PlainItem
-turning_program most body =
-    main_of (plain.looped (Some (record { min = 0; max = most })) (plain.turns_while (number 1)) (block_of body) ∷ [])
+-- `int main() { while (1) { BODY } }`, of so many iterations at most
+abbrev pub iterating_program : ℕ → List PlainStmt → List PlainItem
+iterating_program most body =
+    main_of (plain.looped (Some (record { min = 0; max = most })) (plain.iterations_while (number 1)) (block_of body) ∷ [])
     ∷ []
 
 -- `int x = 7; int main() { int x = VALUE; return x; }`

@@ -78,7 +78,7 @@ pub enum Action {
         branches: List<Branch>,
         otherwise: List<Action>,
     },
-    /// So many turns at most, with what is set after each, if anything.
+    /// So many iterations at most, with what is set after each, if anything.
     Loop {
         max: u32,
         condition: SpExpr,

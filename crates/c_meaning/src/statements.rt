@@ -184,8 +184,8 @@ fn condition_of(alloc: Global, scope: &Scope<'_>, head: &Head) -> Result<SpExpr,
     }
 }
 
-fn most_turns(bound: Option<Bound>) -> u32
-    ensures { result ≡ meaning.most_turns bound }
+fn most_iterations(bound: Option<Bound>) -> u32
+    ensures { result ≡ meaning.most_iterations bound }
 {
     match bound {
         None => 0,
@@ -346,7 +346,7 @@ fn stmt<'a>(
     }
 }
 
-// a loop, and what is set before its first turn
+// a loop, and what is set before its first iteration
 #[cycle(statement)]
 #[tactic(auto)]
 fn repeat<'a>(
@@ -369,7 +369,7 @@ fn repeat<'a>(
     let condition = condition_of(alloc, scope, head)?;
     let step = next(alloc, scope, head)?;
     let body = block(alloc, scope, body)?;
-    let max = most_turns(bound);
+    let max = most_iterations(bound);
     add(
         out,
         Action::Loop {

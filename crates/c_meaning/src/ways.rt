@@ -5,7 +5,7 @@ pub enum Way {
     On,
     /// Out of the innermost loop.
     Broken,
-    /// To the next turn of the innermost loop.
+    /// To the next iteration of the innermost loop.
     Continued,
     /// Out of the function, with a word.
     Returned { value: u32 },

@@ -28,11 +28,11 @@ pub fn worked_loops()
     ensures cut_off { (meaning (small.sum_program 5) [] (λ _. 0) (λ _. 0)).value ≡ 10 }
     ensures overran { (meaning (small.sum_program 5) [] (λ _. 0) (λ _. 0)).world.overrun ≡ true }
     ensures to_the_step { (meaning small.continue_program [] (λ _. 0) (λ _. 0)).value ≡ 10 }
-    ensures broken { (meaning (small.turning_program 1 (plain.broken ∷ [])) [] (λ _. 0) (λ _. 0)).world.overrun
+    ensures broken { (meaning (small.iterating_program 1 (plain.broken ∷ [])) [] (λ _. 0) (λ _. 0)).world.overrun
         ≡ false }
-    ensures no_turn { (meaning (small.turning_program 0 (plain.broken ∷ [])) [] (λ _. 0) (λ _. 0)).world.overrun
+    ensures no_iteration { (meaning (small.iterating_program 0 (plain.broken ∷ [])) [] (λ _. 0) (λ _. 0)).world.overrun
         ≡ true }
-    ensures no_return { (meaning (small.turning_program 1 (plain.broken ∷ [])) [] (λ _. 0) (λ _. 0)).value ≡ 0 }
+    ensures no_return { (meaning (small.iterating_program 1 (plain.broken ∷ [])) [] (λ _. 0) (λ _. 0)).value ≡ 0 }
 {}
 
 /// Names and places: a variable that hides another, also in its own first value; elements at and

@@ -10,7 +10,7 @@ use Rattle.c_mentions.specs.declared.noted.Flags.{Flags}
 use Rattle.c_mentions.specs.Bits.{has_bit, bits}
 use Rattle.c_mentions.specs.Mentions.{comm_array, shared_array, is_mention, is_assignment, is_send}
 use Rattle.c_mentions.specs.Noted.{none_noted, with_use, with_uses}
-use Rattle.c_mentions.specs.Told.{Tells}
+use Rattle.c_mentions.specs.Reported.{Tells}
 use Rattle.c_mentions.proofs.Flagged.{bit_of_flags}
 use Rattle.c_mentions.specs.Uses.{Use, reads, sets, sends, program_uses}
 

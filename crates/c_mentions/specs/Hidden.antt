@@ -1,4 +1,4 @@
--- For proofs. Where variables hide the arrays that each task is given, told by a flag for each array.
+-- For proofs. Where variables hide the arrays that each task is given, given by a flag for each array.
 use Rattle.std.specs.Prelude.{◌≡◌, ℕ, Bool, false, not, ◌&&◌, ◌||◌, List, [], ◌∷◌, bytes_eq}
 use Rattle.c_tree.specs.Plain.{PlainItem, global, function}
 use Rattle.c_meaning.specs.Values.{Names, named}

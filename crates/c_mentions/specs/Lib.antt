@@ -5,5 +5,5 @@ pub mod Mentions
 pub mod Noted
 pub mod Small
 pub mod Tasks
-pub mod Told
+pub mod Reported
 pub mod Uses

@@ -46,7 +46,7 @@ hiding_outside = variable_of false (codes "comm") [] ∷ returning (variable (co
 -- `int main() { for (i = 0; CONDITION; i = STEP) { } }`
 abbrev pub looping : PlainExpr → PlainExpr → List PlainItem
 looping condition step =
-    main_of (plain.looped None (plain.turns_for (codes "i") (number 0) condition (codes "i") step) (block_of []) ∷ [])
+    main_of (plain.looped None (plain.iterations_for (codes "i") (number 0) condition (codes "i") step) (block_of []) ∷ [])
     ∷ []
 
 -- `int main() { f(VALUE); }`

@@ -50,8 +50,8 @@ returned_uses names None = []
 returned_uses names (Some e) = expr_uses names e
 
 abbrev pub head_uses : Names → PlainHead → List Use
-head_uses names (plain.turns_while condition) = expr_uses names condition
-head_uses names (plain.turns_for first from condition to_set to) =
+head_uses names (plain.iterations_while condition) = expr_uses names condition
+head_uses names (plain.iterations_for first from condition to_set to) =
     sets (named names first) ∷ (expr_uses names from
     ++ (expr_uses names condition ++ sets (named names to_set) ∷ expr_uses names to))
 

@@ -16,15 +16,15 @@
 mod alone;
 mod arrays;
 mod expressions;
+mod mentioned;
 mod noted;
 mod programs;
 mod statements;
 mod tasks;
-mod told;
 mod worked;
 
 pub use alone::is_alone;
+pub use mentioned::Mentions;
 pub use programs::mentions_of;
 pub use tasks::{Program, Task};
-pub use told::Mentions;
 pub use worked::{worked_alone, worked_mentions, worked_sends};

@@ -11,9 +11,9 @@ ghost use Rattle.c_mentions.specs.Noted.{with_uses, none_noted};
 ghost use Rattle.c_mentions.specs.Uses.{item_uses, program_uses};
 
 use crate::arrays::{Arrays, hidden_behind};
+use crate::mentioned::{Mentions, bits_of};
 use crate::noted::{Flags, nothing_noted};
 use crate::statements::note_block;
-use crate::told::{Mentions, bits_of};
 use c_tree::{Item, Parameter, Unit};
 
 // which arrays are hidden where a function's parameters are open

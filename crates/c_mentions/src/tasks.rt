@@ -1,10 +1,10 @@
 //! The tasks of a job, as far as their data is concerned.
 ghost use Rattle.std.specs.Prelude.{◌≡◌};
 ghost use Rattle.c_tree.specs.Plain.{plain};
-ghost use Rattle.c_mentions.specs.Told.{Tells};
+ghost use Rattle.c_mentions.specs.Reported.{Tells};
 
+use crate::mentioned::Mentions;
 use crate::programs::mentions_of;
-use crate::told::Mentions;
 use c_tree::Unit;
 
 /// A C program, and what it mentions.
@@ -12,7 +12,7 @@ use c_tree::Unit;
 pub struct Program<'a> {
     pub unit: &'a Unit,
     pub mentions: Mentions,
-    pub ghost told: { Tells mentions (plain unit.now) },
+    pub ghost tells: { Tells mentions (plain unit.now) },
 }
 
 /// What a core of a job runs.

@@ -13,7 +13,7 @@ use Rattle.c_tree.specs.Names.{Called, Found, last_named, number_of}
 use Rattle.c_tree.proofs.LastNamed.{last_is, number_among, number_pushed, number_within}
 use Rattle.c_names.specs.declared.names.Entry.{Entry}
 use Rattle.c_names.specs.Entries.{name_of, shown, KeepsHidden}
-use Rattle.c_names.specs.Open.{told, found_among}
+use Rattle.c_names.specs.Open.{met_as, found_among}
 
 -- ---- what is found
 
@@ -27,7 +27,7 @@ pub none_found : {T : Type 0} → (name : List ℕ) (entries : List (Entry T)) �
     → None ≡ found_among name (map shown entries)
 none_found {T = T} name entries is = by (last_named (λ n. n.name) 0 name (map shown entries)) (last_number name entries None is)
   where
-    by : (l : Option (Found (Called T))) → None ≡ option_map (λ f. f.at) l → None ≡ option_map told l
+    by : (l : Option (Found (Called T))) → None ≡ option_map (λ f. f.at) l → None ≡ option_map met_as l
     by None h = refl
     by (Some f) h = absurd (cc)
 
@@ -38,7 +38,7 @@ some_found {T = T} name entries number d is =
     (last_is (λ n. n.name) name (map shown entries) (shown d))
   where
     by : (l : Option (Found (Called T))) → Some number ≡ option_map (λ f. f.at) l → IfSome l (λ f. get_or (map shown entries) f.at (shown d) ≡ f.is)
-        → ◌≡◌ {A = Option (ℕ × T)} (Some (number, (get_or entries number d).means)) (option_map told l)
+        → ◌≡◌ {A = Option (ℕ × T)} (Some (number, (get_or entries number d).means)) (option_map met_as l)
     by None h there = absurd (cc)
     by (Some f) h there =
         let here : number ≡ f.at = cc in

@@ -8,8 +8,8 @@ abbrev pub open_names : {T : Type 0} → Names T → List (Called T)
 open_names names = map shown names.entries.items
 
 -- the last one so called: how many stand before it, and what it is declared as
-abbrev pub told : {T : Type 0} → Found (Called T) → ℕ × T
-told f = (f.at, f.is.means)
+abbrev pub met_as : {T : Type 0} → Found (Called T) → ℕ × T
+met_as f = (f.at, f.is.means)
 
 abbrev pub found_among : {T : Type 0} → List ℕ → List (Called T) → Option (ℕ × T)
-found_among name names = option_map told (last_named (λ n. n.name) 0 name names)
+found_among name names = option_map met_as (last_named (λ n. n.name) 0 name names)

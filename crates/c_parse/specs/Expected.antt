@@ -242,6 +242,6 @@ drive_to limit n xs [] = if may_end xs then None else Some 0
 drive_to limit n xs (t ∷ ts) =
     read_on (length ts) (λ ys. drive_to limit (open_after t n) ys ts) (next (room_to limit n) xs t)
 
--- The same, where at most 64 brackets may be open at once.
+-- How many tokens are left, where at most 64 brackets may be open at once.
 abbrev pub drive : ℕ → List Expected → List Token → Option ℕ
 drive n xs ts = drive_to 64 n xs ts

@@ -59,7 +59,7 @@ scratch_tokens scratch = if scratch then word keyword.Scratchpad ∷ [] else []
 abbrev pub Passes : ℕ → List Expected → List Token → List Expected → List Token → Type 0
 Passes n xs ts ys rest = (behind : List Expected) → drive n (xs ++ behind) ts ≡ drive n (ys ++ behind) rest
 
--- The same, where so many brackets are open after them.
+-- These tokens are read, and so many brackets are open after them.
 abbrev pub PassesTo : ℕ → List Expected → List Token → ℕ → List Expected → List Token → Type 0
 PassesTo n xs ts m ys rest = (behind : List Expected) → drive n (xs ++ behind) ts ≡ drive m (ys ++ behind) rest
 

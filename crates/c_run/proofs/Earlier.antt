@@ -3,7 +3,7 @@ use Rattle.std.proofs.Common.{◌≡◌, ℕ, zero, suc, ◌+◌, ◌<◌, ◌�
 use Rattle.std.proofs.lemmas.List.{length-take-le}
 use Rattle.c_meaning.specs.declared.actions.Routine.{Routine}
 use Rattle.c_meaning.specs.Actions.{PlainActions, no_action}
-use Rattle.c_meaning.specs.Resolved.{serves, routine_given}
+use Rattle.c_meaning.specs.Resolved.{serves, routine_outcome}
 use Rattle.c_meaning.specs.Shown.{bodies_of}
 use Rattle.c_run.specs.Ran.{served_by}
 use Rattle.c_meaning.specs.Sizes.{actions_size}
@@ -21,7 +21,7 @@ same_serves fs gs zero same = refl
 same_serves fs gs (suc n) same =
     let before : serves fs n ≡ serves gs n = same_serves fs gs n (λ k below. same k (omega arith)) in
     let here : slice_index_or fs n no_action ≡ slice_index_or gs n no_action = same n (omega arith) in
-    λ i k args world. if k == n then routine_given (before i) (here i) args world else before i k args world
+    λ i k args world. if k == n then routine_outcome (before i) (here i) args world else before i k args world
 
 same_total : (fs gs : List PlainActions) (n : ℕ) → ((k : ℕ) → k < n → slice_index_or fs k no_action ≡ slice_index_or gs k no_action)
     → total fs n ≡ total gs n

@@ -10,11 +10,11 @@ use Rattle.c_meaning.specs.declared.ways.Way.{Way}
 use Rattle.c_meaning.specs.declared.ways.Way.TheVariants as way
 use Rattle.c_meaning.specs.declared.actions.Action.{Action}
 use Rattle.c_meaning.specs.Actions.{PlainAction, PlainActions, no_action, action}
-use Rattle.c_meaning.specs.Meaning.{Done, Given, goes_on, then_done, turn_done, turns_done, way_value}
+use Rattle.c_meaning.specs.Meaning.{Done, Outcome, goes_on, then_done, iteration_done, iterations_done, way_value}
 use Rattle.c_meaning.specs.Shown.{plain_action, actions_of}
-use Rattle.c_meaning.specs.Resolved.{Serves, action_done, actions_done, serves, routine_given}
+use Rattle.c_meaning.specs.Resolved.{Serves, action_done, actions_done, serves, routine_outcome}
 use Rattle.c_meaning.specs.Values.{State}
-use Rattle.c_run.specs.Ran.{state_of, HasDone, HasGiven, GoesOn}
+use Rattle.c_run.specs.Ran.{state_of, HasDone, HasOutcome, GoesOn}
 
 -- ---- an end, and what is yet to be done
 
@@ -24,9 +24,9 @@ has_done d w frame memory sends is = record {
   ends = is ∙ ap (λ x. let t : Done = record { way = w; state = state_of frame memory x } in t) (sym (ap (λ (t : Done). t.state.world.sends) is));
 }
 
-pub has_given : (g : Given) (n : ℕ) (memory : Memory) (sends : List Sending) → g ≡ record { value = n; world = shown memory sends } → HasGiven g n memory
-has_given g n memory sends is = record {
-  gives = is ∙ ap (λ x. let t : Given = record { value = n; world = shown memory x } in t) (sym (ap (λ (t : Given). t.world.sends) is));
+pub has_outcome : (g : Outcome) (n : ℕ) (memory : Memory) (sends : List Sending) → g ≡ record { value = n; world = shown memory sends } → HasOutcome g n memory
+has_outcome g n memory sends is = record {
+  gives = is ∙ ap (λ x. let t : Outcome = record { value = n; world = shown memory x } in t) (sym (ap (λ (t : Outcome). t.world.sends) is));
 }
 
 -- from these words on, it ends as the whole does
@@ -89,84 +89,84 @@ at_the_end g d f m r = has_done d way.On f m r.sends r.same
 -- ---- functions
 
 serves_own : (fs : List PlainActions) (k n : ℕ) (args : List ℕ) (w : World) → k < n
-    → serves fs n k args w ≡ routine_given (serves fs k) (slice_index_or fs k no_action) args w
+    → serves fs n k args w ≡ routine_outcome (serves fs k) (slice_index_or fs k no_action) args w
 serves_own fs k zero args w below = absurd (omega arith)
 serves_own fs k (suc n) args w below = elim (cases_lt k n) [
   | inl less ↦
       let other : k ≢ n = omega arith in
-      ap (λ b. if b then routine_given (serves fs n) (slice_index_or fs n no_action) args w else serves fs n k args w) (ne_eqb k n other)
+      ap (λ b. if b then routine_outcome (serves fs n) (slice_index_or fs n no_action) args w else serves fs n k args w) (ne_eqb k n other)
       ∙ serves_own fs k n args w less
   | inr more ↦
       let same : n ≡ k = omega arith in
-      ap (λ b. if b then routine_given (serves fs n) (slice_index_or fs n no_action) args w else serves fs n k args w) (eq-eqb k n (sym same))
-      ∙ ap (λ m. routine_given (serves fs m) (slice_index_or fs m no_action) args w) same
+      ap (λ b. if b then routine_outcome (serves fs n) (slice_index_or fs n no_action) args w else serves fs n k args w) (eq-eqb k n (sym same))
+      ∙ ap (λ m. routine_outcome (serves fs m) (slice_index_or fs m no_action) args w) same
 ]
 
 pub serves_none : (fs : List PlainActions) (k n : ℕ) (args : List ℕ) (w : World) → n ≤ k → serves fs n k args w ≡ record { value = 0; world = w }
 serves_none fs k zero args w past = refl
 serves_none fs k (suc n) args w past =
     let other : k ≢ n = omega arith in
-    ap (λ b. if b then routine_given (serves fs n) (slice_index_or fs n no_action) args w else serves fs n k args w) (ne_eqb k n other)
+    ap (λ b. if b then routine_outcome (serves fs n) (slice_index_or fs n no_action) args w else serves fs n k args w) (ne_eqb k n other)
     ∙ serves_none fs k n args w (omega arith)
 
 -- a number that no function has
 pub none_given : (fs : List PlainActions) (k n : ℕ) (args : List ℕ) (m : Memory) (sends : List Sending) → n ≤ k
-    → HasGiven (serves fs n k args (shown m sends)) 0 m
-none_given fs k n args m sends past = has_given (serves fs n k args (shown m sends)) 0 m sends (serves_none fs k n args (shown m sends) past)
+    → HasOutcome (serves fs n k args (shown m sends)) 0 m
+none_given fs k n args m sends past = has_outcome (serves fs n k args (shown m sends)) 0 m sends (serves_none fs k n args (shown m sends) past)
 
 -- the function of a number, run on its own frame
 pub body_given : (fs : List PlainActions) (k n : ℕ) (args own : List ℕ) (m : Memory) (sends : List Sending) (body : PlainActions)
     (w : Way) (own' : List ℕ) (m' : Memory) → k < n → slice_index_or fs k no_action ≡ body → slice_index own ≡ slice_index args
     → HasDone (actions_done (serves fs k) body (state_of own m sends)) w own' m'
-    → HasGiven (serves fs n k args (shown m sends)) (way_value w) m'
+    → HasOutcome (serves fs n k args (shown m sends)) (way_value w) m'
 body_given fs k n args own m sends body w own' m' below is_body frame h =
     let done = actions_done (serves fs k) body (state_of own m sends) in
-    has_given (serves fs n k args (shown m sends)) (way_value w) m' done.state.world.sends
-    (serves_own fs k n args (shown m sends) below ∙ ap (λ b. routine_given (serves fs k) b args (shown m sends)) is_body
+    has_outcome (serves fs n k args (shown m sends)) (way_value w) m' done.state.world.sends
+    (serves_own fs k n args (shown m sends) below ∙ ap (λ b. routine_outcome (serves fs k) b args (shown m sends)) is_body
     ∙ ap (λ locals. let d = actions_done (serves fs k) body (record { locals = locals; world = shown m sends }) in
-    let t : Given = record { value = way_value d.way; world = d.state.world } in t) (sym frame)
-    ∙ ap (λ (d : Done). let t : Given = record { value = way_value d.way; world = d.state.world } in t) h.ends)
+    let t : Outcome = record { value = way_value d.way; world = d.state.world } in t) (sym frame)
+    ∙ ap (λ (d : Done). let t : Outcome = record { value = way_value d.way; world = d.state.world } in t) h.ends)
 
 -- ---- loops
 
-pub another_turn : (h : State → Bool) (b : State → Done) (step : State → State) (d : Done) (n k : ℕ) (f : List ℕ) (m : Memory)
-    → n ≡ k → Reaches d (turns_done h b step n) f m → Reaches d (turns_done h b step k) f m
-another_turn h b step d n k f m same r = record { sends = r.sends; same = r.same ∙ ap (λ j. turns_done h b step j (state_of f m r.sends)) same }
+pub another_iteration : (h : State → Bool) (b : State → Done) (step : State → State) (d : Done) (n k : ℕ) (f : List ℕ) (m : Memory)
+    → n ≡ k → Reaches d (iterations_done h b step n) f m → Reaches d (iterations_done h b step k) f m
+another_iteration h b step d n k f m same r = record { sends = r.sends; same = r.same ∙ ap (λ j. iterations_done h b step j (state_of f m r.sends)) same }
 
 pub not_held : (h : State → Bool) (b : State → Done) (step : State → State) (d : Done) (n : ℕ) (f : List ℕ) (m : Memory)
-    → Reaches d (turns_done h b step (suc n)) f m → ((sends : List Sending) → h (state_of f m sends) ≡ false) → HasDone d way.On f m
+    → Reaches d (iterations_done h b step (suc n)) f m → ((sends : List Sending) → h (state_of f m sends) ≡ false) → HasDone d way.On f m
 not_held h b step d n f m r fails =
     has_done d way.On f m r.sends (r.same ∙ ap (λ c. elim c as (λ _. Done) [
-      | true ↦ turn_done (turns_done h b step n) step (b (state_of f m r.sends))
+      | true ↦ iteration_done (iterations_done h b step n) step (b (state_of f m r.sends))
       | false ↦ goes_on (state_of f m r.sends)
     ]) (fails r.sends))
 
-held_turn : (h : State → Bool) (b : State → Done) (step : State → State) (d : Done) (n : ℕ) (f : List ℕ) (m : Memory)
-    → (r : Reaches d (turns_done h b step (suc n)) f m) → ((sends : List Sending) → h (state_of f m sends) ≡ true)
-    → d ≡ turn_done (turns_done h b step n) step (b (state_of f m r.sends))
-held_turn h b step d n f m r held =
+held_iteration : (h : State → Bool) (b : State → Done) (step : State → State) (d : Done) (n : ℕ) (f : List ℕ) (m : Memory)
+    → (r : Reaches d (iterations_done h b step (suc n)) f m) → ((sends : List Sending) → h (state_of f m sends) ≡ true)
+    → d ≡ iteration_done (iterations_done h b step n) step (b (state_of f m r.sends))
+held_iteration h b step d n f m r held =
     r.same ∙ ap (λ c. elim c as (λ _. Done) [
-      | true ↦ turn_done (turns_done h b step n) step (b (state_of f m r.sends))
+      | true ↦ iteration_done (iterations_done h b step n) step (b (state_of f m r.sends))
       | false ↦ goes_on (state_of f m r.sends)
     ]) (held r.sends)
 
-pub next_turn : (h : State → Bool) (b : State → Done) (step : State → State) (d : Done) (n : ℕ) (f : List ℕ) (m : Memory) (f' : List ℕ) (m' : Memory)
-    → Reaches d (turns_done h b step (suc n)) f m → ((sends : List Sending) → h (state_of f m sends) ≡ true)
-    → ((sends : List Sending) → GoesOn step (b (state_of f m sends)) f' m') → Reaches d (turns_done h b step n) f' m'
-next_turn h b step d n f m f' m' r held on = record {
+pub next_iteration : (h : State → Bool) (b : State → Done) (step : State → State) (d : Done) (n : ℕ) (f : List ℕ) (m : Memory) (f' : List ℕ) (m' : Memory)
+    → Reaches d (iterations_done h b step (suc n)) f m → ((sends : List Sending) → h (state_of f m sends) ≡ true)
+    → ((sends : List Sending) → GoesOn step (b (state_of f m sends)) f' m') → Reaches d (iterations_done h b step n) f' m'
+next_iteration h b step d n f m f' m' r held on = record {
   sends = (on r.sends).sends;
-  same = held_turn h b step d n f m r held ∙ (on r.sends).goes (turns_done h b step n);
+  same = held_iteration h b step d n f m r held ∙ (on r.sends).goes (iterations_done h b step n);
 }
 
-pub last_turn : (h : State → Bool) (b : State → Done) (step : State → State) (d : Done) (n : ℕ) (f : List ℕ) (m : Memory) (w : Way) (f' : List ℕ) (m' : Memory)
-    → Reaches d (turns_done h b step (suc n)) f m → ((sends : List Sending) → h (state_of f m sends) ≡ true)
-    → ((sends : List Sending) (more : State → Done) → HasDone (turn_done more step (b (state_of f m sends))) w f' m') → HasDone d w f' m'
-last_turn h b step d n f m w f' m' r held ended =
-    along d (turn_done (turns_done h b step n) step (b (state_of f m r.sends))) w f' m' (held_turn h b step d n f m r held) (ended r.sends (turns_done h b step n))
+pub last_iteration : (h : State → Bool) (b : State → Done) (step : State → State) (d : Done) (n : ℕ) (f : List ℕ) (m : Memory) (w : Way) (f' : List ℕ) (m' : Memory)
+    → Reaches d (iterations_done h b step (suc n)) f m → ((sends : List Sending) → h (state_of f m sends) ≡ true)
+    → ((sends : List Sending) (more : State → Done) → HasDone (iteration_done more step (b (state_of f m sends))) w f' m') → HasDone d w f' m'
+last_iteration h b step d n f m w f' m' r held ended =
+    along d (iteration_done (iterations_done h b step n) step (b (state_of f m r.sends))) w f' m' (held_iteration h b step d n f m r held) (ended r.sends (iterations_done h b step n))
 
-pub all_turned : (h : State → Bool) (b : State → Done) (step : State → State) (d : Done) (f : List ℕ) (m : Memory) (held : Bool) (m' : Memory)
-    → Reaches d (turns_done h b step zero) f m → ((sends : List Sending) → held ≡ h (state_of f m sends))
+pub all_iterated : (h : State → Bool) (b : State → Done) (step : State → State) (d : Done) (f : List ℕ) (m : Memory) (held : Bool) (m' : Memory)
+    → Reaches d (iterations_done h b step zero) f m → ((sends : List Sending) → held ≡ h (state_of f m sends))
     → ((sends : List Sending) → shown m' sends ≡ with_overrun held (shown m sends)) → HasDone d way.On f m'
-all_turned h b step d f m held m' r same set =
+all_iterated h b step d f m held m' r same set =
     has_done d way.On f m' r.sends (r.same ∙ ap (λ w. goes_on (record { locals = slice_index f; world = w }))
     (ap (λ c. with_overrun c (shown m r.sends)) (sym (same r.sends)) ∙ sym (set r.sends)))

@@ -1,4 +1,4 @@
 pub mod Locations
 pub mod Ran
 pub mod Sizes
-pub mod Told
+pub mod Reported

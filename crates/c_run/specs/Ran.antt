@@ -4,7 +4,7 @@ use Rattle.c_world.specs.World.{Sending}
 use Rattle.c_world.specs.Shown.{shown}
 use Rattle.c_world.specs.declared.memory.Memory.{Memory}
 use Rattle.c_meaning.specs.declared.ways.Way.{Way}
-use Rattle.c_meaning.specs.Meaning.{Done, Given, turn_done}
+use Rattle.c_meaning.specs.Meaning.{Done, Outcome, iteration_done}
 use Rattle.c_meaning.specs.Resolved.{Serves, actions_done, serves}
 use Rattle.c_meaning.specs.Shown.{actions_of, bodies_of}
 use Rattle.c_meaning.specs.declared.actions.Branch.{Branch}
@@ -24,17 +24,17 @@ pub record HasDone (d : Done) (way : Way) (frame : List ℕ) (memory : Memory) :
   pub ends : d ≡ record { way = way; state = state_of frame memory d.state.world.sends }
 
 -- a function gave this word, and left these words
-pub record HasGiven (g : Given) (value : ℕ) (memory : Memory) : Type 0 where
+pub record HasOutcome (g : Outcome) (value : ℕ) (memory : Memory) : Type 0 where
   pub gives : g ≡ record { value = value; world = shown memory g.world.sends }
 
--- a turn of a loop that goes on from these words, or the end of the loop
+-- an iteration of a loop that goes on from these words, or the end of the loop
 pub record GoesOn (step : State → State) (d : Done) (frame : List ℕ) (memory : Memory) : Type 0 where
   pub sends : List Sending
-  pub goes : (more : State → Done) → turn_done more step d ≡ more (state_of frame memory sends)
+  pub goes : (more : State → Done) → iteration_done more step d ≡ more (state_of frame memory sends)
 
-abbrev pub HasTurned : (State → State) → Done → Option Way → List ℕ → Memory → Type 0
-HasTurned step d None frame memory = GoesOn step d frame memory
-HasTurned step d (Some w) frame memory = (more : State → Done) → HasDone (turn_done more step d) w frame memory
+abbrev pub HasIterated : (State → State) → Done → Option Way → List ℕ → Memory → Type 0
+HasIterated step d None frame memory = GoesOn step d frame memory
+HasIterated step d (Some w) frame memory = (more : State → Done) → HasDone (iteration_done more step d) w frame memory
 
 -- what is done of a branch that was picked, or else
 abbrev pub picked_done : Serves → (State → Done) → Option Branch → State → Done

@@ -6,7 +6,7 @@
 //!
 //! [`mean`] is what a program means on its input: it resolves its names once, runs `main` on the memories that the task
 //! begins with, and tells the value, whether a loop went past its bound, and the words of all variables and arrays at
-//! the end (`specs/Told.antt`); [`output_of`] says which of those is the output.
+//! the end (`specs/Reported.antt`); [`output_of`] says which of those is the output.
 //!
 //! What its words mean stands in [the glossary](../../../docs/GLOSSARY.md).
 #![tactic(auto)]

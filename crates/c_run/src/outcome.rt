@@ -8,8 +8,8 @@ ghost use Rattle.c_meaning.specs.Resolve.{numbered};
 ghost use Rattle.c_meaning.specs.Resolved.{serves};
 ghost use Rattle.c_meaning.specs.Rooms.{all_rooms};
 ghost use Rattle.c_meaning.specs.Shown.{bodies_of};
-ghost use Rattle.c_run.specs.Ran.{HasGiven};
-ghost use Rattle.c_run.specs.Told as told;
+ghost use Rattle.c_run.specs.Ran.{HasOutcome};
+ghost use Rattle.c_run.specs.Reported as reported;
 
 use crate::begin::begun_memory;
 use crate::run::called;
@@ -24,7 +24,7 @@ use tc_word::{List, OutOfMemory};
 pub struct Outcome {
     /// What `main` gives.
     pub value: u32,
-    /// Whether a loop's condition still held after its last turn.
+    /// Whether a loop's condition still held after its last iteration.
     pub overrun: bool,
     /// The words of each variable and array at the end, by the slots of the layout.
     pub stores: List<List<u32>>,
@@ -37,13 +37,13 @@ pub fn mean(alloc: alloc::Global, program: &Checked, input: &[u32]) -> Result<Ou
     ensures overrun { IfOk result (λ o. o.overrun
         ≡ (meaning (plain program.now.unit) input.now (λ _. 0) (λ _. 0)).world.overrun) }
     ensures stores { IfOk result (λ o. o.stores
-        ≡ map (told.slot_words (meaning (plain program.now.unit) input.now (λ _. 0)
+        ≡ map (reported.slot_words (meaning (plain program.now.unit) input.now (λ _. 0)
         (λ _. 0)).world) program.now.layout) }
 {
     names_resolved_once();
     let resolved = resolve(alloc, program)?;
     let mut memory = begun_memory(alloc, program, input)?;
-    let value = main_given(alloc, &resolved, &mut memory)?;
+    let value = main_outcome(alloc, &resolved, &mut memory)?;
     let stores = stores_of(alloc, program.layout.as_slice(), &memory)?;
     Ok(Outcome {
         value,
@@ -53,14 +53,14 @@ pub fn mean(alloc: alloc::Global, program: &Checked, input: &[u32]) -> Result<Ou
 }
 
 // what `main` gives
-fn main_given(
+fn main_outcome(
     alloc: alloc::Global,
     resolved: &Resolved,
     memory: &mut Memory,
 ) -> Result<u32, OutOfMemory>
     requires rooms { rooms memory.old ≡ all_rooms }
     requires number { length resolved.now.routines < 2 ^ 32 }
-    ensures { IfOk result (λ value. HasGiven
+    ensures { IfOk result (λ value. HasOutcome
         (numbered (serves (bodies_of resolved.now.routines) (length resolved.now.routines)) resolved.now.main []
         (shown memory.old [])) value memory.new) }
 {
@@ -79,7 +79,7 @@ fn first_called(
 ) -> Result<u32, OutOfMemory>
     requires rooms { rooms memory.old ≡ all_rooms }
     requires number { length routines.now < 2 ^ 32 }
-    ensures { IfOk result (λ value. HasGiven
+    ensures { IfOk result (λ value. HasOutcome
         (serves (bodies_of routines.now) (length routines.now) function [] (shown memory.old [])) value memory.new) }
 {
     let mut frames = vec![in alloc; 0; routines.len() * MOST_LEVELS]?;
@@ -96,7 +96,7 @@ fn stores_of(
     memory: &Memory,
 ) -> Result<List<List<u32>>, OutOfMemory>
     ensures { IfOk result (λ stores. (sends : List Sending)
-        → stores ≡ map (told.slot_words (shown memory.now sends)) slots.now) }
+        → stores ≡ map (reported.slot_words (shown memory.now sends)) slots.now) }
 {
     let mut stores = Vec::with_capacity(alloc, slots.len())?;
     for slot in slots {
@@ -108,7 +108,7 @@ fn stores_of(
 // the words of one of them
 fn store_of(alloc: alloc::Global, slot: &Slot, memory: &Memory) -> Result<List<u32>, OutOfMemory>
     ensures { IfOk result (λ words. (sends : List Sending)
-        → words ≡ told.slot_words (shown memory.now sends) slot.now) }
+        → words ≡ reported.slot_words (shown memory.now sends) slot.now) }
 {
     let array = array_of(slot);
     let mut words = Vec::new(alloc);
@@ -120,14 +120,14 @@ fn store_of(alloc: alloc::Global, slot: &Slot, memory: &Memory) -> Result<List<u
 
 /// The number of the slot of the array `out`, if the program has one.
 pub fn output_of(program: &Checked) -> Option<usize>
-    ensures { result ≡ told.output_number (plain program.now.unit) }
+    ensures { result ≡ reported.output_number (plain program.now.unit) }
 {
     output_among(program.unit.items.as_slice())
 }
 
 #[tactic(auto, using(crate::proofs::Declarations::output_next))]
 fn output_among(items: &[Item]) -> Option<usize>
-    ensures { result ≡ told.output_number (map plain_item items.now) }
+    ensures { result ≡ reported.output_number (map plain_item items.now) }
 {
     let mut number = 0;
     for item in items {
@@ -143,7 +143,7 @@ fn output_among(items: &[Item]) -> Option<usize>
 
 // an array `out`
 fn is_output(global: &Global) -> bool
-    ensures { result ≡ told.is_output global.now }
+    ensures { result ≡ reported.is_output global.now }
 {
     global.name.as_str() == "out" && global.length.is_some()
 }

@@ -4,12 +4,12 @@ ghost use Rattle.std.specs.Option.{option_copied};
 ghost use Rattle.c_world.specs.Shown.{shown, rooms};
 ghost use Rattle.c_world.specs.World.{Sending};
 ghost use Rattle.sp_tree.specs.Plain.{plain_sp};
-ghost use Rattle.c_meaning.specs.Meaning.{Done, goes_on, turns_done, way_value};
-ghost use Rattle.c_meaning.specs.Resolved.{Serves, args_worth, holds, step_done, given_done, action_done, actions_done, branches_done, serves};
+ghost use Rattle.c_meaning.specs.Meaning.{Done, goes_on, iterations_done, way_value};
+ghost use Rattle.c_meaning.specs.Resolved.{Serves, args_worth, holds, step_done, outcome_done, action_done, actions_done, branches_done, serves};
 ghost use Rattle.c_meaning.specs.Rooms.{all_rooms};
 ghost use Rattle.c_meaning.specs.Shown.{plain_action, plain_target, plain_assignment, actions_of, branches_of, bodies_of};
 ghost use Rattle.c_meaning.specs.Values.{State};
-ghost use Rattle.c_run.specs.Ran.{state_of, served_by, HasDone, HasGiven, HasTurned, picked_done};
+ghost use Rattle.c_run.specs.Ran.{state_of, served_by, HasDone, HasOutcome, HasIterated, picked_done};
 ghost use Rattle.c_meaning.specs.Sizes.{actions_size, branches_size};
 
 use crate::locations::{put, result_location};
@@ -68,12 +68,12 @@ fn act(
             step,
         } => {
             let body = body.as_slice();
-            let turning = Turning {
+            let iterating = Iterating {
                 condition,
                 body,
                 step,
             };
-            turns(*max, &turning, routines, frame, rest, memory)
+            iterations(*max, &iterating, routines, frame, rest, memory)
         }
         Action::Break => Way::Broken,
         Action::Continue => Way::Continued,
@@ -155,10 +155,10 @@ fn choose(
     }
 }
 
-// a turn of a loop, and how the loop ends by it, if it does
+// an iteration of a loop, and how the loop ends by it, if it does
 #[cycle(run)]
 #[inline(always)]
-fn turn(
+fn iteration(
     body: &[Action],
     next: &Option<Assignment>,
     routines: &[Routine],
@@ -169,7 +169,7 @@ fn turn(
     requires frame { length frame.old ≡ MOST_LEVELS }
     requires rest { MOST_LEVELS * length routines.now ≤ length rest.old }
     requires rooms { rooms memory.old ≡ all_rooms }
-    ensures turned { (sends : List Sending) → HasTurned (step_done (option_map plain_assignment next.now))
+    ensures iterated { (sends : List Sending) → HasIterated (step_done (option_map plain_assignment next.now))
         (actions_done (served_by routines.now) (actions_of body.now)
         (state_of frame.old memory.old sends)) result frame.new memory.new }
     ensures rooms { rooms memory.new ≡ all_rooms }
@@ -188,20 +188,20 @@ fn turn(
     }
 }
 
-// what a loop asks and does in a turn
+// what a loop asks and does in an iteration
 #[derive(Clone, Copy)]
-struct Turning<'a> {
+struct Iterating<'a> {
     condition: &'a SpExpr,
     body: &'a [Action],
     step: &'a Option<Assignment>,
 }
 
-// so many turns at most
+// so many iterations at most
 #[cycle(run)]
 #[inline(always)]
-fn turns(
+fn iterations(
     max: u32,
-    turning: &Turning<'_>,
+    iterating: &Iterating<'_>,
     routines: &[Routine],
     frame: &mut [u32],
     rest: &mut [u32],
@@ -211,22 +211,29 @@ fn turns(
     requires rest { MOST_LEVELS * length routines.now ≤ length rest.old }
     requires rooms { rooms memory.old ≡ all_rooms }
     ensures done { (sends : List Sending) → HasDone
-        (turns_done (holds (plain_sp turning.now.condition.now))
-        (actions_done (served_by routines.now) (actions_of turning.now.body.now))
-        (step_done (option_map plain_assignment turning.now.step.now)) max
+        (iterations_done (holds (plain_sp iterating.now.condition.now))
+        (actions_done (served_by routines.now) (actions_of iterating.now.body.now))
+        (step_done (option_map plain_assignment iterating.now.step.now)) max
         (state_of frame.old memory.old sends)) result frame.new memory.new }
     ensures rooms { rooms memory.new ≡ all_rooms }
 {
-    for _turned in 0..max {
-        if !is_held(turning.condition, frame, memory) {
+    for _iterated in 0..max {
+        if !is_held(iterating.condition, frame, memory) {
             return Way::On;
         }
-        match turn(turning.body, turning.step, routines, frame, rest, memory) {
+        match iteration(
+            iterating.body,
+            iterating.step,
+            routines,
+            frame,
+            rest,
+            memory,
+        ) {
             None => {}
             Some(way) => return way,
         }
     }
-    let held = is_held(turning.condition, frame, memory);
+    let held = is_held(iterating.condition, frame, memory);
     memory.overran(held);
     Way::On
 }
@@ -243,7 +250,7 @@ pub fn called(
 ) -> u32
     requires rest { MOST_LEVELS * length routines.now ≤ length rest.old }
     requires rooms { rooms memory.old ≡ all_rooms }
-    ensures given { (sends : List Sending) → HasGiven
+    ensures given { (sends : List Sending) → HasOutcome
         (served_by routines.now function
         (args_worth (map plain_sp args.now.values) (state_of frame.now memory.old sends)) (shown memory.old sends))
         result memory.new }

@@ -30,7 +30,7 @@ pub fn assign(assignment: &Assignment, frame: &mut [u32], memory: &mut Memory)
     put(location, given, frame, memory);
 }
 
-/// What is set after a turn of a loop, if anything.
+/// What is set after an iteration of a loop, if anything.
 #[inline(always)]
 pub fn step(assignment: &Option<Assignment>, frame: &mut [u32], memory: &mut Memory)
     requires frame { length frame.old ≡ MOST_LEVELS }

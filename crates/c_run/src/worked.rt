@@ -1,7 +1,7 @@
-//! Worked examples: what is told at a task's end.
+//! Worked examples: what is reported at a task's end.
 ghost use Rattle.std.specs.Prelude.{◌≡◌, ◌+◌, [], ◌∷◌, true, false, codes};
 ghost use Rattle.c_tree.specs.Small.{array_of, variable_of, function_of};
-ghost use Rattle.c_run.specs.Told.{words_from, output_number};
+ghost use Rattle.c_run.specs.Reported.{words_from, output_number};
 
 /// Three words from word 4 on; and the output: an array called `out`, also in the scratchpad, and no variable.
 pub fn worked_told()

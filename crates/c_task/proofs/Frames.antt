@@ -26,8 +26,8 @@ use Rattle.single_path.proofs.TakenIn.{taken_frames}
 -- ---- what a function weighs
 
 head_weighs : (head : PlainHead) → 4 ≤ head_weight head
-head_weighs (plain.turns_while condition) = omega arith
-head_weighs (plain.turns_for first from condition to_set to) = omega arith
+head_weighs (plain.iterations_while condition) = omega arith
+head_weighs (plain.iterations_for first from condition to_set to) = omega arith
 
 mutual
   unfolding stmt_frame block_frame arms_frame otherwise_frame stmt_weight block_weight arms_weight otherwise_weight
@@ -97,7 +97,7 @@ frames_weigh cores own names at (function kind text void_word parameters body �
 mutual
   stmt_below : (g : ℕ → ℕ) (most : ℕ) → ((k : ℕ) → g k ≤ most) → (s : tree.PlainStmt) → stmt_chain g s ≤ most
   stmt_below g most below (tree.calls mask k args result) = below k
-  stmt_below g most below (tree.turns count body) = stmts_below g most below body
+  stmt_below g most below (tree.iterations count body) = stmts_below g most below body
   stmt_below g most below (tree.writes mask place e) = omega arith
   stmt_below g most below (tree.masks slot m) = omega arith
   stmt_below g most below (tree.overruns mask m) = omega arith

@@ -66,8 +66,8 @@ module _ (cores own : ℕ) where
   returned_away names (Some e) = expr_away names e
 
   head_away : (names : Names) (head : PlainHead) → Away (head_uses names head)
-  head_away names (plain.turns_while condition) = expr_away names condition
-  head_away names (plain.turns_for first from condition to_set to) = (
+  head_away names (plain.iterations_while condition) = expr_away names condition
+  head_away names (plain.iterations_for first from condition to_set to) = (
     tt,
     both (expr_uses names from) (expr_uses names condition ++ sets (named names to_set) ∷ expr_uses names to) (expr_away names from)
         (both (expr_uses names condition) (sets (named names to_set) ∷ expr_uses names to) (expr_away names condition) (tt, expr_away names to)),

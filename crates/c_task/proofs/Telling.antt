@@ -17,10 +17,10 @@ use Rattle.single_path.specs.Single.{single}
 use Rattle.task_core.specs.Tasks.{bound_of, code_of, IsCode}
 use Rattle.task_core.proofs.Behaving.{link, asking, behaves}
 use Rattle.task_machine.specs.Machines.{machine_after}
-use Rattle.task_machine.specs.Told.{task_operations}
+use Rattle.task_machine.specs.Reported.{task_operations}
 use Rattle.task_machine.proofs.Alone.{slotted, zeros_fit}
 use Rattle.task_machine.proofs.Among.{task_whole}
-use Rattle.task_machine.proofs.Told.{times_there, meaning_there}
+use Rattle.task_machine.proofs.Reported.{times_there, meaning_there}
 use Rattle.c_task.specs.Programs.{task_of, task_on}
 use Rattle.c_task.specs.Telling.{HasProgram, Tells}
 use Rattle.c_task.specs.Translation.{times, bound}

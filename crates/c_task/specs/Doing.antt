@@ -9,7 +9,7 @@ use Rattle.patmos_model.specs.Outcome.{state_at}
 use Rattle.patmos_model.specs.declared.state.CoreState.TheVariants.{Trapped}
 use Rattle.patmos_model.specs.declared.trap.Trap.{Trap}
 use Rattle.code_core.specs.Words.{AreGiven}
-use Rattle.task_machine.specs.Told.{HasTimes}
+use Rattle.task_machine.specs.Reported.{HasTimes}
 use Rattle.c_task.specs.Programs.{HasProgramMeaning, Touches}
 use Rattle.c_task.specs.Translation.{IsWorld, translation, times}
 

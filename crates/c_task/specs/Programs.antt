@@ -5,7 +5,7 @@ use Rattle.std.specs.List.{AllByRecursion as Each}
 use Rattle.argo_ni.specs.declared.packet.Packet.{Packet}
 use Rattle.c_tree.specs.Plain.{PlainItem}
 use Rattle.c_meaning.specs.Begun.{meaning}
-use Rattle.c_meaning.specs.Meaning.{Given}
+use Rattle.c_meaning.specs.Meaning.{Outcome}
 use Rattle.c_mentions.specs.Alone.{Running, idle, assembly, program}
 use Rattle.c_mentions.specs.Mentions.{comm_array, shared_array, mentions, assigns, sends_to}
 use Rattle.local_store.specs.declared.map.TheConstants.{SHARED_WORDS}
@@ -21,7 +21,7 @@ use Rattle.task_words.specs.Meant.{comm_in, Leaves}
 use Rattle.c_task.specs.Translation.{times}
 
 -- what the text means on its input, from a world
-abbrev pub said : List PlainItem → Place → List ℕ → (ℕ → ℕ) → Given
+abbrev pub said : List PlainItem → Place → List ℕ → (ℕ → ℕ) → Outcome
 said items place input world = meaning items input world (comm_in place world)
 
 -- a core after so many cycles, whose task itself made these operations, has what the text means

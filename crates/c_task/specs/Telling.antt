@@ -8,7 +8,7 @@ use Rattle.c_tree.specs.Valid.{IsValid}
 use Rattle.c_mentions.specs.Alone.{Running, program, is_alone}
 use Rattle.patmos_model.specs.State.{Core}
 use Rattle.task_machine.specs.Machines.{BeginsAs, HasTask}
-use Rattle.task_machine.specs.Told.{task_operations, AreAllItsOwn, HasTimes}
+use Rattle.task_machine.specs.Reported.{task_operations, AreAllItsOwn, HasTimes}
 use Rattle.c_task.specs.Programs.{HasProgramMeaning, task_of, task_on}
 use Rattle.c_task.specs.Translation.{IsWorld, translation, times, bound}
 

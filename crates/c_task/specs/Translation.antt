@@ -1,4 +1,4 @@
--- To be believed. What a C program becomes, and how long that takes on a core. What it becomes hangs on the program
+-- To be believed. What a C program becomes, and how long that takes on a core. What it becomes depends on the program
 -- alone, its times and its bound on the program and the core's place.
 use Rattle.std.specs.Prelude.{ℕ, ◌^◌, ◌<◌, List}
 use Rattle.slot_arbiter.specs.declared.place.Place.{Place}
@@ -30,7 +30,7 @@ translation items = record {
   image = linked (schedule.scheduled (emit.emitted (single items)));
 }
 
--- its transactions and its end, which are told of the run with an empty input in which nothing is read
+-- its transactions and its end, which are those of the run with an empty input in which nothing is read
 abbrev pub times : Place → List PlainItem → Times
 times place items = times_of (translation items).tree place
 

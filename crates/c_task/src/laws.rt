@@ -63,7 +63,7 @@ pub fn programs_keep_their_persistent_bound(place: &Place)
         → persist place.now items ≤ bound place.now items }
 {}
 
-/// A program's task on its core comes to what its text means. From its end on, for each world in which each of the
+/// A program's task on its core gives what its text means. From its end on, for each world in which each of the
 /// task's own loads of a word that others reach gives its own last store there, else the world's word, it has the
 /// value, the flag, the words and the transfers that the text comes to from that world. A law: it does nothing.
 pub fn programs_come_to_their_meaning(place: &Place)

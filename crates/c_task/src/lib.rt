@@ -1,4 +1,4 @@
-//! C tasks on a core and in a machine: what is told of compiled trees is told of the C programs that they are made of.
+//! C tasks on a core and in a machine: what holds of compiled trees holds of the C programs that they are made of.
 //! The crate has definitions and laws, and no code besides.
 //!
 //! - `specs/Translation.antt`: what a program becomes, its times and its bounds on a core's place.
@@ -14,7 +14,7 @@
 //!   what its text means; [`programs_touch_what_they_mention`]: of the words that others reach, and of
 //!   the cores, it touches only what its text mentions.
 //! - [`machines_tell_of_programs`]: in a machine too a C task keeps its times, within its bound,
-//!   and comes to what its text means from each world that fits its loads; where it is alone by the
+//!   and gives what its text means from each world that fits its loads; where it is alone by the
 //!   texts of the job, the world of zeros does.
 //!
 //! What its words mean stands in [the glossary](../../../docs/GLOSSARY.md).

@@ -27,20 +27,20 @@ pub inner_tokens : (body : List Stmt) → stmt_tokens (Inner body) ≡ braced (b
 unfolding stmt_tokens block_tokens inside
 inner_tokens body = ap braced (inside_inner body)
 
--- what a loop does in each turn
-unfoldable turned : Stmt → List Token
-turned (Loop' bound head l body) = block_tokens body
-turned s = []
+-- what a loop does in each iteration
+unfoldable iterated : Stmt → List Token
+iterated (Loop' bound head l body) = block_tokens body
+iterated s = []
 
-turned_loop : (bound : Option Bound) (head : Head) (body : List Stmt) → turned (Loop bound head body) ≡ body_tokens body
-unfolding stmt_tokens block_tokens turned hidden-the_row-Stmt-0 hidden
-turned_loop bound head [] = refl
-turned_loop bound head (s ∷ body) = ap (λ ts. stmt_tokens s ++ ts) (turned_loop bound head body)
+iterated_loop : (bound : Option Bound) (head : Head) (body : List Stmt) → iterated (Loop bound head body) ≡ body_tokens body
+unfolding stmt_tokens block_tokens iterated hidden-the_row-Stmt-0 hidden
+iterated_loop bound head [] = refl
+iterated_loop bound head (s ∷ body) = ap (λ ts. stmt_tokens s ++ ts) (iterated_loop bound head body)
 
 pub loop_tokens : (bound : Option Bound) (head : Head) (body : List Stmt)
     → stmt_tokens (Loop bound head body) ≡ bound_tokens bound ++ (head_tokens head ++ braced (body_tokens body))
-unfolding stmt_tokens block_tokens turned
-loop_tokens bound head body = ap (λ ts. bound_tokens bound ++ (head_tokens head ++ braced ts)) (turned_loop bound head body)
+unfolding stmt_tokens block_tokens iterated
+loop_tokens bound head body = ap (λ ts. bound_tokens bound ++ (head_tokens head ++ braced ts)) (iterated_loop bound head body)
 
 -- the block of a list, by its row
 pub row_tokens : (body : List Stmt) → block_tokens (hidden-the_row-Stmt-0 body) ≡ body_tokens body

@@ -6,10 +6,10 @@ use Rattle.c_tree.specs.declared.checks.Fault.{Fault}
 use Rattle.c_tree.specs.declared.checks.Meaning.{Meaning}
 use Rattle.c_tree.specs.declared.checks.Meaning.TheVariants as meaning
 use Rattle.c_tree.specs.declared.checks.Within.{Within}
-use Rattle.c_tree.specs.declared.limits.TheConstants.{MOST_DEPTH, MOST_TURNS}
+use Rattle.c_tree.specs.declared.limits.TheConstants.{MOST_DEPTH, MOST_ITERATIONS}
 use Rattle.c_tree.specs.declared.statements.Bound.{Bound}
 use Rattle.c_tree.specs.declared.statements.Kind.{Kind}
-use Rattle.c_tree.specs.Plain.{PlainExpr, PlainSteps, chain, unary, number, name, element, paren, no_step, step, PlainRight, value, call, PlainHead, turns_while, turns_for, PlainStmt, PlainBlock, PlainArms, PlainOtherwise, declared as declares, set, set_element, called, sent, chosen, looped as loops, broken, continued, returned, inner, no_stmt, stmt, no_arm, arm, no_else, or_else}
+use Rattle.c_tree.specs.Plain.{PlainExpr, PlainSteps, chain, unary, number, name, element, paren, no_step, step, PlainRight, value, call, PlainHead, iterations_while, iterations_for, PlainStmt, PlainBlock, PlainArms, PlainOtherwise, declared as declares, set, set_element, called, sent, chosen, looped as loops, broken, continued, returned, inner, no_stmt, stmt, no_arm, arm, no_else, or_else}
 use Rattle.c_tree.specs.Sizes.{kind_size, expr_size, argument_size, bound_size, head_size, stmt_size, arms_size, block_size}
 use Rattle.c_tree.specs.Depth.{expr_depth}
 use Rattle.c_tree.specs.Least.{where_so}
@@ -124,12 +124,12 @@ assigned_faults names at text e = scalar_faults names at text ++ whole_faults na
 -- a bound, or the loop's keyword where there is none
 abbrev pub bound_faults : ℕ → Option Bound → List Fault
 bound_faults at None = where_so true at fault.NoBound
-bound_faults at (Some b) = where_so (nat_lt b.max b.min || nat_lt MOST_TURNS b.max) at fault.BoundRange
+bound_faults at (Some b) = where_so (nat_lt b.max b.min || nat_lt MOST_ITERATIONS b.max) at fault.BoundRange
 
 -- the head of a loop, whose first token is its keyword
 abbrev pub head_faults : List Named → ℕ → PlainHead → List Fault
-head_faults names at (turns_while condition) = whole_faults names (at + 2) condition
-head_faults names at (turns_for first from condition next to) =
+head_faults names at (iterations_while condition) = whole_faults names (at + 2) condition
+head_faults names at (iterations_for first from condition next to) =
     let second = at + 2 + 2 + expr_size from + 1 in
     let third = second + expr_size condition + 1 in
     assigned_faults names (at + 2) first from

@@ -59,13 +59,13 @@ plain_right r = elim r [
 ]
 
 pub data PlainHead : Type 0 where
-  turns_while : PlainExpr → PlainHead
-  turns_for : List ℕ → PlainExpr → PlainExpr → List ℕ → PlainExpr → PlainHead
+  iterations_while : PlainExpr → PlainHead
+  iterations_for : List ℕ → PlainExpr → PlainExpr → List ℕ → PlainExpr → PlainHead
 
 abbrev pub plain_head : Head → PlainHead
 plain_head h = elim h [
-  | head.While condition ↦ turns_while (plain_expr condition)
-  | head.For first from condition to_set to ↦ turns_for first (plain_expr from) (plain_expr condition) to_set
+  | head.While condition ↦ iterations_while (plain_expr condition)
+  | head.For first from condition to_set to ↦ iterations_for first (plain_expr from) (plain_expr condition) to_set
       (plain_expr to)
 ]
 

@@ -4,7 +4,7 @@ use Rattle.c_tree.specs.declared.statements.Bound.{Bound}
 use Rattle.c_tree.specs.declared.statements.Kind.{Kind}
 use Rattle.c_tree.specs.declared.units.Const.{Const}
 use Rattle.c_tree.specs.declared.units.Parameter.{Parameter}
-use Rattle.c_tree.specs.Plain.{PlainExpr, PlainSteps, chain, unary, number, name, element, paren, no_step, step, PlainRight, value, call, PlainHead, turns_while, turns_for, PlainStmt, PlainBlock, PlainArms, PlainOtherwise, declared, set, set_element, called, sent, chosen, looped, broken, continued, returned, inner, no_stmt, stmt, no_arm, arm, no_else, or_else, PlainItem, global, function}
+use Rattle.c_tree.specs.Plain.{PlainExpr, PlainSteps, chain, unary, number, name, element, paren, no_step, step, PlainRight, value, call, PlainHead, iterations_while, iterations_for, PlainStmt, PlainBlock, PlainArms, PlainOtherwise, declared, set, set_element, called, sent, chosen, looped, broken, continued, returned, inner, no_stmt, stmt, no_arm, arm, no_else, or_else, PlainItem, global, function}
 use Rattle.c_tree.specs.Tokens.{kind_tokens, const_tokens, global_tokens, gives_tokens, parameters_tokens}
 
 abbrev pub kind_size : Kind → ℕ
@@ -47,8 +47,8 @@ bound_size None = 0
 bound_size (Some b) = 1
 
 abbrev pub head_size : PlainHead → ℕ
-head_size (turns_while condition) = expr_size condition + 3
-head_size (turns_for first from condition next to) = expr_size from + expr_size condition + expr_size to + 9
+head_size (iterations_while condition) = expr_size condition + 3
+head_size (iterations_for first from condition next to) = expr_size from + expr_size condition + expr_size to + 9
 
 unfoldable mutual
   pub stmt_size : PlainStmt → ℕ

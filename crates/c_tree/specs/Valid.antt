@@ -53,7 +53,7 @@ abbrev pub with_parameters : List Named → List Parameter → List Named
 with_parameters names [] = names
 with_parameters names (p ∷ ps) = with_parameters (declared names p.name meaning.Scalar) ps
 
--- what is told at a function's name
+-- what is reported at a function's name
 abbrev pub named_faults : List Named → ℕ → List ℕ → List Parameter → List PlainStmt → List Fault
 named_faults names at text parameters body =
     twice_faults 0 names at text
@@ -119,7 +119,7 @@ is_main (function its_kind text void_word parameters body) =
 abbrev pub has_main : List PlainItem → Bool
 has_main items = list_any is_main items
 
--- what is told of the whole, at its end
+-- what is reported of the whole, at its end
 abbrev pub end_faults : ℕ → List PlainItem → List Fault
 end_faults at items =
     where_so (nat_lt MOST_TASK_WEIGHT (items_weight items)) at fault.Heavy

@@ -2,7 +2,7 @@
 use Rattle.std.specs.Prelude.{ℕ, ◌+◌, ◌*◌, List, length, sum_by, None, Some}
 use Rattle.c_tree.specs.declared.expressions.BinaryOp.{BinaryOp}
 use Rattle.c_tree.specs.declared.expressions.BinaryOp.TheVariants as binary
-use Rattle.c_tree.specs.Plain.{PlainExpr, PlainSteps, chain, unary, number, name, element, paren, no_step, step, PlainRight, value, call, PlainHead, turns_while, turns_for, PlainStmt, PlainBlock, PlainArms, PlainOtherwise, declared, set, set_element, called, sent, chosen, looped, broken, continued, returned, inner, no_stmt, stmt, no_arm, arm, no_else, or_else, PlainItem, global, function}
+use Rattle.c_tree.specs.Plain.{PlainExpr, PlainSteps, chain, unary, number, name, element, paren, no_step, step, PlainRight, value, call, PlainHead, iterations_while, iterations_for, PlainStmt, PlainBlock, PlainArms, PlainOtherwise, declared, set, set_element, called, sent, chosen, looped, broken, continued, returned, inner, no_stmt, stmt, no_arm, arm, no_else, or_else, PlainItem, global, function}
 
 abbrev pub operator_weight : BinaryOp → ℕ
 operator_weight op = elim op as (λ _. ℕ) [
@@ -35,8 +35,8 @@ right_weight (call text args) = args_weight args
 
 -- a `for` has its two assignments besides
 abbrev pub head_weight : PlainHead → ℕ
-head_weight (turns_while condition) = 48 + 2 * expr_weight condition
-head_weight (turns_for first from condition next to) =
+head_weight (iterations_while condition) = 48 + 2 * expr_weight condition
+head_weight (iterations_for first from condition next to) =
     48 + 2 * expr_weight condition + (12 + expr_weight from) + (12 + expr_weight to)
 
 unfoldable mutual

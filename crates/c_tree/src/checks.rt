@@ -12,7 +12,7 @@ pub enum CheckFault {
     WrongType,
     /// A loop has no bound.
     NoBound,
-    /// A bound has its least above its most, or its most above [`crate::MOST_TURNS`].
+    /// A bound has its least above its most, or its most above [`crate::MOST_ITERATIONS`].
     BoundRange,
     /// A function calls itself.
     Recursion,

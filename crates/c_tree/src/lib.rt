@@ -6,7 +6,7 @@
 //! tokens, and a list of tokens one tree, but for the places of its boxes in memory: `specs/Plain.antt` has trees
 //! without them.
 //!
-//! All else is told of plain trees: the place of a part, counted in tokens (`specs/Sizes.antt`, [`sizes_are_tokens`]),
+//! All else is stated of plain trees: the place of a part, counted in tokens (`specs/Sizes.antt`, [`sizes_are_tokens`]),
 //! its depth, weight and frame, the faults of a program (`specs/Valid.antt` and the files that it names), and where its
 //! variables and arrays stand (`specs/Layout.antt`). How much a program may have of each, [`subset_limits`] says in
 //! numbers. A [`Checked`] is a program that is valid on its place.
@@ -30,8 +30,8 @@ pub use expressions::{BinaryOp, Expr, Step, UnaryOp};
 pub use laws::{sizes_are_tokens, subset_limits};
 pub use layout::{Checked, Slot};
 pub use limits::{
-    MOST_BRACKETS, MOST_DEPTH, MOST_FRAME_WORDS, MOST_FUNCTION_WEIGHT, MOST_LEVELS,
-    MOST_PARAMETERS, MOST_PRIVATE_WORDS, MOST_SCRATCH_WORDS, MOST_TASK_WEIGHT, MOST_TURNS,
+    MOST_BRACKETS, MOST_DEPTH, MOST_FRAME_WORDS, MOST_FUNCTION_WEIGHT, MOST_ITERATIONS,
+    MOST_LEVELS, MOST_PARAMETERS, MOST_PRIVATE_WORDS, MOST_SCRATCH_WORDS, MOST_TASK_WEIGHT,
     WORDS_BESIDES,
 };
 pub use statements::{Arm, Bound, Head, Kind, Right, Stmt};

@@ -29,8 +29,8 @@ pub const MOST_DEPTH: u32 = 12;
 /// How many parameters a function may have.
 pub const MOST_PARAMETERS: usize = 6;
 
-/// How many turns the bound of a loop may tell.
-pub const MOST_TURNS: u32 = 65_535;
+/// How many iterations the bound of a loop may tell.
+pub const MOST_ITERATIONS: u32 = 65_535;
 
 /// How many brackets may be open at once.
 pub const MOST_BRACKETS: usize = 64;

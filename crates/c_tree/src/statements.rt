@@ -95,7 +95,7 @@ pub enum Head {
     },
 }
 
-/// How often a loop turns, at least and at most.
+/// How many iterations a loop makes, at least and at most.
 #[derive(Clone, Copy, Debug, PartialEq, Eq)]
 pub struct Bound {
     pub min: u32,

@@ -7,7 +7,7 @@ pub enum Token {
     Word { text: Text },
     /// A number, and whether it is unsigned: by its suffix, or because it passes 2^31 - 1.
     Number { value: u32, unsigned: bool },
-    /// The bound of a loop, on how often it turns.
+    /// The bound of a loop: how many iterations it makes.
     Bound { min: u32, max: u32 },
     /// A word that is no name.
     Keyword { word: Keyword },

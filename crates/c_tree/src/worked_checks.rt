@@ -78,7 +78,7 @@ pub fn worked_faults()
         ∷ tree.set (codes "x") (tree.call (codes "f") []) ∷ []) ∷ [])) cores own
         ≡ record { at = 21; kind = CheckFault.WrongType } ∷ [] }
     ensures no_bound { (cores own : ℕ) → faults_of ((function_of (codes "main") []
-        (tree.looped None (tree.turns_while (tree.number 0 false)) tree.no_stmt ∷ []) ∷ [])) cores own
+        (tree.looped None (tree.iterations_while (tree.number 0 false)) tree.no_stmt ∷ []) ∷ [])) cores own
         ≡ record { at = 5; kind = CheckFault.NoBound } ∷ [] }
     ensures target { (cores own : ℕ)
         → target_faults cores own 7 own ≡ record { at = 7; kind = CheckFault.Target } ∷ [] }
@@ -94,14 +94,14 @@ pub fn worked_weights()
     ensures declared { stmt_weight (tree.declared Kind.Int (codes "x") (Some (tree.value (tree.number 1 false)))) ≡ 16 }
     ensures set { stmt_weight (tree.set (codes "x") (tree.value (tree.number 1 false))) ≡ 16 }
     ensures returned { stmt_weight (tree.returned (Some (tree.number 1 false))) ≡ 20 }
-    ensures turning { stmt_weight (tree.looped None (tree.turns_while (tree.number 1 false))
+    ensures iterating { stmt_weight (tree.looped None (tree.iterations_while (tree.number 1 false))
         (tree.stmt tree.broken tree.no_stmt)) ≡ 72 }
     ensures otherwise { stmt_weight
         (tree.chosen (tree.arm (tree.number 1 false)
         (tree.stmt (tree.declared Kind.Int (codes "y") None) tree.no_stmt) tree.no_arm)
         (tree.or_else tree.no_stmt)) ≡ 44 }
     ensures loop_frame { stmt_frame
-        (tree.looped None (tree.turns_while (tree.number 1 false)) (tree.stmt tree.broken tree.no_stmt)) ≡ 2 }
+        (tree.looped None (tree.iterations_while (tree.number 1 false)) (tree.stmt tree.broken tree.no_stmt)) ≡ 2 }
     ensures else_frame { stmt_frame
         (tree.chosen (tree.arm (tree.number 1 false)
         (tree.stmt (tree.declared Kind.Int (codes "y") None) tree.no_stmt) tree.no_arm)

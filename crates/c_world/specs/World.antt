@@ -63,7 +63,7 @@ with_element r first count index value w = if nat_lt index count then with_word 
 
 -- ---- loops and sends
 
--- the flag, where a loop's condition still held after its last turn
+-- the flag, where a loop's condition still held after its last iteration
 abbrev pub with_overrun : Bool → World → World
 with_overrun held w = record w { overrun = w.overrun || held }
 

@@ -94,7 +94,7 @@ impl Memory {
         }
     }
 
-    /// A loop's condition was tested after its last turn.
+    /// A loop's condition was tested after its last iteration.
     pub fn overran(&mut self, held: bool)
         ensures world { (sends : List Sending) → shown self.new sends ≡ with_overrun held (shown self.old sends) }
         ensures room { rooms self.new ≡ rooms self.old }

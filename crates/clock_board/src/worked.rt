@@ -162,7 +162,7 @@ fn load_all<R: Wait>(
     (pass, first, second)
 }
 
-/// The same, made in two threads, one for each core.
+/// Makes the worked course in two threads, one for each core.
 pub fn two_cores_at_once<R: Threads + Wait + Sync>(
     rt: &R,
     alloc: Global,

@@ -67,9 +67,9 @@ mutual
   part_words_alike : (start : ℕ → ℕ) (p : PlainPart) → list_all has_constants (flat_part start p) ≡ part_all has_constants p
   part_words_alike start (straight bs) = refl
   part_words_alike start (repeats count body tail) =
-      let turn = turned (parts_words body) tail in
-      list_all-append has_constants (flat_parts start body) turn
-      ∙ ap (λ x. x && list_all has_constants turn) (parts_words_alike start body)
+      let iteration = turned (parts_words body) tail in
+      list_all-append has_constants (flat_parts start body) iteration
+      ∙ ap (λ x. x && list_all has_constants iteration) (parts_words_alike start body)
       ∙ ap (λ x. parts_all has_constants body && x) (turned_words (parts_words body) tail)
   part_words_alike start (calls_to k tail) = called_words (start k) tail
   part_words_alike start (leaves tail) = refl

@@ -68,7 +68,7 @@ module _ (place : Place) (s : PlainShape) (addresses : List ℕ) (link : IsLinka
       let words : Each IsWord loads = loads_are_words place.cores place.core (site_of place (linked s)) input values (bundles_in (trail s)) among link.words link.initial given in
       let fits : FitsRegisters m.regs = record { count = refl; pred_count = refl; zero = refl; always = refl } in
       let f : Follows (linked s) by_stack (trail s) (dues_of s (back 0 0)) (walk_from (entry (linked s)) m) =
-      shape_followed s by_stack m link.formed link.fits link.bundles fits refl (behaves.turns no_memory loads words) in
+      shape_followed s by_stack m link.formed link.fits link.bundles fits refl (behaves.iterations no_memory loads words) in
       let r : RunsAs place.cores place.core (site_of place (linked s)) input values (trail s) (dues_of s (back 0 0)) m f.last =
       runs_as place.cores place.core (site_of place (linked s)) input values (trail s) (dues_of s (back 0 0)) no_memory (backs_of s) f.last 0 (unused_ports input) slots (starts_behind s) f.does_so (behaves.sound no_memory loads words) f.returns in
       record {

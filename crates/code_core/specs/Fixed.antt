@@ -20,7 +20,7 @@ use Rattle.sp_shape.specs.Memory.{Memory}
 use Rattle.sp_shape.specs.Parts.{PlainShape}
 use Rattle.sp_shape.specs.Run.{Run, Sources, first_load, other_loads, late, run_late, begun, at_begin}
 use Rattle.sp_shape.specs.Trail.{Step, does, begins, trail}
-use Rattle.sp_shape.specs.Turning.{ShapeTurns}
+use Rattle.sp_shape.specs.Iterating.{ShapeIterations}
 use Rattle.tc_link.specs.Backs.{backs_of}
 use Rattle.tc_link.specs.Fits.{FitsImage}
 use Rattle.tc_link.specs.Placed.{function, flat, linked}
@@ -71,7 +71,7 @@ AreSteady (begins ∷ steps) = AreSteady steps
 
 -- ---- shapes
 
--- a shape that can be an image, of words, and whose transactions hang on no predicate
+-- a shape that can be an image, of words, and whose transactions depend on no predicate
 pub record IsLinkable (s : PlainShape) : Type 0 where
   pub formed : is_formed s ≡ true
   pub fits : FitsImage s
@@ -95,11 +95,11 @@ no_memory = record {
 abbrev pub begun_run : PlainShape → List ℕ → Run
 begun_run s loads = at_begin no_memory loads (backs_of s)
 
--- whatever words stand in its memories and its loads from outside the stack give, it makes its turns, asks for nothing
+-- whatever words stand in its memories and its loads from outside the stack give, it makes its iterations, asks for nothing
 -- that a check stops, and loads by the data cache at these addresses
 pub record Behaves (s : PlainShape) (place : Place) (addresses : List ℕ) : Type 0 where
-  pub turns : (memory : Memory) (loads : List ℕ) → Each IsWord loads
-      → ShapeTurns (run_late by_stack) s (at_begin memory loads (backs_of s))
+  pub iterations : (memory : Memory) (loads : List ℕ) → Each IsWord loads
+      → ShapeIterations (run_late by_stack) s (at_begin memory loads (backs_of s))
   pub sound : (memory : Memory) (loads : List ℕ) → Each IsWord loads
       → AreSound (site_of place (linked s)) by_stack (trail s) (at_begin memory loads (backs_of s))
   pub same : (memory : Memory) (loads : List ℕ) → Each IsWord loads

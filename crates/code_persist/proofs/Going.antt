@@ -12,13 +12,13 @@ use Rattle.patmos_model.specs.declared.flow.Goal.{Goal}
 use Rattle.patmos_model.specs.declared.flow.Goal.TheVariants as goal
 use Rattle.patmos_model.specs.Site.{method_at}
 use Rattle.core_pace.specs.Pace.{Event, came}
-use Rattle.sp_shape.specs.Formed.{is_branch, is_call, is_turn, is_way, part_formed, parts_formed, function_formed, functions_formed}
+use Rattle.sp_shape.specs.Formed.{is_branch, is_call, is_iteration, is_way, part_formed, parts_formed, function_formed, functions_formed}
 use Rattle.sp_shape.specs.Parts.{PlainPart, straight, repeats, calls_to, leaves, PlainParts, no_part, part}
 use Rattle.sp_shape.specs.Run.{Back, first_load, other_loads}
 use Rattle.sp_shape.specs.Trail.{Step, does, begins}
 use Rattle.sp_shape.specs.Words.{bundles_words, part_words}
 use Rattle.tc_link.specs.Backs.{back}
-use Rattle.tc_link.specs.Dues.{undue, way_dues, turn_dues, turns_dues, part_dues, parts_dues, dues}
+use Rattle.tc_link.specs.Dues.{undue, way_dues, iteration_dues, iterations_dues, part_dues, parts_dues, dues}
 use Rattle.tc_link.specs.Walk.{due_in}
 use Rattle.code_core.specs.Fixed.{kind_of, is_cached, fixed_events}
 use Rattle.code_core.specs.Goes.{goal_events}
@@ -98,18 +98,18 @@ module _ (image : Parts) (all : List Method) where
       by zero = h
       by (suc n) = tt
 
-  turn_for : (at : ℕ) (bs : List Slots) → AreFor all image (turn_dues (goal.Within at) bs)
-  turn_for at [] = tt
-  turn_for at (b ∷ bs) = by (turn_for at bs) (is_branch b.first.op)
+  iteration_for : (at : ℕ) (bs : List Slots) → AreFor all image (iteration_dues (goal.Within at) bs)
+  iteration_for at [] = tt
+  iteration_for at (b ∷ bs) = by (iteration_for at bs) (is_branch b.first.op)
     where
-      by : AreFor all image (turn_dues (goal.Within at) bs) → (t : Bool) → AreFor all image (if t then way_dues (goal.Within at) (b ∷ bs) else None ∷ turn_dues (goal.Within at) bs)
+      by : AreFor all image (iteration_dues (goal.Within at) bs) → (t : Bool) → AreFor all image (if t then way_dues (goal.Within at) (b ∷ bs) else None ∷ iteration_dues (goal.Within at) bs)
       by rest true = way_for (goal.Within at) (b ∷ bs) tt
       by rest false = (tt, rest)
 
-  turns_for : (body again last : List (Option Goal)) (count : ℕ) → AreFor all image body → AreFor all image again → AreFor all image last → AreFor all image (turns_dues body again last count)
-  turns_for body again last zero a b c = tt
-  turns_for body again last (suc zero) a b c = joined_for body last a c
-  turns_for body again last (suc (suc n)) a b c = joined_for (body ++ again) (turns_dues body again last (suc n)) (joined_for body again a b) (turns_for body again last (suc n) a b c)
+  iterations_for : (body again last : List (Option Goal)) (count : ℕ) → AreFor all image body → AreFor all image again → AreFor all image last → AreFor all image (iterations_dues body again last count)
+  iterations_for body again last zero a b c = tt
+  iterations_for body again last (suc zero) a b c = joined_for body last a c
+  iterations_for body again last (suc (suc n)) a b c = joined_for (body ++ again) (iterations_dues body again last (suc n)) (joined_for body again a b) (iterations_for body again last (suc n) a b c)
 
   -- ---- over functions, by their numbers
 
@@ -135,9 +135,9 @@ module _ (image : Parts) (all : List Method) where
         part_for : (p : PlainPart) (at : ℕ) → part_formed n p ≡ true → Have (λ j. part_reaches (reaches fs j n) p) → AreFor all image (part_dues start (dues start fs n) home (start n) at p)
         part_for (straight bs) at formed have = undue_for bs
         part_for (repeats count body tail) at formed have =
-            let a = and_parts (nat_lt 0 count) (parts_formed n body && is_turn tail) formed in
-            let b = and_parts (parts_formed n body) (is_turn tail) a.1 in
-            turns_for (parts_dues start (dues start fs n) home (start n) at body) (turn_dues (goal.Within at) tail) (undue tail) count (parts_for body at b.0 have) (turn_for at tail) (undue_for tail)
+            let a = and_parts (nat_lt 0 count) (parts_formed n body && is_iteration tail) formed in
+            let b = and_parts (parts_formed n body) (is_iteration tail) a.1 in
+            iterations_for (parts_dues start (dues start fs n) home (start n) at body) (iteration_dues (goal.Within at) tail) (undue tail) count (parts_for body at b.0 have) (iteration_for at tail) (undue_for tail)
         part_for (calls_to k tail) at formed have =
             let less : k < n = ltb-true k n (and_parts (nat_lt k n) (is_way is_call tail) formed).0 in
             let callee : In k = have k (omega (arith, less, within)) (reaches_itself fs k n less) in

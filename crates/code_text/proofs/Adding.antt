@@ -21,8 +21,8 @@ bundles_add : (e : ℕ) (bs : List Slots) → bundles_bound e bs ≡ length bs +
 bundles_add e [] = grind (arith, common_steps)
 bundles_add e (b ∷ bs) = let rest = bundles_add e bs in grind (arith, common_steps, rest)
 
-turns_add : (n e a b c d : ℕ) → n * ((a + e * b) + (c + e * d)) ≡ n * (a + c) + e * (n * (b + d))
-turns_add n e a b c d = grind (arith, common_steps)
+iterations_add : (n e a b c d : ℕ) → n * ((a + e * b) + (c + e * d)) ≡ n * (a + c) + e * (n * (b + d))
+iterations_add n e a b c d = grind (arith, common_steps)
 
 -- over functions whose bundles and transactions add up
 module _ (e own : ℕ) (fill g b m : ℕ → ℕ) (adds : (k : ℕ) → g k ≡ b k + e * m k) where
@@ -31,7 +31,7 @@ module _ (e own : ℕ) (fill g b m : ℕ → ℕ) (adds : (k : ℕ) → g k ≡ 
     part_adds (straight bs) = bundles_add e bs
     part_adds (repeats count body tail) =
         ap (λ n. count * (n + bundles_bound e tail)) (parts_add body) ∙ ap (λ n. count * (parts_bundles b body + e * parts_moves fill m own body + n)) (bundles_add e tail)
-        ∙ turns_add count e (parts_bundles b body) (parts_moves fill m own body) (length tail) (bundles_moves tail)
+        ∙ iterations_add count e (parts_bundles b body) (parts_moves fill m own body) (length tail) (bundles_moves tail)
     part_adds (calls_to k tail) = let way = bundles_add e tail in let called = adds k in grind (arith, common_steps, way, called)
     part_adds (leaves tail) = bundles_add e tail
 

@@ -5,7 +5,7 @@ use Rattle.patmos_instr.specs.Instructions.{is_long}
 use Rattle.patmos_instr.specs.declared.instructions.Op.{Op}
 use Rattle.patmos_instr.specs.declared.instructions.Op.TheVariants as op
 use Rattle.patmos_syntax.specs.Drafts.{is_long_draft, size_of}
-use Rattle.sp_shape.specs.Formed.{is_turn, part_formed, parts_formed, function_formed}
+use Rattle.sp_shape.specs.Formed.{is_iteration, part_formed, parts_formed, function_formed}
 use Rattle.std.specs.Fmt.{decimal}
 use Rattle.patmos_instr.specs.Bundles.{Slots}
 use Rattle.patmos_syntax.specs.Items.{Item}
@@ -18,7 +18,7 @@ use Rattle.sp_shape.specs.Words.{bundle_words, bundles_words, part_words, parts_
 use Rattle.code_text.specs.Lines.{Line, remark, begins, marks, does}
 use Rattle.code_text.specs.Listing.{aimed, draft_of, bundle_lines, part_loops, parts_loops, part_lines, parts_lines, loop_end}
 use Rattle.code_text.specs.declared.aims.Aim.{Aim}
-use Rattle.code_text.specs.declared.aims.Aim.TheVariants.{Onward, Turn, Entry}
+use Rattle.code_text.specs.declared.aims.Aim.TheVariants.{Onward, Loop, Entry}
 use Rattle.code_text.proofs.Inline.{lacks_both, decimal_inline, label_inline, note_inline}
 use Rattle.code_text.proofs.Placing.{IsKnown, AreKnown}
 use Rattle.code_text.proofs.Reading.{items_at}
@@ -115,13 +115,13 @@ module _ (names : List (List ℕ)) (words : List ℕ) where
     rise_part at loop (straight bs) ls small r = rise_bundles loop Onward at bs ls (subst (λ n. Rise n ls) (omega arith) r)
     rise_part at loop (repeats count body tail) ls small r =
         let inner = parts_lines names words at (loop + 1) body in
-        let way = bundle_lines names words (Turn loop) (at + parts_words body) tail in (
+        let way = bundle_lines names words (Loop loop) (at + parts_words body) tail in (
           omega arith,
           omega (arith, small),
           subst (Rise (loop + 1)) (sym (append_assoc inner (way ++ loop_end loop ∷ []) ls))
               (rise_parts at (loop + 1) body ((way ++ loop_end loop ∷ []) ++ ls) (omega (arith, small))
               (subst (Rise (loop + 1 + parts_loops body)) (sym (append_assoc way (loop_end loop ∷ []) ls))
-              (rise_bundles (loop + 1 + parts_loops body) (Turn loop) (at + parts_words body) tail (loop_end loop ∷ ls) (subst (λ n. Rise n ls) (omega arith) r)))),
+              (rise_bundles (loop + 1 + parts_loops body) (Loop loop) (at + parts_words body) tail (loop_end loop ∷ ls) (subst (λ n. Rise n ls) (omega arith) r)))),
         )
     rise_part at loop (calls_to k tail) ls small r = rise_bundles loop (Entry k) at tail ls (subst (λ n. Rise n ls) (omega arith) r)
     rise_part at loop (leaves tail) ls small r = rise_bundles loop Onward at tail ls (subst (λ n. Rise n ls) (omega arith) r)
@@ -141,10 +141,10 @@ module _ (names : List (List ℕ)) (words : List ℕ) where
   inline_bundles aim at [] = tt
   inline_bundles aim at (b ∷ bs) = (note_inline words at (bundle_words b), inline_bundles aim (at + bundle_words b) bs)
 
-  begin_inline : (loop count : ℕ) → lacks 10 (codes "loop " ++ label_name loop ++ codes " turns " ++ decimal count) ≡ true
+  begin_inline : (loop count : ℕ) → lacks 10 (codes "loop " ++ label_name loop ++ codes " iterations " ++ decimal count) ≡ true
   begin_inline loop count =
-      lacks_both (codes "loop " ++ label_name loop ++ codes " turns ") (decimal count)
-      (lacks_both (codes "loop " ++ label_name loop) (codes " turns ") (label_inline loop) refl) (decimal_inline count)
+      lacks_both (codes "loop " ++ label_name loop ++ codes " iterations ") (decimal count)
+      (lacks_both (codes "loop " ++ label_name loop) (codes " iterations ") (label_inline loop) refl) (decimal_inline count)
 
   mutual
     inline_part : (at loop : ℕ) (p : PlainPart) → AreInline (part_lines names words at loop p)
@@ -154,7 +154,7 @@ module _ (names : List (List ℕ)) (words : List ℕ) where
       (
         tt,
         inline_both (parts_lines names words at (loop + 1) body) _ (inline_parts at (loop + 1) body)
-            (inline_both (bundle_lines names words (Turn loop) (at + parts_words body) tail) (loop_end loop ∷ []) (inline_bundles (Turn loop) (at + parts_words body) tail) (label_inline loop, tt)),
+            (inline_both (bundle_lines names words (Loop loop) (at + parts_words body) tail) (loop_end loop ∷ []) (inline_bundles (Loop loop) (at + parts_words body) tail) (label_inline loop, tt)),
       ),
     )
     inline_part at loop (calls_to k tail) = inline_bundles (Entry k) at tail
@@ -197,7 +197,7 @@ labels_both at (does b note ∷ ls) ms =
     labels_both (at + size_of b) ls ms ∙ ap (λ n. labels_in (at + size_of b) ls ++ labels_in n ms) (omega arith)
 
 aimed_long : (names : List (List ℕ)) (aim : Aim) (o : Op) → is_long_draft (aimed names aim o) ≡ is_long o
-aimed_long names (Turn loop) (op.Branch z) = refl
+aimed_long names (Loop loop) (op.Branch z) = refl
 aimed_long names (Entry k) (op.Call n) = refl
 aimed_long names aim o = refl
 
@@ -218,10 +218,10 @@ module _ (names : List (List ℕ)) (words : List ℕ) where
     part_words_in at loop (straight bs) = bundles_words_in Onward at bs
     part_words_in at loop (repeats count body tail) =
         let inner = parts_lines names words at (loop + 1) body in
-        let way = bundle_lines names words (Turn loop) (at + parts_words body) tail in
+        let way = bundle_lines names words (Loop loop) (at + parts_words body) tail in
         let one = words_both inner (way ++ loop_end loop ∷ []) in
         let two = words_both way (loop_end loop ∷ []) in
-        omega (arith, one, two, parts_words_in at (loop + 1) body, bundles_words_in (Turn loop) (at + parts_words body) tail)
+        omega (arith, one, two, parts_words_in at (loop + 1) body, bundles_words_in (Loop loop) (at + parts_words body) tail)
     part_words_in at loop (calls_to k tail) = bundles_words_in (Entry k) at tail
     part_words_in at loop (leaves tail) = bundles_words_in Onward at tail
 
@@ -236,9 +236,9 @@ module _ (names : List (List ℕ)) (words : List ℕ) where
     part_labels at loop (straight bs) = bundles_labels Onward at at bs
     part_labels at loop (repeats count body tail) =
         let inner = parts_lines names words at (loop + 1) body in
-        let way = bundle_lines names words (Turn loop) (at + parts_words body) tail in
+        let way = bundle_lines names words (Loop loop) (at + parts_words body) tail in
         let none : labels_in (at + words_in inner) (way ++ loop_end loop ∷ []) ≡ [] =
-        labels_both (at + words_in inner) way (loop_end loop ∷ []) ∙ ap (λ ps. ps ++ []) (bundles_labels (Turn loop) (at + parts_words body) (at + words_in inner) tail) in
+        labels_both (at + words_in inner) way (loop_end loop ∷ []) ∙ ap (λ ps. ps ++ []) (bundles_labels (Loop loop) (at + parts_words body) (at + words_in inner) tail) in
         ap (λ ps. (label_name loop, at) ∷ ps)
         (labels_both at inner (way ++ loop_end loop ∷ []) ∙ ap (λ ps. labels_in at inner ++ ps) none ∙ append-nil (labels_in at inner) ∙ parts_labels at (loop + 1) body)
     part_labels at loop (calls_to k tail) = bundles_labels (Entry k) at at tail
@@ -266,17 +266,17 @@ stand_labels functions labels rest line at off (does b note ∷ ls) (x ∷ bs) s
     stand_labels functions labels rest (line + 1) (at + bundle_words x) (off + size_of b) ls bs s.1 ∙ ap (λ n. labels_in (off + size_of b) ls ++ labels_from n rest) (omega (arith, size))
 
 -- each loop has a word, so that labels are few
-turn_some : (tail : List Slots) → is_turn tail ≡ true → 1 ≤ bundles_words tail
-turn_some [] e = cc
-turn_some (b ∷ bs) e = grind arith
+iteration_some : (tail : List Slots) → is_iteration tail ≡ true → 1 ≤ bundles_words tail
+iteration_some [] e = cc
+iteration_some (b ∷ bs) e = grind arith
 
 mutual
   few_part : (number : ℕ) (p : PlainPart) → part_formed number p ≡ true → part_loops p ≤ part_words p
   few_part number (straight bs) e = omega arith
   few_part number (repeats count body tail) e =
-      let t = and_parts (nat_lt 0 count) (parts_formed number body && is_turn tail) e in
-      let u = and_parts (parts_formed number body) (is_turn tail) t.1 in
-      omega (arith, few_parts number body u.0, turn_some tail u.1)
+      let t = and_parts (nat_lt 0 count) (parts_formed number body && is_iteration tail) e in
+      let u = and_parts (parts_formed number body) (is_iteration tail) t.1 in
+      omega (arith, few_parts number body u.0, iteration_some tail u.1)
   few_part number (calls_to k tail) e = omega arith
   few_part number (leaves tail) e = omega arith
 

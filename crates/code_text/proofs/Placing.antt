@@ -12,7 +12,7 @@ use Rattle.patmos_asm.specs.Assembly.{Lookup}
 use Rattle.patmos_asm.specs.Printed.{label_name}
 use Rattle.patmos_asm.proofs.Counted.{label_is_name}
 use Rattle.patmos_asm.proofs.ReadForms as forms
-use Rattle.sp_shape.specs.Formed.{is_flow, is_branch, is_call, is_return, is_always, are_calm, are_delay_slots, is_turn, is_way, part_formed, parts_formed, function_formed}
+use Rattle.sp_shape.specs.Formed.{is_flow, is_branch, is_call, is_return, is_always, are_calm, are_delay_slots, is_iteration, is_way, part_formed, parts_formed, function_formed}
 use Rattle.sp_shape.specs.Parts.{PlainPart, straight, repeats, calls_to, leaves, PlainParts, no_part, part}
 use Rattle.sp_shape.specs.Words.{bundle_words, bundles_words, part_words, parts_words}
 use Rattle.tc_link.specs.Flat.{call_to, branch_back, called, turned, flat_part, flat_parts, with_op}
@@ -20,7 +20,7 @@ use Rattle.tc_link.proofs.Counted.{flat_part_words, flat_words}
 use Rattle.code_text.specs.Lines.{Line, remark, begins, marks, does}
 use Rattle.code_text.specs.Listing.{name_of, aimed, draft_of, bundle_lines, part_loops, part_lines, parts_lines, loop_end}
 use Rattle.code_text.specs.declared.aims.Aim.{Aim}
-use Rattle.code_text.specs.declared.aims.Aim.TheVariants.{Onward, Turn, Entry}
+use Rattle.code_text.specs.declared.aims.Aim.TheVariants.{Onward, Loop, Entry}
 use Rattle.code_text.proofs.Standing.{StandsFor, Stand, stand_both}
 
 -- the labels of loops are known: of the first loop in parts this is the number
@@ -49,7 +49,7 @@ return_plain (op.BranchFill n) e = cc
 return_plain _ e = refl
 
 aimed_calm : (names : List (List ℕ)) (aim : Aim) (o : Op) → not (is_flow o) ≡ true → aimed names aim o ≡ ready o
-aimed_calm names (Turn loop) (op.Branch z) e = cc
+aimed_calm names (Loop loop) (op.Branch z) e = cc
 aimed_calm names (Entry k) (op.Call n) e = cc
 aimed_calm names aim o e = refl
 
@@ -91,10 +91,10 @@ module _ (names : List (List ℕ)) (words : List ℕ) (functions labels : Lookup
       ap (λ x. x ∷ turned (behind + bundle_words b) bs) (back_calm behind b t.0) ∙ ap (λ xs. b ∷ xs) (turned_calm (behind + bundle_words b) bs t.1)
 
   branch_stands : (loop begin behind at : ℕ) (b : Slots) → labels (label_name loop) ≡ Some begin → loop < 2 ^ 63 → at ≡ begin + behind → is_branch b.first.op ≡ true
-      → StandsFor functions labels at (draft_of names (Turn loop) b) (branch_back behind b)
+      → StandsFor functions labels at (draft_of names (Loop loop) b) (branch_back behind b)
   branch_stands loop begin behind at b found small here e = so b.first.op e
     where
-      so : (o : Op) → is_branch o ≡ true → StandsFor functions labels at (draft_of names (Turn loop) (with_op o b)) (branch_back behind (with_op o b))
+      so : (o : Op) → is_branch o ≡ true → StandsFor functions labels at (draft_of names (Loop loop) (with_op o b)) (branch_back behind (with_op o b))
       so (op.Branch z) e = record {
         is = ap (λ (o : Op). with_op o b) (ap (λ p. op.Branch (pos (unwrap_or p 0) -ℤ pos at)) found ∙ ap (λ z. op.Branch z) (omega (arith, ints, here)));
         known = rw found refl;
@@ -113,26 +113,26 @@ module _ (names : List (List ℕ)) (words : List ℕ) (functions labels : Lookup
       so (op.Branch z) = refl
       so _ = refl
 
-  turn_first : (t : Bool) (loop begin behind at : ℕ) (b : Slots) (bs : List Slots) → is_branch b.first.op ≡ t → labels (label_name loop) ≡ Some begin → loop < 2 ^ 63 → at ≡ begin + behind
-      → (is_turn bs ≡ true → Stand functions labels (at + bundle_words b) (bundle_lines names words (Turn loop) (at + bundle_words b) bs) (turned (behind + bundle_words b) bs))
-      → (if t then are_delay_slots 2 bs else (not (is_flow b.first.op) && is_turn bs)) ≡ true
-      → Stand functions labels at (bundle_lines names words (Turn loop) at (b ∷ bs)) (turned behind (b ∷ bs))
-  turn_first true loop begin behind at b bs is found small here more rest =
+  iteration_first : (t : Bool) (loop begin behind at : ℕ) (b : Slots) (bs : List Slots) → is_branch b.first.op ≡ t → labels (label_name loop) ≡ Some begin → loop < 2 ^ 63 → at ≡ begin + behind
+      → (is_iteration bs ≡ true → Stand functions labels (at + bundle_words b) (bundle_lines names words (Loop loop) (at + bundle_words b) bs) (turned (behind + bundle_words b) bs))
+      → (if t then are_delay_slots 2 bs else (not (is_flow b.first.op) && is_iteration bs)) ≡ true
+      → Stand functions labels at (bundle_lines names words (Loop loop) at (b ∷ bs)) (turned behind (b ∷ bs))
+  iteration_first true loop begin behind at b bs is found small here more rest =
       let calm = slots_calm 2 bs rest in (
         branch_stands loop begin behind at b found small here is,
-        subst (λ xs. Stand functions labels (at + bundle_words (branch_back behind b)) (bundle_lines names words (Turn loop) (at + bundle_words b) bs) xs) (sym (turned_calm (behind + bundle_words b) bs calm))
-            (subst (λ n. Stand functions labels (at + n) (bundle_lines names words (Turn loop) (at + bundle_words b) bs) bs) (sym (back_words behind b)) (calm_stands (Turn loop) (at + bundle_words b) bs calm)),
+        subst (λ xs. Stand functions labels (at + bundle_words (branch_back behind b)) (bundle_lines names words (Loop loop) (at + bundle_words b) bs) xs) (sym (turned_calm (behind + bundle_words b) bs calm))
+            (subst (λ n. Stand functions labels (at + n) (bundle_lines names words (Loop loop) (at + bundle_words b) bs) bs) (sym (back_words behind b)) (calm_stands (Loop loop) (at + bundle_words b) bs calm)),
       )
-  turn_first false loop begin behind at b bs is found small here more rest =
-      let t = and_parts (not (is_flow b.first.op)) (is_turn bs) rest in
-      subst (λ x. StandsFor functions labels at (draft_of names (Turn loop) b) x × Stand functions labels (at + bundle_words x) (bundle_lines names words (Turn loop) (at + bundle_words b) bs) (turned (behind + bundle_words b) bs)) (sym (back_calm behind b t.0))
-      (plain_stands at b (aimed names (Turn loop) b.first.op) (aimed_calm names (Turn loop) b.first.op t.0) (calm_plain b.first.op t.0), more t.1)
+  iteration_first false loop begin behind at b bs is found small here more rest =
+      let t = and_parts (not (is_flow b.first.op)) (is_iteration bs) rest in
+      subst (λ x. StandsFor functions labels at (draft_of names (Loop loop) b) x × Stand functions labels (at + bundle_words x) (bundle_lines names words (Loop loop) (at + bundle_words b) bs) (turned (behind + bundle_words b) bs)) (sym (back_calm behind b t.0))
+      (plain_stands at b (aimed names (Loop loop) b.first.op) (aimed_calm names (Loop loop) b.first.op t.0) (calm_plain b.first.op t.0), more t.1)
 
-  turn_stands : (loop begin behind at : ℕ) (bs : List Slots) → labels (label_name loop) ≡ Some begin → loop < 2 ^ 63 → at ≡ begin + behind → is_turn bs ≡ true
-      → Stand functions labels at (bundle_lines names words (Turn loop) at bs) (turned behind bs)
-  turn_stands loop begin behind at [] found small here e = tt
-  turn_stands loop begin behind at (b ∷ bs) found small here e =
-      turn_first (is_branch b.first.op) loop begin behind at b bs refl found small here (turn_stands loop begin (behind + bundle_words b) (at + bundle_words b) bs found small (omega (arith, here))) e
+  iteration_stands : (loop begin behind at : ℕ) (bs : List Slots) → labels (label_name loop) ≡ Some begin → loop < 2 ^ 63 → at ≡ begin + behind → is_iteration bs ≡ true
+      → Stand functions labels at (bundle_lines names words (Loop loop) at bs) (turned behind bs)
+  iteration_stands loop begin behind at [] found small here e = tt
+  iteration_stands loop begin behind at (b ∷ bs) found small here e =
+      iteration_first (is_branch b.first.op) loop begin behind at b bs refl found small here (iteration_stands loop begin (behind + bundle_words b) (at + bundle_words b) bs found small (omega (arith, here))) e
 
   -- ---- calls and returns
 
@@ -185,13 +185,13 @@ module _ (names : List (List ℕ)) (words : List ℕ) (functions labels : Lookup
       part_stands : (at loop : ℕ) (p : PlainPart) → part_formed number p ≡ true → IsKnown labels at loop p → Stand functions labels at (part_lines names words at loop p) (flat_part start p)
       part_stands at loop (straight bs) e known = calm_stands Onward at bs e
       part_stands at loop (repeats count body tail) e known =
-          let t = and_parts (nat_lt 0 count) (parts_formed number body && is_turn tail) e in
-          let u = and_parts (parts_formed number body) (is_turn tail) t.1 in
-          stand_both functions labels at (parts_lines names words at (loop + 1) body) (bundle_lines names words (Turn loop) (at + parts_words body) tail ++ loop_end loop ∷ []) (flat_parts start body) (turned (parts_words body) tail)
+          let t = and_parts (nat_lt 0 count) (parts_formed number body && is_iteration tail) e in
+          let u = and_parts (parts_formed number body) (is_iteration tail) t.1 in
+          stand_both functions labels at (parts_lines names words at (loop + 1) body) (bundle_lines names words (Loop loop) (at + parts_words body) tail ++ loop_end loop ∷ []) (flat_parts start body) (turned (parts_words body) tail)
           (parts_stand at (loop + 1) body u.0 known.2)
-          (subst (λ n. Stand functions labels (at + n) (bundle_lines names words (Turn loop) (at + parts_words body) tail ++ loop_end loop ∷ []) (turned (parts_words body) tail)) (sym (flat_words start body))
-          (stand_end functions labels (at + parts_words body) (bundle_lines names words (Turn loop) (at + parts_words body) tail) (turned (parts_words body) tail) (codes "end " ++ label_name loop)
-          (turn_stands loop at (parts_words body) (at + parts_words body) tail known.0 known.1 refl u.1)))
+          (subst (λ n. Stand functions labels (at + n) (bundle_lines names words (Loop loop) (at + parts_words body) tail ++ loop_end loop ∷ []) (turned (parts_words body) tail)) (sym (flat_words start body))
+          (stand_end functions labels (at + parts_words body) (bundle_lines names words (Loop loop) (at + parts_words body) tail) (turned (parts_words body) tail) (codes "end " ++ label_name loop)
+          (iteration_stands loop at (parts_words body) (at + parts_words body) tail known.0 known.1 refl u.1)))
       part_stands at loop (calls_to k tail) e known =
           let t = and_parts (nat_lt k number) (is_way is_call tail) e in
           let below : k < number = ltb-true k number t.0 in

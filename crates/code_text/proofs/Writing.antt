@@ -31,17 +31,21 @@ loop_text old one two three four begin mark last inner way e f g h =
     ∙ ap (λ t. old ++ (line_text begin ++ (line_text mark ++ t))) (sym (lines_both inner (way ++ last ∷ [])))
 
 -- one part more
-pub next_text : (names : List (List ℕ)) (words : List ℕ) (old new : List ℕ) (at turn next_at next_turn : ℕ) (parts : List Part) (i : ℕ) (p : Part) → i < length parts → p ≡ get_or parts i p
-    → new ≡ old ++ lines_text (part_lines names words at turn (plain_part p)) → next_at ≡ at + part_words (plain_part p) → next_turn ≡ turn + part_loops (plain_part p)
-    → new ++ lines_text (parts_lines names words next_at next_turn (parts_of (drop (i + 1) parts))) ≡ old ++ lines_text (parts_lines names words at turn (parts_of (drop i parts)))
-next_text names words old new at turn next_at next_turn parts i p within is written place number =
-    let one = part_lines names words at turn (plain_part p) in
-    let more = parts_lines names words (at + part_words (plain_part p)) (turn + part_loops (plain_part p)) (parts_of (drop (i + 1) parts)) in
-    ap (λ n. new ++ lines_text (parts_lines names words n next_turn (parts_of (drop (i + 1) parts)))) place
+pub next_text : (names : List (List ℕ)) (words : List ℕ) (old new : List ℕ) (at loop_number next_at next_iteration : ℕ) (parts : List Part) (i : ℕ) (p : Part) → i < length parts → p ≡ get_or parts i p
+    → new ≡ old ++ lines_text (part_lines names words at loop_number (plain_part p)) → next_at ≡ at + part_words (plain_part p) → next_iteration ≡ loop_number + part_loops (plain_part p)
+    → new ++ lines_text (parts_lines names words next_at next_iteration (parts_of (drop (i + 1) parts))) ≡ old ++ lines_text (parts_lines names words at loop_number (parts_of (drop i parts)))
+next_text names words old new at loop_number next_at next_iteration parts i p within is written place number =
+    let one = part_lines names words at loop_number (plain_part p) in
+    let more = parts_lines names words (at + part_words (plain_part p)) (loop_number + part_loops (plain_part p)) (parts_of (drop (i + 1) parts)) in
+    ap (λ n. new ++ lines_text (parts_lines names words n next_iteration (parts_of (drop (i + 1) parts)))) place
     ∙ ap (λ n. new ++ lines_text (parts_lines names words (at + part_words (plain_part p)) n (parts_of (drop (i + 1) parts)))) number
     ∙ ap (λ t. t ++ lines_text more) written ∙ append_assoc old (lines_text one) (lines_text more)
     ∙ ap (λ t. old ++ t) (sym (lines_both one more))
-    ∙ ap (λ ps. old ++ lines_text (parts_lines names words at turn (parts_of ps))) (sym (drop_item parts i p within is))
+    ∙ ap (λ ps. old ++ lines_text (parts_lines names words at loop_number (parts_of ps))) (sym (drop_item parts i p within is))
+
+pub begin_nested : (old sign word label iterations count end colon : List ℕ) → old ++ (sign ++ (word ++ label ++ iterations ++ count) ++ end) ++ (label ++ colon ++ end)
+    ≡ old ++ (sign ++ (word ++ (label ++ (iterations ++ (count ++ (end ++ (label ++ (colon ++ end))))))))
+begin_nested old sign word label iterations count end colon = simp append_assoc
 
 pub tally_nested : (b t : List ℕ) → codes " bundles " ++ b ++ codes " transactions " ++ t ≡ codes " bundles " ++ (b ++ (codes " transactions " ++ t))
 tally_nested b t = simp append_assoc

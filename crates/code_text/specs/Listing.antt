@@ -1,5 +1,5 @@
 -- To be believed. The text of a task's compiled code: each function under its name, its bundles in their order, each
--- with its offset and its words, and loops between comments that tell their turns.
+-- with its offset and its words, and loops between comments that tell their iterations.
 use Rattle.std.specs.Prelude.{ℕ, ◌+◌, ◌==◌, if◌then◌else◌, List, [], ◌∷◌, ◌++◌, length, drop, codes, slice_index, slice_index_or, Option, None, Some}
 use Rattle.std.specs.Fmt.{decimal}
 use Rattle.tc_io.specs.Hex.{hex8}
@@ -14,7 +14,7 @@ use Rattle.sp_shape.specs.Parts.{PlainPart, straight, repeats, calls_to, leaves,
 use Rattle.sp_shape.specs.Words.{bundle_words, part_words, parts_words}
 use Rattle.tc_link.specs.Placed.{function, order}
 use Rattle.code_text.specs.declared.aims.Aim.{Aim}
-use Rattle.code_text.specs.declared.aims.Aim.TheVariants.{Onward, Turn, Entry}
+use Rattle.code_text.specs.declared.aims.Aim.TheVariants.{Onward, Loop, Entry}
 use Rattle.code_text.specs.declared.tallies.Tally.{Tally}
 use Rattle.code_text.specs.declared.tasks.Numbers.{Numbers}
 use Rattle.code_text.specs.Lines.{Line, remark, begins, marks, does}
@@ -28,7 +28,7 @@ name_of names k = slice_index_or names k []
 
 -- an operation, with a name in place of the target of its flow
 abbrev pub aimed : List (List ℕ) → Aim → Op → Draft
-aimed names (Turn loop) (op.Branch offset) = to Branch (label_name loop)
+aimed names (Loop loop) (op.Branch offset) = to Branch (label_name loop)
 aimed names (Entry k) (op.Call target) = to Call (name_of names k)
 aimed names _ o = ready o
 
@@ -64,9 +64,9 @@ abbrev mutual
   parts_loops no_part = 0
   parts_loops (part p rest) = part_loops p + parts_loops rest
 
--- before a loop its number and its turns, and behind it its number
+-- before a loop its number and its iterations, and behind it its number
 abbrev pub loop_begin : ℕ → ℕ → Line
-loop_begin loop turns = remark (codes "loop " ++ label_name loop ++ codes " turns " ++ decimal turns)
+loop_begin loop iterations = remark (codes "loop " ++ label_name loop ++ codes " iterations " ++ decimal iterations)
 
 abbrev pub loop_end : ℕ → Line
 loop_end loop = remark (codes "end " ++ label_name loop)
@@ -77,7 +77,7 @@ abbrev mutual
   part_lines names words at loop (straight bs) = bundle_lines names words Onward at bs
   part_lines names words at loop (repeats count body tail) =
       loop_begin loop count ∷ marks loop ∷ (parts_lines names words at (loop + 1) body
-      ++ (bundle_lines names words (Turn loop) (at + parts_words body) tail ++ loop_end loop ∷ []))
+      ++ (bundle_lines names words (Loop loop) (at + parts_words body) tail ++ loop_end loop ∷ []))
   part_lines names words at loop (calls_to k tail) = bundle_lines names words (Entry k) at tail
   part_lines names words at loop (leaves tail) = bundle_lines names words Onward at tail
 

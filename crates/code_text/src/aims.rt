@@ -6,7 +6,7 @@ pub enum Aim {
     /// To the next bundle: no flow with a name stands there.
     Onward,
     /// To the begin of the loop of a number.
-    Turn(u32),
+    Loop(u32),
     /// To the function of a number.
     Entry(u32),
 }

@@ -31,9 +31,9 @@ fn write_first(text: &mut String, names: &[Text], aim: Aim, instr: &Instr) -> Re
         ++ instr_text (record { guard = instr.now.guard; draft = specs.aimed names.now aim instr.now.op })) }
 {
     match (aim, instr.op) {
-        (Aim::Turn(turn), Op::Branch { .. }) => {
+        (Aim::Loop(loop_number), Op::Branch { .. }) => {
             write_guard(text, instr.guard)?;
-            write!(text, "br L{turn}")
+            write!(text, "br L{loop_number}")
         }
         (Aim::Entry(function), Op::Call { .. }) => {
             write_guard(text, instr.guard)?;

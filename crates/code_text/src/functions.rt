@@ -112,7 +112,10 @@ fn write_body(
     ensures { OnOk result (string_bytes text.new ≡ string_bytes text.old ++ lines_text
         (specs.parts_lines names.now words.now 0 0 (placed.function (shape_of runs.now) function))) }
 {
-    let first = Spot { at: 0, turn: 0 };
+    let first = Spot {
+        at: 0,
+        loop_number: 0,
+    };
     write_parts(text, names, words, first, parts_at(runs, function))?;
     Ok(())
 }

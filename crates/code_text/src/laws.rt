@@ -8,7 +8,7 @@ ghost use Rattle.code_text.specs.Tally.{each_at, run_bundles, run_moves, task_bu
 use slot_arbiter::Place;
 
 /// Bundles and transactions add up to the bound: a cycle for each bundle, and for each transaction the most that one
-/// takes at the place, its gap and one slot less a cycle. So it is for each function, over the turns of its loops and
+/// takes at the place, its gap and one slot less a cycle. So it is for each function, over the iterations of its loops and
 /// the functions that it calls, and so for the task. A law: it does nothing.
 pub fn tallies_add_up(place: &Place)
     ensures functions { (s : PlainShape) (k : ℕ)

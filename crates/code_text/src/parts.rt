@@ -17,22 +17,25 @@ use tc_word::Text;
 #[derive(Clone, Copy, Debug, PartialEq, Eq)]
 pub struct Spot {
     pub at: u32,
-    pub turn: u32,
+    pub loop_number: u32,
 }
 
 // adds the lines before a loop
-fn write_begin(text: &mut String, turn: u32, count: u32) -> Result<(), AllocError>
+fn write_begin(text: &mut String, loop_number: u32, count: u32) -> Result<(), AllocError>
     ensures { OnOk result (string_bytes text.new ≡ string_bytes text.old
-        ++ line_text (specs.loop_begin turn count) ++ line_text (marks turn)) }
+        ++ line_text (specs.loop_begin loop_number count) ++ line_text (marks loop_number)) }
 {
-    write!(text, "# loop L{turn} turns {count}\nL{turn}:\n")
+    write!(
+        text,
+        "# loop L{loop_number} iterations {count}\nL{loop_number}:\n"
+    )
 }
 
 // adds the line behind a loop
-fn write_end(text: &mut String, turn: u32) -> Result<(), AllocError>
-    ensures { OnOk result (string_bytes text.new ≡ string_bytes text.old ++ line_text (specs.loop_end turn)) }
+fn write_end(text: &mut String, loop_number: u32) -> Result<(), AllocError>
+    ensures { OnOk result (string_bytes text.new ≡ string_bytes text.old ++ line_text (specs.loop_end loop_number)) }
 {
-    write!(text, "# end L{turn}\n")
+    write!(text, "# end L{loop_number}\n")
 }
 
 // adds the lines of a part at a spot, and tells the spot behind it
@@ -45,38 +48,41 @@ fn write_part(
     part: &Part,
 ) -> Result<Spot, AllocError>
     requires small { spot.at + part_words (plain_part part.now) ≤ MOST_IN_FUNCTION }
-    requires few { spot.turn + specs.part_loops (plain_part part.now) ≤ MOST_IN_FUNCTION }
+    requires few { spot.loop_number + specs.part_loops (plain_part part.now) ≤ MOST_IN_FUNCTION }
     ensures text { OnOk result (string_bytes text.new ≡ string_bytes text.old
-        ++ lines_text (specs.part_lines names.now words.now spot.at spot.turn (plain_part part.now))) }
+        ++ lines_text (specs.part_lines names.now words.now spot.at spot.loop_number (plain_part part.now))) }
     ensures at { IfOk result (λ next. next.at ≡ spot.at + part_words (plain_part part.now)) }
-    ensures turn { IfOk result (λ next. next.turn ≡ spot.turn + specs.part_loops (plain_part part.now)) }
+    ensures loop_number { IfOk result (λ next. next.loop_number ≡ spot.loop_number + specs.part_loops (plain_part part.now)) }
 {
-    let Spot { at, turn } = spot;
+    let Spot { at, loop_number } = spot;
     match part {
         Part::Straight { bundles } => {
             let at = write_bundles(text, names, words, Aim::Onward, at, bundles.as_slice())?;
-            Ok(Spot { at, turn })
+            Ok(Spot { at, loop_number })
         }
         Part::Repeat { count, body, tail } => {
-            write_begin(text, turn, *count)?;
-            let first = Spot { at, turn: turn + 1 };
+            write_begin(text, loop_number, *count)?;
+            let first = Spot {
+                at,
+                loop_number: loop_number + 1,
+            };
             let next = write_parts(text, names, words, first, body.as_slice())?;
-            let aim = Aim::Turn(turn);
+            let aim = Aim::Loop(loop_number);
             let at = write_bundles(text, names, words, aim, next.at, tail.as_slice())?;
-            write_end(text, turn)?;
+            write_end(text, loop_number)?;
             Ok(Spot {
                 at,
-                turn: next.turn,
+                loop_number: next.loop_number,
             })
         }
         Part::CallTo { function, tail } => {
             let aim = Aim::Entry(*function);
             let at = write_bundles(text, names, words, aim, at, tail.as_slice())?;
-            Ok(Spot { at, turn })
+            Ok(Spot { at, loop_number })
         }
         Part::Leave { tail } => {
             let at = write_bundles(text, names, words, Aim::Onward, at, tail.as_slice())?;
-            Ok(Spot { at, turn })
+            Ok(Spot { at, loop_number })
         }
     }
 }
@@ -91,11 +97,11 @@ pub fn write_parts(
     parts: &[Part],
 ) -> Result<Spot, AllocError>
     requires small { spot.at + parts_words (parts_of parts.now) ≤ MOST_IN_FUNCTION }
-    requires few { spot.turn + specs.parts_loops (parts_of parts.now) ≤ MOST_IN_FUNCTION }
+    requires few { spot.loop_number + specs.parts_loops (parts_of parts.now) ≤ MOST_IN_FUNCTION }
     ensures text { OnOk result (string_bytes text.new ≡ string_bytes text.old
-        ++ lines_text (specs.parts_lines names.now words.now spot.at spot.turn (parts_of parts.now))) }
+        ++ lines_text (specs.parts_lines names.now words.now spot.at spot.loop_number (parts_of parts.now))) }
     ensures at { IfOk result (λ next. next.at ≡ spot.at + parts_words (parts_of parts.now)) }
-    ensures turn { IfOk result (λ next. next.turn ≡ spot.turn + specs.parts_loops (parts_of parts.now)) }
+    ensures loop_number { IfOk result (λ next. next.loop_number ≡ spot.loop_number + specs.parts_loops (parts_of parts.now)) }
 {
     let mut spot = spot;
     for part in parts {

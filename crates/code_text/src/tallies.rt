@@ -55,7 +55,7 @@ pub fn runs_of(shape: &Shape, each: u64) -> Runs<'_>
     runs_from::<Brand>(Blank::new(1), shape, each)
 }
 
-// the same, with a count of steps of its own, which nobody reads
+// the runs of a task, with a count of steps of its own, which nobody reads
 #[tactic(auto, using(cycle_bound::proofs::Earlier::shape_parts, sp_shape::proofs::Plain::functions_count))]
 fn runs_from<L: Ledger>(blank: Blank, shape: &Shape, each: u64) -> Runs<'_>
     requires name { blank.name ≡ L.name }

@@ -22,11 +22,11 @@ use Rattle.sp_shape.specs.Parts.{PlainPart, straight, repeats, calls_to, leaves,
 use Rattle.sp_shape.specs.Run.{Back, first_load, other_loads}
 use Rattle.sp_shape.specs.Trail.{Step, does, begins, all_done, copies, part_trail, parts_trail, trails, trail}
 use Rattle.cycle_bound.specs.Bound.{transactions, op_moves, fill_moves, bundles_bound, part_bound, parts_bound, bounds, fill_bound}
-use Rattle.sp_shape.specs.Formed.{is_branch, is_call, is_turn, is_way, part_formed, parts_formed, function_formed, functions_formed, is_formed}
+use Rattle.sp_shape.specs.Formed.{is_branch, is_call, is_iteration, is_way, part_formed, parts_formed, function_formed, functions_formed, is_formed}
 use Rattle.sp_shape.specs.Words.{bundles_words, part_words, parts_words}
 use Rattle.sp_tree.specs.declared.limits.TheConstants.{MOST_FUNCTIONS}
 use Rattle.tc_link.specs.Backs.{back}
-use Rattle.tc_link.specs.Dues.{undue, way_dues, turn_dues, turns_dues, part_dues, parts_dues, dues, dues_of}
+use Rattle.tc_link.specs.Dues.{undue, way_dues, iteration_dues, iterations_dues, part_dues, parts_dues, dues, dues_of}
 use Rattle.tc_link.specs.Placed.{start_of, function}
 use Rattle.code_core.specs.Fixed.{kind_of, is_cached, fixed_events}
 use Rattle.code_core.specs.Goes.{goal_events}
@@ -194,21 +194,21 @@ module _ (image : Parts) (each : ℕ) where
   free_way at [] = record { fits = tt; is = refl }
   free_way at (b ∷ bs) = let k = way_cost (goal.Within at) b bs in record { fits = k.fits; is = (let all = k.is in omega (arith, all)) }
 
-  turn_cost : (at : ℕ) (bs : List Slots) → Costs (all_done bs) (turn_dues (goal.Within at) bs) (bundles_bound each bs)
-  turn_cost at [] = record { fits = tt; is = refl }
-  turn_cost at (b ∷ bs) = by (turn_cost at bs) (is_branch b.first.op)
+  iteration_cost : (at : ℕ) (bs : List Slots) → Costs (all_done bs) (iteration_dues (goal.Within at) bs) (bundles_bound each bs)
+  iteration_cost at [] = record { fits = tt; is = refl }
+  iteration_cost at (b ∷ bs) = by (iteration_cost at bs) (is_branch b.first.op)
     where
-      by : Costs (all_done bs) (turn_dues (goal.Within at) bs) (bundles_bound each bs) → (t : Bool)
-          → Costs (all_done (b ∷ bs)) (if t then way_dues (goal.Within at) (b ∷ bs) else None ∷ turn_dues (goal.Within at) bs) (bundles_bound each (b ∷ bs))
+      by : Costs (all_done bs) (iteration_dues (goal.Within at) bs) (bundles_bound each bs) → (t : Bool)
+          → Costs (all_done (b ∷ bs)) (if t then way_dues (goal.Within at) (b ∷ bs) else None ∷ iteration_dues (goal.Within at) bs) (bundles_bound each (b ∷ bs))
       by k true = free_way at (b ∷ bs)
       by k false = record { fits = k.fits; is = (let rest = k.is in omega (arith, rest)) }
 
-  turns_cost : (body tail : List Step) (ds again last : List (Option Goal)) (a b : ℕ) → Costs body ds a → Costs tail again b → Costs tail last b → (count : ℕ) → Costs (copies count (body ++ tail)) (turns_dues ds again last count) (count * (a + b))
-  turns_cost body tail ds again last a b h k l zero = record { fits = tt; is = omega arith }
-  turns_cost body tail ds again last a b h k l (suc zero) =
+  iterations_cost : (body tail : List Step) (ds again last : List (Option Goal)) (a b : ℕ) → Costs body ds a → Costs tail again b → Costs tail last b → (count : ℕ) → Costs (copies count (body ++ tail)) (iterations_dues ds again last count) (count * (a + b))
+  iterations_cost body tail ds again last a b h k l zero = record { fits = tt; is = omega arith }
+  iterations_cost body tail ds again last a b h k l (suc zero) =
       subst (λ xs. Costs xs (ds ++ last) (1 * (a + b))) (sym (append-nil (body ++ tail))) (other_cost (1 * (a + b)) (omega arith) (both h l))
-  turns_cost body tail ds again last a b h k l (suc (suc n)) =
-      let rest = turns_cost body tail ds again last a b h k l (suc n) in
+  iterations_cost body tail ds again last a b h k l (suc (suc n)) =
+      let rest = iterations_cost body tail ds again last a b h k l (suc n) in
       other_cost (suc (suc n) * (a + b)) (let t : a + b + suc n * (a + b) ≡ suc (suc n) * (a + b) = omega arith in t) (both (both h k) rest)
 
   -- ---- over functions, by their numbers
@@ -231,10 +231,10 @@ module _ (image : Parts) (each : ℕ) where
         part_costs : (p : PlainPart) (at : ℕ) → part_formed number p ≡ true → Costs (part_trail f p) (part_dues (start_of s) goals home (start_of s number) at p) (part_bound each (fill_bound each s.functions) g number p)
         part_costs (straight bs) at formed = undue_cost bs
         part_costs (repeats count body tail) at formed =
-            let a = and_parts (nat_lt 0 count) (parts_formed number body && is_turn tail) formed in
-            let b = and_parts (parts_formed number body) (is_turn tail) a.1 in
-            turns_cost (parts_trail f body) (all_done tail) (parts_dues (start_of s) goals home (start_of s number) at body) (turn_dues (goal.Within at) tail) (undue tail)
-            (parts_bound each (fill_bound each s.functions) g number body) (bundles_bound each tail) (parts_costs body at b.0) (turn_cost at tail) (undue_cost tail) count
+            let a = and_parts (nat_lt 0 count) (parts_formed number body && is_iteration tail) formed in
+            let b = and_parts (parts_formed number body) (is_iteration tail) a.1 in
+            iterations_cost (parts_trail f body) (all_done tail) (parts_dues (start_of s) goals home (start_of s number) at body) (iteration_dues (goal.Within at) tail) (undue tail)
+            (parts_bound each (fill_bound each s.functions) g number body) (bundles_bound each tail) (parts_costs body at b.0) (iteration_cost at tail) (undue_cost tail) count
         part_costs (calls_to k []) at formed = absurd (true≢false (sym (and_parts (nat_lt k number) (is_way is_call []) formed).1))
         part_costs (calls_to k (b ∷ bs)) at formed =
             let less : k < number = ltb-true k number (and_parts (nat_lt k number) (is_way is_call (b ∷ bs)) formed).0 in

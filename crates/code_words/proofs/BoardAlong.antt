@@ -29,7 +29,7 @@ use Rattle.code_words.proofs.Beginning.{holds_first}
 use Rattle.code_words.proofs.BoardWords.{ComesBoard, Told, told_of_both, answers_board}
 use Rattle.code_words.proofs.Saying.{IsBoardWord, OfLoad, of_pending}
 
--- the operations hang on no transfer
+-- the operations depend on no transfer
 made_of_both : (made : List Operation) → OfBoth (λ c ops. ops ≡ made)
 made_of_both made = record { same = λ c d ops is same. same; counts = λ u c ops same. same }
 

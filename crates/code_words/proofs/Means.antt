@@ -58,7 +58,7 @@ module _ (place : Place) (s : PlainShape) (addresses : List ℕ) (link : IsLinka
       let m : Run = at_begin memory loads (backs_of s) in
       let words : Each IsWord loads = loads_are_words place.cores place.core site input values (bundles_in (trail s)) among link.words link.initial given in
       let fits : FitsRegisters m.regs = record { count = refl; pred_count = refl; zero = refl; always = refl } in
-      let f : Follows (linked s) by_stack (trail s) (dues_of s (back 0 0)) (walk_from (entry (linked s)) m) = shape_followed s by_stack m link.formed link.fits link.bundles fits refl (behaves.turns memory loads words) in
+      let f : Follows (linked s) by_stack (trail s) (dues_of s (back 0 0)) (walk_from (entry (linked s)) m) = shape_followed s by_stack m link.formed link.fits link.bundles fits refl (behaves.iterations memory loads words) in
       let r : RunsAs place.cores place.core site input values (trail s) (dues_of s (back 0 0)) m f.last =
       runs_as place.cores place.core site input values (trail s) (dues_of s (back 0 0)) memory (backs_of s) f.last 0 ports slots (starts_behind s) f.does_so (behaves.sound memory loads words) f.returns in
       let o : CarriedTo place.cores place.core site input values (KeepsApart Cached) IsOwnWord (OwnBeside place.cores place.core (begun site input) values Cached are_own) Ever (trail s) m f.last =

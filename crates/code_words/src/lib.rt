@@ -1,6 +1,6 @@
 //! The words of a core that follows its code. Along the walk its scratchpad, its private words below the
 //! stack and the lines of its data cache hold what a run of the code holds, and so do the words that other
-//! cores reach, where its own loads of them are true to a world. The crate has definitions and a law, and
+//! cores reach, where its own loads of them agree with a world. The crate has definitions and a law, and
 //! no code besides. In `specs/`, in reading order:
 //!
 //! 1. `Own`: the words that the core alone reaches, against a run's;

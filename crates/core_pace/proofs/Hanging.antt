@@ -1,4 +1,4 @@
--- Times hang on events alone.
+-- Times depend on events alone.
 use Rattle.std.proofs.Common.{◌≡◌, ℕ, ◌+◌, ◌-◌, ◌<◌, ◌≤◌, List, false, refl, sym, ap, ◌∙◌, arith}
 use Rattle.shared_order.specs.Apart.{Alone, apart}
 use Rattle.patmos_model.specs.Site.{Site}

@@ -185,7 +185,7 @@ flow_event cycle x = elim (is_free cycle x) [
   | false ↦ []
 ]
 
--- the same of a core that may not run
+-- the flow event of a landing; none where the core does not run
 abbrev pub landing_event : ℕ → Plain → List Event
 landing_event cycle x = elim (is_running x) [ true ↦ flow_event cycle x | false ↦ [] ]
 

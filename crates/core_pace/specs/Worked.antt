@@ -45,7 +45,7 @@ method function words = record { function = function; words = words }
 abbrev pub run_of : List (List Slots) → ℕ → Core
 run_of functions cycles = (apart turn 1 0 (core_of 1 0 0 functions) [] cycles).core
 
--- the same of the task by itself, told these values
+-- the run of the task by itself, told these values
 abbrev pub told_of : List (List Slots) → List ℕ → ℕ → Alone Core
 told_of functions values cycles = task_apart 1 0 (core_of 1 0 0 functions) values cycles
 

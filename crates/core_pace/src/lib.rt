@@ -2,7 +2,7 @@
 //!
 //! The model of a core says what happens in each cycle. Whoever looks at a pipeline, or proves anything of compiled
 //! code, wants the same run told by its bundles: which bundle is done in which cycle, what the core then is, and why
-//! its times hang on events and never on values. The crate has definitions and laws, and no code besides: each law is
+//! its times depend on events and never on values. The crate has definitions and laws, and no code besides: each law is
 //! a function that does nothing, whose clauses are the theorems. In `specs/`, in reading order:
 //!
 //! 1. `Starts` (slot starts and gaps that compute) and `Spans` (a transfer in time: the cycles of its transactions and

@@ -31,7 +31,7 @@ pub fn run_keeps_pace()
         + most_in_slot site * length (clock site events (starting site)).accesses }
 {}
 
-/// Times hang on events alone: two runs at one place that have the same events after so many bundles, whatever their
+/// Times depend on events alone: two runs at one place that have the same events after so many bundles, whatever their
 /// inputs and the values that they read, have come to the same cycle, and have the same transactions in each cycle
 /// until then. A law: it does nothing.
 pub fn times_hang_on_events()

@@ -23,7 +23,7 @@ pub fn stack_words_come_back()
         (freed count (reserved count s)) ≡ s }
 {}
 
-/// How many words a reserve writes and an ensure reads hangs on the two pointers alone. A law: it does nothing.
+/// How many words a reserve writes and an ensure reads depends on the two pointers alone. A law: it does nothing.
 pub fn stack_moves_by_pointers()
     ensures spills { (count : ℕ) (s : Stack) → IsStack s
         → length (spilled count s) ≡ count + (s.ss - s.st) - STACK_CACHE_WORDS }

@@ -47,10 +47,10 @@ pub record GoesOnAs (limit : ℕ) (k : Cpu) (v : View) (k' : Cpu) (v' : View) : 
 abbrev pub with_made : View → List Operation → View
 with_made v made = given v (record (own v) { made = made })
 
--- the same with other stamps published
+-- a view with other stamps published
 abbrev pub with_published : View → List ℕ → View
 with_published v published = given v (record (own v) { published = published })
 
--- the same with other looks
+-- a view with other looks
 abbrev pub with_looks : View → List Look → View
 with_looks v looks = given v (record (own v) { looks = looks })

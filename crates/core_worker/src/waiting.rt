@@ -195,7 +195,7 @@ fn is_past<C: Course>(board: &Board<C>, d: u32, stamp: u64) -> bool {
     }
 }
 
-// the same, while it peeks for a while
+// whether the stamp comes while the worker peeks for a while
 fn comes_soon<C: Course>(board: &Board<C>, patience: &mut Patience, d: u32, stamp: u64) -> bool {
     let mut comes = false;
     for _ in 0..patience.peeks() {
@@ -209,7 +209,7 @@ fn comes_soon<C: Course>(board: &Board<C>, patience: &mut Patience, d: u32, stam
     comes
 }
 
-// the same, while it lets other threads run
+// whether the stamp comes while the worker lets other threads run
 fn comes_by_yielding<C: Course>(board: &Board<C>, d: u32, stamp: u64) -> bool {
     for _ in 0..YIELDS {
         yield_now();

@@ -88,7 +88,7 @@ pub fn two_idle_cores<R: Wait>(
     Ok(board.close(maker))
 }
 
-/// The same, each worker in a thread of its own.
+/// Runs two idle cores, each worker in a thread of its own.
 pub fn two_idle_cores_at_once<R: Threads + Wait + Sync>(
     rt: &R,
     alloc: Global,

@@ -110,7 +110,7 @@ impl<C: Course> Worker<C> {
         self.progress.turn(board, None, gate)
     }
 
-    /// The same, and those that wait are told each stamp that it publishes.
+    /// Advances the worker, and wakes those that wait at each stamp that it publishes.
     fn advance_telling<G: Gate>(&mut self, board: &Board<C>, waiting: &Waiting, gate: &G) -> Turn
         requires of { IsOn board.now self.old }
         ensures of { IsOn board.now self.new }

@@ -3,7 +3,7 @@ use Rattle.std.proofs.Common.{◌≡◌, ℕ, zero, suc, ◌<◌, ◌≤◌, tru
 use Rattle.std.proofs.lemmas.Bool.{and_parts, ltb-true, leb-true}
 use Rattle.std.specs.Prelude.{nat_lt, nat_le, ◌&&◌}
 use Rattle.patmos_instr.specs.Bundles.{Slots}
-use Rattle.sp_shape.specs.Formed.{are_calm, is_turn, is_way, is_call, part_formed, parts_formed, function_formed, functions_formed, is_formed}
+use Rattle.sp_shape.specs.Formed.{are_calm, is_iteration, is_way, is_call, part_formed, parts_formed, function_formed, functions_formed, is_formed}
 use Rattle.sp_shape.specs.Parts.{PlainPart, straight, repeats, calls_to, leaves, PlainParts, no_part, part, PlainShape}
 use Rattle.sp_shape.specs.Shown.{plain_part, parts_of, functions_of}
 use Rattle.sp_shape.specs.declared.parts.Part.{Part, CallTo}
@@ -18,7 +18,7 @@ mutual
   part_below : (n : ℕ) (p : PlainPart) → part_formed n p ≡ true → PartCallsBelow n p
   part_below n (straight bs) h = tt
   part_below n (repeats count body tail) h =
-      parts_below n body (and_parts (parts_formed n body) (is_turn tail) (and_parts (nat_lt 0 count) (parts_formed n body && is_turn tail) h).1).0
+      parts_below n body (and_parts (parts_formed n body) (is_iteration tail) (and_parts (nat_lt 0 count) (parts_formed n body && is_iteration tail) h).1).0
   part_below n (calls_to k tail) h = ltb-true k n (and_parts (nat_lt k n) (is_way is_call tail) h).0
   part_below n (leaves tail) h = tt
 

@@ -1,7 +1,7 @@
 -- To be believed. The bound of a shape at a place: how many cycles a core needs at most for its bundles
 -- and for all transactions with main memory that they may make, each of which waits for a slot of the
 -- core and takes one (after the timing of Schoeberl et al., T-CREST, 2015; the numbers are our own
--- profile TP1's). It is told over whole numbers without limit.
+-- profile TP1's). it is stated over whole numbers without limit.
 use Rattle.std.specs.Prelude.{ℕ, zero, suc, ◌+◌, ◌*◌, ◌/◌, ◌==◌, min, if◌then◌else◌, List, [], ◌∷◌, length, slice_index_or}
 use Rattle.patmos_instr.specs.Bundles.{Slots}
 use Rattle.patmos_instr.specs.declared.functions.StackFunc.{StackFunc}

@@ -30,10 +30,10 @@ adds_long = small.under small.always (AluLong alu.Add 1 1 70_000)
 abbrev pub adds_both : Slots
 adds_both = record { first = (small.add 1).first; second = Some (small.add 1).first }
 
--- a function that loads through the data cache in each of three turns
+-- a function that loads through the data cache in each of three iterations
 abbrev pub loading : PlainParts
 loading = part (repeats 3 (one (straight (loads mem.C ∷ []))) small.again) small.empty
 
--- one that adds 1 in each of twenty turns, ten times
+-- one that adds 1 in each of twenty iterations, ten times
 abbrev pub nested : PlainParts
 nested = part (repeats 10 (one (repeats 20 (one (straight (small.add 1 ∷ []))) small.again)) small.again) small.empty

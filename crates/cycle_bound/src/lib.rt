@@ -12,7 +12,7 @@
 //!   for a bound that counts the fetches of functions otherwise (`bound_persist`): what is counted for a
 //!   fetch at each call and each return is an argument.
 //! - [`Steps`] counts the nodes of the shape (`specs/Nodes.antt`) that it visits. Each is visited so many times as does
-//!   not depend on the shape: turns are multiplied and not run.
+//!   not depend on the shape: iterations are multiplied and not run.
 //!
 //! What its words mean stands in [the glossary](../../../docs/GLOSSARY.md).
 #![tactic(auto)]

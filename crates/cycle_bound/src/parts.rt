@@ -52,8 +52,8 @@ fn cycles_of_part<L: Ledger>(
         Part::Straight { bundles } => cycles_of_bundles(bundles.as_slice(), each, steps),
         Part::Repeat { count, body, tail } => {
             let once = cycles_of_parts(body.as_slice(), number, known, each, steps);
-            let turn = plus(once, cycles_of_bundles(tail.as_slice(), each, steps));
-            times(u64::from(*count), turn)
+            let iteration = plus(once, cycles_of_bundles(tail.as_slice(), each, steps));
+            times(u64::from(*count), iteration)
         }
         Part::CallTo { function, tail } => {
             let way = cycles_of_bundles(tail.as_slice(), each, steps);

@@ -54,7 +54,7 @@ pub fn bound<L: Ledger>(shape: &Shape, place: &Place, steps: &mut Steps<L>) -> R
     within(plus(known.fills[entry], known.bounds[entry]))
 }
 
-/// The same, where nobody reads the count of steps.
+/// The bound of a task, where nobody reads the count of steps.
 pub fn bound_uncounted(shape: &Shape, place: &Place) -> Result<u64, Long>
     requires formed { is_formed (plain_shape shape.now) ≡ true }
     ensures exact { (far : ℕ) → IsGap (is_slot_start place.now.table place.now.slot place.now.core) far

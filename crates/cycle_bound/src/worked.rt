@@ -47,14 +47,14 @@ pub fn worked_bounds()
     // 2 transactions, 4 bundles
     ensures empty { shape_bound 29 (small.shape_of (small.empty ∷ []) 0) ≡ 62 }
 
-    // 3 transactions to fetch it; three turns of 4 bundles and a transaction; 4 bundles
+    // 3 transactions to fetch it; three iterations of 4 bundles and a transaction; 4 bundles
     ensures loading { shape_bound 29 (small.shape_of (example.loading ∷ []) 0) ≡ 190 }
 
-    // 4 transactions to fetch it; 1 bundle; three turns of 4 bundles, 2 + 4 transactions there and back, the 4 bundles
+    // 4 transactions to fetch it; 1 bundle; three iterations of 4 bundles, 2 + 4 transactions there and back, the 4 bundles
     // that are called, and 3 bundles; 1 bundle; 4 bundles
     ensures caller { shape_bound 29 (small.shape_of (small.empty ∷ small.caller 0 ∷ []) 1) ≡ 677 }
 
-    // 1 + 11 words are 3 transactions; ten times twenty turns of 4 bundles, and 3 bundles; 4 bundles
+    // 1 + 11 words are 3 transactions; ten times twenty iterations of 4 bundles, and 3 bundles; 4 bundles
     ensures nested { shape_bound 29 (small.shape_of (example.nested ∷ []) 0) ≡ 921 }
 {}
 

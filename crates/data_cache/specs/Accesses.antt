@@ -41,6 +41,6 @@ last_word address (Store other value ∷ before) = if other / 4 == address / 4 t
 abbrev pub word_back : List Access → ℕ → Option ℕ
 word_back latest address = if is_present address latest then Some (last_word address latest) else None
 
--- the same after these accesses, the first of them first
+-- the word at an address after these accesses, the first of them first
 abbrev pub cached_word : List Access → ℕ → Option ℕ
 cached_word accesses address = word_back (reverse accesses) address

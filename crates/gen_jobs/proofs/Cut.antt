@@ -89,7 +89,7 @@ all_read : (pieces : ℕ) (text : List ℕ) (at : ℕ) → length text ≤ at �
 all_read zero text at past = refl
 all_read (suc pieces) text at past = let over : nat_le (length text) at ≡ true = grind (arith, nat_tests, past) in rw over refl
 
--- but at `#` a piece does not hang on what stands before it
+-- but at `#` a piece does not depend on what stands before it
 behind_any : (before bs : List ℕ) (b : ℕ) → b == 35 ≡ false → piece_behind before (b ∷ bs) ≡ piece_behind [] (b ∷ bs)
 unfolding piece_behind
 behind_any before bs b other = rw other refl

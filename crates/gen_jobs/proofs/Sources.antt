@@ -71,7 +71,7 @@ reads_end = record { pieces = 19; cuts = refl }
 call_regrouped : (s i c n more rest : List ℕ) → (s ++ i ++ c ++ n ++ more) ++ rest ≡ s ++ (i ++ ((c ++ n) ++ (more ++ rest)))
 call_regrouped s i c n more rest = simp append_assoc refl
 
--- the calls from an index on, and the end of the turn
+-- the calls from an index on, and the end of the iteration
 reads_turn : (left index : ℕ) (rest : List ℕ) → index + left < 1000 → Reads (calls left index ++ (behind_calls ++ rest)) (body_tokens (turn_from left index)) rest
 unfolding piece_behind calls expr_tokens steps_tokens stmt_tokens hidden-the_row-Step-0 hidden
 reads_turn zero index rest few = (reads_words rest).next

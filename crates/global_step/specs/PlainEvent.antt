@@ -5,7 +5,7 @@ use Rattle.slot_arbiter.specs.declared.event.Event.{Event}
 use Rattle.shared_order.specs.declared.operation.Operation.{Operation}
 use Rattle.shared_order.specs.Program.{Prog, done, get, set, played}
 
--- loads and stores one after another, none of which hangs on what another one gives
+-- loads and stores one after another, none of which depends on what another one gives
 abbrev pub accesses : List WordOp → Prog (Unit {0})
 accesses [] = done tt
 accesses (a ∷ acts) = elim a.write [

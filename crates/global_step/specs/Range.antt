@@ -16,7 +16,7 @@ pub record HoldsWords (c : LoadedCore) : Type 0 where
   pub code : IfSome c.image HasCode
   pub initial : IfSome c.image (λ image. Each IsWord image.initial)
 
--- so are the cores of a machine
+-- each core of a machine is loaded with words
 pub record IsOfWords (m : Machine) : Type 0 where
   pub loaded : IsLoaded m.cores m.limit m.trace m.workers
   pub few : length m.cores ≤ 16

@@ -1,4 +1,4 @@
--- To be believed. Answers that do not hang on what is asked: a status and a text each.
+-- To be believed. Answers that do not depend on what is asked: a status and a text each.
 use Rattle.std.specs.Prelude.{ℕ, List, ◌++◌, codes}
 use Rattle.tc_report.specs.Line.{line, core_name}
 use Rattle.tc_toml.specs.Fault.{Fault, fault_text}

@@ -29,7 +29,7 @@ pub record HasWrittenBy (a : Answer) (read_failed : Type 0) (status : ℕ) (appe
   pub at_memory : status ≡ memory → appended ≡ []
   pub known : status < 8
 
--- the same of a sink that tells its bytes before and after
+-- a sink that tells its bytes before and after has the answer appended
 abbrev pub HasWritten : Answer → Type 0 → ℕ → Option (List ℕ) → Option (List ℕ) → Type 0
 HasWritten a read_failed status None taken' = Unit {0}
 HasWritten a read_failed status (Some taken) None = Unit {0}

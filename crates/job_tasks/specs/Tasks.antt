@@ -44,7 +44,7 @@ image_of code = parts code.words code.starts [] FIRST_DATA_WORD INPUT_WORDS
 
 -- ---- C texts
 
--- the refusal of a C text, which is told with its place
+-- the refusal of a C text, which is reported with its place
 abbrev pub refusal_of : Refused → Refusal
 refusal_of (no_token_at at) = Char at
 refusal_of (too_wide_at at) = Wide at
@@ -122,7 +122,7 @@ coded_from job core zero = Ok []
 coded_from job core (suc count) =
     coded_on job core (task_on job.tasks core) >>= λ c. coded_from job (core + 1) count >>= λ cs. Ok (c ∷ cs)
 
--- what is told of cores, the first of which is this one
+-- what is reported of cores, the first of which is this one
 abbrev pub told_from : (ℕ → Option Coded → List ℕ) → ℕ → List (Option Coded) → List ℕ
 told_from tell core [] = []
 told_from tell core (c ∷ cs) = tell core c ++ told_from tell (core + 1) cs

@@ -1,4 +1,4 @@
-//! Answers that do not hang on what is asked.
+//! Answers that do not depend on what is asked.
 ghost use Rattle.std.specs.Prelude.{◌≡◌, IfOk};
 ghost use Rattle.job_tasks.specs.Answer as specs;
 

@@ -13,7 +13,7 @@
 //! A program that reads a job and writes one text has the rest of what it needs here:
 //!
 //! - [`RangedJob`] is a job whose numbers are in their ranges, and where its cores stand;
-//! - [`Answer`] is a status and a text, and `specs/Answer.antt` has those that do not hang on what is asked: whole
+//! - [`Answer`] is a status and a text, and `specs/Answer.antt` has those that do not depend on what is asked: whole
 //!   texts, and the lines on bytes that are no job, on tasks that are refused, on texts that are too long, and on
 //!   sources that fail;
 //! - [`words_of`] gives the words of the command line;

@@ -129,7 +129,7 @@ fn words_fit(words: &[u32])
     ensures { Each IsWord words.now }
 {}
 
-// so are the code and the first words of an image
+// the code and the first words of an image are words of 32 bits
 #[tactic(auto, using(patmos_model::proofs::HeldWords::each_index))]
 fn image_fits(image: &Image)
     ensures code { HasCode image.now }

@@ -2,7 +2,7 @@
 //!
 //! The cache holds whole functions, at most [`MOST_METHODS`] of them and at most [`METHOD_CACHE_WORDS`] in all.
 //! A core looks it up where its task starts and where a call or a return takes effect. A function that
-//! is not there is a miss: it is read from memory, and the oldest functions are put out, first in first
+//! is not there is a miss: it is read from memory, and the oldest functions are evicted, first in first
 //! out, until it fits. [`MethodCache::touch`] is one such look-up, and [`limits`] says the
 //! sizes in numbers.
 //!

@@ -160,7 +160,7 @@ pub fn first_fault(
     fault_among(alloc, functions, items)
 }
 
-// the same, where the places are those of any functions
+// the first fault of the items, where the places are those of any functions
 fn fault_among(
     alloc: Global,
     functions: &Places<'_>,

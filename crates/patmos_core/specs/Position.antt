@@ -85,7 +85,7 @@ phases_at kind = elim kind [ Idle place ↦ 0 | WithTask t ↦ phases_done t.cyc
 abbrev pub IsThroughTo : ℕ → Kind → Type 0
 IsThroughTo limit kind = elim kind [ Idle place ↦ Unit {0} | WithTask t ↦ (t.cycle ≡ limit) × (t.phase ≡ Delivery) ]
 
--- the same of a core, and the event that it waits to be told with its stamp, and the last limit
+-- a core of the machine at this place: its kind, the event that it waits for with its stamp, and the last limit
 abbrev pub StandsFor : Cpu → Core → List Operation → Type 0
 StandsFor k x made = StandsAt k.kind x made
 

@@ -96,7 +96,7 @@ impl Core {
         if self.waits { Some(self.event) } else { None }
     }
 
-    /// The same event where it stands, with no copy of it.
+    /// Lends the event that the core waits for, with no copy of it.
     pub fn event(&self) -> Option<&Event>
         ensures { option_copied result ≡ waiting_of self.now }
     {

@@ -91,7 +91,7 @@ pub record InRange (words : ℕ) (c : Core) : Type 0 where
   pub plain : PlainFits words c.plain
   pub cached : Each AccessFits c.seen.cached
 
--- so is what it still has to store
+-- what a core still has to store is in range
 abbrev pub PendingStoreFits : ℕ → Option PendingStore → Type 0
 PendingStoreFits words pending_store = IfSome pending_store (λ o. (o.word < words) × IsWord o.value)
 

@@ -48,7 +48,7 @@ pub fn write_back(regs: &mut Regs, bundle: &Bundle, st: u32, ss: u32)
     }
 }
 
-/// The same for a bundle that asks for something: its second slot alone writes.
+/// Writes the registers of a bundle that asks for something: its second slot alone writes.
 #[inline(always)]
 pub fn write_second(regs: &mut Regs, bundle: &Bundle, st: u32, ss: u32)
     requires asks { effect_of bundle.now regs.old ≢ effect.Nothing }

@@ -12,7 +12,7 @@ use Rattle.global_step.specs.Loaded.{Machine}
 use Rattle.global_step.specs.Machine.{machine, core_among, first_core, outcome_of}
 use Rattle.pipe_five.specs.Steps.{core_before, words_before}
 
--- what core 0 and the words become in a cycle hangs on them alone
+-- what core 0 and the words become in a cycle depends on them alone
 abbrev first_phase : ℕ → Core → (ℕ → ℕ) → Played Core
 first_phase t c words = played (stamp 1 0 t 0) (turn 0 t c) words
 

@@ -158,7 +158,7 @@ fn words_standing(body: &Body, point: &Point) -> Option<u32>
     }
 }
 
-// the same in the core's own function, whose words are decoded
+// the words of the bundle at a point in the core's own function, whose words are decoded
 #[inline(always)]
 fn words_here(body: &Body, point: &Point) -> Option<u32>
     requires here { point.now.base ≡ body.now.base }
@@ -173,7 +173,7 @@ fn words_here(body: &Body, point: &Point) -> Option<u32>
     }
 }
 
-// the same in another function
+// the words of the bundle at a point in another function
 fn words_elsewhere(image: &Image, point: &Point) -> Option<u32>
     ensures standing { result ≡ words_standing image.now point.now }
     ensures words { IfSome result (λ words. words ≡ specs.words_at image.now point.now) }

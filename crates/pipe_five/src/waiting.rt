@@ -24,7 +24,7 @@ impl Lone {
         self.do_at_once(latches) || self.step_on(latches, limit)
     }
 
-    // the same in a cycle of any kind
+    // goes on through a cycle of any kind
     #[inline(never)]
     fn step_on(&mut self, latches: &mut Latches, limit: u64) -> bool
         requires below { self.old.cycle < limit }

@@ -1,4 +1,4 @@
--- What a core asks for next hangs on what its loads gave before alone.
+-- What a core asks for next depends on what its loads gave before alone.
 use Rattle.std.proofs.Common.{◌≡◌, ℕ, zero, suc, ◌%◌, Bool, true, false, Some, take, List, [], ◌∷◌, ◌++◌, ◌==◌, refl, sym, ap, ◌∙◌, subst, true≢false}
 use Rattle.shared_order.specs.declared.operation.Operation.{Operation}
 use Rattle.shared_order.specs.Operation.{load, loads, asking}

@@ -10,7 +10,7 @@ use Rattle.shared_order.specs.Fit.{Fits}
 
 -- What a core makes when its loads give these values and when they give those: it asks for the same
 -- first operation; where that has one value in both, it asks for the same next one; and so on. So
--- what it asks for next hangs on the values that were loaded before alone.
+-- what it asks for next depends on the values that were loaded before alone.
 abbrev pub SameWhileRead : List Operation → List Operation → Type 0
 SameWhileRead [] [] = Unit {0}
 SameWhileRead [] (o' ∷ os') = ⊥

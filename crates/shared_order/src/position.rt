@@ -96,7 +96,7 @@ pub fn event_is_next<X>()
         → (apart turn n core x (loads (made ++ left)) limit).made ≡ made ++ left → left ≡ [] }
 {}
 
-/// The same of the first part of what is left of an act: an event that is a part comes next, and
+/// The first part of what is left of an act: an event that is a part comes next, and
 /// what follows stands at its stamp or later. A law: it does nothing.
 pub fn operation_is_next<X, Y>()
     ensures next_step { (turn : ℕ → ℕ → X → Prog X) (n core : ℕ) (x : X) (made : List Operation)

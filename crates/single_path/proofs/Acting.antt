@@ -6,7 +6,7 @@ use Rattle.sp_tree.specs.Statements.{masks, PlainStmts, no_stmt, one}
 use Rattle.sp_tree.specs.Statements as tree
 use Rattle.sp_tree.specs.Straight.{State, Serves, worth, stmt_done, stmts_done}
 use Rattle.sp_tree.proofs.Joins.{joined_done}
-use Rattle.c_meaning.specs.Actions.{to_level, PlainAction, sets, calls, transfers, chooses, turns, breaks, continues, returns, PlainActions, no_action, action, PlainBranches, no_branch, branch}
+use Rattle.c_meaning.specs.Actions.{to_level, PlainAction, sets, calls, transfers, chooses, iterations, breaks, continues, returns, PlainActions, no_action, action, PlainBranches, no_branch, branch}
 use Rattle.c_meaning.specs.Actions as actions
 use Rattle.c_meaning.specs.declared.ways.Way.{Way}
 use Rattle.c_meaning.specs.declared.ways.Way.TheVariants as way
@@ -17,7 +17,7 @@ use Rattle.single_path.specs.declared.counted.Start.{Start}
 use Rattle.single_path.specs.declared.part_words.PartWords.{PartWords}
 use Rattle.single_path.specs.PartWords.{in_arm, in_loop}
 use Rattle.single_path.specs.Counted.{start_of}
-use Rattle.single_path.specs.Made.{is_counted, made_counted, made_loop, made_turn, made, made_action, made_branches, made_assignment, made_arm, made_otherwise, made_after, any_exit, by_continue, by_return, actions_exit, branches_exit, is_no_branch, is_no_action, ends}
+use Rattle.single_path.specs.Made.{is_counted, made_counted, made_loop, made_iteration, made, made_action, made_branches, made_assignment, made_arm, made_otherwise, made_after, any_exit, by_continue, by_return, actions_exit, branches_exit, is_no_branch, is_no_action, ends}
 use Rattle.single_path.specs.Widths.{action_words, words, branches_words}
 use Rattle.single_path.proofs.Fits.{FitsAction, Fits, FitsBranches}
 use Rattle.single_path.proofs.Keeping.{actions_fit}
@@ -86,20 +86,20 @@ mutual
       (assignment_set g n p.own a s l live.own h within)
   live_action Fit gc g serving n (calls k args None) inside known p s l o nest within fits begins live h =
       set_acted (calls k args None) n p s (stmt_done g (tree.calls p.own k args None) s)
-      (resolved.given_done None l (gc k (resolved.args_worth args l) l.world)) refl o live
+      (resolved.outcome_done None l (gc k (resolved.args_worth args l) l.world)) refl o live
       (nothing_set Fit gc g serving n p.own k args s l live.own h (omega (arith, within)) fits)
   live_action Fit gc g serving n (calls k args (Some (to_level at))) inside known p s l o nest within fits begins live h =
       set_acted (calls k args (Some (to_level at))) n p s (stmt_done g (tree.calls p.own k args (Some at)) s)
-      (resolved.given_done (Some (to_level at)) l (gc k (resolved.args_worth args l) l.world)) refl o live
+      (resolved.outcome_done (Some (to_level at)) l (gc k (resolved.args_worth args l) l.world)) refl o live
       (level_set Fit gc g serving n p.own k args at s l live.own h (omega (arith, within)) (omega (arith, within)) fits)
   live_action Fit gc g serving n (calls k args (Some (actions.to_cell cell))) inside known p s l o nest within fits begins live h =
       let given = given_set Fit gc g serving n p k args (actions.to_cell cell) s l o live.own h (omega (arith, within)) (omega arith) fits in
       low_acted (calls k args (Some (actions.to_cell cell))) n p s (stmts_done g (made_action known p (calls k args (Some (actions.to_cell cell)))) s)
-      (resolved.given_done (Some (actions.to_cell cell)) l (gc k (resolved.args_worth args l) l.world)) refl o live given.0 given.1
+      (resolved.outcome_done (Some (actions.to_cell cell)) l (gc k (resolved.args_worth args l) l.world)) refl o live given.0 given.1
   live_action Fit gc g serving n (calls k args (Some (actions.to_array array index))) inside known p s l o nest within fits begins live h =
       let given = given_set Fit gc g serving n p k args (actions.to_array array index) s l o live.own h (omega (arith, within)) (omega (arith, within)) fits in
       low_acted (calls k args (Some (actions.to_array array index))) n p s (stmts_done g (made_action known p (calls k args (Some (actions.to_array array index)))) s)
-      (resolved.given_done (Some (actions.to_array array index)) l (gc k (resolved.args_worth args l) l.world)) refl o live given.0 given.1
+      (resolved.outcome_done (Some (actions.to_array array index)) l (gc k (resolved.args_worth args l) l.world)) refl o live given.0 given.1
   live_action Fit gc g serving n (transfers core source target count) inside known p s l o nest within fits begins live h =
       set_acted (transfers core source target count) n p s (stmt_done g (tree.transfers p.own core source target count) s)
       (resolved.transfer_done core source target count l) refl o live (sent g n p.own core source target count s l live.own h within)
@@ -115,26 +115,26 @@ mutual
       subst (λ u. Acted (chooses branches otherwise) n p s d u) (sym (joined_done g arms (made_after p exits) s))
       (after_acted (chooses branches otherwise) g n p s d (stmts_done g arms s) exits refl o
       (λ none. on_only d.way (action_avoids gc any_exit (chooses branches otherwise) l none)) went)
-  live_action Fit gc g serving n (turns most condition body step) inside known p s l o nest within fits begins live h =
+  live_action Fit gc g serving n (iterations most condition body step) inside known p s l o nest within fits begins live h =
       by (is_counted known most condition body step) refl
       (λ none t m live' h'. live_all Fit gc g serving n body inside None p t m o nest (omega (arith, within)) (actions_fit Fit inside body none fits) tt live' h')
       (λ t m live' h'. live_all Fit gc g serving n body true None (in_loop p) t m (order_loop n p o) (nest_loop n p o) (omega (arith, within)) fits tt live' h')
     where
-      turn : PlainStmts
-      turn = made_turn p condition (actions_exit by_continue body) (made None (in_loop p) body) step
+      iteration : PlainStmts
+      iteration = made_iteration p condition (actions_exit by_continue body) (made None (in_loop p) body) step
 
       by : (counted : Bool) → is_counted known most condition body step ≡ counted
           → (actions_exit any_exit body ≡ false → (t : State) (m : values.State) → Live p t → Agrees n t m
           → Went n p t (resolved.actions_done gc body m) (stmts_done g (made None p body) t))
           → ((t : State) (m : values.State) → Live (in_loop p) t → Agrees n t m
           → Went n (in_loop p) t (resolved.actions_done gc body m) (stmts_done g (made None (in_loop p) body) t))
-          → Acted (turns most condition body step) n p s (resolved.action_done gc (turns most condition body step) l)
-          (stmts_done g (if counted then made_counted p most (made None p body) step else made_loop p most condition (actions_exit by_return body) turn) s)
+          → Acted (iterations most condition body step) n p s (resolved.action_done gc (iterations most condition body step) l)
+          (stmts_done g (if counted then made_counted p most (made None p body) step else made_loop p most condition (actions_exit by_return body) iteration) s)
       by true is inner behind = counted_acted gc g n p known most condition body step s l is begins o (omega (arith, within)) inner live h
       by false is inner behind =
-          loop_acted (turns most condition body step) g n p most condition (actions_exit by_return body) (actions_exit by_continue body) (made None (in_loop p) body) step
+          loop_acted (iterations most condition body step) g n p most condition (actions_exit by_return body) (actions_exit by_continue body) (made None (in_loop p) body) step
           (resolved.actions_done gc body) s l refl
-          (λ none. on_only (resolved.action_done gc (turns most condition body step) l).way (action_avoids gc any_exit (turns most condition body step) l none))
+          (λ none. on_only (resolved.action_done gc (iterations most condition body step) l).way (action_avoids gc any_exit (iterations most condition body step) l none))
           (λ none m. no_continue (resolved.actions_done gc body m).way (actions_avoid gc by_continue body m none)) o
           (omega (arith, within)) (omega (arith, within)) (record {
             acts = behind;

@@ -50,7 +50,7 @@ idle_armed (way.Returned v) = gone
 -- where the arm did not go elsewhere, both masks are 1
 other_word : (p : PartWords) (u : State) (own free : ℕ) → u.frame p.own ≡ own → u.frame p.free ≡ free → bit_and own 1 ≡ own
     → worth (where_other p) u ≡ bit_xor own free
-other_word p u own free is_own is_free small = ap₂ bit_xor (by (p.own == p.turn)) is_free
+other_word p u own free is_own is_free small = ap₂ bit_xor (by (p.own == p.iteration)) is_free
   where
     by : (alone : Bool) → worth (if alone then bit_of p.own else frame_word p.own) u ≡ own
     by true = ap (λ a. bit_and a 1) is_own ∙ small
@@ -76,7 +76,7 @@ otherwise_idle g n p exits false rest s d u o on each h free_on = by exits on
           function_word = function_of d.way;
           idle = idle_armed d.way;
           own = put_here p.free w u.frame ∙ value exits on;
-          loop = begun.frame p.turn (omega (arith, o.own, o.free)) ∙ h.loop;
+          loop = begun.frame p.iteration (omega (arith, o.own, o.free)) ∙ h.loop;
           function = begun.frame p.function (omega (arith, o.loop, o.own, o.free)) ∙ h.function;
           alone = λ two. absurd (omega (arith, two));
         } in
@@ -106,7 +106,7 @@ taken_went g n p condition arm exits nothing rest s l d o live h holds on acts i
     let begun = set_behind p.free p.free (worth (where_so p.own condition) s) s (omega arith) in
     let live_there : Live (in_arm p) t = record {
       own = put_here p.free (worth (where_so p.own condition) s) s.frame ∙ tested p condition true s live.own holds;
-      loop = begun.frame p.turn (omega (arith, o.own, o.free)) ∙ live.loop;
+      loop = begun.frame p.iteration (omega (arith, o.own, o.free)) ∙ live.loop;
       function = begun.frame p.function (omega (arith, o.loop, o.own, o.free)) ∙ live.function;
       result = begun.frame p.result (omega (arith, o.function, o.loop, o.own, o.free)) ∙ live.result;
     } in
@@ -142,7 +142,7 @@ skipped_went g n p condition arm exits nothing rest s l d o live h holds idles a
       function_word = 1;
       idle = armed;
       own = off_there;
-      loop = begun.frame p.turn (omega (arith, o.own, o.free)) ∙ live.loop;
+      loop = begun.frame p.iteration (omega (arith, o.own, o.free)) ∙ live.loop;
       function = begun.frame p.function (omega (arith, o.loop, o.own, o.free)) ∙ live.function;
       alone = λ two. absurd (omega (arith, two));
     }
@@ -162,8 +162,8 @@ skipped_went g n p condition arm exits nothing rest s l d o live h holds idles a
     own_there : u.frame p.own ≡ 1
     own_there = so_far.frame p.own o.free ∙ live.own
 
-    loop_there : u.frame p.turn ≡ 1
-    loop_there = so_far.frame p.turn (omega (arith, o.own, o.free)) ∙ live.loop
+    loop_there : u.frame p.iteration ≡ 1
+    loop_there = so_far.frame p.iteration (omega (arith, o.own, o.free)) ∙ live.loop
 
     function_there : u.frame p.function ≡ 1
     function_there = so_far.frame p.function (omega (arith, o.loop, o.own, o.free)) ∙ live.function
@@ -193,7 +193,7 @@ skipped_went g n p condition arm exits nothing rest s l d o live h holds idles a
         let again = set_behind p.free p.free other u (omega arith) in
         let live_there : Live (in_arm p) v = record {
           own = put_here p.free other u.frame ∙ value exits;
-          loop = again.frame p.turn (omega (arith, o.own, o.free)) ∙ loop_there;
+          loop = again.frame p.iteration (omega (arith, o.own, o.free)) ∙ loop_there;
           function = again.frame p.function (omega (arith, o.loop, o.own, o.free)) ∙ function_there;
           result = again.frame p.result (omega (arith, o.function, o.loop, o.own, o.free)) ∙ result_there;
         } in

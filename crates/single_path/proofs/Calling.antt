@@ -5,7 +5,7 @@ use Rattle.c_world.specs.World.{World, with_send}
 use Rattle.sp_tree.specs.Plain.{PlainSp, frame_word}
 use Rattle.sp_tree.specs.Statements.{writes, stmt, one}
 use Rattle.sp_tree.specs.Statements as tree
-use Rattle.sp_tree.specs.Straight.{State, Given, Serves, with_slot, in_world, with_sp_target, with_result, write_done, transfer_done, args_worth, worth, stmt_done, stmts_done}
+use Rattle.sp_tree.specs.Straight.{State, Outcome, Serves, with_slot, in_world, with_sp_target, with_result, write_done, transfer_done, args_worth, worth, stmt_done, stmts_done}
 use Rattle.sp_tree.proofs.Runs.{on}
 use Rattle.c_meaning.specs.Actions.{PlainTarget, to_level}
 use Rattle.c_meaning.specs.Meaning as meaning
@@ -38,8 +38,8 @@ called Fit gc g serving n mask k args result s l is h within fits =
     let same : given ≡ g k 1 (resolved.args_worth args l) l.world =
     ap (λ u. g k u (args_worth args s) s.world) is
     ∙ ap₂ (g k 1) (args_same n args s l h within) h.world in
-    let value : given.value ≡ wanted.value = ap (λ (x : Given). x.value) same ∙ serving.value k (resolved.args_worth args l) l.world fits_there in
-    let world : given.world ≡ wanted.world = ap (λ (x : Given). x.world) same ∙ serving.world k (resolved.args_worth args l) l.world fits_there in
+    let value : given.value ≡ wanted.value = ap (λ (x : Outcome). x.value) same ∙ serving.value k (resolved.args_worth args l) l.world fits_there in
+    let world : given.world ≡ wanted.world = ap (λ (x : Outcome). x.world) same ∙ serving.world k (resolved.args_worth args l) l.world fits_there in
     record {
       done = on mask (with_result result given.value) (in_world s given.world) (eq-eqb (s.frame mask) 1 is)
           ∙ ap₂ (λ v w. with_result result v (in_world s w)) value world;
@@ -49,7 +49,7 @@ called Fit gc g serving n mask k args result s l is h within fits =
 pub given_set : (Fit : ℕ → ℕ → Type 0) (gc : resolved.Serves) (g : Serves) → Serving Fit gc g → (n : ℕ) (p : PartWords) (k : ℕ) (args : List PlainSp) (target : PlainTarget)
     (s : State) (l : values.State) → Order n p → s.frame p.own ≡ 1 → Agrees n s l → args_words args ≤ n → target_words target ≤ n → Fit k (length args)
     → let t = stmts_done g (stmt (tree.calls p.own k args (Some p.free)) (one (writes p.own (made_target target) (frame_word p.free)))) s in
-    Agrees n t (resolved.given_done (Some target) l (gc k (resolved.args_worth args l) l.world)) × ((x : ℕ) → n ≤ x → x < p.free → t.frame x ≡ s.frame x)
+    Agrees n t (resolved.outcome_done (Some target) l (gc k (resolved.args_worth args l) l.world)) × ((x : ℕ) → n ≤ x → x < p.free → t.frame x ≡ s.frame x)
 given_set Fit gc g serving n p k args target s l o is h within target_within fits =
     let given = gc k (resolved.args_worth args l) l.world in
     let t = with_slot p.free given.value (in_world s given.world) in
@@ -77,22 +77,22 @@ given_set Fit gc g serving n p k args target s l o is h within target_within fit
 -- what is given goes nowhere, or to a variable
 pub level_set : (Fit : ℕ → ℕ → Type 0) (gc : resolved.Serves) (g : Serves) → Serving Fit gc g → (n mask k : ℕ) (args : List PlainSp) (at : ℕ)
     (s : State) (l : values.State) → s.frame mask ≡ 1 → Agrees n s l → args_words args ≤ n → at < n → Fit k (length args)
-    → Sets n s (stmt_done g (tree.calls mask k args (Some at)) s) (resolved.given_done (Some (to_level at)) l (gc k (resolved.args_worth args l) l.world))
+    → Sets n s (stmt_done g (tree.calls mask k args (Some at)) s) (resolved.outcome_done (Some (to_level at)) l (gc k (resolved.args_worth args l) l.world))
 level_set Fit gc g serving n mask k args at s l is h within below fits =
     let given = gc k (resolved.args_worth args l) l.world in
     let c = called Fit gc g serving n mask k args (Some at) s l is h within fits in
-    subst (λ t. Sets n s t (resolved.given_done (Some (to_level at)) l given)) (sym c.done) (record {
+    subst (λ t. Sets n s t (resolved.outcome_done (Some (to_level at)) l given)) (sym c.done) (record {
       agrees = record { locals = λ x small. ap (λ y. cond (at == x) given.value y) (h.locals x small); world = refl };
       others = λ x behind. put_there at given.value x s.frame (omega (arith, behind, below));
     })
 
 pub nothing_set : (Fit : ℕ → ℕ → Type 0) (gc : resolved.Serves) (g : Serves) → Serving Fit gc g → (n mask k : ℕ) (args : List PlainSp)
     (s : State) (l : values.State) → s.frame mask ≡ 1 → Agrees n s l → args_words args ≤ n → Fit k (length args)
-    → Sets n s (stmt_done g (tree.calls mask k args None) s) (resolved.given_done None l (gc k (resolved.args_worth args l) l.world))
+    → Sets n s (stmt_done g (tree.calls mask k args None) s) (resolved.outcome_done None l (gc k (resolved.args_worth args l) l.world))
 nothing_set Fit gc g serving n mask k args s l is h within fits =
     let given = gc k (resolved.args_worth args l) l.world in
     let c = called Fit gc g serving n mask k args None s l is h within fits in
-    subst (λ t. Sets n s t (resolved.given_done None l given)) (sym c.done) (record {
+    subst (λ t. Sets n s t (resolved.outcome_done None l given)) (sym c.done) (record {
       agrees = record { locals = h.locals; world = refl };
       others = λ x behind. refl;
     })

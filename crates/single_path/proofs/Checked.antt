@@ -23,7 +23,7 @@ use Rattle.sp_tree.specs.Plain.{PlainSp}
 use Rattle.sp_tree.specs.Uses.{Use}
 use Rattle.c_meaning.specs.Actions.{PlainTarget, to_level}
 use Rattle.c_meaning.specs.Actions as actions
-use Rattle.c_meaning.specs.Meaning.{with_variable, names_after, most_turns, parameter_variables}
+use Rattle.c_meaning.specs.Meaning.{with_variable, names_after, most_iterations, parameter_variables}
 use Rattle.c_meaning.specs.Operators.{works_unsigned, gives_unsigned}
 use Rattle.c_meaning.specs.Resolve.{resolved, resolved_steps, resolved_args, resolved_between, resolved_right, resolved_begin, resolved_condition, resolved_next, resolved_stmt, resolved_block, resolved_arms, resolved_otherwise, resolved_body, maybe_sets, variable_target, element_target}
 use Rattle.c_meaning.specs.Values.{Names, named, expr_unsigned}
@@ -121,8 +121,8 @@ assigned_checked P names of k at text e none =
 head_checked : (P : Use → Type 0) (names : List Named) (of : Names) → Keeps P names of → (at : ℕ) (head : PlainHead)
     → IsTrue (has_none (head_faults names at head))
     → Do P (maybe_sets (resolved_begin of head)) × ExprDoes P (resolved_condition of head) × StepDoes P (resolved_next of head)
-head_checked P names of k at (plain.turns_while condition) none = (tt, whole_checked P names of k None (at + 2) condition none, tt)
-head_checked P names of k at (plain.turns_for first from condition to_set to) none =
+head_checked P names of k at (plain.iterations_while condition) none = (tt, whole_checked P names of k None (at + 2) condition none, tt)
+head_checked P names of k at (plain.iterations_for first from condition to_set to) none =
     let second = at + 2 + 2 + expr_size from + 1 in
     let third = second + expr_size condition + 1 in
     let begun = assigned_faults names (at + 2) first from in
@@ -186,7 +186,7 @@ mutual
       let others = none_right bounds (heads ++ inside) none in
       let parts = head_checked P names of k (at + bound_size bound) head (none_left heads inside others) in
       actions_joined P (maybe_sets (resolved_begin of head))
-      (actions.one (actions.turns (most_turns bound) (resolved_condition of head) (resolved_block fs of body) (resolved_next of head))) parts.0 (
+      (actions.one (actions.iterations (most_iterations bound) (resolved_condition of head) (resolved_block fs of body) (resolved_next of head))) parts.0 (
         (
           parts.1,
           block_checked P fs names of k (looped w (length names)) (at + bound_size bound + head_size head + 1) body (none_right heads inside others),

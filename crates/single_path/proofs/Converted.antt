@@ -3,7 +3,7 @@ use Rattle.std.proofs.Common.{◌≡◌, ℕ, zero, suc, ◌+◌, max, ◌<◌, 
 use Rattle.std.specs.Prelude.{option_map, ◌&&◌}
 use Rattle.std.proofs.lemmas.List.{drop_all, take_all}
 use Rattle.tc_word.proofs.Items.{drop_item}
-use Rattle.c_meaning.specs.Actions.{PlainAssignment, PlainActions, chooses, turns, no_action, action, branch}
+use Rattle.c_meaning.specs.Actions.{PlainAssignment, PlainActions, chooses, iterations, no_action, action, branch}
 use Rattle.c_meaning.specs.declared.actions.Action.{Action}
 use Rattle.c_meaning.specs.declared.actions.Action.TheViews.{Choose, Loop}
 use Rattle.c_meaning.specs.declared.actions.Assignment.{Assignment}
@@ -16,7 +16,7 @@ use Rattle.sp_tree.specs.Statements.{PlainStmts, no_stmt, masks, one, joined}
 use Rattle.single_path.specs.declared.counted.Start.{Start}
 use Rattle.single_path.specs.declared.part_words.PartWords.{PartWords}
 use Rattle.single_path.specs.Counted.{start_of}
-use Rattle.single_path.specs.Made.{is_counted, made_counted, made_loop, made_turn, by_return, by_continue, made, made_action, made_branches, made_otherwise, any_exit, actions_exit, is_no_branch, is_no_action, ends}
+use Rattle.single_path.specs.Made.{is_counted, made_counted, made_loop, made_iteration, by_return, by_continue, made, made_action, made_branches, made_otherwise, any_exit, actions_exit, is_no_branch, is_no_action, ends}
 use Rattle.single_path.specs.Widths as width
 use Rattle.single_path.specs.PartWords.{in_arm, in_loop, where_so, where_not_taken, where_other}
 use Rattle.c_meaning.specs.Sizes.{actions_size, branches_size}
@@ -30,30 +30,30 @@ choose_is a branches branches' otherwise otherwise' is bs os =
     ap₂ (λ b o. chooses (branches_of b) (actions_of o)) bs os ∙ sym (plain_choose branches otherwise) ∙ ap plain_action (sym is)
 
 pub loop_is : (a : Action) (most : ℕ) (condition : SpExpr) (body body' : List Action) (step : Option Assignment) → a ≡ Loop most condition body step
-    → body' ≡ body → turns most (plain_sp condition) (actions_of body') (option_map plain_assignment step) ≡ plain_action a
+    → body' ≡ body → iterations most (plain_sp condition) (actions_of body') (option_map plain_assignment step) ≡ plain_action a
 loop_is a most condition body body' step is same =
-    ap (λ b. turns most (plain_sp condition) (actions_of b) (option_map plain_assignment step)) same ∙ sym (plain_loop most condition body step)
+    ap (λ b. iterations most (plain_sp condition) (actions_of b) (option_map plain_assignment step)) same ∙ sym (plain_loop most condition body step)
     ∙ ap plain_action (sym is)
 
 -- a loop, as it is made
 pub counted_made : (known : Option Start) (p : PartWords) (most : ℕ) (condition : PlainSp) (body : PlainActions) (step : Option PlainAssignment)
     → is_counted known most condition body step ≡ true
-    → made_counted p most (made None p body) step ≡ made_action known p (turns most condition body step)
+    → made_counted p most (made None p body) step ≡ made_action known p (iterations most condition body step)
 counted_made known p most condition body step is =
     ap (λ b. if b then made_counted p most (made None p body) step
-    else made_loop p most condition (actions_exit by_return body) (made_turn p condition (actions_exit by_continue body) (made None (in_loop p) body) step))
+    else made_loop p most condition (actions_exit by_return body) (made_iteration p condition (actions_exit by_continue body) (made None (in_loop p) body) step))
     (sym is)
 
 pub repeated_made : (known : Option Start) (p : PartWords) (most : ℕ) (condition : PlainSp) (body : PlainActions) (step : Option PlainAssignment)
     → is_counted known most condition body step ≡ false
-    → made_loop p most condition (actions_exit by_return body) (made_turn p condition (actions_exit by_continue body) (made None (in_loop p) body) step)
-    ≡ made_action known p (turns most condition body step)
+    → made_loop p most condition (actions_exit by_return body) (made_iteration p condition (actions_exit by_continue body) (made None (in_loop p) body) step)
+    ≡ made_action known p (iterations most condition body step)
 repeated_made known p most condition body step is =
     ap (λ b. if b then made_counted p most (made None p body) step
-    else made_loop p most condition (actions_exit by_return body) (made_turn p condition (actions_exit by_continue body) (made None (in_loop p) body) step))
+    else made_loop p most condition (actions_exit by_return body) (made_iteration p condition (actions_exit by_continue body) (made None (in_loop p) body) step))
     (sym is)
 
--- one that counts has at least one turn
+-- one that counts has at least one iteration
 pub counted_masks : (known : Option Start) (most : ℕ) (condition : PlainSp) (body : PlainActions) (step : Option PlainAssignment) (n : ℕ)
     → is_counted known most condition body step ≡ true → n ≤ width.loop_masks most n
 counted_masks None most condition body step n is = absurd (true≢false (sym is))

@@ -1,6 +1,6 @@
 -- The code of what is made of a function takes at most as many words as the function weighs.
 use Rattle.std.proofs.Common.{◌≡◌, ℕ, zero, suc, ◌+◌, ◌*◌, ◌≤◌, ◌==◌, Bool, true, false, if◌then◌else◌, List, [], ◌∷◌, length, sum_by, Option, None, Some, arith}
-use Rattle.std.specs.Prelude.{◌&&◌, ◌||◌}
+use Rattle.std.specs.Prelude.{◌&&◌, ◌||◌, nat_lt}
 use Rattle.std.proofs.lemmas.List.Sums.{sum_by-cons}
 use Rattle.c_tree.specs.declared.expressions.BinaryOp.{BinaryOp}
 use Rattle.c_tree.specs.declared.expressions.UnaryOp.{UnaryOp}
@@ -15,9 +15,9 @@ use Rattle.sp_tree.specs.Plain.{PlainSp, constant, frame_word, between_two}
 use Rattle.sp_tree.specs.Statements.{PlainStmts, no_stmt, stmt, joined, masks}
 use Rattle.sp_tree.specs.Statements as tree
 use Rattle.sp_tree.proofs.Joins.{joined_cost}
-use Rattle.c_meaning.specs.Actions.{PlainTarget, to_level, to_cell, to_array, PlainAssignment, PlainAction, calls, chooses, turns, returns, PlainActions, no_action, action, PlainBranches, branch, one}
+use Rattle.c_meaning.specs.Actions.{PlainTarget, to_level, to_cell, to_array, PlainAssignment, PlainAction, calls, chooses, iterations, returns, PlainActions, no_action, action, PlainBranches, branch, one}
 use Rattle.c_meaning.specs.Actions as actions
-use Rattle.c_meaning.specs.Meaning.{with_variable, names_after, most_turns}
+use Rattle.c_meaning.specs.Meaning.{with_variable, names_after, most_iterations}
 use Rattle.c_meaning.specs.Operators.{works_unsigned, gives_unsigned}
 use Rattle.c_tree.specs.Names.{number_of}
 use Rattle.c_meaning.specs.Resolve.{operator_of, is_exchanged, resolved_between, resolved_sign, resolved_signs, is_fresh, resolved_variable, resolved_element, resolved, resolved_steps, resolved_args, variable_target, element_target, assignment_to, maybe_sets, numbered_call, resolved_right, resolved_assignment, resolved_condition, resolved_begin, resolved_next, choice, resolved_stmt, resolved_block, resolved_arms, resolved_otherwise, resolved_body}
@@ -28,10 +28,17 @@ use Rattle.single_path.specs.declared.counted.Start.{Start}
 use Rattle.single_path.specs.declared.part_words.PartWords.{PartWords}
 use Rattle.single_path.specs.PartWords.{in_arm, in_loop, outermost, both, less_by, bit_of, is_truth, where_so, where_not_taken, where_other, where_on, where_not_returned, not_zero, returned_function, returned_loop}
 use Rattle.single_path.specs.Counted.{start_of}
-use Rattle.single_path.specs.Made.{is_zero, made_target, made_step, made_result, made_return, ends, is_no_action, is_no_branch, made_arm, made_otherwise, made_on, made_after, made_behind, made_again, any_exit, by_continue, by_return, actions_exit, branches_exit, made_turn, made_loop, is_counted, made_counted, made_action, made, made_branches}
+use Rattle.single_path.specs.Made.{is_zero, made_target, made_step, made_result, made_return, ends, is_no_action, is_no_branch, made_arm, made_otherwise, made_on, made_after, made_behind, made_again, any_exit, by_continue, by_return, actions_exit, branches_exit, made_iteration, made_loop, is_counted, made_counted, made_action, made, made_branches}
 use Rattle.single_path.specs.Single.{variables, made_function}
 
 -- ---- expressions and arguments
+
+constant_few : (n : ℕ) → expr_cost (constant n) ≤ 2
+constant_few n = by (nat_lt n 4096)
+  where
+    by : (b : Bool) → (if b then 1 else 2) ≤ 2
+    by true = omega arith
+    by false = omega arith
 
 -- an operand that the instruction holds costs nothing
 two_cost : (op : SpBinary) (a b : PlainSp) → expr_cost (between_two op a b) ≤ binary_cost op + expr_cost a + expr_cost b
@@ -86,7 +93,7 @@ mutual
       omega (arith, begun, all)
   resolved_cost names fresh (plain.unary ops of) =
       let inner = resolved_cost names fresh of in omega (arith, inner, signs_cost ops (resolved names fresh of))
-  resolved_cost names fresh (plain.number n unsigned) = omega arith
+  resolved_cost names fresh (plain.number n unsigned) = omega (arith, constant_few n)
   resolved_cost names fresh (plain.name text) = variable_cost fresh (named names text)
   resolved_cost names fresh (plain.element text index) =
       let inner = resolved_cost names fresh index in omega (arith, inner, element_cost (named names text) (resolved names fresh index))
@@ -176,13 +183,13 @@ result_cost p e = omega (arith, ended_cost (is_zero e) (tree.one (tree.writes p.
 -- what is returned, and the masks of the function and of the loop
 return_cost : (p : PartWords) (e : PlainSp) → stmts_cost (made_return p e) ≤ 12 + stmts_cost (made_result p e)
 return_cost p e =
-    let outer = tree.one (masks p.turn (returned_loop p)) in
-    let ends_all = stmt (masks p.function (returned_function p)) (if p.function == p.turn then no_stmt else outer) in
-    omega (arith, joined_cost (made_result p e) ends_all, ended_cost (p.function == p.turn) outer, by (p.own == p.turn))
+    let outer = tree.one (masks p.iteration (returned_loop p)) in
+    let ends_all = stmt (masks p.function (returned_function p)) (if p.function == p.iteration then no_stmt else outer) in
+    omega (arith, joined_cost (made_result p e) ends_all, ended_cost (p.function == p.iteration) outer, by (p.own == p.iteration))
   where
     by : (alone : Bool)
         → expr_cost (less_by (frame_word p.function) (if alone then bit_of p.own else frame_word p.own))
-        + expr_cost (if alone then both (frame_word p.turn) (constant 2) else less_by (frame_word p.turn) (frame_word p.own)) ≤ 10
+        + expr_cost (if alone then both (frame_word p.iteration) (constant 2) else less_by (frame_word p.iteration) (frame_word p.own)) ≤ 10
     by true = omega arith
     by false = omega arith
 
@@ -208,7 +215,7 @@ so_cost mask condition = by (is_truth condition)
 
 -- masks that are repaired, where they may be others
 on_cost : (p : PartWords) → stmts_cost (made_on p) ≤ 6
-on_cost p = omega (arith, ended_cost (p.own == p.turn) (tree.one (masks p.own (where_on p))))
+on_cost p = omega (arith, ended_cost (p.own == p.iteration) (tree.one (masks p.own (where_on p))))
 
 after_cost : (p : PartWords) (exits : Bool) → stmts_cost (made_after p exits) ≤ 6
 after_cost p true = on_cost p
@@ -217,8 +224,8 @@ after_cost p false = omega arith
 behind_cost : (p : PartWords) (exits : Bool) → stmts_cost (made_behind p exits) ≤ 13
 behind_cost p false = omega arith
 behind_cost p true =
-    let outer = tree.one (masks p.turn (where_not_returned p)) in
-    omega (arith, joined_cost (if p.function == p.turn then no_stmt else outer) (made_on p), ended_cost (p.function == p.turn) outer, on_cost p)
+    let outer = tree.one (masks p.iteration (where_not_returned p)) in
+    omega (arith, joined_cost (if p.function == p.iteration then no_stmt else outer) (made_on p), ended_cost (p.function == p.iteration) outer, on_cost p)
 
 again_cost : (p : PartWords) (exits : Bool) → stmts_cost (made_again p exits) ≤ 6
 again_cost p true = omega arith
@@ -226,15 +233,15 @@ again_cost p false = omega arith
 
 other_cost : (p : PartWords) (exits : Bool) → expr_cost (if exits then where_not_taken p else where_other p) ≤ 9
 other_cost p true = omega arith
-other_cost p false = by (p.own == p.turn)
+other_cost p false = by (p.own == p.iteration)
   where
     by : (alone : Bool) → expr_cost (between_two binary.BitXor (if alone then bit_of p.own else frame_word p.own) (frame_word p.free)) ≤ 9
     by true = omega arith
     by false = omega arith
 
-turn_cost : (p : PartWords) (condition : PlainSp) (exits : Bool) (body : PlainStmts) (step : Option PlainAssignment)
-    → stmts_cost (made_turn p condition exits body step) ≤ 13 + expr_cost condition + stmts_cost body + step_cost step
-turn_cost p condition exits body step =
+iteration_cost : (p : PartWords) (condition : PlainSp) (exits : Bool) (body : PlainStmts) (step : Option PlainAssignment)
+    → stmts_cost (made_iteration p condition exits body step) ≤ 13 + expr_cost condition + stmts_cost body + step_cost step
+iteration_cost p condition exits body step =
     omega (
       arith,
       joined_cost body (joined (made_again p exits) (made_step p.free step)),
@@ -244,33 +251,33 @@ turn_cost p condition exits body step =
       made_step_cost p.free step,
     )
 
-loop_cost : (p : PartWords) (most : ℕ) (condition : PlainSp) (exits : Bool) (turn : PlainStmts)
-    → stmts_cost (made_loop p most condition exits turn) ≤ 34 + expr_cost condition + stmts_cost turn
-loop_cost p zero condition exits turn = omega arith
-loop_cost p (suc n) condition exits turn = omega (arith, behind_cost p exits)
+loop_cost : (p : PartWords) (most : ℕ) (condition : PlainSp) (exits : Bool) (iteration : PlainStmts)
+    → stmts_cost (made_loop p most condition exits iteration) ≤ 34 + expr_cost condition + stmts_cost iteration
+loop_cost p zero condition exits iteration = omega arith
+loop_cost p (suc n) condition exits iteration = omega (arith, behind_cost p exits)
 
 counted_cost : (p : PartWords) (most : ℕ) (body : PlainStmts) (step : Option PlainAssignment)
     → stmts_cost (made_counted p most body step) ≤ 47 + stmts_cost body + step_cost step
 counted_cost p most body step = omega (arith, joined_cost body (made_step p.own step), made_step_cost p.own step)
 
 -- either way
-turns_cost : (known : Option Start) (p : PartWords) (most : ℕ) (condition : PlainSp) (body : PlainActions) (step : Option PlainAssignment) (inside : ℕ)
+iterations_cost : (known : Option Start) (p : PartWords) (most : ℕ) (condition : PlainSp) (body : PlainActions) (step : Option PlainAssignment) (inside : ℕ)
     → ((q : PartWords) → stmts_cost (made None q body) ≤ inside)
-    → stmts_cost (made_action known p (turns most condition body step)) ≤ 47 + 2 * expr_cost condition + inside + step_cost step
-turns_cost known p most condition body step inside each = by (is_counted known most condition body step)
+    → stmts_cost (made_action known p (iterations most condition body step)) ≤ 47 + 2 * expr_cost condition + inside + step_cost step
+iterations_cost known p most condition body step inside each = by (is_counted known most condition body step)
   where
-    turn : PlainStmts
-    turn = made_turn p condition (actions_exit by_continue body) (made None (in_loop p) body) step
+    iteration : PlainStmts
+    iteration = made_iteration p condition (actions_exit by_continue body) (made None (in_loop p) body) step
 
     by : (counted : Bool)
-        → stmts_cost (if counted then made_counted p most (made None p body) step else made_loop p most condition (actions_exit by_return body) turn)
+        → stmts_cost (if counted then made_counted p most (made None p body) step else made_loop p most condition (actions_exit by_return body) iteration)
         ≤ 47 + 2 * expr_cost condition + inside + step_cost step
     by true = omega (arith, each p, counted_cost p most (made None p body) step)
     by false = omega (
       arith,
       each (in_loop p),
-      turn_cost p condition (actions_exit by_continue body) (made None (in_loop p) body) step,
-      loop_cost p most condition (actions_exit by_return body) turn,
+      iteration_cost p condition (actions_exit by_continue body) (made None (in_loop p) body) step,
+      loop_cost p most condition (actions_exit by_return body) iteration,
     )
 
 assignment_cost : (names : Names) (text : List ℕ) (e : PlainExpr) → step_cost (resolved_assignment names text e) ≤ 7 + expr_weight e
@@ -284,8 +291,8 @@ assignment_cost names text e = by (variable_target (named names text)) (variable
 head_cost : (names : Names) (head : PlainHead) (known : Option Start) (p : PartWords)
     → 47 + 2 * expr_cost (resolved_condition names head) + stmts_cost (made known p (maybe_sets (resolved_begin names head)))
     + step_cost (resolved_next names head) ≤ head_weight head
-head_cost names (plain.turns_while condition) known p = omega (arith, resolved_cost names None condition)
-head_cost names (plain.turns_for first from condition to_set to) known p =
+head_cost names (plain.iterations_while condition) known p = omega (arith, resolved_cost names None condition)
+head_cost names (plain.iterations_for first from condition to_set to) known p =
     omega (
       arith,
       resolved_cost names None condition,
@@ -360,12 +367,12 @@ mutual
       let condition = resolved_condition names head in
       let inside = resolved_block fs names body in
       let step = resolved_next names head in
-      let loop = turns (most_turns bound) condition inside step in
+      let loop = iterations (most_iterations bound) condition inside step in
       omega (
         arith,
         head_cost names head known p,
         made_joined_cost known p (maybe_sets (resolved_begin names head)) (one loop) (47 + 2 * expr_cost condition + block_weight body + step_cost step)
-            (λ after. omega (arith, one_cost after p loop, turns_cost after p (most_turns bound) condition inside step (block_weight body) (λ q. block_within fs names body None q))),
+            (λ after. omega (arith, one_cost after p loop, iterations_cost after p (most_iterations bound) condition inside step (block_weight body) (λ q. block_within fs names body None q))),
       )
   stmt_within fs names plain.broken known p = omega arith
   stmt_within fs names plain.continued known p = omega arith

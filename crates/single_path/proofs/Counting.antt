@@ -1,4 +1,4 @@
--- Loops that count: their condition holds in each turn of their bound, and after the last it does not.
+-- Loops that count: their condition holds in each iteration of their bound, and after the last it does not.
 use Rattle.std.proofs.Common.{◌≡◌, ◌≢◌, ℕ, zero, suc, ◌+◌, ◌-◌, ◌*◌, ◌%◌, ◌^◌, ◌<◌, ◌≤◌, Bool, true, false, if◌then◌else◌, Option, Some, None, refl, ap, ap₂, sym, ◌∙◌, arith, subst, lt-ltb, true≢false}
 use Rattle.std.specs.Prelude.{nat_lt, nat_le, not, ◌&&◌, int_lt}
 use Rattle.std.specs.Int.{w32}
@@ -20,7 +20,7 @@ use Rattle.c_meaning.specs.Actions.{PlainTarget, to_level, PlainAssignment, Plai
 use Rattle.c_meaning.specs.Actions as actions
 use Rattle.c_meaning.specs.declared.ways.Way.{Way}
 use Rattle.c_meaning.specs.declared.ways.Way.TheVariants as way
-use Rattle.c_meaning.specs.Meaning.{Done, goes_on, turn_done, turns_done}
+use Rattle.c_meaning.specs.Meaning.{Done, goes_on, iteration_done, iterations_done}
 use Rattle.c_meaning.specs.Meaning as meaning
 use Rattle.c_meaning.specs.Resolved as resolved
 use Rattle.c_meaning.specs.Values as values
@@ -58,7 +58,7 @@ begins_after gc (sets a) l = started a.target a.value l
 begins_after gc (actions.calls k args result) l = tt
 begins_after gc (actions.transfers core source target count) l = tt
 begins_after gc (actions.chooses branches otherwise) l = tt
-begins_after gc (actions.turns most condition body step) l = tt
+begins_after gc (actions.iterations most condition body step) l = tt
 begins_after gc actions.breaks l = tt
 begins_after gc actions.continues l = tt
 begins_after gc (actions.returns e) l = tt
@@ -146,9 +146,9 @@ steps_by level (Some a) v l is some small =
     let same = ap (λ t. if t then more else 0) both.0 in
     level_set level a.target (resolved.worth a.value l) l both.0 ∙ more_worth level a.value v l is both.1 (omega (arith, small, same)) ∙ ap (λ m. v + m) (sym same)
 
--- ---- turns
+-- ---- iterations
 
--- what is so of the variable while so many turns are left
+-- what is so of the variable while so many iterations are left
 abbrev Remains : ℕ → ℕ → ℕ → ℕ → Type 0
 Remains more limit zero v = (limit ≤ v) × (v < 2 ^ 31)
 Remains more limit (suc k) v = (v + k * more < limit) × (limit ≤ v + suc k * more) × (v + suc k * more < 2 ^ 31)
@@ -173,28 +173,28 @@ record Loop (g : Serves) (n : ℕ) (p : PartWords) (level : ℕ) (condition : Pl
 abbrev Runs : ℕ → PartWords → State → Done → State → Type 0
 Runs n p s d t = (d.way ≡ way.On) × Went n p s d t
 
-no_more_turns : (n : ℕ) (p : PartWords) (condition : PlainSp) (s : State) (l : values.State) → resolved.holds condition l ≡ false → Live p s → Agrees n s l
+no_more_iterations : (n : ℕ) (p : PartWords) (condition : PlainSp) (s : State) (l : values.State) → resolved.holds condition l ≡ false → Live p s → Agrees n s l
     → Runs n p s (goes_on (meaning.in_world l (with_overrun (resolved.holds condition l) l.world))) s
-no_more_turns n p condition s l over live h =
+no_more_iterations n p condition s l over live h =
     let same : meaning.in_world l (with_overrun (resolved.holds condition l) l.world) ≡ l =
     ap (λ b. meaning.in_world l (with_overrun b l.world)) over ∙ ap (λ b. meaning.in_world l (record l.world { overrun = b })) (or-false l.world.overrun) in
     (refl, subst (λ m. Went n p s (goes_on m) s) (sym same) (went_here n p s l live h))
 
-turned : (g : Serves) (n : ℕ) (p : PartWords) (level : ℕ) (condition : PlainSp) (step : Option PlainAssignment) (body : PlainStmts)
+iterated : (g : Serves) (n : ℕ) (p : PartWords) (level : ℕ) (condition : PlainSp) (step : Option PlainAssignment) (body : PlainStmts)
     (meant : values.State → Done) → Loop g n p level condition step body meant → (k v : ℕ) (s : State) (l : values.State) → l.locals level ≡ v
     → Remains (more_by level step) (limit_of level condition) k v → Live p s → Agrees n s l
-    → Runs n p s (turns_done (resolved.holds condition) meant (resolved.step_done step) k l)
+    → Runs n p s (iterations_done (resolved.holds condition) meant (resolved.step_done step) k l)
     (times k (stmts_done g (joined body (made_step p.own step))) s)
-turned g n p level condition step body meant b zero v s l is left live h =
-    no_more_turns n p condition s l (holds_below level condition v l is left.1 b.some b.small ∙ le-ltb v (limit_of level condition) left.0) live h
-turned g n p level condition step body meant b (suc k) v s l is left live h =
-    tests (λ u x m. turned g n p level condition step body meant b k u x m) (resolved.holds condition l) refl
+iterated g n p level condition step body meant b zero v s l is left live h =
+    no_more_iterations n p condition s l (holds_below level condition v l is left.1 b.some b.small ∙ le-ltb v (limit_of level condition) left.0) live h
+iterated g n p level condition step body meant b (suc k) v s l is left live h =
+    tests (λ u x m. iterated g n p level condition step body meant b k u x m) (resolved.holds condition l) refl
   where
     more : values.State → Done
-    more = turns_done (resolved.holds condition) meant (resolved.step_done step) k
+    more = iterations_done (resolved.holds condition) meant (resolved.step_done step) k
 
-    turns_of : State → State
-    turns_of = times k (stmts_done g (joined body (made_step p.own step)))
+    iterations_of : State → State
+    iterations_of = times k (stmts_done g (joined body (made_step p.own step)))
 
     u : State
     u = stmts_done g body s
@@ -205,10 +205,10 @@ turned g n p level condition step body meant b (suc k) v s l is left live h =
 
     Rest : Type 0
     Rest = (w : ℕ) (x : State) (m : values.State) → m.locals level ≡ w → Remains (more_by level step) (limit_of level condition) k w → Live p x → Agrees n x m
-        → Runs n p x (more m) (turns_of x)
+        → Runs n p x (more m) (iterations_of x)
 
     by_way : Rest → (w : Way) (m : values.State) → w ≡ way.On → m.locals level ≡ v → Went n p s (record { way = w; state = m }) u
-        → Runs n p s (turn_done more (resolved.step_done step) (record { way = w; state = m })) (turns_of (stmts_done g (made_step p.own step) u))
+        → Runs n p s (iteration_done more (resolved.step_done step) (record { way = w; state = m })) (iterations_of (stmts_done g (made_step p.own step) u))
     by_way rest way.On m on kept went =
         let there = went_live n p s m u went in
         let stepped = step_set g n p.own step u m there.own went.same b.within in
@@ -216,18 +216,18 @@ turned g n p level condition step body meant b (suc k) v s l is left live h =
         let next = resolved.step_done step m in
         let here = low_went n p u x next b.order there stepped.agrees (λ y behind below. stepped.others y behind) in
         let value = steps_by level step v m kept b.goes (let last = left.2 in omega (arith, last)) in
-        let turned_on = rest (v + more_by level step) x next value (remains_next (more_by level step) (limit_of level condition) k v left)
+        let iterated_on = rest (v + more_by level step) x next value (remains_next (more_by level step) (limit_of level condition) k v left)
         (went_live n p u next x here) stepped.agrees in
-        (turned_on.0, went_on n p s m u (more next) (turns_of x) went (went_on n p u next x (more next) (turns_of x) here turned_on.1))
+        (iterated_on.0, went_on n p s m u (more next) (iterations_of x) went (went_on n p u next x (more next) (iterations_of x) here iterated_on.1))
     by_way rest way.Broken m on kept went = absurd (cc)
     by_way rest way.Continued m on kept went = absurd (cc)
     by_way rest (way.Returned w) m on kept went = absurd (cc)
 
     tests : Rest → (holds : Bool) → resolved.holds condition l ≡ holds
-        → Runs n p s (elim holds as (λ _. Done) [ true ↦ turn_done more (resolved.step_done step) (meant l) | false ↦ goes_on l ])
-        (turns_of (stmts_done g (joined body (made_step p.own step)) s))
+        → Runs n p s (elim holds as (λ _. Done) [ true ↦ iteration_done more (resolved.step_done step) (meant l) | false ↦ goes_on l ])
+        (iterations_of (stmts_done g (joined body (made_step p.own step)) s))
     tests rest true is_on =
-        subst (λ t. Runs n p s (turn_done more (resolved.step_done step) (meant l)) (turns_of t)) (sym (joined_done g body (made_step p.own step) s))
+        subst (λ t. Runs n p s (iteration_done more (resolved.step_done step) (meant l)) (iterations_of t)) (sym (joined_done g body (made_step p.own step) s))
         (by_way rest (meant l).way (meant l).state (b.on l) (b.keeps l ∙ is) (b.acts s l live h))
     tests rest false is_off = absurd (true≢false (sym goes ∙ is_off))
 
@@ -249,7 +249,7 @@ pub counted_acted : (gc : resolved.Serves) (g : Serves) (n : ℕ) (p : PartWords
     → (actions_exit any_exit body ≡ false → (t : State) (m : values.State) → Live p t → Agrees n t m
     → Went n p t (resolved.actions_done gc body m) (stmts_done g (made None p body) t))
     → Live p s → Agrees n s l
-    → Acted (actions.turns most condition body step) n p s (resolved.action_done gc (actions.turns most condition body step) l)
+    → Acted (actions.iterations most condition body step) n p s (resolved.action_done gc (actions.iterations most condition body step) l)
     (stmts_done g (made_counted p most (made None p body) step) s)
 counted_acted gc g n p None most condition body step s l is begins o within acts live h = absurd (true≢false (sym is))
 counted_acted gc g n p (Some start) most condition body step s l is begins o within acts live h =
@@ -259,7 +259,7 @@ counted_acted gc g n p (Some start) most condition body step s l is begins o wit
     let unset = not-true (actions_set level body) second.0 in
     let stays = not-true (actions_exit any_exit body) second.1 in
     let counted = counts_remains (more_by level step) (limit_of level condition) most start.value first.0 in
-    let runs = turned g n p level condition step (made None p body) (resolved.actions_done gc body) (record {
+    let runs = iterated g n p level condition step (made None p body) (resolved.actions_done gc body) (record {
       order = o;
       within = within;
       some = counted.1;
@@ -269,10 +269,10 @@ counted_acted gc g n p (Some start) most condition body step s l is begins o wit
       keeps = actions_keep gc level body unset;
       acts = acts stays;
     }) most start.value s l begins counted.0 live h in
-    stays_acted (actions.turns most condition body step) n p s (resolved.action_done gc (actions.turns most condition body step) l)
+    stays_acted (actions.iterations most condition body step) n p s (resolved.action_done gc (actions.iterations most condition body step) l)
     (stmts_done g (made_counted p most (made None p body) step) s) refl runs.0 runs.1
 
--- the same of a number of turns that is not 0
+-- the same of a number of iterations that is not 0
 pub counts_by : (first more limit most : ℕ) → most ≢ 0
     → counts first more limit most
     ≡ (nat_lt (first + (most - 1) * more) limit

@@ -10,12 +10,12 @@ use Rattle.sp_tree.specs.Statements.{PlainStmt, PlainStmts, no_stmt, stmt, joine
 use Rattle.sp_tree.specs.Statements as tree
 use Rattle.sp_tree.specs.Uses.{Use, reads_cell, reads_array, writes_cell, writes_array, sends_to, expr_uses, args_uses, target_uses, stmt_uses, stmts_uses, functions_uses}
 use Rattle.sp_tree.proofs.Joins.{joined_uses}
-use Rattle.c_meaning.specs.Actions.{PlainTarget, to_level, to_cell, to_array, PlainAssignment, PlainAction, sets, calls, transfers, chooses, turns, breaks, continues, returns, PlainActions, no_action, action, PlainBranches, no_branch, branch}
+use Rattle.c_meaning.specs.Actions.{PlainTarget, to_level, to_cell, to_array, PlainAssignment, PlainAction, sets, calls, transfers, chooses, iterations, breaks, continues, returns, PlainActions, no_action, action, PlainBranches, no_branch, branch}
 use Rattle.single_path.specs.declared.counted.Start.{Start}
 use Rattle.single_path.specs.declared.part_words.PartWords.{PartWords}
 use Rattle.single_path.specs.PartWords.{in_arm, in_loop, outermost, both, less_by, bit_of, not_zero, is_truth, where_so, where_not_taken, where_other, where_on, where_not_returned, returned_function, returned_loop}
 use Rattle.single_path.specs.Counted.{start_of}
-use Rattle.single_path.specs.Made.{is_zero, made_target, made_assignment, made_step, made_call, made_result, made_return, ends, is_no_action, is_no_branch, made_arm, made_otherwise, made_on, made_after, made_behind, made_again, any_exit, by_continue, by_return, actions_exit, branches_exit, made_turn, made_loop, is_counted, made_counted, made_action, made, made_branches}
+use Rattle.single_path.specs.Made.{is_zero, made_target, made_assignment, made_step, made_call, made_result, made_return, ends, is_no_action, is_no_branch, made_arm, made_otherwise, made_on, made_after, made_behind, made_again, any_exit, by_continue, by_return, actions_exit, branches_exit, made_iteration, made_loop, is_counted, made_counted, made_action, made, made_branches}
 use Rattle.single_path.specs.Single.{variables, begun_mask, made_functions}
 
 -- ---- actions whose uses all have a property
@@ -47,7 +47,7 @@ abbrev mutual
   ActionDoes P (calls k args result) = Each (ExprDoes P) args × ResultDoes P result
   ActionDoes P (transfers core source target count) = P (sends_to core) × ExprDoes P source × ExprDoes P target × ExprDoes P count
   ActionDoes P (chooses branches otherwise) = BranchesDo P branches × Do P otherwise
-  ActionDoes P (turns most condition body step) = ExprDoes P condition × Do P body × StepDoes P step
+  ActionDoes P (iterations most condition body step) = ExprDoes P condition × Do P body × StepDoes P step
   ActionDoes P breaks = ⊤
   ActionDoes P continues = ⊤
   ActionDoes P (returns e) = ExprDoes P e
@@ -132,19 +132,19 @@ return_does P p e does =
     joined_do P (made_result p e) ended
     (unless_do P (is_zero e) (tree.one (tree.writes p.own (tree.to_slot p.result) e))
     (assignment_do P p.own (record { target = to_level p.result; value = e }) tt does))
-    (mask_then P p.function (returned_function p) outer (by (p.own == p.turn)).0
-    (unless_do P (p.function == p.turn) (tree.one (masks p.turn (returned_loop p)))
-    (mask_then P p.turn (returned_loop p) no_stmt (by (p.own == p.turn)).1 tt)))
+    (mask_then P p.function (returned_function p) outer (by (p.own == p.iteration)).0
+    (unless_do P (p.function == p.iteration) (tree.one (masks p.iteration (returned_loop p)))
+    (mask_then P p.iteration (returned_loop p) no_stmt (by (p.own == p.iteration)).1 tt)))
   where
     outer : PlainStmts
-    outer = if p.function == p.turn then no_stmt else tree.one (masks p.turn (returned_loop p))
+    outer = if p.function == p.iteration then no_stmt else tree.one (masks p.iteration (returned_loop p))
 
     ended : PlainStmts
     ended = stmt (masks p.function (returned_function p)) outer
 
     by : (alone : Bool)
         → ExprDoes P (less_by (frame_word p.function) (if alone then bit_of p.own else frame_word p.own))
-        × ExprDoes P (if alone then both (frame_word p.turn) (constant 2) else less_by (frame_word p.turn) (frame_word p.own))
+        × ExprDoes P (if alone then both (frame_word p.iteration) (constant 2) else less_by (frame_word p.iteration) (frame_word p.own))
     by true = ((tt, (tt, tt)), (tt, tt))
     by false = ((tt, tt), (tt, tt))
 
@@ -158,14 +158,14 @@ so_does P mask condition test = by (is_truth condition)
 
 other_does : (P : Use → Type 0) (p : PartWords) (exits : Bool) → ExprDoes P (if exits then where_not_taken p else where_other p)
 other_does P p true = ((tt, tt), (tt, tt))
-other_does P p false = by (p.own == p.turn)
+other_does P p false = by (p.own == p.iteration)
   where
     by : (alone : Bool) → ExprDoes P (between_two binary.BitXor (if alone then bit_of p.own else frame_word p.own) (frame_word p.free))
     by true = ((tt, tt), tt)
     by false = (tt, tt)
 
 on_does : (P : Use → Type 0) (p : PartWords) → StmtsDo P (made_on p)
-on_does P p = unless_do P (p.own == p.turn) (tree.one (masks p.own (where_on p))) tt
+on_does P p = unless_do P (p.own == p.iteration) (tree.one (masks p.own (where_on p))) tt
 
 after_does : (P : Use → Type 0) (p : PartWords) (exits : Bool) → StmtsDo P (made_after p exits)
 after_does P p true = on_does P p
@@ -174,8 +174,8 @@ after_does P p false = tt
 behind_does : (P : Use → Type 0) (p : PartWords) (exits : Bool) → StmtsDo P (made_behind p exits)
 behind_does P p false = tt
 behind_does P p true =
-    let outer = tree.one (masks p.turn (where_not_returned p)) in
-    joined_do P (if p.function == p.turn then no_stmt else outer) (made_on p) (unless_do P (p.function == p.turn) outer tt) (on_does P p)
+    let outer = tree.one (masks p.iteration (where_not_returned p)) in
+    joined_do P (if p.function == p.iteration then no_stmt else outer) (made_on p) (unless_do P (p.function == p.iteration) outer tt) (on_does P p)
 
 again_does : (P : Use → Type 0) (p : PartWords) (exits : Bool) → StmtsDo P (made_again p exits)
 again_does P p true = tt
@@ -189,18 +189,18 @@ arm_does P p condition arm exits nothing rest test inside more =
     (joined_do P arm (made_otherwise p exits nothing rest) inside
     (unless_do P nothing (stmt (masks p.free other) rest) (mask_then P p.free other rest (other_does P p exits) more)))
 
-turn_does : (P : Use → Type 0) (p : PartWords) (condition : PlainSp) (exits : Bool) (body : PlainStmts) (step : Option PlainAssignment)
-    → ExprDoes P condition → StmtsDo P body → StepDoes P step → StmtsDo P (made_turn p condition exits body step)
-turn_does P p condition exits body step test inside stepped =
+iteration_does : (P : Use → Type 0) (p : PartWords) (condition : PlainSp) (exits : Bool) (body : PlainStmts) (step : Option PlainAssignment)
+    → ExprDoes P condition → StmtsDo P body → StepDoes P step → StmtsDo P (made_iteration p condition exits body step)
+iteration_does P p condition exits body step test inside stepped =
     let behind = joined (made_again p exits) (made_step p.free step) in
     mask_then P p.free (where_so p.free condition) (joined body behind) (so_does P p.free condition test)
     (joined_do P body behind inside (joined_do P (made_again p exits) (made_step p.free step) (again_does P p exits) (step_do P p.free step stepped)))
 
-loop_does : (P : Use → Type 0) (p : PartWords) (most : ℕ) (condition : PlainSp) (exits : Bool) (turn : PlainStmts) → ExprDoes P condition → StmtsDo P turn
-    → StmtsDo P (made_loop p most condition exits turn)
-loop_does P p zero condition exits turn test inside = only P (tree.overruns p.own condition) (expr_each P condition test)
-loop_does P p (suc n) condition exits turn test inside =
-    first_then P (tree.turns (suc n) turn) (stmt (tree.overruns p.free condition) (made_behind p exits)) inside
+loop_does : (P : Use → Type 0) (p : PartWords) (most : ℕ) (condition : PlainSp) (exits : Bool) (iteration : PlainStmts) → ExprDoes P condition → StmtsDo P iteration
+    → StmtsDo P (made_loop p most condition exits iteration)
+loop_does P p zero condition exits iteration test inside = only P (tree.overruns p.own condition) (expr_each P condition test)
+loop_does P p (suc n) condition exits iteration test inside =
+    first_then P (tree.iterations (suc n) iteration) (stmt (tree.overruns p.free condition) (made_behind p exits)) inside
     (first_then P (tree.overruns p.free condition) (made_behind p exits) (expr_each P condition test) (behind_does P p exits))
 
 either_does : (P : Use → Type 0) (b : Bool) (xs ys : PlainStmts) → StmtsDo P xs → StmtsDo P ys → StmtsDo P (if b then xs else ys)
@@ -210,7 +210,7 @@ either_does P false xs ys first second = second
 counted_does : (P : Use → Type 0) (p : PartWords) (most : ℕ) (body : PlainStmts) (step : Option PlainAssignment) → StmtsDo P body → StepDoes P step
     → StmtsDo P (made_counted p most body step)
 counted_does P p most body step inside stepped =
-    only P (tree.turns most (joined body (made_step p.own step))) (joined_do P body (made_step p.own step) inside (step_do P p.own step stepped))
+    only P (tree.iterations most (joined body (made_step p.own step))) (joined_do P body (made_step p.own step) inside (step_do P p.own step stepped))
 
 -- ---- all actions
 
@@ -229,12 +229,12 @@ mutual
       (made_after p (branches_exit any_exit branches || actions_exit any_exit otherwise))
       (branches_do P p branches (is_no_action otherwise) (λ q. made None q otherwise) does.0 (λ q. made_does P None q otherwise does.1))
       (after_does P p (branches_exit any_exit branches || actions_exit any_exit otherwise))
-  action_does P known p (turns most condition body step) does =
+  action_does P known p (iterations most condition body step) does =
       either_does P (is_counted known most condition body step) (made_counted p most (made None p body) step)
-      (made_loop p most condition (actions_exit by_return body) (made_turn p condition (actions_exit by_continue body) (made None (in_loop p) body) step))
+      (made_loop p most condition (actions_exit by_return body) (made_iteration p condition (actions_exit by_continue body) (made None (in_loop p) body) step))
       (counted_does P p most (made None p body) step (made_does P None p body does.1) does.2)
-      (loop_does P p most condition (actions_exit by_return body) (made_turn p condition (actions_exit by_continue body) (made None (in_loop p) body) step) does.0
-      (turn_does P p condition (actions_exit by_continue body) (made None (in_loop p) body) step does.0 (made_does P None (in_loop p) body does.1) does.2))
+      (loop_does P p most condition (actions_exit by_return body) (made_iteration p condition (actions_exit by_continue body) (made None (in_loop p) body) step) does.0
+      (iteration_does P p condition (actions_exit by_continue body) (made None (in_loop p) body) step does.0 (made_does P None (in_loop p) body does.1) does.2))
   action_does P known p breaks does = tt
   action_does P known p continues does = tt
   action_does P known p (returns e) does = return_does P p e does

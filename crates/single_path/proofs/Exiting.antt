@@ -1,9 +1,9 @@
 -- Actions in which a way on does not stand do not take it.
 use Rattle.std.proofs.Common.{◌≡◌, ◌≢◌, ℕ, zero, suc, Bool, true, false, if◌then◌else◌, ◌||◌, refl, sym, true≢false}
-use Rattle.c_meaning.specs.Actions.{PlainAction, sets, calls, transfers, chooses, turns, breaks, continues, returns, PlainActions, no_action, action, PlainBranches, no_branch, branch}
+use Rattle.c_meaning.specs.Actions.{PlainAction, sets, calls, transfers, chooses, iterations, breaks, continues, returns, PlainActions, no_action, action, PlainBranches, no_branch, branch}
 use Rattle.c_meaning.specs.declared.ways.Way.{Way}
 use Rattle.c_meaning.specs.declared.ways.Way.TheVariants as way
-use Rattle.c_meaning.specs.Meaning.{Done, goes_on, then_done, turn_done, turns_done}
+use Rattle.c_meaning.specs.Meaning.{Done, goes_on, then_done, iteration_done, iterations_done}
 use Rattle.c_meaning.specs.Resolved as resolved
 use Rattle.c_meaning.specs.Values as values
 use Rattle.single_path.specs.declared.exits.Exits.{Exits}
@@ -38,7 +38,7 @@ ends_away gc (sets a) l is e = true≢false (sym is)
 ends_away gc (calls k args result) l is e = true≢false (sym is)
 ends_away gc (transfers core source target count) l is e = true≢false (sym is)
 ends_away gc (chooses branches otherwise) l is e = true≢false (sym is)
-ends_away gc (turns most condition body step) l is e = true≢false (sym is)
+ends_away gc (iterations most condition body step) l is e = true≢false (sym is)
 ends_away gc breaks l is e = absurd (cc)
 ends_away gc continues l is e = absurd (cc)
 ends_away gc (returns v) l is e = absurd (cc)
@@ -50,21 +50,21 @@ then_avoids q next way.Broken m h more = h
 then_avoids q next way.Continued m h more = h
 then_avoids q next (way.Returned v) m h more = h
 
-turn_avoids : (q : Exits) (more : values.State → Done) (step : values.State → values.State) (w : Way) (m : values.State) → Avoids (out_of_loop q) w
-    → ((l : values.State) → Avoids q (more l).way) → Avoids q (turn_done more step (record { way = w; state = m })).way
-turn_avoids q more step way.On m h rest = rest (step m)
-turn_avoids q more step way.Broken m h rest = tt
-turn_avoids q more step way.Continued m h rest = rest (step m)
-turn_avoids q more step (way.Returned v) m h rest = h
+iteration_avoids : (q : Exits) (more : values.State → Done) (step : values.State → values.State) (w : Way) (m : values.State) → Avoids (out_of_loop q) w
+    → ((l : values.State) → Avoids q (more l).way) → Avoids q (iteration_done more step (record { way = w; state = m })).way
+iteration_avoids q more step way.On m h rest = rest (step m)
+iteration_avoids q more step way.Broken m h rest = tt
+iteration_avoids q more step way.Continued m h rest = rest (step m)
+iteration_avoids q more step (way.Returned v) m h rest = h
 
-turns_avoid : (q : Exits) (holds : values.State → Bool) (body : values.State → Done) (step : values.State → values.State)
-    → ((l : values.State) → Avoids (out_of_loop q) (body l).way) → (n : ℕ) (l : values.State) → Avoids q (turns_done holds body step n l).way
-turns_avoid q holds body step each zero l = tt
-turns_avoid q holds body step each (suc n) l = by (holds l) (λ m. turns_avoid q holds body step each n m)
+iterations_avoid : (q : Exits) (holds : values.State → Bool) (body : values.State → Done) (step : values.State → values.State)
+    → ((l : values.State) → Avoids (out_of_loop q) (body l).way) → (n : ℕ) (l : values.State) → Avoids q (iterations_done holds body step n l).way
+iterations_avoid q holds body step each zero l = tt
+iterations_avoid q holds body step each (suc n) l = by (holds l) (λ m. iterations_avoid q holds body step each n m)
   where
-    by : (b : Bool) → ((m : values.State) → Avoids q (turns_done holds body step n m).way)
-        → Avoids q (elim b as (λ _. Done) [ true ↦ turn_done (turns_done holds body step n) step (body l) | false ↦ goes_on l ]).way
-    by true rest = turn_avoids q (turns_done holds body step n) step (body l).way (body l).state (each l) rest
+    by : (b : Bool) → ((m : values.State) → Avoids q (iterations_done holds body step n m).way)
+        → Avoids q (elim b as (λ _. Done) [ true ↦ iteration_done (iterations_done holds body step n) step (body l) | false ↦ goes_on l ]).way
+    by true rest = iteration_avoids q (iterations_done holds body step n) step (body l).way (body l).state (each l) rest
     by false rest = tt
 
 mutual
@@ -75,8 +75,8 @@ mutual
   action_avoids gc q (chooses branches otherwise) l is =
       let both = neither (branches_exit q branches) (actions_exit q otherwise) is in
       branches_avoid gc q branches (resolved.actions_done gc otherwise) (λ m. actions_avoid gc q otherwise m both.1) l both.0
-  action_avoids gc q (turns most condition body step) l is =
-      turns_avoid q (resolved.holds condition) (resolved.actions_done gc body) (resolved.step_done step) (λ m. actions_avoid gc (out_of_loop q) body m is) most l
+  action_avoids gc q (iterations most condition body step) l is =
+      iterations_avoid q (resolved.holds condition) (resolved.actions_done gc body) (resolved.step_done step) (λ m. actions_avoid gc (out_of_loop q) body m is) most l
   action_avoids gc q breaks l is = is
   action_avoids gc q continues l is = is
   action_avoids gc q (returns e) l is = is

@@ -1,6 +1,6 @@
 -- Actions whose calls fit, and in which `break` and `continue` stand in loops.
 use Rattle.std.specs.Prelude.{◌≡◌, ℕ, Bool, true, length}
-use Rattle.c_meaning.specs.Actions.{PlainAction, sets, calls, transfers, chooses, turns, breaks, continues, returns, PlainActions, no_action, action, PlainBranches, no_branch, branch}
+use Rattle.c_meaning.specs.Actions.{PlainAction, sets, calls, transfers, chooses, iterations, breaks, continues, returns, PlainActions, no_action, action, PlainBranches, no_branch, branch}
 
 -- over what may be called: a function by its number, with so many arguments; and whether the actions stand in a loop
 abbrev mutual
@@ -9,7 +9,7 @@ abbrev mutual
   FitsAction Fit inside (calls k args result) = Fit k (length args)
   FitsAction Fit inside (transfers core source target count) = Unit {0}
   FitsAction Fit inside (chooses branches otherwise) = FitsBranches Fit inside branches × Fits Fit inside otherwise
-  FitsAction Fit inside (turns most condition body step) = Fits Fit true body
+  FitsAction Fit inside (iterations most condition body step) = Fits Fit true body
   FitsAction Fit inside breaks = inside ≡ true
   FitsAction Fit inside continues = inside ≡ true
   FitsAction Fit inside (returns e) = Unit {0}

@@ -7,9 +7,9 @@ use Rattle.sp_tree.specs.Formed.{target_formed, result_formed, callee_formed, st
 use Rattle.sp_tree.specs.Plain.{PlainSp, frame_word}
 use Rattle.sp_tree.specs.Statements.{PlainStmts, no_stmt, stmt, joined, PlainFunction, masks, writes, overruns}
 use Rattle.sp_tree.specs.Statements as tree
-use Rattle.c_meaning.specs.Actions.{PlainTarget, to_level, to_cell, to_array, PlainAssignment, PlainAction, sets, calls, transfers, chooses, turns, breaks, continues, returns, PlainActions, no_action, action, PlainBranches, no_branch, branch}
+use Rattle.c_meaning.specs.Actions.{PlainTarget, to_level, to_cell, to_array, PlainAssignment, PlainAction, sets, calls, transfers, chooses, iterations, breaks, continues, returns, PlainActions, no_action, action, PlainBranches, no_branch, branch}
 use Rattle.single_path.specs.Counted.{start_of}
-use Rattle.single_path.specs.Made.{made_target, made_assignment, made_step, made_call, is_zero, made_result, made_return, ends, is_no_action, is_no_branch, made_arm, made_otherwise, made_on, made_after, made_behind, made_again, any_exit, by_continue, by_return, actions_exit, branches_exit, made_turn, made_loop, is_counted, made_counted, made_action, made, made_branches}
+use Rattle.single_path.specs.Made.{made_target, made_assignment, made_step, made_call, is_zero, made_result, made_return, ends, is_no_action, is_no_branch, made_arm, made_otherwise, made_on, made_after, made_behind, made_again, any_exit, by_continue, by_return, actions_exit, branches_exit, made_iteration, made_loop, is_counted, made_counted, made_action, made, made_branches}
 use Rattle.single_path.specs.declared.counted.Start.{Start}
 use Rattle.single_path.specs.declared.part_words.PartWords.{PartWords}
 use Rattle.single_path.specs.PartWords.{in_arm, in_loop, where_so, where_not_taken, where_other, where_on, where_not_returned, bit_of, not_zero, returned_function, returned_loop}
@@ -86,18 +86,18 @@ result_made_formed fs number slots p e b sound within = by (is_zero e)
 return_formed : (fs : List PlainFunction) (number slots : ℕ) (p : PartWords) (e : PlainSp) → Below p slots → Sound e → expr_words e ≤ slots
     → stmts_formed fs number slots (made_return p e) ≡ true
 return_formed fs number slots p e b sound within =
-    let outer = tree.one (masks p.turn (returned_loop p)) in
-    both_formed fs number slots (made_result p e) (stmt (masks p.function (returned_function p)) (if p.function == p.turn then no_stmt else outer))
+    let outer = tree.one (masks p.iteration (returned_loop p)) in
+    both_formed fs number slots (made_result p e) (stmt (masks p.function (returned_function p)) (if p.function == p.iteration then no_stmt else outer))
     (result_made_formed fs number slots p e b sound within)
-    (more_formed fs number slots (masks p.function (returned_function p)) (if p.function == p.turn then no_stmt else outer)
-    (returned_function_formed fs number slots p b) (unless_formed fs number slots (p.function == p.turn) outer
-    (more_formed fs number slots (masks p.turn (returned_loop p)) no_stmt (returned_loop_formed fs number slots p b) refl)))
+    (more_formed fs number slots (masks p.function (returned_function p)) (if p.function == p.iteration then no_stmt else outer)
+    (returned_function_formed fs number slots p b) (unless_formed fs number slots (p.function == p.iteration) outer
+    (more_formed fs number slots (masks p.iteration (returned_loop p)) no_stmt (returned_loop_formed fs number slots p b) refl)))
 
 -- ---- arms and loops
 
 on_made_formed : (fs : List PlainFunction) (number slots : ℕ) (p : PartWords) → Below p slots → stmts_formed fs number slots (made_on p) ≡ true
 on_made_formed fs number slots p b =
-    unless_formed fs number slots (p.own == p.turn) (tree.one (masks p.own (where_on p)))
+    unless_formed fs number slots (p.own == p.iteration) (tree.one (masks p.own (where_on p)))
     (more_formed fs number slots (masks p.own (where_on p)) no_stmt (on_formed fs number slots p b) refl)
 
 after_formed : (fs : List PlainFunction) (number slots : ℕ) (p : PartWords) (exits : Bool) → Below p slots → stmts_formed fs number slots (made_after p exits) ≡ true
@@ -107,10 +107,10 @@ after_formed fs number slots p false b = refl
 behind_formed : (fs : List PlainFunction) (number slots : ℕ) (p : PartWords) (exits : Bool) → Below p slots → stmts_formed fs number slots (made_behind p exits) ≡ true
 behind_formed fs number slots p false b = refl
 behind_formed fs number slots p true b =
-    let outer = tree.one (masks p.turn (where_not_returned p)) in
-    both_formed fs number slots (if p.function == p.turn then no_stmt else outer) (made_on p)
-    (unless_formed fs number slots (p.function == p.turn) outer
-    (more_formed fs number slots (masks p.turn (where_not_returned p)) no_stmt (not_returned_formed fs number slots p b) refl))
+    let outer = tree.one (masks p.iteration (where_not_returned p)) in
+    both_formed fs number slots (if p.function == p.iteration then no_stmt else outer) (made_on p)
+    (unless_formed fs number slots (p.function == p.iteration) outer
+    (more_formed fs number slots (masks p.iteration (where_not_returned p)) no_stmt (not_returned_formed fs number slots p b) refl))
     (on_made_formed fs number slots p b)
 
 again_formed : (fs : List PlainFunction) (number slots : ℕ) (p : PartWords) (exits : Bool) → p.free < slots → stmts_formed fs number slots (made_again p exits) ≡ true
@@ -130,10 +130,10 @@ arm_formed fs number slots p condition arm exits nothing rest b free sound withi
     (both_formed fs number slots arm (made_otherwise p exits nothing rest) here (unless_formed fs number slots nothing otherwise
     (more_formed fs number slots (masks p.free other) rest (other_formed fs number slots p exits b free) there)))
 
-turn_formed : (fs : List PlainFunction) (number slots : ℕ) (p : PartWords) (condition : PlainSp) (exits : Bool) (body : PlainStmts) (step : Option PlainAssignment)
+iteration_formed : (fs : List PlainFunction) (number slots : ℕ) (p : PartWords) (condition : PlainSp) (exits : Bool) (body : PlainStmts) (step : Option PlainAssignment)
     → p.free < slots → Sound condition → expr_words condition ≤ slots → SoundStep step → step_words step ≤ slots
-    → stmts_formed fs number slots body ≡ true → stmts_formed fs number slots (made_turn p condition exits body step) ≡ true
-turn_formed fs number slots p condition exits body step free sound within to of inside =
+    → stmts_formed fs number slots body ≡ true → stmts_formed fs number slots (made_iteration p condition exits body step) ≡ true
+iteration_formed fs number slots p condition exits body step free sound within to of inside =
     let again = joined (made_again p exits) (made_step p.free step) in
     more_formed fs number slots (masks p.free (where_so p.free condition)) (tree.joined body again)
     (mask_formed fs number slots p.free (where_so p.free condition) free (condition_sound p.free condition sound) (omega (arith, within, free, so_words p.free condition)))
@@ -145,10 +145,10 @@ overrun_formed : (fs : List PlainFunction) (number slots mask : ℕ) (condition 
     → expr_words condition ≤ slots → stmt_formed fs number slots (overruns mask condition) ≡ true
 overrun_formed fs number slots mask condition there sound within = and_from _ _ (lt-ltb mask slots there) (sound_formed slots condition sound within)
 
-loop_formed : (fs : List PlainFunction) (number slots : ℕ) (p : PartWords) (n : ℕ) (condition : PlainSp) (exits : Bool) (turn : PlainStmts) → Below p slots
-    → p.free < slots → Sound condition → expr_words condition ≤ slots → stmts_formed fs number slots turn ≡ true
-    → stmts_formed fs number slots (made_loop p (suc n) condition exits turn) ≡ true
-loop_formed fs number slots p n condition exits turn b free sound within inside =
+loop_formed : (fs : List PlainFunction) (number slots : ℕ) (p : PartWords) (n : ℕ) (condition : PlainSp) (exits : Bool) (iteration : PlainStmts) → Below p slots
+    → p.free < slots → Sound condition → expr_words condition ≤ slots → stmts_formed fs number slots iteration ≡ true
+    → stmts_formed fs number slots (made_loop p (suc n) condition exits iteration) ≡ true
+loop_formed fs number slots p n condition exits iteration b free sound within inside =
     and_from _ _ (mask_formed fs number slots p.free (bit_of p.own) free (record { ranged = (tt, tt); few = omega arith }) (omega (arith, b.own)))
     (and_from _ _ (and_from _ _ (lt-ltb 0 (suc n) (omega arith)) inside)
     (and_from _ _ (overrun_formed fs number slots p.free condition free sound within) (behind_formed fs number slots p exits b)))
@@ -167,10 +167,10 @@ MayCall Fit fs number = (k args : ℕ) → Fit k args → callee_formed fs numbe
 
 -- a loop, either way
 repeated_formed : (fs : List PlainFunction) (number slots n : ℕ) (known : Option Start) (p : PartWords) (most : ℕ) (condition : PlainSp) (body : PlainActions)
-    (step : Option PlainAssignment) → Order n p → action_words (turns most condition body step) ≤ n
-    → p.free + width.action_masks (turns most condition body step) ≤ slots → SoundAction (turns most condition body step)
+    (step : Option PlainAssignment) → Order n p → action_words (iterations most condition body step) ≤ n
+    → p.free + width.action_masks (iterations most condition body step) ≤ slots → SoundAction (iterations most condition body step)
     → ((q : PartWords) → Order n q → q.free + width.masks body ≤ slots → stmts_formed fs number slots (made None q body) ≡ true)
-    → stmts_formed fs number slots (made_action known p (turns most condition body step)) ≡ true
+    → stmts_formed fs number slots (made_action known p (iterations most condition body step)) ≡ true
 repeated_formed fs number slots n known p zero condition body step order within free sound each = by known
   where
     more : n ≤ slots
@@ -180,8 +180,8 @@ repeated_formed fs number slots n known p zero condition body step order within 
     flag = more_formed fs number slots (overruns p.own condition) no_stmt
         (overrun_formed fs number slots p.own condition (below n slots p order (omega (arith, free))).own sound.0 (omega (arith, within, more))) refl
 
-    -- no turn is counted
-    by : (known : Option Start) → stmts_formed fs number slots (made_action known p (turns zero condition body step)) ≡ true
+    -- no iteration is counted
+    by : (known : Option Start) → stmts_formed fs number slots (made_action known p (iterations zero condition body step)) ≡ true
     by None = flag
     by (Some s) = flag
 repeated_formed fs number slots n known p (suc k) condition body step order within free sound each = by (is_counted known (suc k) condition body step)
@@ -192,14 +192,14 @@ repeated_formed fs number slots n known p (suc k) condition body step order with
     more : n ≤ slots
     more = words_there n slots p order (omega (arith, free))
 
-    turn : PlainStmts
-    turn = made_turn p condition (actions_exit by_continue body) (made None (in_loop p) body) step
+    iteration : PlainStmts
+    iteration = made_iteration p condition (actions_exit by_continue body) (made None (in_loop p) body) step
 
     by : (counted : Bool)
-        → stmts_formed fs number slots (if counted then made_counted p (suc k) (made None p body) step else made_loop p (suc k) condition (actions_exit by_return body) turn) ≡ true
+        → stmts_formed fs number slots (if counted then made_counted p (suc k) (made None p body) step else made_loop p (suc k) condition (actions_exit by_return body) iteration) ≡ true
     by true = counted_formed fs number slots p k (made None p body) step b.own sound.1.1 (omega (arith, within, more)) (each p order (omega (arith, free)))
-    by false = loop_formed fs number slots p k condition (actions_exit by_return body) turn b (omega (arith, free)) sound.0 (omega (arith, within, more))
-        (turn_formed fs number slots p condition (actions_exit by_continue body) (made None (in_loop p) body) step (omega (arith, free)) sound.0
+    by false = loop_formed fs number slots p k condition (actions_exit by_return body) iteration b (omega (arith, free)) sound.0 (omega (arith, within, more))
+        (iteration_formed fs number slots p condition (actions_exit by_continue body) (made None (in_loop p) body) step (omega (arith, free)) sound.0
         (omega (arith, within, more)) sound.1.1 (omega (arith, within, more)) (each (in_loop p) (order_loop n p order) (omega (arith, free))))
 
 -- the variables have the first so many words
@@ -232,7 +232,7 @@ mutual
       (λ q there room. made_formed Fit fs number slots n each otherwise inside None q there (omega (arith, within)) room fits.1 sound.1)
       inside p order (omega (arith, within)) free fits.0 sound.0)
       (after_formed fs number slots p (branches_exit any_exit branches || actions_exit any_exit otherwise) (below n slots p order (omega (arith, free))))
-  action_formed Fit fs number slots n each (turns most condition body step) inside known p order within free fits sound =
+  action_formed Fit fs number slots n each (iterations most condition body step) inside known p order within free fits sound =
       repeated_formed fs number slots n known p most condition body step order within free sound
       (λ q there room. made_formed Fit fs number slots n each body true None q there (omega (arith, within)) room fits sound.1.0)
   action_formed Fit fs number slots n each breaks inside known p order within free fits sound =

@@ -16,8 +16,8 @@ put_there x y u f other = ap (λ b. cond b y (f u)) (ne_eqb x u other)
 pub record Order (n : ℕ) (p : PartWords) : Type 0 where
   pub result : n ≤ p.result
   pub function : p.result < p.function
-  pub loop : p.function ≤ p.turn
-  pub own : p.turn ≤ p.own
+  pub loop : p.function ≤ p.iteration
+  pub own : p.iteration ≤ p.own
   pub free : p.own < p.free
 
 -- no word below the first so many is another, and no word of a memory
@@ -46,9 +46,9 @@ set_same n slot v s same = record { frame = λ x below. by x (cases_eq slot x); 
     by x (inl here) = ap (λ y. put slot v s.frame y) (sym here) ∙ put_here slot v s.frame ∙ same ∙ ap s.frame here
     by x (inr there) = put_there slot v x s.frame there
 
--- so many turns of which each leaves them
-pub turns_still : (n : ℕ) (change : State → State) (Kept : State → Type 0) → ((s : State) → Kept s → Still n s (change s))
+-- so many iterations of which each leaves them
+pub iterations_still : (n : ℕ) (change : State → State) (Kept : State → Type 0) → ((s : State) → Kept s → Still n s (change s))
     → ((s : State) → Kept s → Kept (change s)) → (k : ℕ) (s : State) → Kept s → Still n s (times k change s)
-turns_still n change Kept each on zero s kept = still_here n s
-turns_still n change Kept each on (suc k) s kept =
-    still_on n s (change s) (times k change (change s)) (each s kept) (turns_still n change Kept each on k (change s) (on s kept))
+iterations_still n change Kept each on zero s kept = still_here n s
+iterations_still n change Kept each on (suc k) s kept =
+    still_on n s (change s) (times k change (change s)) (each s kept) (iterations_still n change Kept each on k (change s) (on s kept))

@@ -14,9 +14,9 @@ use Rattle.sp_tree.specs.Plain.{PlainSp, constant}
 use Rattle.sp_tree.specs.Statements.{PlainStmts, no_stmt, stmt, joined, masks}
 use Rattle.sp_tree.specs.Statements as tree
 use Rattle.sp_tree.proofs.Joins.{joined_levels}
-use Rattle.c_meaning.specs.Actions.{PlainTarget, to_level, to_cell, to_array, PlainAssignment, PlainAction, chooses, turns, returns, PlainActions, no_action, action, PlainBranches, no_branch, branch, one}
+use Rattle.c_meaning.specs.Actions.{PlainTarget, to_level, to_cell, to_array, PlainAssignment, PlainAction, chooses, iterations, returns, PlainActions, no_action, action, PlainBranches, no_branch, branch, one}
 use Rattle.c_meaning.specs.Actions as actions
-use Rattle.c_meaning.specs.Meaning.{with_variable, names_after, most_turns, parameter_variables}
+use Rattle.c_meaning.specs.Meaning.{with_variable, names_after, most_iterations, parameter_variables}
 use Rattle.c_tree.specs.Names.{number_of}
 use Rattle.c_meaning.specs.Resolve.{resolved, resolved_args, variable_target, element_target, assignment_to, maybe_sets, numbered_call, resolved_right, resolved_condition, resolved_begin, resolved_next, choice, resolved_stmt, resolved_block, resolved_arms, resolved_otherwise, resolved_body}
 use Rattle.c_meaning.specs.Values.{Names, named}
@@ -25,7 +25,7 @@ use Rattle.single_path.specs.declared.counted.Start.{Start}
 use Rattle.single_path.specs.declared.part_words.PartWords.{PartWords}
 use Rattle.single_path.specs.PartWords.{in_arm, in_loop, outermost, where_not_taken, where_other, where_on, where_not_returned, returned_function, returned_loop}
 use Rattle.single_path.specs.Counted.{start_of}
-use Rattle.single_path.specs.Made.{is_zero, made_result, made_return, made_step, ends, is_no_action, is_no_branch, made_arm, made_otherwise, made_on, made_after, made_behind, made_again, any_exit, by_continue, by_return, actions_exit, branches_exit, made_turn, made_loop, is_counted, made_counted, made_action, made, made_branches}
+use Rattle.single_path.specs.Made.{is_zero, made_result, made_return, made_step, ends, is_no_action, is_no_branch, made_arm, made_otherwise, made_on, made_after, made_behind, made_again, any_exit, by_continue, by_return, actions_exit, branches_exit, made_iteration, made_loop, is_counted, made_counted, made_action, made, made_branches}
 use Rattle.single_path.specs.Single.{variables, made_function}
 use Rattle.single_path.specs.Widths.{expr_words, args_words, result_words, step_words, words, branches_words, branches_masks}
 use Rattle.single_path.specs.Widths as width
@@ -34,7 +34,7 @@ use Rattle.single_path.proofs.Words.{resolved_words, resolved_args_words, variab
 -- ---- what is counted
 
 -- For actions that stand where so many variables are open, and for the words that they are made with: their words after those
--- variables, their masks but one, and their levels of turns are together so many at most. (The one mask may be that of what a
+-- variables, their masks but one, and their levels of iterations are together so many at most. (The one mask may be that of what a
 -- function gives to a target outside of the frame, for which nothing is counted.) It is so whatever is known before them.
 abbrev Within : ℕ → PlainActions → PartWords → ℕ → Type 0
 Within n xs p room = (known : Option Start) → words xs - n + (width.masks xs - 1) + stmts_levels (made known p xs) ≤ room
@@ -83,9 +83,9 @@ choice_masks : (branches : PlainBranches) (otherwise : PlainActions)
 choice_masks no_branch otherwise = omega arith
 choice_masks (branch condition body rest) otherwise = omega arith
 
--- masks stand in no turns
+-- masks stand in no iterations
 on_levels : (p : PartWords) → stmts_levels (made_on p) ≤ 0
-on_levels p = omega (arith, ended_levels (p.own == p.turn) (tree.one (masks p.own (where_on p))))
+on_levels p = omega (arith, ended_levels (p.own == p.iteration) (tree.one (masks p.own (where_on p))))
 
 after_levels : (p : PartWords) (exits : Bool) → stmts_levels (made_after p exits) ≤ 0
 after_levels p true = on_levels p
@@ -94,8 +94,8 @@ after_levels p false = omega arith
 behind_levels : (p : PartWords) (exits : Bool) → stmts_levels (made_behind p exits) ≤ 0
 behind_levels p false = omega arith
 behind_levels p true =
-    let outer = tree.one (masks p.turn (where_not_returned p)) in
-    omega (arith, joined_levels (if p.function == p.turn then no_stmt else outer) (made_on p), ended_levels (p.function == p.turn) outer, on_levels p)
+    let outer = tree.one (masks p.iteration (where_not_returned p)) in
+    omega (arith, joined_levels (if p.function == p.iteration then no_stmt else outer) (made_on p), ended_levels (p.function == p.iteration) outer, on_levels p)
 
 again_levels : (p : PartWords) (exits : Bool) → stmts_levels (made_again p exits) ≤ 0
 again_levels p true = omega arith
@@ -153,10 +153,10 @@ right_within fs names fresh target (plain.call text args) p of known =
 
 return_levels : (p : PartWords) (e : PlainSp) → stmts_levels (made_return p e) ≤ 0
 return_levels p e =
-    let outer = tree.one (masks p.turn (returned_loop p)) in
-    let ends_all = stmt (masks p.function (returned_function p)) (if p.function == p.turn then no_stmt else outer) in
+    let outer = tree.one (masks p.iteration (returned_loop p)) in
+    let ends_all = stmt (masks p.function (returned_function p)) (if p.function == p.iteration then no_stmt else outer) in
     let set = ended_levels (is_zero e) (tree.one (tree.writes p.own (tree.to_slot p.result) e)) in
-    omega (arith, joined_levels (made_result p e) ends_all, set, ended_levels (p.function == p.turn) outer)
+    omega (arith, joined_levels (made_result p e) ends_all, set, ended_levels (p.function == p.iteration) outer)
 
 return_within : (n : ℕ) (p : PartWords) (e : PlainSp) → expr_words e ≤ n → Within n (one (returns e)) p 0
 return_within n p e of known = omega (arith, of, levels_one known p (returns e), return_levels p e)
@@ -165,9 +165,9 @@ step_levels : (mask : ℕ) (step : Option PlainAssignment) → stmts_levels (mad
 step_levels mask None = omega arith
 step_levels mask (Some a) = omega arith
 
-turn_levels : (p : PartWords) (condition : PlainSp) (exits : Bool) (body : PlainStmts) (step : Option PlainAssignment)
-    → stmts_levels (made_turn p condition exits body step) ≤ stmts_levels body
-turn_levels p condition exits body step =
+iteration_levels : (p : PartWords) (condition : PlainSp) (exits : Bool) (body : PlainStmts) (step : Option PlainAssignment)
+    → stmts_levels (made_iteration p condition exits body step) ≤ stmts_levels body
+iteration_levels p condition exits body step =
     omega (
       arith,
       joined_levels body (joined (made_again p exits) (made_step p.free step)),
@@ -176,59 +176,59 @@ turn_levels p condition exits body step =
       step_levels p.free step,
     )
 
-loop_levels : (p : PartWords) (most : ℕ) (condition : PlainSp) (exits : Bool) (turn : PlainStmts)
-    → stmts_levels (made_loop p most condition exits turn) ≤ 1 + stmts_levels turn
-loop_levels p zero condition exits turn = omega arith
-loop_levels p (suc n) condition exits turn = omega (arith, behind_levels p exits)
+loop_levels : (p : PartWords) (most : ℕ) (condition : PlainSp) (exits : Bool) (iteration : PlainStmts)
+    → stmts_levels (made_loop p most condition exits iteration) ≤ 1 + stmts_levels iteration
+loop_levels p zero condition exits iteration = omega arith
+loop_levels p (suc n) condition exits iteration = omega (arith, behind_levels p exits)
 
 counted_levels : (p : PartWords) (most : ℕ) (body : PlainStmts) (step : Option PlainAssignment)
     → stmts_levels (made_counted p most body step) ≤ 1 + stmts_levels body
 counted_levels p most body step = omega (arith, joined_levels body (made_step p.own step), step_levels p.own step)
 
-turns_levels : (known : Option Start) (p : PartWords) (most : ℕ) (condition : PlainSp) (body : PlainActions) (step : Option PlainAssignment) (inside : ℕ)
-    → ((q : PartWords) → stmts_levels (made None q body) ≤ inside) → stmts_levels (made_action known p (turns most condition body step)) ≤ 1 + inside
-turns_levels known p most condition body step inside each = by (is_counted known most condition body step)
+iterations_levels : (known : Option Start) (p : PartWords) (most : ℕ) (condition : PlainSp) (body : PlainActions) (step : Option PlainAssignment) (inside : ℕ)
+    → ((q : PartWords) → stmts_levels (made None q body) ≤ inside) → stmts_levels (made_action known p (iterations most condition body step)) ≤ 1 + inside
+iterations_levels known p most condition body step inside each = by (is_counted known most condition body step)
   where
-    turn : PlainStmts
-    turn = made_turn p condition (actions_exit by_continue body) (made None (in_loop p) body) step
+    iteration : PlainStmts
+    iteration = made_iteration p condition (actions_exit by_continue body) (made None (in_loop p) body) step
 
     by : (counted : Bool)
-        → stmts_levels (if counted then made_counted p most (made None p body) step else made_loop p most condition (actions_exit by_return body) turn) ≤ 1 + inside
+        → stmts_levels (if counted then made_counted p most (made None p body) step else made_loop p most condition (actions_exit by_return body) iteration) ≤ 1 + inside
     by true = omega (arith, each p, counted_levels p most (made None p body) step)
     by false = omega (
       arith,
       each (in_loop p),
-      loop_levels p most condition (actions_exit by_return body) turn,
-      turn_levels p condition (actions_exit by_continue body) (made None (in_loop p) body) step,
+      loop_levels p most condition (actions_exit by_return body) iteration,
+      iteration_levels p condition (actions_exit by_continue body) (made None (in_loop p) body) step,
     )
 
 loop_takes : (most body : ℕ) → width.loop_masks most body ≤ 1 + body
 loop_takes zero body = omega arith
 loop_takes (suc n) body = omega arith
 
--- a loop takes a word for its mask and one for its turns
-turns_within : (n room : ℕ) (p : PartWords) (most : ℕ) (condition : PlainSp) (body : PlainActions) (step : Option PlainAssignment)
+-- a loop takes a word for its mask and one for its iterations
+iterations_within : (n room : ℕ) (p : PartWords) (most : ℕ) (condition : PlainSp) (body : PlainActions) (step : Option PlainAssignment)
     → expr_words condition ≤ n → step_words step ≤ n → ((q : PartWords) → Within n body q room)
-    → Within n (one (turns most condition body step)) p (2 + room)
-turns_within n room p most condition body step of to within known =
+    → Within n (one (iterations most condition body step)) p (2 + room)
+iterations_within n room p most condition body step of to within known =
     let taken = words body - n + (width.masks body - 1) in
-    let levels = turns_levels known p most condition body step (room - taken) (λ q. let one = within q None in omega (arith, one)) in
+    let levels = iterations_levels known p most condition body step (room - taken) (λ q. let one = within q None in omega (arith, one)) in
     let one = within p None in
-    omega (arith, of, to, one, levels, levels_one known p (turns most condition body step), loop_takes most (width.masks body))
+    omega (arith, of, to, one, levels, levels_one known p (iterations most condition body step), loop_takes most (width.masks body))
 
 condition_words : (names : Names) (head : PlainHead) → expr_words (resolved_condition names head) ≤ length names.variables
-condition_words names (plain.turns_while condition) = resolved_words names None condition
-condition_words names (plain.turns_for first from condition to_set to) = resolved_words names None condition
+condition_words names (plain.iterations_while condition) = resolved_words names None condition
+condition_words names (plain.iterations_for first from condition to_set to) = resolved_words names None condition
 
 begin_within : (names : Names) (head : PlainHead) (p : PartWords) → Within (length names.variables) (maybe_sets (resolved_begin names head)) p 0
-begin_within names (plain.turns_while condition) p known = omega arith
-begin_within names (plain.turns_for first from condition to_set to) p known =
+begin_within names (plain.iterations_while condition) p known = omega arith
+begin_within names (plain.iterations_for first from condition to_set to) p known =
     sets_within (length names.variables) p (variable_target (named names first)) (resolved names None from) (variable_target_words names first)
     (resolved_words names None from) known
 
 next_words : (names : Names) (head : PlainHead) → step_words (resolved_next names head) ≤ length names.variables
-next_words names (plain.turns_while condition) = omega arith
-next_words names (plain.turns_for first from condition to_set to) = by (variable_target (named names to_set)) (variable_target_words names to_set)
+next_words names (plain.iterations_while condition) = omega arith
+next_words names (plain.iterations_for first from condition to_set to) = by (variable_target (named names to_set)) (variable_target_words names to_set)
   where
     by : (target : Option PlainTarget) → result_words target ≤ length names.variables
         → step_words (assignment_to target (resolved names None to)) ≤ length names.variables
@@ -302,9 +302,9 @@ mutual
       let inside = resolved_block fs names body in
       let step = resolved_next names head in
       let first = maybe_sets (resolved_begin names head) in
-      let loop = one (turns (most_turns bound) condition inside step) in
+      let loop = one (iterations (most_iterations bound) condition inside step) in
       let begin = begin_within names head p in
-      let within = turns_within n (block_frame body) p (most_turns bound) condition inside step (condition_words names head)
+      let within = iterations_within n (block_frame body) p (most_iterations bound) condition inside step (condition_words names head)
       (next_words names head) (λ q. block_within fs names body q) in
       omega (arith, joined_within n n 0 (2 + block_frame body) first loop p (omega arith) (λ k. let one = begin k in omega (arith, one)) within known)
   stmt_within fs names plain.broken p known = omega arith

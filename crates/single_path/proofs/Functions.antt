@@ -5,7 +5,7 @@ use Rattle.tc_word.proofs.Items.{past_all}
 use Rattle.c_world.specs.Numbers.{flag}
 use Rattle.c_world.specs.World.{World}
 use Rattle.sp_tree.specs.Statements.{PlainFunction, no_function}
-use Rattle.sp_tree.specs.Straight.{State, Serves, with_slot, worth, stmts_done, begun_frame, function_given, serves}
+use Rattle.sp_tree.specs.Straight.{State, Serves, with_slot, worth, stmts_done, begun_frame, function_outcome, serves}
 use Rattle.c_meaning.specs.Actions.{PlainActions, no_action}
 use Rattle.c_meaning.specs.Resolved as resolved
 use Rattle.single_path.specs.Made.{made}
@@ -72,7 +72,7 @@ other_dead parameters body under args w other =
     }
 
 function_quiet : (g : Serves) → Quiet g → (parameters : ℕ) (body : PlainActions) (under : ℕ) (args : List ℕ) (w : World) → under ≢ 1
-    → (function_given g (made_function parameters body) under args w).world ≡ w
+    → (function_outcome g (made_function parameters body) under args w).world ≡ w
 function_quiet g quiet parameters body under args w other =
     let n = variables parameters body in
     (dead g quiet n body None (outermost n) (masked_state parameters body under args w) (outermost_order n)
@@ -123,8 +123,8 @@ made_at (c ∷ counts) (body ∷ bodies) (suc k) within there = made_at counts b
 next_serves : (counts : List ℕ) (n : ℕ) (body : PlainActions) (f : PlainFunction) (gc : resolved.Serves) (g : Serves)
     → f ≡ made_function (slice_index counts n) body → Fits (Callable counts n) false body → Serving (Callable counts n) gc g
     → Serving (Callable counts (suc n))
-    (λ k args w. if k == n then resolved.routine_given gc body args w else gc k args w)
-    (λ k under args w. if k == n then function_given g f under args w else g k under args w)
+    (λ k args w. if k == n then resolved.routine_outcome gc body args w else gc k args w)
+    (λ k under args w. if k == n then function_outcome g f under args w else g k under args w)
 next_serves counts n body f gc g is fits serving = record {
   quiet = record { world = λ k under args w other. quiet_by k under args w other (k == n) };
   value = λ k args w fit. value_by k args w fit (cases_lt k n);
@@ -135,8 +135,8 @@ next_serves counts n body f gc g is fits serving = record {
     made_f = made_function (slice_index counts n) body
 
     quiet_by : (k under : ℕ) (args : List ℕ) (w : World) → under ≢ 1 → (own : Bool)
-        → (if own then function_given g f under args w else g k under args w).world ≡ w
-    quiet_by k under args w other true = ap (λ h. (function_given g h under args w).world) is ∙ function_quiet g serving.quiet (slice_index counts n) body under args w other
+        → (if own then function_outcome g f under args w else g k under args w).world ≡ w
+    quiet_by k under args w other true = ap (λ h. (function_outcome g h under args w).world) is ∙ function_quiet g serving.quiet (slice_index counts n) body under args w other
     quiet_by k under args w other false = serving.quiet.world k under args w other
 
     went : (args : List ℕ) (w : World) → length args ≡ slice_index counts n
@@ -146,30 +146,30 @@ next_serves counts n body f gc g is fits serving = record {
     went args w count = function_serves (Callable counts n) gc g serving (slice_index counts n) body args w fits count
 
     value_here : (args : List ℕ) (w : World) → length args ≡ slice_index counts n
-        → (function_given g made_f 1 args w).value ≡ (resolved.routine_given gc body args w).value
+        → (function_outcome g made_f 1 args w).value ≡ (resolved.routine_outcome gc body args w).value
     value_here args w count = (went args w count).result
 
     world_here : (args : List ℕ) (w : World) → length args ≡ slice_index counts n
-        → (function_given g made_f 1 args w).world ≡ (resolved.routine_given gc body args w).world
+        → (function_outcome g made_f 1 args w).world ≡ (resolved.routine_outcome gc body args w).world
     world_here args w count = (went args w count).same.world
 
     value_by : (k : ℕ) (args : List ℕ) (w : World) → Callable counts (suc n) k (length args) → (k < n) ⊎ (n ≤ k)
-        → (if k == n then function_given g f 1 args w else g k 1 args w).value ≡ (if k == n then resolved.routine_given gc body args w else gc k args w).value
+        → (if k == n then function_outcome g f 1 args w else g k 1 args w).value ≡ (if k == n then resolved.routine_outcome gc body args w else gc k args w).value
     value_by k args w fit (inl below) =
         let other : k ≢ n = omega (arith, below) in
         rw (ne_eqb k n other) (serving.value k args w (below, fit.1))
     value_by k args w fit (inr past) =
         let same : k ≡ n = omega (arith, past, fit.0) in
-        rw (eq-eqb k n same) (ap (λ h. (function_given g h 1 args w).value) is ∙ value_here args w (fit.1 ∙ ap (slice_index counts) same))
+        rw (eq-eqb k n same) (ap (λ h. (function_outcome g h 1 args w).value) is ∙ value_here args w (fit.1 ∙ ap (slice_index counts) same))
 
     world_by : (k : ℕ) (args : List ℕ) (w : World) → Callable counts (suc n) k (length args) → (k < n) ⊎ (n ≤ k)
-        → (if k == n then function_given g f 1 args w else g k 1 args w).world ≡ (if k == n then resolved.routine_given gc body args w else gc k args w).world
+        → (if k == n then function_outcome g f 1 args w else g k 1 args w).world ≡ (if k == n then resolved.routine_outcome gc body args w else gc k args w).world
     world_by k args w fit (inl below) =
         let other : k ≢ n = omega (arith, below) in
         rw (ne_eqb k n other) (serving.world k args w (below, fit.1))
     world_by k args w fit (inr past) =
         let same : k ≡ n = omega (arith, past, fit.0) in
-        rw (eq-eqb k n same) (ap (λ h. (function_given g h 1 args w).world) is ∙ world_here args w (fit.1 ∙ ap (slice_index counts) same))
+        rw (eq-eqb k n same) (ap (λ h. (function_outcome g h 1 args w).world) is ∙ world_here args w (fit.1 ∙ ap (slice_index counts) same))
 
 -- the first so many of them serve
 pub functions_serve : (counts : List ℕ) (bodies : List PlainActions) → length counts ≡ length bodies
@@ -188,7 +188,7 @@ functions_serve counts bodies same fits (suc n) within =
 -- ---- functions under another mask than 1
 
 made_quiet : (g : Serves) → Quiet g → (counts : List ℕ) (bodies : List PlainActions) (k under : ℕ) (args : List ℕ) (w : World) → under ≢ 1
-    → (function_given g (slice_index_or (made_functions counts bodies) k no_function) under args w).world ≡ w
+    → (function_outcome g (slice_index_or (made_functions counts bodies) k no_function) under args w).world ≡ w
 made_quiet g quiet [] bodies k under args w other = refl
 made_quiet g quiet (c ∷ counts) [] k under args w other = refl
 made_quiet g quiet (c ∷ counts) (body ∷ bodies) zero under args w other = function_quiet g quiet c body under args w other
@@ -203,7 +203,7 @@ functions_quiet counts bodies (suc n) = record { world = λ k under args w other
     earlier = serves (made_functions counts bodies) n
 
     by : Quiet earlier → (k under : ℕ) (args : List ℕ) (w : World) → under ≢ 1 → (own : Bool)
-        → (if own then function_given earlier (slice_index_or (made_functions counts bodies) n no_function) under args w else earlier k under args w).world ≡ w
+        → (if own then function_outcome earlier (slice_index_or (made_functions counts bodies) n no_function) under args w else earlier k under args w).world ≡ w
     by quiet k under args w other true = made_quiet earlier quiet counts bodies n under args w other
     by quiet k under args w other false = quiet.world k under args w other
 

@@ -9,16 +9,16 @@ use Rattle.sp_tree.specs.Statements as tree
 use Rattle.sp_tree.specs.Straight.{State, Serves, with_slot, args_worth, worth, times, stmt_done, stmts_done}
 use Rattle.sp_tree.proofs.Joins.{joined_done}
 use Rattle.sp_tree.proofs.Masks.{write_off, send_off, overrun_off, call_off}
-use Rattle.c_meaning.specs.Actions.{to_level, PlainAssignment, PlainAction, sets, calls, transfers, chooses, turns, breaks, continues, returns, PlainActions, no_action, action, PlainBranches, no_branch, branch}
+use Rattle.c_meaning.specs.Actions.{to_level, PlainAssignment, PlainAction, sets, calls, transfers, chooses, iterations, breaks, continues, returns, PlainActions, no_action, action, PlainBranches, no_branch, branch}
 use Rattle.c_meaning.specs.Actions as actions
 use Rattle.single_path.specs.declared.counted.Start.{Start}
 use Rattle.single_path.specs.declared.part_words.PartWords.{PartWords}
 use Rattle.single_path.specs.PartWords.{in_arm, in_loop, truth, where_so, where_not_taken, where_other, where_not_returned, bit_of, not_zero, broken, continued, returned_function, returned_loop}
 use Rattle.single_path.specs.PartWords as mask
 use Rattle.single_path.specs.Counted.{start_of}
-use Rattle.single_path.specs.Made.{made, made_action, made_branches, made_target, made_assignment, made_step, made_return, made_result, made_arm, made_otherwise, made_on, made_after, made_behind, made_again, made_turn, made_loop, is_counted, made_counted, any_exit, by_continue, by_return, actions_exit, branches_exit, is_zero, is_no_branch, is_no_action, ends}
+use Rattle.single_path.specs.Made.{made, made_action, made_branches, made_target, made_assignment, made_step, made_return, made_result, made_arm, made_otherwise, made_on, made_after, made_behind, made_again, made_iteration, made_loop, is_counted, made_counted, any_exit, by_continue, by_return, actions_exit, branches_exit, is_zero, is_no_branch, is_no_action, ends}
 use Rattle.single_path.proofs.Truths.{truth_worth}
-use Rattle.single_path.proofs.Frames.{put_here, Order, Still, still_here, still_on, fewer, set_behind, set_same, turns_still}
+use Rattle.single_path.proofs.Frames.{put_here, Order, Still, still_here, still_on, fewer, set_behind, set_same, iterations_still}
 
 -- a function under another mask than 1 changes no memory
 pub record Quiet (g : Serves) : Type 0 where
@@ -38,9 +38,9 @@ pub record Dead (p : PartWords) (s : State) : Type 0 where
   pub function_word : ℕ
   pub idle : Idle own_word loop_word function_word
   pub own : s.frame p.own ≡ own_word
-  pub loop : s.frame p.turn ≡ loop_word
+  pub loop : s.frame p.iteration ≡ loop_word
   pub function : s.frame p.function ≡ function_word
-  pub alone : own_word ≡ 2 → p.own ≡ p.turn
+  pub alone : own_word ≡ 2 → p.own ≡ p.iteration
 
 -- ---- what masks are set to, where a part is idle
 
@@ -145,14 +145,14 @@ idle_loop a b c waits = left
 idle_loop a b c skips = left
 idle_loop a b c gone = gone
 
-pub dead_on : (n : ℕ) (p : PartWords) (s t : State) → p.own < n → p.turn < n → p.function < n → Still n s t → Dead p s → Dead p t
+pub dead_on : (n : ℕ) (p : PartWords) (s t : State) → p.own < n → p.iteration < n → p.function < n → Still n s t → Dead p s → Dead p t
 dead_on n p s t own_in loop_in function_in h d = record {
   own_word = d.own_word;
   loop_word = d.loop_word;
   function_word = d.function_word;
   idle = d.idle;
   own = h.frame p.own own_in ∙ d.own;
-  loop = h.frame p.turn loop_in ∙ d.loop;
+  loop = h.frame p.iteration loop_in ∙ d.loop;
   function = h.frame p.function function_in ∙ d.function;
   alone = d.alone;
 }
@@ -169,7 +169,7 @@ dead_arm n p s t o h off d = record {
   function_word = d.function_word;
   idle = idle_arm d.own_word d.loop_word d.function_word d.idle;
   own = off;
-  loop = h.frame p.turn (omega (arith, o.own, o.free)) ∙ d.loop;
+  loop = h.frame p.iteration (omega (arith, o.own, o.free)) ∙ d.loop;
   function = h.frame p.function (omega (arith, o.loop, o.own, o.free)) ∙ d.function;
   alone = λ two. absurd (omega (arith, two));
 }
@@ -233,28 +233,28 @@ result_still : (g : Serves) (n : ℕ) (p : PartWords) (e : PlainSp) (zero_value 
 result_still g n p e true s is = still_here n s
 result_still g n p e false s is = same_still n s (stmt_done g (writes p.own (to_slot p.result) e) s) (write_off g p.own (to_slot p.result) e s is)
 
-returned_function_still : (p : PartWords) (s : State) (alone : Bool) → (p.own == p.turn) ≡ alone → Dead p s
+returned_function_still : (p : PartWords) (s : State) (alone : Bool) → (p.own == p.iteration) ≡ alone → Dead p s
     → difference_of (s.frame p.function) (worth (if alone then bit_of p.own else frame_word p.own) s) ≡ s.frame p.function
 returned_function_still p s true is d =
     ap₂ (λ c a. difference_of c (bit_and a 1)) d.function d.own ∙ ap (difference_of d.function_word) (idle_bit d.own_word d.loop_word d.function_word d.idle)
     ∙ idle_function d.own_word d.loop_word d.function_word d.idle ∙ sym d.function
 returned_function_still p s false is d =
-    ap₂ difference_of d.function (d.own ∙ idle_apart d.own_word d.loop_word d.function_word d.idle (λ two. true≢false (sym (eq-eqb p.own p.turn (d.alone two)) ∙ is)))
+    ap₂ difference_of d.function (d.own ∙ idle_apart d.own_word d.loop_word d.function_word d.idle (λ two. true≢false (sym (eq-eqb p.own p.iteration (d.alone two)) ∙ is)))
     ∙ idle_function d.own_word d.loop_word d.function_word d.idle ∙ sym d.function
 
-returned_loop_still : (p : PartWords) (s : State) (alone : Bool) → (p.own == p.turn) ≡ alone → Dead p s
-    → worth (if alone then mask.both (frame_word p.turn) (constant 2) else mask.less_by (frame_word p.turn) (frame_word p.own)) s ≡ s.frame p.turn
+returned_loop_still : (p : PartWords) (s : State) (alone : Bool) → (p.own == p.iteration) ≡ alone → Dead p s
+    → worth (if alone then mask.both (frame_word p.iteration) (constant 2) else mask.less_by (frame_word p.iteration) (frame_word p.own)) s ≡ s.frame p.iteration
 returned_loop_still p s true is d =
     ap (λ b. bit_and b 2) d.loop
-    ∙ idle_alone d.own_word d.loop_word d.function_word d.idle (sym d.own ∙ ap s.frame (eqb-true p.own p.turn is) ∙ d.loop) ∙ sym d.loop
+    ∙ idle_alone d.own_word d.loop_word d.function_word d.idle (sym d.own ∙ ap s.frame (eqb-true p.own p.iteration is) ∙ d.loop) ∙ sym d.loop
 returned_loop_still p s false is d =
-    ap₂ difference_of d.loop (d.own ∙ idle_apart d.own_word d.loop_word d.function_word d.idle (λ two. true≢false (sym (eq-eqb p.own p.turn (d.alone two)) ∙ is)))
+    ap₂ difference_of d.loop (d.own ∙ idle_apart d.own_word d.loop_word d.function_word d.idle (λ two. true≢false (sym (eq-eqb p.own p.iteration (d.alone two)) ∙ is)))
     ∙ idle_less d.own_word d.loop_word d.function_word d.idle ∙ sym d.loop
 
 outer_still : (g : Serves) (p : PartWords) (outside : Bool) (s : State) → Dead p s
-    → Still p.free s (stmts_done g (if outside then no_stmt else one (masks p.turn (returned_loop p))) s)
+    → Still p.free s (stmts_done g (if outside then no_stmt else one (masks p.iteration (returned_loop p))) s)
 outer_still g p true s d = still_here p.free s
-outer_still g p false s d = set_same p.free p.turn (worth (returned_loop p) s) s (returned_loop_still p s (p.own == p.turn) refl d)
+outer_still g p false s d = set_same p.free p.iteration (worth (returned_loop p) s) s (returned_loop_still p s (p.own == p.iteration) refl d)
 
 return_still : (g : Serves) (n : ℕ) (p : PartWords) (e : PlainSp) (s : State) → Order n p → Dead p s → Still p.free s (stmts_done g (made_return p e) s)
 return_still g n p e s o d =
@@ -262,12 +262,12 @@ return_still g n p e s o d =
     let t = stmts_done g (made_result p e) s in
     let d' = still_dead n p s t o result d in
     let u = with_slot p.function (worth (returned_function p) t) t in
-    let function = set_same p.free p.function (worth (returned_function p) t) t (returned_function_still p t (p.own == p.turn) refl d') in
-    let rest = if p.function == p.turn then no_stmt else one (masks p.turn (returned_loop p)) in
+    let function = set_same p.free p.function (worth (returned_function p) t) t (returned_function_still p t (p.own == p.iteration) refl d') in
+    let rest = if p.function == p.iteration then no_stmt else one (masks p.iteration (returned_loop p)) in
     joined_still g p.free (made_result p e) (stmt (masks p.function (returned_function p)) rest) s result
-    (still_on p.free t u (stmts_done g rest u) function (outer_still g p (p.function == p.turn) u (still_dead n p t u o function d')))
+    (still_on p.free t u (stmts_done g rest u) function (outer_still g p (p.function == p.iteration) u (still_dead n p t u o function d')))
 
--- ---- turns
+-- ---- iterations
 
 -- the masks of a loop that is left
 pub record Left (p : PartWords) (s : State) : Type 0 where
@@ -280,14 +280,14 @@ left_on n p s t o h l = record { dead = still_dead n (in_loop p) s t (order_loop
 pub left_off : (p : PartWords) (s : State) → Left p s → s.frame p.free ≢ 1
 left_off p s l e = absurd (let z = l.off in omega (arith, e, z))
 
--- the mask of a loop that is left stays, whether the turn ends or the condition is tested
+-- the mask of a loop that is left stays, whether the iteration ends or the condition is tested
 pub again_still : (p : PartWords) (s : State) → Left p s → Still (p.free + 1) s (with_slot p.free (worth (not_zero (frame_word p.free)) s) s)
 again_still p s l = set_same (p.free + 1) p.free (worth (not_zero (frame_word p.free)) s) s (ap (λ a. flag (not (a == 0))) l.off ∙ sym l.off)
 
 pub tested_still : (p : PartWords) (condition : PlainSp) (s : State) → Left p s → Still (p.free + 1) s (with_slot p.free (worth (where_so p.free condition) s) s)
 tested_still p condition s l = set_same (p.free + 1) p.free (worth (where_so p.free condition) s) s (ap (λ a. bit_and a (worth (truth condition) s)) l.off ∙ sym l.off)
 
--- the end of a turn
+-- the end of an iteration
 pub ended_still : (g : Serves) (n : ℕ) (p : PartWords) (exits : Bool) (step : Option PlainAssignment) (s : State) → Order n p → Left p s
     → Still (p.free + 1) s (stmts_done g (joined (made_again p exits) (made_step p.free step)) s)
 ended_still g n p true step s o l =
@@ -297,44 +297,44 @@ ended_still g n p true step s o l =
     (step_still g (p.free + 1) p.free step t (left_off p t (left_on n p s t o again l)))
 ended_still g n p false step s o l = step_still g (p.free + 1) p.free step s (left_off p s l)
 
--- a turn after its test
+-- an iteration after its test
 pub behind_still : (g : Serves) (n : ℕ) (p : PartWords) (exits : Bool) (body : PlainStmts) (step : Option PlainAssignment) → Order n p
     → ((t : State) → Dead (in_loop p) t → Still (p.free + 1) t (stmts_done g body t)) → (s : State) → Left p s
     → Still (p.free + 1) s (stmts_done g (joined body (joined (made_again p exits) (made_step p.free step))) s)
 behind_still g n p exits body step o each s l =
-    let turned = each s l.dead in
-    joined_still g (p.free + 1) body (joined (made_again p exits) (made_step p.free step)) s turned
-    (ended_still g n p exits step (stmts_done g body s) o (left_on n p s (stmts_done g body s) o turned l))
+    let iterated = each s l.dead in
+    joined_still g (p.free + 1) body (joined (made_again p exits) (made_step p.free step)) s iterated
+    (ended_still g n p exits step (stmts_done g body s) o (left_on n p s (stmts_done g body s) o iterated l))
 
-turn_still : (g : Serves) (n : ℕ) (p : PartWords) (condition : PlainSp) (exits : Bool) (body : PlainStmts) (step : Option PlainAssignment) → Order n p
+iteration_still : (g : Serves) (n : ℕ) (p : PartWords) (condition : PlainSp) (exits : Bool) (body : PlainStmts) (step : Option PlainAssignment) → Order n p
     → ((t : State) → Dead (in_loop p) t → Still (p.free + 1) t (stmts_done g body t))
-    → (s : State) → Left p s → Still (p.free + 1) s (stmts_done g (made_turn p condition exits body step) s)
-turn_still g n p condition exits body step o each s l =
+    → (s : State) → Left p s → Still (p.free + 1) s (stmts_done g (made_iteration p condition exits body step) s)
+iteration_still g n p condition exits body step o each s l =
     let t = with_slot p.free (worth (where_so p.free condition) s) s in
     let tested = tested_still p condition s l in
     still_on (p.free + 1) s t (stmts_done g (joined body (joined (made_again p exits) (made_step p.free step))) t) tested
     (behind_still g n p exits body step o each t (left_on n p s t o tested l))
 
-pub turns_left : (g : Serves) (n : ℕ) (p : PartWords) (condition : PlainSp) (exits : Bool) (body : PlainStmts) (step : Option PlainAssignment) → Order n p
+pub iterations_left : (g : Serves) (n : ℕ) (p : PartWords) (condition : PlainSp) (exits : Bool) (body : PlainStmts) (step : Option PlainAssignment) → Order n p
     → ((t : State) → Dead (in_loop p) t → Still (p.free + 1) t (stmts_done g body t))
-    → (k : ℕ) (s : State) → Left p s → Still (p.free + 1) s (times k (stmts_done g (made_turn p condition exits body step)) s)
-turns_left g n p condition exits body step o each k s l =
-    turns_still (p.free + 1) (stmts_done g (made_turn p condition exits body step)) (Left p)
-    (λ t h. turn_still g n p condition exits body step o each t h)
-    (λ t h. left_on n p t (stmts_done g (made_turn p condition exits body step) t) o (turn_still g n p condition exits body step o each t h) h) k s l
+    → (k : ℕ) (s : State) → Left p s → Still (p.free + 1) s (times k (stmts_done g (made_iteration p condition exits body step)) s)
+iterations_left g n p condition exits body step o each k s l =
+    iterations_still (p.free + 1) (stmts_done g (made_iteration p condition exits body step)) (Left p)
+    (λ t h. iteration_still g n p condition exits body step o each t h)
+    (λ t h. left_on n p t (stmts_done g (made_iteration p condition exits body step) t) o (iteration_still g n p condition exits body step o each t h) h) k s l
 
--- so many turns, and the flag after them
+-- so many iterations, and the flag after them
 pub flagged_still : (g : Serves) (n : ℕ) (p : PartWords) (condition : PlainSp) (exits : Bool) (body : PlainStmts) (step : Option PlainAssignment) → Order n p
     → ((t : State) → Dead (in_loop p) t → Still (p.free + 1) t (stmts_done g body t)) → (k : ℕ) (s : State) → Left p s
-    → Still p.free s (stmt_done g (overruns p.free condition) (times k (stmts_done g (made_turn p condition exits body step)) s))
+    → Still p.free s (stmt_done g (overruns p.free condition) (times k (stmts_done g (made_iteration p condition exits body step)) s))
 flagged_still g n p condition exits body step o each k s l =
-    let t = times k (stmts_done g (made_turn p condition exits body step)) s in
-    let turned = turns_left g n p condition exits body step o each k s l in
-    still_on p.free s t (stmt_done g (overruns p.free condition) t) (fewer (p.free + 1) p.free s t (omega arith) turned)
-    (same_still p.free t (stmt_done g (overruns p.free condition) t) (overrun_off g p.free condition t (left_off p t (left_on n p s t o turned l))))
+    let t = times k (stmts_done g (made_iteration p condition exits body step)) s in
+    let iterated = iterations_left g n p condition exits body step o each k s l in
+    still_on p.free s t (stmt_done g (overruns p.free condition) t) (fewer (p.free + 1) p.free s t (omega arith) iterated)
+    (same_still p.free t (stmt_done g (overruns p.free condition) t) (overrun_off g p.free condition t (left_off p t (left_on n p s t o iterated l))))
 
 on_still : (g : Serves) (p : PartWords) (s : State) → Dead p s → Still p.free s (stmts_done g (made_on p) s)
-on_still g p s d = by (p.own == p.turn)
+on_still g p s d = by (p.own == p.iteration)
   where
     by : (alone : Bool) → Still p.free s (stmts_done g (if alone then no_stmt else one (masks p.own (mask.where_on p))) s)
     by true = still_here p.free s
@@ -353,49 +353,49 @@ loop_left n p s o d =
     put_here p.free (worth (bit_of p.own) s) s.frame ∙ ap (λ x. bit_and x 1) d.own ∙ idle_bit d.own_word d.loop_word d.function_word d.idle in
     record { dead = dead_loop n p s t o (set_behind p.free p.free (worth (bit_of p.own) s) s (omega arith)) off_there d; off = off_there }
 
--- after the turns the masks stand
+-- after the iterations the masks stand
 masked_still : (g : Serves) (n : ℕ) (p : PartWords) (exits : Bool) (s : State) → Order n p → Dead p s → Still p.free s (stmts_done g (made_behind p exits) s)
 masked_still g n p false s o d = still_here p.free s
 masked_still g n p true s o d =
-    joined_still g p.free (outer (p.function == p.turn)) (made_on p) s (repaired (p.function == p.turn))
-    (on_still g p u (still_dead n p s u o (repaired (p.function == p.turn)) d))
+    joined_still g p.free (outer (p.function == p.iteration)) (made_on p) s (repaired (p.function == p.iteration))
+    (on_still g p u (still_dead n p s u o (repaired (p.function == p.iteration)) d))
   where
     outer : Bool → PlainStmts
-    outer outside = if outside then no_stmt else one (masks p.turn (where_not_returned p))
+    outer outside = if outside then no_stmt else one (masks p.iteration (where_not_returned p))
 
     u : State
-    u = stmts_done g (outer (p.function == p.turn)) s
+    u = stmts_done g (outer (p.function == p.iteration)) s
 
     repaired : (outside : Bool) → Still p.free s (stmts_done g (outer outside) s)
     repaired true = still_here p.free s
-    repaired false = set_same p.free p.turn (worth (where_not_returned p) s) s
+    repaired false = set_same p.free p.iteration (worth (where_not_returned p) s) s
         (ap₂ (λ b c. bit_and b (difference_of 0 c)) d.loop d.function
         ∙ idle_not_returned d.own_word d.loop_word d.function_word d.idle ∙ sym d.loop)
 
 -- and so does the flag
 loop_still : (g : Serves) (n : ℕ) (p : PartWords) (most : ℕ) (condition : PlainSp) (returned exits : Bool) (body : PlainStmts) (step : Option PlainAssignment) → Order n p
     → ((t : State) → Dead (in_loop p) t → Still (p.free + 1) t (stmts_done g body t))
-    → (s : State) → Dead p s → Still p.free s (stmts_done g (made_loop p most condition returned (made_turn p condition exits body step)) s)
+    → (s : State) → Dead p s → Still p.free s (stmts_done g (made_loop p most condition returned (made_iteration p condition exits body step)) s)
 loop_still g n p zero condition returned exits body step o each s d =
     same_still p.free s (stmt_done g (overruns p.own condition) s) (overrun_off g p.own condition s (off p s d))
 loop_still g n p (suc k) condition returned exits body step o each s d =
     let t = with_slot p.free (worth (bit_of p.own) s) s in
     let begun = set_behind p.free p.free (worth (bit_of p.own) s) s (omega arith) in
     let left_there = loop_left n p s o d in
-    let v = stmt_done g (overruns p.free condition) (times (suc k) (stmts_done g (made_turn p condition exits body step)) t) in
+    let v = stmt_done g (overruns p.free condition) (times (suc k) (stmts_done g (made_iteration p condition exits body step)) t) in
     let so_far = still_on p.free s t v begun (flagged_still g n p condition exits body step o each (suc k) t left_there) in
     still_on p.free s v (stmts_done g (made_behind p returned) v) so_far (masked_still g n p returned v o (still_dead n p s v o so_far d))
 
--- turns under the mask of the part
+-- iterations under the mask of the part
 pub counted_still : (g : Serves) (n : ℕ) (p : PartWords) (body : PlainStmts) (step : Option PlainAssignment) → Order n p
     → ((t : State) → Dead p t → Still p.free t (stmts_done g body t)) → (k : ℕ) (s : State) → Dead p s
     → Still p.free s (times k (stmts_done g (joined body (made_step p.own step))) s)
-counted_still g n p body step o each k s d = turns_still p.free turn (Dead p) still (λ t h. still_dead n p t (turn t) o (still t h) h) k s d
+counted_still g n p body step o each k s d = iterations_still p.free iteration (Dead p) still (λ t h. still_dead n p t (iteration t) o (still t h) h) k s d
   where
-    turn : State → State
-    turn = stmts_done g (joined body (made_step p.own step))
+    iteration : State → State
+    iteration = stmts_done g (joined body (made_step p.own step))
 
-    still : (t : State) → Dead p t → Still p.free t (turn t)
+    still : (t : State) → Dead p t → Still p.free t (iteration t)
     still t h =
         let u = stmts_done g body t in
         joined_still g p.free body (made_step p.own step) t (each t h)
@@ -419,17 +419,17 @@ pub not_taken_still : (p : PartWords) (exits : Bool) (s : State) → Dead p s �
     → Still (p.free + 1) s (with_slot p.free (worth (if exits then where_not_taken p else where_other p) s) s)
 not_taken_still p exits s d is = set_same (p.free + 1) p.free (worth (if exits then where_not_taken p else where_other p) s) s (by exits)
   where
-    own_off : (alone : Bool) → (p.own == p.turn) ≡ alone → worth (if alone then bit_of p.own else frame_word p.own) s ≡ 0
+    own_off : (alone : Bool) → (p.own == p.iteration) ≡ alone → worth (if alone then bit_of p.own else frame_word p.own) s ≡ 0
     own_off true same = ap (λ a. bit_and a 1) d.own ∙ idle_bit d.own_word d.loop_word d.function_word d.idle
     own_off false other =
-        d.own ∙ idle_apart d.own_word d.loop_word d.function_word d.idle (λ two. true≢false (sym (eq-eqb p.own p.turn (d.alone two)) ∙ other))
+        d.own ∙ idle_apart d.own_word d.loop_word d.function_word d.idle (λ two. true≢false (sym (eq-eqb p.own p.iteration (d.alone two)) ∙ other))
 
     by : (exits : Bool) → worth (if exits then where_not_taken p else where_other p) s ≡ s.frame p.free
     by true =
         ap₂ (λ b a. bit_and (bit_and b 1) (bit_xor a (s.frame p.free))) d.loop d.own
         ∙ ap (λ f. bit_and (bit_and d.loop_word 1) (bit_xor d.own_word f)) is
         ∙ idle_otherwise d.own_word d.loop_word d.function_word d.idle ∙ sym is
-    by false = ap₂ bit_xor (own_off (p.own == p.turn) refl) is ∙ sym is
+    by false = ap₂ bit_xor (own_off (p.own == p.iteration) refl) is ∙ sym is
 
 otherwise_still : (g : Serves) (n : ℕ) (p : PartWords) (exits nothing : Bool) (rest : PlainStmts) → Order n p
     → ((t : State) → Dead (in_arm p) t → Still (p.free + 1) t (stmts_done g rest t))
@@ -479,15 +479,15 @@ mutual
       let exits = branches_exit any_exit branches || actions_exit any_exit otherwise in
       joined_still g p.free arms (made_after p exits) s chosen
       (after_still g p exits (stmts_done g arms s) (still_dead n p s (stmts_done g arms s) o chosen d))
-  dead_action g quiet n (turns most condition body step) known p s o d =
+  dead_action g quiet n (iterations most condition body step) known p s o d =
       either_still g p.free (is_counted known most condition body step) (made_counted p most (made None p body) step)
-      (made_loop p most condition (actions_exit by_return body) (made_turn p condition (actions_exit by_continue body) (made None (in_loop p) body) step)) s
+      (made_loop p most condition (actions_exit by_return body) (made_iteration p condition (actions_exit by_continue body) (made None (in_loop p) body) step)) s
       (counted_still g n p (made None p body) step o (λ t. dead g quiet n body None p t o) most s d)
       (loop_still g n p most condition (actions_exit by_return body) (actions_exit by_continue body) (made None (in_loop p) body) step o
       (λ t. dead g quiet n body None (in_loop p) t (order_loop n p o)) s d)
-  dead_action g quiet n breaks known p s o d = set_same p.free p.turn (worth (broken p) s) s
+  dead_action g quiet n breaks known p s o d = set_same p.free p.iteration (worth (broken p) s) s
       (ap₂ (λ b a. difference_of b (bit_and a 1)) d.loop d.own ∙ idle_broken d.own_word d.loop_word d.function_word d.idle ∙ sym d.loop)
-  dead_action g quiet n continues known p s o d = set_same p.free p.turn (worth (continued p) s) s
+  dead_action g quiet n continues known p s o d = set_same p.free p.iteration (worth (continued p) s) s
       (ap₂ (λ b a. sum_of b (bit_and a 1)) d.loop d.own ∙ idle_continued d.own_word d.loop_word d.function_word d.idle ∙ sym d.loop)
   dead_action g quiet n (returns e) known p s o d = return_still g n p e s o d
 

@@ -1,10 +1,10 @@
 -- Actions that do not set a variable keep its word, and those that always go on fit wherever they stand.
 use Rattle.std.proofs.Common.{◌≡◌, ℕ, zero, suc, Bool, true, false, if◌then◌else◌, Option, Some, None, refl, sym, ◌∙◌, eq-eqb, true≢false}
 use Rattle.std.proofs.lemmas.Bool.{or_parts}
-use Rattle.c_meaning.specs.Actions.{PlainTarget, to_level, to_cell, to_array, PlainAssignment, PlainAction, sets, calls, transfers, chooses, turns, breaks, continues, returns, PlainActions, no_action, action, PlainBranches, no_branch, branch}
+use Rattle.c_meaning.specs.Actions.{PlainTarget, to_level, to_cell, to_array, PlainAssignment, PlainAction, sets, calls, transfers, chooses, iterations, breaks, continues, returns, PlainActions, no_action, action, PlainBranches, no_branch, branch}
 use Rattle.c_meaning.specs.declared.ways.Way.{Way}
 use Rattle.c_meaning.specs.declared.ways.Way.TheVariants as way
-use Rattle.c_meaning.specs.Meaning.{Done, goes_on, in_world, then_done, turn_done, turns_done}
+use Rattle.c_meaning.specs.Meaning.{Done, goes_on, in_world, then_done, iteration_done, iterations_done}
 use Rattle.c_meaning.specs.Resolved as resolved
 use Rattle.c_meaning.specs.Values as values
 use Rattle.single_path.specs.Counted.{is_level, step_sets, action_sets, actions_set, branches_set}
@@ -36,22 +36,22 @@ then_keeps level next way.Broken m each = refl
 then_keeps level next way.Continued m each = refl
 then_keeps level next (way.Returned v) m each = refl
 
-turn_keeps : (level : ℕ) (more : values.State → Done) (step : values.State → values.State) (w : Way) (m : values.State) → Keeps level more
+iteration_keeps : (level : ℕ) (more : values.State → Done) (step : values.State → values.State) (w : Way) (m : values.State) → Keeps level more
     → ((l : values.State) → (step l).locals level ≡ l.locals level)
-    → (turn_done more step (record { way = w; state = m })).state.locals level ≡ m.locals level
-turn_keeps level more step way.On m each stepped = each (step m) ∙ stepped m
-turn_keeps level more step way.Broken m each stepped = refl
-turn_keeps level more step way.Continued m each stepped = each (step m) ∙ stepped m
-turn_keeps level more step (way.Returned v) m each stepped = refl
+    → (iteration_done more step (record { way = w; state = m })).state.locals level ≡ m.locals level
+iteration_keeps level more step way.On m each stepped = each (step m) ∙ stepped m
+iteration_keeps level more step way.Broken m each stepped = refl
+iteration_keeps level more step way.Continued m each stepped = each (step m) ∙ stepped m
+iteration_keeps level more step (way.Returned v) m each stepped = refl
 
-turns_keep : (level : ℕ) (holds : values.State → Bool) (body : values.State → Done) (step : values.State → values.State) → Keeps level body
-    → ((l : values.State) → (step l).locals level ≡ l.locals level) → (n : ℕ) → Keeps level (turns_done holds body step n)
-turns_keep level holds body step each stepped zero l = refl
-turns_keep level holds body step each stepped (suc n) l = by (holds l) (turns_keep level holds body step each stepped n)
+iterations_keep : (level : ℕ) (holds : values.State → Bool) (body : values.State → Done) (step : values.State → values.State) → Keeps level body
+    → ((l : values.State) → (step l).locals level ≡ l.locals level) → (n : ℕ) → Keeps level (iterations_done holds body step n)
+iterations_keep level holds body step each stepped zero l = refl
+iterations_keep level holds body step each stepped (suc n) l = by (holds l) (iterations_keep level holds body step each stepped n)
   where
-    by : (b : Bool) → Keeps level (turns_done holds body step n)
-        → (elim b as (λ _. Done) [ true ↦ turn_done (turns_done holds body step n) step (body l) | false ↦ goes_on l ]).state.locals level ≡ l.locals level
-    by true more = turn_keeps level (turns_done holds body step n) step (body l).way (body l).state more stepped ∙ each l
+    by : (b : Bool) → Keeps level (iterations_done holds body step n)
+        → (elim b as (λ _. Done) [ true ↦ iteration_done (iterations_done holds body step n) step (body l) | false ↦ goes_on l ]).state.locals level ≡ l.locals level
+    by true more = iteration_keeps level (iterations_done holds body step n) step (body l).way (body l).state more stepped ∙ each l
     by false more = refl
 
 mutual
@@ -65,9 +65,9 @@ mutual
   action_keeps gc level (chooses branches otherwise) is l =
       let both = or_parts (branches_set level branches) (actions_set level otherwise) is in
       branches_keep gc level branches (resolved.actions_done gc otherwise) (actions_keep gc level otherwise both.1) both.0 l
-  action_keeps gc level (turns most condition body step) is l =
+  action_keeps gc level (iterations most condition body step) is l =
       let both = or_parts (actions_set level body) (step_sets level step) is in
-      turns_keep level (resolved.holds condition) (resolved.actions_done gc body) (resolved.step_done step) (actions_keep gc level body both.0)
+      iterations_keep level (resolved.holds condition) (resolved.actions_done gc body) (resolved.step_done step) (actions_keep gc level body both.0)
       (λ m. step_keeps level step m both.1) most l
   action_keeps gc level breaks is l = refl
   action_keeps gc level continues is l = refl
@@ -103,7 +103,7 @@ ends_exits (sets a) is = absurd (true≢false (sym is))
 ends_exits (calls k args result) is = absurd (true≢false (sym is))
 ends_exits (transfers core source target count) is = absurd (true≢false (sym is))
 ends_exits (chooses branches otherwise) is = absurd (true≢false (sym is))
-ends_exits (turns most condition body step) is = absurd (true≢false (sym is))
+ends_exits (iterations most condition body step) is = absurd (true≢false (sym is))
 
 mutual
   action_fits : (Fit : ℕ → ℕ → Type 0) (inside : Bool) (a : PlainAction) → action_exits any_exit a ≡ false → FitsAction Fit true a → FitsAction Fit inside a
@@ -113,7 +113,7 @@ mutual
   action_fits Fit inside (chooses branches otherwise) none fits =
       let both = or_parts (branches_exit any_exit branches) (actions_exit any_exit otherwise) none in
       (branches_fit Fit inside branches both.0 fits.0, actions_fit Fit inside otherwise both.1 fits.1)
-  action_fits Fit inside (turns most condition body step) none fits = fits
+  action_fits Fit inside (iterations most condition body step) none fits = fits
   action_fits Fit inside breaks none fits = absurd (true≢false none)
   action_fits Fit inside continues none fits = absurd (true≢false none)
   action_fits Fit inside (returns e) none fits = tt

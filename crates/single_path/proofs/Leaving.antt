@@ -27,21 +27,21 @@ use Rattle.single_path.proofs.Ways.{Acted, Live, Went, function_of, loop_of, own
 
 -- where a `break` or `continue` stands, there is a loop
 abbrev pub Nest : Bool → PartWords → Type 0
-Nest inside p = inside ≡ true → p.function < p.turn
+Nest inside p = inside ≡ true → p.function < p.iteration
 
 -- the loop's mask is set, and no other
-loop_set : (n : ℕ) (p : PartWords) (v : ℕ) (w : Way) (s : State) (l : values.State) → Order n p → p.function < p.turn → Live p s → Agrees n s l
-    → v ≡ loop_of w → function_of w ≡ 1 → way_value w ≡ 0 → Went n p s (record { way = w; state = l }) (with_slot p.turn v s)
+loop_set : (n : ℕ) (p : PartWords) (v : ℕ) (w : Way) (s : State) (l : values.State) → Order n p → p.function < p.iteration → Live p s → Agrees n s l
+    → v ≡ loop_of w → function_of w ≡ 1 → way_value w ≡ 0 → Went n p s (record { way = w; state = l }) (with_slot p.iteration v s)
 loop_set n p v w s l o nested live h is function value = record {
-  same = still_agrees n p.turn s (with_slot p.turn v s) l (omega (arith, o.result, o.function, o.loop)) (set_behind p.turn p.turn v s (omega arith)) h;
-  result = put_there p.turn v p.result s.frame (omega (arith, o.function, o.loop)) ∙ live.result ∙ sym value;
-  function = put_there p.turn v p.function s.frame (omega (arith, nested)) ∙ live.function ∙ sym function;
-  loop = put_here p.turn v s.frame ∙ is;
-  own = λ apart. inl (put_there p.turn v p.own s.frame (λ e. apart (sym e)) ∙ live.own);
-  others = λ x behind below r f q own. put_there p.turn v x s.frame (λ e. q (sym e));
+  same = still_agrees n p.iteration s (with_slot p.iteration v s) l (omega (arith, o.result, o.function, o.loop)) (set_behind p.iteration p.iteration v s (omega arith)) h;
+  result = put_there p.iteration v p.result s.frame (omega (arith, o.function, o.loop)) ∙ live.result ∙ sym value;
+  function = put_there p.iteration v p.function s.frame (omega (arith, nested)) ∙ live.function ∙ sym function;
+  loop = put_here p.iteration v s.frame ∙ is;
+  own = λ apart. inl (put_there p.iteration v p.own s.frame (λ e. apart (sym e)) ∙ live.own);
+  others = λ x behind below r f q own. put_there p.iteration v x s.frame (λ e. q (sym e));
 }
 
-pub broken_acted : (gc : resolved.Serves) (g : Serves) (n : ℕ) (p : PartWords) (s : State) (l : values.State) → Order n p → p.function < p.turn → Live p s → Agrees n s l
+pub broken_acted : (gc : resolved.Serves) (g : Serves) (n : ℕ) (p : PartWords) (s : State) (l : values.State) → Order n p → p.function < p.iteration → Live p s → Agrees n s l
     → Acted breaks n p s (resolved.action_done gc breaks l) (stmts_done g (made_action None p breaks) s)
 broken_acted gc g n p s l o nested live h = record {
   went = loop_set n p (worth (broken p) s) way.Broken s l o nested live h (ap₂ (λ b a. difference_of b (bit_and a 1)) live.loop live.own) refl refl;
@@ -49,7 +49,7 @@ broken_acted gc g n p s l o nested live h = record {
   idle = λ is. absurd (true≢false is);
 }
 
-pub continued_acted : (gc : resolved.Serves) (g : Serves) (n : ℕ) (p : PartWords) (s : State) (l : values.State) → Order n p → p.function < p.turn → Live p s → Agrees n s l
+pub continued_acted : (gc : resolved.Serves) (g : Serves) (n : ℕ) (p : PartWords) (s : State) (l : values.State) → Order n p → p.function < p.iteration → Live p s → Agrees n s l
     → Acted continues n p s (resolved.action_done gc continues l) (stmts_done g (made_action None p continues) s)
 continued_acted gc g n p s l o nested live h = record {
   went = loop_set n p (worth (continued p) s) way.Continued s l o nested live h (ap₂ (λ b a. sum_of b (bit_and a 1)) live.loop live.own) refl refl;
@@ -92,29 +92,29 @@ returned_function_set : (p : PartWords) (s : State) (alone : Bool) → s.frame p
 returned_function_set p s true own function = ap₂ (λ c a. difference_of c (bit_and a 1)) function own
 returned_function_set p s false own function = ap₂ difference_of function own
 
-returned_loop_set : (p : PartWords) (s : State) (alone : Bool) → s.frame p.own ≡ 1 → s.frame p.turn ≡ 1
-    → worth (if alone then mask.both (frame_word p.turn) (constant 2) else mask.less_by (frame_word p.turn) (frame_word p.own)) s ≡ 0
+returned_loop_set : (p : PartWords) (s : State) (alone : Bool) → s.frame p.own ≡ 1 → s.frame p.iteration ≡ 1
+    → worth (if alone then mask.both (frame_word p.iteration) (constant 2) else mask.less_by (frame_word p.iteration) (frame_word p.own)) s ≡ 0
 returned_loop_set p s true own loop = ap (λ b. bit_and b 2) loop
 returned_loop_set p s false own loop = ap₂ difference_of loop own
 
-returned_went : (g : Serves) (n : ℕ) (p : PartWords) (v : ℕ) (outside : Bool) (s t : State) (l : values.State) → (p.function == p.turn) ≡ outside → Order n p → Live p s
+returned_went : (g : Serves) (n : ℕ) (p : PartWords) (v : ℕ) (outside : Bool) (s t : State) (l : values.State) → (p.function == p.iteration) ≡ outside → Order n p → Live p s
     → Results n p v s t l
     → Went n p s (record { way = way.Returned v; state = l })
-    (stmts_done g (stmt (masks p.function (returned_function p)) (if outside then no_stmt else one (masks p.turn (returned_loop p)))) t)
+    (stmts_done g (stmt (masks p.function (returned_function p)) (if outside then no_stmt else one (masks p.iteration (returned_loop p)))) t)
 returned_went g n p v outside s t l is o live r = by outside is
   where
     own_there : t.frame p.own ≡ 1
     own_there = r.others p.own (omega (arith, o.function, o.loop, o.own)) ∙ live.own
 
-    loop_there : t.frame p.turn ≡ 1
-    loop_there = r.others p.turn (omega (arith, o.function, o.loop)) ∙ live.loop
+    loop_there : t.frame p.iteration ≡ 1
+    loop_there = r.others p.iteration (omega (arith, o.function, o.loop)) ∙ live.loop
 
     u : State
     u = with_slot p.function (worth (returned_function p) t) t
 
     function_off : u.frame p.function ≡ 0
     function_off = put_here p.function (worth (returned_function p) t) t.frame
-        ∙ returned_function_set p t (p.own == p.turn) own_there (r.others p.function (omega (arith, o.function)) ∙ live.function)
+        ∙ returned_function_set p t (p.own == p.iteration) own_there (r.others p.function (omega (arith, o.function)) ∙ live.function)
 
     apart : (x : ℕ) → x ≢ p.function → u.frame x ≡ t.frame x
     apart x other = put_there p.function (worth (returned_function p) t) x t.frame (λ e. other (sym e))
@@ -123,9 +123,9 @@ returned_went g n p v outside s t l is o live r = by outside is
     agrees = still_agrees n p.function t u l (omega (arith, o.result, o.function))
         (set_behind p.function p.function (worth (returned_function p) t) t (omega arith)) r.agrees
 
-    by : (outside : Bool) → (p.function == p.turn) ≡ outside
-        → Went n p s (record { way = way.Returned v; state = l }) (stmts_done g (if outside then no_stmt else one (masks p.turn (returned_loop p))) u)
-    by true is = let same = eqb-true p.function p.turn is in record {
+    by : (outside : Bool) → (p.function == p.iteration) ≡ outside
+        → Went n p s (record { way = way.Returned v; state = l }) (stmts_done g (if outside then no_stmt else one (masks p.iteration (returned_loop p))) u)
+    by true is = let same = eqb-true p.function p.iteration is in record {
       same = agrees;
       result = apart p.result (omega (arith, o.function)) ∙ r.value;
       function = function_off;
@@ -134,14 +134,14 @@ returned_went g n p v outside s t l is o live r = by outside is
       others = λ x behind below not_result not_function not_loop not_own. apart x not_function ∙ r.others x not_result;
     }
     by false is =
-        let nested : p.function ≢ p.turn = λ e. true≢false (sym (eq-eqb p.function p.turn e) ∙ is) in
-        let w = with_slot p.turn (worth (returned_loop p) u) u in
-        let here : w.frame p.turn ≡ 0 = put_here p.turn (worth (returned_loop p) u) u.frame
-        ∙ returned_loop_set p u (p.own == p.turn) (apart p.own (λ e. nested (omega (arith, o.loop, o.own, e))) ∙ own_there)
-        (apart p.turn (λ e. nested (sym e)) ∙ loop_there) in
-        let there : (x : ℕ) → x ≢ p.turn → w.frame x ≡ u.frame x = λ x other. put_there p.turn (worth (returned_loop p) u) x u.frame (λ e. other (sym e)) in
+        let nested : p.function ≢ p.iteration = λ e. true≢false (sym (eq-eqb p.function p.iteration e) ∙ is) in
+        let w = with_slot p.iteration (worth (returned_loop p) u) u in
+        let here : w.frame p.iteration ≡ 0 = put_here p.iteration (worth (returned_loop p) u) u.frame
+        ∙ returned_loop_set p u (p.own == p.iteration) (apart p.own (λ e. nested (omega (arith, o.loop, o.own, e))) ∙ own_there)
+        (apart p.iteration (λ e. nested (sym e)) ∙ loop_there) in
+        let there : (x : ℕ) → x ≢ p.iteration → w.frame x ≡ u.frame x = λ x other. put_there p.iteration (worth (returned_loop p) u) x u.frame (λ e. other (sym e)) in
         record {
-          same = still_agrees n p.turn u w l (omega (arith, o.result, o.function, o.loop)) (set_behind p.turn p.turn (worth (returned_loop p) u) u (omega arith)) agrees;
+          same = still_agrees n p.iteration u w l (omega (arith, o.result, o.function, o.loop)) (set_behind p.iteration p.iteration (worth (returned_loop p) u) u (omega arith)) agrees;
           result = there p.result (omega (arith, o.function, o.loop)) ∙ apart p.result (omega (arith, o.function)) ∙ r.value;
           function = there p.function nested ∙ function_off;
           loop = here;
@@ -153,10 +153,10 @@ pub returned_acted : (gc : resolved.Serves) (g : Serves) (n : ℕ) (p : PartWord
     → expr_words e ≤ n → Acted (returns e) n p s (resolved.action_done gc (returns e) l) (stmts_done g (made_action None p (returns e)) s)
 returned_acted gc g n p e s l o live h within =
     let t = stmts_done g (made_result p e) s in
-    let rest = stmt (masks p.function (returned_function p)) (if p.function == p.turn then no_stmt else one (masks p.turn (returned_loop p))) in
+    let rest = stmt (masks p.function (returned_function p)) (if p.function == p.iteration then no_stmt else one (masks p.iteration (returned_loop p))) in
     record {
       went = subst (λ u. Went n p s (record { way = way.Returned (resolved.worth e l); state = l }) u) (sym (joined_done g (made_result p e) rest s))
-          (returned_went g n p (resolved.worth e l) (p.function == p.turn) s t l refl o live (result_set g n p e (is_zero e) s l refl o.result live h within));
+          (returned_went g n p (resolved.worth e l) (p.function == p.iteration) s t l refl o live (result_set g n p e (is_zero e) s l refl o.result live h within));
       ended = λ is other. absurd (cc);
       idle = λ is. absurd (true≢false is);
     }
@@ -209,10 +209,10 @@ stays_acted a n p s d t stays on h = record {
 
 pub on_acted : (a : PlainAction) (g : Serves) (n : ℕ) (p : PartWords) (s : State) (d : Done) (t : State) → ends a ≡ false → Order n p → Went n p s d t
     → Acted a n p s d (stmts_done g (made_on p) t)
-on_acted a g n p s d t stays o h = by (p.own == p.turn) refl
+on_acted a g n p s d t stays o h = by (p.own == p.iteration) refl
   where
     v : ℕ
-    v = bit_and (t.frame p.own) (t.frame p.turn)
+    v = bit_and (t.frame p.own) (t.frame p.iteration)
 
     u : State
     u = with_slot p.own v t
@@ -220,8 +220,8 @@ on_acted a g n p s d t stays o h = by (p.own == p.turn) refl
     there : (x : ℕ) → x ≢ p.own → u.frame x ≡ t.frame x
     there x other = put_there p.own v x t.frame (λ e. other (sym e))
 
-    by : (alone : Bool) → (p.own == p.turn) ≡ alone → Acted a n p s d (stmts_done g (if alone then no_stmt else one (masks p.own (mask.where_on p))) t)
-    by true is = let alone = eqb-true p.own p.turn is in record {
+    by : (alone : Bool) → (p.own == p.iteration) ≡ alone → Acted a n p s d (stmts_done g (if alone then no_stmt else one (masks p.own (mask.where_on p))) t)
+    by true is = let alone = eqb-true p.own p.iteration is in record {
       went = h;
       ended = λ ended. absurd (true≢false (sym ended ∙ stays));
       idle = λ ended other. record {
@@ -236,9 +236,9 @@ on_acted a g n p s d t stays o h = by (p.own == p.turn) refl
       };
     }
     by false is =
-        let apart : p.own ≢ p.turn = λ e. true≢false (sym (eq-eqb p.own p.turn e) ∙ is) in
+        let apart : p.own ≢ p.iteration = λ e. true≢false (sym (eq-eqb p.own p.iteration e) ∙ is) in
         let own : u.frame p.own ≡ own_of d.way = put_here p.own v t.frame ∙ ap (bit_and (t.frame p.own)) h.loop ∙ repaired d.way (t.frame p.own) (h.own apart) in
-        let loop : u.frame p.turn ≡ loop_of d.way = there p.turn (λ e. apart (sym e)) ∙ h.loop in
+        let loop : u.frame p.iteration ≡ loop_of d.way = there p.iteration (λ e. apart (sym e)) ∙ h.loop in
         let function : u.frame p.function ≡ function_of d.way = there p.function (λ e. apart (omega (arith, o.loop, o.own, e))) ∙ h.function in
         record {
           went = record {

@@ -21,7 +21,7 @@ use Rattle.single_path.proofs.Needs.{both_needed, Sound, sound_formed}
 pub record Below (p : PartWords) (slots : ℕ) : Type 0 where
   pub result : p.result < slots
   pub function : p.function < slots
-  pub loop : p.turn < slots
+  pub loop : p.iteration < slots
   pub own : p.own < slots
 
 pub below : (n slots : ℕ) (p : PartWords) → Order n p → p.free ≤ slots → Below p slots
@@ -87,19 +87,19 @@ on_formed fs number slots p b =
     mask_formed fs number slots p.own (where_on p) b.own (record { ranged = (tt, tt); few = omega arith }) (omega (arith, b.own, b.loop))
 
 pub broken_formed : (fs : List PlainFunction) (number slots : ℕ) (p : PartWords) → Below p slots
-    → stmt_formed fs number slots (masks p.turn (broken p)) ≡ true
+    → stmt_formed fs number slots (masks p.iteration (broken p)) ≡ true
 broken_formed fs number slots p b =
-    mask_formed fs number slots p.turn (broken p) b.loop (record { ranged = (tt, (tt, tt)); few = omega arith }) (omega (arith, b.own, b.loop))
+    mask_formed fs number slots p.iteration (broken p) b.loop (record { ranged = (tt, (tt, tt)); few = omega arith }) (omega (arith, b.own, b.loop))
 
 pub continued_formed : (fs : List PlainFunction) (number slots : ℕ) (p : PartWords) → Below p slots
-    → stmt_formed fs number slots (masks p.turn (continued p)) ≡ true
+    → stmt_formed fs number slots (masks p.iteration (continued p)) ≡ true
 continued_formed fs number slots p b =
-    mask_formed fs number slots p.turn (continued p) b.loop (record { ranged = (tt, (tt, tt)); few = omega arith }) (omega (arith, b.own, b.loop))
+    mask_formed fs number slots p.iteration (continued p) b.loop (record { ranged = (tt, (tt, tt)); few = omega arith }) (omega (arith, b.own, b.loop))
 
 pub not_returned_formed : (fs : List PlainFunction) (number slots : ℕ) (p : PartWords) → Below p slots
-    → stmt_formed fs number slots (masks p.turn (where_not_returned p)) ≡ true
+    → stmt_formed fs number slots (masks p.iteration (where_not_returned p)) ≡ true
 not_returned_formed fs number slots p b =
-    mask_formed fs number slots p.turn (where_not_returned p) b.loop (record { ranged = (tt, tt); few = omega arith })
+    mask_formed fs number slots p.iteration (where_not_returned p) b.loop (record { ranged = (tt, tt); few = omega arith })
     (omega (arith, b.function, b.loop))
 
 pub not_taken_formed : (fs : List PlainFunction) (number slots : ℕ) (p : PartWords) → Below p slots → p.free < slots
@@ -111,7 +111,7 @@ not_taken_formed fs number slots p b free =
 pub other_formed : (fs : List PlainFunction) (number slots : ℕ) (p : PartWords) (exits : Bool) → Below p slots → p.free < slots
     → stmt_formed fs number slots (masks p.free (if exits then where_not_taken p else where_other p)) ≡ true
 other_formed fs number slots p true b free = not_taken_formed fs number slots p b free
-other_formed fs number slots p false b free = by (p.own == p.turn)
+other_formed fs number slots p false b free = by (p.own == p.iteration)
   where
     by : (alone : Bool)
         → stmt_formed fs number slots (masks p.free (between_two binary.BitXor (if alone then bit_of p.own else frame_word p.own) (frame_word p.free))) ≡ true
@@ -134,17 +134,17 @@ pub returned_function_formed : (fs : List PlainFunction) (number slots : ℕ) (p
     → stmt_formed fs number slots (masks p.function (returned_function p)) ≡ true
 returned_function_formed fs number slots p b =
     let less = less_by (frame_word p.function) in
-    either_formed fs number slots p.function less (p.own == p.turn) (bit_of p.own) (frame_word p.own)
+    either_formed fs number slots p.function less (p.own == p.iteration) (bit_of p.own) (frame_word p.own)
     (mask_formed fs number slots p.function (less (bit_of p.own)) b.function (record { ranged = (tt, (tt, tt)); few = omega arith })
     (omega (arith, b.function, b.own)))
     (mask_formed fs number slots p.function (less (frame_word p.own)) b.function (record { ranged = (tt, tt); few = omega arith })
     (omega (arith, b.function, b.own)))
 
 pub returned_loop_formed : (fs : List PlainFunction) (number slots : ℕ) (p : PartWords) → Below p slots
-    → stmt_formed fs number slots (masks p.turn (returned_loop p)) ≡ true
+    → stmt_formed fs number slots (masks p.iteration (returned_loop p)) ≡ true
 returned_loop_formed fs number slots p b =
-    let bit = both (frame_word p.turn) (constant 2) in
-    let less = less_by (frame_word p.turn) (frame_word p.own) in
-    either_formed fs number slots p.turn (λ e. e) (p.own == p.turn) bit less
-    (mask_formed fs number slots p.turn bit b.loop (record { ranged = (tt, tt); few = omega arith }) (omega (arith, b.loop)))
-    (mask_formed fs number slots p.turn less b.loop (record { ranged = (tt, tt); few = omega arith }) (omega (arith, b.loop, b.own)))
+    let bit = both (frame_word p.iteration) (constant 2) in
+    let less = less_by (frame_word p.iteration) (frame_word p.own) in
+    either_formed fs number slots p.iteration (λ e. e) (p.own == p.iteration) bit less
+    (mask_formed fs number slots p.iteration bit b.loop (record { ranged = (tt, tt); few = omega arith }) (omega (arith, b.loop)))
+    (mask_formed fs number slots p.iteration less b.loop (record { ranged = (tt, tt); few = omega arith }) (omega (arith, b.loop, b.own)))

@@ -8,7 +8,7 @@ use Rattle.sp_tree.specs.Begun as begins
 use Rattle.sp_tree.specs.Straight as straight
 use Rattle.c_meaning.specs.Actions.{PlainActions}
 use Rattle.c_meaning.specs.Begun.{begun, meaning}
-use Rattle.c_meaning.specs.Meaning.{Given}
+use Rattle.c_meaning.specs.Meaning.{Outcome}
 use Rattle.c_meaning.specs.Resolve.{resolved_items, numbered, parameters_in}
 use Rattle.c_meaning.specs.Resolved as resolved
 use Rattle.c_meaning.proofs.Programs.{program_means}
@@ -22,8 +22,8 @@ use Rattle.single_path.proofs.Main.{MainThere, main_there}
 pub meant : (cores own : ℕ) (items : List PlainItem) → IsValid items cores own → (input : List ℕ) (shared comm : ℕ → ℕ)
     → IsMeant (begins.straight (with_calls items) input shared comm) (meaning items input shared comm)
 meant cores own items valid input shared comm = record {
-  value = ap (λ (g : straight.Given). g.value) entered ∙ serving.value main.number [] world callable ∙ sym (ap (λ (g : Given). g.value) means);
-  world = ap (λ (g : straight.Given). g.world) entered ∙ serving.world main.number [] world callable ∙ sym (ap (λ (g : Given). g.world) means);
+  value = ap (λ (g : straight.Outcome). g.value) entered ∙ serving.value main.number [] world callable ∙ sym (ap (λ (g : Outcome). g.value) means);
+  world = ap (λ (g : straight.Outcome). g.world) entered ∙ serving.world main.number [] world callable ∙ sym (ap (λ (g : Outcome). g.world) means);
 }
   where
     counts : List ℕ

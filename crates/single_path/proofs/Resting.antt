@@ -3,7 +3,7 @@
 use Rattle.std.proofs.Common.{◌≡◌, ◌≢◌, ℕ, zero, suc, ◌+◌, ◌==◌, Bool, true, false, if◌then◌else◌, ◌||◌, List, Option, Some, None, refl, ap, sym, ◌∙◌, arith, eq-eqb, true≢false}
 use Rattle.std.specs.Prelude.{◌&&◌, ◌||◌}
 use Rattle.sp_tree.specs.Plain.{PlainSp, frame_word}
-use Rattle.sp_tree.specs.Statements.{PlainSpTarget, to_slot, PlainStmt, masks, writes, calls, transfers, overruns, turns, PlainStmts, no_stmt, stmt, one, joined}
+use Rattle.sp_tree.specs.Statements.{PlainSpTarget, to_slot, PlainStmt, masks, writes, calls, transfers, overruns, iterations, PlainStmts, no_stmt, stmt, one, joined}
 use Rattle.sp_tree.specs.Statements as tree
 use Rattle.sp_tree.specs.Straight.{State, Serves, with_slot, worth, times, stmt_done, stmts_done}
 use Rattle.sp_tree.proofs.Masks.{write_off, send_off, overrun_off, call_off}
@@ -14,10 +14,10 @@ use Rattle.single_path.specs.declared.part_words.PartWords.{PartWords}
 use Rattle.single_path.specs.PartWords.{in_arm, in_loop, where_so, where_not_taken, where_other, bit_of, not_zero, where_not_returned, returned_function, returned_loop}
 use Rattle.single_path.specs.PartWords as mask
 use Rattle.single_path.specs.Counted.{start_of}
-use Rattle.single_path.specs.Made.{made, made_action, made_branches, made_step, made_result, made_return, made_arm, made_otherwise, made_on, made_after, made_behind, made_again, made_turn, made_loop, is_counted, made_counted, any_exit, by_continue, by_return, actions_exit, branches_exit, is_zero, is_no_branch, is_no_action, ends}
+use Rattle.single_path.specs.Made.{made, made_action, made_branches, made_step, made_result, made_return, made_arm, made_otherwise, made_on, made_after, made_behind, made_again, made_iteration, made_loop, is_counted, made_counted, any_exit, by_continue, by_return, actions_exit, branches_exit, is_zero, is_no_branch, is_no_action, ends}
 use Rattle.single_path.specs.Masked.{stmt_masks, stmts_mask}
 use Rattle.single_path.proofs.Frames.{put_there, Order, Still, fewer, set_behind}
-use Rattle.single_path.proofs.Idle.{Quiet, Dead, Left, still_dead, dead_arm, order_arm, order_loop, off, call_still, left_on, left_off, again_still, tested_still, turns_left, counted_still, loop_left, arm_off, not_taken_still, dead_action, dead}
+use Rattle.single_path.proofs.Idle.{Quiet, Dead, Left, still_dead, dead_arm, order_arm, order_loop, off, call_still, left_on, left_off, again_still, tested_still, iterations_left, counted_still, loop_left, arm_off, not_taken_still, dead_action, dead}
 
 -- ---- statements under masks that are not 1
 
@@ -28,7 +28,7 @@ abbrev mutual
   Rests g (calls mask k args result) s = s.frame mask ≢ 1
   Rests g (transfers mask core source target count) s = s.frame mask ≢ 1
   Rests g (overruns mask e) s = s.frame mask ≢ 1
-  Rests g (turns count body) s = (k : ℕ) → AllRest g body (times k (stmts_done g body) s)
+  Rests g (iterations count body) s = (k : ℕ) → AllRest g body (times k (stmts_done g body) s)
 
   pub AllRest : Serves → PlainStmts → State → Type 0
   AllRest g no_stmt s = Unit {0}
@@ -51,7 +51,7 @@ mutual
   rests g x (calls mask k args result) s rest is = ap (λ (u : State). u.frame x) (call_off g mask k args result s rest)
   rests g x (transfers mask core source target count) s rest is = ap (λ (u : State). u.frame x) (send_off g mask core source target count s rest)
   rests g x (overruns mask e) s rest is = ap (λ (u : State). u.frame x) (overrun_off g mask e s rest)
-  rests g x (turns count body) s rest is = times_stand x (stmts_done g body) (AllRest g body) (λ u h. all_rest g x body u h is) count s rest
+  rests g x (iterations count body) s rest is = times_stand x (stmts_done g body) (AllRest g body) (λ u h. all_rest g x body u h is) count s rest
 
   pub all_rest : (g : Serves) (x : ℕ) (ts : PlainStmts) (s : State) → AllRest g ts s → stmts_mask x ts ≡ false → (stmts_done g ts s).frame x ≡ s.frame x
   all_rest g x no_stmt s rest is = refl
@@ -77,11 +77,11 @@ step_rests g mask (Some a) s is = (is, tt)
 
 return_rests : (g : Serves) (p : PartWords) (e : PlainSp) (s : State) → Dead p s → AllRest g (made_return p e) s
 return_rests g p e s d =
-    joined_rest g (made_result p e) (stmt (masks p.function (returned_function p)) (outer (p.function == p.turn))) s (result (is_zero e))
-    (tt, behind (p.function == p.turn) (with_slot p.function (worth (returned_function p) (stmts_done g (made_result p e) s)) (stmts_done g (made_result p e) s)))
+    joined_rest g (made_result p e) (stmt (masks p.function (returned_function p)) (outer (p.function == p.iteration))) s (result (is_zero e))
+    (tt, behind (p.function == p.iteration) (with_slot p.function (worth (returned_function p) (stmts_done g (made_result p e) s)) (stmts_done g (made_result p e) s)))
   where
     outer : Bool → PlainStmts
-    outer outside = if outside then no_stmt else one (masks p.turn (returned_loop p))
+    outer outside = if outside then no_stmt else one (masks p.iteration (returned_loop p))
 
     result : (zero_value : Bool) → AllRest g (if zero_value then no_stmt else one (writes p.own (to_slot p.result) e)) s
     result true = tt
@@ -91,7 +91,7 @@ return_rests g p e s d =
     behind true t = tt
     behind false t = (tt, tt)
 
--- ---- turns
+-- ---- iterations
 
 ended_rests : (g : Serves) (n : ℕ) (p : PartWords) (exits : Bool) (step : Option PlainAssignment) (s : State) → Order n p → Left p s
     → AllRest g (joined (made_again p exits) (made_step p.free step)) s
@@ -100,20 +100,20 @@ ended_rests g n p true step s o l =
     (tt, step_rests g p.free step t (left_off p t (left_on n p s t o (again_still p s l) l)))
 ended_rests g n p false step s o l = step_rests g p.free step s (left_off p s l)
 
-turn_rests : (g : Serves) (n : ℕ) (p : PartWords) (condition : PlainSp) (exits : Bool) (body : PlainStmts) (step : Option PlainAssignment) → Order n p
+iteration_rests : (g : Serves) (n : ℕ) (p : PartWords) (condition : PlainSp) (exits : Bool) (body : PlainStmts) (step : Option PlainAssignment) → Order n p
     → ((t : State) → Dead (in_loop p) t → Still (p.free + 1) t (stmts_done g body t)) → ((t : State) → Dead (in_loop p) t → AllRest g body t)
-    → (s : State) → Left p s → AllRest g (made_turn p condition exits body step) s
-turn_rests g n p condition exits body step o still each s l =
+    → (s : State) → Left p s → AllRest g (made_iteration p condition exits body step) s
+iteration_rests g n p condition exits body step o still each s l =
     let t = with_slot p.free (worth (where_so p.free condition) s) s in
     let tested = left_on n p s t o (tested_still p condition s l) l in
     let u = stmts_done g body t in
-    let turned = left_on n p t u o (still t tested.dead) tested in (
+    let iterated = left_on n p t u o (still t tested.dead) tested in (
       tt,
-      joined_rest g body (joined (made_again p exits) (made_step p.free step)) t (each t tested.dead) (ended_rests g n p exits step u o turned),
+      joined_rest g body (joined (made_again p exits) (made_step p.free step)) t (each t tested.dead) (ended_rests g n p exits step u o iterated),
     )
 
 on_rests : (g : Serves) (p : PartWords) (s : State) → AllRest g (made_on p) s
-on_rests g p s = by (p.own == p.turn)
+on_rests g p s = by (p.own == p.iteration)
   where
     by : (alone : Bool) → AllRest g (if alone then no_stmt else one (masks p.own (mask.where_on p))) s
     by true = tt
@@ -125,26 +125,26 @@ after_rests g p false s = tt
 
 behind_rests : (g : Serves) (p : PartWords) (returned : Bool) (s : State) → AllRest g (made_behind p returned) s
 behind_rests g p false s = tt
-behind_rests g p true s = by (p.function == p.turn)
+behind_rests g p true s = by (p.function == p.iteration)
   where
-    by : (outside : Bool) → AllRest g (joined (if outside then no_stmt else one (masks p.turn (where_not_returned p))) (made_on p)) s
+    by : (outside : Bool) → AllRest g (joined (if outside then no_stmt else one (masks p.iteration (where_not_returned p))) (made_on p)) s
     by true = on_rests g p s
-    by false = (tt, on_rests g p (with_slot p.turn (worth (where_not_returned p) s) s))
+    by false = (tt, on_rests g p (with_slot p.iteration (worth (where_not_returned p) s) s))
 
 loop_rests : (g : Serves) (n : ℕ) (p : PartWords) (most : ℕ) (condition : PlainSp) (returned exits : Bool) (body : PlainStmts) (step : Option PlainAssignment) → Order n p
     → ((t : State) → Dead (in_loop p) t → Still (p.free + 1) t (stmts_done g body t)) → ((t : State) → Dead (in_loop p) t → AllRest g body t)
-    → (s : State) → Dead p s → AllRest g (made_loop p most condition returned (made_turn p condition exits body step)) s
+    → (s : State) → Dead p s → AllRest g (made_loop p most condition returned (made_iteration p condition exits body step)) s
 loop_rests g n p zero condition returned exits body step o still each s d = (off p s d, tt)
 loop_rests g n p (suc k) condition returned exits body step o still each s d =
     let t = with_slot p.free (worth (bit_of p.own) s) s in
     let begun = loop_left n p s o d in
-    let turn = made_turn p condition exits body step in
-    let left_there : (j : ℕ) → Left p (times j (stmts_done g turn) t) =
-    λ j. left_on n p t (times j (stmts_done g turn) t) o (turns_left g n p condition exits body step o still j t begun) begun in
-    let v = times (suc k) (stmts_done g turn) t in (
+    let iteration = made_iteration p condition exits body step in
+    let left_there : (j : ℕ) → Left p (times j (stmts_done g iteration) t) =
+    λ j. left_on n p t (times j (stmts_done g iteration) t) o (iterations_left g n p condition exits body step o still j t begun) begun in
+    let v = times (suc k) (stmts_done g iteration) t in (
       tt,
       (
-        (λ j. turn_rests g n p condition exits body step o still each (times j (stmts_done g turn) t) (left_there j)),
+        (λ j. iteration_rests g n p condition exits body step o still each (times j (stmts_done g iteration) t) (left_there j)),
         (left_off p v (left_there (suc k)), behind_rests g p returned (stmt_done g (overruns p.free condition) v)),
       ),
     )
@@ -152,13 +152,13 @@ loop_rests g n p (suc k) condition returned exits body step o still each s d =
 counted_rests : (g : Serves) (n : ℕ) (p : PartWords) (most : ℕ) (body : PlainStmts) (step : Option PlainAssignment) → Order n p
     → ((t : State) → Dead p t → Still p.free t (stmts_done g body t)) → ((t : State) → Dead p t → AllRest g body t)
     → (s : State) → Dead p s → AllRest g (made_counted p most body step) s
-counted_rests g n p most body step o still each s d = ((λ k. turn (times k (stmts_done g (joined body (made_step p.own step))) s) (dead_there k)), tt)
+counted_rests g n p most body step o still each s d = ((λ k. iteration (times k (stmts_done g (joined body (made_step p.own step))) s) (dead_there k)), tt)
   where
     dead_there : (k : ℕ) → Dead p (times k (stmts_done g (joined body (made_step p.own step))) s)
     dead_there k = still_dead n p s (times k (stmts_done g (joined body (made_step p.own step))) s) o (counted_still g n p body step o still k s d) d
 
-    turn : (t : State) → Dead p t → AllRest g (joined body (made_step p.own step)) t
-    turn t h =
+    iteration : (t : State) → Dead p t → AllRest g (joined body (made_step p.own step)) t
+    iteration t h =
         let u = stmts_done g body t in
         joined_rest g body (made_step p.own step) t (each t h) (step_rests g p.own step u (off p u (still_dead n p t u o (still t h) h)))
 
@@ -210,9 +210,9 @@ mutual
       (branches_rest g quiet n branches (is_no_action otherwise) (λ q. made None q otherwise) (λ q t. actions_rest g quiet n otherwise None q t) p s o d)
       (after_rests g p (branches_exit any_exit branches || actions_exit any_exit otherwise)
       (stmts_done g (made_branches p branches (is_no_action otherwise) (λ q. made None q otherwise)) s))
-  action_rests g quiet n (actions.turns most condition body step) known p s o d =
+  action_rests g quiet n (actions.iterations most condition body step) known p s o d =
       either_rest g (is_counted known most condition body step) (made_counted p most (made None p body) step)
-      (made_loop p most condition (actions_exit by_return body) (made_turn p condition (actions_exit by_continue body) (made None (in_loop p) body) step)) s
+      (made_loop p most condition (actions_exit by_return body) (made_iteration p condition (actions_exit by_continue body) (made None (in_loop p) body) step)) s
       (counted_rests g n p most (made None p body) step o (λ t. dead g quiet n body None p t o) (λ t. actions_rest g quiet n body None p t o) s d)
       (loop_rests g n p most condition (actions_exit by_return body) (actions_exit by_continue body) (made None (in_loop p) body) step o
       (λ t. dead g quiet n body None (in_loop p) t (order_loop n p o)) (λ t. actions_rest g quiet n body None (in_loop p) t (order_loop n p o)) s d)

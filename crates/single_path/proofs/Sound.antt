@@ -17,8 +17,8 @@ use Rattle.c_tree.specs.Sizes.{kind_size, expr_size, bound_size, head_size, stmt
 use Rattle.c_tree.specs.Valid.{has_none}
 use Rattle.sp_tree.specs.Formed.{cell_formed, array_formed}
 use Rattle.sp_tree.specs.Plain.{PlainSp, constant}
-use Rattle.c_meaning.specs.Actions.{PlainTarget, to_level, to_cell, to_array, PlainAssignment, PlainAction, sets, calls, transfers, chooses, turns, breaks, continues, returns, PlainActions, no_action, action, PlainBranches, no_branch, branch, one, joined}
-use Rattle.c_meaning.specs.Meaning.{with_variable, names_after, most_turns}
+use Rattle.c_meaning.specs.Actions.{PlainTarget, to_level, to_cell, to_array, PlainAssignment, PlainAction, sets, calls, transfers, chooses, iterations, breaks, continues, returns, PlainActions, no_action, action, PlainBranches, no_branch, branch, one, joined}
+use Rattle.c_meaning.specs.Meaning.{with_variable, names_after, most_iterations}
 use Rattle.c_meaning.specs.Resolve.{resolved, resolved_args, resolved_right, resolved_declaration, choice, resolved_stmt, resolved_block, resolved_arms, resolved_otherwise, resolved_body, resolved_begin, resolved_condition, resolved_next, resolved_return, maybe_sets, assignment_to, variable_target, element_target, numbered_call}
 use Rattle.c_meaning.specs.Scope.{Stands, level, outside}
 use Rattle.c_meaning.specs.Scope as scope
@@ -51,7 +51,7 @@ abbrev mutual
   SoundAction (calls k args result) = Each Sound args × SoundResult result
   SoundAction (transfers core source target count) = (core < 16) × (Sound source × (Sound target × Sound count))
   SoundAction (chooses branches otherwise) = SoundBranches branches × AllSound otherwise
-  SoundAction (turns most condition body step) = Sound condition × (AllSound body × SoundStep step)
+  SoundAction (iterations most condition body step) = Sound condition × (AllSound body × SoundStep step)
   SoundAction breaks = ⊤
   SoundAction continues = ⊤
   SoundAction (returns e) = Sound e
@@ -126,12 +126,12 @@ record SoundHead (of : Names) (head : PlainHead) : Type 0 where
 
 head_sound : (of : Names) → Each SlotFits of.slots → (names : List Named) (at : ℕ) (head : PlainHead) → IsTrue (has_none (head_faults names at head))
     → SoundHead of head
-head_sound of each names at (plain.turns_while condition) none = record {
+head_sound of each names at (plain.iterations_while condition) none = record {
   begin = tt;
   condition = whole_sound of each None names (at + 2) condition none;
   next = tt;
 }
-head_sound of each names at (plain.turns_for first from condition next to) none =
+head_sound of each names at (plain.iterations_for first from condition next to) none =
     let second = at + 2 + 2 + expr_size from + 1 in
     let third = second + expr_size condition + 1 in
     let begins = assigned_faults names (at + 2) first from in
@@ -208,7 +208,7 @@ mutual
       let sound = head_sound of each names (at + bound_size bound) head (none_left heads inner_faults both) in
       let inside = block_sound of each fs (looped w (length names)) few names inner_at body (none_right heads inner_faults both) in
       joined_sound (maybe_sets (resolved_begin of head))
-      (one (turns (most_turns bound) (resolved_condition of head) (resolved_block fs of body) (resolved_next of head)))
+      (one (iterations (most_iterations bound) (resolved_condition of head) (resolved_block fs of body) (resolved_next of head)))
       (sets_sound (resolved_begin of head) sound.begin)
       ((sound.condition, (inside, sound.next)), tt)
   stmt_sound of each fs w few names at plain.broken none = (tt, tt)

@@ -8,8 +8,8 @@ use Rattle.shared_order.specs.Words.{put}
 use Rattle.c_world.specs.World.{World}
 use Rattle.sp_tree.specs.Formed.{slots_of}
 use Rattle.sp_tree.specs.Statements.{PlainFunction, no_function}
-use Rattle.sp_tree.specs.Straight.{State, Given, Serves, stmts_done, begun_frame, serves}
-use Rattle.sp_inline.specs.Taken.{frame_for, is_whole, body_taken, grown, function_taken, first_taken}
+use Rattle.sp_tree.specs.Straight.{State, Outcome, Serves, stmts_done, begun_frame, serves}
+use Rattle.sp_inline.specs.Taken.{is_whole, body_taken, grown, function_taken, first_taken}
 use Rattle.sp_inline.proofs.Taking.{first_at, first_length, first_before, same_given}
 use Rattle.c_meaning.specs.Actions.{PlainActions}
 use Rattle.c_meaning.specs.Resolve.{resolved_items, parameters_in}
@@ -52,20 +52,20 @@ result_inside (c ∷ counts) (body ∷ bodies) (suc k) x there within = result_i
 
 pub taken_quiet : (items : List PlainItem) (n k under : ℕ) (args : List ℕ) (w : World) → under ≢ 1 → (serves (single items).functions n k under args w).world ≡ w
 taken_quiet items n k under args w other =
-    ap (λ (x : Given). x.world) ((same_given (weights_in items) (frames_in items) (with_calls items).functions n).gives k under args w)
+    ap (λ (x : Outcome). x.world) ((same_given (weights_in items) (frames_in items) (with_calls items).functions n).gives k under args w)
     ∙ quiet items n k under args w other
 
 same_result : (before : List PlainFunction) (most frame : ℕ) (f : PlainFunction) → (function_taken before most frame f).result ≡ f.result
 same_result before most frame f = by (is_whole (length before) f)
   where
-    by : (b : Bool) → (if b then grown f (body_taken before most (frame_for before most frame f) f) else f).result ≡ f.result
+    by : (b : Bool) → (if b then grown f (body_taken before most frame f) else f).result ≡ f.result
     by true = refl
     by false = refl
 
 same_mask : (before : List PlainFunction) (most frame : ℕ) (f : PlainFunction) → (function_taken before most frame f).mask ≡ f.mask
 same_mask before most frame f = by (is_whole (length before) f)
   where
-    by : (b : Bool) → (if b then grown f (body_taken before most (frame_for before most frame f) f) else f).mask ≡ f.mask
+    by : (b : Bool) → (if b then grown f (body_taken before most frame f) else f).mask ≡ f.mask
     by true = refl
     by false = refl
 

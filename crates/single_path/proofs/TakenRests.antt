@@ -6,16 +6,17 @@ use Rattle.c_world.specs.World.{World}
 use Rattle.sp_tree.specs.Formed.{stmts_levels, slots_of}
 use Rattle.sp_tree.specs.Cost.{cost}
 use Rattle.sp_tree.specs.Plain.{PlainSp, frame_word}
-use Rattle.sp_tree.specs.Statements.{PlainStmt, masks, writes, calls, transfers, overruns, turns, PlainStmts, no_stmt, stmt, one, joined, PlainFunction, no_function}
-use Rattle.sp_tree.specs.Straight.{State, Given, Serves, with_slot, in_world, with_result, args_worth, worth, times, stmt_done, stmts_done, begun_frame, function_given}
+use Rattle.sp_tree.specs.Statements.{PlainStmt, masks, writes, calls, transfers, overruns, iterations, PlainStmts, no_stmt, stmt, one, joined, PlainFunction, no_function}
+use Rattle.sp_tree.specs.Straight.{State, Outcome, Serves, with_slot, in_world, with_result, args_worth, worth, times, stmt_done, stmts_done, begun_frame, function_outcome}
 use Rattle.sp_tree.proofs.Joins.{joined_done}
 use Rattle.sp_tree.proofs.Masks.{off as masked, write_off, send_off, overrun_off, call_off}
 use Rattle.sp_inline.specs.Moved.{stmt_moved, stmts_moved}
 use Rattle.sp_inline.specs.Reach.{args_reach, stmt_reach, stmts_reach, stmts_calls}
 use Rattle.sp_inline.specs.declared.room.Room.{Room}
-use Rattle.sp_inline.specs.Taken.{frame_for, begun_words, given_set, call_statements, PlainCaller, Taken, callee, room_after, is_whole, may_take, is_taken, kept, call_taken, stmt_taken, stmts_taken, body_taken, grown, function_taken}
+use Rattle.sp_inline.specs.Taken.{begun_words, handed, given_set, front, shortened, call_statements, PlainCaller, Taken, callee, room_after, is_whole, may_take, is_taken, kept, call_taken, stmt_taken, stmts_taken, body_taken, grown, function_taken}
 use Rattle.sp_inline.proofs.Windows.{window, stmt_window, stmts_window}
 use Rattle.sp_inline.proofs.Alike.{Alike, Same, times_alike, stmt_alike, stmts_alike}
+use Rattle.sp_inline.proofs.Shortened.{short_is, short_fits}
 use Rattle.sp_inline.proofs.Taking.{call_entered, call_low, call_alike_taken}
 use Rattle.single_path.proofs.Idle.{Quiet}
 use Rattle.single_path.proofs.Resting.{Rests, AllRest, joined_rest}
@@ -38,7 +39,7 @@ mutual
   moved_rests g o (calls mask k args result) s h = h
   moved_rests g o (transfers mask core source target count) s h = h
   moved_rests g o (overruns mask e) s h = h
-  moved_rests g o (turns count body) s h =
+  moved_rests g o (iterations count body) s h =
       λ k. all_moved g o body (times k (stmts_done g (stmts_moved o body)) s) (subst (AllRest g body) (sym (times_window g o body k s)) (h k))
 
   all_moved : (g : Serves) (o : ℕ) (ts : PlainStmts) (s : State) → AllRest g ts (window o s) → AllRest g (stmts_moved o ts) s
@@ -58,7 +59,7 @@ mutual
   rests_alike g o (calls mask k args result) s u within a h = not_there o mask s u a (omega (arith, within)) h
   rests_alike g o (transfers mask core source target count) s u within a h = not_there o mask s u a (omega (arith, within)) h
   rests_alike g o (overruns mask e) s u within a h = not_there o mask s u a (omega (arith, within)) h
-  rests_alike g o (turns count body) s u within a h =
+  rests_alike g o (iterations count body) s u within a h =
       λ k. all_alike g o body (times k (stmts_done g body) s) (times k (stmts_done g body) u) within
       (times_alike o (stmts_done g body) (stmts_done g body)
       (λ x y b. stmts_alike (stmts_calls body) g g (same_self (stmts_calls body) g) o body x y within (omega arith) b) k s u a) (h k)
@@ -86,7 +87,7 @@ mutual
       ap (λ (u : State). u.world) (call_off g mask k args result s h) ∙ quiet.world k (s.frame mask) (args_worth args s) s.world h
   rest_quiet g quiet (transfers mask core source target count) s h = ap (λ (u : State). u.world) (send_off g mask core source target count s h)
   rest_quiet g quiet (overruns mask e) s h = ap (λ (u : State). u.world) (overrun_off g mask e s h)
-  rest_quiet g quiet (turns count body) s h = times_quiet (stmts_done g body) (AllRest g body) (λ u k. all_quiet g quiet body u k) count s h
+  rest_quiet g quiet (iterations count body) s h = times_quiet (stmts_done g body) (AllRest g body) (λ u k. all_quiet g quiet body u k) count s h
 
   all_quiet : (g : Serves) → Quiet g → (ts : PlainStmts) (s : State) → AllRest g ts s → (stmts_done g ts s).world ≡ s.world
   all_quiet g quiet no_stmt s h = refl
@@ -107,33 +108,47 @@ given_rest g mask (Some slot) word s off = (off, tt)
 pub FunctionRests : Serves → PlainFunction → Type 0
 FunctionRests g f = (under : ℕ) (args : List ℕ) (w : World) → under ≢ 1 → AllRest g f.body (record { frame = begun_frame f under args; world = w })
 
-call_rests : (o : ℕ) (g : Serves) (f : PlainFunction) → FunctionRests g f → stmts_reach f.body ≤ slots_of f → (mask : ℕ) (args : List PlainSp) (result : Option ℕ)
-    → mask < o → args_reach args ≤ o → (s t : State) → Alike o s t → t.frame mask ≢ 1 → AllRest g (call_statements o f mask args result) s
+pub rests_of : (g : Serves) (f : PlainFunction) → FunctionRests g f → (under : ℕ) (args : List ℕ) (w : World) → under ≢ 1
+    → AllRest g f.body (record { frame = begun_frame f under args; world = w })
 unfolding FunctionRests
-call_rests o g f rests reach mask args result mask_in within s t a off =
-    let begin = begun_words o (slots_of f) args in
+rests_of g f h = h
+
+-- so does it without the mask that it sets last
+front_rest : (g : Serves) (xs ys : PlainStmts) (s : State) → AllRest g (joined xs ys) s → AllRest g xs s
+front_rest g no_stmt ys s h = tt
+front_rest g (stmt t xs) ys s h = (h.0, front_rest g xs ys (stmt_done g t s) h.1)
+
+short_rests : (g : Serves) (f : PlainFunction) → FunctionRests g f → FunctionRests g (shortened f)
+unfolding FunctionRests
+short_rests g f rests under args w other =
+    let s : State = record { frame = begun_frame f under args; world = w } in
+    short_is (λ xs. AllRest g xs s) f.result f.body (rests under args w other)
+    (λ h. front_rest g (front f.body) (one (masks h.slot h.value)) s (subst (λ xs. AllRest g xs s) (sym h.is) (rests under args w other)))
+
+call_rests : (o : ℕ) (g : Serves) (f : PlainFunction) → FunctionRests g f → stmts_reach f.body ≤ slots_of f → (mask : ℕ) (args : List PlainSp) (result : Option ℕ)
+    → mask < o → args_reach args ≤ o → length args ≤ f.mask → (s t : State) → Alike o s t → t.frame mask ≢ 1 → AllRest g (call_statements o f mask args result) s
+unfolding FunctionRests
+call_rests o g f rests reach mask args result mask_in within few s t a off =
+    let begin = begun_words o (slots_of f) (handed f.mask mask args) in
     let last = given_set mask result (o + f.result) in
-    let s1 = stmts_done g begin s in
-    let s2 = with_slot (o + f.mask) (s1.frame mask) s1 in
+    let s2 = stmts_done g begin s in
     let s3 = stmts_done g (stmts_moved o f.body) s2 in
     let own : State = record { frame = begun_frame f (t.frame mask) (args_worth args t); world = t.world } in
-    joined_rest g begin (stmt (masks (o + f.mask) (frame_word mask)) (joined (stmts_moved o f.body) last)) s (begun_rest g o (slots_of f) args s) (
-      tt,
-      joined_rest g (stmts_moved o f.body) last s2
-          (all_moved g o f.body s2 (all_alike g (slots_of f) f.body (window o s2) own reach (call_entered o g f mask args mask_in within s t a)
-          (rests (t.frame mask) (args_worth args t) t.world off)))
-          (given_rest g mask result (o + f.result) s3 (λ e. off (sym (a.frame mask mask_in) ∙ sym (call_low o g f mask args within s mask mask_in) ∙ e))),
-    )
+    joined_rest g begin (joined (stmts_moved o f.body) last) s (begun_rest g o (slots_of f) (handed f.mask mask args) s)
+    (joined_rest g (stmts_moved o f.body) last s2
+    (all_moved g o f.body s2 (all_alike g (slots_of f) f.body (window o s2) own reach (call_entered o g f mask args mask_in within few s t a)
+    (rests (t.frame mask) (args_worth args t) t.world off)))
+    (given_rest g mask result (o + f.result) s3 (λ e. off (sym (a.frame mask mask_in) ∙ sym (call_low o g f mask args mask_in within s mask mask_in) ∙ e))))
 
 -- ---- the statements of a function that takes in calls, where all of them rest
 
-turns_both : (g : Serves) (o : ℕ) (now before : PlainStmts)
+iterations_both : (g : Serves) (o : ℕ) (now before : PlainStmts)
     → ((s u : State) → Alike o s u → AllRest g before u → AllRest g now s × Alike o (stmts_done g now s) (stmts_done g before u))
     → (k : ℕ) (s u : State) → Alike o s u → ((j : ℕ) → AllRest g before (times j (stmts_done g before) u))
     → AllRest g now (times k (stmts_done g now) s) × Alike o (times k (stmts_done g now) s) (times k (stmts_done g before) u)
-turns_both g o now before each zero s u a h = ((each s u a (h zero)).0, a)
-turns_both g o now before each (suc k) s u a h =
-    turns_both g o now before each k (stmts_done g now s) (stmts_done g before u) (each s u a (h zero)).1 (λ j. h (suc j))
+iterations_both g o now before each zero s u a h = ((each s u a (h zero)).0, a)
+iterations_both g o now before each (suc k) s u a h =
+    iterations_both g o now before each k (stmts_done g now s) (stmts_done g before u) (each s u a (h zero)).1 (λ j. h (suc j))
 
 call_both : (c : PlainCaller) (g : Serves) → Quiet g → ((k : ℕ) → k < length c.functions → FunctionRests g (callee c k)) → (depth : ℕ) (r : Room) (mask k : ℕ)
     (args : List PlainSp) (result : Option ℕ) (s u : State) → mask < c.words → args_reach args ≤ c.words → stmt_reach (calls mask k args result) ≤ c.words
@@ -146,11 +161,14 @@ call_both c g quiet each depth r mask k args result s u mask_in within reach a o
     f : PlainFunction
     f = callee c k
 
-    more : PlainStmts
-    more = call_statements c.words f mask args result
+    less : PlainFunction
+    less = shortened f
 
-    given : Given
-    given = function_given g f (u.frame mask) (args_worth args u) u.world
+    more : PlainStmts
+    more = call_statements c.words less mask args result
+
+    given : Outcome
+    given = function_outcome g less (u.frame mask) (args_worth args u) u.world
 
     by : (b : Bool) → is_taken c depth r k more args ≡ b
         → AllRest g (if b then (let t : Taken = record { body = more; room = room_after c depth r f more args } in t) else kept r (calls mask k args result)).body s
@@ -168,14 +186,15 @@ call_both c g quiet each depth r mask k args result s u mask_in within reach a o
         let whole = (and_parts (is_whole k f) _ q.1).0 in
         let v = and_parts (nat_lt f.result (slots_of f)) _ whole in
         let w = and_parts (nat_le (stmts_reach f.body) (slots_of f)) _ v.1 in
-        let rests = each k (ltb-true k (length c.functions) q.0) in
-        let inside = leb-true (stmts_reach f.body) (slots_of f) w.0 in
-        let same = call_alike_taken (stmts_calls f.body) c.words g g (same_self (stmts_calls f.body) g) f (ltb-true f.result (slots_of f) v.0) inside (omega arith)
-        mask args result mask_in within s u a given refl in
-        let stands : given.world ≡ u.world = all_quiet g quiet f.body (record { frame = begun_frame f (u.frame mask) (args_worth args u); world = u.world })
-        (rests (u.frame mask) (args_worth args u) u.world out) in
+        let rests = short_rests g f (each k (ltb-true k (length c.functions) q.0)) in
+        let fits = short_fits f (ltb-true f.result (slots_of f) v.0) (leb-true (stmts_reach f.body) (slots_of f) w.0) in
+        let few = leb-true (length args) f.mask (and_parts (is_whole k f) _ q.1).1 in
+        let same = call_alike_taken (stmts_calls less.body) c.words g g (same_self (stmts_calls less.body) g) less fits.0 fits.1 (omega arith)
+        mask args result mask_in within few s u a given refl in
+        let stands : given.world ≡ u.world = all_quiet g quiet less.body (record { frame = begun_frame f (u.frame mask) (args_worth args u); world = u.world })
+        (rests_of g less rests (u.frame mask) (args_worth args u) u.world out) in
         let quiet_there : (g k (u.frame mask) (args_worth args u) u.world).world ≡ u.world = quiet.world k (u.frame mask) (args_worth args u) u.world out in (
-          call_rests c.words g f rests inside mask args result mask_in within s u a out,
+          call_rests c.words g less rests fits.1 mask args result mask_in within few s u a out,
           subst (Alike c.words (stmts_done g more s))
               (masked mask (with_result result given.value) (in_world u given.world) out ∙ ap (in_world u) (stands ∙ sym quiet_there)
               ∙ sym (call_off g mask k args result u out)) same,
@@ -197,9 +216,9 @@ mutual
   )
   stmt_both c g quiet each depth r (overruns mask e) s u within a h =
       ((not_there c.words mask s u a (omega (arith, within)) h, tt), stmt_alike 0 g g (same_self 0 g) c.words (overruns mask e) s u within (omega arith) a)
-  stmt_both c g quiet each depth r (turns count body) s u within a h =
+  stmt_both c g quiet each depth r (iterations count body) s u within a h =
       let inside = (stmts_taken c (depth + 1) r body).body in
-      let both = turns_both g c.words inside body (λ x y b k. stmts_both c g quiet each (depth + 1) r body x y within b k) in
+      let both = iterations_both g c.words inside body (λ x y b k. stmts_both c g quiet each (depth + 1) r body x y within b k) in
       (((λ k. (both k s u a h).0), tt), (both count s u a h).1)
 
   stmts_both : (c : PlainCaller) (g : Serves) → Quiet g → ((k : ℕ) → k < length c.functions → FunctionRests g (callee c k)) → (depth : ℕ) (r : Room) (ts : PlainStmts)
@@ -227,14 +246,14 @@ unfolding FunctionRests
 function_both before most frame g quiet each f rests under args w other = by (is_whole (length before) f) refl
   where
     by : (whole : Bool) → is_whole (length before) f ≡ whole
-        → let h = if whole then grown f (body_taken before most (frame_for before most frame f) f) else f in let s : State = record { frame = begun_frame h under args; world = w } in
+        → let h = if whole then grown f (body_taken before most frame f) else f in let s : State = record { frame = begun_frame h under args; world = w } in
         AllRest g h.body s × ((x : ℕ) → x < slots_of f → (stmts_done g h.body s).frame x ≡ (stmts_done g f.body s).frame x)
     by false is = (rests under args w other, λ x below. refl)
     by true is =
         let p = and_parts (nat_lt f.result (slots_of f)) _ is in
         let q = and_parts (nat_le (stmts_reach f.body) (slots_of f)) _ p.1 in
         let s : State = record { frame = begun_frame f under args; world = w } in
-        let c : PlainCaller = record { functions = before; words = slots_of f; frame = frame_for before most frame f } in
+        let c : PlainCaller = record { functions = before; words = slots_of f; frame = frame } in
         let r : Room = record { left = most - cost f; words = slots_of f; levels = stmts_levels f.body } in
         let both = stmts_both c g quiet each 0 r f.body s s (leb-true (stmts_reach f.body) (slots_of f) q.0)
         (record { frame = λ x below. refl; world = refl }) (rests under args w other) in
@@ -244,8 +263,3 @@ pub function_rests : (g : Serves) (f : PlainFunction)
     → ((under : ℕ) (args : List ℕ) (w : World) → under ≢ 1 → AllRest g f.body (record { frame = begun_frame f under args; world = w })) → FunctionRests g f
 unfolding FunctionRests
 function_rests g f h = h
-
-pub rests_of : (g : Serves) (f : PlainFunction) → FunctionRests g f → (under : ℕ) (args : List ℕ) (w : World) → under ≢ 1
-    → AllRest g f.body (record { frame = begun_frame f under args; world = w })
-unfolding FunctionRests
-rests_of g f h = h

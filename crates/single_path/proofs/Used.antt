@@ -16,7 +16,7 @@ use Rattle.sp_tree.specs.Uses.{Use, reads_cell, reads_array, writes_cell, writes
 use Rattle.sp_tree.specs.Uses as tree
 use Rattle.c_meaning.specs.Actions.{PlainTarget, to_level}
 use Rattle.c_meaning.specs.Actions as actions
-use Rattle.c_meaning.specs.Meaning.{with_variable, names_after, most_turns, parameter_variables}
+use Rattle.c_meaning.specs.Meaning.{with_variable, names_after, most_iterations, parameter_variables}
 use Rattle.c_meaning.specs.Operators.{works_unsigned, gives_unsigned}
 use Rattle.c_tree.specs.Names.{number_of}
 use Rattle.c_meaning.specs.Resolve.{resolved, resolved_steps, resolved_args, resolved_between, resolved_right, resolved_begin, resolved_condition, resolved_next, resolved_stmt, resolved_block, resolved_arms, resolved_otherwise, resolved_body, resolved_items, maybe_sets, variable_target, element_target, slot_cell, slot_array, parameters_in}
@@ -82,8 +82,8 @@ right_used P fs names fresh target (plain.call text args) may all =
 
 head_used : (P : Use → Type 0) (names : Names) (head : PlainHead) → Each (Allows P) (head_uses names head)
     → Do P (maybe_sets (resolved_begin names head)) × ExprDoes P (resolved_condition names head) × StepDoes P (resolved_next names head)
-head_used P names (plain.turns_while condition) all = (tt, expr_used P names None condition all, tt)
-head_used P names (plain.turns_for first from condition to_set to) all =
+head_used P names (plain.iterations_while condition) all = (tt, expr_used P names None condition all, tt)
+head_used P names (plain.iterations_for first from condition to_set to) all =
     let last = sets (named names to_set) ∷ expr_uses names to in
     let others = each_rest (Allows P) (expr_uses names from) (expr_uses names condition ++ last) all.1 in
     let stepped = each_rest (Allows P) (expr_uses names condition) last others in (
@@ -129,7 +129,7 @@ mutual
   stmt_used P fs names (plain.looped bound head body) all =
       let parts = head_used P names head (each_first (Allows P) (head_uses names head) (block_uses names body) all) in
       actions_joined P (maybe_sets (resolved_begin names head))
-      (actions.one (actions.turns (most_turns bound) (resolved_condition names head) (resolved_block fs names body) (resolved_next names head)))
+      (actions.one (actions.iterations (most_iterations bound) (resolved_condition names head) (resolved_block fs names body) (resolved_next names head)))
       parts.0 ((parts.1, block_used P fs names body (each_rest (Allows P) (head_uses names head) (block_uses names body) all), parts.2), tt)
   stmt_used P fs names plain.broken all = (tt, tt)
   stmt_used P fs names plain.continued all = (tt, tt)

@@ -17,8 +17,8 @@ use Rattle.c_tree.specs.Plain.{PlainExpr, PlainRight, PlainStmt, PlainBlock, Pla
 use Rattle.c_tree.specs.Plain as plain
 use Rattle.c_tree.specs.Sizes.{kind_size, expr_size, bound_size, head_size, stmt_size, arms_size, block_size}
 use Rattle.c_tree.specs.Valid.{has_none}
-use Rattle.c_meaning.specs.Actions.{PlainTarget, to_level, PlainAssignment, PlainActions, no_action, action, PlainBranches, no_branch, branch, one, joined, turns}
-use Rattle.c_meaning.specs.Meaning.{with_variable, names_after, most_turns}
+use Rattle.c_meaning.specs.Actions.{PlainTarget, to_level, PlainAssignment, PlainActions, no_action, action, PlainBranches, no_branch, branch, one, joined, iterations}
+use Rattle.c_meaning.specs.Meaning.{with_variable, names_after, most_iterations}
 use Rattle.c_meaning.specs.Resolve.{resolved, resolved_args, resolved_right, resolved_declaration, choice, resolved_stmt, resolved_block, resolved_arms, resolved_otherwise, resolved_body, resolved_begin, resolved_condition, resolved_next, maybe_sets, assignment_to, variable_target, element_target, numbered_call}
 use Rattle.c_meaning.specs.Values.{Names, named}
 use Rattle.c_tree.proofs.Faultless.{none_left, none_right, not_so}
@@ -180,7 +180,7 @@ mutual
       let inner_at = at + bound_size bound + head_size head + 1 in
       let inner_faults = block_faults (looped w (length names)) names inner_at body in
       joined_fits (Callable counts (length fs)) w.in_loop (maybe_sets (resolved_begin of head))
-      (one (turns (most_turns bound) (resolved_condition of head) (resolved_block fs of body) (resolved_next of head)))
+      (one (iterations (most_iterations bound) (resolved_condition of head) (resolved_block fs of body) (resolved_next of head)))
       (sets_fit (Callable counts (length fs)) w.in_loop (resolved_begin of head)) (
         block_fits names fs counts k (looped w (length names)) inner_at body of
             (none_right (head_faults names (at + bound_size bound) head) inner_faults

@@ -28,7 +28,7 @@ own_of _ = 0
 
 pub record Live (p : PartWords) (s : State) : Type 0 where
   pub own : s.frame p.own ≡ 1
-  pub loop : s.frame p.turn ≡ 1
+  pub loop : s.frame p.iteration ≡ 1
   pub function : s.frame p.function ≡ 1
   pub result : s.frame p.result ≡ 0
 
@@ -38,9 +38,9 @@ pub record Went (n : ℕ) (p : PartWords) (s : State) (d : Done) (t : State) : T
   pub same : Agrees n t d.state
   pub result : t.frame p.result ≡ way_value d.way
   pub function : t.frame p.function ≡ function_of d.way
-  pub loop : t.frame p.turn ≡ loop_of d.way
-  pub own : p.own ≢ p.turn → (t.frame p.own ≡ 1) ⊎ ((t.frame p.own ≡ 0) × (d.way ≢ way.On))
-  pub others : (x : ℕ) → n ≤ x → x < p.free → x ≢ p.result → x ≢ p.function → x ≢ p.turn → x ≢ p.own → t.frame x ≡ s.frame x
+  pub loop : t.frame p.iteration ≡ loop_of d.way
+  pub own : p.own ≢ p.iteration → (t.frame p.own ≡ 1) ⊎ ((t.frame p.own ≡ 0) × (d.way ≢ way.On))
+  pub others : (x : ℕ) → n ≤ x → x < p.free → x ≢ p.result → x ≢ p.function → x ≢ p.iteration → x ≢ p.own → t.frame x ≡ s.frame x
 
 -- an action that does not always go elsewhere leaves masks under which what stands after it acts, or is idle
 pub record Acted (a : PlainAction) (n : ℕ) (p : PartWords) (s : State) (d : Done) (t : State) : Type 0 where
@@ -49,13 +49,13 @@ pub record Acted (a : PlainAction) (n : ℕ) (p : PartWords) (s : State) (d : Do
   pub idle : ends a ≡ false → d.way ≢ way.On → Dead p t
 
 pub went_own : (n : ℕ) (p : PartWords) (s : State) (d : Done) (t : State) → Went n p s d t → d.way ≡ way.On → t.frame p.own ≡ 1
-went_own n p s d t h is = by (cases_eq p.own p.turn)
+went_own n p s d t h is = by (cases_eq p.own p.iteration)
   where
     on_there : (t.frame p.own ≡ 1) ⊎ ((t.frame p.own ≡ 0) × (d.way ≢ way.On)) → t.frame p.own ≡ 1
     on_there (inl one_there) = one_there
     on_there (inr other) = absurd (other.1 is)
 
-    by : (p.own ≡ p.turn) ⊎ (p.own ≢ p.turn) → t.frame p.own ≡ 1
+    by : (p.own ≡ p.iteration) ⊎ (p.own ≢ p.iteration) → t.frame p.own ≡ 1
     by (inl same) = ap t.frame same ∙ h.loop ∙ ap loop_of is
     by (inr apart) = on_there (h.own apart)
 
@@ -67,7 +67,7 @@ went_still n p s d t u o h k = record {
   same = still_agrees n p.free t u d.state (omega (arith, o.result, o.function, o.loop, o.own, o.free)) k h.same;
   result = k.frame p.result (omega (arith, o.function, o.loop, o.own, o.free)) ∙ h.result;
   function = k.frame p.function (omega (arith, o.loop, o.own, o.free)) ∙ h.function;
-  loop = k.frame p.turn (omega (arith, o.own, o.free)) ∙ h.loop;
+  loop = k.frame p.iteration (omega (arith, o.own, o.free)) ∙ h.loop;
   own = λ apart. by (h.own apart);
   others = λ x behind below r f q w. k.frame x below ∙ h.others x behind below r f q w;
 }
@@ -106,7 +106,7 @@ low_went n p s t l o live agrees others = record {
   same = agrees;
   result = others p.result o.result (omega (arith, o.function, o.loop, o.own, o.free)) ∙ live.result;
   function = others p.function (omega (arith, o.result, o.function)) (omega (arith, o.loop, o.own, o.free)) ∙ live.function;
-  loop = others p.turn (omega (arith, o.result, o.function, o.loop)) (omega (arith, o.own, o.free)) ∙ live.loop;
+  loop = others p.iteration (omega (arith, o.result, o.function, o.loop)) (omega (arith, o.own, o.free)) ∙ live.loop;
   own = λ apart. inl (others p.own (omega (arith, o.result, o.function, o.loop, o.own)) o.free ∙ live.own);
   others = λ x behind below r f q w. others x behind below;
 }

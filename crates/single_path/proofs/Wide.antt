@@ -1,10 +1,10 @@
 -- Widths of loops.
 use Rattle.std.proofs.Common.{◌≡◌, ◌≢◌, ℕ, zero, suc, ◌+◌, List, refl, ap, ◌∙◌, arith}
 use Rattle.sp_tree.specs.declared.statements.SpStmt.{SpStmt}
-use Rattle.sp_tree.specs.declared.statements.SpStmt.TheViews.{Turns}
+use Rattle.sp_tree.specs.declared.statements.SpStmt.TheViews.{Iterations}
 use Rattle.sp_tree.specs.Formed.{stmt_levels, stmts_levels}
 use Rattle.sp_tree.specs.Shown.{plain_stmt, stmts_of}
-use Rattle.sp_tree.proofs.Forms.{plain_turns}
+use Rattle.sp_tree.proofs.Forms.{plain_iterations}
 use Rattle.single_path.specs.Widths as specs
 use Rattle.single_path.specs.Widths.{capped}
 use Rattle.c_meaning.specs.Actions.{PlainBranches, no_branch, branch}
@@ -26,9 +26,9 @@ pub capped_arms : (bs : PlainBranches) (masks n : ℕ) → n ≡ capped masks �
 capped_arms no_branch masks n is = omega (arith, is)
 capped_arms (branch condition body rest) masks n is = let behind = capped_arms rest masks n is in omega (arith, behind)
 
-pub turns_levels : (t : SpStmt) (count : ℕ) (body shown : List SpStmt) (n : ℕ) → t ≡ Turns count body → shown ≡ body → n ≡ capped (stmts_levels (stmts_of shown))
+pub iterations_levels : (t : SpStmt) (count : ℕ) (body shown : List SpStmt) (n : ℕ) → t ≡ Iterations count body → shown ≡ body → n ≡ capped (stmts_levels (stmts_of shown))
     → capped (n + 1) ≡ capped (stmt_levels (plain_stmt t))
-turns_levels t count body shown n is same inner =
+iterations_levels t count body shown n is same inner =
     let levels = ap (λ b. stmts_levels (stmts_of b)) same in
-    let whole : stmt_levels (plain_stmt t) ≡ 1 + stmts_levels (stmts_of body) = ap (λ x. stmt_levels (plain_stmt x)) is ∙ ap stmt_levels (plain_turns count body) in
+    let whole : stmt_levels (plain_stmt t) ≡ 1 + stmts_levels (stmts_of body) = ap (λ x. stmt_levels (plain_stmt x)) is ∙ ap stmt_levels (plain_iterations count body) in
     omega (arith, levels, whole, inner)

@@ -4,7 +4,7 @@ use Rattle.std.specs.Prelude.{ℕ, zero, suc, ◌+◌, ◌*◌, ◌^◌, ◌==�
 use Rattle.sp_tree.specs.declared.operators.SpBinary.{SpBinary}
 use Rattle.sp_tree.specs.declared.operators.SpBinary.TheVariants as binary
 use Rattle.sp_tree.specs.Plain.{PlainSp, constant, frame_word, between_two}
-use Rattle.c_meaning.specs.Actions.{PlainTarget, to_level, PlainAssignment, PlainAction, sets, calls, chooses, turns, PlainActions, no_action, action, PlainBranches, no_branch, branch}
+use Rattle.c_meaning.specs.Actions.{PlainTarget, to_level, PlainAssignment, PlainAction, sets, calls, chooses, iterations, PlainActions, no_action, action, PlainBranches, no_branch, branch}
 use Rattle.single_path.specs.declared.counted.Start.{Start}
 
 -- ---- forms of expressions
@@ -50,7 +50,7 @@ abbrev mutual
   action_sets level (sets a) = is_level level a.target
   action_sets level (calls k args result) = result_sets level result
   action_sets level (chooses branches otherwise) = branches_set level branches || actions_set level otherwise
-  action_sets level (turns most condition body step) = actions_set level body || step_sets level step
+  action_sets level (iterations most condition body step) = actions_set level body || step_sets level step
   action_sets level _ = false
 
   pub actions_set : ℕ → PlainActions → Bool
@@ -89,7 +89,7 @@ abbrev pub more_by : ℕ → Option PlainAssignment → ℕ
 more_by level None = 0
 more_by level (Some a) = if is_level level a.target then more_in level a.value else 0
 
--- From the first number on, with so much more each turn, the last of the turns is the last below the limit. All numbers
+-- From the first number on, with so much more each iteration, the last of the iterations is the last below the limit. All numbers
 -- are small enough to be the same with a sign and without.
 abbrev pub counts : ℕ → ℕ → ℕ → ℕ → Bool
 counts first more limit zero = false

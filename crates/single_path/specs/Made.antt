@@ -1,10 +1,10 @@
 -- To be believed. The single-path statements that are made of actions (Puschner's single-path transformation):
--- branches become masks, and each loop makes all its turns.
+-- branches become masks, and each loop makes all its iterations.
 use Rattle.std.specs.Prelude.{ℕ, zero, suc, ◌==◌, Bool, true, false, not, if◌then◌else◌, ◌&&◌, ◌||◌, List, Option, None, Some}
 use Rattle.sp_tree.specs.Plain.{PlainSp, constant, frame_word}
 use Rattle.sp_tree.specs.Statements.{PlainSpTarget, to_slot, PlainStmt, masks, writes, overruns, PlainStmts, no_stmt, stmt, one, joined}
 use Rattle.sp_tree.specs.Statements as tree
-use Rattle.c_meaning.specs.Actions.{PlainTarget, to_level, PlainAssignment, PlainAction, sets, calls, transfers, chooses, turns, breaks, continues, returns, PlainActions, no_action, action, PlainBranches, no_branch, branch}
+use Rattle.c_meaning.specs.Actions.{PlainTarget, to_level, PlainAssignment, PlainAction, sets, calls, transfers, chooses, iterations, breaks, continues, returns, PlainActions, no_action, action, PlainBranches, no_branch, branch}
 use Rattle.c_meaning.specs.Actions as actions
 use Rattle.single_path.specs.declared.counted.Start.{Start}
 use Rattle.single_path.specs.declared.exits.Exits.{Exits}
@@ -23,7 +23,7 @@ made_target (actions.to_array array index) = tree.to_array array index
 abbrev pub made_assignment : ℕ → PlainAssignment → PlainStmt
 made_assignment mask a = writes mask (made_target a.target) a.value
 
--- after each turn
+-- after each iteration
 abbrev pub made_step : ℕ → Option PlainAssignment → PlainStmts
 made_step mask None = no_stmt
 made_step mask (Some a) = one (made_assignment mask a)
@@ -48,7 +48,7 @@ made_result p e = if is_zero e then no_stmt else one (writes p.own (to_slot p.re
 -- outside loops the mask of the loop is that of the function
 abbrev pub made_return : PartWords → PlainSp → PlainStmts
 made_return p e = joined (made_result p e) (stmt (masks p.function (returned_function p))
-    (if p.function == p.turn then no_stmt else one (masks p.turn (returned_loop p))))
+    (if p.function == p.iteration then no_stmt else one (masks p.iteration (returned_loop p))))
 
 -- nothing stands after a statement that always goes elsewhere
 abbrev pub ends : PlainAction → Bool
@@ -62,7 +62,7 @@ ends _ = false
 abbrev pub any_exit : Exits
 any_exit = record { breaks = true; continues = true; returns = true }
 
--- those by which the turn that they stand in goes on to its end, and those by which a function is left
+-- those by which the iteration that they stand in goes on to its end, and those by which a function is left
 abbrev pub by_continue : Exits
 by_continue = record { breaks = false; continues = true; returns = false }
 
@@ -77,7 +77,7 @@ out_of_loop q = record { breaks = false; continues = false; returns = q.returns 
 abbrev mutual
   pub action_exits : Exits → PlainAction → Bool
   action_exits q (chooses branches otherwise) = branches_exit q branches || actions_exit q otherwise
-  action_exits q (turns most condition body step) = actions_exit (out_of_loop q) body
+  action_exits q (iterations most condition body step) = actions_exit (out_of_loop q) body
   action_exits q breaks = q.breaks
   action_exits q continues = q.continues
   action_exits q (returns e) = q.returns
@@ -95,7 +95,7 @@ abbrev mutual
 
 -- the mask of the part itself, where it is another than the loop's
 abbrev pub made_on : PartWords → PlainStmts
-made_on p = if p.own == p.turn then no_stmt else one (masks p.own (where_on p))
+made_on p = if p.own == p.iteration then no_stmt else one (masks p.own (where_on p))
 
 -- after arms of which one may go elsewhere
 abbrev pub made_after : PartWords → Bool → PlainStmts
@@ -104,10 +104,10 @@ made_after p exits = if exits then made_on p else no_stmt
 -- after a loop in which the function may return
 abbrev pub made_behind : PartWords → Bool → PlainStmts
 made_behind p exits =
-    if exits then joined (if p.function == p.turn then no_stmt else one (masks p.turn (where_not_returned p))) (made_on p)
+    if exits then joined (if p.function == p.iteration then no_stmt else one (masks p.iteration (where_not_returned p))) (made_on p)
     else no_stmt
 
--- at the end of a turn in which there may be a `continue` the mask is 1 again for the step
+-- at the end of an iteration in which there may be a `continue` the mask is 1 again for the step
 abbrev pub made_again : PartWords → Bool → PlainStmts
 made_again p exits = if exits then one (masks p.free (not_zero (frame_word p.free))) else no_stmt
 
@@ -131,19 +131,19 @@ made_otherwise p exits nothing otherwise =
 
 -- ---- loops
 
--- a turn: where the condition doesn't hold, the loop is left
-abbrev pub made_turn : PartWords → PlainSp → Bool → PlainStmts → Option PlainAssignment → PlainStmts
-made_turn p condition exits body step =
+-- an iteration: where the condition doesn't hold, the loop is left
+abbrev pub made_iteration : PartWords → PlainSp → Bool → PlainStmts → Option PlainAssignment → PlainStmts
+made_iteration p condition exits body step =
     stmt (masks p.free (where_so p.free condition)) (joined body (joined (made_again p exits) (made_step p.free step)))
 
--- a loop that may not turn at all sets the flag where its condition holds
+-- a loop of bound 0 sets the flag where its condition holds
 abbrev pub made_loop : PartWords → ℕ → PlainSp → Bool → PlainStmts → PlainStmts
-made_loop p zero condition exits turn = one (overruns p.own condition)
-made_loop p (suc n) condition exits turn =
+made_loop p zero condition exits iteration = one (overruns p.own condition)
+made_loop p (suc n) condition exits iteration =
     stmt (masks p.free (bit_of p.own))
-    (stmt (tree.turns (suc n) turn) (stmt (overruns p.free condition) (made_behind p exits)))
+    (stmt (tree.iterations (suc n) iteration) (stmt (overruns p.free condition) (made_behind p exits)))
 
--- A loop that counts makes exactly the turns of its bound: what stood right before it began its variable, its body does
+-- A loop that counts makes exactly the iterations of its bound: what stood right before it began its variable, its body does
 -- not set the variable, and always goes on to its end
 abbrev pub is_counted : Option Start → ℕ → PlainSp → PlainActions → Option PlainAssignment → Bool
 is_counted None most condition body step = false
@@ -153,7 +153,7 @@ is_counted (Some s) most condition body step =
 
 -- so it needs no condition, no mask and no flag
 abbrev pub made_counted : PartWords → ℕ → PlainStmts → Option PlainAssignment → PlainStmts
-made_counted p most body step = one (tree.turns most (joined body (made_step p.own step)))
+made_counted p most body step = one (tree.iterations most (joined body (made_step p.own step)))
 
 -- ---- all actions, by what is known right before them
 
@@ -165,12 +165,12 @@ abbrev mutual
   made_action known p (chooses branches otherwise) =
       joined (made_branches p branches (is_no_action otherwise) (λ q. made None q otherwise))
       (made_after p (branches_exit any_exit branches || actions_exit any_exit otherwise))
-  made_action known p (turns most condition body step) =
+  made_action known p (iterations most condition body step) =
       if is_counted known most condition body step then made_counted p most (made None p body) step
       else made_loop p most condition (actions_exit by_return body)
-      (made_turn p condition (actions_exit by_continue body) (made None (in_loop p) body) step)
-  made_action known p breaks = one (masks p.turn (broken p))
-  made_action known p continues = one (masks p.turn (continued p))
+      (made_iteration p condition (actions_exit by_continue body) (made None (in_loop p) body) step)
+  made_action known p breaks = one (masks p.iteration (broken p))
+  made_action known p continues = one (masks p.iteration (continued p))
   made_action known p (returns e) = made_return p e
 
   pub made : Option Start → PartWords → PlainActions → PlainStmts

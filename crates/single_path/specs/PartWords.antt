@@ -13,11 +13,11 @@ abbrev pub in_arm : PartWords → PartWords
 in_arm p = record p { own = p.free; free = p.free + 1 }
 
 abbrev pub in_loop : PartWords → PartWords
-in_loop p = record p { turn = p.free; own = p.free; free = p.free + 1 }
+in_loop p = record p { iteration = p.free; own = p.free; free = p.free + 1 }
 
 -- the words of a function's body, after its first so many words
 abbrev pub outermost : ℕ → PartWords
-outermost words = record { result = words; function = words + 1; turn = words + 1; own = words + 1; free = words + 2 }
+outermost words = record { result = words; function = words + 1; iteration = words + 1; own = words + 1; free = words + 2 }
 
 -- ---- words that masks are set to
 
@@ -65,33 +65,34 @@ where_so mask condition = both (frame_word mask) (truth condition)
 
 -- the mask of what stands after `else`: its part goes on, and the arm was not taken
 abbrev pub where_not_taken : PartWords → PlainSp
-where_not_taken p = both (bit_of p.turn) (between_two binary.BitXor (frame_word p.own) (frame_word p.free))
+where_not_taken p = both (bit_of p.iteration) (between_two binary.BitXor (frame_word p.own) (frame_word p.free))
 
--- the same after an arm that does not go elsewhere. The part's own mask may be 2 only where it is the loop's
+-- the mask of what stands after `else`, where the first arm does not go elsewhere. The part's own mask may be 2 only
+-- where it is the loop's
 abbrev pub where_other : PartWords → PlainSp
 where_other p =
-    between_two binary.BitXor (if p.own == p.turn then bit_of p.own else frame_word p.own) (frame_word p.free)
+    between_two binary.BitXor (if p.own == p.iteration then bit_of p.own else frame_word p.own) (frame_word p.free)
 
--- the mask of a part, after an arm or a loop in which the turn may have ended
+-- the mask of a part, after an arm or a loop in which the iteration may have ended
 abbrev pub where_on : PartWords → PlainSp
-where_on p = both (frame_word p.own) (frame_word p.turn)
+where_on p = both (frame_word p.own) (frame_word p.iteration)
 
 -- the mask of a loop, after one inside it in which the function may have returned
 abbrev pub where_not_returned : PartWords → PlainSp
-where_not_returned p = both (frame_word p.turn) (before_one unary.Minus (frame_word p.function))
+where_not_returned p = both (frame_word p.iteration) (before_one unary.Minus (frame_word p.function))
 
 -- `break` takes 1 from the loop's mask, and `continue` adds 1
 abbrev pub broken : PartWords → PlainSp
-broken p = less_by (frame_word p.turn) (bit_of p.own)
+broken p = less_by (frame_word p.iteration) (bit_of p.own)
 
 abbrev pub continued : PartWords → PlainSp
-continued p = between_two binary.Plus (frame_word p.turn) (bit_of p.own)
+continued p = between_two binary.Plus (frame_word p.iteration) (bit_of p.own)
 
 -- `return` takes 1 from the function's mask and from the loop's, where its own is 1; that one may be 2 only where it is
 -- the loop's
 abbrev pub returned_function : PartWords → PlainSp
-returned_function p = less_by (frame_word p.function) (if p.own == p.turn then bit_of p.own else frame_word p.own)
+returned_function p = less_by (frame_word p.function) (if p.own == p.iteration then bit_of p.own else frame_word p.own)
 
 abbrev pub returned_loop : PartWords → PlainSp
 returned_loop p =
-    if p.own == p.turn then both (frame_word p.turn) (constant 2) else less_by (frame_word p.turn) (frame_word p.own)
+    if p.own == p.iteration then both (frame_word p.iteration) (constant 2) else less_by (frame_word p.iteration) (frame_word p.own)

@@ -30,7 +30,7 @@ abbrev pub made_body : PartWords → PlainActions → PlainStmts
 made_body p body = stmt (masks p.function (begun_mask p)) (made None p body)
 
 -- After its variables stand what it returns, its mask, and the masks of its arms and loops; then as many words as code
--- keeps for its turns and for its return
+-- keeps for its iterations and for its return
 abbrev pub made_function : ℕ → PlainActions → PlainFunction
 made_function parameters body =
     let p = outermost (variables parameters body) in

@@ -1,7 +1,7 @@
 -- To be believed. How many words of a frame actions need.
 use Rattle.std.specs.Prelude.{ℕ, zero, suc, ◌+◌, ◌-◌, ◌^◌, min, max, List, [], ◌∷◌, Option, None, Some}
 use Rattle.sp_tree.specs.Plain.{PlainSp, constant, frame_word, cell_word, array_word, before_one, between_two}
-use Rattle.c_meaning.specs.Actions.{PlainTarget, to_level, to_cell, to_array, PlainAssignment, PlainAction, sets, calls, transfers, chooses, turns, breaks, continues, returns, PlainActions, no_action, action, PlainBranches, no_branch, branch}
+use Rattle.c_meaning.specs.Actions.{PlainTarget, to_level, to_cell, to_array, PlainAssignment, PlainAction, sets, calls, transfers, chooses, iterations, breaks, continues, returns, PlainActions, no_action, action, PlainBranches, no_branch, branch}
 
 -- ---- words of variables: one more than the highest level that is named
 
@@ -40,7 +40,7 @@ abbrev mutual
   action_words (transfers core source target count) =
       max (expr_words source) (max (expr_words target) (expr_words count))
   action_words (chooses branches otherwise) = max (branches_words branches) (words otherwise)
-  action_words (turns most condition body step) = max (expr_words condition) (max (words body) (step_words step))
+  action_words (iterations most condition body step) = max (expr_words condition) (max (words body) (step_words step))
   action_words breaks = 0
   action_words continues = 0
   action_words (returns e) = expr_words e
@@ -62,7 +62,7 @@ result_masks (Some (to_level at)) = 0
 result_masks (Some (to_cell cell)) = 1
 result_masks (Some (to_array array index)) = 1
 
--- a loop that may not turn at all has none
+-- a loop of bound 0 has none
 abbrev pub loop_masks : ℕ → ℕ → ℕ
 loop_masks zero body = 0
 loop_masks (suc n) body = 1 + body
@@ -73,7 +73,7 @@ abbrev mutual
   action_masks (calls k args result) = result_masks result
   action_masks (transfers core source target count) = 0
   action_masks (chooses branches otherwise) = branches_masks branches (masks otherwise)
-  action_masks (turns most condition body step) = loop_masks most (masks body)
+  action_masks (iterations most condition body step) = loop_masks most (masks body)
   action_masks breaks = 0
   action_masks continues = 0
   action_masks (returns e) = 0

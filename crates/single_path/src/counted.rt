@@ -1,4 +1,4 @@
-//! Loops that count: how often they turn is known before they begin.
+//! Loops that count: how many iterations they make is known before they begin.
 ghost use Rattle.std.specs.Prelude.{◌≡◌, ◌&&◌, ◌||◌, not, option_map};
 ghost use Rattle.sp_tree.specs.Plain.{plain_sp};
 ghost use Rattle.c_meaning.specs.Actions as plain;
@@ -232,15 +232,15 @@ fn more_by(level: u32, step: &Option<Assignment>) -> u32
     }
 }
 
-// whether the last of so many turns is the last below the limit
+// whether the last of so many iterations is the last below the limit
 #[tactic(auto, using(crate::proofs::Counting::counts_by))]
-fn counts(first: u32, more: u32, limit: u64, turns: u32) -> bool
-    ensures { result ≡ specs.counts first more limit turns }
+fn counts(first: u32, more: u32, limit: u64, iterations: u32) -> bool
+    ensures { result ≡ specs.counts first more limit iterations }
 {
-    if turns == 0 {
+    if iterations == 0 {
         return false;
     }
-    let last = first as u64 + (turns as u64 - 1) * more as u64;
+    let last = first as u64 + (iterations as u64 - 1) * more as u64;
     let end = last + more as u64;
     last < limit && (limit <= end && end < 1 << 31)
 }
@@ -254,7 +254,7 @@ fn stays(level: u32, body: &[Action]) -> bool
     !all_set(level, body) && !may_exit(any_exit(), body)
 }
 
-/// Whether a loop makes exactly the turns of its bound, by what is known right before it.
+/// Whether a loop makes exactly the iterations of its bound, by what is known right before it.
 pub fn is_counted(
     known: Option<Start>,
     max: u32,

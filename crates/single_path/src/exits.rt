@@ -25,7 +25,7 @@ pub fn any_exit() -> Exits
     }
 }
 
-/// That by which a turn goes on to its end.
+/// That by which an iteration goes on to its end.
 pub fn by_continue() -> Exits
     ensures { result ≡ specs.by_continue }
 {

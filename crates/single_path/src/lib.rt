@@ -1,5 +1,5 @@
 //! Single-path conversion of C tasks (Puschner's single-path transformation): branches become masks,
-//! and each loop makes all the turns of its bound.
+//! and each loop makes all the iterations of its bound.
 //!
 //! [`convert`] gives the single-path tree of a valid program. It is exactly `specs/Single.antt` of the program; and
 //! what the tree comes to is what the program means, for every input and all words that the shared memories begin with.

@@ -102,7 +102,7 @@ pub fn begun_mask(alloc: Global, part: PartWords) -> Result<SpExpr, OutOfMemory>
 pub fn where_not_taken(alloc: Global, part: PartWords) -> Result<SpExpr, OutOfMemory>
     ensures { IfOk result (λ m. plain_sp m ≡ specs.where_not_taken part) }
 {
-    let goes_on = bit_of(alloc, part.turn)?;
+    let goes_on = bit_of(alloc, part.iteration)?;
     let other = between_operands(alloc, SpBinary::BitXor, word(part.own), word(part.free))?;
     between_operands(alloc, SpBinary::BitAnd, goes_on, other)
 }
@@ -110,15 +110,15 @@ pub fn where_not_taken(alloc: Global, part: PartWords) -> Result<SpExpr, OutOfMe
 // the part's own mask, of which the lowest bit alone counts where it is the loop's
 fn own_bit(alloc: Global, part: PartWords) -> Result<SpExpr, OutOfMemory>
     ensures { IfOk result (λ m. plain_sp m
-        ≡ (if part.own == part.turn then specs.bit_of part.own else frame_word part.own)) }
+        ≡ (if part.own == part.iteration then specs.bit_of part.own else frame_word part.own)) }
 {
-    if part.own == part.turn {
+    if part.own == part.iteration {
         return bit_of(alloc, part.own);
     }
     Ok(word(part.own))
 }
 
-/// The same after an arm that does not go elsewhere.
+/// The mask of what stands after `else`, where the first arm does not go elsewhere.
 pub fn where_other(alloc: Global, part: PartWords) -> Result<SpExpr, OutOfMemory>
     ensures { IfOk result (λ m. plain_sp m ≡ specs.where_other part) }
 {
@@ -137,11 +137,16 @@ pub fn otherwise_mask(alloc: Global, part: PartWords, exits: bool) -> Result<SpE
     where_other(alloc, part)
 }
 
-/// The mask of a part, after an arm or a loop in which the turn may have ended.
+/// The mask of a part, after an arm or a loop in which the iteration may have ended.
 pub fn where_on(alloc: Global, part: PartWords) -> Result<SpExpr, OutOfMemory>
     ensures { IfOk result (λ m. plain_sp m ≡ specs.where_on part) }
 {
-    between_operands(alloc, SpBinary::BitAnd, word(part.own), word(part.turn))
+    between_operands(
+        alloc,
+        SpBinary::BitAnd,
+        word(part.own),
+        word(part.iteration),
+    )
 }
 
 /// The mask of a loop, after one inside it in which the function may have returned.
@@ -149,30 +154,30 @@ pub fn where_not_returned(alloc: Global, part: PartWords) -> Result<SpExpr, OutO
     ensures { IfOk result (λ m. plain_sp m ≡ specs.where_not_returned part) }
 {
     let all_bits = before_operand(alloc, SpUnary::Minus, word(part.function))?;
-    between_operands(alloc, SpBinary::BitAnd, word(part.turn), all_bits)
+    between_operands(alloc, SpBinary::BitAnd, word(part.iteration), all_bits)
 }
 
-/// The turn's mask after `break`.
+/// The iteration's mask after `break`.
 pub fn broken(alloc: Global, part: PartWords) -> Result<SpExpr, OutOfMemory>
     ensures { IfOk result (λ m. plain_sp m ≡ specs.broken part) }
 {
     let own = bit_of(alloc, part.own)?;
-    between_operands(alloc, SpBinary::Minus, word(part.turn), own)
+    between_operands(alloc, SpBinary::Minus, word(part.iteration), own)
 }
 
-/// The turn's mask after `continue`.
+/// The iteration's mask after `continue`.
 pub fn continued(alloc: Global, part: PartWords) -> Result<SpExpr, OutOfMemory>
     ensures { IfOk result (λ m. plain_sp m ≡ specs.continued part) }
 {
     let own = bit_of(alloc, part.own)?;
-    between_operands(alloc, SpBinary::Plus, word(part.turn), own)
+    between_operands(alloc, SpBinary::Plus, word(part.iteration), own)
 }
 
 /// The function's mask after `return`.
 pub fn returned_function(alloc: Global, part: PartWords) -> Result<SpExpr, OutOfMemory>
     ensures { IfOk result (λ m. plain_sp m ≡ specs.returned_function part) }
 {
-    let own = if part.own == part.turn {
+    let own = if part.own == part.iteration {
         bit_of(alloc, part.own)?
     } else {
         word(part.own)
@@ -180,13 +185,13 @@ pub fn returned_function(alloc: Global, part: PartWords) -> Result<SpExpr, OutOf
     between_operands(alloc, SpBinary::Minus, word(part.function), own)
 }
 
-/// The turn's mask after `return` in a loop.
-pub fn returned_turn(alloc: Global, part: PartWords) -> Result<SpExpr, OutOfMemory>
+/// The iteration's mask after `return` in a loop.
+pub fn returned_iteration(alloc: Global, part: PartWords) -> Result<SpExpr, OutOfMemory>
     ensures { IfOk result (λ m. plain_sp m ≡ specs.returned_loop part) }
 {
-    if part.own == part.turn {
-        between_operands(alloc, SpBinary::BitAnd, word(part.turn), number(2))
+    if part.own == part.iteration {
+        between_operands(alloc, SpBinary::BitAnd, word(part.iteration), number(2))
     } else {
-        between_operands(alloc, SpBinary::Minus, word(part.turn), word(part.own))
+        between_operands(alloc, SpBinary::Minus, word(part.iteration), word(part.own))
     }
 }

@@ -9,10 +9,10 @@ pub struct PartWords {
     pub result: u32,
     /// The mask of the function: 1 until it returns, and then 0.
     pub function: u32,
-    /// The mask of the innermost loop's turn: 1 while it goes on, 2 after a `continue`, and 0 where the loop was left.
+    /// The mask of the innermost loop's iteration: 1 while it goes on, 2 after a `continue`, and 0 where the loop was left.
     /// Outside loops it is that of the function.
-    pub turn: u32,
-    /// The mask of the part itself: the turn's, or that of an arm.
+    pub iteration: u32,
+    /// The mask of the part itself: the iteration's, or that of an arm.
     pub own: u32,
     /// The first word that nothing names.
     pub free: u32,
@@ -28,7 +28,7 @@ impl PartWords {
         PartWords {
             result: words,
             function: mask,
-            turn: mask,
+            iteration: mask,
             own: mask,
             free: words + 2,
         }
@@ -52,7 +52,7 @@ impl PartWords {
         ensures { result ≡ specs.in_loop self }
     {
         PartWords {
-            turn: self.free,
+            iteration: self.free,
             own: self.free,
             free: self.free + 1,
             ..self

@@ -13,7 +13,7 @@ ghost use Rattle.single_path.specs.Widths as widths;
 use crate::counted::{Start, is_counted, start_of};
 use crate::exits::{any_exit, by_continue, by_return, choice_exits, ends, may_exit};
 use crate::masks::{
-    bit_of, broken, continued, not_zero, otherwise_mask, returned_function, returned_turn,
+    bit_of, broken, continued, not_zero, otherwise_mask, returned_function, returned_iteration,
     where_not_returned, where_on, where_so, word,
 };
 use crate::part_words::PartWords;
@@ -68,12 +68,12 @@ fn add_overrun(out: &mut Vec<SpStmt>, mask: u32, value: SpExpr) -> Result<(), Ou
     add(out, SpStmt::Overrun { mask, value })
 }
 
-#[tactic(auto, using(sp_tree::proofs::Forms::plain_turns))]
-fn add_turns(out: &mut Vec<SpStmt>, count: u32, body: List<SpStmt>) -> Result<(), OutOfMemory>
+#[tactic(auto, using(sp_tree::proofs::Forms::plain_iterations))]
+fn add_iterations(out: &mut Vec<SpStmt>, count: u32, body: List<SpStmt>) -> Result<(), OutOfMemory>
     ensures { OnOk result (stmts_of out.new.items
-        ≡ joined (stmts_of out.old.items) (one (tree.turns count (stmts_of body)))) }
+        ≡ joined (stmts_of out.old.items) (one (tree.iterations count (stmts_of body)))) }
 {
-    add(out, SpStmt::Turns { count, body })
+    add(out, SpStmt::Iterations { count, body })
 }
 
 // what an action sets
@@ -116,7 +116,7 @@ fn add_assignment(
     add_write(out, mask, target, value)
 }
 
-// what is set after each turn
+// what is set after each iteration
 #[tactic(auto, using(crate::proofs::Stated::joined_none))]
 fn add_step(
     alloc: Global,
@@ -269,9 +269,9 @@ fn add_return(
     add_result(alloc, part, out, e)?;
     let function = returned_function(alloc, part)?;
     add_mask(out, part.function, function)?;
-    if part.function != part.turn {
-        let turn = returned_turn(alloc, part)?;
-        add_mask(out, part.turn, turn)?;
+    if part.function != part.iteration {
+        let iteration = returned_iteration(alloc, part)?;
+        add_mask(out, part.iteration, iteration)?;
     }
     Ok(())
 }
@@ -281,16 +281,16 @@ fn add_break(alloc: Global, part: PartWords, out: &mut Vec<SpStmt>) -> Result<()
     ensures { OnOk result (stmts_of out.new.items
         ≡ joined (stmts_of out.old.items) (specs.made_action None part plain.breaks)) }
 {
-    let turn = broken(alloc, part)?;
-    add_mask(out, part.turn, turn)
+    let iteration = broken(alloc, part)?;
+    add_mask(out, part.iteration, iteration)
 }
 
 fn add_continue(alloc: Global, part: PartWords, out: &mut Vec<SpStmt>) -> Result<(), OutOfMemory>
     ensures { OnOk result (stmts_of out.new.items
         ≡ joined (stmts_of out.old.items) (specs.made_action None part plain.continues)) }
 {
-    let turn = continued(alloc, part)?;
-    add_mask(out, part.turn, turn)
+    let iteration = continued(alloc, part)?;
+    add_mask(out, part.iteration, iteration)
 }
 
 // ---- arms
@@ -343,7 +343,7 @@ fn repair(alloc: Global, part: PartWords, out: &mut Vec<SpStmt>) -> Result<(), O
     ensures { OnOk result (stmts_of out.new.items
         ≡ joined (stmts_of out.old.items) (specs.made_on part)) }
 {
-    if part.own == part.turn {
+    if part.own == part.iteration {
         return Ok(());
     }
     let own = where_on(alloc, part)?;
@@ -371,15 +371,19 @@ fn repair_after(
 
 // the mask of the loop around, where there is one
 #[tactic(auto, using(crate::proofs::Stated::joined_none))]
-fn repair_turn(alloc: Global, part: PartWords, out: &mut Vec<SpStmt>) -> Result<(), OutOfMemory>
+fn repair_iteration(
+    alloc: Global,
+    part: PartWords,
+    out: &mut Vec<SpStmt>,
+) -> Result<(), OutOfMemory>
     ensures { OnOk result (stmts_of out.new.items ≡ joined (stmts_of out.old.items)
-        (if part.function == part.turn then no_stmt else one (masks part.turn (part_words.where_not_returned part)))) }
+        (if part.function == part.iteration then no_stmt else one (masks part.iteration (part_words.where_not_returned part)))) }
 {
-    if part.function == part.turn {
+    if part.function == part.iteration {
         return Ok(());
     }
     let outer = where_not_returned(alloc, part)?;
-    add_mask(out, part.turn, outer)
+    add_mask(out, part.iteration, outer)
 }
 
 // after a loop in which the function may return
@@ -396,30 +400,30 @@ fn repair_behind(
     if !exits {
         return Ok(());
     }
-    repair_turn(alloc, part, out)?;
+    repair_iteration(alloc, part, out)?;
     repair(alloc, part, out)
 }
 
-// at the end of a turn in which there may be a `continue`
+// at the end of an iteration in which there may be a `continue`
 #[tactic(auto, using(crate::proofs::Stated::joined_none))]
 fn add_again(
     alloc: Global,
     part: PartWords,
-    turn: &mut Vec<SpStmt>,
+    iteration: &mut Vec<SpStmt>,
     exits: bool,
 ) -> Result<(), OutOfMemory>
-    ensures { OnOk result (stmts_of turn.new.items
-        ≡ joined (stmts_of turn.old.items) (specs.made_again part exits)) }
+    ensures { OnOk result (stmts_of iteration.new.items
+        ≡ joined (stmts_of iteration.old.items) (specs.made_again part exits)) }
 {
     if !exits {
         return Ok(());
     }
     let again = not_zero(alloc, word(part.free))?;
-    add_mask(turn, part.free, again)
+    add_mask(iteration, part.free, again)
 }
 
-// the test of a turn
-fn begin_turn(
+// the test of an iteration
+fn begin_iteration(
     alloc: Global,
     part: PartWords,
     condition: &SpExpr,
@@ -427,31 +431,31 @@ fn begin_turn(
     ensures { IfOk result (λ r. stmts_of r.items
         ≡ one (masks part.free (part_words.where_so part.free (plain_sp condition.now)))) }
 {
-    let mut turn = Vec::new(alloc);
+    let mut iteration = Vec::new(alloc);
     let holds = copied(alloc, condition)?;
     let goes_on = where_so(alloc, part.free, holds)?;
-    add_mask(&mut turn, part.free, goes_on)?;
-    Ok(turn)
+    add_mask(&mut iteration, part.free, goes_on)?;
+    Ok(iteration)
 }
 
-// the end of a turn
+// the end of an iteration
 #[tactic(auto, using(crate::proofs::Stated::joined_joined))]
-fn end_turn(
+fn end_iteration(
     alloc: Global,
     part: PartWords,
-    turn: &mut Vec<SpStmt>,
+    iteration: &mut Vec<SpStmt>,
     exits: bool,
     step: &Option<Assignment>,
 ) -> Result<(), OutOfMemory>
-    ensures { OnOk result (stmts_of turn.new.items ≡ joined (stmts_of turn.old.items)
+    ensures { OnOk result (stmts_of iteration.new.items ≡ joined (stmts_of iteration.old.items)
         (joined (specs.made_again part exits)
         (specs.made_step part.free (option_map plain_assignment step.now)))) }
 {
-    add_again(alloc, part, turn, exits)?;
-    add_step(alloc, turn, part.free, step)
+    add_again(alloc, part, iteration, exits)?;
+    add_step(alloc, iteration, part.free, step)
 }
 
-// the flag of a loop that may not turn at all
+// the flag of a loop of bound 0
 fn add_flag(
     alloc: Global,
     out: &mut Vec<SpStmt>,
@@ -465,7 +469,7 @@ fn add_flag(
     add_overrun(out, mask, holds)
 }
 
-// a loop that turns
+// a loop of one iteration or more
 #[tactic(auto, using(crate::proofs::Stated::three_more))]
 fn add_loop(
     alloc: Global,
@@ -474,16 +478,16 @@ fn add_loop(
     max: u32,
     condition: &SpExpr,
     exits: bool,
-    turn: List<SpStmt>,
+    iteration: List<SpStmt>,
 ) -> Result<(), OutOfMemory>
     ensures { OnOk result (stmts_of out.new.items ≡ joined (stmts_of out.old.items)
         (stmt (masks part.free (part_words.bit_of part.own))
-        (stmt (tree.turns max (stmts_of turn)) (stmt (overruns part.free (plain_sp condition.now))
+        (stmt (tree.iterations max (stmts_of iteration)) (stmt (overruns part.free (plain_sp condition.now))
         (specs.made_behind part exits))))) }
 {
     let on = bit_of(alloc, part.own)?;
     add_mask(out, part.free, on)?;
-    add_turns(out, max, turn)?;
+    add_iterations(out, max, iteration)?;
     add_flag(alloc, out, part.free, condition)?;
     repair_behind(alloc, part, out, exits)
 }
@@ -654,10 +658,10 @@ fn add_counted(
         (option_map plain_assignment step.now))) }
 {
     let alloc = *out.allocator();
-    let mut turn = Vec::new(alloc);
-    add_all(alloc, part, &mut turn, body)?;
-    add_step(alloc, &mut turn, part.own, step)?;
-    add_turns(out, max, List::of(turn))
+    let mut iteration = Vec::new(alloc);
+    add_all(alloc, part, &mut iteration, body)?;
+    add_step(alloc, &mut iteration, part.own, step)?;
+    add_iterations(out, max, List::of(iteration))
 }
 
 // a loop
@@ -674,18 +678,26 @@ fn add_repeated(
     requires { part.free + widths.loop_masks max (widths.masks (actions_of body.now)) < 2 ^ 32 }
     ensures { OnOk result (stmts_of out.new.items ≡ joined (stmts_of out.old.items)
         (specs.made_loop part max (plain_sp condition.now) (specs.actions_exit specs.by_return (actions_of body.now))
-        (specs.made_turn part (plain_sp condition.now) (specs.actions_exit specs.by_continue (actions_of body.now))
+        (specs.made_iteration part (plain_sp condition.now) (specs.actions_exit specs.by_continue (actions_of body.now))
         (specs.made None (part_words.in_loop part) (actions_of body.now)) (option_map plain_assignment step.now)))) }
 {
     let alloc = *out.allocator();
     if max == 0 {
         return add_flag(alloc, out, part.own, condition);
     }
-    let mut turn = begin_turn(alloc, part, condition)?;
+    let mut iteration = begin_iteration(alloc, part, condition)?;
     let inner = part.in_loop();
-    add_all(alloc, inner, &mut turn, body)?;
+    add_all(alloc, inner, &mut iteration, body)?;
     let again = may_exit(by_continue(), body);
-    end_turn(alloc, part, &mut turn, again, step)?;
+    end_iteration(alloc, part, &mut iteration, again, step)?;
     let returned = may_exit(by_return(), body);
-    add_loop(alloc, part, out, max, condition, returned, List::of(turn))
+    add_loop(
+        alloc,
+        part,
+        out,
+        max,
+        condition,
+        returned,
+        List::of(iteration),
+    )
 }

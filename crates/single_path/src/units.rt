@@ -44,7 +44,7 @@ fn function(alloc: Global, parameters: usize, body: &[Action]) -> Result<SpFunct
     add_all(alloc, part, &mut made, body)?;
     let levels = exact_levels(made.as_slice());
     Ok(SpFunction {
-        // after the words that are named stand those that code keeps for turns and the return
+        // after the words that are named stand those that code keeps for iterations and the return
         frame: part.free + width.masks + (levels + 2),
         parameters,
         mask: part.function,

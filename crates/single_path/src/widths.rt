@@ -1,4 +1,4 @@
-//! How many words of a frame functions need. What passes 2^32 - 1 is told as that; no number of a valid program does.
+//! How many words of a frame functions need. What passes 2^32 - 1 is counted as that; no number of a valid program does.
 ghost use Rattle.std.specs.Prelude.{◌≡◌, ◌+◌, ◌<◌, ◌^◌, map, max, option_map};
 ghost use Rattle.sp_tree.specs.Formed as formed;
 ghost use Rattle.sp_tree.specs.Plain.{plain_sp};
@@ -145,8 +145,8 @@ fn repeated(most: u32, condition: &SpExpr, body: Width, next: &Option<Assignment
     ensures masks { result.masks ≡ specs.capped (specs.loop_masks most body.masks) }
 {
     let tested = expression(condition);
-    let behind_turns = step(next);
-    let variables = tested.max(body.variables.max(behind_turns));
+    let behind_iterations = step(next);
+    let variables = tested.max(body.variables.max(behind_iterations));
     let masks = if most == 0 {
         0
     } else {
@@ -206,7 +206,7 @@ fn one(action: &Action) -> Width
             condition,
             body,
             step,
-        } => turns(*max, condition, body.as_slice(), step),
+        } => iterations(*max, condition, body.as_slice(), step),
         Action::Break => NOTHING,
         Action::Continue => NOTHING,
         Action::Return { value } => value_width(value),
@@ -259,13 +259,13 @@ fn arms(branches: &[Branch], last: Width) -> Width
 
 #[cycle(width)]
 #[tactic(auto, using(crate::proofs::Wide::capped_loop))]
-fn turns(most: u32, condition: &SpExpr, body: &[Action], next: &Option<Assignment>) -> Width
+fn iterations(most: u32, condition: &SpExpr, body: &[Action], next: &Option<Assignment>) -> Width
     ensures variables { result.variables
         ≡ specs.capped (specs.action_words
-        (plain.turns most (plain_sp condition.now) (actions_of body.now) (option_map plain_assignment next.now))) }
+        (plain.iterations most (plain_sp condition.now) (actions_of body.now) (option_map plain_assignment next.now))) }
     ensures masks { result.masks
         ≡ specs.capped (specs.action_masks
-        (plain.turns most (plain_sp condition.now) (actions_of body.now) (option_map plain_assignment next.now))) }
+        (plain.iterations most (plain_sp condition.now) (actions_of body.now) (option_map plain_assignment next.now))) }
 {
     let inner = width_of(body);
     repeated(most, condition, inner, next)
@@ -281,7 +281,7 @@ pub fn exact_width(actions: &[Action]) -> Width
     width_of(actions)
 }
 
-// ---- statements: how many levels of turns stand inside one another
+// ---- statements: how many levels of iterations stand inside one another
 
 #[cycle(levels)]
 #[tactic(auto, unfolding(sp_tree::specs::Shown::plain_stmt))]
@@ -289,7 +289,7 @@ fn statement_levels(t: &SpStmt) -> u32
     ensures { result ≡ specs.capped (formed.stmt_levels (plain_stmt t.now)) }
 {
     match t {
-        SpStmt::Turns { body, .. } => {
+        SpStmt::Iterations { body, .. } => {
             let inner = levels_of(body.as_slice());
             inner.saturating_add(1)
         }
@@ -297,7 +297,7 @@ fn statement_levels(t: &SpStmt) -> u32
     }
 }
 
-// how many levels of turns stand inside one another in statements
+// how many levels of iterations stand inside one another in statements
 #[cycle(levels)]
 #[tactic(auto)]
 fn levels_of(stmts: &[SpStmt]) -> u32
@@ -311,7 +311,7 @@ fn levels_of(stmts: &[SpStmt]) -> u32
     most
 }
 
-/// How many levels of turns stand inside one another in statements, where a word counts them.
+/// How many levels of iterations stand inside one another in statements, where a word counts them.
 pub fn exact_levels(stmts: &[SpStmt]) -> u32
     requires { formed.stmts_levels (stmts_of stmts.now) < 2 ^ 32 }
     ensures { result ≡ formed.stmts_levels (stmts_of stmts.now) }

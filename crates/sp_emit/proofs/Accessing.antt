@@ -18,7 +18,7 @@ use Rattle.patmos_sem.specs.declared.effects.Effect.TheVariants as effect
 use Rattle.sp_tree.specs.Uses.{Use}
 use Rattle.sp_shape.proofs.Whole.{behind, once_whole, run_append, run_whole}
 use Rattle.sp_shape.specs.Bundles.{part_all, parts_all}
-use Rattle.sp_shape.specs.Formed.{is_call, is_way, is_turn, part_formed, parts_formed}
+use Rattle.sp_shape.specs.Formed.{is_call, is_way, is_iteration, part_formed, parts_formed}
 use Rattle.sp_shape.specs.Parts.{PlainPart, straight, repeats, calls_to, leaves, PlainParts, no_part, part}
 use Rattle.sp_shape.specs.Run.{Run, IsWhole, Sources, once, effected, run, begun}
 use Rattle.sp_shape.specs.Trail.{Step, begins, all_done, copies, part_trail, parts_trail}
@@ -163,8 +163,8 @@ mutual
   near_part : (Named : Use → Type 0) (f : ℕ → List Step) (number : ℕ) → ((k : ℕ) → k < number → AsksOnly Named (f k)) → (p : PlainPart) → part_formed number p ≡ true → part_all is_near p ≡ true → AsksOnly Named (part_trail f p)
   near_part Named f number called (straight bs) formed near = near_asks Named bs near
   near_part Named f number called (repeats n body tail) formed near =
-      let a = and_parts (nat_lt 0 n) (parts_formed number body && is_turn tail) formed in
-      let b = and_parts (parts_formed number body) (is_turn tail) a.1 in
+      let a = and_parts (nat_lt 0 n) (parts_formed number body && is_iteration tail) formed in
+      let b = and_parts (parts_formed number body) (is_iteration tail) a.1 in
       let c = and_parts (parts_all is_near body) (list_all is_near tail) near in
       asks_copies n (parts_trail f body ++ all_done tail) (asks_append (near_parts Named f number called body b.0 c.0) (near_asks Named tail c.1))
   near_part Named f number called (calls_to k tail) formed near =

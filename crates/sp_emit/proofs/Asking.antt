@@ -1,4 +1,4 @@
--- Which flows are asked for: each loop's branch in all turns but the last.
+-- Which flows are asked for: each loop's branch in all iterations but the last.
 use Rattle.std.proofs.Common.{◌≡◌, ℕ, suc, ◌+◌, ◌-◌, ◌%◌, ◌^◌, ◌<◌, ◌≤◌, ◌==◌, Bool, true, false, not, if◌then◌else◌, List, [], ◌∷◌, ◌++◌, pos, refl, ap, ◌∙◌, arith, true≢false}
 use Rattle.std.proofs.lemmas.Bool.{and_parts, not-true}
 use Rattle.patmos_instr.specs.Bundles.{Slots}

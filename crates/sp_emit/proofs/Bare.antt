@@ -1,5 +1,5 @@
 -- The code of statements reads and stores nothing of the stack, where registers hold all words of their tree and they call
--- no function and make no turns.
+-- no function and make no iterations.
 use Rattle.std.proofs.Common.{◌≡◌, ℕ, ◌+◌, ◌<◌, ◌≤◌, ◌==◌, Bool, true, false, not, ◌&&◌, if◌then◌else◌, List, nat_lt, refl, sym, ap, ◌∙◌, arith, true≢false}
 use Rattle.std.specs.Prelude.{nat_le}
 use Rattle.std.specs.List.{list_all}
@@ -13,7 +13,7 @@ use Rattle.c_world.specs.declared.region.Region.{Region}
 use Rattle.sp_tree.specs.Formed.{slots_of, names_words, array_formed, send_formed, target_formed, expr_formed, stmt_formed, stmts_formed, stmt_levels, stmts_levels}
 use Rattle.sp_tree.specs.Need.{need}
 use Rattle.sp_tree.specs.Plain.{PlainSp, constant, frame_word, cell_word, array_word, before_one, between_two}
-use Rattle.sp_tree.specs.Statements.{PlainSpTarget, to_slot, to_cell, to_array, PlainStmt, masks, writes, calls, transfers, overruns, turns, PlainStmts, no_stmt, stmt, PlainFunction}
+use Rattle.sp_tree.specs.Statements.{PlainSpTarget, to_slot, to_cell, to_array, PlainStmt, masks, writes, calls, transfers, overruns, iterations, PlainStmts, no_stmt, stmt, PlainFunction}
 use Rattle.sp_tree.specs.declared.operators.SpBinary.{SpBinary}
 use Rattle.sp_tree.specs.declared.operators.SpUnary.{SpUnary}
 use Rattle.sp_shape.specs.Bundles.{parts_all}
@@ -25,14 +25,15 @@ use Rattle.sp_shape.specs.Parts.{straight, PlainParts, one, joined}
 use Rattle.sp_emit.specs.Chains.{stmt_calls, stmts_call}
 use Rattle.sp_emit.specs.Division.{unsigned_quotient_to}
 use Rattle.sp_emit.specs.Divisors.{factor_rest_to}
-use Rattle.sp_emit.specs.Expressions.{unary_code, binary_code, held_code, cell_code, element_code, number_of, expr_code, operand_code, value_at, is_immediate, address_of}
+use Rattle.sp_emit.specs.Expressions.{unary_code, binary_code, held_code, cell_code, element_code, number_of, value_code, operands_code, expr_to, expr_code, value_at, is_immediate, address_of}
 use Rattle.sp_emit.specs.Instructions.{always, where_so, set_number}
 use Rattle.sp_emit.specs.Places.{read_op, read_word, fetch_op, fetch_word, set_op, set_word}
 use Rattle.sp_emit.specs.Statements.{cell_write, element_write, target_write, send_code, overrun_code, slot_set, stmt_code, stmts_code}
 use Rattle.sp_emit.specs.declared.registers.TheConstants.{FIRST, SPARE, OVERRUN, TEST}
 use Rattle.sp_emit.proofs.Held.{held_is}
+use Rattle.sp_emit.proofs.Lasts.{is_alu, write_is, guarded_each}
 use Rattle.sp_emit.proofs.Numbers.{number_op_is}
-use Rattle.sp_emit.proofs.Operands.{operand_is}
+use Rattle.sp_emit.proofs.Operands.{one_of, names_handed, operands_are, mask_is}
 use Rattle.sp_emit.proofs.Beginning.{words_taken, Outside}
 use Rattle.sp_emit.proofs.Formed as forms
 use Rattle.sp_emit.proofs.Passing.{passes, Passes, passes_parts}
@@ -96,35 +97,34 @@ set_bare homes g slot rs lt = rw (lt-ltb (homes + slot) OVERRUN lt) refl
 cell_bare : (r : Region) (word rd : ℕ) → AreBare (cell_code (record { region = r; word = word }) rd)
 cell_bare r word rd = let address = number_bare rd (address_of r word) in grind (arith, address)
 
-element_bare : (r : Region) (first length rd : ℕ) → AreBare (element_code (record { region = r; first = first; length = length }) rd)
-element_bare r first length rd =
+element_bare : (r : Region) (first length rd ra : ℕ) → AreBare (element_code (record { region = r; first = first; length = length }) rd ra)
+element_bare r first length rd ra =
     let size = number_bare SPARE length in
     let address = number_bare SPARE (address_of r first) in
     grind (arith, size, address)
 
-two_bare : (homes : ℕ) (op : SpBinary) (a b : PlainSp) (rd : ℕ) (held less : Bool) → Bare (operand_code homes a rd) → Bare (operand_code homes b rd) → Bare (operand_code homes a (rd + 1)) → Bare (operand_code homes b (rd + 1))
-    → Bare (if held then joined (operand_code homes a rd) (one (straight (held_code op rd (value_at homes a rd) (number_of b))))
-    else if less then joined (operand_code homes b rd) (joined (operand_code homes a (rd + 1)) (binary_code op rd (value_at homes a (rd + 1)) (value_at homes b rd)))
-    else joined (operand_code homes a rd) (joined (operand_code homes b (rd + 1)) (binary_code op rd (value_at homes a rd) (value_at homes b (rd + 1)))))
-two_bare homes op a b rd true less qa qb na nb = both (operand_code homes a rd) _ qa (each_lone is_bare (held_code op rd (value_at homes a rd) (number_of b)) (held_bare op rd (value_at homes a rd) (number_of b)))
-two_bare homes op a b rd false true qa qb na nb = both (operand_code homes b rd) _ qb (both (operand_code homes a (rd + 1)) _ na (binary_bare op rd (value_at homes a (rd + 1)) (value_at homes b rd)))
-two_bare homes op a b rd false false qa qb na nb = both (operand_code homes a rd) _ qa (both (operand_code homes b (rd + 1)) _ nb (binary_bare op rd (value_at homes a rd) (value_at homes b (rd + 1))))
+value_bare : (homes slots : ℕ) (e : PlainSp) (rd to : ℕ) → homes + slots ≤ OVERRUN → names_words slots e ≡ true → Bare (value_code homes e rd to)
+value_bare homes slots (constant n) rd to fits named = rw (number_bare to n) refl
+value_bare homes slots (frame_word slot) rd to fits named = rw (read_bare homes to slot (omega (arith, fits, ltb-true slot slots named))) refl
+value_bare homes slots (cell_word cell) rd to fits named = each_lone is_bare (cell_code cell to) (cell_bare cell.region cell.word to)
+value_bare homes slots (array_word array index) rd to fits named =
+    each_lone is_bare (element_code array to (value_at homes index rd)) (element_bare array.region array.first array.length to (value_at homes index rd))
+value_bare homes slots (before_one op of) rd to fits named = each_lone is_bare (unary_code op to (value_at homes of rd)) (unary_bare op to (value_at homes of rd))
+value_bare homes slots (between_two op a b) rd to fits named =
+    one_of Bare (is_immediate op b) (nat_lt (need a) (need b)) (one (straight (held_code op to (value_at homes a rd) (number_of b)))) (binary_code op to (value_at homes a (rd + 1)) (value_at homes b rd)) (binary_code op to (value_at homes a rd) (value_at homes b (rd + 1)))
+    (each_lone is_bare (held_code op to (value_at homes a rd) (number_of b)) (held_bare op to (value_at homes a rd) (number_of b)))
+    (λ less. binary_bare op to (value_at homes a (rd + 1)) (value_at homes b rd)) (λ more. binary_bare op to (value_at homes a rd) (value_at homes b (rd + 1)))
 
-expr_bare : (homes slots : ℕ) (e : PlainSp) (rd : ℕ) → homes + slots ≤ OVERRUN → names_words slots e ≡ true → Bare (expr_code homes e rd)
-expr_bare homes slots (constant n) rd fits named = rw (number_bare rd n) refl
-expr_bare homes slots (frame_word slot) rd fits named = rw (read_bare homes rd slot (omega (arith, fits, ltb-true slot slots named))) refl
-expr_bare homes slots (cell_word cell) rd fits named = each_lone is_bare (cell_code cell rd) (cell_bare cell.region cell.word rd)
-expr_bare homes slots (array_word array index) rd fits named =
-    both (expr_code homes index rd) (one (straight (element_code array rd))) (expr_bare homes slots index rd fits (and_parts (array_formed array) (names_words slots index) named).1)
-    (each_lone is_bare (element_code array rd) (element_bare array.region array.first array.length rd))
-expr_bare homes slots (before_one op of) rd fits named =
-    both (operand_code homes of rd) (one (straight (unary_code op rd (value_at homes of rd)))) (operand_is Bare homes of rd refl (expr_bare homes slots of rd fits named)) (each_lone is_bare (unary_code op rd (value_at homes of rd)) (unary_bare op rd (value_at homes of rd)))
-expr_bare homes slots (between_two op a b) rd fits named =
-    let parts = and_parts (names_words slots a) (names_words slots b) named in
-    two_bare homes op a b rd (is_immediate op b) (nat_lt (need a) (need b)) (operand_is Bare homes a rd refl (expr_bare homes slots a rd fits parts.0)) (operand_is Bare homes b rd refl (expr_bare homes slots b rd fits parts.1)) (operand_is Bare homes a (rd + 1) refl (expr_bare homes slots a (rd + 1) fits parts.0)) (operand_is Bare homes b (rd + 1) refl (expr_bare homes slots b (rd + 1) fits parts.1))
+alu_bare : (op : Op) → is_alu op ≡ true → is_bare_op op ≡ true
+alu_bare op alu = grind (arith, alu)
 
-value_bare : (homes slots : ℕ) (e : PlainSp) (rd : ℕ) → homes + slots ≤ OVERRUN → expr_formed slots e ≡ true → Bare (expr_code homes e rd)
-value_bare homes slots e rd fits formed = expr_bare homes slots e rd fits (and_parts (names_words slots e) (nat_le (need e) 12) formed).0
+operands_bare : (homes slots : ℕ) (e : PlainSp) (rd : ℕ) → homes + slots ≤ OVERRUN → expr_formed slots e ≡ true → Bare (operands_code homes e rd)
+operands_bare homes slots e rd fits formed =
+    operands_are Bare homes (λ e rd. names_words slots e ≡ true) refl both (names_handed slots) (λ e rd names. value_bare homes slots e rd rd fits names) e rd (and_parts (names_words slots e) (nat_le (need e) 12) formed).0
+
+expr_bare : (homes slots : ℕ) (e : PlainSp) (rd to : ℕ) → homes + slots ≤ OVERRUN → expr_formed slots e ≡ true → Bare (expr_to homes e rd to)
+expr_bare homes slots e rd to fits formed =
+    both (operands_code homes e rd) (value_code homes e rd to) (operands_bare homes slots e rd fits formed) (value_bare homes slots e rd to fits (and_parts (names_words slots e) (nat_le (need e) 12) formed).0)
 
 -- ---- statements
 
@@ -146,17 +146,19 @@ target_bare homes slots mask (to_slot slot) fits masked formed =
     rw (fetch_bare homes mask (omega (arith, fits, masked)), set_bare homes (where_so TEST) slot FIRST (omega (arith, fits, ltb-true slot slots formed))) refl
 target_bare homes slots mask (to_cell cell) fits masked formed = each_lone is_bare (cell_write homes mask cell) (cell_write_bare homes mask cell.region cell.word (omega (arith, fits, masked)))
 target_bare homes slots mask (to_array array index) fits masked formed =
-    both (expr_code homes index (FIRST + 1)) (one (straight (element_write homes mask array))) (value_bare homes slots index (FIRST + 1) fits (and_parts (array_formed array) (expr_formed slots index) formed).1)
+    both (expr_code homes index (FIRST + 1)) (one (straight (element_write homes mask array))) (expr_bare homes slots index (FIRST + 1) (FIRST + 1) fits (and_parts (array_formed array) (expr_formed slots index) formed).1)
     (each_lone is_bare (element_write homes mask array) (element_write_bare homes mask array.region array.first array.length (omega (arith, fits, masked))))
 
 stmt_bare : (homes : ℕ) (fs : List PlainFunction) (number slots frame counter : ℕ) (t : PlainStmt) → homes + slots ≤ OVERRUN → stmt_calls t ≡ false → stmt_levels t ≡ 0 → stmt_formed fs number slots t ≡ true → Bare (stmt_code homes frame counter t)
 stmt_bare homes fs number slots frame counter (masks slot e) fits none flat formed =
     let parts = and_parts (nat_lt slot slots) (expr_formed slots e) formed in
-    both (expr_code homes e FIRST) (slot_set homes slot) (value_bare homes slots e FIRST fits parts.1) (rw (set_bare homes always slot FIRST (omega (arith, fits, ltb-true slot slots parts.0))) refl)
+    mask_is Bare homes slot e (λ here. expr_bare homes slots e FIRST (homes + slot) fits parts.1)
+    (λ there. both (expr_code homes e FIRST) (slot_set homes slot) (expr_bare homes slots e FIRST FIRST fits parts.1) (rw (set_bare homes always slot FIRST (omega (arith, fits, ltb-true slot slots parts.0))) refl))
 stmt_bare homes fs number slots frame counter (writes mask target e) fits none flat formed =
     let parts = and_parts (nat_lt mask slots) (target_formed slots target && expr_formed slots e) formed in
     let targets = and_parts (target_formed slots target) (expr_formed slots e) parts.1 in
-    both (expr_code homes e FIRST) (target_write homes mask target) (value_bare homes slots e FIRST fits targets.1) (target_bare homes slots mask target fits (ltb-true mask slots parts.0) targets.0)
+    write_is Bare homes mask target e (both (expr_code homes e FIRST) (target_write homes mask target) (expr_bare homes slots e FIRST FIRST fits targets.1) (target_bare homes slots mask target fits (ltb-true mask slots parts.0) targets.0))
+    (λ slot op is gives. guarded_each is_bare homes mask e op (operands_bare homes slots e FIRST fits targets.1) (fetch_bare homes mask (omega (arith, fits, ltb-true mask slots parts.0))) refl (alu_bare op gives.alu))
 stmt_bare homes fs number slots frame counter (calls mask k args result) fits none flat formed = absurd (true≢false none)
 stmt_bare homes fs number slots frame counter (transfers mask core source target count) fits none flat formed =
     let parts = and_parts (nat_lt mask slots) (send_formed slots core source target count) formed in
@@ -164,13 +166,13 @@ stmt_bare homes fs number slots frame counter (transfers mask core source target
     let first = and_parts (expr_formed slots source) (expr_formed slots target && expr_formed slots count) send.1 in
     let rest = and_parts (expr_formed slots target) (expr_formed slots count) first.1 in
     let sent = one (straight (send_code homes mask core)) in
-    both (expr_code homes source FIRST) (joined (expr_code homes target (FIRST + 1)) (joined (expr_code homes count (FIRST + 2)) sent)) (value_bare homes slots source FIRST fits first.0)
-    (both (expr_code homes target (FIRST + 1)) (joined (expr_code homes count (FIRST + 2)) sent) (value_bare homes slots target (FIRST + 1) fits rest.0)
-    (both (expr_code homes count (FIRST + 2)) sent (value_bare homes slots count (FIRST + 2) fits rest.1) (rw (fetch_bare homes mask (omega (arith, fits, ltb-true mask slots parts.0))) refl)))
+    both (expr_code homes source FIRST) (joined (expr_code homes target (FIRST + 1)) (joined (expr_code homes count (FIRST + 2)) sent)) (expr_bare homes slots source FIRST FIRST fits first.0)
+    (both (expr_code homes target (FIRST + 1)) (joined (expr_code homes count (FIRST + 2)) sent) (expr_bare homes slots target (FIRST + 1) (FIRST + 1) fits rest.0)
+    (both (expr_code homes count (FIRST + 2)) sent (expr_bare homes slots count (FIRST + 2) (FIRST + 2) fits rest.1) (rw (fetch_bare homes mask (omega (arith, fits, ltb-true mask slots parts.0))) refl)))
 stmt_bare homes fs number slots frame counter (overruns mask e) fits none flat formed =
     let parts = and_parts (nat_lt mask slots) (expr_formed slots e) formed in
-    both (expr_code homes e FIRST) (one (straight (overrun_code homes mask))) (value_bare homes slots e FIRST fits parts.1) (rw (fetch_bare homes mask (omega (arith, fits, ltb-true mask slots parts.0))) refl)
-stmt_bare homes fs number slots frame counter (turns count body) fits none flat formed = absurd (omega (arith, flat))
+    both (expr_code homes e FIRST) (one (straight (overrun_code homes mask))) (expr_bare homes slots e FIRST FIRST fits parts.1) (rw (fetch_bare homes mask (omega (arith, fits, ltb-true mask slots parts.0))) refl)
+stmt_bare homes fs number slots frame counter (iterations count body) fits none flat formed = absurd (omega (arith, flat))
 
 pub stmts_bare : (homes : ℕ) (fs : List PlainFunction) (number slots frame counter : ℕ) (ts : PlainStmts) → homes + slots ≤ OVERRUN → stmts_call ts ≡ false → stmts_levels ts ≡ 0 → stmts_formed fs number slots ts ≡ true → Bare (stmts_code homes frame counter ts)
 stmts_bare homes fs number slots frame counter no_stmt fits none flat formed = refl

@@ -120,7 +120,7 @@ clears_words from homes frame slots (suc n) m t some out few x =
       flag = y.flag;
     }))
   where
-    at : (u w : Run) → Sets homes n 0 u w → ((x : ℕ) → x < n → word_of homes x u ≡ 0) → (v : ℕ) → v < suc n → (n ≡ v) ⊎ (n ≡ v → ⊥) → word_of homes v w ≡ 0
+    at : (u w : Run) → Sets 32 homes n 0 u w → ((x : ℕ) → x < n → word_of homes x u ≡ 0) → (v : ℕ) → v < suc n → (n ≡ v) ⊎ (n ≡ v → ⊥) → word_of homes v w ≡ 0
     at u w set earlier v lt (inl same) = ap (λ i. word_of homes i w) (sym same) ∙ set.own
     at u w set earlier v lt (inr other) = set.others v other ∙ earlier v (less v lt other (cases_lt v n))
       where
@@ -182,7 +182,7 @@ stores_word homes frame slots slot rs v words more m t some named out most enoug
       flag = set.flag ∙ x.flag;
     })
   where
-    at : (u : ℕ) → u < slots → Sets homes slot v t (with_word homes slot v t) → (slot ≡ u) ⊎ (slot ≡ u → ⊥) → word_of homes u (with_word homes slot v t) ≡ put slot v words u
+    at : (u : ℕ) → u < slots → Sets 32 homes slot v t (with_word homes slot v t) → (slot ≡ u) ⊎ (slot ≡ u → ⊥) → word_of homes u (with_word homes slot v t) ≡ put slot v words u
     at u lt set (inl same) = ap (λ i. word_of homes i (with_word homes slot v t)) (sym same) ∙ set.own ∙ sym (put_same slot v words) ∙ ap (put slot v words) same
     at u lt set (inr other) = set.others u other ∙ x.frame_is u lt ∙ sym (put_other slot u v words other)
 

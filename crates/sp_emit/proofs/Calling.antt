@@ -12,7 +12,7 @@ use Rattle.patmos_sem.specs.declared.pending.Pending.TheVariants as pending
 use Rattle.patmos_sem.specs.declared.writes.Write.TheVariants as write
 use Rattle.sp_tree.specs.Formed.{names_words, expr_formed, args_formed, result_formed}
 use Rattle.sp_tree.specs.Plain.{PlainSp}
-use Rattle.sp_tree.specs.Straight.{State, Given, Serves, args_worth, in_world, where_on, with_result, stmt_done}
+use Rattle.sp_tree.specs.Straight.{State, Outcome, Serves, args_worth, in_world, where_on, with_result, stmt_done}
 use Rattle.sp_tree.specs.Statements.{calls}
 use Rattle.c_world.specs.World.{World}
 use Rattle.sp_shape.specs.Parts.{straight, one, joined}
@@ -127,7 +127,7 @@ result_done homes slots count frame mask (Some slot) v s t some most fits masked
 -- ---- the whole
 
 -- a function has given this, and left the registers from the end of its window on
-pub record Returns (top : ℕ) (g : Given) (m t : Run) : Type 0 where
+pub record Returns (top : ℕ) (g : Outcome) (m t : Run) : Type 0 where
   pub answers : Answers g m t
   pub high : KeepsFrom top m t
 
@@ -136,7 +136,7 @@ unfoldable pub ServedBy : (ℕ → List Step) → Serves → ℕ → ℕ → ℕ
 ServedBy f g k arguments room top = (mask : ℕ) (args : List ℕ) (w : World) (m : Run) → length args ≡ arguments → room ≤ m.st → CalledWith mask args w m → Returns top (g k mask args w) m (run by_words (f k) m)
 
 -- a frame's words after a call, and the world that the function gave
-follows_answer : (homes : ℕ) (slots : ℕ) (s : State) (g : Given) (m c t : Run) → Follows homes slots s m → KeepsFrom homes m t → c.stack ≡ m.stack → c.st ≡ m.st → Answers g c t → Follows homes slots (in_world s g.world) t
+follows_answer : (homes : ℕ) (slots : ℕ) (s : State) (g : Outcome) (m c t : Run) → Follows homes slots s m → KeepsFrom homes m t → c.stack ≡ m.stack → c.st ≡ m.st → Answers g c t → Follows homes slots (in_world s g.world) t
 follows_answer homes slots s g m c t x high same_stack same_st a = record {
   whole = a.carries.whole;
   shows = record {

@@ -37,13 +37,13 @@ spare_free low homes r le lt =
     or_right (r == 0) (nat_le low r && (nat_lt OVERRUN r || (nat_lt r homes && not (r == OVERRUN))))
     (and_from (nat_le low r) (nat_lt OVERRUN r || (nat_lt r homes && not (r == OVERRUN))) (le-leb low r le) (or_left (nat_lt OVERRUN r) (nat_lt r homes && not (r == OVERRUN)) (lt-ltb OVERRUN r lt)))
 
-pub own_free : (low homes r : ℕ) → low ≤ r → r ≤ 20 → r < homes → is_free low homes r ≡ true
+pub own_free : (low homes r : ℕ) → low ≤ r → r < OVERRUN → r < homes → is_free low homes r ≡ true
 own_free low homes r le few within =
     or_right (r == 0) (nat_le low r && (nat_lt OVERRUN r || (nat_lt r homes && not (r == OVERRUN))))
     (and_from (nat_le low r) (nat_lt OVERRUN r || (nat_lt r homes && not (r == OVERRUN))) (le-leb low r le)
     (or_right (nat_lt OVERRUN r) (nat_lt r homes && not (r == OVERRUN)) (and_from (nat_lt r homes) (not (r == OVERRUN)) (lt-ltb r homes within) (ap not (ne_eqb r OVERRUN (omega (arith, few)))))))
 
-pub unary_calm : (op : SpUnary) (low homes rd ra : ℕ) → low ≤ rd → rd ≤ 20 → rd < homes → list_all (is_calm low homes) (unary_code op rd ra) ≡ true
+pub unary_calm : (op : SpUnary) (low homes rd ra : ℕ) → low ≤ rd → rd < OVERRUN → rd < homes → list_all (is_calm low homes) (unary_code op rd ra) ≡ true
 unary_calm op low homes rd ra le few within = let free = own_free low homes rd le few within in grind (arith, free)
 
 -- what a division needs beside its result
@@ -54,7 +54,7 @@ record Divides (low homes : ℕ) : Type 0 where
   remainder : is_free low homes 30 ≡ true
   digits : is_free low homes 31 ≡ true
 
-divides : (low homes : ℕ) → low ≤ 20 → Divides low homes
+divides : (low homes : ℕ) → low < OVERRUN → Divides low homes
 divides low homes le = record {
   spare = spare_free low homes 27 (omega (arith, le)) (omega arith);
   dividend = spare_free low homes 28 (omega (arith, le)) (omega arith);
@@ -65,9 +65,9 @@ divides low homes le = record {
 
 around_calm : (low homes : ℕ) (before behind : List Slots) → Divides low homes → list_all (is_calm low homes) before ≡ true → list_all (is_calm low homes) behind ≡ true → parts_calm low homes (around before behind) ≡ true
 around_calm low homes before behind d a b =
-    let turn : list_all (is_calm low homes) digit_tail ≡ true = grind (arith, d.spare, d.dividend, d.remainder, d.digits) in
+    let iteration : list_all (is_calm low homes) digit_tail ≡ true = grind (arith, d.spare, d.dividend, d.remainder, d.digits) in
     let bit : list_all (is_calm low homes) (highest_bit ∷ []) ≡ true = grind (arith, d.spare) in
-    and_from (list_all (is_calm low homes) (before ++ highest_bit ∷ [])) _ (all_append (is_calm low homes) before (highest_bit ∷ []) a bit) (and_from (list_all (is_calm low homes) digit_tail) _ turn (and_from (list_all (is_calm low homes) behind) true b refl))
+    and_from (list_all (is_calm low homes) (before ++ highest_bit ∷ [])) _ (all_append (is_calm low homes) before (highest_bit ∷ []) a bit) (and_from (list_all (is_calm low homes) digit_tail) _ iteration (and_from (list_all (is_calm low homes) behind) true b refl))
 
 operands_calm : (low homes ra rb : ℕ) → Divides low homes → list_all (is_calm low homes) (operands ra rb) ≡ true
 operands_calm low homes ra rb d = grind (arith, d.dividend, d.divisor, d.remainder, d.digits)
@@ -75,7 +75,7 @@ operands_calm low homes ra rb d = grind (arith, d.dividend, d.divisor, d.remaind
 signed_operands_calm : (low homes ra rb : ℕ) → Divides low homes → list_all (is_calm low homes) (operands ra rb ++ without_signs) ≡ true
 signed_operands_calm low homes ra rb d = grind (arith, d.dividend, d.divisor, d.remainder, d.digits)
 
-pub binary_calm : (op : SpBinary) (low homes rd ra rb : ℕ) → low ≤ rd → rd ≤ 20 → rd < homes → parts_calm low homes (binary_code op rd ra rb) ≡ true
+pub binary_calm : (op : SpBinary) (low homes rd ra rb : ℕ) → low ≤ rd → rd < OVERRUN → rd < homes → parts_calm low homes (binary_code op rd ra rb) ≡ true
 unfolding unsigned_quotient_to
 binary_calm op low homes rd ra rb le few within = by op (own_free low homes rd le few within) (divides low homes (omega (arith, le, few)))
   where
@@ -102,7 +102,7 @@ binary_calm op low homes rd ra rb le few within = by op (own_free low homes rd l
     by binary.Minus free d = grind (arith, free)
     by binary.Times free d = grind (arith, free)
 
-pub held_calm : (op : SpBinary) (low homes rd ra n : ℕ) → low ≤ rd → rd ≤ 20 → rd < homes → list_all (is_calm low homes) (held_code op rd ra n) ≡ true
+pub held_calm : (op : SpBinary) (low homes rd ra n : ℕ) → low ≤ rd → rd < OVERRUN → rd < homes → list_all (is_calm low homes) (held_code op rd ra n) ≡ true
 unfolding factor_rest_to
 held_calm op low homes rd ra n le few within =
     let free = own_free low homes rd le few within in
@@ -112,22 +112,22 @@ held_calm op low homes rd ra n le few within =
 pub number_calm : (low homes rd n : ℕ) → is_free low homes rd ≡ true → is_calm low homes (set_number rd n) ≡ true
 number_calm low homes rd n free = number_op_is (λ op. is_calm low homes (under always op) ≡ true) rd n (grind (arith, free)) (grind (arith, free))
 
-pub constant_calm : (low homes rd n : ℕ) → low ≤ rd → rd ≤ 20 → rd < homes → list_all (is_calm low homes) (set_number rd n ∷ []) ≡ true
+pub constant_calm : (low homes rd n : ℕ) → low ≤ rd → rd < OVERRUN → rd < homes → list_all (is_calm low homes) (set_number rd n ∷ []) ≡ true
 constant_calm low homes rd n le few within = rw (number_calm low homes rd n (own_free low homes rd le few within)) refl
 
-pub slot_calm : (low homes rd slot : ℕ) → low ≤ rd → rd ≤ 20 → rd < homes → list_all (is_calm low homes) (read_word homes rd slot ∷ []) ≡ true
-slot_calm low homes rd slot le few within =
-    let free = own_free low homes rd le few within in
-    read_is (λ b. list_all (is_calm low homes) (b ∷ []) ≡ true) homes rd slot (grind (arith, free)) (grind (arith, free))
+pub slot_calm : (low top homes rd slot : ℕ) → low ≤ rd → rd < OVERRUN → rd < top → list_all (is_calm low top) (read_word homes rd slot ∷ []) ≡ true
+slot_calm low top homes rd slot le few within =
+    let free = own_free low top rd le few within in
+    read_is (λ b. list_all (is_calm low top) (b ∷ []) ≡ true) homes rd slot (grind (arith, free)) (grind (arith, free))
 
-pub cell_calm : (c : SpCell) (low homes rd : ℕ) → low ≤ rd → rd ≤ 20 → rd < homes → list_all (is_calm low homes) (cell_code c rd) ≡ true
+pub cell_calm : (c : SpCell) (low homes rd : ℕ) → low ≤ rd → rd < OVERRUN → rd < homes → list_all (is_calm low homes) (cell_code c rd) ≡ true
 cell_calm c low homes rd le few within =
     let free = own_free low homes rd le few within in
     let address = number_calm low homes rd (address_of c.region c.word) free in
     grind (arith, free, address)
 
-pub element_calm : (a : SpArray) (low homes rd : ℕ) → low ≤ rd → rd ≤ 20 → rd < homes → list_all (is_calm low homes) (element_code a rd) ≡ true
-element_calm a low homes rd le few within =
+pub element_calm : (a : SpArray) (low homes rd ra : ℕ) → low ≤ rd → rd < OVERRUN → rd < homes → list_all (is_calm low homes) (element_code a rd ra) ≡ true
+element_calm a low homes rd ra le few within =
     let free = own_free low homes rd le few within in
     let spare = spare_free low homes 27 (omega (arith, le, few)) (omega arith) in
     let length = number_calm low homes 27 a.length spare in

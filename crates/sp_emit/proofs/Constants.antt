@@ -1,24 +1,29 @@
 -- Where the long constants of code are words, the constants and the counts of the tree are.
-use Rattle.std.proofs.Common.{◌≡◌, ℕ, zero, suc, ◌+◌, ◌-◌, ◌<◌, ◌^◌, nat_lt, Bool, true, false, ◌&&◌, if◌then◌else◌, List, [], ◌∷◌, slice_index_or, refl, sym, arith, true≢false, length, ◌⊎◌, inl, inr, ◌≤◌, subst}
+use Rattle.std.proofs.Common.{◌≡◌, ℕ, zero, suc, ◌+◌, ◌-◌, ◌<◌, ◌^◌, nat_lt, Bool, true, false, ◌&&◌, if◌then◌else◌, List, [], ◌∷◌, ◌++◌, slice_index_or, refl, sym, arith, true≢false, length, ◌⊎◌, inl, inr, ◌≤◌, subst}
 use Rattle.std.specs.List.{list_all}
 use Rattle.std.proofs.lemmas.Bool.{and_parts, and_from, ltb-true}
 use Rattle.sp_tree.specs.Need.{need}
 use Rattle.sp_tree.specs.Plain.{PlainSp, constant, frame_word, cell_word, array_word, before_one, between_two}
-use Rattle.sp_tree.specs.Statements.{PlainSpTarget, to_slot, to_cell, to_array, PlainStmt, masks, writes, calls, transfers, overruns, turns, PlainStmts, no_stmt, stmt, PlainFunction, no_function, PlainUnit}
+use Rattle.sp_tree.specs.Statements.{PlainSpTarget, to_slot, to_cell, to_array, PlainStmt, masks, writes, calls, transfers, overruns, iterations, PlainStmts, no_stmt, stmt, PlainFunction, no_function, PlainUnit}
 use Rattle.sp_tree.specs.declared.operators.SpBinary.{SpBinary}
 use Rattle.sp_shape.specs.Bundles.{has_word, part_all, parts_all}
 use Rattle.sp_shape.specs.Parts.{straight, PlainParts, no_part, part, one, joined}
 use Rattle.sp_emit.specs.Functions.{codes}
-use Rattle.sp_emit.specs.Places.{homes_of}
+use Rattle.sp_emit.specs.Places.{homes_of, fetch_word, fetched_at}
 use Rattle.sp_emit.proofs.Codes.{codes_at}
 use Rattle.std.proofs.lemmas.Bool.{cases_lt}
 use Rattle.sp_emit.specs.Counts.{HasStmtCounts, HasStmtsCounts, HasCounts}
 use Rattle.sp_emit.proofs.Held.{short_below}
-use Rattle.sp_emit.specs.Expressions.{element_code, unary_code, binary_code, held_code, number_of, expr_code, operand_code, value_at, immediate_below, is_immediate}
+use Rattle.sp_emit.proofs.Lasts.{Gives, write_is}
+use Rattle.sp_emit.proofs.Operands.{mask_is}
+use Rattle.sp_emit.specs.Expressions.{element_code, is_home, unless, value_code, operands_code, expr_to, expr_code, operand_code, immediate_below, is_immediate}
 use Rattle.sp_emit.specs.Functions.{first_counter, function_begin, function_rest, function_code, emitted}
 use Rattle.sp_emit.specs.Means.{HasWordConstants, HasTargetConstants, HasArgsConstants, HasStmtConstants, HasStmtsConstants, HasConstants}
-use Rattle.sp_emit.specs.Statements.{element_write, target_write, args_code, call_code, send_code, overrun_code, slot_set, turns_begin, turns_tail, stmt_code, stmts_code}
-use Rattle.sp_emit.specs.Instructions.{always, under, number_op, set_number}
+use Rattle.sp_emit.specs.Statements.{mask_test, element_write, target_write, guarded_code, args_code, call_code, send_code, overrun_code, slot_set, iterations_begin, iterations_tail, stmt_code, stmts_code}
+use Rattle.sp_emit.specs.Instructions.{always, where_so, under, number_op, set_number, compare_short}
+use Rattle.sp_emit.specs.declared.registers.TheConstants.{TEST}
+use Rattle.patmos_instr.specs.declared.functions.CmpFunc.TheVariants as cmp
+use Rattle.patmos_instr.specs.declared.instructions.Op.{Op}
 use Rattle.patmos_instr.specs.declared.functions.AluFunc.TheVariants as alu
 use Rattle.patmos_instr.specs.declared.functions.ImmFunc.TheVariants as imm
 use Rattle.patmos_instr.specs.declared.instructions.Op.TheVariants.{AluImm, AluLong}
@@ -57,65 +62,80 @@ number_word rd n = by (nat_lt n 4096) refl
     by true less has = omega (arith, ltb-true n 4096 less)
     by false more has = ltb-true n (2 ^ 32) has
 
-operand_words : (homes : ℕ) (e : PlainSp) (rd : ℕ) → (Wordy (expr_code homes e rd) → HasWordConstants e) → Wordy (operand_code homes e rd) → HasWordConstants e
-operand_words homes (constant n) rd f h = f h
-operand_words homes (frame_word slot) rd f h = tt
-operand_words homes (cell_word cell) rd f h = f h
-operand_words homes (array_word array index) rd f h = f h
-operand_words homes (before_one op of) rd f h = f h
-operand_words homes (between_two op a b) rd f h = f h
+unless_words : (C : Type 0) (there : Bool) (code : PlainParts) → (there ≡ true → C) → (Wordy code → C) → Wordy (unless there code) → C
+unless_words C true code f g wordy = f refl
+unless_words C false code f g wordy = g wordy
 
-expr_words : (homes : ℕ) (e : PlainSp) (rd : ℕ) → Wordy (expr_code homes e rd) → HasWordConstants e
-expr_words homes (constant n) rd h = number_word rd n (and_parts (has_word (set_number rd n)) true (and_parts (has_word (set_number rd n) && true) true h).0).0
-expr_words homes (frame_word slot) rd h = tt
-expr_words homes (cell_word cell) rd h = tt
-expr_words homes (array_word array index) rd h = expr_words homes index rd (split (expr_code homes index rd) (one (straight (element_code array rd))) h).0
-expr_words homes (before_one op of) rd h = operand_words homes of rd (λ x. expr_words homes of rd x) (split (operand_code homes of rd) (one (straight (unary_code op rd (value_at homes of rd)))) h).0
-expr_words homes (between_two op a b) rd h =
+-- a word of the frame has no constant
+home_words : (homes : ℕ) (e : PlainSp) → is_home homes e ≡ true → HasWordConstants e
+home_words homes (frame_word slot) is = tt
+home_words homes e is = absurd (true≢false (sym is))
+
+parts_words : (homes : ℕ) (e : PlainSp) (rd to : ℕ) → Wordy (operands_code homes e rd) → Wordy (value_code homes e rd to) → HasWordConstants e
+parts_words homes (constant n) rd to h v = number_word to n (and_parts (has_word (set_number to n)) true (and_parts (has_word (set_number to n) && true) true v).0).0
+parts_words homes (frame_word slot) rd to h v = tt
+parts_words homes (cell_word cell) rd to h v = tt
+parts_words homes (array_word array index) rd to h v =
+    unless_words (HasWordConstants index) (is_home homes index) (expr_code homes index rd) (home_words homes index) (λ x. let s = split (operands_code homes index rd) (value_code homes index rd rd) x in parts_words homes index rd rd s.0 s.1) h
+parts_words homes (before_one op of) rd to h v =
+    unless_words (HasWordConstants of) (is_home homes of) (expr_code homes of rd) (home_words homes of) (λ x. let s = split (operands_code homes of rd) (value_code homes of rd rd) x in parts_words homes of rd rd s.0 s.1) h
+parts_words homes (between_two op a b) rd to h v =
+    let first : (at : ℕ) → Wordy (operand_code homes a at) → HasWordConstants a = λ at x.
+    unless_words (HasWordConstants a) (is_home homes a) (expr_code homes a at) (home_words homes a) (λ y. let s = split (operands_code homes a at) (value_code homes a at at) y in parts_words homes a at at s.0 s.1) x in
+    let second : (at : ℕ) → Wordy (operand_code homes b at) → HasWordConstants b = λ at x.
+    unless_words (HasWordConstants b) (is_home homes b) (expr_code homes b at) (home_words homes b) (λ y. let s = split (operands_code homes b at) (value_code homes b at at) y in parts_words homes b at at s.0 s.1) x in
     two_ways (HasWordConstants a × HasWordConstants b) (is_immediate op b) (nat_lt (need a) (need b))
-    (joined (operand_code homes a rd) (one (straight (held_code op rd (value_at homes a rd) (number_of b)))))
-    (joined (operand_code homes b rd) (joined (operand_code homes a (rd + 1)) (binary_code op rd (value_at homes a (rd + 1)) (value_at homes b rd))))
-    (joined (operand_code homes a rd) (joined (operand_code homes b (rd + 1)) (binary_code op rd (value_at homes a rd) (value_at homes b (rd + 1)))))
-    (λ held x. (operand_words homes a rd (λ y. expr_words homes a rd y) (split (operand_code homes a rd) (one (straight (held_code op rd (value_at homes a rd) (number_of b)))) x).0, held_word op b held))
-    (λ x.
-    let s = split (operand_code homes b rd) (joined (operand_code homes a (rd + 1)) (binary_code op rd (value_at homes a (rd + 1)) (value_at homes b rd))) x in
-    (operand_words homes a (rd + 1) (λ y. expr_words homes a (rd + 1) y) (split (operand_code homes a (rd + 1)) (binary_code op rd (value_at homes a (rd + 1)) (value_at homes b rd)) s.1).0, operand_words homes b rd (λ y. expr_words homes b rd y) s.0))
-    (λ x.
-    let s = split (operand_code homes a rd) (joined (operand_code homes b (rd + 1)) (binary_code op rd (value_at homes a rd) (value_at homes b (rd + 1)))) x in
-    (operand_words homes a rd (λ y. expr_words homes a rd y) s.0, operand_words homes b (rd + 1) (λ y. expr_words homes b (rd + 1) y) (split (operand_code homes b (rd + 1)) (binary_code op rd (value_at homes a rd) (value_at homes b (rd + 1))) s.1).0))
-    h
+    (operand_code homes a rd) (joined (operand_code homes b rd) (operand_code homes a (rd + 1))) (joined (operand_code homes a rd) (operand_code homes b (rd + 1)))
+    (λ held x. (first rd x, held_word op b held)) (λ x. let s = split (operand_code homes b rd) (operand_code homes a (rd + 1)) x in (first (rd + 1) s.1, second rd s.0))
+    (λ x. let s = split (operand_code homes a rd) (operand_code homes b (rd + 1)) x in (first rd s.0, second (rd + 1) s.1)) h
+
+expr_words : (homes : ℕ) (e : PlainSp) (rd to : ℕ) → Wordy (expr_to homes e rd to) → HasWordConstants e
+expr_words homes e rd to h = let s = split (operands_code homes e rd) (value_code homes e rd to) h in parts_words homes e rd to s.0 s.1
 
 args_words : (homes : ℕ) (args : List PlainSp) (rd : ℕ) → Wordy (args_code homes args rd) → HasArgsConstants args
 args_words homes [] rd h = tt
 args_words homes (e ∷ args) rd h =
     let s = split (expr_code homes e rd) (args_code homes args (rd + 1)) h in
-    (expr_words homes e rd s.0, args_words homes args (rd + 1) s.1)
+    (expr_words homes e rd rd s.0, args_words homes args (rd + 1) s.1)
 
 -- ---- statements
 
 target_words : (homes : ℕ) (mask : ℕ) (target : PlainSpTarget) → Wordy (target_write homes mask target) → HasTargetConstants target
 target_words homes mask (to_slot slot) h = tt
 target_words homes mask (to_cell cell) h = tt
-target_words homes mask (to_array array index) h = expr_words homes index 4 (split (expr_code homes index 4) (one (straight (element_write homes mask array))) h).0
+target_words homes mask (to_array array index) h = expr_words homes index 4 4 (split (expr_code homes index 4) (one (straight (element_write homes mask array))) h).0
+
+written_words : (homes mask : ℕ) (target : PlainSpTarget) (e : PlainSp) → Wordy (joined (expr_code homes e 3) (target_write homes mask target)) → HasTargetConstants target × HasWordConstants e
+written_words homes mask target e h =
+    let s = split (expr_code homes e 3) (target_write homes mask target) h in
+    (target_words homes mask target s.1, expr_words homes e 3 3 s.0)
+
+-- an instruction has the same constant under a mask as under none
+guarded_words : (homes mask : ℕ) (target : PlainSpTarget) (slot : ℕ) (e : PlainSp) (op : Op) → target ≡ to_slot slot → Gives (value_code homes e 3 (homes + slot)) op → Wordy (guarded_code homes mask e op) → HasTargetConstants target × HasWordConstants e
+guarded_words homes mask target slot e op is gives h =
+    let s = split (operands_code homes e 3) (one (straight (mask_test homes mask ++ under (where_so TEST) op ∷ []))) h in
+    let bundles = (and_parts (list_all has_word (mask_test homes mask ++ under (where_so TEST) op ∷ [])) true s.1).0 in
+    let behind = and_parts (has_word (fetch_word homes mask)) _ bundles in
+    let last = (and_parts (has_word (compare_short cmp.Eq TEST (fetched_at homes mask) 1)) (has_word (under always op) && true) behind.1).1 in
+    (subst HasTargetConstants (sym is) tt, parts_words homes e 3 (homes + slot) s.0 (subst Wordy (sym gives.is) (and_from (has_word (under always op) && true) true last refl)))
 
 mutual
   stmt_words : (homes : ℕ) (frame counter : ℕ) (t : PlainStmt) → Wordy (stmt_code homes frame counter t) → HasStmtConstants t × HasStmtCounts t
-  stmt_words homes frame counter (masks slot e) h = (expr_words homes e 3 (split (expr_code homes e 3) (slot_set homes slot) h).0, tt)
-  stmt_words homes frame counter (writes mask target e) h =
-      let s = split (expr_code homes e 3) (target_write homes mask target) h in
-      ((target_words homes mask target s.1, expr_words homes e 3 s.0), tt)
+  stmt_words homes frame counter (masks slot e) h =
+      (mask_is (λ ps. Wordy ps → HasWordConstants e) homes slot e (λ here x. expr_words homes e 3 (homes + slot) x) (λ there x. expr_words homes e 3 3 (split (expr_code homes e 3) (slot_set homes slot) x).0) h, tt)
+  stmt_words homes frame counter (writes mask target e) h = (write_is (λ ps. Wordy ps → HasTargetConstants target × HasWordConstants e) homes mask target e (written_words homes mask target e) (λ slot op is gives x. guarded_words homes mask target slot e op is gives x) h, tt)
   stmt_words homes frame counter (calls mask k args result) h = (args_words homes args 3 (split (args_code homes args 3) (call_code homes frame mask k result) h).0, tt)
   stmt_words homes frame counter (transfers mask core source target count) h =
       let sent = one (straight (send_code homes mask core)) in
       let s = split (expr_code homes source 3) (joined (expr_code homes target 4) (joined (expr_code homes count 5) sent)) h in
       let t = split (expr_code homes target 4) (joined (expr_code homes count 5) sent) s.1 in
-      ((expr_words homes source 3 s.0, expr_words homes target 4 t.0, expr_words homes count 5 (split (expr_code homes count 5) sent t.1).0), tt)
-  stmt_words homes frame counter (overruns mask e) h = (expr_words homes e 3 (split (expr_code homes e 3) (one (straight (overrun_code homes mask))) h).0, tt)
-  stmt_words homes frame counter (turns count body) h =
+      ((expr_words homes source 3 3 s.0, expr_words homes target 4 4 t.0, expr_words homes count 5 5 (split (expr_code homes count 5) sent t.1).0), tt)
+  stmt_words homes frame counter (overruns mask e) h = (expr_words homes e 3 3 (split (expr_code homes e 3) (one (straight (overrun_code homes mask))) h).0, tt)
+  stmt_words homes frame counter (iterations count body) h =
       let inner = stmts_code homes frame (counter - 1) body in
-      let turn = parts_all has_word inner && list_all has_word (turns_tail counter) in
-      let x = and_parts (list_all has_word (turns_begin counter count)) (turn && true) h in
-      let b = stmts_words homes frame (counter - 1) body (and_parts (parts_all has_word inner) (list_all has_word (turns_tail counter)) (and_parts turn true x.1).0).0 in
+      let iteration = parts_all has_word inner && list_all has_word (iterations_tail counter) in
+      let x = and_parts (list_all has_word (iterations_begin counter count)) (iteration && true) h in
+      let b = stmts_words homes frame (counter - 1) body (and_parts (parts_all has_word inner) (list_all has_word (iterations_tail counter)) (and_parts iteration true x.1).0).0 in
       (b.0, (ltb-true count (2 ^ 32) (and_parts (nat_lt count (2 ^ 32)) true x.0).0, b.1))
 
   stmts_words : (homes : ℕ) (frame counter : ℕ) (ts : PlainStmts) → Wordy (stmts_code homes frame counter ts) → HasStmtsConstants ts × HasStmtsCounts ts

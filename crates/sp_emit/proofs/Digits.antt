@@ -151,13 +151,13 @@ next_digit a b p u dividend rest all word_a low_b x = by (bit_of a b p u dividen
 abbrev pub step : ℕ → ℕ × ℕ → ℕ × ℕ
 step b d = (next_dividend b d.0 d.1, next_rest b d.0 d.1)
 
--- so many turns
-abbrev pub turned : ℕ → ℕ → ℕ × ℕ → ℕ × ℕ
-turned zero b d = d
-turned (suc n) b d = turned n b (step b d)
+-- so many iterations
+abbrev pub iterated : ℕ → ℕ → ℕ × ℕ → ℕ × ℕ
+iterated zero b d = d
+iterated (suc n) b d = iterated n b (step b d)
 
 all_digits : (n a b p dividend rest : ℕ) → p * 2 ^ n ≡ 2 ^ 32 → a < 2 ^ 32 → b ≤ 2 ^ 31 → Between a b p (2 ^ n) dividend rest
-    → Between a b (2 ^ 32) 1 (turned n b (dividend, rest)).0 (turned n b (dividend, rest)).1
+    → Between a b (2 ^ 32) 1 (iterated n b (dividend, rest)).0 (iterated n b (dividend, rest)).1
 all_digits zero a b p dividend rest all word_a low_b x = subst (λ k. Between a b k 1 dividend rest) (omega (arith, all)) x
 all_digits (suc n) a b p dividend rest all word_a low_b x =
     let twice : 2 ^ suc n ≡ 2 * 2 ^ n = omega (arith, pow-suc 2 n) in
@@ -178,12 +178,12 @@ at_first a b word = record {
   by_zero = λ none. refl;
 }
 
-at_last : (a b : ℕ) → a < 2 ^ 32 → b ≤ 2 ^ 31 → Between a b (2 ^ 32) 1 (turned 32 b (a, 0)).0 (turned 32 b (a, 0)).1
+at_last : (a b : ℕ) → a < 2 ^ 32 → b ≤ 2 ^ 31 → Between a b (2 ^ 32) 1 (iterated 32 b (a, 0)).0 (iterated 32 b (a, 0)).1
 at_last a b word_a low_b = all_digits 32 a b 1 a 0 refl word_a low_b (at_first a b word_a)
 
 -- the quotient and the rest of words, where the divisor is not 0 and not large; by 0 the rest is all
-pub divides_words : (a b : ℕ) → a < 2 ^ 32 → b ≤ 2 ^ 31 → 0 < b → ((turned 32 b (a, 0)).0 ≡ a / b) × ((turned 32 b (a, 0)).1 ≡ a % b)
-divides_words a b word_a low_b some = by (turned 32 b (a, 0)).0 (turned 32 b (a, 0)).1 (at_last a b word_a low_b)
+pub divides_words : (a b : ℕ) → a < 2 ^ 32 → b ≤ 2 ^ 31 → 0 < b → ((iterated 32 b (a, 0)).0 ≡ a / b) × ((iterated 32 b (a, 0)).1 ≡ a % b)
+divides_words a b word_a low_b some = by (iterated 32 b (a, 0)).0 (iterated 32 b (a, 0)).1 (at_last a b word_a low_b)
   where
     by : (dividend rest : ℕ) → Between a b (2 ^ 32) 1 dividend rest → (dividend ≡ a / b) × (rest ≡ a % b)
     by dividend rest x =
@@ -192,19 +192,19 @@ divides_words a b word_a low_b some = by (turned 32 b (a, 0)).0 (turned 32 b (a,
         let quotient : dividend ≡ x.q = omega (arith, x.digits, x.low) in
         (quotient ∙ sym (digits_div x.q d.1) ∙ ap (λ n. n / b) is, sym (digits_mod x.q d.1) ∙ ap (λ n. n % b) is)
 
-pub divides_by_zero : (a : ℕ) → a < 2 ^ 32 → (turned 32 0 (a, 0)).1 ≡ a
-divides_by_zero a word = by (turned 32 0 (a, 0)).0 (turned 32 0 (a, 0)).1 (at_last a 0 word (omega arith))
+pub divides_by_zero : (a : ℕ) → a < 2 ^ 32 → (iterated 32 0 (a, 0)).1 ≡ a
+divides_by_zero a word = by (iterated 32 0 (a, 0)).0 (iterated 32 0 (a, 0)).1 (at_last a 0 word (omega arith))
   where
     by : (dividend rest : ℕ) → Between a 0 (2 ^ 32) 1 dividend rest → rest ≡ a
     by dividend rest x = x.by_zero refl ∙ omega (arith, x.split, x.low)
 
 -- both are words
-pub quotient_word : (a b : ℕ) → a < 2 ^ 32 → b ≤ 2 ^ 31 → (turned 32 b (a, 0)).0 < 2 ^ 32
-quotient_word a b word_a low_b = by (turned 32 b (a, 0)).0 (turned 32 b (a, 0)).1 (at_last a b word_a low_b)
+pub quotient_word : (a b : ℕ) → a < 2 ^ 32 → b ≤ 2 ^ 31 → (iterated 32 b (a, 0)).0 < 2 ^ 32
+quotient_word a b word_a low_b = by (iterated 32 b (a, 0)).0 (iterated 32 b (a, 0)).1 (at_last a b word_a low_b)
   where
     by : (dividend rest : ℕ) → Between a b (2 ^ 32) 1 dividend rest → dividend < 2 ^ 32
     by dividend rest x = omega (arith, x.digits, x.low, x.few)
 
-pub rest_word : (a b : ℕ) → a < 2 ^ 32 → b ≤ 2 ^ 31 → (turned 32 b (a, 0)).1 < 2 ^ 32
+pub rest_word : (a b : ℕ) → a < 2 ^ 32 → b ≤ 2 ^ 31 → (iterated 32 b (a, 0)).1 < 2 ^ 32
 rest_word a zero word_a low_b = subst (λ n. n < 2 ^ 32) (sym (divides_by_zero a word_a)) word_a
 rest_word a (suc b) word_a low_b = subst (λ n. n < 2 ^ 32) (sym (divides_words a (suc b) word_a low_b (omega arith)).1) (omega (arith, mod-le a (suc b), word_a))

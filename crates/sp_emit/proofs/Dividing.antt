@@ -1,4 +1,4 @@
--- What the code of quotients and remainders leaves in its registers, turn by turn.
+-- What the code of quotients and remainders leaves in its registers, iteration by iteration.
 use Rattle.std.proofs.Common.{◌≡◌, ℕ, zero, suc, ◌+◌, ◌-◌, ◌*◌, ◌/◌, ◌%◌, ◌^◌, ◌<◌, ◌≤◌, Bool, true, false, if◌then◌else◌, List, [], ◌∷◌, ◌++◌, refl, sym, ap, ◌∙◌, subst, arith}
 use Rattle.std.specs.Prelude.{nat_le, ◌&&◌}
 use Rattle.std.specs.List.{list_all}
@@ -22,7 +22,7 @@ use Rattle.sp_emit.specs.Holding.{held}
 use Rattle.sp_emit.specs.Instructions.{under, always, where_so, with_short, compute, compare}
 use Rattle.sp_emit.specs.declared.registers.TheConstants.{SPARE, DIVIDEND, DIVISOR, REMAINDER, TEST, REST_NEGATIVE, QUOTIENT_NEGATIVE, MORE}
 use Rattle.sp_emit.proofs.Asking.{back_again}
-use Rattle.sp_emit.proofs.Digits.{shifted, goes, next_rest, next_dividend, step, turned}
+use Rattle.sp_emit.proofs.Digits.{shifted, goes, next_rest, next_dividend, step, iterated}
 use Rattle.sp_emit.proofs.Leaving.{did_compare, did_compute, did_with_short}
 use Rattle.sp_emit.proofs.Once.{so, with_written, did_write, did_nothing, got, so_got}
 use Rattle.sp_emit.proofs.Untouched.{register, predicate, leaves, left_once, left_run}
@@ -69,11 +69,11 @@ bit_taken : (from : Sources) (dividend : ℕ) (m : Run) → IsWhole m → held D
 bit_taken from dividend m whole is = ap (held SPARE) (did_with_short from imm.Sr SPARE DIVIDEND 31 m whole) ∙ got SPARE _ m whole (omega arith) (omega arith) ∙ ap (λ n. n / 2 ^ 31) is
 
 -- it stands apart too
-record Turns (signs : Signs) (dividend rest divisor : ℕ) (m : Run) : Type 0 where
+record Iterations (signs : Signs) (dividend rest divisor : ℕ) (m : Run) : Type 0 where
   divides : Divides signs dividend rest divisor m
   bit_is : held SPARE m ≡ dividend / 2 ^ 31
 
-stands_apart : (from : Sources) (signs : Signs) (dividend rest divisor : ℕ) (m : Run) → Divides signs dividend rest divisor m → Turns signs dividend rest divisor (once from highest_bit m)
+stands_apart : (from : Sources) (signs : Signs) (dividend rest divisor : ℕ) (m : Run) → Divides signs dividend rest divisor m → Iterations signs dividend rest divisor (once from highest_bit m)
 stands_apart from signs dividend rest divisor m d = record {
   divides = still_divides from signs dividend rest divisor (highest_bit ∷ []) m refl d;
   bit_is = bit_taken from dividend m d.whole d.dividend_is;
@@ -98,7 +98,7 @@ record Tested (dividend rest divisor : ℕ) (m : Run) : Type 0 where
   bit_is : held SPARE m ≡ (dividend + dividend) % 2 ^ 32 / 2 ^ 31
   test : so TEST m ≡ goes divisor dividend rest
 
-compares : (from : Sources) (signs : Signs) (dividend rest divisor : ℕ) (m : Run) → Turns signs dividend rest divisor m → Tested dividend rest divisor (run from (all_done compared) m)
+compares : (from : Sources) (signs : Signs) (dividend rest divisor : ℕ) (m : Run) → Iterations signs dividend rest divisor m → Tested dividend rest divisor (run from (all_done compared) m)
 compares from signs dividend rest divisor m t =
     let d = t.divides in
     let b1 = compute always alu.Shadd REMAINDER REMAINDER SPARE in
@@ -179,10 +179,10 @@ takes_off from dividend rest divisor m x =
           ∙ ap (λ n. if on then (shifted dividend rest + (2 ^ 32 - n)) % 2 ^ 32 else shifted dividend rest) x.divisor_is;
     }
 
--- ---- turns
+-- ---- iterations
 
-digit_done : (from : Sources) (signs : Signs) (dividend rest divisor : ℕ) (m : Run) → Turns signs dividend rest divisor m
-    → Turns signs (next_dividend divisor dividend rest) (next_rest divisor dividend rest) divisor (run from (all_done digit) m)
+digit_done : (from : Sources) (signs : Signs) (dividend rest divisor : ℕ) (m : Run) → Iterations signs dividend rest divisor m
+    → Iterations signs (next_dividend divisor dividend rest) (next_rest divisor dividend rest) divisor (run from (all_done digit) m)
 digit_done from signs dividend rest divisor m t =
     let d = t.divides in
     let o = takes_off from dividend rest divisor (run from (all_done compared) m) (compares from signs dividend rest divisor m t) in
@@ -198,36 +198,36 @@ digit_done from signs dividend rest divisor m t =
       bit_is = o.bit_is;
     }
 
-still_turns : (from : Sources) (signs : Signs) (dividend rest divisor : ℕ) (bs : List Slots) (m : Run) → leaves_division bs ≡ true → list_all (leaves (register SPARE)) bs ≡ true → Turns signs dividend rest divisor m
-    → Turns signs dividend rest divisor (run from (all_done bs) m)
-still_turns from signs dividend rest divisor bs m quiet spare t = record {
+still_iterations : (from : Sources) (signs : Signs) (dividend rest divisor : ℕ) (bs : List Slots) (m : Run) → leaves_division bs ≡ true → list_all (leaves (register SPARE)) bs ≡ true → Iterations signs dividend rest divisor m
+    → Iterations signs dividend rest divisor (run from (all_done bs) m)
+still_iterations from signs dividend rest divisor bs m quiet spare t = record {
   divides = still_divides from signs dividend rest divisor bs m quiet t.divides;
   bit_is = left_run from (register SPARE) bs m (omega arith) t.divides.whole spare ∙ t.bit_is;
 }
 
--- a turn is counted, and takes two digits
-turn_done : (from : Sources) (signs : Signs) (d : ℕ × ℕ) (divisor : ℕ) (m : Run) → Turns signs d.0 d.1 divisor m
-    → Turns signs (step divisor (step divisor d)).0 (step divisor (step divisor d)).1 divisor (run from (all_done digit_tail) m)
-turn_done from signs d divisor m t =
+-- an iteration is counted, and takes two digits
+iteration_done : (from : Sources) (signs : Signs) (d : ℕ × ℕ) (divisor : ℕ) (m : Run) → Iterations signs d.0 d.1 divisor m
+    → Iterations signs (step divisor (step divisor d)).0 (step divisor (step divisor d)).1 divisor (run from (all_done digit_tail) m)
+iteration_done from signs d divisor m t =
     let m1 = run from (all_done counted) m in
     let m2 = run from (all_done digit) m1 in
     let one = step divisor d in
     let two = step divisor one in
-    let t1 = still_turns from signs d.0 d.1 divisor counted m refl refl t in
+    let t1 = still_iterations from signs d.0 d.1 divisor counted m refl refl t in
     let t2 = digit_done from signs d.0 d.1 divisor m1 t1 in
     let t3 = digit_done from signs one.0 one.1 divisor m2 t2 in
-    still_turns from signs two.0 two.1 divisor (back_again MORE) (run from (all_done digit) m2) refl refl t3
+    still_iterations from signs two.0 two.1 divisor (back_again MORE) (run from (all_done digit) m2) refl refl t3
 
 abbrev twice : ℕ → ℕ
 twice zero = zero
 twice (suc n) = suc (suc (twice n))
 
-turns_done : (from : Sources) (signs : Signs) (n : ℕ) (d : ℕ × ℕ) (divisor : ℕ) (m : Run) → Turns signs d.0 d.1 divisor m
-    → Turns signs (turned (twice n) divisor d).0 (turned (twice n) divisor d).1 divisor (run from (copies n (all_done digit_tail)) m)
-turns_done from signs zero d divisor m t = t
-turns_done from signs (suc n) d divisor m t =
-    subst (Turns signs _ _ divisor) (sym (run_append from (all_done digit_tail) (copies n (all_done digit_tail)) m))
-    (turns_done from signs n (step divisor (step divisor d)) divisor (run from (all_done digit_tail) m) (turn_done from signs d divisor m t))
+iterations_done : (from : Sources) (signs : Signs) (n : ℕ) (d : ℕ × ℕ) (divisor : ℕ) (m : Run) → Iterations signs d.0 d.1 divisor m
+    → Iterations signs (iterated (twice n) divisor d).0 (iterated (twice n) divisor d).1 divisor (run from (copies n (all_done digit_tail)) m)
+iterations_done from signs zero d divisor m t = t
+iterations_done from signs (suc n) d divisor m t =
+    subst (Iterations signs _ _ divisor) (sym (run_append from (all_done digit_tail) (copies n (all_done digit_tail)) m))
+    (iterations_done from signs n (step divisor (step divisor d)) divisor (run from (all_done digit_tail) m) (iteration_done from signs d divisor m t))
 
 -- the first bit stands apart after what is before
 pub run_before : (from : Sources) (before : List Slots) (m : Run) → run from (all_done (before ++ highest_bit ∷ [])) m ≡ once from highest_bit (run from (all_done before) m)
@@ -235,9 +235,9 @@ run_before from before m = ap (λ l. run from l m) (done_append before (highest_
 
 -- all digits then
 pub digits_done : (from : Sources) (signs : Signs) (dividend divisor : ℕ) (m : Run) → Divides signs dividend 0 divisor m
-    → Divides signs (turned 32 divisor (dividend, 0)).0 (turned 32 divisor (dividend, 0)).1 divisor (run from (copies 16 (all_done digit_tail)) (once from highest_bit m))
+    → Divides signs (iterated 32 divisor (dividend, 0)).0 (iterated 32 divisor (dividend, 0)).1 divisor (run from (copies 16 (all_done digit_tail)) (once from highest_bit m))
 digits_done from signs dividend divisor m d =
     let t = run from (copies 16 (all_done digit_tail)) (once from highest_bit m) in
     let same : twice 16 ≡ 32 = refl in
-    subst (λ k. Divides signs (turned k divisor (dividend, 0)).0 (turned k divisor (dividend, 0)).1 divisor t) same
-    (turns_done from signs 16 (dividend, 0) divisor (once from highest_bit m) (stands_apart from signs dividend 0 divisor m d)).divides
+    subst (λ k. Divides signs (iterated k divisor (dividend, 0)).0 (iterated k divisor (dividend, 0)).1 divisor t) same
+    (iterations_done from signs 16 (dividend, 0) divisor (once from highest_bit m) (stands_apart from signs dividend 0 divisor m d)).divides

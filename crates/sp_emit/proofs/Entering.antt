@@ -77,7 +77,7 @@ set_enters homes slots top frame slot rs v words w m t some named out most below
       high = λ q past lt. set.regs q (omega (arith, past, some)) (omega (arith, lt)) (λ same. absurd (omega (arith, same, past, named))) ∙ x.high q past lt;
     })
   where
-    at : (u : ℕ) → u < slots → Sets homes slot v t (with_word homes slot v t) → (slot ≡ u) ⊎ (slot ≡ u → ⊥) → word_of homes u (with_word homes slot v t) ≡ put slot v words u
+    at : (u : ℕ) → u < slots → Sets 32 homes slot v t (with_word homes slot v t) → (slot ≡ u) ⊎ (slot ≡ u → ⊥) → word_of homes u (with_word homes slot v t) ≡ put slot v words u
     at u lt set (inl same) = ap (λ i. word_of homes i (with_word homes slot v t)) (sym same) ∙ set.own ∙ sym (put_same slot v words) ∙ ap (put slot v words) same
     at u lt set (inr other) = set.others u other ∙ x.frame_is u lt ∙ sym (put_other slot u v words other)
 

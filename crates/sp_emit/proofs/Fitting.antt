@@ -5,7 +5,7 @@ use Rattle.std.proofs.lemmas.Bool.{and_parts, ltb-true, leb-true, eqb-true}
 use Rattle.sp_tree.specs.Formed.{names_words, expr_formed, args_formed, target_formed, cell_formed, array_formed, result_formed, callee_formed, send_formed, stmts_formed, stmt_levels, stmts_levels, function_formed, functions_formed, slots_of}
 use Rattle.sp_tree.specs.Need.{need}
 use Rattle.sp_tree.specs.Plain.{PlainSp}
-use Rattle.sp_tree.specs.Statements.{PlainSpTarget, to_slot, to_cell, to_array, PlainStmt, masks, writes, calls, transfers, overruns, turns, PlainStmts, PlainFunction, no_function}
+use Rattle.sp_tree.specs.Statements.{PlainSpTarget, to_slot, to_cell, to_array, PlainStmt, masks, writes, calls, transfers, overruns, iterations, PlainStmts, PlainFunction, no_function}
 use Rattle.sp_tree.specs.declared.expressions.SpArray.{SpArray}
 use Rattle.sp_tree.specs.declared.expressions.SpCell.{SpCell}
 use Rattle.sp_tree.proofs.Forms.{function_at, earlier_one, earlier_ones, few_arguments, item_part}
@@ -134,8 +134,8 @@ overruns_mask mask e f = word_fits f mask (overruns_parts mask e f).0
 pub overruns_value : {frame counter : ℕ} (mask : ℕ) (e : PlainSp) → StmtFits frame counter (overruns mask e) → ExprFits e 3
 overruns_value mask e f = expr_fits f.slots 3 e (omega (arith, few_slots f)) (omega arith) (overruns_parts mask e f).1
 
-pub turns_body : {frame counter : ℕ} (count : ℕ) (body : PlainStmts) → StmtFits frame counter (turns count body) → StmtsFit frame (counter - 1) body
-turns_body count body f = record {
+pub iterations_body : {frame counter : ℕ} (count : ℕ) (body : PlainStmts) → StmtFits frame counter (iterations count body) → StmtsFit frame (counter - 1) body
+iterations_body count body f = record {
   functions = f.functions;
   number = f.number;
   earlier = f.earlier;
@@ -147,10 +147,10 @@ turns_body count body f = record {
   most = f.most;
 }
 
-pub counter_fits : {frame counter : ℕ} (count : ℕ) (body : PlainStmts) → StmtFits frame counter (turns count body) → counter < 128
+pub counter_fits : {frame counter : ℕ} (count : ℕ) (body : PlainStmts) → StmtFits frame counter (iterations count body) → counter < 128
 counter_fits count body f = omega (arith, f.within, f.most)
 
-pub counter_some : {frame counter : ℕ} (count : ℕ) (body : PlainStmts) → StmtFits frame counter (turns count body) → 1 ≤ counter
+pub counter_some : {frame counter : ℕ} (count : ℕ) (body : PlainStmts) → StmtFits frame counter (iterations count body) → 1 ≤ counter
 counter_some count body f = omega (arith, f.counters, f.some)
 
 -- ---- statements one after another

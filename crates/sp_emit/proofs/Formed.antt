@@ -3,12 +3,13 @@ use Rattle.std.proofs.Common.{◌≡◌, ℕ, zero, suc, ◌+◌, ◌-◌, ◌�
 use Rattle.std.proofs.lemmas.Bool.{and_parts, and_from}
 use Rattle.std.specs.Prelude.{nat_lt, nat_le, nat_eq, ◌&&◌}
 use Rattle.patmos_instr.specs.Bundles.{Slots}
+use Rattle.patmos_instr.specs.declared.instructions.Op.{Op}
 use Rattle.c_world.specs.declared.region.Region.{Region}
 use Rattle.c_world.specs.declared.region.Region.TheVariants as region
 use Rattle.sp_tree.specs.Formed as tree
 use Rattle.sp_tree.specs.Need.{need}
 use Rattle.sp_tree.specs.Plain.{PlainSp, constant, frame_word, cell_word, array_word, before_one, between_two}
-use Rattle.sp_tree.specs.Statements.{PlainSpTarget, to_slot, to_cell, to_array, PlainStmt, masks, writes, calls, transfers, overruns, turns, PlainStmts, no_stmt, stmt, PlainFunction, no_function, PlainUnit}
+use Rattle.sp_tree.specs.Statements.{PlainSpTarget, to_slot, to_cell, to_array, PlainStmt, masks, writes, calls, transfers, overruns, iterations, PlainStmts, no_stmt, stmt, PlainFunction, no_function, PlainUnit}
 use Rattle.sp_tree.specs.declared.operators.SpBinary.{SpBinary}
 use Rattle.sp_tree.specs.declared.operators.SpBinary.TheVariants as binary
 use Rattle.sp_tree.specs.declared.operators.SpUnary.{SpUnary}
@@ -16,22 +17,23 @@ use Rattle.sp_tree.specs.declared.operators.SpUnary.TheVariants as unary
 use Rattle.sp_shape.specs.Formed.{are_calm, part_formed, parts_formed, function_formed, functions_formed, is_formed}
 use Rattle.sp_shape.specs.Parts.{straight, repeats, calls_to, leaves, PlainParts, no_part, part, one, joined, PlainShape}
 use Rattle.sp_shape.proofs.Lists.{calm_append}
-use Rattle.sp_emit.proofs.Operands.{operand_is}
+use Rattle.sp_emit.proofs.Operands.{one_of, each_operands_are, each_expr_is, mask_is}
 use Rattle.sp_emit.proofs.Held.{held_is}
 use Rattle.sp_emit.specs.Division.{unsigned_quotient_to}
 use Rattle.sp_emit.specs.Divisors.{factor_rest_to}
-use Rattle.sp_emit.specs.Expressions.{unary_code, binary_code, held_code, element_code, number_of, expr_code, operand_code, value_at, is_immediate, address_of}
+use Rattle.sp_emit.specs.Expressions.{unary_code, binary_code, held_code, element_code, number_of, value_code, operands_code, expr_to, expr_code, value_at, is_immediate, address_of}
 use Rattle.sp_emit.proofs.Codes.{kept_is, brought_is, taken_is, freed_is}
 use Rattle.sp_emit.specs.Functions.{argument_kept, first_counter, arguments_kept, mask_kept, state_kept, place_brought, frame_taken, result_given, function_begin, function_end, function_rest, function_code, emitted}
 use Rattle.sp_shape.specs.Formed.{is_flow}
 use Rattle.sp_emit.specs.Functions.{codes}
-use Rattle.sp_emit.specs.Instructions.{always, set_short, number_op}
+use Rattle.sp_emit.specs.Instructions.{always, where_so, under, set_short, number_op}
 use Rattle.sp_emit.specs.Places.{in_register, read_op, set_op, word_cleared, words_cleared, homes_of, fetch_op}
-use Rattle.sp_emit.specs.declared.registers.TheConstants.{RESULT, MASK, FIRST, SPARE}
+use Rattle.sp_emit.specs.declared.registers.TheConstants.{RESULT, MASK, FIRST, TEST, SPARE}
 use Rattle.sp_emit.proofs.Codes.{codes_at, codes_length}
 use Rattle.sp_emit.proofs.WordPlaces.{read_op_is, set_op_is, fetch_op_is}
-use Rattle.sp_emit.specs.Statements.{cell_write, element_write, target_write, mask_handed, way_to, args_code, behind_call, call_code, send_code, overrun_code, slot_set, stmt_code, stmts_code}
+use Rattle.sp_emit.specs.Statements.{mask_test, cell_write, element_write, target_write, guarded_code, mask_handed, way_to, args_code, behind_call, call_code, send_code, overrun_code, slot_set, stmt_code, stmts_code}
 use Rattle.sp_emit.proofs.Numbers.{number_op_is}
+use Rattle.sp_emit.proofs.Lasts.{is_alu, write_is}
 
 -- ---- parts after others
 
@@ -43,10 +45,6 @@ both n (part p a) b fa fb =
 
 lone : (n : ℕ) (bs : List Slots) → are_calm bs ≡ true → parts_formed n (one (straight bs)) ≡ true
 lone n bs calm = and_from (are_calm bs) true calm refl
-
-either : (n : ℕ) (c : Bool) (a b : PlainParts) → parts_formed n a ≡ true → parts_formed n b ≡ true → parts_formed n (if c then a else b) ≡ true
-either n true a b fa fb = fa
-either n false a b fa fb = fb
 
 -- ---- expressions
 
@@ -92,30 +90,28 @@ fetch_flow homes slot = fetch_op_is (λ op. is_flow op ≡ false) homes slot ref
 number_flow : (rd n : ℕ) → is_flow (number_op rd n) ≡ false
 number_flow rd n = number_op_is (λ op. is_flow op ≡ false) rd n refl refl
 
+alu_flow : (op : Op) → is_alu op ≡ true → is_flow op ≡ false
+alu_flow op alu = grind (arith, alu)
+
 set_flow : (homes slot rs : ℕ) → is_flow (set_op homes slot rs) ≡ false
 set_flow homes slot rs = set_op_is (λ op. is_flow op ≡ false) homes slot rs refl refl
 
-pub expr_formed : (homes : ℕ) (n : ℕ) (e : PlainSp) (rd : ℕ) → parts_formed n (expr_code homes e rd) ≡ true
-expr_formed homes n (constant v) rd = rw (number_flow rd v) refl
-expr_formed homes n (frame_word slot) rd = rw (read_flow homes rd slot) refl
-expr_formed homes n (cell_word cell) rd = rw (number_flow rd (address_of cell.region cell.word)) refl
-expr_formed homes n (array_word array index) rd = both n (expr_code homes index rd) (one (straight (element_code array rd))) (expr_formed homes n index rd)
-    (rw (number_flow SPARE array.length, number_flow SPARE (address_of array.region array.first)) refl)
-expr_formed homes n (before_one op of) rd =
-    both n (operand_code homes of rd) (one (straight (unary_code op rd (value_at homes of rd)))) (operand_is (λ ps. parts_formed n ps ≡ true) homes of rd refl (expr_formed homes n of rd)) (lone n (unary_code op rd (value_at homes of rd)) (unary_calm op rd (value_at homes of rd)))
-expr_formed homes n (between_two op a b) rd =
-    let held = both n (operand_code homes a rd) (one (straight (held_code op rd (value_at homes a rd) (number_of b)))) (operand_is (λ ps. parts_formed n ps ≡ true) homes a rd refl (expr_formed homes n a rd))
-    (lone n (held_code op rd (value_at homes a rd) (number_of b)) (held_calm op rd (value_at homes a rd) (number_of b))) in
-    let second_first = both n (operand_code homes b rd) (joined (operand_code homes a (rd + 1)) (binary_code op rd (value_at homes a (rd + 1)) (value_at homes b rd))) (operand_is (λ ps. parts_formed n ps ≡ true) homes b rd refl (expr_formed homes n b rd))
-    (both n (operand_code homes a (rd + 1)) (binary_code op rd (value_at homes a (rd + 1)) (value_at homes b rd)) (operand_is (λ ps. parts_formed n ps ≡ true) homes a (rd + 1) refl (expr_formed homes n a (rd + 1))) (binary_formed n op rd (value_at homes a (rd + 1)) (value_at homes b rd))) in
-    let first_first = both n (operand_code homes a rd) (joined (operand_code homes b (rd + 1)) (binary_code op rd (value_at homes a rd) (value_at homes b (rd + 1)))) (operand_is (λ ps. parts_formed n ps ≡ true) homes a rd refl (expr_formed homes n a rd))
-    (both n (operand_code homes b (rd + 1)) (binary_code op rd (value_at homes a rd) (value_at homes b (rd + 1))) (operand_is (λ ps. parts_formed n ps ≡ true) homes b (rd + 1) refl (expr_formed homes n b (rd + 1))) (binary_formed n op rd (value_at homes a rd) (value_at homes b (rd + 1)))) in
-    either n (is_immediate op b) (joined (operand_code homes a rd) (one (straight (held_code op rd (value_at homes a rd) (number_of b)))))
-    (if nat_lt (need a) (need b) then joined (operand_code homes b rd) (joined (operand_code homes a (rd + 1)) (binary_code op rd (value_at homes a (rd + 1)) (value_at homes b rd)))
-    else joined (operand_code homes a rd) (joined (operand_code homes b (rd + 1)) (binary_code op rd (value_at homes a rd) (value_at homes b (rd + 1)))))
-    held
-    (either n (nat_lt (need a) (need b)) (joined (operand_code homes b rd) (joined (operand_code homes a (rd + 1)) (binary_code op rd (value_at homes a (rd + 1)) (value_at homes b rd))))
-    (joined (operand_code homes a rd) (joined (operand_code homes b (rd + 1)) (binary_code op rd (value_at homes a rd) (value_at homes b (rd + 1))))) second_first first_first)
+value_formed : (homes : ℕ) (n : ℕ) (e : PlainSp) (rd to : ℕ) → parts_formed n (value_code homes e rd to) ≡ true
+value_formed homes n (constant v) rd to = rw (number_flow to v) refl
+value_formed homes n (frame_word slot) rd to = rw (read_flow homes to slot) refl
+value_formed homes n (cell_word cell) rd to = rw (number_flow to (address_of cell.region cell.word)) refl
+value_formed homes n (array_word array index) rd to = rw (number_flow SPARE array.length, number_flow SPARE (address_of array.region array.first)) refl
+value_formed homes n (before_one op of) rd to = lone n (unary_code op to (value_at homes of rd)) (unary_calm op to (value_at homes of rd))
+value_formed homes n (between_two op a b) rd to =
+    one_of (λ ps. parts_formed n ps ≡ true) (is_immediate op b) (nat_lt (need a) (need b)) (one (straight (held_code op to (value_at homes a rd) (number_of b)))) (binary_code op to (value_at homes a (rd + 1)) (value_at homes b rd))
+    (binary_code op to (value_at homes a rd) (value_at homes b (rd + 1))) (lone n (held_code op to (value_at homes a rd) (number_of b)) (held_calm op to (value_at homes a rd) (number_of b)))
+    (λ less. binary_formed n op to (value_at homes a (rd + 1)) (value_at homes b rd)) (λ more. binary_formed n op to (value_at homes a rd) (value_at homes b (rd + 1)))
+
+operands_formed : (homes : ℕ) (n : ℕ) (e : PlainSp) (rd : ℕ) → parts_formed n (operands_code homes e rd) ≡ true
+operands_formed homes n e rd = each_operands_are (λ ps. parts_formed n ps ≡ true) homes refl (both n) (value_formed homes n) e rd
+
+pub expr_formed : (homes : ℕ) (n : ℕ) (e : PlainSp) (rd to : ℕ) → parts_formed n (expr_to homes e rd to) ≡ true
+expr_formed homes n e rd to = each_expr_is (λ ps. parts_formed n ps ≡ true) homes refl (both n) (value_formed homes n) e rd to
 
 -- ---- statements
 
@@ -139,12 +135,16 @@ target_formed : (homes : ℕ) (n mask : ℕ) (target : PlainSpTarget) → parts_
 target_formed homes n mask (to_slot slot) = rw (fetch_flow homes mask, set_flow homes slot FIRST) refl
 target_formed homes n mask (to_cell cell) = lone n (cell_write homes mask cell) (cell_calm homes mask cell.region cell.word)
 target_formed homes n mask (to_array array index) =
-    both n (expr_code homes index 4) (one (straight (element_write homes mask array))) (expr_formed homes n index 4)
+    both n (expr_code homes index 4) (one (straight (element_write homes mask array))) (expr_formed homes n index 4 4)
     (lone n (element_write homes mask array) (element_calm homes mask array.region array.first array.length))
+
+pub guarded_formed : (homes : ℕ) (n mask : ℕ) (e : PlainSp) (op : Op) → is_alu op ≡ true → parts_formed n (guarded_code homes mask e op) ≡ true
+guarded_formed homes n mask e op alu =
+    both n (operands_code homes e FIRST) (one (straight (mask_test homes mask ++ under (where_so TEST) op ∷ []))) (operands_formed homes n e FIRST) (rw (fetch_flow homes mask, alu_flow op alu) refl)
 
 pub args_formed : (homes : ℕ) (n : ℕ) (args : List PlainSp) (rd : ℕ) → parts_formed n (args_code homes args rd) ≡ true
 args_formed homes n [] rd = refl
-args_formed homes n (e ∷ args) rd = both n (expr_code homes e rd) (args_code homes args (rd + 1)) (expr_formed homes n e rd) (args_formed homes n args (rd + 1))
+args_formed homes n (e ∷ args) rd = both n (expr_code homes e rd) (args_code homes args (rd + 1)) (expr_formed homes n e rd rd) (args_formed homes n args (rd + 1))
 
 behind_calm : (homes : ℕ) (frame mask : ℕ) (result : Option ℕ) → are_calm (behind_call homes frame mask result) ≡ true
 behind_calm homes frame mask None = refl
@@ -158,8 +158,11 @@ call_formed homes n frame mask k result earlier =
 
 mutual
   pub stmt_formed : (homes : ℕ) (fs : List PlainFunction) (n slots frame counter : ℕ) (t : PlainStmt) → tree.stmt_formed fs n slots t ≡ true → parts_formed n (stmt_code homes frame counter t) ≡ true
-  stmt_formed homes fs n slots frame counter (masks slot e) h = both n (expr_code homes e 3) (slot_set homes slot) (expr_formed homes n e 3) (rw (set_flow homes slot FIRST) refl)
-  stmt_formed homes fs n slots frame counter (writes mask target e) h = both n (expr_code homes e 3) (target_write homes mask target) (expr_formed homes n e 3) (target_formed homes n mask target)
+  stmt_formed homes fs n slots frame counter (masks slot e) h =
+      mask_is (λ ps. parts_formed n ps ≡ true) homes slot e (λ here. expr_formed homes n e 3 (homes + slot)) (λ there. both n (expr_code homes e 3) (slot_set homes slot) (expr_formed homes n e 3 3) (rw (set_flow homes slot FIRST) refl))
+  stmt_formed homes fs n slots frame counter (writes mask target e) h =
+      write_is (λ ps. parts_formed n ps ≡ true) homes mask target e (both n (expr_code homes e 3) (target_write homes mask target) (expr_formed homes n e 3 3) (target_formed homes n mask target))
+      (λ slot op is gives. guarded_formed homes n mask e op gives.alu)
   stmt_formed homes fs n slots frame counter (calls mask k args result) h =
       let b = and_parts (nat_lt mask slots) (tree.callee_formed fs n k (length args) && (tree.args_formed slots args && tree.result_formed slots result)) h in
       let c = and_parts (tree.callee_formed fs n k (length args)) (tree.args_formed slots args && tree.result_formed slots result) b.1 in
@@ -167,14 +170,14 @@ mutual
       both n (args_code homes args 3) (call_code homes frame mask k result) (args_formed homes n args 3) (call_formed homes n frame mask k result earlier.0)
   stmt_formed homes fs n slots frame counter (transfers mask core source target count) h =
       let sent = one (straight (send_code homes mask core)) in
-      both n (expr_code homes source 3) (joined (expr_code homes target 4) (joined (expr_code homes count 5) sent)) (expr_formed homes n source 3)
-      (both n (expr_code homes target 4) (joined (expr_code homes count 5) sent) (expr_formed homes n target 4) (both n (expr_code homes count 5) sent (expr_formed homes n count 5) (rw (fetch_flow homes mask) refl)))
-  stmt_formed homes fs n slots frame counter (overruns mask e) h = both n (expr_code homes e 3) (one (straight (overrun_code homes mask))) (expr_formed homes n e 3) (rw (fetch_flow homes mask) refl)
-  stmt_formed homes fs n slots frame counter (turns count body) h =
+      both n (expr_code homes source 3) (joined (expr_code homes target 4) (joined (expr_code homes count 5) sent)) (expr_formed homes n source 3 3)
+      (both n (expr_code homes target 4) (joined (expr_code homes count 5) sent) (expr_formed homes n target 4 4) (both n (expr_code homes count 5) sent (expr_formed homes n count 5 5) (rw (fetch_flow homes mask) refl)))
+  stmt_formed homes fs n slots frame counter (overruns mask e) h = both n (expr_code homes e 3) (one (straight (overrun_code homes mask))) (expr_formed homes n e 3 3) (rw (fetch_flow homes mask) refl)
+  stmt_formed homes fs n slots frame counter (iterations count body) h =
       let b = and_parts (nat_lt 0 count) (tree.stmts_formed fs n slots body) h in
-      let turn = and_from (parts_formed n (stmts_code homes frame (counter - 1) body)) true (stmts_formed homes fs n slots frame (counter - 1) body b.1) refl in
+      let iteration = and_from (parts_formed n (stmts_code homes frame (counter - 1) body)) true (stmts_formed homes fs n slots frame (counter - 1) body b.1) refl in
       and_from (nat_lt 0 count && (parts_formed n (stmts_code homes frame (counter - 1) body) && true)) true
-      (and_from (nat_lt 0 count) (parts_formed n (stmts_code homes frame (counter - 1) body) && true) b.0 turn) refl
+      (and_from (nat_lt 0 count) (parts_formed n (stmts_code homes frame (counter - 1) body) && true) b.0 iteration) refl
 
   pub stmts_formed : (homes : ℕ) (fs : List PlainFunction) (n slots frame counter : ℕ) (ts : PlainStmts) → tree.stmts_formed fs n slots ts ≡ true → parts_formed n (stmts_code homes frame counter ts) ≡ true
   stmts_formed homes fs n slots frame counter no_stmt h = refl

@@ -20,7 +20,7 @@ use Rattle.patmos_sem.specs.declared.writes.Write.{Write}
 use Rattle.patmos_sem.specs.declared.writes.Write.TheVariants as write
 use Rattle.sp_shape.proofs.Whole.{behind, run_append}
 use Rattle.sp_shape.specs.Bundles.{part_all, parts_all}
-use Rattle.sp_shape.specs.Formed.{is_turn, part_formed, parts_formed}
+use Rattle.sp_shape.specs.Formed.{is_iteration, part_formed, parts_formed}
 use Rattle.sp_shape.specs.Parts.{PlainPart, straight, repeats, calls_to, leaves, PlainParts, no_part, part}
 use Rattle.sp_shape.specs.Run.{Run, Sources, once, effected, run}
 use Rattle.sp_shape.specs.Trail.{Step, all_done, copies, part_trail, parts_trail}
@@ -127,16 +127,16 @@ done_back from (b ∷ bs) m keeps =
 
 -- ---- code that calls no function
 
-back_copies : (from : Sources) (n : ℕ) (turn : List Step) → ((m : Run) → SameBack m (run from turn m)) → (m : Run) → SameBack m (run from (copies n turn) m)
-back_copies from zero turn one m = record { base = refl; offset = refl }
-back_copies from (suc n) turn one m = subst (SameBack m) (sym (run_append from turn (copies n turn) m)) (back_then (one m) (back_copies from n turn one (run from turn m)))
+back_copies : (from : Sources) (n : ℕ) (iteration : List Step) → ((m : Run) → SameBack m (run from iteration m)) → (m : Run) → SameBack m (run from (copies n iteration) m)
+back_copies from zero iteration one m = record { base = refl; offset = refl }
+back_copies from (suc n) iteration one m = subst (SameBack m) (sym (run_append from iteration (copies n iteration) m)) (back_then (one m) (back_copies from n iteration one (run from iteration m)))
 
 mutual
   part_back : (from : Sources) (f : ℕ → List Step) (p : PlainPart) → part_formed 0 p ≡ true → part_all keeps_place p ≡ true → (m : Run) → SameBack m (run from (part_trail f p) m)
   part_back from f (straight bs) formed each m = done_back from bs m each
   part_back from f (repeats n body tail) formed each m =
-      let a = and_parts (nat_lt 0 n) (parts_formed 0 body && is_turn tail) formed in
-      let b = and_parts (parts_formed 0 body) (is_turn tail) a.1 in
+      let a = and_parts (nat_lt 0 n) (parts_formed 0 body && is_iteration tail) formed in
+      let b = and_parts (parts_formed 0 body) (is_iteration tail) a.1 in
       let c = and_parts (parts_all keeps_place body) (list_all keeps_place tail) each in
       back_copies from n (parts_trail f body ++ all_done tail) (λ t. subst (SameBack t) (sym (run_append from (parts_trail f body) (all_done tail) t))
       (back_then (parts_back from f body b.0 c.0 t) (done_back from tail (run from (parts_trail f body) t) c.1))) m

@@ -15,7 +15,7 @@ pub mod Cells
 pub mod Codes
 pub mod Constants
 pub mod Counters
-pub mod DigitTurns
+pub mod DigitIterations
 pub mod Digits
 pub mod Dividing
 pub mod ByConstants
@@ -26,15 +26,16 @@ pub mod Fitting
 pub mod Formed
 pub mod Frames
 pub mod FunctionAdded
-pub mod FunctionTurns
+pub mod FunctionIterations
 pub mod Homing
 pub mod Held
 pub mod Idle
 pub mod Kept
+pub mod Lasts
 pub mod Least
 pub mod Leaving
 pub mod Levels
-pub mod LoopTurns
+pub mod LoopIterations
 pub mod Looping
 pub mod Low
 pub mod Masks
@@ -65,7 +66,7 @@ pub mod StoreAsks
 pub mod Storing
 pub mod TaskAsks
 pub mod Tasks
-pub mod Turns
+pub mod Iterations
 pub mod Uncalled
 pub mod Untouched
 pub mod ValueAsks

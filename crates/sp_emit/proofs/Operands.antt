@@ -1,18 +1,21 @@
--- The code of an operand, where it is a word of the frame in a register and where it is not.
-use Rattle.std.proofs.Common.{◌≡◌, ℕ, ◌+◌, ◌<◌, Bool, true, false, if◌then◌else◌, true≢false, sym, ap, ◌∙◌}
-use Rattle.std.proofs.lemmas.Bool.{ltb-true}
+-- What holds of the code of values and of parts after one another holds of that of operands: where an operand is a word of
+-- the frame in a register, it has none.
+use Rattle.std.proofs.Common.{◌≡◌, ℕ, ◌+◌, ◌<◌, Bool, true, false, if◌then◌else◌, nat_lt, true≢false, refl, sym, ap, ◌∙◌}
+use Rattle.std.proofs.lemmas.Bool.{and_parts, ltb-true}
+use Rattle.sp_tree.specs.Formed.{names_words, array_formed}
+use Rattle.sp_tree.specs.Need.{need}
 use Rattle.sp_tree.specs.Plain.{PlainSp, constant, frame_word, cell_word, array_word, before_one, between_two}
+use Rattle.sp_tree.specs.declared.expressions.SpArray.{SpArray}
+use Rattle.sp_tree.specs.declared.operators.SpBinary.{SpBinary}
+use Rattle.sp_tree.specs.declared.operators.SpUnary.{SpUnary}
 use Rattle.sp_shape.specs.Parts.{PlainParts, no_part, joined}
 use Rattle.sp_shape.proofs.Joins.{joined-nothing}
-use Rattle.sp_emit.specs.Expressions.{is_home, slot_number, expr_code, operand_code}
-use Rattle.sp_emit.specs.declared.registers.TheConstants.{OVERRUN}
-
-pub operand_is : (P : PlainParts → Type 0) (homes : ℕ) (e : PlainSp) (rd : ℕ) → P no_part → P (expr_code homes e rd) → P (operand_code homes e rd)
-operand_is P homes e rd none code = by (is_home homes e)
-  where
-    by : (b : Bool) → P (if b then no_part else expr_code homes e rd)
-    by true = none
-    by false = code
+use Rattle.sp_emit.specs.Expressions.{is_home, slot_number, is_immediate, unless, value_code, operands_code, expr_to, expr_code, operand_code}
+use Rattle.sp_emit.specs.Fits.{ExprFits}
+use Rattle.sp_emit.specs.Places.{in_register}
+use Rattle.sp_emit.specs.Statements.{slot_set, mask_code}
+use Rattle.sp_emit.specs.declared.registers.TheConstants.{FIRST, OVERRUN}
+use Rattle.sp_emit.proofs.Needs.{index_named, operand_fits, first_fits, second_fits, first_fits_behind, second_fits_behind}
 
 pub home_below : (homes : ℕ) (e : PlainSp) → is_home homes e ≡ true → homes + slot_number e < OVERRUN
 home_below homes (frame_word slot) is = ltb-true (homes + slot) OVERRUN is
@@ -22,6 +25,110 @@ home_below homes (array_word array index) is = absurd (true≢false (sym is))
 home_below homes (before_one op of) is = absurd (true≢false (sym is))
 home_below homes (between_two op a b) is = absurd (true≢false (sym is))
 
+pub unless_is : (P : PlainParts → Type 0) (there : Bool) (code : PlainParts) → P no_part → P code → P (unless there code)
+unless_is P true code none some = none
+unless_is P false code none some = some
+
+pub operand_is : (P : PlainParts → Type 0) (homes : ℕ) (e : PlainSp) (rd : ℕ) → P no_part → P (expr_code homes e rd) → P (operand_code homes e rd)
+operand_is P homes e rd none code = unless_is P (is_home homes e) (expr_code homes e rd) none code
+
+-- one of three, as an operator's second operand and the needs of both are
+pub one_of : (P : PlainParts → Type 0) (held less : Bool) (x y z : PlainParts) → P x → (less ≡ true → P y) → (less ≡ false → P z) → P (if held then x else if less then y else z)
+one_of P true less x y z px py pz = px
+one_of P false true x y z px py pz = py refl
+one_of P false false x y z px py pz = pz refl
+
 -- no code for one that stands in a register
 pub operand_none : (old : PlainParts) (homes : ℕ) (e : PlainSp) (rd : ℕ) → is_home homes e ≡ true → old ≡ joined old (operand_code homes e rd)
-operand_none old homes e rd is = sym (joined-nothing old) ∙ ap (λ b. joined old (if b then no_part else expr_code homes e rd)) (sym is)
+operand_none old homes e rd is = sym (joined-nothing old) ∙ ap (λ b. joined old (unless b (expr_code homes e rd))) (sym is)
+
+-- ---- what holds of an expression and a register holds of its operands, and of those to which their values go
+
+pub record Handed (Holds : PlainSp → ℕ → Type 0) : Type 0 where
+  pub index : (array : SpArray) (index : PlainSp) (rd : ℕ) → Holds (array_word array index) rd → Holds index rd
+  pub operand : (op : SpUnary) (of : PlainSp) (rd : ℕ) → Holds (before_one op of) rd → Holds of rd
+  pub first : (op : SpBinary) (a b : PlainSp) (rd : ℕ) → Holds (between_two op a b) rd → Holds a rd
+  pub second : (op : SpBinary) (a b : PlainSp) (rd : ℕ) → Holds (between_two op a b) rd → Holds b rd
+  pub first_behind : (op : SpBinary) (a b : PlainSp) (rd : ℕ) → nat_lt (need a) (need b) ≡ true → Holds (between_two op a b) rd → Holds a (rd + 1)
+  pub second_behind : (op : SpBinary) (a b : PlainSp) (rd : ℕ) → nat_lt (need a) (need b) ≡ false → Holds (between_two op a b) rd → Holds b (rd + 1)
+
+pub nothing_handed : Handed (λ e rd. Unit {0})
+nothing_handed = record {
+  index = λ array index rd h. h;
+  operand = λ op of rd h. h;
+  first = λ op a b rd h. h;
+  second = λ op a b rd h. h;
+  first_behind = λ op a b rd less h. h;
+  second_behind = λ op a b rd more h. h;
+}
+
+pub names_handed : (slots : ℕ) → Handed (λ e rd. names_words slots e ≡ true)
+names_handed slots = record {
+  index = λ array index rd h. (and_parts (array_formed array) (names_words slots index) h).1;
+  operand = λ op of rd h. h;
+  first = λ op a b rd h. (and_parts (names_words slots a) (names_words slots b) h).0;
+  second = λ op a b rd h. (and_parts (names_words slots a) (names_words slots b) h).1;
+  first_behind = λ op a b rd less h. (and_parts (names_words slots a) (names_words slots b) h).0;
+  second_behind = λ op a b rd more h. (and_parts (names_words slots a) (names_words slots b) h).1;
+}
+
+pub fits_handed : Handed (λ e rd. ExprFits e rd)
+fits_handed = record {
+  index = λ array index rd h. index_named array index h;
+  operand = λ op of rd h. operand_fits op of h;
+  first = λ op a b rd h. first_fits op a b h;
+  second = λ op a b rd h. second_fits op a b h;
+  first_behind = λ op a b rd less h. first_fits_behind op a b h less;
+  second_behind = λ op a b rd more h. second_fits_behind op a b h more;
+}
+
+pub both_handed : {A B : PlainSp → ℕ → Type 0} → Handed A → Handed B → Handed (λ e rd. A e rd × B e rd)
+both_handed {A} {B} x y = record {
+  index = λ array index rd h. (x.index array index rd h.0, y.index array index rd h.1);
+  operand = λ op of rd h. (x.operand op of rd h.0, y.operand op of rd h.1);
+  first = λ op a b rd h. (x.first op a b rd h.0, y.first op a b rd h.1);
+  second = λ op a b rd h. (x.second op a b rd h.0, y.second op a b rd h.1);
+  first_behind = λ op a b rd less h. (x.first_behind op a b rd less h.0, y.first_behind op a b rd less h.1);
+  second_behind = λ op a b rd more h. (x.second_behind op a b rd more h.0, y.second_behind op a b rd more h.1);
+}
+
+-- ---- operands
+
+pub operands_are : (P : PlainParts → Type 0) (homes : ℕ) (Holds : PlainSp → ℕ → Type 0) → P no_part → ((x y : PlainParts) → P x → P y → P (joined x y)) → Handed Holds → ((e : PlainSp) (rd : ℕ) → Holds e rd → P (value_code homes e rd rd))
+    → (e : PlainSp) (rd : ℕ) → Holds e rd → P (operands_code homes e rd)
+operands_are P homes Holds none both handed value (constant n) rd h = none
+operands_are P homes Holds none both handed value (frame_word slot) rd h = none
+operands_are P homes Holds none both handed value (cell_word cell) rd h = none
+operands_are P homes Holds none both handed value (array_word array index) rd h =
+    let x = handed.index array index rd h in
+    operand_is P homes index rd none (both (operands_code homes index rd) (value_code homes index rd rd) (operands_are P homes Holds none both handed value index rd x) (value index rd x))
+operands_are P homes Holds none both handed value (before_one op of) rd h =
+    let x = handed.operand op of rd h in
+    operand_is P homes of rd none (both (operands_code homes of rd) (value_code homes of rd rd) (operands_are P homes Holds none both handed value of rd x) (value of rd x))
+operands_are P homes Holds none both handed value (between_two op a b) rd h =
+    let out : (e : PlainSp) (at : ℕ) → Holds e at → P (operands_code homes e at) → P (operand_code homes e at) = λ e at x before. operand_is P homes e at none (both (operands_code homes e at) (value_code homes e at at) before (value e at x)) in
+    let first = handed.first op a b rd h in
+    let second = handed.second op a b rd h in
+    let first_out = out a rd first (operands_are P homes Holds none both handed value a rd first) in
+    let second_out = out b rd second (operands_are P homes Holds none both handed value b rd second) in
+    one_of P (is_immediate op b) (nat_lt (need a) (need b)) (operand_code homes a rd) (joined (operand_code homes b rd) (operand_code homes a (rd + 1))) (joined (operand_code homes a rd) (operand_code homes b (rd + 1)))
+    first_out
+    (λ less. let x = handed.first_behind op a b rd less h in both (operand_code homes b rd) (operand_code homes a (rd + 1)) second_out (out a (rd + 1) x (operands_are P homes Holds none both handed value a (rd + 1) x)))
+    (λ more. let x = handed.second_behind op a b rd more h in both (operand_code homes a rd) (operand_code homes b (rd + 1)) first_out (out b (rd + 1) x (operands_are P homes Holds none both handed value b (rd + 1) x)))
+
+-- what holds of the code of all values
+pub each_operands_are : (P : PlainParts → Type 0) (homes : ℕ) → P no_part → ((x y : PlainParts) → P x → P y → P (joined x y)) → ((e : PlainSp) (rd to : ℕ) → P (value_code homes e rd to)) → (e : PlainSp) (rd : ℕ) → P (operands_code homes e rd)
+each_operands_are P homes none both value e rd = operands_are P homes (λ e rd. Unit {0}) none both nothing_handed (λ e rd h. value e rd rd) e rd tt
+
+pub each_expr_is : (P : PlainParts → Type 0) (homes : ℕ) → P no_part → ((x y : PlainParts) → P x → P y → P (joined x y)) → ((e : PlainSp) (rd to : ℕ) → P (value_code homes e rd to)) → (e : PlainSp) (rd to : ℕ) → P (expr_to homes e rd to)
+each_expr_is P homes none both value e rd to = both (operands_code homes e rd) (value_code homes e rd to) (each_operands_are P homes none both value e rd) (value e rd to)
+
+-- ---- a word that is set in any case, in a register and in the stack
+
+pub mask_is : (P : PlainParts → Type 0) (homes slot : ℕ) (e : PlainSp) → (in_register homes slot ≡ true → P (expr_to homes e FIRST (homes + slot))) → (in_register homes slot ≡ false → P (joined (expr_code homes e FIRST) (slot_set homes slot)))
+    → P (mask_code homes slot e)
+mask_is P homes slot e here there = by (in_register homes slot) refl
+  where
+    by : (b : Bool) → in_register homes slot ≡ b → P (if b then expr_to homes e FIRST (homes + slot) else joined (expr_code homes e FIRST) (slot_set homes slot))
+    by true is = here is
+    by false is = there is

@@ -14,7 +14,7 @@ use Rattle.patmos_sem.specs.Registers.{Registers, word_in, holds}
 use Rattle.patmos_sem.specs.declared.effects.Effect.TheVariants as effect
 use Rattle.sp_shape.proofs.Whole.{behind, once_whole, begun_whole, run_append}
 use Rattle.sp_shape.specs.Bundles.{part_all, parts_all}
-use Rattle.sp_shape.specs.Formed.{is_call, is_way, is_turn, part_formed, parts_formed}
+use Rattle.sp_shape.specs.Formed.{is_call, is_way, is_iteration, part_formed, parts_formed}
 use Rattle.sp_shape.specs.Parts.{PlainPart, straight, repeats, calls_to, leaves, PlainParts, no_part, part}
 use Rattle.sp_shape.specs.Run.{Run, Sources, once, effected, run, begun, IsWhole}
 use Rattle.sp_shape.specs.Trail.{Step, begins, all_done, copies, part_trail, parts_trail}
@@ -118,20 +118,20 @@ passes_begun count m whole = record { whole = begun_whole m whole; keeps = stays
 pub enough_still : {count low : ℕ} {m t : Run} → Passes count m t → low ≤ m.st → low ≤ t.st
 enough_still {count} {low} {m} {t} p enough = subst (λ st. low ≤ st) (sym p.keeps.st) enough
 
-passes_copies : (from : Sources) (count low n : ℕ) (turn : List Step) → ((m : Run) → IsWhole m → low ≤ m.st → Passes count m (run from turn m))
-    → (m : Run) → IsWhole m → low ≤ m.st → Passes count m (run from (copies n turn) m)
-passes_copies from count low zero turn one m whole enough = passes_all count m whole
-passes_copies from count low (suc n) turn one m whole enough =
+passes_copies : (from : Sources) (count low n : ℕ) (iteration : List Step) → ((m : Run) → IsWhole m → low ≤ m.st → Passes count m (run from iteration m))
+    → (m : Run) → IsWhole m → low ≤ m.st → Passes count m (run from (copies n iteration) m)
+passes_copies from count low zero iteration one m whole enough = passes_all count m whole
+passes_copies from count low (suc n) iteration one m whole enough =
     let p = one m whole enough in
-    subst (Passes count m) (sym (run_append from turn (copies n turn) m)) (passes_then p (passes_copies from count low n turn one (run from turn m) p.whole (enough_still p enough)))
+    subst (Passes count m) (sym (run_append from iteration (copies n iteration) m)) (passes_then p (passes_copies from count low n iteration one (run from iteration m) p.whole (enough_still p enough)))
 
 mutual
   pub passes_part : (from : Sources) (f : ℕ → List Step) (number low count : ℕ) → count ≤ 128 → AllPass from f number low → (p : PlainPart) → part_formed number p ≡ true → part_all (passes count) p ≡ true
       → (m : Run) → IsWhole m → low ≤ m.st → Passes count m (run from (part_trail f p) m)
   passes_part from f number low count few others (straight bs) formed each m whole enough = passes_done from count bs m few whole each
   passes_part from f number low count few others (repeats n body tail) formed each m whole enough =
-      let a = and_parts (nat_lt 0 n) (parts_formed number body && is_turn tail) formed in
-      let b = and_parts (parts_formed number body) (is_turn tail) a.1 in
+      let a = and_parts (nat_lt 0 n) (parts_formed number body && is_iteration tail) formed in
+      let b = and_parts (parts_formed number body) (is_iteration tail) a.1 in
       let c = and_parts (parts_all (passes count) body) (list_all (passes count) tail) each in
       passes_copies from count low n (parts_trail f body ++ all_done tail) (λ t rest room.
       let p = passes_parts from f number low count few others body b.0 c.0 t rest room in

@@ -1,20 +1,19 @@
 -- Parts that are pushed after others.
-use Rattle.std.proofs.Common.{◌≡◌, ℕ, ◌+◌, ◌-◌, Option, Bool, true, false, if◌then◌else◌, List, [], ◌∷◌, ◌++◌, ap, sym, ◌∙◌}
-use Rattle.std.specs.Prelude.{nat_lt}
-use Rattle.sp_tree.specs.Need.{need}
-use Rattle.sp_tree.specs.Plain.{PlainSp, between_two}
-use Rattle.sp_tree.specs.declared.operators.SpBinary.{SpBinary}
-use Rattle.sp_emit.specs.Expressions.{binary_code, held_code, number_of, expr_code, operand_code, value_at, is_immediate}
+use Rattle.std.proofs.Common.{◌≡◌, ℕ, ◌+◌, ◌-◌, Option, None, Some, List, [], ◌∷◌, ◌++◌, ap, sym, ◌∙◌}
 use Rattle.patmos_instr.specs.Bundles.{Slots}
-use Rattle.sp_shape.proofs.Joins.{shown, joined-assoc}
+use Rattle.sp_shape.proofs.Joins.{shown, joined-nothing, joined-assoc}
 use Rattle.sp_shape.specs.Parts.{PlainParts, no_part, part, straight, repeats, one, joined}
 use Rattle.sp_shape.specs.Shown.{plain_part, parts_of}
 use Rattle.sp_shape.specs.declared.parts.Part.{Part, Straight}
 use Rattle.sp_emit.specs.Division.{highest_bit, digits, around}
 use Rattle.sp_emit.specs.Functions.{function_begin, function_end, leaving, function_code}
-use Rattle.sp_emit.specs.Statements.{mask_handed, way_to, behind_call, call_code, turns_begin, turns_tail, stmt_code, stmts_code}
+use Rattle.sp_emit.specs.Expressions.{expr_code}
+use Rattle.sp_emit.specs.Statements.{target_write, guarded_code, straight_op, write_by, write_code, mask_handed, way_to, behind_call, call_code, iterations_begin, iterations_tail, stmt_code, stmts_code}
 use Rattle.sp_tree.specs.Shown.{plain_function, stmts_of}
-use Rattle.sp_tree.specs.Statements.{PlainStmts, turns}
+use Rattle.sp_tree.specs.Plain.{PlainSp}
+use Rattle.sp_tree.specs.Statements.{PlainSpTarget, PlainStmts, iterations}
+use Rattle.patmos_instr.specs.declared.instructions.Op.{Op}
+use Rattle.sp_emit.specs.declared.registers.TheConstants.{FIRST}
 use Rattle.sp_tree.specs.declared.statements.SpFunction.{SpFunction}
 use Rattle.sp_tree.specs.declared.statements.SpStmt.{SpStmt}
 
@@ -48,37 +47,16 @@ function_pushed homes f xs ts first second third fourth none is a b c d =
     d ∙ ap (λ x. joined x (one leaving)) (c ∙ ap (λ x. joined x end) (b' ∙ ap (λ x. joined x body) a')) ∙ joined-assoc (joined begin body) end (one leaving)
     ∙ joined-assoc begin body (joined end (one leaving))
 
--- ---- operands in their order
+pub nothing_pushed : (old : PlainParts) → old ≡ joined old no_part
+nothing_pushed old = sym (joined-nothing old)
 
-pub held_pushed : (homes : ℕ) (old first second : PlainParts) (op : SpBinary) (a b : PlainSp) (rd : ℕ) → is_immediate op b ≡ true → first ≡ joined old (operand_code homes a rd)
-    → second ≡ joined first (one (straight (held_code op rd (value_at homes a rd) (number_of b)))) → second ≡ joined old (expr_code homes (between_two op a b) rd)
-held_pushed homes old first second op a b rd held f s =
-    two_pushed old first second (operand_code homes a rd) (one (straight (held_code op rd (value_at homes a rd) (number_of b)))) f s
-    ∙ ap (joined old) (sym (ap (λ c. if c then joined (operand_code homes a rd) (one (straight (held_code op rd (value_at homes a rd) (number_of b))))
-    else if nat_lt (need a) (need b) then joined (operand_code homes b rd) (joined (operand_code homes a (rd + 1)) (binary_code op rd (value_at homes a (rd + 1)) (value_at homes b rd)))
-    else joined (operand_code homes a rd) (joined (operand_code homes b (rd + 1)) (binary_code op rd (value_at homes a rd) (value_at homes b (rd + 1))))) held))
+-- ---- what is set under a mask
 
-not_held : (homes : ℕ) (op : SpBinary) (a b : PlainSp) (rd : ℕ) (less : Bool) → is_immediate op b ≡ false → nat_lt (need a) (need b) ≡ less → expr_code homes (between_two op a b) rd
-    ≡ (if less then joined (operand_code homes b rd) (joined (operand_code homes a (rd + 1)) (binary_code op rd (value_at homes a (rd + 1)) (value_at homes b rd)))
-    else joined (operand_code homes a rd) (joined (operand_code homes b (rd + 1)) (binary_code op rd (value_at homes a rd) (value_at homes b (rd + 1)))))
-not_held homes op a b rd less not is =
-    ap (λ c. if c then joined (operand_code homes a rd) (one (straight (held_code op rd (value_at homes a rd) (number_of b))))
-    else if nat_lt (need a) (need b) then joined (operand_code homes b rd) (joined (operand_code homes a (rd + 1)) (binary_code op rd (value_at homes a (rd + 1)) (value_at homes b rd)))
-    else joined (operand_code homes a rd) (joined (operand_code homes b (rd + 1)) (binary_code op rd (value_at homes a rd) (value_at homes b (rd + 1))))) not
-    ∙ ap (λ c. if c then joined (operand_code homes b rd) (joined (operand_code homes a (rd + 1)) (binary_code op rd (value_at homes a (rd + 1)) (value_at homes b rd)))
-    else joined (operand_code homes a rd) (joined (operand_code homes b (rd + 1)) (binary_code op rd (value_at homes a rd) (value_at homes b (rd + 1))))) is
+pub guarded_pushed : (homes mask : ℕ) (target : PlainSpTarget) (e : PlainSp) (op : Op) (old new : PlainParts) → Some op ≡ straight_op homes target e → new ≡ joined old (guarded_code homes mask e op) → new ≡ joined old (write_code homes mask target e)
+guarded_pushed homes mask target e op old new is pushed = pushed ∙ ap (λ o. joined old (write_by homes mask target e o)) is
 
-pub second_pushed : (homes : ℕ) (old first second : PlainParts) (op : SpBinary) (a b : PlainSp) (rd : ℕ) → is_immediate op b ≡ false → nat_lt (need a) (need b) ≡ true
-    → first ≡ joined old (joined (operand_code homes b rd) (operand_code homes a (rd + 1))) → second ≡ joined first (binary_code op rd (value_at homes a (rd + 1)) (value_at homes b rd)) → second ≡ joined old (expr_code homes (between_two op a b) rd)
-second_pushed homes old first second op a b rd not less f s =
-    two_pushed old first second (joined (operand_code homes b rd) (operand_code homes a (rd + 1))) (binary_code op rd (value_at homes a (rd + 1)) (value_at homes b rd)) f s
-    ∙ ap (joined old) (joined-assoc (operand_code homes b rd) (operand_code homes a (rd + 1)) (binary_code op rd (value_at homes a (rd + 1)) (value_at homes b rd)) ∙ sym (not_held homes op a b rd true not less))
-
-pub first_pushed : (homes : ℕ) (old first second : PlainParts) (op : SpBinary) (a b : PlainSp) (rd : ℕ) → is_immediate op b ≡ false → nat_lt (need a) (need b) ≡ false
-    → first ≡ joined old (joined (operand_code homes a rd) (operand_code homes b (rd + 1))) → second ≡ joined first (binary_code op rd (value_at homes a rd) (value_at homes b (rd + 1))) → second ≡ joined old (expr_code homes (between_two op a b) rd)
-first_pushed homes old first second op a b rd not less f s =
-    two_pushed old first second (joined (operand_code homes a rd) (operand_code homes b (rd + 1))) (binary_code op rd (value_at homes a rd) (value_at homes b (rd + 1))) f s
-    ∙ ap (joined old) (joined-assoc (operand_code homes a rd) (operand_code homes b (rd + 1)) (binary_code op rd (value_at homes a rd) (value_at homes b (rd + 1))) ∙ sym (not_held homes op a b rd false not less))
+pub stored_pushed : (homes mask : ℕ) (target : PlainSpTarget) (e : PlainSp) (old first new : PlainParts) → None ≡ straight_op homes target e → first ≡ joined old (expr_code homes e FIRST) → new ≡ joined first (target_write homes mask target) → new ≡ joined old (write_code homes mask target e)
+stored_pushed homes mask target e old first new is a b = two_pushed old first new (expr_code homes e FIRST) (target_write homes mask target) a b ∙ ap (λ o. joined old (write_by homes mask target e o)) is
 
 -- ---- sends
 
@@ -86,18 +64,18 @@ pub send_pushed : (old first second a b c d : PlainParts) → first ≡ joined o
 send_pushed old first second a b c d one two =
     two_pushed old first second (joined a (joined b c)) d one two ∙ ap (joined old) (joined-assoc a (joined b c) d ∙ ap (joined a) (joined-assoc b c d))
 
--- ---- calls and turns
+-- ---- calls and iterations
 
 pub call_pushed : (homes : ℕ) (old first second third : PlainParts) (frame mask k : ℕ) (slot : Option ℕ) → first ≡ joined old (one (straight (mask_handed homes mask)))
     → second ≡ joined first (one (way_to k)) → third ≡ joined second (one (straight (behind_call homes frame mask slot))) → third ≡ joined old (call_code homes frame mask k slot)
 call_pushed homes old first second third frame mask k slot a b c =
     three_pushed old first second third (one (straight (mask_handed homes mask))) (one (way_to k)) (one (straight (behind_call homes frame mask slot))) a b c
 
-pub turns_pushed : (homes : ℕ) (old first second turn : PlainParts) (frame counter count : ℕ) (body : PlainStmts) → first ≡ joined old (one (straight (turns_begin counter count)))
-    → turn ≡ stmts_code homes frame (counter - 1) body → second ≡ joined first (one (repeats count turn (turns_tail counter))) → second ≡ joined old (stmt_code homes frame counter (turns count body))
-turns_pushed homes old first second turn frame counter count body a is b =
-    two_pushed old first second (one (straight (turns_begin counter count))) (one (repeats count (stmts_code homes frame (counter - 1) body) (turns_tail counter))) a
-    (b ∙ ap (λ t. joined first (one (repeats count t (turns_tail counter)))) is)
+pub iterations_pushed : (homes : ℕ) (old first second iteration : PlainParts) (frame counter count : ℕ) (body : PlainStmts) → first ≡ joined old (one (straight (iterations_begin counter count)))
+    → iteration ≡ stmts_code homes frame (counter - 1) body → second ≡ joined first (one (repeats count iteration (iterations_tail counter))) → second ≡ joined old (stmt_code homes frame counter (iterations count body))
+iterations_pushed homes old first second iteration frame counter count body a is b =
+    two_pushed old first second (one (straight (iterations_begin counter count))) (one (repeats count (stmts_code homes frame (counter - 1) body) (iterations_tail counter))) a
+    (b ∙ ap (λ t. joined first (one (repeats count t (iterations_tail counter)))) is)
 
 pub straight_as : (old new : PlainParts) (xs ys : List Slots) → new ≡ joined old (one (straight xs)) → xs ≡ ys → new ≡ joined old (one (straight ys))
 straight_as old new xs ys is same = is ∙ ap (λ l. joined old (one (straight l))) same

@@ -16,11 +16,11 @@ use Rattle.sp_shape.specs.Bundles.{part_all, parts_all}
 use Rattle.sp_shape.specs.Formed.{is_always}
 use Rattle.sp_shape.specs.Parts.{PlainPart, straight, repeats, calls_to, leaves, PlainParts, no_part, part, one, joined}
 use Rattle.sp_shape.proofs.Lists.{all_weaker}
-use Rattle.sp_emit.proofs.Operands.{operand_is}
+use Rattle.sp_emit.proofs.Operands.{one_of, each_operands_are, each_expr_is}
 use Rattle.sp_emit.proofs.Held.{held_is}
 use Rattle.sp_emit.specs.Division.{unsigned_quotient_to}
 use Rattle.sp_emit.specs.Divisors.{factor_rest_to}
-use Rattle.sp_emit.specs.Expressions.{unary_code, binary_code, held_code, element_code, number_of, expr_code, operand_code, value_at, is_immediate, address_of}
+use Rattle.sp_emit.specs.Expressions.{unary_code, binary_code, held_code, element_code, number_of, value_code, operands_code, expr_to, expr_code, value_at, is_immediate, address_of}
 use Rattle.sp_emit.specs.Statements.{args_code}
 use Rattle.sp_emit.specs.Instructions.{always, number_op}
 use Rattle.sp_emit.specs.Places.{read_op}
@@ -83,29 +83,29 @@ held_quiet : (op : SpBinary) (rd ra n : ℕ) → AreQuiet (held_code op rd ra n)
 unfolding factor_rest_to
 held_quiet op rd ra n = held_is AreQuiet op rd ra n (grind arith) (grind arith)
 
-two_quiet : (homes : ℕ) (op : SpBinary) (a b : PlainSp) (rd : ℕ) (held less : Bool) → Quiet (operand_code homes a rd) → Quiet (operand_code homes b rd) → Quiet (operand_code homes a (rd + 1)) → Quiet (operand_code homes b (rd + 1))
-    → Quiet (if held then joined (operand_code homes a rd) (one (straight (held_code op rd (value_at homes a rd) (number_of b))))
-    else if less then joined (operand_code homes b rd) (joined (operand_code homes a (rd + 1)) (binary_code op rd (value_at homes a (rd + 1)) (value_at homes b rd)))
-    else joined (operand_code homes a rd) (joined (operand_code homes b (rd + 1)) (binary_code op rd (value_at homes a rd) (value_at homes b (rd + 1)))))
-two_quiet homes op a b rd true less qa qb na nb = each_joined is_quiet (operand_code homes a rd) _ qa (each_lone is_quiet (held_code op rd (value_at homes a rd) (number_of b)) (held_quiet op rd (value_at homes a rd) (number_of b)))
-two_quiet homes op a b rd false true qa qb na nb = each_joined is_quiet (operand_code homes b rd) _ qb (each_joined is_quiet (operand_code homes a (rd + 1)) _ na (binary_quiet op rd (value_at homes a (rd + 1)) (value_at homes b rd)))
-two_quiet homes op a b rd false false qa qb na nb = each_joined is_quiet (operand_code homes a rd) _ qa (each_joined is_quiet (operand_code homes b (rd + 1)) _ nb (binary_quiet op rd (value_at homes a rd) (value_at homes b (rd + 1))))
-
 read_quiet : (homes rd slot : ℕ) → is_quiet_op always (read_op homes rd slot) ≡ true
 read_quiet homes rd slot = read_op_is (λ op. is_quiet_op always op ≡ true) homes rd slot refl refl
 
 number_quiet : (rd n : ℕ) → is_quiet_op always (number_op rd n) ≡ true
 number_quiet rd n = number_op_is (λ op. is_quiet_op always op ≡ true) rd n refl refl
 
-pub expr_quiet : (homes : ℕ) (e : PlainSp) (rd : ℕ) → Quiet (expr_code homes e rd)
-expr_quiet homes (constant v) rd = rw (number_quiet rd v) refl
-expr_quiet homes (frame_word slot) rd = rw (read_quiet homes rd slot) refl
-expr_quiet homes (cell_word cell) rd = rw (number_quiet rd (address_of cell.region cell.word)) refl
-expr_quiet homes (array_word array index) rd = each_joined is_quiet (expr_code homes index rd) (one (straight (element_code array rd))) (expr_quiet homes index rd)
-    (rw (number_quiet SPARE array.length, number_quiet SPARE (address_of array.region array.first)) refl)
-expr_quiet homes (before_one op of) rd = each_joined is_quiet (operand_code homes of rd) _ (operand_is Quiet homes of rd refl (expr_quiet homes of rd)) (each_lone is_quiet (unary_code op rd (value_at homes of rd)) (unary_quiet op rd (value_at homes of rd)))
-expr_quiet homes (between_two op a b) rd = two_quiet homes op a b rd (is_immediate op b) (nat_lt (need a) (need b)) (operand_is Quiet homes a rd refl (expr_quiet homes a rd)) (operand_is Quiet homes b rd refl (expr_quiet homes b rd)) (operand_is Quiet homes a (rd + 1) refl (expr_quiet homes a (rd + 1))) (operand_is Quiet homes b (rd + 1) refl (expr_quiet homes b (rd + 1)))
+value_quiet : (homes : ℕ) (e : PlainSp) (rd to : ℕ) → Quiet (value_code homes e rd to)
+value_quiet homes (constant v) rd to = rw (number_quiet to v) refl
+value_quiet homes (frame_word slot) rd to = rw (read_quiet homes to slot) refl
+value_quiet homes (cell_word cell) rd to = rw (number_quiet to (address_of cell.region cell.word)) refl
+value_quiet homes (array_word array index) rd to = rw (number_quiet SPARE array.length, number_quiet SPARE (address_of array.region array.first)) refl
+value_quiet homes (before_one op of) rd to = each_lone is_quiet (unary_code op to (value_at homes of rd)) (unary_quiet op to (value_at homes of rd))
+value_quiet homes (between_two op a b) rd to =
+    one_of Quiet (is_immediate op b) (nat_lt (need a) (need b)) (one (straight (held_code op to (value_at homes a rd) (number_of b)))) (binary_code op to (value_at homes a (rd + 1)) (value_at homes b rd)) (binary_code op to (value_at homes a rd) (value_at homes b (rd + 1)))
+    (each_lone is_quiet (held_code op to (value_at homes a rd) (number_of b)) (held_quiet op to (value_at homes a rd) (number_of b)))
+    (λ less. binary_quiet op to (value_at homes a (rd + 1)) (value_at homes b rd)) (λ more. binary_quiet op to (value_at homes a rd) (value_at homes b (rd + 1)))
+
+pub operands_quiet : (homes : ℕ) (e : PlainSp) (rd : ℕ) → Quiet (operands_code homes e rd)
+operands_quiet homes e rd = each_operands_are Quiet homes refl (each_joined is_quiet) (value_quiet homes) e rd
+
+pub expr_quiet : (homes : ℕ) (e : PlainSp) (rd to : ℕ) → Quiet (expr_to homes e rd to)
+expr_quiet homes e rd to = each_expr_is Quiet homes refl (each_joined is_quiet) (value_quiet homes) e rd to
 
 pub args_quiet : (homes : ℕ) (args : List PlainSp) (rd : ℕ) → Quiet (args_code homes args rd)
 args_quiet homes [] rd = refl
-args_quiet homes (e ∷ args) rd = each_joined is_quiet (expr_code homes e rd) (args_code homes args (rd + 1)) (expr_quiet homes e rd) (args_quiet homes args (rd + 1))
+args_quiet homes (e ∷ args) rd = each_joined is_quiet (expr_code homes e rd) (args_code homes args (rd + 1)) (expr_quiet homes e rd rd) (args_quiet homes args (rd + 1))

@@ -20,7 +20,7 @@ use Rattle.sp_emit.specs.Division.{operands, without_signs, highest_bit, digit_t
 use Rattle.sp_emit.specs.Holding.{held}
 use Rattle.sp_emit.specs.Instructions.{always, where_so, set_short, copy, with_short, compute, compare, compare_short, combine}
 use Rattle.sp_emit.specs.declared.registers.TheConstants.{DIVIDEND, DIVISOR, REMAINDER, DIGITS, TEST, SECOND, REST_NEGATIVE, QUOTIENT_NEGATIVE}
-use Rattle.sp_emit.proofs.Digits.{turned, divides_words, divides_by_zero, quotient_word, rest_word}
+use Rattle.sp_emit.proofs.Digits.{iterated, divides_words, divides_by_zero, quotient_word, rest_word}
 use Rattle.sp_emit.proofs.Calm.{calm_run}
 use Rattle.sp_emit.proofs.Dividing.{Signs, Divides, still_divides, written_where, run_before, digits_done}
 use Rattle.sp_emit.proofs.Leaving.{did_compare, did_compare_short, did_combine, did_set_short}
@@ -340,7 +340,7 @@ run_around from f before behind m =
 
 -- after the digits of unsigned words: the dividend still stands in its register
 record UnsignedDivided (a b ra : ℕ) (m t : Run) : Type 0 where
-  divides : Divides (record { rest = so REST_NEGATIVE m; quotient = so QUOTIENT_NEGATIVE m }) (turned 32 b (a, 0)).0 (turned 32 b (a, 0)).1 b t
+  divides : Divides (record { rest = so REST_NEGATIVE m; quotient = so QUOTIENT_NEGATIVE m }) (iterated 32 b (a, 0)).0 (iterated 32 b (a, 0)).1 b t
   dividend : held ra t ≡ a
 
 unsigned_divided : (from : Sources) (ra rb a b : ℕ) (m : Run) → IsWhole m → ra < 27 → rb < 27 → held ra m ≡ a → held rb m ≡ b → a < 2 ^ 32 → b < 2 ^ 32
@@ -365,7 +365,7 @@ pub unsigned_quotient_left : (from : Sources) (f : ℕ → List Step) (rd ra rb 
 unfolding unsigned_quotient_to
 unsigned_quotient_left from f rd ra rb a b m whole some few low_a low is_a is_b word_a word_b =
     let u = unsigned_divided from ra rb a b m whole low_a low is_a is_b word_a word_b in
-    let c = large_quotient_is a b (turned 32 b (a, 0)).0 word_a word_b (λ low_b. quotient_word a b word_a low_b) (λ low_b some_b. (divides_words a b word_a low_b some_b).0) in
+    let c = large_quotient_is a b (iterated 32 b (a, 0)).0 word_a word_b (λ low_b. quotient_word a b word_a low_b) (λ low_b some_b. (divides_words a b word_a low_b some_b).0) in
     ap (held rd) (run_around from f (operands ra rb) (unsigned_quotient_to rd ra) m)
     ∙ (quotient_given from _ _ _ b rd _ (sets_quotient from _ _ _ a b ra _ u.divides (omega (arith, low_a)) u.dividend) some few c.word).value ∙ unsigned_is _ (a / b) b c
 
@@ -378,28 +378,28 @@ rest_left a zero r v is none c = is ∙ by (nat_le 0 a)
 rest_left a (suc b) r v is none c = c.is (omega arith) ∙ ap (λ on. if on then a else a % suc b) (sym (ne_eqb (suc b) 0 (omega arith)))
 
 -- what is left by 0 is all
-left_by_zero : (a b : ℕ) → a < 2 ^ 32 → b ≡ 0 → (turned 32 b (a, 0)).1 ≡ a
-left_by_zero a b word none = ap (λ n. (turned 32 n (a, 0)).1) none ∙ divides_by_zero a word
+left_by_zero : (a b : ℕ) → a < 2 ^ 32 → b ≡ 0 → (iterated 32 b (a, 0)).1 ≡ a
+left_by_zero a b word none = ap (λ n. (iterated 32 n (a, 0)).1) none ∙ divides_by_zero a word
 
 pub unsigned_rest_left : (from : Sources) (f : ℕ → List Step) (rd ra rb a b : ℕ) (m : Run) → IsWhole m → 1 ≤ rd → rd < 32 → ra < 27 → rb < 27 → held ra m ≡ a → held rb m ≡ b → a < 2 ^ 32 → b < 2 ^ 32
     → held rd (run from (parts_trail f (unsigned_division (unsigned_rest_to rd ra) ra rb)) m) ≡ rest_unsigned a b
 unsigned_rest_left from f rd ra rb a b m whole some few low_a low is_a is_b word_a word_b =
     let u = unsigned_divided from ra rb a b m whole low_a low is_a is_b word_a word_b in
-    let c = large_rest_is a b (turned 32 b (a, 0)).1 word_a word_b (λ low_b. rest_word a b word_a low_b) (λ low_b some_b. (divides_words a b word_a low_b some_b).1) in
+    let c = large_rest_is a b (iterated 32 b (a, 0)).1 word_a word_b (λ low_b. rest_word a b word_a low_b) (λ low_b some_b. (divides_words a b word_a low_b some_b).1) in
     ap (held rd) (run_around from f (operands ra rb) (unsigned_rest_to rd ra) m)
-    ∙ (rest_given from _ _ _ b rd _ (sets_rest from _ _ _ a b ra _ u.divides (omega (arith, low_a)) u.dividend word_a) some few c.word).value ∙ rest_left a b (turned 32 b (a, 0)).1 _ refl (left_by_zero a b word_a) c
+    ∙ (rest_given from _ _ _ b rd _ (sets_rest from _ _ _ a b ra _ u.divides (omega (arith, low_a)) u.dividend word_a) some few c.word).value ∙ rest_left a b (iterated 32 b (a, 0)).1 _ refl (left_by_zero a b word_a) c
 
 -- signed words without their signs are at most 2^31
-quotient_is : (a b : ℕ) → a < 2 ^ 32 → b ≤ 2 ^ 31 → (if b == 0 then 0 else (turned 32 b (a, 0)).0) ≡ (if b == 0 then 0 else a / b)
+quotient_is : (a b : ℕ) → a < 2 ^ 32 → b ≤ 2 ^ 31 → (if b == 0 then 0 else (iterated 32 b (a, 0)).0) ≡ (if b == 0 then 0 else a / b)
 quotient_is a zero word_a low_b = refl
 quotient_is a (suc b) word_a low_b = ap (λ n. if suc b == 0 then 0 else n) (divides_words a (suc b) word_a low_b (omega arith)).0
 
-rest_is : (a b : ℕ) → a < 2 ^ 32 → b ≤ 2 ^ 31 → (turned 32 b (a, 0)).1 ≡ (if b == 0 then a else a % b)
+rest_is : (a b : ℕ) → a < 2 ^ 32 → b ≤ 2 ^ 31 → (iterated 32 b (a, 0)).1 ≡ (if b == 0 then a else a % b)
 rest_is a zero word_a low_b = divides_by_zero a word_a
 rest_is a (suc b) word_a low_b = (divides_words a (suc b) word_a low_b (omega arith)).1 ∙ ap (λ on. if on then a else a % suc b) (sym (ne_eqb (suc b) 0 (omega arith)))
 
 signed_divided : (from : Sources) (ra rb a b : ℕ) (m : Run) → IsWhole m → rb < 27 → held ra m ≡ a → held rb m ≡ b → a < 2 ^ 32 → b < 2 ^ 32
-    → Divides (record { rest = has_bit a 31; quotient = differ (has_bit a 31) (has_bit b 31) }) (turned 32 (size_of b) (size_of a, 0)).0 (turned 32 (size_of b) (size_of a, 0)).1 (size_of b)
+    → Divides (record { rest = has_bit a 31; quotient = differ (has_bit a 31) (has_bit b 31) }) (iterated 32 (size_of b) (size_of a, 0)).0 (iterated 32 (size_of b) (size_of a, 0)).1 (size_of b)
     (run from (copies 16 (all_done digit_tail)) (once from highest_bit (run from (all_done (operands ra rb ++ without_signs)) m)))
 signed_divided from ra rb a b m whole few is_a is_b word_a word_b =
     digits_done from _ (size_of a) (size_of b) (run from (all_done (operands ra rb ++ without_signs)) m)

@@ -1,34 +1,39 @@
 -- The code of a function takes at most as many words as its trees cost.
-use Rattle.std.proofs.Common.{◌≡◌, ℕ, zero, suc, ◌+◌, ◌-◌, ◌≤◌, Bool, true, false, List, [], ◌∷◌, refl, arith, if◌then◌else◌, Option, None, Some, ◌++◌}
+use Rattle.std.proofs.Common.{◌≡◌, ℕ, zero, suc, ◌+◌, ◌-◌, ◌≤◌, Bool, true, false, List, [], ◌∷◌, refl, sym, ap, subst, arith, if◌then◌else◌, Option, None, Some, ◌++◌}
 use Rattle.std.specs.Prelude.{nat_lt, nat_le}
 use Rattle.std.proofs.lemmas.Bool.{and_parts, leb-true, ltb-true}
 use Rattle.std.proofs.lemmas.Bool.Decides.{nat_tests}
 use Rattle.c_world.specs.declared.region.Region.{Region}
-use Rattle.sp_tree.specs.Cost.{unary_cost, binary_cost, held_below, is_held, expr_cost, args_cost, target_cost, stmt_cost, stmts_cost, cost}
+use Rattle.patmos_instr.specs.declared.functions.AluFunc.TheVariants as alu
+use Rattle.patmos_instr.specs.declared.functions.ImmFunc.TheVariants as imm
+use Rattle.patmos_instr.specs.declared.instructions.Op.TheVariants.{AluImm, AluLong}
+use Rattle.sp_tree.specs.Cost.{constant_cost, unary_cost, binary_cost, held_below, is_held, expr_cost, args_cost, target_cost, stmt_cost, stmts_cost, cost}
 use Rattle.sp_tree.specs.Formed as tree
 use Rattle.sp_tree.specs.Need.{need}
 use Rattle.sp_tree.specs.Plain.{PlainSp, constant, frame_word, cell_word, array_word, before_one, between_two}
-use Rattle.sp_tree.specs.Statements.{PlainSpTarget, to_slot, to_cell, to_array, PlainStmt, masks, writes, calls, transfers, overruns, turns, PlainStmts, no_stmt, stmt, PlainFunction}
+use Rattle.sp_tree.specs.Statements.{PlainSpTarget, to_slot, to_cell, to_array, PlainStmt, masks, writes, calls, transfers, overruns, iterations, PlainStmts, no_stmt, stmt, PlainFunction}
 use Rattle.sp_tree.specs.declared.operators.SpBinary.{SpBinary}
 use Rattle.sp_tree.specs.declared.operators.SpUnary.{SpUnary}
 use Rattle.sp_shape.specs.Words.{bundles_room, parts_room, bundle_room}
 use Rattle.sp_shape.specs.Parts.{straight, PlainParts, no_part, part, one, joined}
 use Rattle.sp_shape.proofs.Lists.{room_append}
-use Rattle.sp_emit.proofs.Operands.{operand_is}
+use Rattle.sp_emit.proofs.Operands.{operand_is, mask_is}
 use Rattle.sp_emit.proofs.Held.{held_is}
 use Rattle.sp_emit.specs.Division.{unsigned_quotient_to}
 use Rattle.sp_emit.specs.Divisors.{factor_rest_to}
-use Rattle.sp_emit.specs.Expressions.{unary_code, binary_code, held_code, element_code, number_of, expr_code, operand_code, value_at, is_immediate, address_of}
+use Rattle.sp_emit.specs.Expressions.{unary_code, binary_code, held_code, element_code, number_of, value_code, operands_code, expr_to, expr_code, operand_code, value_at, is_immediate, address_of}
 use Rattle.sp_emit.proofs.Codes.{kept_is, brought_is, taken_is, freed_is}
 use Rattle.sp_emit.specs.Functions.{argument_kept, first_counter, arguments_kept, mask_kept, state_kept, frame_taken, result_given, function_rest, function_code}
 use Rattle.std.specs.Prelude.{◌-◌}
 use Rattle.patmos_instr.specs.declared.guards.Guard.{Guard}
+use Rattle.patmos_instr.specs.declared.instructions.Op.{Op}
 use Rattle.c_world.specs.declared.region.Region.TheVariants as region
-use Rattle.sp_emit.specs.Instructions.{always, where_so, under, set_short, set_number}
+use Rattle.sp_emit.specs.Instructions.{always, where_so, under, set_short, set_number, number_op}
 use Rattle.sp_emit.specs.Places.{in_register, read_word, set_word, word_cleared, words_cleared, fetch_word}
 use Rattle.sp_emit.specs.declared.registers.TheConstants.{RESULT, MASK, FIRST, OVERRUN, TEST, SPARE}
 use Rattle.sp_emit.proofs.WordPlaces.{read_is, set_op_is, fetch_is}
-use Rattle.sp_emit.specs.Statements.{cell_write, element_write, target_write, args_code, call_code, send_code, overrun_code, slot_set, stmt_code, stmts_code}
+use Rattle.sp_emit.specs.Statements.{mask_test, cell_write, element_write, target_write, guarded_code, args_code, call_code, send_code, overrun_code, slot_set, stmt_code, stmts_code}
+use Rattle.sp_emit.proofs.Lasts.{Gives, write_is}
 use Rattle.sp_emit.proofs.Numbers.{number_op_is}
 
 room_both : (a b : PlainParts) → parts_room (joined a b) ≡ parts_room a + parts_room b
@@ -54,6 +59,15 @@ read_words homes rd slot = read_is (λ b. bundle_room b ≤ 2) homes rd slot (om
 fetch_words : (homes slot : ℕ) → bundle_room (fetch_word homes slot) ≤ 2
 fetch_words homes slot = fetch_is (λ b. bundle_room b ≤ 2) homes slot (omega arith) (omega arith)
 
+-- a constant takes its second word only where it has to
+number_room : (rd n : ℕ) → bundle_room (set_number rd n) ≤ constant_cost n
+unfolding number_op
+number_room rd n = by (nat_lt n 4096)
+  where
+    by : (b : Bool) → bundle_room (under always (if b then AluImm imm.Add rd 0 n else AluLong alu.Add rd 0 n)) ≤ (if b then 1 else 2)
+    by true = omega arith
+    by false = omega arith
+
 number_words : (rd n : ℕ) → bundle_room (set_number rd n) ≤ 2
 number_words rd n = number_op_is (λ op. bundle_room (under always op) ≤ 2) rd n (omega arith) (omega arith)
 
@@ -68,41 +82,39 @@ operand_counted : (op : SpBinary) (b : PlainSp) (words : ℕ) → (if is_immedia
 operand_counted op (constant n) words = held_counted op n words
 operand_counted op _ words = omega arith
 
-two_room : (homes : ℕ) (op : SpBinary) (a b : PlainSp) (rd : ℕ) (held less : Bool) → parts_room (operand_code homes a rd) ≤ expr_cost a → parts_room (operand_code homes b rd) ≤ expr_cost b
+-- of two operands, those that are worked out and the operator
+two_room : (homes : ℕ) (op : SpBinary) (a b : PlainSp) (rd to : ℕ) (held less : Bool) → parts_room (operand_code homes a rd) ≤ expr_cost a → parts_room (operand_code homes b rd) ≤ expr_cost b
     → parts_room (operand_code homes a (rd + 1)) ≤ expr_cost a → parts_room (operand_code homes b (rd + 1)) ≤ expr_cost b
-    → parts_room (if held then joined (operand_code homes a rd) (one (straight (held_code op rd (value_at homes a rd) (number_of b))))
-    else if less then joined (operand_code homes b rd) (joined (operand_code homes a (rd + 1)) (binary_code op rd (value_at homes a (rd + 1)) (value_at homes b rd)))
-    else joined (operand_code homes a rd) (joined (operand_code homes b (rd + 1)) (binary_code op rd (value_at homes a rd) (value_at homes b (rd + 1)))))
+    → parts_room (if held then operand_code homes a rd else if less then joined (operand_code homes b rd) (operand_code homes a (rd + 1)) else joined (operand_code homes a rd) (operand_code homes b (rd + 1)))
+    + parts_room (if held then one (straight (held_code op to (value_at homes a rd) (number_of b))) else if less then binary_code op to (value_at homes a (rd + 1)) (value_at homes b rd) else binary_code op to (value_at homes a rd) (value_at homes b (rd + 1)))
     ≤ binary_cost op + expr_cost a + (if held then 0 else expr_cost b)
-two_room homes op a b rd true less ha hb na nb = omega (arith, ha, room_both (operand_code homes a rd) (one (straight (held_code op rd (value_at homes a rd) (number_of b)))), held_room op rd (value_at homes a rd) (number_of b))
-two_room homes op a b rd false true ha hb na nb = omega (
-  arith,
-  hb,
-  na,
-  room_both (operand_code homes b rd) (joined (operand_code homes a (rd + 1)) (binary_code op rd (value_at homes a (rd + 1)) (value_at homes b rd))),
-  room_both (operand_code homes a (rd + 1)) (binary_code op rd (value_at homes a (rd + 1)) (value_at homes b rd)),
-  binary_room op rd (value_at homes a (rd + 1)) (value_at homes b rd),
-)
-two_room homes op a b rd false false ha hb na nb = omega (
-  arith,
-  ha,
-  nb,
-  room_both (operand_code homes a rd) (joined (operand_code homes b (rd + 1)) (binary_code op rd (value_at homes a rd) (value_at homes b (rd + 1)))),
-  room_both (operand_code homes b (rd + 1)) (binary_code op rd (value_at homes a rd) (value_at homes b (rd + 1))),
-  binary_room op rd (value_at homes a rd) (value_at homes b (rd + 1)),
-)
+two_room homes op a b rd to true less ha hb na nb = omega (arith, ha, held_room op to (value_at homes a rd) (number_of b))
+two_room homes op a b rd to false true ha hb na nb = omega (arith, hb, na, room_both (operand_code homes b rd) (operand_code homes a (rd + 1)), binary_room op to (value_at homes a (rd + 1)) (value_at homes b rd))
+two_room homes op a b rd to false false ha hb na nb = omega (arith, ha, nb, room_both (operand_code homes a rd) (operand_code homes b (rd + 1)), binary_room op to (value_at homes a rd) (value_at homes b (rd + 1)))
 
-pub expr_room : (homes : ℕ) (e : PlainSp) (rd : ℕ) → parts_room (expr_code homes e rd) ≤ expr_cost e
-expr_room homes (constant v) rd = omega (arith, number_words rd v)
-expr_room homes (frame_word slot) rd = omega (arith, read_words homes rd slot)
-expr_room homes (cell_word cell) rd = omega (arith, number_words rd (address_of cell.region cell.word))
-expr_room homes (array_word array index) rd = omega (arith, number_words SPARE array.length, number_words SPARE (address_of array.region array.first), room_both (expr_code homes index rd) (one (straight (element_code array rd))), expr_room homes index rd)
-expr_room homes (before_one op of) rd = omega (arith, room_both (operand_code homes of rd) (one (straight (unary_code op rd (value_at homes of rd)))), operand_is (λ ps. parts_room ps ≤ expr_cost of) homes of rd (omega arith) (expr_room homes of rd), unary_room op rd (value_at homes of rd))
-expr_room homes (between_two op a b) rd = omega (arith, operand_counted op b (expr_cost b), two_room homes op a b rd (is_immediate op b) (nat_lt (need a) (need b)) (operand_is (λ ps. parts_room ps ≤ expr_cost a) homes a rd (omega arith) (expr_room homes a rd)) (operand_is (λ ps. parts_room ps ≤ expr_cost b) homes b rd (omega arith) (expr_room homes b rd)) (operand_is (λ ps. parts_room ps ≤ expr_cost a) homes a (rd + 1) (omega arith) (expr_room homes a (rd + 1))) (operand_is (λ ps. parts_room ps ≤ expr_cost b) homes b (rd + 1) (omega arith) (expr_room homes b (rd + 1))))
+operand_room : (homes : ℕ) (e : PlainSp) (rd : ℕ) → parts_room (operands_code homes e rd) + parts_room (value_code homes e rd rd) ≤ expr_cost e → parts_room (operand_code homes e rd) ≤ expr_cost e
+operand_room homes e rd both = operand_is (λ ps. parts_room ps ≤ expr_cost e) homes e rd (omega arith) (omega (arith, both, room_both (operands_code homes e rd) (value_code homes e rd rd)))
+
+value_room : (homes : ℕ) (e : PlainSp) (rd to : ℕ) → parts_room (operands_code homes e rd) + parts_room (value_code homes e rd to) ≤ expr_cost e
+value_room homes (constant v) rd to = omega (arith, number_room to v)
+value_room homes (frame_word slot) rd to = omega (arith, read_words homes to slot)
+value_room homes (cell_word cell) rd to = omega (arith, number_words to (address_of cell.region cell.word))
+value_room homes (array_word array index) rd to = omega (arith, number_words SPARE array.length, number_words SPARE (address_of array.region array.first), operand_room homes index rd (value_room homes index rd rd))
+value_room homes (before_one op of) rd to = omega (arith, operand_room homes of rd (value_room homes of rd rd), unary_room op to (value_at homes of rd))
+value_room homes (between_two op a b) rd to =
+    omega (
+      arith,
+      operand_counted op b (expr_cost b),
+      two_room homes op a b rd to (is_immediate op b) (nat_lt (need a) (need b)) (operand_room homes a rd (value_room homes a rd rd)) (operand_room homes b rd (value_room homes b rd rd)) (operand_room homes a (rd + 1) (value_room homes a (rd + 1) (rd + 1)))
+          (operand_room homes b (rd + 1) (value_room homes b (rd + 1) (rd + 1))),
+    )
+
+pub expr_room : (homes : ℕ) (e : PlainSp) (rd to : ℕ) → parts_room (expr_to homes e rd to) ≤ expr_cost e
+expr_room homes e rd to = omega (arith, room_both (operands_code homes e rd) (value_code homes e rd to), value_room homes e rd to)
 
 args_room : (homes : ℕ) (args : List PlainSp) (rd : ℕ) → parts_room (args_code homes args rd) ≤ args_cost args
 args_room homes [] rd = omega arith
-args_room homes (e ∷ args) rd = omega (arith, room_both (expr_code homes e rd) (args_code homes args (rd + 1)), expr_room homes e rd, args_room homes args (rd + 1))
+args_room homes (e ∷ args) rd = omega (arith, room_both (expr_code homes e rd) (args_code homes args (rd + 1)), expr_room homes e rd rd, args_room homes args (rd + 1))
 
 -- ---- statements
 
@@ -128,7 +140,14 @@ target_room : (homes : ℕ) (mask : ℕ) (target : PlainSpTarget) → parts_room
 target_room homes mask (to_slot slot) = omega (arith, fetch_words homes mask, set_words homes (where_so TEST) slot FIRST)
 target_room homes mask (to_cell cell) = omega (arith, cell_room homes mask cell.region cell.word)
 target_room homes mask (to_array array index) =
-    omega (arith, room_both (expr_code homes index 4) (one (straight (element_write homes mask array))), expr_room homes index 4, element_room homes mask array.region array.first array.length)
+    omega (arith, room_both (expr_code homes index 4) (one (straight (element_write homes mask array))), expr_room homes index 4 4, element_room homes mask array.region array.first array.length)
+
+-- an instruction takes as many words under a mask as under none
+guarded_room : (homes mask : ℕ) (e : PlainSp) (to : ℕ) (op : Op) → Gives (value_code homes e FIRST to) op → parts_room (guarded_code homes mask e op) ≤ 4 + expr_cost e
+guarded_room homes mask e to op gives =
+    let bundles = mask_test homes mask ++ under (where_so TEST) op ∷ [] in
+    let value = ap parts_room gives.is in
+    omega (arith, room_both (operands_code homes e FIRST) (one (straight bundles)), value_room homes e FIRST to, value, fetch_words homes mask)
 
 call_room : (homes : ℕ) (frame mask k : ℕ) (result : Option ℕ) → parts_room (call_code homes frame mask k result) ≤ 12
 call_room homes frame mask k None = omega (arith, read_words homes MASK mask)
@@ -136,8 +155,11 @@ call_room homes frame mask k (Some slot) = omega (arith, read_words homes MASK m
 
 mutual
   stmt_room : (homes : ℕ) (frame counter : ℕ) (t : PlainStmt) → parts_room (stmt_code homes frame counter t) ≤ stmt_cost t
-  stmt_room homes frame counter (masks slot e) = omega (arith, room_both (expr_code homes e 3) (slot_set homes slot), expr_room homes e 3, set_words homes always slot FIRST)
-  stmt_room homes frame counter (writes mask target e) = omega (arith, room_both (expr_code homes e 3) (target_write homes mask target), expr_room homes e 3, target_room homes mask target)
+  stmt_room homes frame counter (masks slot e) =
+      mask_is (λ ps. parts_room ps ≤ 1 + expr_cost e) homes slot e (λ here. omega (arith, expr_room homes e 3 (homes + slot))) (λ there. omega (arith, room_both (expr_code homes e 3) (slot_set homes slot), expr_room homes e 3 3, set_words homes always slot FIRST))
+  stmt_room homes frame counter (writes mask target e) =
+      write_is (λ ps. parts_room ps ≤ target_cost target + expr_cost e) homes mask target e (omega (arith, room_both (expr_code homes e 3) (target_write homes mask target), expr_room homes e 3 3, target_room homes mask target))
+      (λ slot op is gives. subst (λ t. parts_room (guarded_code homes mask e op) ≤ target_cost t + expr_cost e) (sym is) (guarded_room homes mask e (homes + slot) op gives))
   stmt_room homes frame counter (calls mask k args result) =
       omega (arith, room_both (args_code homes args 3) (call_code homes frame mask k result), args_room homes args 3, call_room homes frame mask k result)
   stmt_room homes frame counter (transfers mask core source target count) =
@@ -147,13 +169,13 @@ mutual
         room_both (expr_code homes source 3) (joined (expr_code homes target 4) (joined (expr_code homes count 5) sent)),
         room_both (expr_code homes target 4) (joined (expr_code homes count 5) sent),
         room_both (expr_code homes count 5) sent,
-        expr_room homes source 3,
-        expr_room homes target 4,
-        expr_room homes count 5,
+        expr_room homes source 3 3,
+        expr_room homes target 4 4,
+        expr_room homes count 5 5,
         fetch_words homes mask,
       )
-  stmt_room homes frame counter (overruns mask e) = omega (arith, room_both (expr_code homes e 3) (one (straight (overrun_code homes mask))), expr_room homes e 3, fetch_words homes mask)
-  stmt_room homes frame counter (turns count body) = omega (arith, stmts_room homes frame (counter - 1) body)
+  stmt_room homes frame counter (overruns mask e) = omega (arith, room_both (expr_code homes e 3) (one (straight (overrun_code homes mask))), expr_room homes e 3 3, fetch_words homes mask)
+  stmt_room homes frame counter (iterations count body) = omega (arith, stmts_room homes frame (counter - 1) body)
 
   stmts_room : (homes : ℕ) (frame counter : ℕ) (ts : PlainStmts) → parts_room (stmts_code homes frame counter ts) ≤ stmts_cost ts
   stmts_room homes frame counter no_stmt = omega arith

@@ -3,7 +3,7 @@ use Rattle.std.proofs.Common.{◌≡◌, ℕ, ◌+◌, ◌-◌, ◌<◌, ◌≤�
 use Rattle.std.proofs.lemmas.Bool.{and_parts, ltb-true}
 use Rattle.sp_tree.specs.Formed.{send_formed, target_formed, array_formed, expr_formed, stmt_formed, stmts_formed, stmt_levels, stmts_levels}
 use Rattle.sp_tree.specs.Plain.{PlainSp}
-use Rattle.sp_tree.specs.Statements.{PlainSpTarget, to_slot, to_cell, to_array, PlainStmt, masks, writes, calls, transfers, overruns, turns, PlainStmts, no_stmt, stmt, PlainFunction}
+use Rattle.sp_tree.specs.Statements.{PlainSpTarget, to_slot, to_cell, to_array, PlainStmt, masks, writes, calls, transfers, overruns, iterations, PlainStmts, no_stmt, stmt, PlainFunction}
 use Rattle.sp_tree.specs.Straight.{State, Serves, stmt_done, stmts_done}
 use Rattle.sp_shape.specs.Run.{Run, by_words, run}
 use Rattle.sp_shape.specs.Trail.{Step, parts_trail}
@@ -14,7 +14,7 @@ use Rattle.sp_emit.proofs.Masks.{Done, mask_done, slot_done}
 use Rattle.sp_emit.proofs.Overruns.{overrun_is_done}
 use Rattle.sp_emit.proofs.TargetWrites.{cell_done, element_done}
 use Rattle.sp_emit.proofs.Sends.{send_done}
-use Rattle.sp_emit.proofs.Turns.{done_then, turns_done}
+use Rattle.sp_emit.proofs.Iterations.{done_then, iterations_done}
 use Rattle.sp_emit.proofs.Values.{run_joined}
 
 -- the code of a statement does what it means, over functions and what they give
@@ -57,9 +57,9 @@ mutual
   stmt_runs homes tops f g fs number frame slots counter low others most few within (overruns mask e) levels formed constants least s m enough x =
       let parts = and_parts (nat_lt mask slots) (expr_formed slots e) formed in
       overrun_is_done homes f frame counter slots mask e s m most (ltb-true mask slots parts.0) parts.1 constants least x
-  stmt_runs homes tops f g fs number frame slots counter low others most few within (turns count body) levels formed constants least s m enough x =
+  stmt_runs homes tops f g fs number frame slots counter low others most few within (iterations count body) levels formed constants least s m enough x =
       let parts = and_parts (nat_lt 0 count) (stmts_formed fs number slots body) formed in
-      turns_done homes f slots counter low count (stmts_code homes frame (counter - 1) body) (stmts_done g body) s m (omega (arith, levels)) few
+      iterations_done homes f slots counter low count (stmts_code homes frame (counter - 1) body) (stmts_done g body) s m (omega (arith, levels)) few
       (λ z n more y. let d = stmts_run homes tops f g fs number frame slots (counter - 1) low others most (omega (arith, few)) (omega (arith, within)) body (omega (arith, levels)) parts.1 constants least z n more y in
       record { follows = d.follows; keeps = fewer_kept (omega (arith, levels)) d.keeps }) enough x
 

@@ -7,7 +7,7 @@ use Rattle.sp_tree.proofs.Forms.{earlier_one}
 use Rattle.sp_tree.specs.Formed.{args_formed, result_formed, callee_formed, stmt_formed, stmts_formed, stmts_levels, slots_of, function_formed, functions_formed}
 use Rattle.sp_tree.specs.Plain.{PlainSp}
 use Rattle.sp_tree.specs.Statements.{PlainFunction, no_function, calls}
-use Rattle.sp_tree.specs.Straight.{State, Given, Serves, stmts_done, begun_frame, function_given, serves}
+use Rattle.sp_tree.specs.Straight.{State, Outcome, Serves, stmts_done, begun_frame, function_outcome, serves}
 use Rattle.sp_shape.proofs.Whole.{run_append}
 use Rattle.sp_shape.specs.Parts.{no_part, joined}
 use Rattle.sp_shape.specs.Run.{Run, Sources, by_words, run, IsWhole}
@@ -96,7 +96,7 @@ function_run homes from code f m =
 -- a function over what the earlier ones do
 pub function_serves : (homes : ℕ) (tops : List ℕ) (code : ℕ → List Step) (g : Serves) (fs : List PlainFunction) (number low : ℕ) (f : PlainFunction) → function_formed fs number f ≡ true → HasStmtsConstants f.body → homes_over tops f ≤ homes
     → CallsRun homes tops code g fs number f.frame (slots_of f) low
-    → (mask : ℕ) (args : List ℕ) (w : World) (m : Run) → length args ≡ f.parameters → low + 128 ≤ m.st → CalledWith mask args w m → Returns (homes + slots_of f) (function_given g f mask args w) m (run by_words (parts_trail code (function_code homes f)) m)
+    → (mask : ℕ) (args : List ℕ) (w : World) (m : Run) → length args ≡ f.parameters → low + 128 ≤ m.st → CalledWith mask args w m → Returns (homes + slots_of f) (function_outcome g f mask args w) m (run by_words (parts_trail code (function_code homes f)) m)
 function_serves homes tops code g fs number low f formed constants least others mask args w m count enough x =
     let p = parts_of_function fs number f formed in
     let slots = slots_of f in
@@ -121,7 +121,7 @@ function_serves homes tops code g fs number low f formed constants least others 
     let z = stmts_done g f.body s in
     let r = returns_value homes z.world f.frame (f.frame - 2) (f.frame - 1) none f.result (z.frame f.result) (stmts_call f.body) t3 (record { whole = d.follows.whole; has = d.follows.shows.world; words = d.follows.words.world; flag = d.follows.flag })
     (omega (arith, least)) (omega (arith, p.result, p.room, p.frame)) (d.follows.shows.frame f.result p.result) (d.follows.words.frame f.result p.result) in
-    subst (Returns (homes + slots) (function_given g f mask args w) m) (sym (function_run homes by_words code f m)) (record {
+    subst (Returns (homes + slots) (function_outcome g f mask args w) m) (sym (function_run homes by_words code f m)) (record {
       answers = record {
         carries = r.carries;
         value = r.value;
@@ -171,7 +171,7 @@ calls_run homes fs n frame slots formed most earlier = record { calls = each }
         (let top = tops_at fs n k less in omega (arith, least, top)) (omega (arith, least)) (omega (arith, less, enough)) x
 
 -- a window that ends past the flag ends there
-ends_at : {top : ℕ} {g : Given} {m t : Run} → Returns top g m t → Returns (min OVERRUN top) g m t
+ends_at : {top : ℕ} {g : Outcome} {m t : Run} → Returns top g m t → Returns (min OVERRUN top) g m t
 ends_at r = record { answers = r.answers; high = λ q from lt. r.high q (omega (arith, from, lt)) lt }
 
 pub all_serve : (fs : List PlainFunction) → HasConstants fs → (n : ℕ) → n ≤ length fs → functions_formed fs n ≡ true → AllServe fs n
@@ -186,18 +186,18 @@ all_serve fs constants (suc n) within formed k less mask args w m count room cal
     f : PlainFunction
     f = slice_index_or fs n no_function
 
-    last : AllServe fs n → k ≡ n → Returns (top_of fs n) (function_given (serves fs n) f mask args w) m (run by_words (parts_trail (code_of fs n) (function_code (homes_of fs n) f)) m)
+    last : AllServe fs n → k ≡ n → Returns (top_of fs n) (function_outcome (serves fs n) f mask args w) m (run by_words (parts_trail (code_of fs n) (function_code (homes_of fs n) f)) m)
     last before is =
         let p = parts_of_function fs n f parts.1 in
         ends_at (function_serves (homes_of fs n) (tops fs n) (code_of fs n) (serves fs n) fs n (n * 128) f parts.1 (constants n) (omega arith) (calls_run (homes_of fs n) fs n f.frame (slots_of f) parts.0 (omega (arith, p.room, p.frame)) before)
         mask args w m (count ∙ ap (λ j. (slice_index_or fs j no_function).parameters) is) (omega (arith, room, is)) called)
 
     by : AllServe fs n → (b : Bool) → (k == n) ≡ b
-        → Returns (top_of fs k) (if b then function_given (serves fs n) f mask args w else serves fs n k mask args w) m
+        → Returns (top_of fs k) (if b then function_outcome (serves fs n) f mask args w else serves fs n k mask args w) m
         (run by_words (if b then parts_trail (code_of fs n) (slice_index_or (codes fs) n no_part) else code_of fs n k) m)
     by before true is =
-        subst (λ i. Returns (top_of fs i) (function_given (serves fs n) f mask args w) m (run by_words (parts_trail (code_of fs n) (slice_index_or (codes fs) n no_part)) m)) (sym (eqb-true k n is))
-        (subst (λ c. Returns (top_of fs n) (function_given (serves fs n) f mask args w) m (run by_words (parts_trail (code_of fs n) c) m)) (sym (codes_at fs n (omega (arith, within)))) (last before (eqb-true k n is)))
+        subst (λ i. Returns (top_of fs i) (function_outcome (serves fs n) f mask args w) m (run by_words (parts_trail (code_of fs n) (slice_index_or (codes fs) n no_part)) m)) (sym (eqb-true k n is))
+        (subst (λ c. Returns (top_of fs n) (function_outcome (serves fs n) f mask args w) m (run by_words (parts_trail (code_of fs n) c) m)) (sym (codes_at fs n (omega (arith, within)))) (last before (eqb-true k n is)))
     by before false other = before k (earlier (eqb-false k n other)) mask args w m count room called
       where
         earlier : (k ≡ n → ⊥) → k < n

@@ -1,6 +1,6 @@
 -- Where compiled code may have a transaction with main memory, its instruction is always done; and each bundle of
 -- statements is one instruction, which sets no special register and takes no words of the stack.
-use Rattle.std.proofs.Common.{◌≡◌, ℕ, ◌-◌, true, false, List, refl, arith, Option, None, Some}
+use Rattle.std.proofs.Common.{◌≡◌, ℕ, ◌+◌, ◌-◌, true, false, List, refl, arith, Option, None, Some}
 use Rattle.std.specs.Prelude.{Bool, ◌&&◌}
 use Rattle.std.specs.List.{list_all}
 use Rattle.std.proofs.lemmas.Bool.{and_parts, and_from}
@@ -11,10 +11,10 @@ use Rattle.patmos_instr.specs.declared.instructions.Op.TheVariants.{Stack}
 use Rattle.sp_emit.specs.Chains.{takes_at_most}
 use Rattle.c_world.specs.declared.region.Region.{Region}
 use Rattle.sp_tree.specs.Plain.{PlainSp}
-use Rattle.sp_tree.specs.Statements.{PlainSpTarget, to_slot, to_cell, to_array, PlainStmt, masks, writes, calls, transfers, overruns, turns, PlainStmts, no_stmt, stmt, PlainFunction}
+use Rattle.sp_tree.specs.Statements.{PlainSpTarget, to_slot, to_cell, to_array, PlainStmt, masks, writes, calls, transfers, overruns, iterations, PlainStmts, no_stmt, stmt, PlainFunction}
 use Rattle.sp_shape.specs.Bundles.{is_steady, parts_all}
 use Rattle.sp_shape.specs.Parts.{straight, PlainParts, one, joined}
-use Rattle.sp_emit.specs.Expressions.{expr_code, address_of}
+use Rattle.sp_emit.specs.Expressions.{operands_code, expr_to, expr_code, address_of}
 use Rattle.sp_emit.specs.Functions.{first_counter, function_begin, function_end, function_rest, function_code}
 use Rattle.patmos_instr.specs.declared.guards.Guard.{Guard}
 use Rattle.sp_emit.specs.Instructions.{always, where_so, under, set_number}
@@ -22,7 +22,9 @@ use Rattle.sp_emit.specs.Places.{read_word, set_word, fetch_word}
 use Rattle.sp_emit.specs.declared.registers.TheConstants.{RESULT, MASK, FIRST, TEST, SPARE}
 use Rattle.sp_emit.proofs.WordPlaces.{read_is, set_op_is, fetch_is}
 use Rattle.sp_emit.specs.Statements.{cell_write, element_write, target_write, args_code, call_code, send_code, overrun_code, slot_set, stmt_code, stmts_code}
-use Rattle.sp_emit.proofs.Quiet.{each_joined, each_lone, each_so, is_quiet, expr_quiet, args_quiet}
+use Rattle.sp_emit.proofs.Quiet.{each_joined, each_lone, each_so, is_quiet, operands_quiet, expr_quiet, args_quiet}
+use Rattle.sp_emit.proofs.Lasts.{alu_quiet, write_is, guarded_each}
+use Rattle.sp_emit.proofs.Operands.{mask_is}
 use Rattle.sp_emit.proofs.Around.{begin_all, end_all}
 use Rattle.sp_emit.proofs.Homing.{keeps_place}
 use Rattle.sp_emit.proofs.Numbers.{number_op_is}
@@ -50,8 +52,8 @@ both = each_joined is_firm
 firm_quiet : (b : Slots) → is_quiet b ≡ true → is_firm b ≡ true
 firm_quiet b quiet = grind (arith, quiet)
 
-expr_firm : (homes : ℕ) (e : PlainSp) (rd : ℕ) → Firm (expr_code homes e rd)
-expr_firm homes e rd = each_so is_quiet is_firm firm_quiet (expr_code homes e rd) (expr_quiet homes e rd)
+expr_firm : (homes : ℕ) (e : PlainSp) (rd to : ℕ) → Firm (expr_to homes e rd to)
+expr_firm homes e rd to = each_so is_quiet is_firm firm_quiet (expr_to homes e rd to) (expr_quiet homes e rd to)
 
 args_firm : (homes : ℕ) (args : List PlainSp) (rd : ℕ) → Firm (args_code homes args rd)
 args_firm homes args rd = each_so is_quiet is_firm firm_quiet (args_code homes args rd) (args_quiet homes args rd)
@@ -87,7 +89,7 @@ element_write_firm homes mask r first length =
 target_firm : (homes : ℕ) (mask : ℕ) (target : PlainSpTarget) → Firm (target_write homes mask target)
 target_firm homes mask (to_slot slot) = rw (fetch_firm homes mask, set_firm homes (where_so TEST) slot FIRST) refl
 target_firm homes mask (to_cell cell) = each_lone is_firm (cell_write homes mask cell) (cell_write_firm homes mask cell.region cell.word)
-target_firm homes mask (to_array array index) = both (expr_code homes index 4) (one (straight (element_write homes mask array))) (expr_firm homes index 4)
+target_firm homes mask (to_array array index) = both (expr_code homes index 4) (one (straight (element_write homes mask array))) (expr_firm homes index 4 4)
     (each_lone is_firm (element_write homes mask array) (element_write_firm homes mask array.region array.first array.length))
 
 call_firm : (homes : ℕ) (frame mask k : ℕ) (result : Option ℕ) → Firm (call_code homes frame mask k result)
@@ -96,17 +98,20 @@ call_firm homes frame mask k (Some slot) = rw (read_firm homes MASK mask, fetch_
 
 mutual
   stmt_firm : (homes : ℕ) (frame counter : ℕ) (t : PlainStmt) → Firm (stmt_code homes frame counter t)
-  stmt_firm homes frame counter (masks slot e) = both (expr_code homes e 3) (slot_set homes slot) (expr_firm homes e 3) (rw (set_firm homes always slot FIRST) refl)
-  stmt_firm homes frame counter (writes mask target e) = both (expr_code homes e 3) (target_write homes mask target) (expr_firm homes e 3) (target_firm homes mask target)
+  stmt_firm homes frame counter (masks slot e) =
+      mask_is Firm homes slot e (λ here. expr_firm homes e 3 (homes + slot)) (λ there. both (expr_code homes e 3) (slot_set homes slot) (expr_firm homes e 3 3) (rw (set_firm homes always slot FIRST) refl))
+  stmt_firm homes frame counter (writes mask target e) =
+      write_is Firm homes mask target e (both (expr_code homes e 3) (target_write homes mask target) (expr_firm homes e 3 3) (target_firm homes mask target))
+      (λ slot op is gives. guarded_each is_firm homes mask e op (each_so is_quiet is_firm firm_quiet (operands_code homes e 3) (operands_quiet homes e 3)) (fetch_firm homes mask) refl (firm_quiet (under (where_so TEST) op) (alu_quiet (where_so TEST) op gives.alu)))
   stmt_firm homes frame counter (calls mask k args result) = both (args_code homes args 3) (call_code homes frame mask k result) (args_firm homes args 3) (call_firm homes frame mask k result)
   stmt_firm homes frame counter (transfers mask core source target count) =
       let sent = one (straight (send_code homes mask core)) in
-      both (expr_code homes source 3) (joined (expr_code homes target 4) (joined (expr_code homes count 5) sent)) (expr_firm homes source 3)
-      (both (expr_code homes target 4) (joined (expr_code homes count 5) sent) (expr_firm homes target 4) (both (expr_code homes count 5) sent (expr_firm homes count 5) (rw (fetch_firm homes mask) refl)))
-  stmt_firm homes frame counter (overruns mask e) = both (expr_code homes e 3) (one (straight (overrun_code homes mask))) (expr_firm homes e 3) (rw (fetch_firm homes mask) refl)
-  stmt_firm homes frame counter (turns count body) =
-      let turn = and_from (parts_all is_firm (stmts_code homes frame (counter - 1) body)) true (stmts_firm homes frame (counter - 1) body) refl in
-      and_from (parts_all is_firm (stmts_code homes frame (counter - 1) body) && true) true turn refl
+      both (expr_code homes source 3) (joined (expr_code homes target 4) (joined (expr_code homes count 5) sent)) (expr_firm homes source 3 3)
+      (both (expr_code homes target 4) (joined (expr_code homes count 5) sent) (expr_firm homes target 4 4) (both (expr_code homes count 5) sent (expr_firm homes count 5 5) (rw (fetch_firm homes mask) refl)))
+  stmt_firm homes frame counter (overruns mask e) = both (expr_code homes e 3) (one (straight (overrun_code homes mask))) (expr_firm homes e 3 3) (rw (fetch_firm homes mask) refl)
+  stmt_firm homes frame counter (iterations count body) =
+      let iteration = and_from (parts_all is_firm (stmts_code homes frame (counter - 1) body)) true (stmts_firm homes frame (counter - 1) body) refl in
+      and_from (parts_all is_firm (stmts_code homes frame (counter - 1) body) && true) true iteration refl
 
   pub stmts_firm : (homes : ℕ) (frame counter : ℕ) (ts : PlainStmts) → Firm (stmts_code homes frame counter ts)
   stmts_firm homes frame counter no_stmt = refl

@@ -3,7 +3,7 @@ use Rattle.std.proofs.Common.{◌≡◌, ℕ, Bool, true, false, List, nat_lt, r
 use Rattle.std.specs.Prelude.{◌||◌}
 use Rattle.std.proofs.lemmas.Bool.{and_parts, and_from}
 use Rattle.sp_tree.specs.Formed.{stmt_formed, stmts_formed}
-use Rattle.sp_tree.specs.Statements.{PlainStmt, masks, writes, calls, transfers, overruns, turns, PlainStmts, no_stmt, stmt, PlainFunction}
+use Rattle.sp_tree.specs.Statements.{PlainStmt, masks, writes, calls, transfers, overruns, iterations, PlainStmts, no_stmt, stmt, PlainFunction}
 use Rattle.sp_emit.specs.Chains.{stmt_calls, stmts_call}
 
 pub neither : (a b : Bool) → (a || b) ≡ false → (a ≡ false) × (b ≡ false)
@@ -17,7 +17,7 @@ mutual
   stmt_uncalled fs number slots (calls mask k args result) none formed = absurd (true≢false none)
   stmt_uncalled fs number slots (transfers mask core source target count) none formed = formed
   stmt_uncalled fs number slots (overruns mask e) none formed = formed
-  stmt_uncalled fs number slots (turns count body) none formed =
+  stmt_uncalled fs number slots (iterations count body) none formed =
       let parts = and_parts (nat_lt 0 count) (stmts_formed fs number slots body) formed in
       and_from (nat_lt 0 count) (stmts_formed fs 0 slots body) parts.0 (stmts_uncalled fs number slots body none parts.1)
 

@@ -28,24 +28,25 @@ use Rattle.sp_shape.specs.Bundles.{parts_all}
 use Rattle.sp_shape.specs.Parts.{straight, PlainParts, one, joined}
 use Rattle.sp_shape.specs.Run.{Run, Sources, word_given, once, run, IsWhole}
 use Rattle.sp_shape.specs.Trail.{Step, all_done, parts_trail}
-use Rattle.sp_emit.proofs.Operands.{operand_is}
+use Rattle.sp_emit.proofs.Values.{value_low}
+use Rattle.sp_emit.proofs.Operands.{one_of, Handed, fits_handed, both_handed, operands_are}
 use Rattle.sp_emit.specs.Accesses.{IsReadPlace, MayLoad, MayAsk, cached_address, Asks, AsksOnly}
 use Rattle.sp_emit.proofs.Held.{held_is}
 use Rattle.sp_emit.specs.Division.{unsigned_quotient_to}
 use Rattle.sp_emit.specs.Divisors.{factor_rest_to}
-use Rattle.sp_emit.specs.Expressions.{address_of, cell_space, array_space, unary_code, binary_code, held_code, cell_code, element_code, number_of, expr_code, operand_code, value_at, is_immediate}
+use Rattle.sp_emit.specs.Expressions.{address_of, cell_space, array_space, unary_code, binary_code, held_code, cell_code, element_code, number_of, value_code, operands_code, expr_to, value_at, is_immediate}
 use Rattle.sp_emit.specs.Fits.{ExprFits}
 use Rattle.sp_emit.specs.Holding.{held}
 use Rattle.sp_emit.specs.Instructions.{always, where_not, set_number, set_short, load_from}
 use Rattle.sp_emit.specs.Places.{read_word}
 use Rattle.sp_emit.proofs.WordPlaces.{read_is}
-use Rattle.sp_emit.specs.declared.registers.TheConstants.{TEST, SPARE}
+use Rattle.sp_emit.specs.declared.registers.TheConstants.{OVERRUN, TEST, SPARE}
 use Rattle.sp_emit.proofs.Accessing.{asks_append, asks_nothing, is_near, near_asks, near_parts, near_number}
 use Rattle.sp_emit.proofs.Cells.{element_address, few_words, first_small}
 use Rattle.sp_emit.proofs.Elements.{Reached, looked_up, reaches, looks_up}
 use Rattle.sp_emit.proofs.Formed.{binary_formed}
 use Rattle.sp_emit.proofs.Leaving.{did_set_number, did_set_short}
-use Rattle.sp_emit.proofs.Needs.{some_need, array_named, index_named, operand_fits, first_fits, second_fits, first_fits_behind, second_fits_behind}
+use Rattle.sp_emit.proofs.Needs.{some_need, array_named, index_named}
 use Rattle.sp_emit.proofs.Portless.{portless_start, portless_number}
 use Rattle.sp_emit.proofs.Once.{so, with_written, loaded, did_load, whole_written, whole_loaded, got, so_by_register}
 
@@ -137,15 +138,15 @@ looks_at_0 from a rd t whole some few test =
     ∙ ap (λ x. x.asked) (did_set_short from (where_not TEST) rd 0 l whole_l (ap not off))
     ∙ ap (λ v. t.asked ++ word_load (array_space a.region) rd (address_by v 0 4) ∷ []) (got rd ((0 + 0) % 2 ^ 32) t whole some few)
 
-pub element_asks : (Named : Use → Type 0) (a : SpArray) (rd : ℕ) → 1 ≤ rd → rd < 21 → array_formed a ≡ true → Named (reads_array a) → AsksOnly Named (all_done (element_code a rd))
-element_asks Named a rd some few formed named = record { cached = []; asks = asks; starts = λ from m whole words. portless_start from (element_code a rd) m (rw (portless_number SPARE a.length, portless_number SPARE (address_of a.region a.first)) refl) }
+pub element_asks : (Named : Use → Type 0) (a : SpArray) (rd ra : ℕ) → 1 ≤ rd → rd < OVERRUN → ra < SPARE → array_formed a ≡ true → Named (reads_array a) → AsksOnly Named (all_done (element_code a rd ra))
+element_asks Named a rd ra some few low formed named = record { cached = []; asks = asks; starts = λ from m whole words. portless_start from (element_code a rd ra) m (rw (portless_number SPARE a.length, portless_number SPARE (address_of a.region a.first)) refl) }
   where
     within : a.first + a.length ≤ room_in a.region all_rooms
     within = leb-true (a.first + a.length) (room_in a.region all_rooms) (and_parts (nat_le (first_of a.region) a.first) (nat_le (a.first + a.length) (room_in a.region all_rooms)) formed).1
 
-    by : (from : Sources) (m t : Run) → Reached a rd (held rd m) m t → (b : Bool) → nat_lt (held rd m) a.length ≡ b → Asks Named [] m (looked_up from a rd t)
+    by : (from : Sources) (m t : Run) → Reached a rd (held ra m) m t → (b : Bool) → nat_lt (held ra m) a.length ≡ b → Asks Named [] m (looked_up from a rd t)
     by from m t r true less =
-        let i = held rd m in
+        let i = held ra m in
         let lies : a.first + i < room_in a.region all_rooms = omega (arith, within, ltb-true i a.length less) in
         asks_element Named a rd (address_of a.region (a.first + i)) m (looked_up from a rd t)
         (ap (λ x. x.asked) (looks_up from a rd t r.whole (r.test ∙ less))
@@ -158,10 +159,10 @@ element_asks Named a rd some few formed named = record { cached = []; asks = ask
         (looks_at_0 from a rd t r.whole some (omega (arith, few)) (r.test ∙ more) ∙ ap (λ l. l ++ word_load (array_space a.region) rd 0 ∷ []) r.asked)
         (no_element_read Named a rd named)
 
-    asks : (from : Sources) (m : Run) → IsWhole m → Asks Named [] m (run from (all_done (element_code a rd)) m)
+    asks : (from : Sources) (m : Run) → IsWhole m → Asks Named [] m (run from (all_done (element_code a rd ra)) m)
     asks from m whole =
-        let all = reaches from a rd m whole some few (omega (arith, within, few_words a.region)) (first_small a.region a.first (omega (arith, within))) in
-        subst (Asks Named [] m) (sym all.1) (by from m all.0 all.2 (nat_lt (held rd m) a.length) refl)
+        let all = reaches from a rd ra m whole some few low (omega (arith, within, few_words a.region)) (first_small a.region a.first (omega (arith, within))) in
+        subst (Asks Named [] m) (sym all.1) (by from m all.0 all.2 (nat_lt (held ra m) a.length) refl)
 
 -- ---- expressions
 
@@ -202,32 +203,45 @@ asks_lone {Named} f bs a = subst (AsksOnly Named) (sym (append-nil (all_done bs)
 operator_asks : (Named : Use → Type 0) (f : ℕ → List Step) (op : SpBinary) (rd ra rb : ℕ) → AsksOnly Named (parts_trail f (binary_code op rd ra rb))
 operator_asks Named f op rd ra rb = near_parts Named f 0 (λ k less. absurd (omega (arith, less))) (binary_code op rd ra rb) (binary_formed 0 op rd ra rb) (binary_near op rd ra rb)
 
-two_ask : (homes : ℕ) (Named : Use → Type 0) (f : ℕ → List Step) (op : SpBinary) (a b : PlainSp) (rd : ℕ) (held less : Bool) → AsksOnly Named (parts_trail f (operand_code homes a rd)) → AsksOnly Named (parts_trail f (operand_code homes b rd))
-    → (less ≡ true → AsksOnly Named (parts_trail f (operand_code homes a (rd + 1)))) → (less ≡ false → AsksOnly Named (parts_trail f (operand_code homes b (rd + 1))))
-    → AsksOnly Named (parts_trail f (if held then joined (operand_code homes a rd) (one (straight (held_code op rd (value_at homes a rd) (number_of b))))
-    else if less then joined (operand_code homes b rd) (joined (operand_code homes a (rd + 1)) (binary_code op rd (value_at homes a (rd + 1)) (value_at homes b rd)))
-    else joined (operand_code homes a rd) (joined (operand_code homes b (rd + 1)) (binary_code op rd (value_at homes a rd) (value_at homes b (rd + 1))))))
-two_ask homes Named f op a b rd true less x y x1 y1 =
-    asks_joined f (operand_code homes a rd) (one (straight (held_code op rd (value_at homes a rd) (number_of b)))) x (asks_lone f (held_code op rd (value_at homes a rd) (number_of b)) (near_asks Named (held_code op rd (value_at homes a rd) (number_of b)) (held_near op rd (value_at homes a rd) (number_of b))))
-two_ask homes Named f op a b rd false true x y x1 y1 =
-    asks_joined f (operand_code homes b rd) (joined (operand_code homes a (rd + 1)) (binary_code op rd (value_at homes a (rd + 1)) (value_at homes b rd))) y (asks_joined f (operand_code homes a (rd + 1)) (binary_code op rd (value_at homes a (rd + 1)) (value_at homes b rd)) (x1 refl) (operator_asks Named f op rd (value_at homes a (rd + 1)) (value_at homes b rd)))
-two_ask homes Named f op a b rd false false x y x1 y1 =
-    asks_joined f (operand_code homes a rd) (joined (operand_code homes b (rd + 1)) (binary_code op rd (value_at homes a rd) (value_at homes b (rd + 1)))) x (asks_joined f (operand_code homes b (rd + 1)) (binary_code op rd (value_at homes a rd) (value_at homes b (rd + 1))) (y1 refl) (operator_asks Named f op rd (value_at homes a rd) (value_at homes b (rd + 1))))
-
 read_near : (homes rd slot : ℕ) → list_all is_near (read_word homes rd slot ∷ []) ≡ true
 read_near homes rd slot = read_is (λ b. list_all is_near (b ∷ []) ≡ true) homes rd slot refl refl
 
-pub expr_asks : (homes : ℕ) (Named : Use → Type 0) (f : ℕ → List Step) (e : PlainSp) (rd : ℕ) → 1 ≤ rd → ExprFits e rd → AreNamed Named (expr_uses e) → AsksOnly Named (parts_trail f (expr_code homes e rd))
-expr_asks homes Named f (constant n) rd some fits named = asks_lone f (set_number rd n ∷ []) (near_asks Named (set_number rd n ∷ []) (rw (near_number rd n) refl))
-expr_asks homes Named f (frame_word slot) rd some fits named = asks_lone f (read_word homes rd slot ∷ []) (near_asks Named (read_word homes rd slot ∷ []) (read_near homes rd slot))
-expr_asks homes Named f (cell_word cell) rd some fits named = asks_lone f (cell_code cell rd) (cell_asks Named cell rd some (omega (arith, fits.registers)) fits.names named.0)
-expr_asks homes Named f (array_word array index) rd some fits named =
-    asks_joined f (expr_code homes index rd) (one (straight (element_code array rd))) (expr_asks homes Named f index rd some (index_named array index fits) named.1)
-    (asks_lone f (element_code array rd) (element_asks Named array rd some (omega (arith, fits.registers, some_need (array_word array index))) (array_named array index fits) named.0))
-expr_asks homes Named f (before_one op of) rd some fits named =
-    asks_joined f (operand_code homes of rd) (one (straight (unary_code op rd (value_at homes of rd)))) (operand_is (λ ps. AsksOnly Named (parts_trail f ps)) homes of rd (asks_nothing Named) (expr_asks homes Named f of rd some (operand_fits op of fits) named)) (asks_lone f (unary_code op rd (value_at homes of rd)) (near_asks Named (unary_code op rd (value_at homes of rd)) (unary_near op rd (value_at homes of rd))))
-expr_asks homes Named f (between_two op a b) rd some fits named =
-    let left = named_left Named (expr_uses a) (expr_uses b) named in
-    let right = named_right Named (expr_uses a) (expr_uses b) named in
-    two_ask homes Named f op a b rd (is_immediate op b) (nat_lt (need a) (need b)) (operand_is (λ ps. AsksOnly Named (parts_trail f ps)) homes a rd (asks_nothing Named) (expr_asks homes Named f a rd some (first_fits op a b fits) left)) (operand_is (λ ps. AsksOnly Named (parts_trail f ps)) homes b rd (asks_nothing Named) (expr_asks homes Named f b rd some (second_fits op a b fits) right))
-    (λ less. operand_is (λ ps. AsksOnly Named (parts_trail f ps)) homes a (rd + 1) (asks_nothing Named) (expr_asks homes Named f a (rd + 1) (omega arith) (first_fits_behind op a b fits less) left)) (λ more. operand_is (λ ps. AsksOnly Named (parts_trail f ps)) homes b (rd + 1) (asks_nothing Named) (expr_asks homes Named f b (rd + 1) (omega arith) (second_fits_behind op a b fits more) right))
+value_asks : (homes : ℕ) (Named : Use → Type 0) (f : ℕ → List Step) (e : PlainSp) (rd to : ℕ) → 1 ≤ to → to < OVERRUN → ExprFits e rd → AreNamed Named (expr_uses e) → AsksOnly Named (parts_trail f (value_code homes e rd to))
+value_asks homes Named f (constant n) rd to some few fits named = asks_lone f (set_number to n ∷ []) (near_asks Named (set_number to n ∷ []) (rw (near_number to n) refl))
+value_asks homes Named f (frame_word slot) rd to some few fits named = asks_lone f (read_word homes to slot ∷ []) (near_asks Named (read_word homes to slot ∷ []) (read_near homes to slot))
+value_asks homes Named f (cell_word cell) rd to some few fits named = asks_lone f (cell_code cell to) (cell_asks Named cell to some (omega (arith, few)) fits.names named.0)
+value_asks homes Named f (array_word array index) rd to some few fits named =
+    asks_lone f (element_code array to (value_at homes index rd)) (element_asks Named array to (value_at homes index rd) some few (value_low homes rd index (omega (arith, (index_named array index fits).registers, some_need index))) (array_named array index fits) named.0)
+value_asks homes Named f (before_one op of) rd to some few fits named = asks_lone f (unary_code op to (value_at homes of rd)) (near_asks Named (unary_code op to (value_at homes of rd)) (unary_near op to (value_at homes of rd)))
+value_asks homes Named f (between_two op a b) rd to some few fits named =
+    one_of (λ ps. AsksOnly Named (parts_trail f ps)) (is_immediate op b) (nat_lt (need a) (need b)) (one (straight (held_code op to (value_at homes a rd) (number_of b)))) (binary_code op to (value_at homes a (rd + 1)) (value_at homes b rd))
+    (binary_code op to (value_at homes a rd) (value_at homes b (rd + 1))) (asks_lone f (held_code op to (value_at homes a rd) (number_of b)) (near_asks Named (held_code op to (value_at homes a rd) (number_of b)) (held_near op to (value_at homes a rd) (number_of b))))
+    (λ less. operator_asks Named f op to (value_at homes a (rd + 1)) (value_at homes b rd)) (λ more. operator_asks Named f op to (value_at homes a rd) (value_at homes b (rd + 1)))
+
+some_handed : Handed (λ e rd. 1 ≤ rd)
+some_handed = record {
+  index = λ array index rd h. h;
+  operand = λ op of rd h. h;
+  first = λ op a b rd h. h;
+  second = λ op a b rd h. h;
+  first_behind = λ op a b rd less h. omega arith;
+  second_behind = λ op a b rd more h. omega arith;
+}
+
+uses_handed : (Named : Use → Type 0) → Handed (λ e rd. AreNamed Named (expr_uses e))
+uses_handed Named = record {
+  index = λ array index rd h. h.1;
+  operand = λ op of rd h. h;
+  first = λ op a b rd h. named_left Named (expr_uses a) (expr_uses b) h;
+  second = λ op a b rd h. named_right Named (expr_uses a) (expr_uses b) h;
+  first_behind = λ op a b rd less h. named_left Named (expr_uses a) (expr_uses b) h;
+  second_behind = λ op a b rd more h. named_right Named (expr_uses a) (expr_uses b) h;
+}
+
+pub operands_ask : (homes : ℕ) (Named : Use → Type 0) (f : ℕ → List Step) (e : PlainSp) (rd : ℕ) → 1 ≤ rd → ExprFits e rd → AreNamed Named (expr_uses e) → AsksOnly Named (parts_trail f (operands_code homes e rd))
+operands_ask homes Named f e rd some fits named =
+    operands_are (λ ps. AsksOnly Named (parts_trail f ps)) homes (λ e rd. (1 ≤ rd) × (ExprFits e rd × AreNamed Named (expr_uses e))) (asks_nothing Named) (asks_joined f) (both_handed some_handed (both_handed fits_handed (uses_handed Named)))
+    (λ e rd h. value_asks homes Named f e rd rd h.0 (omega (arith, h.1.0.registers, some_need e)) h.1.0 h.1.1) e rd (some, (fits, named))
+
+pub expr_asks : (homes : ℕ) (Named : Use → Type 0) (f : ℕ → List Step) (e : PlainSp) (rd to : ℕ) → 1 ≤ to → to < OVERRUN → 1 ≤ rd → ExprFits e rd → AreNamed Named (expr_uses e) → AsksOnly Named (parts_trail f (expr_to homes e rd to))
+expr_asks homes Named f e rd to some_to few some fits named = asks_joined f (operands_code homes e rd) (value_code homes e rd to) (operands_ask homes Named f e rd some fits named) (value_asks homes Named f e rd to some_to few fits named)

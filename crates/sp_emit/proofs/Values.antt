@@ -16,7 +16,7 @@ use Rattle.sp_shape.specs.Parts.{straight, PlainParts, no_part, one, joined}
 use Rattle.sp_shape.specs.Run.{Run, Sources, by_words, run, IsWhole}
 use Rattle.sp_shape.specs.Trail.{Step, all_done, parts_trail}
 use Rattle.sp_shape.proofs.Joins.{trail_joined}
-use Rattle.sp_emit.specs.Expressions.{unary_code, binary_code, held_code, cell_code, element_code, number_of, expr_code, operand_code, value_at, is_home, slot_number, is_immediate}
+use Rattle.sp_emit.specs.Expressions.{unary_code, binary_code, held_code, cell_code, element_code, number_of, value_code, operands_code, expr_code, operand_code, value_at, is_home, slot_number, is_immediate}
 use Rattle.sp_emit.specs.Fits.{ExprFits}
 use Rattle.sp_emit.specs.Holding.{held, Keeps}
 use Rattle.sp_emit.specs.Instructions.{set_number}
@@ -27,9 +27,10 @@ use Rattle.sp_emit.proofs.Elements.{element_leaves}
 use Rattle.sp_emit.proofs.Leaving.{number_leaves, cell_leaves, unary_leaves}
 use Rattle.sp_emit.proofs.Held.{held_leaves}
 use Rattle.sp_emit.proofs.Binary.{binary_leaves}
-use Rattle.sp_emit.proofs.Needs.{covers, lesser, greater, some_need, word_named, array_named, index_named, operand_fits, first_fits, second_fits, first_fits_behind, second_fits_behind}
+use Rattle.sp_emit.proofs.Needs.{covers, lesser, greater, some_need, word_named, array_named, first_fits, second_fits, first_fits_behind, second_fits_behind}
 use Rattle.sp_emit.specs.Places.{read_word}
-use Rattle.sp_emit.proofs.Operands.{operand_is, home_below}
+use Rattle.sp_emit.specs.declared.registers.TheConstants.{SPARE, OVERRUN}
+use Rattle.sp_emit.proofs.Operands.{home_below, operand_is, one_of, Handed, fits_handed, both_handed, operands_are}
 use Rattle.sp_emit.proofs.WordPlaces.{in_place, word_still, read_leaves}
 use Rattle.sp_emit.proofs.Words.{value_word}
 
@@ -39,14 +40,6 @@ use Rattle.sp_emit.proofs.Words.{value_word}
 pub run_joined : (from : Sources) (f : ℕ → List Step) (xs ys : PlainParts) (m : Run) → run from (parts_trail f (joined xs ys)) m ≡ run from (parts_trail f ys) (run from (parts_trail f xs) m)
 run_joined from f xs ys m = ap (λ steps. run from steps m) (trail_joined f xs ys) ∙ run_append from (parts_trail f xs) (parts_trail f ys) m
 
-two_calm : (homes : ℕ) (low rd : ℕ) (op : SpBinary) (a b : PlainSp) (is less : Bool) → low ≤ rd → rd ≤ 20 → rd < homes
-    → parts_calm low homes (operand_code homes a rd) ≡ true → parts_calm low homes (operand_code homes b rd) ≡ true → (less ≡ true → parts_calm low homes (operand_code homes a (rd + 1)) ≡ true) → (less ≡ false → parts_calm low homes (operand_code homes b (rd + 1)) ≡ true)
-    → parts_calm low homes (if is then joined (operand_code homes a rd) (one (straight (held_code op rd (value_at homes a rd) (number_of b))))
-    else if less then joined (operand_code homes b rd) (joined (operand_code homes a (rd + 1)) (binary_code op rd (value_at homes a (rd + 1)) (value_at homes b rd))) else joined (operand_code homes a rd) (joined (operand_code homes b (rd + 1)) (binary_code op rd (value_at homes a rd) (value_at homes b (rd + 1))))) ≡ true
-two_calm homes low rd op a b true less le few within ca cb na nb = joined_calm low homes (operand_code homes a rd) _ ca (lone_calm low homes (held_code op rd (value_at homes a rd) (number_of b)) (held_calm op low homes rd (value_at homes a rd) (number_of b) le few within))
-two_calm homes low rd op a b false true le few within ca cb na nb = joined_calm low homes (operand_code homes b rd) _ cb (joined_calm low homes (operand_code homes a (rd + 1)) _ (na refl) (binary_calm op low homes rd (value_at homes a (rd + 1)) (value_at homes b rd) le few within))
-two_calm homes low rd op a b false false le few within ca cb na nb = joined_calm low homes (operand_code homes a rd) _ ca (joined_calm low homes (operand_code homes b (rd + 1)) _ (nb refl) (binary_calm op low homes rd (value_at homes a rd) (value_at homes b (rd + 1)) le few within))
-
 left : {rd : ℕ} (e : PlainSp) → ExprFits e rd → rd ≤ 20
 left e fits = omega (arith, fits.registers, some_need e)
 
@@ -54,26 +47,59 @@ left e fits = omega (arith, fits.registers, some_need e)
 pub before : {rd : ℕ} (homes : ℕ) (e : PlainSp) → rd + need e ≤ homes → rd < homes
 before homes e free = omega (arith, free, some_need e)
 
-expr_calm : (homes low rd : ℕ) (e : PlainSp) → low ≤ rd → ExprFits e rd → rd + need e ≤ homes → parts_calm low homes (expr_code homes e rd) ≡ true
-expr_calm homes low rd (constant n) le fits free = lone_calm low homes (set_number rd n ∷ []) (constant_calm low homes rd n le (left (constant n) fits) (before homes (constant n) free))
-expr_calm homes low rd (frame_word slot) le fits free = lone_calm low homes (read_word homes rd slot ∷ []) (slot_calm low homes rd slot le (left (frame_word slot) fits) (before homes (frame_word slot) free))
-expr_calm homes low rd (cell_word cell) le fits free = lone_calm low homes (cell_code cell rd) (cell_calm cell low homes rd le (left (cell_word cell) fits) (before homes (cell_word cell) free))
-expr_calm homes low rd (array_word array index) le fits free =
-    joined_calm low homes (expr_code homes index rd) _ (expr_calm homes low rd index le (index_named array index fits) free)
-    (lone_calm low homes (element_code array rd) (element_calm array low homes rd le (left (array_word array index) fits) (before homes (array_word array index) free)))
-expr_calm homes low rd (before_one op of) le fits free =
-    joined_calm low homes (operand_code homes of rd) _ (operand_is (λ ps. parts_calm low homes ps ≡ true) homes of rd refl (expr_calm homes low rd of le (operand_fits op of fits) free))
-    (lone_calm low homes (unary_code op rd (value_at homes of rd)) (unary_calm op low homes rd (value_at homes of rd) le (left (before_one op of) fits) (before homes (before_one op of) free)))
-expr_calm homes low rd (between_two op a b) le fits free =
-    let c = covers (nat_lt (need a) (need b)) (need a) (need b) in
-    two_calm homes low rd op a b (is_immediate op b) (nat_lt (need a) (need b)) le (left (between_two op a b) fits) (before homes (between_two op a b) free)
-    (operand_is (λ ps. parts_calm low homes ps ≡ true) homes a rd refl (expr_calm homes low rd a le (first_fits op a b fits) (omega (arith, free, c.0)))) (operand_is (λ ps. parts_calm low homes ps ≡ true) homes b rd refl (expr_calm homes low rd b le (second_fits op a b fits) (omega (arith, free, c.1))))
-    (λ less. operand_is (λ ps. parts_calm low homes ps ≡ true) homes a (rd + 1) refl (expr_calm homes low (rd + 1) a (omega (arith, le)) (first_fits_behind op a b fits less) (omega (arith, free, lesser (need a) (need b) less))))
-    (λ more. operand_is (λ ps. parts_calm low homes ps ≡ true) homes b (rd + 1) refl (expr_calm homes low (rd + 1) b (omega (arith, le)) (second_fits_behind op a b fits more) (omega (arith, free, greater (need a) (need b) more))))
+-- what gives the value is calm from the register on to which that goes
+value_calm : (homes low top : ℕ) (e : PlainSp) (rd to : ℕ) → low ≤ to → to < OVERRUN → to < top → parts_calm low top (value_code homes e rd to) ≡ true
+value_calm homes low top (constant n) rd to le few within = lone_calm low top (set_number to n ∷ []) (constant_calm low top to n le few within)
+value_calm homes low top (frame_word slot) rd to le few within = lone_calm low top (read_word homes to slot ∷ []) (slot_calm low top homes to slot le few within)
+value_calm homes low top (cell_word cell) rd to le few within = lone_calm low top (cell_code cell to) (cell_calm cell low top to le few within)
+value_calm homes low top (array_word array index) rd to le few within =
+    lone_calm low top (element_code array to (value_at homes index rd)) (element_calm array low top to (value_at homes index rd) le few within)
+value_calm homes low top (before_one op of) rd to le few within = lone_calm low top (unary_code op to (value_at homes of rd)) (unary_calm op low top to (value_at homes of rd) le few within)
+value_calm homes low top (between_two op a b) rd to le few within =
+    one_of (λ ps. parts_calm low top ps ≡ true) (is_immediate op b) (nat_lt (need a) (need b)) (one (straight (held_code op to (value_at homes a rd) (number_of b)))) (binary_code op to (value_at homes a (rd + 1)) (value_at homes b rd))
+    (binary_code op to (value_at homes a rd) (value_at homes b (rd + 1))) (lone_calm low top (held_code op to (value_at homes a rd) (number_of b)) (held_calm op low top to (value_at homes a rd) (number_of b) le few within))
+    (λ less. binary_calm op low top to (value_at homes a (rd + 1)) (value_at homes b rd) le few within) (λ more. binary_calm op low top to (value_at homes a rd) (value_at homes b (rd + 1)) le few within)
+
+above_handed : (low : ℕ) → Handed (λ e rd. low ≤ rd)
+above_handed low = record {
+  index = λ array index rd h. h;
+  operand = λ op of rd h. h;
+  first = λ op a b rd h. h;
+  second = λ op a b rd h. h;
+  first_behind = λ op a b rd less h. omega (arith, h);
+  second_behind = λ op a b rd more h. omega (arith, h);
+}
+
+free_handed : (homes : ℕ) → Handed (λ e rd. rd + need e ≤ homes)
+free_handed homes = record {
+  index = λ array index rd h. h;
+  operand = λ op of rd h. h;
+  first = λ op a b rd h. omega (arith, h, (covers (nat_lt (need a) (need b)) (need a) (need b)).0);
+  second = λ op a b rd h. omega (arith, h, (covers (nat_lt (need a) (need b)) (need a) (need b)).1);
+  first_behind = λ op a b rd less h. omega (arith, h, lesser (need a) (need b) less);
+  second_behind = λ op a b rd more h. omega (arith, h, greater (need a) (need b) more);
+}
+
+-- the operands are calm from the first register on
+operands_calm : (homes low : ℕ) (e : PlainSp) (rd : ℕ) → low ≤ rd → ExprFits e rd → rd + need e ≤ homes → parts_calm low homes (operands_code homes e rd) ≡ true
+operands_calm homes low e rd le fits free =
+    operands_are (λ ps. parts_calm low homes ps ≡ true) homes (λ e rd. (low ≤ rd) × (ExprFits e rd × (rd + need e ≤ homes))) refl (joined_calm low homes) (both_handed (above_handed low) (both_handed fits_handed (free_handed homes)))
+    (λ e rd h. value_calm homes low homes e rd rd h.0 (omega (arith, left e h.1.0)) (before homes e h.1.1)) e rd (le, (fits, free))
+
+operands_keep : (homes : ℕ) (from : Sources) (f : ℕ → List Step) (e : PlainSp) (rd : ℕ) (m : Run) → ExprFits e rd → rd + need e ≤ homes → IsWhole m → Keeps rd homes m (run from (parts_trail f (operands_code homes e rd)) m)
+operands_keep homes from f e rd m fits free whole =
+    calm_run from rd homes (parts_trail f (operands_code homes e rd)) m (omega (arith, left e fits)) whole (parts_trail_calm f rd homes (operands_code homes e rd) (operands_calm homes rd e rd (omega arith) fits free))
+
+-- what gives the value keeps all but its register and spare ones
+pub value_keeps : (homes : ℕ) (from : Sources) (f : ℕ → List Step) (e : PlainSp) (rd to : ℕ) (m : Run) → to < OVERRUN → IsWhole m → Keeps to (to + 1) m (run from (parts_trail f (value_code homes e rd to)) m)
+value_keeps homes from f e rd to m few whole =
+    calm_run from to (to + 1) (parts_trail f (value_code homes e rd to)) m (omega (arith, few)) whole (parts_trail_calm f to (to + 1) (value_code homes e rd to) (value_calm homes to (to + 1) e rd to (omega arith) few (omega arith)))
 
 pub expr_keeps : (homes : ℕ) (from : Sources) (f : ℕ → List Step) (e : PlainSp) (rd : ℕ) (m : Run) → ExprFits e rd → rd + need e ≤ homes → IsWhole m → Keeps rd homes m (run from (parts_trail f (expr_code homes e rd)) m)
 expr_keeps homes from f e rd m fits free whole =
-    calm_run from rd homes (parts_trail f (expr_code homes e rd)) m (omega (arith, left e fits)) whole (parts_trail_calm f rd homes (expr_code homes e rd) (expr_calm homes rd rd e (omega arith) fits free))
+    let code = value_calm homes rd homes e rd rd (omega arith) (omega (arith, left e fits)) (before homes e free) in
+    calm_run from rd homes (parts_trail f (expr_code homes e rd)) m (omega (arith, left e fits)) whole
+    (parts_trail_calm f rd homes (expr_code homes e rd) (joined_calm rd homes (operands_code homes e rd) (value_code homes e rd rd) (operands_calm homes rd e rd (omega arith) fits free) code))
 
 -- what a run shows it still shows
 pub shows_still : {homes : ℕ} {slots rd : ℕ} {s : State} {m t : Run} → Keeps rd homes m t → Shows homes slots s m → Shows homes slots s t
@@ -101,11 +127,18 @@ value_small {homes} {slots} {rd} {s} e r = value_word slots s e r.names r.consta
 abbrev pub behind : ℕ → (ℕ → List Step) → PlainSp → ℕ → Run → Run
 behind homes f e rd m = run by_words (parts_trail f (expr_code homes e rd)) m
 
+-- and after that of its operands
+abbrev pub worked : ℕ → (ℕ → List Step) → PlainSp → ℕ → Run → Run
+worked homes f e rd m = run by_words (parts_trail f (operands_code homes e rd)) m
+
 abbrev Leaves : ℕ → (ℕ → List Step) → PlainSp → ℕ → State → Run → Type 0
 Leaves homes f e rd s m = held rd (behind homes f e rd m) ≡ sp_value s.frame s.world e
 
 behind_keeps : {homes : ℕ} {slots rd : ℕ} {s : State} {m : Run} (f : ℕ → List Step) (e : PlainSp) → IsReady homes slots e rd s m → Keeps rd homes m (behind homes f e rd m)
 behind_keeps {homes} {slots} {rd} {s} {m} f e r = expr_keeps homes by_words f e rd m (fits_of r) r.free r.whole
+
+pub worked_keeps : {homes : ℕ} {slots rd : ℕ} {s : State} {m : Run} (f : ℕ → List Step) (e : PlainSp) → IsReady homes slots e rd s m → Keeps rd homes m (worked homes f e rd m)
+worked_keeps {homes} {slots} {rd} {s} {m} f e r = operands_keep homes by_words f e rd m (fits_of r) r.free r.whole
 
 -- ---- the parts of an expression are ready where it is
 
@@ -214,72 +247,95 @@ value_stays {homes} {from} rd e m t lt keeps = by (is_home homes e) refl
     by false is = keeps.low rd lt
 
 -- no operand stands in a register that operators use beside
-value_low : (homes rd : ℕ) (e : PlainSp) → rd ≤ 21 → value_at homes e rd < 27
+pub value_low : (homes rd : ℕ) (e : PlainSp) → rd ≤ 21 → value_at homes e rd < 27
 value_low homes rd e few = by (is_home homes e) refl
   where
     by : (b : Bool) → is_home homes e ≡ b → (if b then homes + slot_number e else rd) < 27
     by true is = let lt = home_below homes e is in omega (arith, lt)
     by false is = omega (arith, few)
 
--- so the code of two operands, whichever is worked out first
-both_left : {homes : ℕ} {slots rd : ℕ} {s : State} {m : Run} (f : ℕ → List Step) (op : SpBinary) (a b : PlainSp) → IsReady homes slots (between_two op a b) rd s m → LeavesAnywhere homes slots f a s → LeavesAnywhere homes slots f b s
-    → (is less : Bool) → is_immediate op b ≡ is → nat_lt (need a) (need b) ≡ less
-    → held rd (run by_words (parts_trail f (if is then joined (operand_code homes a rd) (one (straight (held_code op rd (value_at homes a rd) (number_of b))))
-    else if less then joined (operand_code homes b rd) (joined (operand_code homes a (rd + 1)) (binary_code op rd (value_at homes a (rd + 1)) (value_at homes b rd)))
-    else joined (operand_code homes a rd) (joined (operand_code homes b (rd + 1)) (binary_code op rd (value_at homes a rd) (value_at homes b (rd + 1)))))) m)
+-- ---- what gives the value leaves it in its register, later on too, where what the operands left stands
+
+-- of an expression, wherever it is ready
+GoesAnywhere : ℕ → ℕ → (ℕ → List Step) → PlainSp → State → Type 0
+GoesAnywhere homes slots f e s = (rd : ℕ) (m : Run) → IsReady homes slots e rd s m → (from : ℕ) (t : Run) → rd + 1 < from → Keeps from homes (worked homes f e rd m) t → (to : ℕ) → 1 ≤ to → to < OVERRUN
+    → held to (run by_words (parts_trail f (value_code homes e rd to)) t) ≡ sp_value s.frame s.world e
+
+left_from : (homes slots : ℕ) (s : State) (f : ℕ → List Step) (e : PlainSp) → GoesAnywhere homes slots f e s → LeavesAnywhere homes slots f e s
+unfolding GoesAnywhere LeavesAnywhere
+left_from homes slots s f e goes rd m r =
+    let n = worked homes f e rd m in
+    ap (held rd) (run_joined by_words f (operands_code homes e rd) (value_code homes e rd rd) m)
+    ∙ goes rd m r (rd + 2) n (omega arith) (keeps_all (rd + 2) homes n (worked_keeps f e r).whole) rd r.some (omega (arith, few_of e r))
+
+-- so the code of an operator, whichever operand is worked out first
+both_go : {homes slots : ℕ} {s : State} (f : ℕ → List Step) (op : SpBinary) (a b : PlainSp) → LeavesAnywhere homes slots f a s → LeavesAnywhere homes slots f b s → (rd : ℕ) (m : Run) → IsReady homes slots (between_two op a b) rd s m
+    → (is less : Bool) → is_immediate op b ≡ is → nat_lt (need a) (need b) ≡ less → (from : ℕ) (t : Run) → rd + 1 < from
+    → Keeps from homes (run by_words (parts_trail f (if is then operand_code homes a rd else if less then joined (operand_code homes b rd) (operand_code homes a (rd + 1)) else joined (operand_code homes a rd) (operand_code homes b (rd + 1)))) m) t
+    → (to : ℕ) → 1 ≤ to → to < OVERRUN
+    → held to (run by_words (parts_trail f (if is then one (straight (held_code op to (value_at homes a rd) (number_of b))) else if less then binary_code op to (value_at homes a (rd + 1)) (value_at homes b rd) else binary_code op to (value_at homes a rd) (value_at homes b (rd + 1)))) t)
     ≡ binary_value op (sp_value s.frame s.world a) (sp_value s.frame s.world b)
-both_left {homes} {slots} {rd} {s} {m} f op a (constant n) r va vb true less is_it less_is =
+both_go {homes} {slots} {s} f op a (constant n) va vb rd m r true less is_it less_is from t past keeps to some few =
     let ready = first_ready op a (constant n) r rd m (omega arith) (first_fits op a (constant n) (fits_of r)).registers (omega (arith, r.free, (covers (nat_lt (need a) 1) (need a) 1).0)) (keeps_all rd homes m r.whole) in
-    ap (held rd) (run_joined by_words f (operand_code homes a rd) (one (straight (held_code op rd (value_at homes a rd) n))) m ∙ run_lone by_words f (held_code op rd (value_at homes a rd) n) (operand_behind homes f a rd m))
-    ∙ held_leaves by_words op rd (value_at homes a rd) n (operand_behind homes f a rd m) (operand_keeps f a ready).whole r.some (omega (arith, few_of (between_two op a (constant n)) r)) (value_low homes rd a (omega (arith, few_of (between_two op a (constant n)) r)))
-    (subst (λ v. v < 2 ^ 32) (sym (operand_left f a ready va)) (value_small a ready)) is_it
-    ∙ ap (λ v. binary_value op v n) (operand_left f a ready va)
-both_left f op a (frame_word slot) r va vb true less is_it less_is = absurd (true≢false (sym is_it))
-both_left f op a (cell_word cell) r va vb true less is_it less_is = absurd (true≢false (sym is_it))
-both_left f op a (array_word array index) r va vb true less is_it less_is = absurd (true≢false (sym is_it))
-both_left f op a (before_one other of) r va vb true less is_it less_is = absurd (true≢false (sym is_it))
-both_left f op a (between_two other c d) r va vb true less is_it less_is = absurd (true≢false (sym is_it))
-both_left {homes} {slots} {rd} {s} {m} f op a b r va vb false true is_it less_is =
+    let is_a = value_stays rd a (operand_behind homes f a rd m) t (omega (arith, past)) keeps ∙ operand_left f a ready va in
+    ap (held to) (run_lone by_words f (held_code op to (value_at homes a rd) n) t)
+    ∙ held_leaves by_words op to (value_at homes a rd) n t keeps.whole some (omega (arith, few)) (value_low homes rd a (omega (arith, few_of (between_two op a (constant n)) r))) (subst (λ v. v < 2 ^ 32) (sym is_a) (value_small a ready)) is_it
+    ∙ ap (λ v. binary_value op v n) is_a
+both_go f op a (frame_word slot) va vb rd m r true less is_it less_is from t past keeps to some few = absurd (true≢false (sym is_it))
+both_go f op a (cell_word cell) va vb rd m r true less is_it less_is from t past keeps to some few = absurd (true≢false (sym is_it))
+both_go f op a (array_word array index) va vb rd m r true less is_it less_is from t past keeps to some few = absurd (true≢false (sym is_it))
+both_go f op a (before_one other of) va vb rd m r true less is_it less_is from t past keeps to some few = absurd (true≢false (sym is_it))
+both_go f op a (between_two other c d) va vb rd m r true less is_it less_is from t past keeps to some few = absurd (true≢false (sym is_it))
+both_go {homes} {slots} {s} f op a b va vb rd m r false true is_it less_is from t past keeps to some few =
     let whole_fits = fits_of r in
     let ready = second_ready op a b r rd m (omega arith) (second_fits op a b whole_fits).registers (omega (arith, r.free, (covers (nat_lt (need a) (need b)) (need a) (need b)).1)) (keeps_all rd homes m r.whole) in
-    let keeps = operand_keeps f b ready in
+    let before = operand_keeps f b ready in
     let n = operand_behind homes f b rd m in
-    let other = first_ready op a b r (rd + 1) n (omega arith) (first_fits_behind op a b whole_fits less_is).registers (omega (arith, r.free, lesser (need a) (need b) less_is)) keeps in
-    let keeps_other = operand_keeps f a other in
-    let few = few_of (between_two op a b) r in
-    let code = binary_code op rd (value_at homes a (rd + 1)) (value_at homes b rd) in
-    ap (held rd) (run_joined by_words f (operand_code homes b rd) (joined (operand_code homes a (rd + 1)) code) m ∙ run_joined by_words f (operand_code homes a (rd + 1)) code n)
-    ∙ applied f op rd (value_at homes a (rd + 1)) (value_at homes b rd) (sp_value s.frame s.world a) (sp_value s.frame s.world b) (operand_behind homes f a (rd + 1) n) keeps_other.whole r.some (omega (arith, few)) (value_low homes (rd + 1) a (omega (arith, few))) (value_low homes rd b (omega (arith, few)))
-    (value_small a other) (value_small b ready) (operand_left f a other va) (value_stays rd b n (operand_behind homes f a (rd + 1) n) (omega arith) keeps_other ∙ operand_left f b ready vb)
-both_left {homes} {slots} {rd} {s} {m} f op a b r va vb false false is_it less_is =
+    let other = first_ready op a b r (rd + 1) n (omega arith) (first_fits_behind op a b whole_fits less_is).registers (omega (arith, r.free, lesser (need a) (need b) less_is)) before in
+    let u = operand_behind homes f a (rd + 1) n in
+    let later = subst (λ x. Keeps from homes x t) (run_joined by_words f (operand_code homes b rd) (operand_code homes a (rd + 1)) m) keeps in
+    let low = few_of (between_two op a b) r in
+    applied f op to (value_at homes a (rd + 1)) (value_at homes b rd) (sp_value s.frame s.world a) (sp_value s.frame s.world b) t later.whole some (omega (arith, few)) (value_low homes (rd + 1) a (omega (arith, low))) (value_low homes rd b (omega (arith, low)))
+    (value_small a other) (value_small b ready) (value_stays (rd + 1) a u t past later ∙ operand_left f a other va) (value_stays rd b u t (omega (arith, past)) later ∙ value_stays rd b n u (omega arith) (operand_keeps f a other) ∙ operand_left f b ready vb)
+both_go {homes} {slots} {s} f op a b va vb rd m r false false is_it less_is from t past keeps to some few =
     let whole_fits = fits_of r in
     let ready = first_ready op a b r rd m (omega arith) (first_fits op a b whole_fits).registers (omega (arith, r.free, (covers (nat_lt (need a) (need b)) (need a) (need b)).0)) (keeps_all rd homes m r.whole) in
-    let keeps = operand_keeps f a ready in
+    let before = operand_keeps f a ready in
     let n = operand_behind homes f a rd m in
-    let other = second_ready op a b r (rd + 1) n (omega arith) (second_fits_behind op a b whole_fits less_is).registers (omega (arith, r.free, greater (need a) (need b) less_is)) keeps in
-    let keeps_other = operand_keeps f b other in
-    let few = few_of (between_two op a b) r in
-    let code = binary_code op rd (value_at homes a rd) (value_at homes b (rd + 1)) in
-    ap (held rd) (run_joined by_words f (operand_code homes a rd) (joined (operand_code homes b (rd + 1)) code) m ∙ run_joined by_words f (operand_code homes b (rd + 1)) code n)
-    ∙ applied f op rd (value_at homes a rd) (value_at homes b (rd + 1)) (sp_value s.frame s.world a) (sp_value s.frame s.world b) (operand_behind homes f b (rd + 1) n) keeps_other.whole r.some (omega (arith, few)) (value_low homes rd a (omega (arith, few))) (value_low homes (rd + 1) b (omega (arith, few)))
-    (value_small a ready) (value_small b other) (value_stays rd a n (operand_behind homes f b (rd + 1) n) (omega arith) keeps_other ∙ operand_left f a ready va) (operand_left f b other vb)
+    let other = second_ready op a b r (rd + 1) n (omega arith) (second_fits_behind op a b whole_fits less_is).registers (omega (arith, r.free, greater (need a) (need b) less_is)) before in
+    let u = operand_behind homes f b (rd + 1) n in
+    let later = subst (λ x. Keeps from homes x t) (run_joined by_words f (operand_code homes a rd) (operand_code homes b (rd + 1)) m) keeps in
+    let low = few_of (between_two op a b) r in
+    applied f op to (value_at homes a rd) (value_at homes b (rd + 1)) (sp_value s.frame s.world a) (sp_value s.frame s.world b) t later.whole some (omega (arith, few)) (value_low homes rd a (omega (arith, low))) (value_low homes (rd + 1) b (omega (arith, low)))
+    (value_small a ready) (value_small b other) (value_stays rd a u t (omega (arith, past)) later ∙ value_stays rd a n u (omega arith) (operand_keeps f b other) ∙ operand_left f a ready va) (value_stays (rd + 1) b u t past later ∙ operand_left f b other vb)
 
--- the code of an expression leaves its value in its register
+value_goes : (homes slots : ℕ) (s : State) (f : ℕ → List Step) (e : PlainSp) → GoesAnywhere homes slots f e s
+unfolding GoesAnywhere
+value_goes homes slots s f (constant n) rd m r from t past keeps to some few = number_leaves by_words to n t keeps.whole some (omega (arith, few)) r.constants
+value_goes homes slots s f (frame_word slot) rd m r from t past keeps to some few =
+    let shown = (shows_still keeps r.shows).frame slot (ltb-true slot slots r.names) in
+    read_leaves by_words homes to slot t refl keeps.whole some (omega (arith, few)) (word_named slot (fits_of r)) (subst (λ v. v < 2 ^ 32) (sym shown) (r.words.frame slot (ltb-true slot slots r.names))) ∙ shown
+value_goes homes slots s f (cell_word cell) rd m r from t past keeps to some few = cell_leaves cell to s.world t keeps.whole some (omega (arith, few)) r.names (shows_still keeps r.shows).world
+value_goes homes slots s f (array_word array index) rd m r from t past keeps to some few =
+    let ready = index_ready array index r in
+    let ra = value_at homes index rd in
+    let world = (shows_still keeps (shows_still (operand_keeps f index ready) r.shows)).world in
+    ap (held to) (run_lone by_words f (element_code array to ra) t)
+    ∙ element_leaves array to ra s.world t keeps.whole some few (value_low homes rd index (omega (arith, few_of index ready))) (array_named array index (fits_of r)) world
+    ∙ ap (λ n. array_value array n s.world) (value_stays rd index (operand_behind homes f index rd m) t (omega (arith, past)) keeps ∙ operand_left f index ready (left_from homes slots s f index (value_goes homes slots s f index)))
+value_goes homes slots s f (before_one op of) rd m r from t past keeps to some few =
+    let ready = operand_ready op of r in
+    ap (held to) (run_lone by_words f (unary_code op to (value_at homes of rd)) t) ∙ unary_leaves by_words op to (value_at homes of rd) t keeps.whole some (omega (arith, few))
+    ∙ ap (unary_value op) (value_stays rd of (operand_behind homes f of rd m) t (omega (arith, past)) keeps ∙ operand_left f of ready (left_from homes slots s f of (value_goes homes slots s f of)))
+value_goes homes slots s f (between_two op a b) rd m r from t past keeps to some few =
+    both_go f op a b (left_from homes slots s f a (value_goes homes slots s f a)) (left_from homes slots s f b (value_goes homes slots s f b)) rd m r (is_immediate op b) (nat_lt (need a) (need b)) refl refl from t past keeps to some few
+
+-- the code of an expression leaves its value in the register to which it goes, also where a test stands before its end
+pub value_sent : {homes slots rd : ℕ} {s : State} {m : Run} (f : ℕ → List Step) (e : PlainSp) → IsReady homes slots e rd s m → (t : Run) → Keeps SPARE homes (worked homes f e rd m) t → (to : ℕ) → 1 ≤ to → to < OVERRUN
+    → held to (run by_words (parts_trail f (value_code homes e rd to)) t) ≡ sp_value s.frame s.world e
+unfolding GoesAnywhere
+value_sent {homes} {slots} {rd} {s} {m} f e r t keeps to some few = value_goes homes slots s f e rd m r SPARE t (omega (arith, few_of e r)) keeps to some few
+
 pub value_left : {homes : ℕ} {slots rd : ℕ} {s : State} {m : Run} (f : ℕ → List Step) (e : PlainSp) → IsReady homes slots e rd s m → Leaves homes f e rd s m
 unfolding LeavesAnywhere
-value_left {homes} {slots} {rd} {s} {m} f (constant n) r = number_leaves by_words rd n m r.whole r.some (omega (arith, few_of (constant n) r)) r.constants
-value_left {homes} {slots} {rd} {s} {m} f (frame_word slot) r =
-    let word = subst (λ v. v < 2 ^ 32) (sym (r.shows.frame slot (ltb-true slot slots r.names))) (r.words.frame slot (ltb-true slot slots r.names)) in
-    read_leaves by_words homes rd slot m refl r.whole r.some (omega (arith, few_of (frame_word slot) r)) (word_named slot (fits_of r)) word ∙ r.shows.frame slot (ltb-true slot slots r.names)
-value_left {homes} {slots} {rd} {s} {m} f (cell_word cell) r = cell_leaves cell rd s.world m r.whole r.some (omega (arith, few_of (cell_word cell) r)) r.names r.shows.world
-value_left {homes} {slots} {rd} {s} {m} f (array_word array index) r =
-    let ready = index_ready array index r in
-    let keeps = behind_keeps f index ready in
-    ap (held rd) (run_joined by_words f (expr_code homes index rd) (one (straight (element_code array rd))) m)
-    ∙ element_leaves array rd s.world (behind homes f index rd m) keeps.whole r.some (omega (arith, few_of (array_word array index) r)) (array_named array index (fits_of r)) (shows_still keeps r.shows).world
-    ∙ ap (λ n. array_value array n s.world) (value_left f index ready)
-value_left {homes} {slots} {rd} {s} {m} f (before_one op of) r =
-    let ready = operand_ready op of r in
-    ap (held rd) (run_joined by_words f (operand_code homes of rd) (one (straight (unary_code op rd (value_at homes of rd)))) m ∙ run_lone by_words f (unary_code op rd (value_at homes of rd)) (operand_behind homes f of rd m))
-    ∙ unary_leaves by_words op rd (value_at homes of rd) (operand_behind homes f of rd m) (operand_keeps f of ready).whole r.some (omega (arith, few_of (before_one op of) r)) ∙ ap (unary_value op) (operand_left f of ready (λ from t again. value_left f of again))
-value_left {homes} {slots} {rd} {s} {m} f (between_two op a b) r = both_left f op a b r (λ from t ready. value_left f a ready) (λ from t ready. value_left f b ready) (is_immediate op b) (nat_lt (need a) (need b)) refl refl
+value_left {homes} {slots} {rd} {s} {m} f e r = left_from homes slots s f e (value_goes homes slots s f e) rd m r

@@ -10,18 +10,19 @@ use Rattle.c_world.specs.declared.region.Region.{Region}
 use Rattle.sp_tree.specs.Formed.{names_words, array_formed, send_formed, target_formed, expr_formed, callee_formed, args_formed, result_formed, stmt_formed, stmts_formed, stmt_levels, stmts_levels}
 use Rattle.sp_tree.specs.Need.{need}
 use Rattle.sp_tree.specs.Plain.{PlainSp, constant, frame_word, cell_word, array_word, before_one, between_two}
-use Rattle.sp_tree.specs.Statements.{PlainSpTarget, to_slot, to_cell, to_array, PlainStmt, masks, writes, calls, transfers, overruns, turns, PlainStmts, no_stmt, stmt, PlainFunction, no_function}
+use Rattle.sp_tree.specs.Statements.{PlainSpTarget, to_slot, to_cell, to_array, PlainStmt, masks, writes, calls, transfers, overruns, iterations, PlainStmts, no_stmt, stmt, PlainFunction, no_function}
 use Rattle.sp_tree.specs.declared.operators.SpBinary.{SpBinary}
 use Rattle.sp_tree.specs.declared.operators.SpUnary.{SpUnary}
 use Rattle.sp_shape.proofs.Whole.{begun_whole, run_append}
 use Rattle.sp_shape.specs.Bundles.{part_all, parts_all}
-use Rattle.sp_shape.specs.Formed.{is_turn, part_formed, parts_formed}
+use Rattle.sp_shape.specs.Formed.{is_iteration, part_formed, parts_formed}
 use Rattle.sp_shape.specs.Parts.{PlainPart, straight, repeats, calls_to, leaves, PlainParts, no_part, part, one, joined}
 use Rattle.sp_shape.specs.Run.{Run, IsWhole, Sources, once, run, begun}
 use Rattle.sp_shape.specs.Trail.{Step, all_done, copies, part_trail, parts_trail}
 use Rattle.patmos_instr.specs.declared.guards.Guard.{Guard}
-use Rattle.sp_emit.proofs.Operands.{operand_is}
+use Rattle.sp_emit.proofs.Operands.{one_of, names_handed, operands_are, mask_is}
 use Rattle.patmos_instr.specs.declared.functions.ImmFunc.TheVariants as imm
+use Rattle.patmos_instr.specs.declared.instructions.Op.{Op}
 use Rattle.patmos_instr.specs.declared.instructions.Op.TheVariants.{AluImm, Load, Store}
 use Rattle.patmos_instr.specs.declared.memories.Mem.TheVariants as mem
 use Rattle.patmos_instr.specs.declared.memories.StoreWidth.TheVariants as store
@@ -32,9 +33,9 @@ use Rattle.sp_emit.specs.Chains.{stmt_chain, stmts_chain}
 use Rattle.sp_emit.proofs.Held.{held_is}
 use Rattle.sp_emit.specs.Division.{unsigned_quotient_to}
 use Rattle.sp_emit.specs.Divisors.{factor_rest_to}
-use Rattle.sp_emit.specs.Expressions.{unary_code, binary_code, held_code, cell_code, element_code, number_of, expr_code, operand_code, value_at, is_immediate, address_of}
+use Rattle.sp_emit.specs.Expressions.{unary_code, binary_code, held_code, cell_code, element_code, number_of, value_code, operands_code, expr_to, expr_code, value_at, is_immediate, address_of}
 use Rattle.sp_emit.specs.Instructions.{always, where_so, under, stack_op, set_number}
-use Rattle.sp_emit.specs.Statements.{slot_write, cell_write, element_write, target_write, args_code, mask_handed, call_tail, result_write, call_code, send_code, overrun_code, slot_set, turns_begin, turns_tail, stmt_code, stmts_code}
+use Rattle.sp_emit.specs.Statements.{slot_write, cell_write, element_write, target_write, guarded_code, args_code, mask_handed, call_tail, result_write, call_code, send_code, overrun_code, slot_set, iterations_begin, iterations_tail, stmt_code, stmts_code}
 use Rattle.sp_emit.specs.declared.registers.TheConstants.{RESULT, MASK, FIRST, TEST, SPARE}
 use Rattle.sp_emit.proofs.Arguments.{did_stack}
 use Rattle.sp_emit.proofs.Calling.{call_run}
@@ -42,6 +43,7 @@ use Rattle.sp_emit.proofs.Formed as formed
 use Rattle.sp_emit.proofs.Pointing.{Points, points_then, points_none, points_one, is_inside, Framed, Stays, stays_then, stays_all, inside_done}
 use Rattle.sp_emit.proofs.Quiet.{each_joined, each_lone}
 use Rattle.sp_emit.proofs.Values.{run_joined, run_lone}
+use Rattle.sp_emit.proofs.Lasts.{is_alu, write_is, guarded_each}
 use Rattle.sp_emit.proofs.Numbers.{number_op_is}
 
 -- ---- values
@@ -69,8 +71,8 @@ number_inside frame rd n = number_op_is (λ op. is_inside frame (under always op
 cell_inside : (frame : ℕ) (r : Region) (word rd : ℕ) → AreInside frame (cell_code (record { region = r; word = word }) rd)
 cell_inside frame r word rd = let address = number_inside frame rd (address_of r word) in grind (arith, address)
 
-element_inside : (frame : ℕ) (r : Region) (first length rd : ℕ) → AreInside frame (element_code (record { region = r; first = first; length = length }) rd)
-element_inside frame r first length rd =
+element_inside : (frame : ℕ) (r : Region) (first length rd ra : ℕ) → AreInside frame (element_code (record { region = r; first = first; length = length }) rd ra)
+element_inside frame r first length rd ra =
     let size = number_inside frame SPARE length in
     let address = number_inside frame SPARE (address_of r first) in
     grind (arith, size, address)
@@ -101,34 +103,34 @@ set_within frame homes g slot rs out = by (in_register homes slot) refl
     by true is = refl
     by false is = rw (lt-ltb slot frame (out is)) refl
 
-two_inside : (homes : ℕ) (frame : ℕ) (op : SpBinary) (a b : PlainSp) (rd : ℕ) (held less : Bool) → Inside frame (operand_code homes a rd) → Inside frame (operand_code homes b rd) → Inside frame (operand_code homes a (rd + 1)) → Inside frame (operand_code homes b (rd + 1))
-    → Inside frame (if held then joined (operand_code homes a rd) (one (straight (held_code op rd (value_at homes a rd) (number_of b))))
-    else if less then joined (operand_code homes b rd) (joined (operand_code homes a (rd + 1)) (binary_code op rd (value_at homes a (rd + 1)) (value_at homes b rd)))
-    else joined (operand_code homes a rd) (joined (operand_code homes b (rd + 1)) (binary_code op rd (value_at homes a rd) (value_at homes b (rd + 1)))))
-two_inside homes frame op a b rd true less x y x1 y1 = each_joined (is_inside frame) (operand_code homes a rd) _ x (each_lone (is_inside frame) (held_code op rd (value_at homes a rd) (number_of b)) (held_inside frame op rd (value_at homes a rd) (number_of b)))
-two_inside homes frame op a b rd false true x y x1 y1 =
-    each_joined (is_inside frame) (operand_code homes b rd) _ y (each_joined (is_inside frame) (operand_code homes a (rd + 1)) _ x1 (binary_inside frame op rd (value_at homes a (rd + 1)) (value_at homes b rd)))
-two_inside homes frame op a b rd false false x y x1 y1 =
-    each_joined (is_inside frame) (operand_code homes a rd) _ x (each_joined (is_inside frame) (operand_code homes b (rd + 1)) _ y1 (binary_inside frame op rd (value_at homes a rd) (value_at homes b (rd + 1))))
+value_inside : (homes frame slots : ℕ) (e : PlainSp) (rd to : ℕ) → slots ≤ frame → names_words slots e ≡ true → Inside frame (value_code homes e rd to)
+value_inside homes frame slots (constant n) rd to le named = rw (number_inside frame to n) refl
+value_inside homes frame slots (frame_word slot) rd to le named = rw (read_inside frame homes to slot (omega (arith, le, ltb-true slot slots named))) refl
+value_inside homes frame slots (cell_word cell) rd to le named = each_lone (is_inside frame) (cell_code cell to) (cell_inside frame cell.region cell.word to)
+value_inside homes frame slots (array_word array index) rd to le named =
+    each_lone (is_inside frame) (element_code array to (value_at homes index rd)) (element_inside frame array.region array.first array.length to (value_at homes index rd))
+value_inside homes frame slots (before_one op of) rd to le named = each_lone (is_inside frame) (unary_code op to (value_at homes of rd)) (unary_inside frame op to (value_at homes of rd))
+value_inside homes frame slots (between_two op a b) rd to le named =
+    one_of (Inside frame) (is_immediate op b) (nat_lt (need a) (need b)) (one (straight (held_code op to (value_at homes a rd) (number_of b)))) (binary_code op to (value_at homes a (rd + 1)) (value_at homes b rd)) (binary_code op to (value_at homes a rd) (value_at homes b (rd + 1)))
+    (each_lone (is_inside frame) (held_code op to (value_at homes a rd) (number_of b)) (held_inside frame op to (value_at homes a rd) (number_of b)))
+    (λ less. binary_inside frame op to (value_at homes a (rd + 1)) (value_at homes b rd)) (λ more. binary_inside frame op to (value_at homes a rd) (value_at homes b (rd + 1)))
 
-expr_inside : (homes : ℕ) (frame slots : ℕ) (e : PlainSp) (rd : ℕ) → slots ≤ frame → names_words slots e ≡ true → Inside frame (expr_code homes e rd)
-expr_inside homes frame slots (constant n) rd le named = rw (number_inside frame rd n) refl
-expr_inside homes frame slots (frame_word slot) rd le named = rw (read_inside frame homes rd slot (omega (arith, le, ltb-true slot slots named))) refl
-expr_inside homes frame slots (cell_word cell) rd le named = each_lone (is_inside frame) (cell_code cell rd) (cell_inside frame cell.region cell.word rd)
-expr_inside homes frame slots (array_word array index) rd le named =
-    each_joined (is_inside frame) (expr_code homes index rd) (one (straight (element_code array rd))) (expr_inside homes frame slots index rd le (and_parts (array_formed array) (names_words slots index) named).1)
-    (each_lone (is_inside frame) (element_code array rd) (element_inside frame array.region array.first array.length rd))
-expr_inside homes frame slots (before_one op of) rd le named =
-    each_joined (is_inside frame) (operand_code homes of rd) (one (straight (unary_code op rd (value_at homes of rd)))) (operand_is (Inside frame) homes of rd refl (expr_inside homes frame slots of rd le named)) (each_lone (is_inside frame) (unary_code op rd (value_at homes of rd)) (unary_inside frame op rd (value_at homes of rd)))
-expr_inside homes frame slots (between_two op a b) rd le named =
-    let parts = and_parts (names_words slots a) (names_words slots b) named in
-    two_inside homes frame op a b rd (is_immediate op b) (nat_lt (need a) (need b)) (operand_is (Inside frame) homes a rd refl (expr_inside homes frame slots a rd le parts.0)) (operand_is (Inside frame) homes b rd refl (expr_inside homes frame slots b rd le parts.1)) (operand_is (Inside frame) homes a (rd + 1) refl (expr_inside homes frame slots a (rd + 1) le parts.0)) (operand_is (Inside frame) homes b (rd + 1) refl (expr_inside homes frame slots b (rd + 1) le parts.1))
+alu_inside : (frame : ℕ) (g : Guard) (op : Op) → is_alu op ≡ true → is_inside frame (under g op) ≡ true
+alu_inside frame g op alu = grind (arith, alu)
+
+operands_inside : (homes frame slots : ℕ) (e : PlainSp) (rd : ℕ) → slots ≤ frame → names_words slots e ≡ true → Inside frame (operands_code homes e rd)
+operands_inside homes frame slots e rd le named =
+    operands_are (Inside frame) homes (λ e rd. names_words slots e ≡ true) refl (each_joined (is_inside frame)) (names_handed slots) (λ e rd names. value_inside homes frame slots e rd rd le names) e rd named
+
+expr_inside : (homes frame slots : ℕ) (e : PlainSp) (rd to : ℕ) → slots ≤ frame → names_words slots e ≡ true → Inside frame (expr_to homes e rd to)
+expr_inside homes frame slots e rd to le named =
+    each_joined (is_inside frame) (operands_code homes e rd) (value_code homes e rd to) (operands_inside homes frame slots e rd le named) (value_inside homes frame slots e rd to le named)
 
 args_inside : (homes : ℕ) (frame slots : ℕ) (args : List PlainSp) (rd : ℕ) → slots ≤ frame → args_formed slots args ≡ true → Inside frame (args_code homes args rd)
 args_inside homes frame slots [] rd le named = refl
 args_inside homes frame slots (e ∷ args) rd le named =
     let parts = and_parts (expr_formed slots e) (args_formed slots args) named in
-    each_joined (is_inside frame) (expr_code homes e rd) (args_code homes args (rd + 1)) (expr_inside homes frame slots e rd le (and_parts (names_words slots e) (nat_le (need e) 12) parts.0).0) (args_inside homes frame slots args (rd + 1) le parts.1)
+    each_joined (is_inside frame) (expr_code homes e rd) (args_code homes args (rd + 1)) (expr_inside homes frame slots e rd rd le (and_parts (names_words slots e) (nat_le (need e) 12) parts.0).0) (args_inside homes frame slots args (rd + 1) le parts.1)
 
 -- ---- parts without calls stay within the frame
 
@@ -148,8 +150,8 @@ mutual
   stay_part : (from : Sources) (f : ℕ → List Step) (frame : ℕ) (p : PlainPart) → part_formed 0 p ≡ true → part_all (is_inside frame) p ≡ true → StaysIn from frame (part_trail f p)
   stay_part from f frame (straight bs) is inside m framed = inside_done from frame bs m framed inside
   stay_part from f frame (repeats n body tail) is inside m framed =
-      let a = and_parts (nat_lt 0 n) (parts_formed 0 body && is_turn tail) is in
-      let b = and_parts (parts_formed 0 body) (is_turn tail) a.1 in
+      let a = and_parts (nat_lt 0 n) (parts_formed 0 body && is_iteration tail) is in
+      let b = and_parts (parts_formed 0 body) (is_iteration tail) a.1 in
       let c = and_parts (parts_all (is_inside frame) body) (list_all (is_inside frame) tail) inside in
       stay_copies from frame n (parts_trail f body ++ all_done tail) (stay_both from frame (parts_trail f body) (all_done tail) (stay_parts from f frame body b.0 c.0) (λ t framed. inside_done from frame tail t framed c.1)) m framed
   stay_part from f frame (calls_to k tail) is inside m framed = let less = ltb-true k 0 (and_parts (nat_lt k 0) _ is).0 in absurd (omega (arith, less))
@@ -162,8 +164,8 @@ mutual
       let c = and_parts (part_all (is_inside frame) p) (parts_all (is_inside frame) rest) inside in
       stay_both from frame (part_trail f p) (parts_trail f rest) (stay_part from f frame p a.0 c.0) (stay_parts from f frame rest a.1 c.1) m framed
 
-value_stays : (homes : ℕ) (from : Sources) (f : ℕ → List Step) (frame slots : ℕ) (e : PlainSp) (rd : ℕ) → slots ≤ frame → expr_formed slots e ≡ true → StaysIn from frame (parts_trail f (expr_code homes e rd))
-value_stays homes from f frame slots e rd le is = stay_parts from f frame (expr_code homes e rd) (formed.expr_formed homes 0 e rd) (expr_inside homes frame slots e rd le (and_parts (names_words slots e) (nat_le (need e) 12) is).0)
+expr_stays : (homes : ℕ) (from : Sources) (f : ℕ → List Step) (frame slots : ℕ) (e : PlainSp) (rd to : ℕ) → slots ≤ frame → expr_formed slots e ≡ true → StaysIn from frame (parts_trail f (expr_to homes e rd to))
+expr_stays homes from f frame slots e rd to le is = stay_parts from f frame (expr_to homes e rd to) (formed.expr_formed homes 0 e rd to) (expr_inside homes frame slots e rd to le (and_parts (names_words slots e) (nat_le (need e) 12) is).0)
 
 stay_joined : (from : Sources) (f : ℕ → List Step) (frame : ℕ) (xs ys : PlainParts) → StaysIn from frame (parts_trail f xs) → StaysIn from frame (parts_trail f ys) → StaysIn from frame (parts_trail f (joined xs ys))
 stay_joined from f frame xs ys a b m framed =
@@ -194,7 +196,7 @@ target_stays homes from f frame slots mask (to_slot slot) le masked is =
 target_stays homes from f frame slots mask (to_cell cell) le masked is =
     bundles_stay from f frame (cell_write homes mask cell) (cell_write_inside homes frame mask cell.region cell.word (lt-ltb mask frame (omega (arith, le, masked))))
 target_stays homes from f frame slots mask (to_array array index) le masked is =
-    stay_joined from f frame (expr_code homes index (FIRST + 1)) (one (straight (element_write homes mask array))) (value_stays homes from f frame slots index (FIRST + 1) le (and_parts (array_formed array) (expr_formed slots index) is).1)
+    stay_joined from f frame (expr_code homes index (FIRST + 1)) (one (straight (element_write homes mask array))) (expr_stays homes from f frame slots index (FIRST + 1) (FIRST + 1) le (and_parts (array_formed array) (expr_formed slots index) is).1)
     (bundles_stay from f frame (element_write homes mask array) (element_write_inside homes frame mask array.region array.first array.length (lt-ltb mask frame (omega (arith, le, masked)))))
 
 -- ---- calls
@@ -244,25 +246,29 @@ call_stays homes from f number frame slots mask k g result callees earlier le ma
 
 -- ---- statements
 
--- turns of a body that wants so much room
-loop_stays : (from : Sources) (frame count : ℕ) (turn : List Step) (low : ℕ) → ((m : Run) → Framed frame m → low ≤ m.st → Stays frame m (run from turn m)) → (m : Run) → Framed frame m → low ≤ m.st → Stays frame m (run from (copies count turn) m)
-loop_stays from frame zero turn low one m framed enough = stays_all frame m framed
-loop_stays from frame (suc count) turn low one m framed enough =
+-- iterations of a body that wants so much room
+loop_stays : (from : Sources) (frame count : ℕ) (iteration : List Step) (low : ℕ) → ((m : Run) → Framed frame m → low ≤ m.st → Stays frame m (run from iteration m)) → (m : Run) → Framed frame m → low ≤ m.st → Stays frame m (run from (copies count iteration) m)
+loop_stays from frame zero iteration low one m framed enough = stays_all frame m framed
+loop_stays from frame (suc count) iteration low one m framed enough =
     let first = one m framed enough in
-    subst (Stays frame m) (sym (run_append from turn (copies count turn) m)) (stays_then first (loop_stays from frame count turn low one (run from turn m) first.framed (omega (arith, first.st, enough))))
+    subst (Stays frame m) (sym (run_append from iteration (copies count iteration) m)) (stays_then first (loop_stays from frame count iteration low one (run from iteration m) first.framed (omega (arith, first.st, enough))))
 
 mutual
   stmt_stays : (homes : ℕ) (from : Sources) (f : ℕ → List Step) (g : ℕ → ℕ) (fs : List PlainFunction) (number slots frame counter : ℕ) → CalleesStay from f number g → 1 ≤ slots → counter + 3 ≤ frame
       → (t : PlainStmt) → slots + stmt_levels t ≤ counter + 1 → stmt_formed fs number slots t ≡ true → (m : Run) → Framed frame m → 49152 + stmt_chain g t ≤ m.st → Stays frame m (run from (parts_trail f (stmt_code homes frame counter t)) m)
   stmt_stays homes from f g fs number slots frame counter callees some within (masks slot e) levels is m framed enough =
       let parts = and_parts (nat_lt slot slots) (expr_formed slots e) is in
-      stay_joined from f frame (expr_code homes e FIRST) (slot_set homes slot) (value_stays homes from f frame slots e FIRST (omega (arith, levels, within)) parts.1)
-      (bundles_stay from f frame (set_word homes always slot FIRST ∷ []) (rw (set_inside frame homes always slot FIRST (omega (arith, levels, within, ltb-true slot slots parts.0))) refl)) m framed
+      mask_is (λ ps. StaysIn from frame (parts_trail f ps)) homes slot e (λ here. expr_stays homes from f frame slots e FIRST (homes + slot) (omega (arith, levels, within)) parts.1)
+      (λ there. stay_joined from f frame (expr_code homes e FIRST) (slot_set homes slot) (expr_stays homes from f frame slots e FIRST FIRST (omega (arith, levels, within)) parts.1)
+      (bundles_stay from f frame (set_word homes always slot FIRST ∷ []) (rw (set_inside frame homes always slot FIRST (omega (arith, levels, within, ltb-true slot slots parts.0))) refl))) m framed
   stmt_stays homes from f g fs number slots frame counter callees some within (writes mask target e) levels is m framed enough =
       let parts = and_parts (nat_lt mask slots) (target_formed slots target && expr_formed slots e) is in
       let targets = and_parts (target_formed slots target) (expr_formed slots e) parts.1 in
-      stay_joined from f frame (expr_code homes e FIRST) (target_write homes mask target) (value_stays homes from f frame slots e FIRST (omega (arith, levels, within)) targets.1)
-      (target_stays homes from f frame slots mask target (omega (arith, levels, within)) (ltb-true mask slots parts.0) targets.0) m framed
+      let le : slots ≤ frame = omega (arith, levels, within) in
+      write_is (λ ps. StaysIn from frame (parts_trail f ps)) homes mask target e
+      (stay_joined from f frame (expr_code homes e FIRST) (target_write homes mask target) (expr_stays homes from f frame slots e FIRST FIRST le targets.1) (target_stays homes from f frame slots mask target le (ltb-true mask slots parts.0) targets.0))
+      (λ slot op is gives. stay_parts from f frame (guarded_code homes mask e op) (formed.guarded_formed homes 0 mask e op gives.alu)
+      (guarded_each (is_inside frame) homes mask e op (operands_inside homes frame slots e FIRST le (and_parts (names_words slots e) (nat_le (need e) 12) targets.1).0) (fetch_inside frame homes mask (omega (arith, le, ltb-true mask slots parts.0))) refl (alu_inside frame (where_so TEST) op gives.alu))) m framed
   stmt_stays homes from f g fs number slots frame counter callees some within (calls mask k args result) levels is m framed enough =
       let a = and_parts (nat_lt mask slots) (callee_formed fs number k (length args) && (args_formed slots args && result_formed slots result)) is in
       let b = and_parts (callee_formed fs number k (length args)) (args_formed slots args && result_formed slots result) a.1 in
@@ -279,25 +285,25 @@ mutual
       let rest = and_parts (expr_formed slots target) (expr_formed slots count) first.1 in
       let le : slots ≤ frame = omega (arith, levels, within) in
       let sent = one (straight (send_code homes mask core)) in
-      stay_joined from f frame (expr_code homes source FIRST) (joined (expr_code homes target (FIRST + 1)) (joined (expr_code homes count (FIRST + 2)) sent)) (value_stays homes from f frame slots source FIRST le first.0)
-      (stay_joined from f frame (expr_code homes target (FIRST + 1)) (joined (expr_code homes count (FIRST + 2)) sent) (value_stays homes from f frame slots target (FIRST + 1) le rest.0)
-      (stay_joined from f frame (expr_code homes count (FIRST + 2)) sent (value_stays homes from f frame slots count (FIRST + 2) le rest.1)
+      stay_joined from f frame (expr_code homes source FIRST) (joined (expr_code homes target (FIRST + 1)) (joined (expr_code homes count (FIRST + 2)) sent)) (expr_stays homes from f frame slots source FIRST FIRST le first.0)
+      (stay_joined from f frame (expr_code homes target (FIRST + 1)) (joined (expr_code homes count (FIRST + 2)) sent) (expr_stays homes from f frame slots target (FIRST + 1) (FIRST + 1) le rest.0)
+      (stay_joined from f frame (expr_code homes count (FIRST + 2)) sent (expr_stays homes from f frame slots count (FIRST + 2) (FIRST + 2) le rest.1)
       (bundles_stay from f frame (send_code homes mask core) (rw (fetch_inside frame homes mask (omega (arith, le, ltb-true mask slots parts.0))) refl)))) m framed
   stmt_stays homes from f g fs number slots frame counter callees some within (overruns mask e) levels is m framed enough =
       let parts = and_parts (nat_lt mask slots) (expr_formed slots e) is in
-      stay_joined from f frame (expr_code homes e FIRST) (one (straight (overrun_code homes mask))) (value_stays homes from f frame slots e FIRST (omega (arith, levels, within)) parts.1)
+      stay_joined from f frame (expr_code homes e FIRST) (one (straight (overrun_code homes mask))) (expr_stays homes from f frame slots e FIRST FIRST (omega (arith, levels, within)) parts.1)
       (bundles_stay from f frame (overrun_code homes mask) (rw (fetch_inside frame homes mask (omega (arith, levels, within, ltb-true mask slots parts.0))) refl)) m framed
-  stmt_stays homes from f g fs number slots frame counter callees some within (turns count body) levels is m framed enough =
+  stmt_stays homes from f g fs number slots frame counter callees some within (iterations count body) levels is m framed enough =
       let parts = and_parts (nat_lt 0 count) (stmts_formed fs number slots body) is in
       let code = stmts_code homes frame (counter - 1) body in
       let counted = lt-ltb counter frame (omega (arith, within)) in
-      let begin = inside_done from frame (turns_begin counter count) m framed (rw counted refl) in
-      let n = run from (all_done (turns_begin counter count)) m in
-      let turn = parts_trail f code ++ all_done (turns_tail counter) in
-      let rest = loop_stays from frame count turn (49152 + stmts_chain g body) (λ t framed enough.
+      let begin = inside_done from frame (iterations_begin counter count) m framed (rw counted refl) in
+      let n = run from (all_done (iterations_begin counter count)) m in
+      let iteration = parts_trail f code ++ all_done (iterations_tail counter) in
+      let rest = loop_stays from frame count iteration (49152 + stmts_chain g body) (λ t framed enough.
       let b = stmts_stay homes from f g fs number slots frame (counter - 1) callees some (omega (arith, within)) body (omega (arith, levels, some)) parts.1 t framed enough in
-      subst (Stays frame t) (sym (run_append from (parts_trail f code) (all_done (turns_tail counter)) t)) (stays_then b (inside_done from frame (turns_tail counter) (run from (parts_trail f code) t) b.framed (rw counted refl)))) n begin.framed (omega (arith, begin.st, enough)) in
-      subst (Stays frame m) (sym (run_append from (copies count turn) [] n)) (stays_then begin rest)
+      subst (Stays frame t) (sym (run_append from (parts_trail f code) (all_done (iterations_tail counter)) t)) (stays_then b (inside_done from frame (iterations_tail counter) (run from (parts_trail f code) t) b.framed (rw counted refl)))) n begin.framed (omega (arith, begin.st, enough)) in
+      subst (Stays frame m) (sym (run_append from (copies count iteration) [] n)) (stays_then begin rest)
 
   pub stmts_stay : (homes : ℕ) (from : Sources) (f : ℕ → List Step) (g : ℕ → ℕ) (fs : List PlainFunction) (number slots frame counter : ℕ) → CalleesStay from f number g → 1 ≤ slots → counter + 3 ≤ frame
       → (ts : PlainStmts) → slots + stmts_levels ts ≤ counter + 1 → stmts_formed fs number slots ts ≡ true → (m : Run) → Framed frame m → 49152 + stmts_chain g ts ≤ m.st → Stays frame m (run from (parts_trail f (stmts_code homes frame counter ts)) m)

@@ -1,6 +1,6 @@
 -- Words of a frame, in registers and in the stack: what reading and setting one leaves.
-use Rattle.std.proofs.Common.{◌≡◌, ℕ, zero, suc, ◌+◌, ◌%◌, ◌^◌, ◌<◌, ◌≤◌, Bool, true, false, if◌then◌else◌, [], ◌∷◌, refl, sym, ap, ◌∙◌, subst, arith}
-use Rattle.std.proofs.lemmas.Bool.{and_from, ltb-true, lt-ltb}
+use Rattle.std.proofs.Common.{◌≡◌, ℕ, zero, suc, ◌+◌, ◌%◌, ◌^◌, ◌<◌, ◌≤◌, ◌⊎◌, inl, inr, Bool, true, false, if◌then◌else◌, [], ◌∷◌, refl, sym, ap, ◌∙◌, subst, arith}
+use Rattle.std.proofs.lemmas.Bool.{and_from, cases_lt, ltb-true, lt-ltb}
 use Rattle.shared_order.specs.Words.{put}
 use Rattle.patmos_instr.specs.Bundles.{Slots}
 use Rattle.patmos_instr.specs.declared.guards.Guard.{Guard}
@@ -17,7 +17,7 @@ use Rattle.patmos_sem.specs.declared.writes.Write.TheVariants as write
 use Rattle.patmos_sem.specs.Effects.{address_of as address_by}
 use Rattle.sp_shape.specs.Trail.{all_done}
 use Rattle.sp_shape.specs.Run.{Run, Sources, word_given, once, run, IsWhole}
-use Rattle.sp_emit.specs.Holding.{held, KeepsFrom}
+use Rattle.sp_emit.specs.Holding.{held, Keeps, KeepsFrom}
 use Rattle.sp_emit.specs.Instructions.{always, under, idle, set_short, copy, load_slot}
 use Rattle.sp_emit.specs.Places.{in_register, word_of, read_op, read_word, fetch_op, fetch_word, fetched_at, set_op, set_word, word_cleared, words_cleared}
 use Rattle.sp_emit.specs.declared.registers.TheConstants.{SPARE, OVERRUN}
@@ -135,18 +135,25 @@ did_set_word from homes g slot rs v m whole on near is word = by (in_register ho
         ∙ ap (λ n. with_written (write.Register (homes + slot) n) m) (let e : (v + 0) % 2 ^ 32 ≡ v = omega (arith, word) in e)
     by false = did_store_slot from g slot rs m whole on near ∙ ap (λ n. with_slot_word slot n m) is
 
--- what stands after a word is set: all but this word and others of the window
-pub record Sets (homes slot v : ℕ) (m t : Run) : Type 0 where
+-- what stands after a word is set: all but this word and others of the window, of the registers those below a number
+pub record Sets (most homes slot v : ℕ) (m t : Run) : Type 0 where
   pub whole : IsWhole t
   pub st : t.st ≡ m.st
   pub memory : t.memory ≡ m.memory
   pub own : word_of homes slot t ≡ v
   pub others : (u : ℕ) → (slot ≡ u → ⊥) → word_of homes u t ≡ word_of homes u m
-  pub regs : (r : ℕ) → 1 ≤ r → r < 32 → (homes + slot ≡ r → ⊥) → held r t ≡ held r m
+  pub regs : (r : ℕ) → 1 ≤ r → r < most → (homes + slot ≡ r → ⊥) → held r t ≡ held r m
   pub flag : held OVERRUN t ≡ held OVERRUN m
   pub stack : (a : ℕ) → (in_register homes slot ≡ false → m.st + slot ≡ a → ⊥) → t.stack a ≡ m.stack a
 
-pub sets_register : (homes slot v : ℕ) (m : Run) → 1 ≤ homes → IsWhole m → homes + slot < OVERRUN → Sets homes slot v m (with_written (write.Register (homes + slot) v) m)
+from_next : (n r : ℕ) → n ≤ r → (n ≡ r → ⊥) → n + 1 ≤ r
+from_next n r from apart = by (cases_lt n r)
+  where
+    by : (n < r) ⊎ (r ≤ n) → n + 1 ≤ r
+    by (inl less) = omega (arith, less)
+    by (inr more) = absurd (apart (omega (arith, from, more)))
+
+pub sets_register : (homes slot v : ℕ) (m : Run) → 1 ≤ homes → IsWhole m → homes + slot < OVERRUN → Sets 32 homes slot v m (with_written (write.Register (homes + slot) v) m)
 unfolding word_of
 sets_register homes slot v m some whole lt = record {
   whole = whole_written (write.Register (homes + slot) v) m whole;
@@ -169,7 +176,29 @@ sets_register homes slot v m some whole lt = record {
     word u apart true in_it = other (homes + u) (omega (arith, ltb-true (homes + u) OVERRUN in_it)) (λ same. apart (omega (arith, same)))
     word u apart false in_it = refl
 
-sets_stack : (homes slot v : ℕ) (m : Run) → IsWhole m → in_register homes slot ≡ false → Sets homes slot v m (with_slot_word slot v m)
+-- the same where code keeps all but the register of the word, and spare ones
+pub sets_straight : (homes slot v : ℕ) (m t : Run) → homes + slot < OVERRUN → Keeps (homes + slot) (homes + slot + 1) m t → held (homes + slot) t ≡ v → Sets OVERRUN homes slot v m t
+unfolding word_of
+sets_straight homes slot v m t lt keeps is = record {
+  whole = keeps.whole;
+  st = keeps.st;
+  memory = keeps.memory;
+  own = ap (λ c. if c then held (homes + slot) t else t.stack (t.st + slot)) (lt-ltb (homes + slot) OVERRUN lt) ∙ is;
+  others = λ u apart. word u apart (in_register homes u) refl;
+  regs = λ r least few apart. other r few apart (cases_lt r (homes + slot));
+  flag = keeps.flag;
+  stack = λ a apart. ap (λ words. words a) keeps.stack;
+}
+  where
+    other : (r : ℕ) → r < OVERRUN → (homes + slot ≡ r → ⊥) → (r < homes + slot) ⊎ (homes + slot ≤ r) → held r t ≡ held r m
+    other r few apart (inl below) = keeps.low r below
+    other r few apart (inr from) = keeps.high r (from_next (homes + slot) r from apart) few
+
+    word : (u : ℕ) → (slot ≡ u → ⊥) → (c : Bool) → in_register homes u ≡ c → (if c then held (homes + u) t else t.stack (t.st + u)) ≡ (if c then held (homes + u) m else m.stack (m.st + u))
+    word u apart true in_it = other (homes + u) (ltb-true (homes + u) OVERRUN in_it) (λ same. apart (omega (arith, same))) (cases_lt (homes + u) (homes + slot))
+    word u apart false in_it = ap (λ words. words (t.st + u)) keeps.stack ∙ ap (λ st. m.stack (st + u)) keeps.st
+
+sets_stack : (homes slot v : ℕ) (m : Run) → IsWhole m → in_register homes slot ≡ false → Sets 32 homes slot v m (with_slot_word slot v m)
 unfolding word_of
 sets_stack homes slot v m whole is = record {
   whole = record { fits = whole.fits; pending = whole.pending };
@@ -189,11 +218,11 @@ sets_stack homes slot v m whole is = record {
     word u apart true = refl
     word u apart false = put_other (m.st + slot) (m.st + u) v m.stack (λ same. apart (omega (arith, same)))
 
-pub sets_word : (homes slot v : ℕ) (m : Run) → 1 ≤ homes → IsWhole m → Sets homes slot v m (with_word homes slot v m)
+pub sets_word : (homes slot v : ℕ) (m : Run) → 1 ≤ homes → IsWhole m → Sets 32 homes slot v m (with_word homes slot v m)
 unfolding with_word
 sets_word homes slot v m some whole = by (in_register homes slot) refl
   where
-    by : (b : Bool) → in_register homes slot ≡ b → Sets homes slot v m (if b then with_written (write.Register (homes + slot) v) m else with_slot_word slot v m)
+    by : (b : Bool) → in_register homes slot ≡ b → Sets 32 homes slot v m (if b then with_written (write.Register (homes + slot) v) m else with_slot_word slot v m)
     by true is = sets_register homes slot v m some whole (ltb-true (homes + slot) OVERRUN is)
     by false is = sets_stack homes slot v m whole is
 

@@ -5,13 +5,13 @@ use Rattle.patmos_instr.specs.Bundles.{Slots}
 use Rattle.patmos_instr.specs.declared.functions.StackFunc.TheVariants.{Sres}
 use Rattle.patmos_instr.specs.declared.instructions.Op.{Op}
 use Rattle.patmos_instr.specs.declared.instructions.Op.TheVariants.{Stack}
-use Rattle.sp_tree.specs.Statements.{PlainStmt, calls, turns, PlainStmts, no_stmt, stmt, PlainFunction, no_function}
+use Rattle.sp_tree.specs.Statements.{PlainStmt, calls, iterations, PlainStmts, no_stmt, stmt, PlainFunction, no_function}
 
 -- whether statements call a function
 abbrev mutual
   pub stmt_calls : PlainStmt → Bool
   stmt_calls (calls mask k args result) = true
-  stmt_calls (turns count body) = stmts_call body
+  stmt_calls (iterations count body) = stmts_call body
   stmt_calls _ = false
 
   pub stmts_call : PlainStmts → Bool
@@ -30,7 +30,7 @@ takes_at_most most b = takes_op most b.first.op
 abbrev mutual
   pub stmt_chain : (ℕ → ℕ) → PlainStmt → ℕ
   stmt_chain g (calls mask k args result) = g k
-  stmt_chain g (turns count body) = stmts_chain g body
+  stmt_chain g (iterations count body) = stmts_chain g body
   stmt_chain g _ = 0
 
   pub stmts_chain : (ℕ → ℕ) → PlainStmts → ℕ

@@ -1,10 +1,10 @@
--- To be believed. The counts of a tree's turns are words.
+-- To be believed. The counts of a tree's iterations are words.
 use Rattle.std.specs.Prelude.{ℕ, ◌<◌, ◌^◌, List, slice_index_or}
-use Rattle.sp_tree.specs.Statements.{PlainStmt, turns, PlainStmts, no_stmt, stmt, PlainFunction, no_function}
+use Rattle.sp_tree.specs.Statements.{PlainStmt, iterations, PlainStmts, no_stmt, stmt, PlainFunction, no_function}
 
 abbrev mutual
   pub HasStmtCounts : PlainStmt → Type 0
-  HasStmtCounts (turns count body) = (count < 2 ^ 32) × HasStmtsCounts body
+  HasStmtCounts (iterations count body) = (count < 2 ^ 32) × HasStmtsCounts body
   HasStmtCounts _ = Unit {0}
 
   pub HasStmtsCounts : PlainStmts → Type 0

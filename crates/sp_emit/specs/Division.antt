@@ -1,4 +1,4 @@
--- To be believed. The code of quotients and remainders: long division in base 2, two digits in each of 16 turns, which
+-- To be believed. The code of quotients and remainders: long division in base 2, two digits in each of 16 iterations, which
 -- take the same bundles whatever the words are (restoring division: Knuth, The Art of Computer Programming, volume 2, 4.3.1).
 use Rattle.std.specs.Prelude.{ℕ, List, [], ◌∷◌, ◌++◌}
 use Rattle.patmos_instr.specs.Bundles.{Slots}
@@ -10,7 +10,7 @@ use Rattle.sp_shape.specs.Parts.{PlainPart, straight, repeats, PlainParts, no_pa
 use Rattle.sp_emit.specs.Instructions.{always, where_so, idle, set_short, copy, with_short, compute, compare, compare_short, combine, branch}
 use Rattle.sp_emit.specs.declared.registers.TheConstants.{SPARE, DIVIDEND, DIVISOR, REMAINDER, DIGITS, TEST, SECOND, REST_NEGATIVE, QUOTIENT_NEGATIVE, MORE}
 
--- the operands stand in two registers; nothing is left so far, and 16 turns are to be made
+-- the operands stand in two registers; nothing is left so far, and 16 iterations are to be made
 abbrev pub operands : ℕ → ℕ → List Slots
 operands ra rb = copy DIVIDEND ra ∷ copy DIVISOR rb ∷ set_short always REMAINDER 0 ∷ set_short always DIGITS 16 ∷ []
 
@@ -41,15 +41,15 @@ digit =
     ∷ with_short (where_so TEST) imm.Add DIVIDEND DIVIDEND 1
     ∷ []
 
--- a turn is counted, and whether one more comes; it takes two digits
+-- an iteration is counted, and whether one more comes; it takes two digits
 abbrev pub counted : List Slots
 counted = with_short always imm.Sub DIGITS DIGITS 1 ∷ compare_short cmp.Neq MORE DIGITS 0 ∷ []
 
-abbrev pub digit_turn : List Slots
-digit_turn = counted ++ digit ++ digit
+abbrev pub digit_iteration : List Slots
+digit_iteration = counted ++ digit ++ digit
 
 abbrev pub digit_tail : List Slots
-digit_tail = digit_turn ++ branch MORE ∷ idle ∷ idle ∷ []
+digit_tail = digit_iteration ++ branch MORE ∷ idle ∷ idle ∷ []
 
 abbrev pub digits : PlainPart
 digits = repeats 16 no_part digit_tail
@@ -72,14 +72,14 @@ quotient_to rd = compare_short cmp.Eq TEST DIVISOR 0 ∷ copy rd DIVIDEND ∷ se
 abbrev pub rest_to : ℕ → List Slots
 rest_to rd = copy rd REMAINDER ∷ []
 
--- the same of unsigned words, by large divisors too
+-- the quotient and the rest of unsigned words, by large divisors too
 unfoldable pub unsigned_quotient_to : ℕ → ℕ → List Slots
 unsigned_quotient_to rd ra = large_quotient ra ++ quotient_to rd
 
 abbrev pub unsigned_rest_to : ℕ → ℕ → List Slots
 unsigned_rest_to rd ra = large_rest ra ++ rest_to rd
 
--- the same of signed words, each with its sign
+-- the quotient and the rest of signed words, each with its sign
 abbrev pub signed_quotient_to : ℕ → List Slots
 signed_quotient_to rd = quotient_to rd ++ compute (where_so QUOTIENT_NEGATIVE) alu.Sub rd 0 rd ∷ []
 

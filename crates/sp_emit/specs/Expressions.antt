@@ -1,5 +1,6 @@
--- To be believed. The code of expressions: it leaves a value in a register and uses only registers from that one on,
--- and those that are spare. Of two operands the one of the greater need is worked out first, so that registers suffice.
+-- To be believed. The code of expressions: it leaves a value in a register, and works its operands out in registers from
+-- one on, beside those that are spare. Of two operands the one of the greater need is worked out first, so that registers
+-- suffice.
 use Rattle.std.specs.Prelude.{ℕ, ◌+◌, ◌-◌, ◌*◌, ◌^◌, ◌&&◌, ◌||◌, nat_lt, nat_le, Bool, true, false, if◌then◌else◌, List, [], ◌∷◌}
 use Rattle.patmos_instr.specs.Bundles.{Slots}
 use Rattle.patmos_instr.specs.declared.functions.AluFunc.{AluFunc}
@@ -142,7 +143,7 @@ abbrev pub is_immediate : SpBinary → PlainSp → Bool
 is_immediate op (constant n) = nat_lt n (immediate_below op) && (is_short op n || is_exact (greatest op) n)
 is_immediate op _ = false
 
--- the same where the second operand is such a constant
+-- an operator whose second operand is such a constant
 abbrev pub held_computed : ImmFunc → ℕ → ℕ → ℕ → List Slots
 held_computed func rd ra n = with_short always func rd ra n ∷ []
 
@@ -187,14 +188,14 @@ held_code op rd ra n = if is_short op n then short_code op rd ra n else factor_c
 abbrev pub cell_code : SpCell → ℕ → List Slots
 cell_code c rd = set_number rd (address_of c.region c.word) ∷ load_from (cell_space c.region) rd rd ∷ []
 
--- the index stands in the register. Where it is at or past the length the load is made at word 0, and 0 is taken in its
--- place
-abbrev pub element_code : SpArray → ℕ → List Slots
-element_code a rd =
+-- of the index in one register, in another. Where it is at or past the length the load is made at word 0, and 0 is taken
+-- in its place
+abbrev pub element_code : SpArray → ℕ → ℕ → List Slots
+element_code a rd ra =
     set_number SPARE a.length
-    ∷ compare cmp.Ult TEST rd SPARE
+    ∷ compare cmp.Ult TEST ra SPARE
     ∷ set_number SPARE (address_of a.region a.first)
-    ∷ compute always alu.Shadd2 rd rd SPARE
+    ∷ compute always alu.Shadd2 rd ra SPARE
     ∷ set_short (where_not TEST) rd 0
     ∷ load_from (array_space a.region) rd rd
     ∷ set_short (where_not TEST) rd 0
@@ -220,23 +221,45 @@ value_at homes e rd = if is_home homes e then homes + slot_number e else rd
 abbrev pub unless : Bool → PlainParts → PlainParts
 unless there code = if there then no_part else code
 
+-- what gives the value of an expression in a register, once its operands are worked out from another one on: of two the one
+-- of the greater need stands in that, and the other in the next
+abbrev pub value_code : ℕ → PlainSp → ℕ → ℕ → PlainParts
+value_code homes (constant n) rd to = one (straight (set_number to n ∷ []))
+value_code homes (frame_word slot) rd to = one (straight (read_word homes to slot ∷ []))
+value_code homes (cell_word cell) rd to = one (straight (cell_code cell to))
+value_code homes (array_word array index) rd to = one (straight (element_code array to (value_at homes index rd)))
+value_code homes (before_one op of) rd to = one (straight (unary_code op to (value_at homes of rd)))
+value_code homes (between_two op a b) rd to =
+    if is_immediate op b then one (straight (held_code op to (value_at homes a rd) (number_of b)))
+    else if nat_lt (need a) (need b) then binary_code op to (value_at homes a (rd + 1)) (value_at homes b rd)
+    else binary_code op to (value_at homes a rd) (value_at homes b (rd + 1))
+
+-- an operand is worked out where it stands in no register, after its own operands
+abbrev pub worked_out : ℕ → PlainSp → ℕ → PlainParts → PlainParts
+worked_out homes e rd before = unless (is_home homes e) (joined before (value_code homes e rd rd))
+
+-- the code of the operands, from a register on
+abbrev pub operands_code : ℕ → PlainSp → ℕ → PlainParts
+operands_code homes (constant n) rd = no_part
+operands_code homes (frame_word slot) rd = no_part
+operands_code homes (cell_word cell) rd = no_part
+operands_code homes (array_word array index) rd = worked_out homes index rd (operands_code homes index rd)
+operands_code homes (before_one op of) rd = worked_out homes of rd (operands_code homes of rd)
+operands_code homes (between_two op a b) rd =
+    if is_immediate op b then worked_out homes a rd (operands_code homes a rd)
+    else if nat_lt (need a) (need b) then joined (worked_out homes b rd (operands_code homes b rd))
+    (worked_out homes a (rd + 1) (operands_code homes a (rd + 1)))
+    else joined (worked_out homes a rd (operands_code homes a rd))
+    (worked_out homes b (rd + 1) (operands_code homes b (rd + 1)))
+
+-- an expression, worked out from a register on, whose value goes to another one: its last instruction sets that
+abbrev pub expr_to : ℕ → PlainSp → ℕ → ℕ → PlainParts
+expr_to homes e rd to = joined (operands_code homes e rd) (value_code homes e rd to)
+
+-- and to the same
 abbrev pub expr_code : ℕ → PlainSp → ℕ → PlainParts
-expr_code homes (constant n) rd = one (straight (set_number rd n ∷ []))
-expr_code homes (frame_word slot) rd = one (straight (read_word homes rd slot ∷ []))
-expr_code homes (cell_word cell) rd = one (straight (cell_code cell rd))
-expr_code homes (array_word array index) rd = joined (expr_code homes index rd) (one (straight (element_code array rd)))
-expr_code homes (before_one op of) rd =
-    joined (unless (is_home homes of) (expr_code homes of rd)) (one (straight (unary_code op rd (value_at homes of rd))))
-expr_code homes (between_two op a b) rd =
-    if is_immediate op b then joined (unless (is_home homes a) (expr_code homes a rd))
-    (one (straight (held_code op rd (value_at homes a rd) (number_of b))))
-    else if nat_lt (need a) (need b) then joined (unless (is_home homes b) (expr_code homes b rd))
-    (joined (unless (is_home homes a) (expr_code homes a (rd + 1)))
-    (binary_code op rd (value_at homes a (rd + 1)) (value_at homes b rd)))
-    else joined (unless (is_home homes a) (expr_code homes a rd))
-    (joined (unless (is_home homes b) (expr_code homes b (rd + 1)))
-    (binary_code op rd (value_at homes a rd) (value_at homes b (rd + 1))))
+expr_code homes e rd = expr_to homes e rd rd
 
 -- the code of an operand
 abbrev pub operand_code : ℕ → PlainSp → ℕ → PlainParts
-operand_code homes e rd = unless (is_home homes e) (expr_code homes e rd)
+operand_code homes e rd = worked_out homes e rd (operands_code homes e rd)

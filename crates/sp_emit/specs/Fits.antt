@@ -1,5 +1,5 @@
 -- To be believed. What fits a frame: statements are well formed over its first words, and from after these up to the
--- next counter of turns there is a word for each level of them.
+-- next counter of iterations there is a word for each level of them.
 use Rattle.std.specs.Prelude.{◌≡◌, ℕ, ◌+◌, ◌≤◌, nat_lt, true, List, length}
 use Rattle.sp_tree.specs.Formed.{names_words, args_formed, target_formed, stmt_formed, stmts_formed, function_formed, functions_formed, stmt_levels, stmts_levels}
 use Rattle.sp_tree.specs.Need.{need}

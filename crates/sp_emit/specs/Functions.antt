@@ -1,6 +1,6 @@
 -- To be believed. The code of functions and tasks. A function takes its frame from the stack, where its code needs one:
 -- first the words that its tree names; last the place to which it returns, where it calls others; and before that the
--- counters of turns, those inside others before them.
+-- counters of iterations, those inside others before them.
 use Rattle.std.specs.Prelude.{ℕ, zero, suc, ◌+◌, ◌-◌, ◌==◌, nat_le, Bool, not, ◌&&◌, if◌then◌else◌, List, [], ◌∷◌, ◌++◌, length, slice_index_or}
 use Rattle.patmos_instr.specs.Bundles.{Slots}
 use Rattle.patmos_instr.specs.declared.functions.ImmFunc.TheVariants as imm
@@ -31,7 +31,7 @@ base_slot f = f.frame - 2
 abbrev pub offset_slot : PlainFunction → ℕ
 offset_slot f = f.frame - 1
 
--- and the counter of turns that stand in no others
+-- and the counter of iterations that stand in no others
 abbrev pub first_counter : PlainFunction → ℕ
 first_counter f = f.frame - 3
 
@@ -66,7 +66,7 @@ mask_kept homes f = with_short always imm.Xor MASK MASK 1 ∷ set_word homes alw
 abbrev pub state_kept : ℕ → PlainFunction → List Slots
 state_kept homes f = mask_kept homes f ++ place_kept f
 
--- whether code needs no word of the stack: it calls no function and makes no turns, and registers hold all words that
+-- whether code needs no word of the stack: it calls no function and makes no iterations, and registers hold all words that
 -- its tree names
 abbrev pub needs_none : ℕ → PlainFunction → Bool
 needs_none homes f =

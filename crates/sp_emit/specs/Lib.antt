@@ -3,6 +3,7 @@ pub mod Chains
 pub mod Counts
 pub mod Division
 pub mod Divisors
+pub mod Endings
 pub mod Expressions
 pub mod Fits
 pub mod Functions

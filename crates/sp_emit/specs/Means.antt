@@ -6,7 +6,7 @@ use Rattle.c_world.specs.World.{World, Sending}
 use Rattle.sp_tree.specs.Formed.{names_words}
 use Rattle.sp_tree.specs.Need.{need}
 use Rattle.sp_tree.specs.Plain.{PlainSp, constant, frame_word, cell_word, array_word, before_one, between_two}
-use Rattle.sp_tree.specs.Statements.{PlainSpTarget, to_slot, to_cell, to_array, PlainStmt, masks, writes, calls, transfers, overruns, turns, PlainStmts, no_stmt, stmt, PlainFunction, no_function}
+use Rattle.sp_tree.specs.Statements.{PlainSpTarget, to_slot, to_cell, to_array, PlainStmt, masks, writes, calls, transfers, overruns, iterations, PlainStmts, no_stmt, stmt, PlainFunction, no_function}
 use Rattle.sp_tree.specs.Straight.{State}
 use Rattle.sp_shape.specs.Memory.{Memory, Start}
 use Rattle.sp_shape.specs.Run.{Run, IsWhole}
@@ -100,7 +100,7 @@ abbrev mutual
   HasStmtConstants (transfers mask core source target count) =
       HasWordConstants source × HasWordConstants target × HasWordConstants count
   HasStmtConstants (overruns mask e) = HasWordConstants e
-  HasStmtConstants (turns count body) = HasStmtsConstants body
+  HasStmtConstants (iterations count body) = HasStmtsConstants body
 
   pub HasStmtsConstants : PlainStmts → Type 0
   HasStmtsConstants no_stmt = Unit {0}

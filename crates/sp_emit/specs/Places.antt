@@ -12,7 +12,7 @@ use Rattle.patmos_instr.specs.declared.memories.Width.TheVariants as load
 use Rattle.sp_tree.specs.Formed.{slots_of}
 use Rattle.sp_tree.specs.Need.{need}
 use Rattle.sp_tree.specs.Plain.{PlainSp}
-use Rattle.sp_tree.specs.Statements.{PlainSpTarget, to_slot, to_cell, to_array, PlainStmt, masks, writes, calls, transfers, overruns, turns, PlainStmts, no_stmt, stmt, PlainFunction, no_function}
+use Rattle.sp_tree.specs.Statements.{PlainSpTarget, to_slot, to_cell, to_array, PlainStmt, masks, writes, calls, transfers, overruns, iterations, PlainStmts, no_stmt, stmt, PlainFunction, no_function}
 use Rattle.sp_shape.specs.Run.{Run}
 use Rattle.sp_emit.specs.Holding.{held}
 use Rattle.sp_emit.specs.Instructions.{always, under, set_short}
@@ -88,7 +88,7 @@ abbrev mutual
   stmt_least tops (transfers mask core source target count) =
       max (FIRST + 4) (max (FIRST + need source) (max (FIRST + 1 + need target) (FIRST + 2 + need count)))
   stmt_least tops (overruns mask e) = FIRST + need e
-  stmt_least tops (turns count body) = stmts_least tops body
+  stmt_least tops (iterations count body) = stmts_least tops body
 
   pub stmts_least : List ℕ → PlainStmts → ℕ
   stmts_least tops no_stmt = 0

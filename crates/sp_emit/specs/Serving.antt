@@ -4,7 +4,7 @@ use Rattle.c_world.specs.Numbers.{flag}
 use Rattle.c_world.specs.World.{World}
 use Rattle.sp_tree.specs.Formed.{functions_formed, stmts_formed, stmts_levels}
 use Rattle.sp_tree.specs.Statements.{PlainFunction, PlainStmts}
-use Rattle.sp_tree.specs.Straight.{Given, State}
+use Rattle.sp_tree.specs.Straight.{Outcome, State}
 use Rattle.sp_tree.specs.declared.limits.TheConstants.{MOST_FRAME}
 use Rattle.sp_shape.specs.Run.{Run, IsWhole}
 use Rattle.sp_emit.specs.Holding.{held}
@@ -28,7 +28,7 @@ pub record CalledWith (mask : ℕ) (args : List ℕ) (w : World) (m : Run) : Typ
   pub arg_words : (i : ℕ) → slice_index args i < 2 ^ 32
 
 -- it has given this, and the stack after its top is as it was
-pub record Answers (g : Given) (m t : Run) : Type 0 where
+pub record Answers (g : Outcome) (m t : Run) : Type 0 where
   pub carries : Carries g.world t
   pub value : held RESULT t ≡ g.value
   pub flagged : held MASK t ≡ flag g.world.overrun
@@ -43,7 +43,7 @@ pub record AreFunctions (fs : List PlainFunction) (n : ℕ) : Type 0 where
   pub formed : functions_formed fs n ≡ true
 
 -- statements of a function of number n, in a frame of so many words, of which the first are named
--- and the counters of turns stand from one on downward; the run is where the tree's state is, and
+-- and the counters of iterations stand from one on downward; the run is where the tree's state is, and
 -- there is room for the frames of what they call
 pub record AreStatements (fs : List PlainFunction) (n homes frame slots counter : ℕ) (ts : PlainStmts) (s : State) (m : Run) : Type 0 where
   pub functions : AreFunctions fs n

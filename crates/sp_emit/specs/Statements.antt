@@ -1,24 +1,26 @@
 -- To be believed. The code of statements. Where a mask is not 1, a word of the stack, the scratchpad,
 -- communication memory and the interface is not stored; and a word of main memory is stored at word 0, which
 -- nothing else uses: so the bundles and the transactions are the same.
-use Rattle.std.specs.Prelude.{ℕ, ◌+◌, ◌-◌, ◌*◌, List, [], ◌∷◌, ◌++◌, Option, None, Some}
+use Rattle.std.specs.Prelude.{ℕ, ◌+◌, ◌-◌, ◌*◌, if◌then◌else◌, List, [], ◌∷◌, ◌++◌, Option, None, Some}
 use Rattle.patmos_instr.specs.Bundles.{Slots}
 use Rattle.patmos_instr.specs.declared.functions.AluFunc.TheVariants as alu
 use Rattle.patmos_instr.specs.declared.functions.CmpFunc.TheVariants as cmp
 use Rattle.patmos_instr.specs.declared.functions.ImmFunc.TheVariants as imm
 use Rattle.patmos_instr.specs.declared.functions.PredFunc.TheVariants as comb
 use Rattle.patmos_instr.specs.declared.functions.StackFunc.TheVariants.{Sens}
+use Rattle.patmos_instr.specs.declared.instructions.Op.{Op}
 use Rattle.patmos_instr.specs.declared.memories.Mem.{Mem}
 use Rattle.patmos_instr.specs.declared.memories.Mem.TheVariants as mem
 use Rattle.sp_tree.specs.Plain.{PlainSp}
-use Rattle.sp_tree.specs.Statements.{PlainSpTarget, to_slot, to_cell, to_array, PlainStmt, masks, writes, calls, transfers, overruns, turns, PlainStmts, no_stmt, stmt}
+use Rattle.sp_tree.specs.Statements.{PlainSpTarget, to_slot, to_cell, to_array, PlainStmt, masks, writes, calls, transfers, overruns, iterations, PlainStmts, no_stmt, stmt}
 use Rattle.sp_tree.specs.declared.expressions.SpArray.{SpArray}
 use Rattle.sp_tree.specs.declared.expressions.SpCell.{SpCell}
 use Rattle.sp_shape.specs.Parts.{PlainPart, straight, repeats, calls_to, PlainParts, no_part, one, joined}
-use Rattle.sp_emit.specs.Expressions.{address_of, cell_space, array_space, expr_code}
-use Rattle.sp_emit.specs.Instructions.{always, where_so, where_not, idle, set_long, set_number, set_short, compute, with_short, compare, compare_short, combine, stack_op, load_slot, store_to, store_slot, branch, call}
-use Rattle.sp_emit.specs.Places.{read_word, fetch_word, fetched_at, set_word}
-use Rattle.sp_emit.specs.declared.registers.TheConstants.{RESULT, MASK, FIRST, SPARE, OVERRUN, TEST, SECOND}
+use Rattle.sp_emit.specs.Endings.{last_op}
+use Rattle.sp_emit.specs.Expressions.{address_of, cell_space, array_space, operands_code, expr_to, expr_code}
+use Rattle.sp_emit.specs.Instructions.{always, where_so, where_not, under, idle, set_long, set_number, set_short, compute, with_short, compare, compare_short, combine, stack_op, load_slot, store_to, store_slot, branch, call}
+use Rattle.sp_emit.specs.Places.{in_register, read_word, fetch_word, fetched_at, set_word}
+use Rattle.sp_emit.specs.declared.registers.TheConstants.{RESULT, MASK, FIRST, SPARE, OVERRUN, TEST, SECOND, MORE}
 
 -- whether a mask is 1: it is compared where it stands in a register, and else where it is loaded to. In the first case
 -- the bundle before does nothing, and scheduling leaves it out
@@ -56,6 +58,23 @@ target_write homes mask (to_slot slot) = one (straight (slot_write homes mask sl
 target_write homes mask (to_cell cell) = one (straight (cell_write homes mask cell))
 target_write homes mask (to_array array index) =
     joined (expr_code homes index (FIRST + 1)) (one (straight (element_write homes mask array)))
+
+-- a value that is worked out under no mask, and its instruction under one
+abbrev pub guarded_code : ℕ → ℕ → PlainSp → Op → PlainParts
+guarded_code homes mask e op =
+    joined (operands_code homes e FIRST) (one (straight (mask_test homes mask ++ under (where_so TEST) op ∷ [])))
+
+-- so a word of the frame is set that stands in a register, where the value ends in one instruction
+abbrev pub straight_op : ℕ → PlainSpTarget → PlainSp → Option Op
+straight_op homes (to_slot slot) e = if in_register homes slot then last_op homes e FIRST (homes + slot) else None
+straight_op homes target e = None
+
+abbrev pub write_by : ℕ → ℕ → PlainSpTarget → PlainSp → Option Op → PlainParts
+write_by homes mask target e None = joined (expr_code homes e FIRST) (target_write homes mask target)
+write_by homes mask target e (Some op) = guarded_code homes mask e op
+
+abbrev pub write_code : ℕ → ℕ → PlainSpTarget → PlainSp → PlainParts
+write_code homes mask target e = write_by homes mask target e (straight_op homes target e)
 
 -- ---- calls
 
@@ -125,40 +144,45 @@ overrun_code homes mask =
     ∷ set_short (where_so TEST) OVERRUN 1
     ∷ []
 
--- the turns that are left stand in a word of the frame
-abbrev pub turns_begin : ℕ → ℕ → List Slots
-turns_begin counter count = set_long SPARE count ∷ store_slot always counter SPARE ∷ []
+-- the iterations that are left stand in a word of the frame
+abbrev pub iterations_begin : ℕ → ℕ → List Slots
+iterations_begin counter count = set_long SPARE count ∷ store_slot always counter SPARE ∷ []
 
-abbrev pub turns_tail : ℕ → List Slots
-turns_tail counter =
+abbrev pub iterations_tail : ℕ → List Slots
+iterations_tail counter =
     load_slot SPARE counter
     ∷ with_short always imm.Sub SPARE SPARE 1
     ∷ store_slot always counter SPARE
-    ∷ compare_short cmp.Neq TEST SPARE 0
-    ∷ branch TEST
+    ∷ compare_short cmp.Neq MORE SPARE 0
+    ∷ branch MORE
     ∷ idle
     ∷ idle
     ∷ []
 
--- ---- statements of a function whose frame has so many words, and where the next counter of turns stands; those inside
+-- ---- statements of a function whose frame has so many words, and where the next counter of iterations stands; those inside
 -- stand before it
 
 abbrev pub slot_set : ℕ → ℕ → PlainParts
 slot_set homes slot = one (straight (set_word homes always slot FIRST ∷ []))
 
+-- a word that is set in any case: where it stands in a register, the value goes straight there
+abbrev pub mask_code : ℕ → ℕ → PlainSp → PlainParts
+mask_code homes slot e =
+    if in_register homes slot then expr_to homes e FIRST (homes + slot) else joined (expr_code homes e FIRST) (slot_set homes slot)
+
 abbrev mutual
   pub stmt_code : ℕ → ℕ → ℕ → PlainStmt → PlainParts
-  stmt_code homes frame counter (masks slot e) = joined (expr_code homes e FIRST) (slot_set homes slot)
-  stmt_code homes frame counter (writes mask target e) = joined (expr_code homes e FIRST) (target_write homes mask target)
+  stmt_code homes frame counter (masks slot e) = mask_code homes slot e
+  stmt_code homes frame counter (writes mask target e) = write_code homes mask target e
   stmt_code homes frame counter (calls mask k args result) = joined (args_code homes args FIRST) (call_code homes frame mask k result)
   stmt_code homes frame counter (transfers mask core source target count) =
       joined (expr_code homes source FIRST)
       (joined (expr_code homes target (FIRST + 1))
       (joined (expr_code homes count (FIRST + 2)) (one (straight (send_code homes mask core)))))
   stmt_code homes frame counter (overruns mask e) = joined (expr_code homes e FIRST) (one (straight (overrun_code homes mask)))
-  stmt_code homes frame counter (turns count body) =
-      joined (one (straight (turns_begin counter count)))
-      (one (repeats count (stmts_code homes frame (counter - 1) body) (turns_tail counter)))
+  stmt_code homes frame counter (iterations count body) =
+      joined (one (straight (iterations_begin counter count)))
+      (one (repeats count (stmts_code homes frame (counter - 1) body) (iterations_tail counter)))
 
   pub stmts_code : ℕ → ℕ → ℕ → PlainStmts → PlainParts
   stmts_code homes frame counter no_stmt = no_part

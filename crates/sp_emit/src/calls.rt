@@ -1,4 +1,4 @@
-//! Calls, sends, loops that went past their bound, and the counters of turns.
+//! Calls, sends, loops that went past their bound, and the counters of iterations.
 ghost use Rattle.std.specs.Prelude.{◌≡◌, ◌<◌, ◌≤◌, OnOk, IfSome};
 ghost use Rattle.sp_emit.specs.Statements as specs;
 ghost use Rattle.sp_shape.specs.Parts.{straight, repeats, one, joined};
@@ -10,7 +10,9 @@ use crate::instructions::{
 };
 use crate::parts::{listed, push, push_straight};
 use crate::places::{read_word, set_word};
-use crate::registers::{FIRST, MASK, OVERRUN, RESULT, SECOND, SPARE, TEST, behind, pred, reg};
+use crate::registers::{
+    FIRST, MASK, MORE, OVERRUN, RESULT, SECOND, SPARE, TEST, behind, pred, reg,
+};
 use crate::writes::mask_test;
 use patmos_instr::{AluFunc, Bundle, CmpFunc, ImmFunc, Mem, PredFunc, StackFunc};
 use sp_shape::Part;
@@ -156,28 +158,28 @@ pub fn overrun(out: &mut Vec<Part>, homes: u32, mask: u32) -> Result<(), OutOfMe
     push_straight(out, &bundles)
 }
 
-/// The counter of turns begins. It is `Err` where memory runs out.
-pub fn begin_turns(out: &mut Vec<Part>, counter: u32, count: u32) -> Result<(), OutOfMemory>
+/// The counter of iterations begins. It is `Err` where memory runs out.
+pub fn begin_iterations(out: &mut Vec<Part>, counter: u32, count: u32) -> Result<(), OutOfMemory>
     requires { counter < 128 }
     ensures { OnOk result (parts_of out.new.items
-        ≡ joined (parts_of out.old.items) (one (straight (specs.turns_begin counter count)))) }
+        ≡ joined (parts_of out.old.items) (one (straight (specs.iterations_begin counter count)))) }
 {
     let begin = set_long(reg(SPARE), count);
     push_straight(out, &[begin, store_slot(always(), counter, reg(SPARE))])
 }
 
-// a turn ends: the next one begins where the counter is not at its end
-fn turns_tail(counter: u32) -> [Bundle; 7]
+// an iteration ends: the next one begins where the counter is not at its end
+fn iterations_tail(counter: u32) -> [Bundle; 7]
     requires { counter < 128 }
-    ensures { result ≡ specs.turns_tail counter }
+    ensures { result ≡ specs.iterations_tail counter }
 {
-    let (spare, test) = (reg(SPARE), pred(TEST));
+    let (spare, more) = (reg(SPARE), pred(MORE));
     [
         load_slot(spare, counter),
         with_short(always(), ImmFunc::Sub, spare, spare, 1),
         store_slot(always(), counter, spare),
-        compare_short(CmpFunc::Neq, test, spare, 0),
-        branch(test),
+        compare_short(CmpFunc::Neq, more, spare, 0),
+        branch(more),
         idle(),
         idle(),
     ]
@@ -189,13 +191,13 @@ pub fn repeat(
     out: &mut Vec<Part>,
     counter: u32,
     count: u32,
-    turn: Vec<Part>,
+    iteration: Vec<Part>,
 ) -> Result<(), OutOfMemory>
     requires { counter < 128 }
     ensures { OnOk result (parts_of out.new.items
-        ≡ joined (parts_of out.old.items) (one (repeats count (parts_of turn.items) (specs.turns_tail counter)))) }
+        ≡ joined (parts_of out.old.items) (one (repeats count (parts_of iteration.items) (specs.iterations_tail counter)))) }
 {
-    let tail = listed(*out.allocator(), &turns_tail(counter))?;
-    let body = List::of(turn);
+    let tail = listed(*out.allocator(), &iterations_tail(counter))?;
+    let body = List::of(iteration);
     push(out, Part::Repeat { count, body, tail })
 }

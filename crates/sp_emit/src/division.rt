@@ -69,7 +69,7 @@ fn digit() -> [Bundle; 6]
     ]
 }
 
-// a turn is counted
+// an iteration is counted
 fn counted() -> [Bundle; 2]
     ensures { result ≡ specs.counted }
 {
@@ -79,7 +79,7 @@ fn counted() -> [Bundle; 2]
     ]
 }
 
-// the bundles of a turn, with the branch after them
+// the bundles of an iteration, with the branch after them
 fn digit_tail() -> [Bundle; 17]
     ensures { result ≡ specs.digit_tail }
 {

@@ -65,19 +65,19 @@ fn cell(out: &mut Vec<Part>, cell: SpCell, rd: Reg) -> Result<(), OutOfMemory>
     push_straight(out, &bundles)
 }
 
-// the element at the index in a register goes there
-fn element(out: &mut Vec<Part>, array: SpArray, rd: Reg) -> Result<(), OutOfMemory>
+// the element at the index in one register goes to another
+fn element(out: &mut Vec<Part>, array: SpArray, rd: Reg, ra: Reg) -> Result<(), OutOfMemory>
     requires { array_formed array ≡ true }
     ensures { OnOk result (parts_of out.new.items
-        ≡ joined (parts_of out.old.items) (one (straight (specs.element_code array rd)))) }
+        ≡ joined (parts_of out.old.items) (one (straight (specs.element_code array rd ra)))) }
 {
     let spare = reg(SPARE);
     let test = pred(TEST);
     let bundles = [
         set_number(spare, array.length),
-        compare(CmpFunc::Ult, test, rd, spare),
+        compare(CmpFunc::Ult, test, ra, spare),
         set_number(spare, address_of(array.region, array.first)),
-        compute(always(), AluFunc::Shadd2, rd, rd, spare),
+        compute(always(), AluFunc::Shadd2, rd, ra, spare),
         set_short(where_not(test), rd, 0),
         load_from(array_space(array.region), rd, rd),
         set_short(where_not(test), rd, 0),
@@ -126,7 +126,7 @@ fn slot_number(e: &SpExpr) -> u32
 
 // the register in which an operand's value stands
 #[tactic(auto, using(crate::proofs::Operands::home_below))]
-fn value_at(homes: u32, e: &SpExpr, rd: Reg) -> Reg
+pub fn value_at(homes: u32, e: &SpExpr, rd: Reg) -> Reg
     ensures { result ≡ specs.value_at homes (plain_sp e.now) rd }
 {
     if is_home(homes, e) {
@@ -137,7 +137,7 @@ fn value_at(homes: u32, e: &SpExpr, rd: Reg) -> Reg
 }
 
 // whether the second operand is worked out first: the one of the greater need is
-fn is_second_first(a: &SpExpr, b: &SpExpr) -> bool
+pub fn is_second_first(a: &SpExpr, b: &SpExpr) -> bool
     requires first { need (plain_sp a.now) ≤ 21 }
     requires second { need (plain_sp b.now) ≤ 21 }
     ensures { result ≡ nat_lt (need (plain_sp a.now)) (need (plain_sp b.now)) }
@@ -147,7 +147,7 @@ fn is_second_first(a: &SpExpr, b: &SpExpr) -> bool
 
 // the number of a constant for which the operator has code of its own
 #[tactic(auto, unfolding(sp_tree::specs::Plain::plain_sp))]
-fn held_constant(op: SpBinary, b: &SpExpr) -> Option<u32>
+pub fn held_constant(op: SpBinary, b: &SpExpr) -> Option<u32>
     ensures held { SomeIff result (specs.is_immediate op (plain_sp b.now) ≡ true) (specs.number_of (plain_sp b.now)) }
     ensures immediate { IfSome result (λ n. specs.is_immediate op (constant n) ≡ true) }
 {
@@ -157,32 +157,68 @@ fn held_constant(op: SpBinary, b: &SpExpr) -> Option<u32>
     }
 }
 
-/// The value of an expression goes to a register. It is `Err` where memory runs out.
-#[cycle(expression)]
-#[tactic(auto, using(crate::proofs::Pushed::two_pushed, crate::proofs::Needs::word_named, crate::proofs::Needs::cell_named, crate::proofs::Needs::array_named, crate::proofs::Needs::index_named, crate::proofs::Needs::operand_fits), unfolding(sp_tree::specs::Plain::plain_sp))]
-pub fn expression(out: &mut Vec<Part>, homes: u32, e: &SpExpr, rd: Reg) -> Result<(), OutOfMemory>
+// an operator on values that were worked out from a register on
+#[tactic(auto, using(crate::proofs::Needs::few_needs, crate::proofs::Needs::first_fits, crate::proofs::Needs::second_fits, crate::proofs::Needs::one_behind))]
+fn applied(
+    out: &mut Vec<Part>,
+    homes: u32,
+    op: SpBinary,
+    a: &SpExpr,
+    b: &SpExpr,
+    rd: Reg,
+    to: Reg,
+) -> Result<(), OutOfMemory>
+    requires { ExprFits (between_two op (plain_sp a.now) (plain_sp b.now)) rd }
+    ensures { OnOk result (parts_of out.new.items
+        ≡ joined (parts_of out.old.items) (specs.value_code homes (between_two op (plain_sp a.now) (plain_sp b.now)) rd to)) }
+{
+    if let Some(n) = held_constant(op, b) {
+        return held(out, op, to, value_at(homes, a, rd), n);
+    }
+    if is_second_first(a, b) {
+        let (first, second) = (value_at(homes, a, behind(rd)), value_at(homes, b, rd));
+        binary(out, op, to, first, second)
+    } else {
+        let (first, second) = (value_at(homes, a, rd), value_at(homes, b, behind(rd)));
+        binary(out, op, to, first, second)
+    }
+}
+
+// the value of an expression goes to a register, where its operands were worked out from another one on
+#[tactic(auto, using(crate::proofs::Pushed::two_pushed, crate::proofs::Needs::word_named, crate::proofs::Needs::cell_named, crate::proofs::Needs::array_named, crate::proofs::Needs::index_named), unfolding(sp_tree::specs::Plain::plain_sp))]
+fn value(out: &mut Vec<Part>, homes: u32, e: &SpExpr, rd: Reg, to: Reg) -> Result<(), OutOfMemory>
     requires { ExprFits (plain_sp e.now) rd }
     ensures { OnOk result (parts_of out.new.items
-        ≡ joined (parts_of out.old.items) (specs.expr_code homes (plain_sp e.now) rd)) }
+        ≡ joined (parts_of out.old.items) (specs.value_code homes (plain_sp e.now) rd to)) }
 {
     match e {
-        SpExpr::Const { value } => push_straight(out, &[set_number(rd, *value)]),
-        SpExpr::Frame { slot } => push_straight(out, &[read_word(homes, rd, *slot)]),
-        SpExpr::Scalar { cell: of } => cell(out, *of, rd),
-        SpExpr::Element { array, index } => {
-            expression(out, homes, index, rd)?;
-            element(out, *array, rd)
-        }
-        SpExpr::Unary { op, of } => {
-            operand(out, homes, of, rd)?;
-            unary(out, *op, rd, value_at(homes, of, rd))
-        }
-        SpExpr::Binary { op, a, b } => operands(out, homes, *op, a, b, rd),
+        SpExpr::Const { value } => push_straight(out, &[set_number(to, *value)]),
+        SpExpr::Frame { slot } => push_straight(out, &[read_word(homes, to, *slot)]),
+        SpExpr::Scalar { cell: of } => cell(out, *of, to),
+        SpExpr::Element { array, index } => element(out, *array, to, value_at(homes, index, rd)),
+        SpExpr::Unary { op, of } => unary(out, *op, to, value_at(homes, of, rd)),
+        SpExpr::Binary { op, a, b } => applied(out, homes, *op, a, b, rd, to),
+    }
+}
+
+// the operands of an expression are worked out, from a register on
+#[cycle(operands)]
+#[tactic(auto, using(crate::proofs::Pushed::nothing_pushed, crate::proofs::Needs::index_named, crate::proofs::Needs::operand_fits), unfolding(sp_tree::specs::Plain::plain_sp))]
+pub fn operands(out: &mut Vec<Part>, homes: u32, e: &SpExpr, rd: Reg) -> Result<(), OutOfMemory>
+    requires { ExprFits (plain_sp e.now) rd }
+    ensures { OnOk result (parts_of out.new.items
+        ≡ joined (parts_of out.old.items) (specs.operands_code homes (plain_sp e.now) rd)) }
+{
+    match e {
+        SpExpr::Const { .. } | SpExpr::Frame { .. } | SpExpr::Scalar { .. } => Ok(()),
+        SpExpr::Element { index: of, .. } | SpExpr::Unary { of, .. } => operand(out, homes, of, rd),
+        SpExpr::Binary { op, a, b } => two_operands(out, homes, *op, a, b, rd),
     }
 }
 
 // an operand's value goes to a register, where it does not stand in one
-#[cycle(expression)]
+#[cycle(operands)]
+#[tactic(auto, using(crate::proofs::Pushed::two_pushed))]
 fn operand(out: &mut Vec<Part>, homes: u32, e: &SpExpr, rd: Reg) -> Result<(), OutOfMemory>
     requires { ExprFits (plain_sp e.now) rd }
     ensures { OnOk result (parts_of out.new.items
@@ -191,13 +227,14 @@ fn operand(out: &mut Vec<Part>, homes: u32, e: &SpExpr, rd: Reg) -> Result<(), O
     if is_home(homes, e) {
         return Ok(());
     }
-    expression(out, homes, e, rd)
+    operands(out, homes, e, rd)?;
+    value(out, homes, e, rd, rd)
 }
 
 // of two operands the one of the greater need is worked out first
-#[cycle(expression)]
-#[tactic(auto, using(crate::proofs::Pushed::held_pushed, crate::proofs::Pushed::second_pushed, crate::proofs::Pushed::first_pushed, crate::proofs::Needs::few_needs, crate::proofs::Needs::first_fits, crate::proofs::Needs::second_fits, crate::proofs::Needs::first_fits_behind, crate::proofs::Needs::second_fits_behind, crate::proofs::Needs::one_behind))]
-fn operands(
+#[cycle(operands)]
+#[tactic(auto, using(crate::proofs::Needs::few_needs, crate::proofs::Needs::first_fits, crate::proofs::Needs::second_fits, crate::proofs::Needs::first_fits_behind, crate::proofs::Needs::second_fits_behind, crate::proofs::Needs::one_behind))]
+fn two_operands(
     out: &mut Vec<Part>,
     homes: u32,
     op: SpBinary,
@@ -207,27 +244,22 @@ fn operands(
 ) -> Result<(), OutOfMemory>
     requires { ExprFits (between_two op (plain_sp a.now) (plain_sp b.now)) rd }
     ensures { OnOk result (parts_of out.new.items
-        ≡ joined (parts_of out.old.items) (specs.expr_code homes (between_two op (plain_sp a.now) (plain_sp b.now)) rd)) }
+        ≡ joined (parts_of out.old.items) (specs.operands_code homes (between_two op (plain_sp a.now) (plain_sp b.now)) rd)) }
 {
-    if let Some(n) = held_constant(op, b) {
-        operand(out, homes, a, rd)?;
-        return held(out, op, rd, value_at(homes, a, rd), n);
+    if let Some(_) = held_constant(op, b) {
+        return operand(out, homes, a, rd);
     }
     if is_second_first(a, b) {
-        values(out, homes, b, a, rd)?;
-        let (first, second) = (value_at(homes, a, behind(rd)), value_at(homes, b, rd));
-        binary(out, op, rd, first, second)
+        one_by_one(out, homes, b, a, rd)
     } else {
-        values(out, homes, a, b, rd)?;
-        let (first, second) = (value_at(homes, a, rd), value_at(homes, b, behind(rd)));
-        binary(out, op, rd, first, second)
+        one_by_one(out, homes, a, b, rd)
     }
 }
 
 // the values of two expressions go to a register and to the one after it
-#[cycle(expression)]
+#[cycle(operands)]
 #[tactic(auto, using(crate::proofs::Pushed::two_pushed))]
-fn values(
+fn one_by_one(
     out: &mut Vec<Part>,
     homes: u32,
     first: &SpExpr,
@@ -244,4 +276,30 @@ fn values(
 {
     operand(out, homes, first, rd)?;
     operand(out, homes, second, behind(rd))
+}
+
+/// An expression is worked out from a register on, and its value goes to another one. It is `Err` where memory runs out.
+#[tactic(auto, using(crate::proofs::Pushed::two_pushed))]
+pub fn expression_to(
+    out: &mut Vec<Part>,
+    homes: u32,
+    e: &SpExpr,
+    rd: Reg,
+    to: Reg,
+) -> Result<(), OutOfMemory>
+    requires { ExprFits (plain_sp e.now) rd }
+    ensures { OnOk result (parts_of out.new.items
+        ≡ joined (parts_of out.old.items) (specs.expr_to homes (plain_sp e.now) rd to)) }
+{
+    operands(out, homes, e, rd)?;
+    value(out, homes, e, rd, to)
+}
+
+/// The value of an expression goes to a register. It is `Err` where memory runs out.
+pub fn expression(out: &mut Vec<Part>, homes: u32, e: &SpExpr, rd: Reg) -> Result<(), OutOfMemory>
+    requires { ExprFits (plain_sp e.now) rd }
+    ensures { OnOk result (parts_of out.new.items
+        ≡ joined (parts_of out.old.items) (specs.expr_code homes (plain_sp e.now) rd)) }
+{
+    expression_to(out, homes, e, rd, rd)
 }

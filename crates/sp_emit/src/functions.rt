@@ -206,7 +206,7 @@ fn functions(alloc: Global, fs: &[SpFunction]) -> Result<List<List<Part>>, OutOf
     Ok(List::of(made))
 }
 
-// the same words once more
+// a copy of these words
 fn words(alloc: Global, words: &[u32]) -> Result<List<u32>, OutOfMemory>
     ensures { IfOk result (λ list. list ≡ words.now) }
 {

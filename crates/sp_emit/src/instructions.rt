@@ -1,5 +1,7 @@
 //! Bundles of one instruction.
 ghost use Rattle.std.specs.Prelude.{◌≡◌, ◌<◌};
+ghost use Rattle.patmos_instr.specs.declared.functions.AluFunc.TheVariants as alu;
+ghost use Rattle.patmos_instr.specs.declared.instructions.Op.TheVariants.{AluImm, AluLong};
 ghost use Rattle.sp_emit.specs.Instructions as code;
 
 use patmos_instr::{
@@ -37,7 +39,8 @@ pub fn where_not(pred: Pred) -> Guard
     }
 }
 
-fn under(guard: Guard, op: Op) -> Bundle
+/// One instruction under a guard.
+pub fn under(guard: Guard, op: Op) -> Bundle
     ensures { result ≡ code.under guard op }
 {
     Bundle::single(Instr { guard, op })
@@ -49,41 +52,59 @@ pub fn idle() -> Bundle
     Bundle::single(Instr::nop())
 }
 
-pub fn set_long(rd: Reg, n: u32) -> Bundle
-    ensures { result ≡ code.set_long rd n }
+fn long_op(rd: Reg, n: u32) -> Op
+    ensures { result ≡ AluLong alu.Add rd 0 n }
 {
-    let op = Op::AluLong {
+    Op::AluLong {
         func: AluFunc::Add,
         rd,
         ra: Reg::low(0),
         constant: n,
-    };
-    under(always(), op)
+    }
+}
+
+pub fn set_long(rd: Reg, n: u32) -> Bundle
+    ensures { result ≡ code.set_long rd n }
+{
+    under(always(), long_op(rd, n))
+}
+
+/// An operation on a register and a number that the instruction holds.
+pub fn short_op(func: ImmFunc, rd: Reg, ra: Reg, n: u32) -> Op
+    requires { n < 4096 }
+    ensures { result ≡ AluImm func rd ra n }
+{
+    Op::AluImm {
+        func,
+        rd,
+        ra,
+        imm: Imm12::low(n),
+    }
 }
 
 /// A register gets a number, in one word where an instruction holds it.
 #[tactic(auto, unfolding(crate::specs::Instructions::number_op))]
+pub fn number_op(rd: Reg, n: u32) -> Op
+    ensures { result ≡ code.number_op rd n }
+{
+    if n < 4096 {
+        short_op(ImmFunc::Add, rd, Reg::low(0), n)
+    } else {
+        long_op(rd, n)
+    }
+}
+
 pub fn set_number(rd: Reg, n: u32) -> Bundle
     ensures { result ≡ code.set_number rd n }
 {
-    if n < 4096 {
-        set_short(always(), rd, n)
-    } else {
-        set_long(rd, n)
-    }
+    under(always(), number_op(rd, n))
 }
 
 pub fn with_short(guard: Guard, func: ImmFunc, rd: Reg, ra: Reg, n: u32) -> Bundle
     requires { n < 4096 }
     ensures { result ≡ code.with_short guard func rd ra n }
 {
-    let op = Op::AluImm {
-        func,
-        rd,
-        ra,
-        imm: Imm12::low(n),
-    };
-    under(guard, op)
+    under(guard, short_op(func, rd, ra, n))
 }
 
 pub fn set_short(guard: Guard, rd: Reg, n: u32) -> Bundle

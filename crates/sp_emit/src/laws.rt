@@ -20,7 +20,7 @@ ghost use Rattle.stack_cache.specs.declared.stack.TheConstants.{STACK_END, STACK
 ghost use Rattle.sp_shape.specs.Pointers.{pointers_of, AreWithinStack};
 ghost use Rattle.sp_shape.specs.Run.{Run, IsWhole, Back, Sources, at_begin, by_words, run};
 ghost use Rattle.sp_shape.specs.Trail.{Step, parts_trail, trail, trails};
-ghost use Rattle.sp_shape.specs.Turning.{ShapeTurns};
+ghost use Rattle.sp_shape.specs.Iterating.{ShapeIterations};
 ghost use Rattle.sp_emit.specs.Accesses.{MayAsk, AsksOnly};
 ghost use Rattle.sp_emit.specs.Chains.{chains};
 ghost use Rattle.sp_emit.specs.Counts.{HasCounts};
@@ -64,7 +64,7 @@ pub fn tasks_do_what_they_mean()
 /// stand, in registers or in the stack: each word of a window that begins at the end of the function's own, or after it.
 /// Statements leave the run where they leave the tree's state: the words of the frame that the tree names, all memories
 /// but word 0, the transfers and the flag; besides these they change registers below the window, and of the frame the
-/// words up to a counter of turns alone.
+/// words up to a counter of iterations alone.
 ///
 /// So where the tree changes nothing of its world, as under a mask of 0, code changes word 0 of private memory alone,
 /// registers before the end of the window, predicates, caches and words of the stack: the words that the trees of its
@@ -101,12 +101,12 @@ pub fn functions_do_what_they_give()
 {}
 
 /// Where a load from the stack gives what was stored last in its word, whatever other loads give, all loops of a
-/// well-formed task's code make all their turns, and each function returns to the place that was set when it began. The
-/// counts of the tree's turns are words of 32 bits.
-pub fn loops_make_all_turns()
+/// well-formed task's code make all their iterations, and each function returns to the place that was set when it began. The
+/// counts of the tree's iterations are words of 32 bits.
+pub fn loops_make_all_iterations()
     ensures { (u : PlainUnit) (from : Sources) (memory : Memory) (loads : List ℕ) (backs : List Back)
         → from.stack ≡ true → is_formed u ≡ true → HasCounts u.functions
-        → ShapeTurns (run from) (emitted u) (at_begin memory loads backs) }
+        → ShapeIterations (run from) (emitted u) (at_begin memory loads backs) }
 {}
 
 /// Whatever loads give, outside the stack a well-formed task's code reads and stores only what its tree names, and
@@ -132,7 +132,7 @@ pub fn tasks_stay_within_the_stack()
 {}
 
 /// Where the long constants of a task's code are words of 32 bits, as those of all bundles that words can tell are, the
-/// constants of its tree and the counts of its turns are.
+/// constants of its tree and the counts of its iterations are.
 #[tactic(auto, using(crate::proofs::Constants::constants_are_words, crate::proofs::Constants::counts_are_words))]
 pub fn code_holds_the_constants()
     ensures constants { (u : PlainUnit)

@@ -13,7 +13,7 @@
 //!
 //! [`tasks_do_what_they_mean`] says that what comes of a task's code is what its tree means, where each load
 //! gives what was stored last in its word. [`expressions_are_worked_out`] says it of an expression, and what
-//! its code keeps whatever loads give. [`loops_make_all_turns`] says that the branches and returns of a task's
+//! its code keeps whatever loads give. [`loops_make_all_iterations`] says that the branches and returns of a task's
 //! code go where its trail goes on, and [`tasks_ask_for_what_they_name`] which words it may read and store, and
 //! [`tasks_stay_within_the_stack`] that it never leaves the stack: all three whatever is loaded from outside
 //! the stack. Where these want the constants and the counts of a tree to be words, [`code_holds_the_constants`]
@@ -22,9 +22,10 @@
 //! - `specs/Instructions.antt` has the bundles, `src/registers.rt` which registers they use for what, and
 //!   `specs/Places.antt` where the words of a frame stand: in a window of registers, or in the stack.
 //! - `specs/Expressions.antt`, `specs/Division.antt` and `specs/Divisors.antt` have the code of values,
+//!   `specs/Endings.antt` the one instruction in which it may end,
 //!   `specs/Statements.antt` that of what statements do, `specs/Functions.antt` that of functions and tasks.
 //! - `specs/Fits.antt` says when a statement's code fits a frame, `specs/Ran.antt` what comes of a task's code.
-//! - `specs/Accesses.antt` says what code may ask for, `specs/Counts.antt` that the counts of turns are words,
+//! - `specs/Accesses.antt` says what code may ask for, `specs/Counts.antt` that the counts of iterations are words,
 //!   `specs/Chains.antt` which statements call, and how many words frames take, each and on a chain of calls.
 //! - `specs/Holding.antt` says what code keeps, `specs/Means.antt` when a run shows the words that a tree works on,
 //!   `specs/Serving.antt` what a function's code has where it begins and leaves where it has returned.
@@ -38,6 +39,7 @@ mod divisors;
 mod expressions;
 mod functions;
 mod instructions;
+mod last;
 mod laws;
 mod operators;
 mod parts;
@@ -50,7 +52,7 @@ mod writes;
 pub use functions::emit;
 pub use laws::{
     code_holds_the_constants, expressions_are_worked_out, functions_do_what_they_give,
-    loops_make_all_turns, registers_numbered, tasks_ask_for_what_they_name,
+    loops_make_all_iterations, registers_numbered, tasks_ask_for_what_they_name,
     tasks_do_what_they_mean, tasks_stay_within_the_stack,
 };
 pub use registers::{

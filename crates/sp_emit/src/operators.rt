@@ -232,7 +232,7 @@ pub fn held(out: &mut Vec<Part>, op: SpBinary, rd: Reg, ra: Reg, n: u32) -> Resu
     }
 }
 
-// the same where one instruction holds the constant, or that less 1
+// an operator with a constant that one instruction holds, or that less 1
 fn short(out: &mut Vec<Part>, op: SpBinary, rd: Reg, ra: Reg, n: u32) -> Result<(), OutOfMemory>
     requires below { n < specs.immediate_below op }
     requires held { specs.is_short op n ≡ true }

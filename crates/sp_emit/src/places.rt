@@ -81,7 +81,7 @@ fn statement_levels(t: &SpStmt) -> u32
     ensures { result ≡ capped (stmt_levels (plain_stmt t.now)) }
 {
     match t {
-        SpStmt::Turns { body, .. } => {
+        SpStmt::Iterations { body, .. } => {
             let inner = levels_of(body.as_slice());
             inner.saturating_add(1)
         }
@@ -119,7 +119,7 @@ fn has_call(t: &SpStmt) -> bool
 {
     match t {
         SpStmt::Call { .. } => true,
-        SpStmt::Turns { body, .. } => have_calls(body.as_slice()),
+        SpStmt::Iterations { body, .. } => have_calls(body.as_slice()),
         _ => false,
     }
 }
@@ -208,7 +208,12 @@ fn statement_least(tops: &[u32], t: &SpStmt, frame: u32, counter: u32) -> u32
             );
             values.max(FIRST + 4)
         }
-        SpStmt::Turns { body, .. } => statements_least(tops, body.as_slice(), frame, counter - 1),
+        SpStmt::Iterations { body, .. } => statements_least(
+            tops,
+            body.as_slice(),
+            frame,
+            counter - 1,
+        ),
     }
 }
 

@@ -27,7 +27,7 @@ pub const DIVISOR: u32 = 29;
 /// What is left of the digits that were taken so far.
 pub const REMAINDER: u32 = 30;
 
-/// How many turns of a division are still to be made.
+/// How many iterations of a division are still to be made.
 pub const DIGITS: u32 = 31;
 
 /// Whether a loop went past its bound, in all functions of the task: 0 or 1.
@@ -45,7 +45,7 @@ pub const REST_NEGATIVE: u32 = 3;
 /// The predicate that the quotient is negative.
 pub const QUOTIENT_NEGATIVE: u32 = 4;
 
-/// The predicate that a division makes one more turn.
+/// The predicate that a loop makes one more iteration, of statements or of a division.
 pub const MORE: u32 = 5;
 
 /// The register of a number.

@@ -10,14 +10,15 @@ ghost use Rattle.sp_tree.specs.Statements as plain;
 ghost use Rattle.sp_emit.specs.Expressions.{expr_code};
 ghost use Rattle.sp_emit.specs.declared.registers.TheConstants.{FIRST};
 
-use crate::calls::{begin_turns, call_of, overrun, repeat, send};
-use crate::expressions::expression;
-use crate::instructions::always;
+use crate::calls::{begin_iterations, call_of, overrun, repeat, send};
+use crate::expressions::{expression, expression_to, operands};
+use crate::instructions::{always, under, where_so};
+use crate::last::last_op;
 use crate::parts::push_straight;
-use crate::places::set_word;
-use crate::registers::{FIRST, behind, reg};
-use crate::writes::{cell_write, element_write, slot_write};
-use patmos_instr::Reg;
+use crate::places::{is_in_register, set_word};
+use crate::registers::{FIRST, TEST, behind, pred, reg};
+use crate::writes::{cell_write, element_write, mask_test, slot_write};
+use patmos_instr::{Op, Reg};
 use sp_shape::Part;
 use sp_tree::{SpExpr, SpStmt, SpTarget};
 use tc_word::OutOfMemory;
@@ -37,6 +38,60 @@ fn target(out: &mut Vec<Part>, homes: u32, mask: u32, to: &SpTarget) -> Result<(
             element_write(out, homes, mask, *array)
         }
     }
+}
+
+// the instruction in which a value ends, where it sets a word in a register
+#[tactic(auto, unfolding(sp_tree::specs::Shown::plain_sp_target))]
+fn straight_op(homes: u32, to: &SpTarget, value: &SpExpr) -> Option<Op>
+    requires { ExprFits (plain_sp value.now) FIRST }
+    ensures { result ≡ specs.straight_op homes (plain_sp_target to.now) (plain_sp value.now) }
+{
+    match to {
+        SpTarget::Frame { slot } if is_in_register(homes, *slot) => {
+            last_op(homes, value, reg(FIRST), reg(homes + *slot))
+        }
+        _ => None,
+    }
+}
+
+// a value's operands are worked out, and its instruction is done where a mask is 1
+#[tactic(auto, using(crate::proofs::Pushed::two_pushed))]
+fn guarded(
+    out: &mut Vec<Part>,
+    homes: u32,
+    mask: u32,
+    value: &SpExpr,
+    op: Op,
+) -> Result<(), OutOfMemory>
+    requires mask { mask < 128 }
+    requires value { ExprFits (plain_sp value.now) FIRST }
+    ensures { OnOk result (parts_of out.new.items
+        ≡ joined (parts_of out.old.items) (specs.guarded_code homes mask (plain_sp value.now) op)) }
+{
+    operands(out, homes, value, reg(FIRST))?;
+    let [load, test] = mask_test(homes, mask);
+    push_straight(out, &[load, test, under(where_so(pred(TEST)), op)])
+}
+
+// a target is set to a value where a mask is 1
+#[tactic(auto, using(crate::proofs::Pushed::two_pushed, crate::proofs::Pushed::guarded_pushed, crate::proofs::Pushed::stored_pushed, crate::proofs::Fitting::target_mask))]
+fn write(
+    out: &mut Vec<Part>,
+    homes: u32,
+    mask: u32,
+    to: &SpTarget,
+    value: &SpExpr,
+) -> Result<(), OutOfMemory>
+    requires target { TargetFits mask (plain_sp_target to.now) }
+    requires value { ExprFits (plain_sp value.now) FIRST }
+    ensures { OnOk result (parts_of out.new.items
+        ≡ joined (parts_of out.old.items) (specs.write_code homes mask (plain_sp_target to.now) (plain_sp value.now))) }
+{
+    if let Some(op) = straight_op(homes, to, value) {
+        return guarded(out, homes, mask, value, op);
+    }
+    expression(out, homes, value, reg(FIRST))?;
+    target(out, homes, mask, to)
 }
 
 // the values of arguments go to registers, one after another
@@ -106,12 +161,20 @@ fn send_of(
     send(out, homes, mask, core)
 }
 
-// a word of the frame is set in any case
-fn set_slot(out: &mut Vec<Part>, homes: u32, slot: u32) -> Result<(), OutOfMemory>
-    requires { slot < 128 }
-    ensures { OnOk result (parts_of out.new.items ≡ joined (parts_of out.old.items) (specs.slot_set homes slot)) }
+// a word of the frame is set in any case: in a register straight, else from the first one
+#[tactic(auto, using(crate::proofs::Pushed::two_pushed))]
+fn mask(out: &mut Vec<Part>, homes: u32, slot: u32, value: &SpExpr) -> Result<(), OutOfMemory>
+    requires slot { slot < 128 }
+    requires value { ExprFits (plain_sp value.now) FIRST }
+    ensures { OnOk result (parts_of out.new.items
+        ≡ joined (parts_of out.old.items) (specs.mask_code homes slot (plain_sp value.now))) }
 {
-    push_straight(out, &[set_word(homes, always(), slot, reg(FIRST))])
+    let first = reg(FIRST);
+    if is_in_register(homes, slot) {
+        return expression_to(out, homes, value, first, reg(homes + slot));
+    }
+    expression(out, homes, value, first)?;
+    push_straight(out, &[set_word(homes, always(), slot, first)])
 }
 
 /// The code of a statement stands after the parts. It is `Err` where memory runs out.
@@ -129,18 +192,12 @@ pub fn statement(
         ≡ joined (parts_of out.old.items) (specs.stmt_code homes frame counter (plain_stmt t.now))) }
 {
     match t {
-        SpStmt::Mask { slot, value } => {
-            expression(out, homes, value, reg(FIRST))?;
-            set_slot(out, homes, *slot)
-        }
+        SpStmt::Mask { slot, value } => mask(out, homes, *slot, value),
         SpStmt::Write {
             mask,
             target: to,
             value,
-        } => {
-            expression(out, homes, value, reg(FIRST))?;
-            target(out, homes, *mask, to)
-        }
+        } => write(out, homes, *mask, to, value),
         SpStmt::Call {
             mask,
             function,
@@ -161,14 +218,21 @@ pub fn statement(
             expression(out, homes, value, reg(FIRST))?;
             overrun(out, homes, *mask)
         }
-        SpStmt::Turns { count, body } => turns(out, homes, *count, body.as_slice(), frame, counter),
+        SpStmt::Iterations { count, body } => iterations(
+            out,
+            homes,
+            *count,
+            body.as_slice(),
+            frame,
+            counter,
+        ),
     }
 }
 
-// so many turns of statements
+// so many iterations of statements
 #[cycle(statement)]
-#[tactic(auto, using(crate::proofs::Pushed::turns_pushed, crate::proofs::Fitting::counter_fits, crate::proofs::Fitting::counter_some, crate::proofs::Fitting::turns_body))]
-fn turns(
+#[tactic(auto, using(crate::proofs::Pushed::iterations_pushed, crate::proofs::Fitting::counter_fits, crate::proofs::Fitting::counter_some, crate::proofs::Fitting::iterations_body))]
+fn iterations(
     out: &mut Vec<Part>,
     homes: u32,
     count: u32,
@@ -176,14 +240,14 @@ fn turns(
     frame: u32,
     counter: u32,
 ) -> Result<(), OutOfMemory>
-    requires fits { StmtFits frame counter (plain.turns count (stmts_of body.now)) }
+    requires fits { StmtFits frame counter (plain.iterations count (stmts_of body.now)) }
     ensures { OnOk result (parts_of out.new.items
-        ≡ joined (parts_of out.old.items) (specs.stmt_code homes frame counter (plain.turns count (stmts_of body.now)))) }
+        ≡ joined (parts_of out.old.items) (specs.stmt_code homes frame counter (plain.iterations count (stmts_of body.now)))) }
 {
-    begin_turns(out, counter, count)?;
-    let mut turn = Vec::new(*out.allocator());
-    statements(&mut turn, homes, body, frame, counter - 1)?;
-    repeat(out, counter, count, turn)
+    begin_iterations(out, counter, count)?;
+    let mut iteration = Vec::new(*out.allocator());
+    statements(&mut iteration, homes, body, frame, counter - 1)?;
+    repeat(out, counter, count, iteration)
 }
 
 /// The code of statements stands after the parts. It is `Err` where memory runs out.

@@ -68,10 +68,10 @@ pub fn worked_divisions()
         ≡ 2147483646 }
 {}
 
-/// Turns, masks and what they keep off: a store at main memory goes to word 0. The flag, and a send.
+/// Iterations, masks and what they keep off: a store at main memory goes to word 0. The flag, and a send.
 #[tactic(auto, unfolding(crate::specs::Places::read_op, crate::specs::Places::fetch_op, crate::specs::Places::set_op, crate::specs::Places::word_cleared, crate::specs::Instructions::number_op))]
 pub fn worked_effects()
-    ensures turns { word_in (ran_alone (small.unit_of (one (small.adding 2))) []).regs 1 ≡ 4 }
+    ensures iterations { word_in (ran_alone (small.unit_of (one (small.adding 2))) []).regs 1 ≡ 4 }
     ensures slot_off { word_in (ran_alone
         (small.unit_of (stmt (masks 0 (constant 2)) (one (small.writing 7)))) []).regs 1 ≡ 0 }
     ensures cell_off { (ran_alone (small.unit_of

@@ -5,8 +5,8 @@ use Rattle.c_world.specs.World.{World, with_word, with_element, with_send, with_
 use Rattle.c_world.specs.Numbers.{is_true}
 use Rattle.sp_tree.specs.Operators.{unary_value, binary_value}
 use Rattle.sp_tree.specs.Plain.{PlainSp, constant, frame_word, cell_word, array_word, before_one, between_two}
-use Rattle.sp_tree.specs.Statements.{PlainSpTarget, to_slot, to_cell, to_array, PlainStmt, masks, writes, calls, transfers, overruns, turns, PlainStmts, no_stmt, stmt}
-use Rattle.sp_tree.specs.Straight.{State, Given, Serves, with_slot, in_world, with_sp_target, with_result, where_on, write_done, transfer_done, overrun_done, call_done, args_worth, worth, times, stmt_done, stmts_done}
+use Rattle.sp_tree.specs.Statements.{PlainSpTarget, to_slot, to_cell, to_array, PlainStmt, masks, writes, calls, transfers, overruns, iterations, PlainStmts, no_stmt, stmt}
+use Rattle.sp_tree.specs.Straight.{State, Outcome, Serves, with_slot, in_world, with_sp_target, with_result, where_on, write_done, transfer_done, overrun_done, call_done, args_worth, worth, times, stmt_done, stmts_done}
 use Rattle.sp_tree.specs.Values.{sp_value, array_value}
 use Rattle.sp_inline.specs.Reach.{expr_reach, args_reach, target_reach, stmt_reach, stmts_reach, stmt_calls, stmts_calls}
 
@@ -71,12 +71,12 @@ on_alike o mask c d s t same h k =
     by false = k
 
 -- after a call that gave the same
-pub call_alike : (o mask : ℕ) (result : Option ℕ) (s t : State) (a b : Given) → s.frame mask ≡ t.frame mask → Alike o s t → a ≡ b
+pub call_alike : (o mask : ℕ) (result : Option ℕ) (s t : State) (a b : Outcome) → s.frame mask ≡ t.frame mask → Alike o s t → a ≡ b
     → Alike o (call_done mask result s a) (call_done mask result t b)
 call_alike o mask result s t a b same h is =
-    let behind : Alike o (in_world s a.world) (in_world t b.world) = record { frame = h.frame; world = ap (λ (x : Given). x.world) is } in
+    let behind : Alike o (in_world s a.world) (in_world t b.world) = record { frame = h.frame; world = ap (λ (x : Outcome). x.world) is } in
     on_alike o mask (with_result result a.value) (with_result result b.value) (in_world s a.world) (in_world t b.world) same
-    (result_alike o result a.value b.value (in_world s a.world) (in_world t b.world) behind (ap (λ (x : Given). x.value) is)) behind
+    (result_alike o result a.value b.value (in_world s a.world) (in_world t b.world) behind (ap (λ (x : Outcome). x.value) is)) behind
 
 -- ---- statements
 
@@ -110,7 +110,7 @@ mutual
   stmt_alike number g h same o (overruns mask e) s u within earlier a =
       on_alike o mask (overrun_done e) (overrun_done e) s u (a.frame mask (omega (arith, within)))
       (record { frame = a.frame; world = ap₂ (λ v w. with_overrun (is_true v) w) (worth_alike o e s u a (omega (arith, within))) a.world }) a
-  stmt_alike number g h same o (turns count body) s u within earlier a =
+  stmt_alike number g h same o (iterations count body) s u within earlier a =
       times_alike o (stmts_done g body) (stmts_done h body) (λ x y b. stmts_alike number g h same o body x y within earlier b) count s u a
 
   pub stmts_alike : (number : ℕ) (g h : Serves) → Same number g h → (o : ℕ) (ts : PlainStmts) (s u : State) → stmts_reach ts ≤ o → stmts_calls ts ≤ number → Alike o s u

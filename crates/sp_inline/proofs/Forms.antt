@@ -6,15 +6,16 @@ use Rattle.sp_tree.specs.Cost.{cost}
 use Rattle.sp_tree.specs.Formed.{names_words, expr_formed, args_formed, target_formed, result_formed, callee_formed, send_formed, stmt_formed, stmts_formed, array_formed, slots_of, function_formed, functions_formed, entry_formed, data_formed, is_formed}
 use Rattle.sp_tree.specs.Need.{need, both_need}
 use Rattle.sp_tree.specs.Plain.{PlainSp, constant, frame_word, cell_word, array_word, before_one, between_two}
-use Rattle.sp_tree.specs.Statements.{PlainSpTarget, to_slot, to_cell, to_array, PlainStmt, masks, writes, calls, transfers, overruns, turns, PlainStmts, no_stmt, stmt, one, joined, PlainFunction, no_function, PlainUnit}
+use Rattle.sp_tree.specs.Statements.{PlainSpTarget, to_slot, to_cell, to_array, PlainStmt, masks, writes, calls, transfers, overruns, iterations, PlainStmts, no_stmt, stmt, one, joined, PlainFunction, no_function, PlainUnit}
 use Rattle.sp_tree.specs.Uses.{uses_of, are_apart}
 use Rattle.sp_tree.proofs.Forms.{more_stmts, earlier_one}
 use Rattle.sp_tree.proofs.Joins.{joined_formed}
 use Rattle.sp_inline.specs.Moved.{moved, args_moved, target_moved, result_moved, stmt_moved, stmts_moved}
 use Rattle.sp_inline.specs.Reach.{expr_reach, args_reach, target_reach, result_reach, stmt_reach, stmts_reach, stmt_calls, stmts_calls}
 use Rattle.sp_inline.specs.declared.room.Room.{Room}
-use Rattle.sp_inline.specs.Taken.{loops_call, frame_for, begun_words, given_set, call_statements, PlainCaller, Taken, callee, room_after, is_taken, kept, call_taken, stmt_taken, stmts_taken, body_taken, grown, is_whole, function_taken, first_taken, unit_taken}
+use Rattle.sp_inline.specs.Taken.{begun_words, handed, given_set, call_statements, front, short_body, shortened, PlainCaller, Taken, callee, room_after, is_taken, kept, call_taken, stmt_taken, stmts_taken, body_taken, grown, is_whole, function_taken, first_taken, unit_taken}
 use Rattle.sp_inline.proofs.Limits.{function_kept}
+use Rattle.sp_inline.proofs.Shortened.{short_is, short_slots}
 use Rattle.sp_inline.proofs.Taking.{first_at, first_before, first_length}
 use Rattle.sp_inline.proofs.Used.{still_apart}
 
@@ -119,7 +120,7 @@ mutual
   moved_stmt fs number more o slots width grows i (overruns mask e) h =
       let a = and_parts (nat_lt mask slots) (expr_formed slots e) h in
       and_from (nat_lt (o + mask) width) (expr_formed width (moved o e)) (moved_slot o slots width mask i a.0) (moved_expr o slots width e i a.1)
-  moved_stmt fs number more o slots width grows i (turns count body) h =
+  moved_stmt fs number more o slots width grows i (iterations count body) h =
       let a = and_parts (nat_lt 0 count) (stmts_formed fs number slots body) h in
       and_from (nat_lt 0 count) _ a.0 (moved_stmts fs number more o slots width grows i body a.1)
 
@@ -168,6 +169,13 @@ begun_formed fs number o width at (suc n) (e ∷ args) more fits h =
     (and_from (nat_lt at width) (expr_formed width e) (lt-ltb at width (omega (arith, fits))) (more_expr o width e more both.0))
     (begun_formed fs number o width (at + 1) n args more (omega (arith, fits)) both.1)
 
+handed_formed : (o at mask : ℕ) (args : List PlainSp) → mask < o → args_formed o args ≡ true → args_formed o (handed at mask args) ≡ true
+handed_formed o zero mask args mask_in h = rw (lt-ltb mask o mask_in) refl
+handed_formed o (suc n) mask [] mask_in h = handed_formed o n mask [] mask_in refl
+handed_formed o (suc n) mask (e ∷ args) mask_in h =
+    let both = and_parts (expr_formed o e) (args_formed o args) h in
+    and_from (expr_formed o e) (args_formed o (handed n mask args)) both.0 (handed_formed o n mask args mask_in both.1)
+
 given_formed : (fs : List PlainFunction) (number width mask : ℕ) (result : Option ℕ) (word : ℕ) → mask < width → result_formed width result ≡ true → word < width
     → stmts_formed fs number width (given_set mask result word) ≡ true
 given_formed fs number width mask None word mask_in h word_in = refl
@@ -204,20 +212,33 @@ parts_of fs number f formed =
       body = h.1;
     }
 
+-- without the mask that it sets last all of it still is
+short_parts : (fs : List PlainFunction) (number : ℕ) (f : PlainFunction) → Parts fs number f → Parts fs number (shortened f)
+short_parts fs number f p =
+    let same = short_slots f in
+    record {
+      frame = p.frame;
+      parameters = p.parameters;
+      before_mask = p.before_mask;
+      before_result = p.before_result;
+      mask = omega (arith, same, p.mask);
+      result = omega (arith, same, p.result);
+      body = subst (λ n. stmts_formed fs number n (short_body f.result f.body) ≡ true) (sym same)
+          (short_is (λ xs. stmts_formed fs number (slots_of f) xs ≡ true) f.result f.body p.body
+          (λ h. (and_parts (stmts_formed fs number (slots_of f) (front f.body)) _ (sym (joined_formed fs number (slots_of f) (front f.body) (one (masks h.slot h.value)))
+          ∙ ap (stmts_formed fs number (slots_of f)) h.is ∙ p.body)).0));
+    }
+
 call_formed : (gs : List PlainFunction) (number k o width : ℕ) (f : PlainFunction) (mask : ℕ) (args : List PlainSp) (result : Option ℕ) → k ≤ number → Parts gs k f
     → o + slots_of f ≤ width → mask < o → args_formed o args ≡ true → result_formed width result ≡ true
     → stmts_formed gs number width (call_statements o f mask args result) ≡ true
 call_formed gs number k o width f mask args result below p fits mask_in h into =
-    let at_mask = p.mask in
     let at_result = p.result in
-    joined_so gs number width (begun_words o (slots_of f) args) (stmt (masks (o + f.mask) (frame_word mask)) (joined (stmts_moved o f.body) (given_set mask result (o + f.result))))
-    (begun_formed gs number o width o (slots_of f) args (omega (arith, fits)) (omega (arith, fits, at_mask, at_result)) h)
-    (and_from (stmt_formed gs number width (masks (o + f.mask) (frame_word mask))) _
-    (and_from (nat_lt (o + f.mask) width) _ (lt-ltb (o + f.mask) width (omega (arith, fits, at_mask)))
-    (and_from (nat_lt mask width) true (lt-ltb mask width (omega (arith, mask_in, fits))) refl))
+    joined_so gs number width (begun_words o (slots_of f) (handed f.mask mask args)) (joined (stmts_moved o f.body) (given_set mask result (o + f.result)))
+    (begun_formed gs number o width o (slots_of f) (handed f.mask mask args) (omega (arith, fits)) (omega (arith, fits, at_result)) (handed_formed o f.mask mask args mask_in h))
     (joined_so gs number width (stmts_moved o f.body) (given_set mask result (o + f.result))
     (moved_stmts gs k number o (slots_of f) width below (record { within = fits }) f.body p.body)
-    (given_formed gs number width mask result (o + f.result) (omega (arith, mask_in, fits)) into (omega (arith, fits, at_result)))))
+    (given_formed gs number width mask result (o + f.result) (omega (arith, mask_in, fits)) into (omega (arith, fits, at_result))))
 
 -- ---- the statements of a function that takes in calls
 
@@ -225,7 +246,7 @@ call_words : (c : PlainCaller) (depth : ℕ) (r : Room) (mask k : ℕ) (args : L
 call_words c depth r mask k args result = by (is_taken c depth r k more args)
   where
     more : PlainStmts
-    more = call_statements c.words (callee c k) mask args result
+    more = call_statements c.words (shortened (callee c k)) mask args result
 
     by : (b : Bool) → r.words
         ≤ (if b then (let t : Taken = record { body = more; room = room_after c depth r (callee c k) more args } in t) else kept r (calls mask k args result)).room.words
@@ -239,7 +260,7 @@ mutual
   stmt_words c depth r (calls mask k args result) = call_words c depth r mask k args result
   stmt_words c depth r (transfers mask core source target count) = omega arith
   stmt_words c depth r (overruns mask e) = omega arith
-  stmt_words c depth r (turns count body) = stmts_words c (depth + 1) r body
+  stmt_words c depth r (iterations count body) = stmts_words c (depth + 1) r body
 
   stmts_words : (c : PlainCaller) (depth : ℕ) (r : Room) (ts : PlainStmts) → r.words ≤ (stmts_taken c depth r ts).room.words
   stmts_words c depth r no_stmt = omega arith
@@ -258,7 +279,7 @@ taken_call_formed : (c : PlainCaller) (fs gs : List PlainFunction) (number : ℕ
 taken_call_formed c fs gs number counts each depth r mask k args result width h more fits = by (is_taken c depth r k statements args) fits
   where
     statements : PlainStmts
-    statements = call_statements c.words (callee c k) mask args result
+    statements = call_statements c.words (shortened (callee c k)) mask args result
 
     by : (b : Bool)
         → (if b then (let t : Taken = record { body = statements; room = room_after c depth r (callee c k) statements args } in t) else kept r (calls mask k args result)).room.words ≤ width
@@ -270,7 +291,7 @@ taken_call_formed c fs gs number counts each depth r mask k args result width h 
         let v = and_parts (nat_lt k number) _ q.0 in
         let w = and_parts (args_formed c.words args) (result_formed c.words result) q.1 in
         let below = ltb-true k number v.0 in
-        call_formed gs number k c.words width (callee c k) mask args result (omega (arith, below)) (each k below) (omega (arith, fits))
+        call_formed gs number k c.words width (shortened (callee c k)) mask args result (omega (arith, below)) (short_parts gs k (callee c k) (each k below)) (omega (arith, fits, short_slots (callee c k)))
         (ltb-true mask c.words p.0) w.0 (more_result result w.1)
       where
         more_result : (result : Option ℕ) → result_formed c.words result ≡ true → result_formed width result ≡ true
@@ -293,9 +314,9 @@ mutual
   stmt_taken_formed c fs gs number counts each depth r (transfers mask core source target count) width h more fits =
       kept_formed gs number c.words width (transfers mask core source target count) more h
   stmt_taken_formed c fs gs number counts each depth r (overruns mask e) width h more fits = kept_formed gs number c.words width (overruns mask e) more h
-  stmt_taken_formed c fs gs number counts each depth r (turns count body) width h more fits =
+  stmt_taken_formed c fs gs number counts each depth r (iterations count body) width h more fits =
       let p = and_parts (nat_lt 0 count) (stmts_formed fs number c.words body) h in
-      and_from (stmt_formed gs number width (turns count (stmts_taken c (depth + 1) r body).body)) true
+      and_from (stmt_formed gs number width (iterations count (stmts_taken c (depth + 1) r body).body)) true
       (and_from (nat_lt 0 count) _ p.0 (stmts_taken_formed c fs gs number counts each (depth + 1) r body width p.1 more fits)) refl
 
   stmts_taken_formed : (c : PlainCaller) (fs gs : List PlainFunction) (number : ℕ) → SameCounts number fs gs → ((k : ℕ) → k < number → Parts gs k (callee c k))
@@ -317,12 +338,12 @@ pub record Roomy (frames : List ℕ) (fs : List PlainFunction) (number : ℕ) : 
   pub within : (k : ℕ) → k < number → (slice_index_or fs k no_function).frame ≤ slice_index frames k
   pub small : (k : ℕ) → k < number → slice_index frames k ≤ 128
 
-grown_formed : (before fs gs : List PlainFunction) (number most frame room : ℕ) (f : PlainFunction) → SameCounts number fs gs
-    → ((k : ℕ) → k < number → Parts gs k (slice_index_or before k no_function)) → frame ≤ room → f.frame ≤ room → room ≤ 128 → function_formed fs number f ≡ true
+grown_formed : (before fs gs : List PlainFunction) (number most frame : ℕ) (f : PlainFunction) → SameCounts number fs gs
+    → ((k : ℕ) → k < number → Parts gs k (slice_index_or before k no_function)) → f.frame ≤ frame → frame ≤ 128 → function_formed fs number f ≡ true
     → function_formed gs number (grown f (body_taken before most frame f)) ≡ true
-grown_formed before fs gs number most frame room f counts each narrow within small formed =
+grown_formed before fs gs number most frame f counts each within small formed =
     let p = parts_of fs number f formed in
-    let k = function_kept before most frame room f narrow p.mask in
+    let k = function_kept before most frame f p.mask in
     let g = grown f (body_taken before most frame f) in
     let kept_frame = k.frame within in
     let words = k.words in
@@ -399,7 +420,7 @@ mutual
       let p = and_parts (nat_lt mask o) (expr_formed o e) h in
       let below = ltb-true mask o p.0 in
       (omega (arith, below, formed_reach o e p.1), omega arith)
-  formed_stmt fs number o (turns count body) h = formed_stmts fs number o body (and_parts (nat_lt 0 count) (stmts_formed fs number o body) h).1
+  formed_stmt fs number o (iterations count body) h = formed_stmts fs number o body (and_parts (nat_lt 0 count) (stmts_formed fs number o body) h).1
 
   formed_stmts : (fs : List PlainFunction) (number o : ℕ) (ts : PlainStmts) → stmts_formed fs number o ts ≡ true → (stmts_reach ts ≤ o) × (stmts_calls ts ≤ number)
   formed_stmts fs number o no_stmt h = (omega arith, omega arith)
@@ -423,22 +444,15 @@ formed_whole fs number f h =
 
 -- what is well formed takes in calls
 pub taken_grown : (before fs : List PlainFunction) (number most frame : ℕ) (f : PlainFunction) → length before ≡ number → function_formed fs number f ≡ true
-    → function_taken before most frame f ≡ grown f (body_taken before most (frame_for before most frame f) f)
+    → function_taken before most frame f ≡ grown f (body_taken before most frame f)
 taken_grown before fs number most frame f size h =
-    ap (λ b. if b then grown f (body_taken before most (frame_for before most frame f) f) else f) (ap (λ n. is_whole n f) size ∙ formed_whole fs number f h)
-
-pub frame_least : (before : List PlainFunction) (most frame : ℕ) (f : PlainFunction) → frame_for before most frame f ≤ frame
-frame_least before most frame f = by (loops_call (body_taken before most frame f).body)
-  where
-    by : (b : Bool) → (if b then 0 else frame) ≤ frame
-    by true = omega arith
-    by false = omega arith
+    ap (λ b. if b then grown f (body_taken before most frame f) else f) (ap (λ n. is_whole n f) size ∙ formed_whole fs number f h)
 
 -- a function keeps its parameters
 same_parameters : (before : List PlainFunction) (most frame : ℕ) (f : PlainFunction) → (function_taken before most frame f).parameters ≡ f.parameters
 same_parameters before most frame f = by (is_whole (length before) f)
   where
-    by : (b : Bool) → (if b then grown f (body_taken before most (frame_for before most frame f) f) else f).parameters ≡ f.parameters
+    by : (b : Bool) → (if b then grown f (body_taken before most frame f) else f).parameters ≡ f.parameters
     by true = refl
     by false = refl
 
@@ -463,14 +477,14 @@ taken_formed most frames fs all (suc n) within roomy formed =
         ∙ ap (function_formed gs n) (taken_grown (first_taken most frames fs n) fs n (slice_index most n) (slice_index frames n) (slice_index_or fs n no_function)
         (first_length most frames fs n) own)
         ∙ grown_formed (first_taken most frames fs n) fs gs n (slice_index most n)
-        (frame_for (first_taken most frames fs n) (slice_index most n) (slice_index frames n) (slice_index_or fs n no_function)) (slice_index frames n) (slice_index_or fs n no_function)
+        (slice_index frames n) (slice_index_or fs n no_function)
         (record {
           same = λ k below. ap (λ f. f.parameters) (first_at most frames fs all k (omega (arith, below, within)))
               ∙ same_parameters (first_taken most frames fs k) (slice_index most k) (slice_index frames k) (slice_index_or fs k no_function);
         })
         (λ k below. subst (Parts gs k) (sym (first_before most frames fs n all k below (omega (arith, below, within))))
         (parts_of gs k (slice_index_or gs k no_function) (earlier_one gs k n below earlier)))
-        (frame_least (first_taken most frames fs n) (slice_index most n) (slice_index frames n) (slice_index_or fs n no_function)) (roomy.within n (omega arith)) (roomy.small n (omega arith)) own)
+        (roomy.within n (omega arith)) (roomy.small n (omega arith)) own)
 
 -- ---- units
 
@@ -516,9 +530,7 @@ limited most frames u k formed below =
     let f = slice_index_or fs k no_function in
     let each = (and_parts (functions_formed fs all) _ (and_parts (nat_le all 512) _ formed).1).0 in
     let own = earlier_one fs k all below each in
-    let frame = frame_for before (slice_index most k) (slice_index frames k) f in
-    let least = frame_least before (slice_index most k) (slice_index frames k) f in
-    let kept = function_kept before (slice_index most k) frame (slice_index frames k) f least (parts_of fs k f own).mask in
+    let kept = function_kept before (slice_index most k) (slice_index frames k) f (parts_of fs k f own).mask in
     let is = first_at most frames fs all k below
     ∙ taken_grown before fs k (slice_index most k) (slice_index frames k) f (first_length most frames fs k) own in
     record {

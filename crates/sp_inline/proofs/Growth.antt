@@ -9,7 +9,7 @@ use Rattle.sp_tree.specs.Cost.{binary_cost, unary_cost, is_held, expr_cost, args
 use Rattle.sp_tree.specs.Formed.{stmts_levels, slots_of}
 use Rattle.sp_tree.specs.Plain.{PlainSp, plain_sp, constant, frame_word, cell_word, array_word, before_one, between_two}
 use Rattle.sp_tree.specs.Shown.{plain_function}
-use Rattle.sp_tree.specs.Statements.{PlainSpTarget, to_slot, to_cell, to_array, PlainStmt, masks, writes, calls, transfers, overruns, turns, PlainStmts, no_stmt, stmt, joined, PlainFunction, no_function}
+use Rattle.sp_tree.specs.Statements.{PlainSpTarget, to_slot, to_cell, to_array, PlainStmt, masks, writes, calls, transfers, overruns, iterations, PlainStmts, no_stmt, stmt, joined, PlainFunction, no_function}
 use Rattle.sp_tree.proofs.Joins.{joined_cost}
 use Rattle.sp_inline.specs.declared.measured.Measured.{Measured}
 use Rattle.sp_inline.specs.declared.calls.Call.{Call}
@@ -19,7 +19,7 @@ use Rattle.sp_inline.specs.Capped.{capped}
 use Rattle.sp_inline.specs.Moved.{moved, args_moved, target_moved, stmt_moved, stmts_moved}
 use Rattle.sp_inline.specs.Reach.{stmts_reach, stmts_calls}
 use Rattle.sp_inline.specs.Shown.{measured_functions, plain_caller, args_of, statements_for}
-use Rattle.sp_inline.specs.Taken.{begun_words, given_set, call_statements, PlainCaller, callee, growth, room_of, room_after, is_whole, may_take, has_room, is_taken}
+use Rattle.sp_inline.specs.Taken.{begun_words, handed, given_set, call_statements, shortened, PlainCaller, callee, growth, room_of, room_after, is_whole, may_take, has_room, is_taken}
 
 -- ---- what is moved costs what it cost
 
@@ -58,7 +58,7 @@ mutual
   moved_stmt_cost o (transfers mask core source target count) =
       omega (arith, moved_cost o source, moved_cost o target, moved_cost o count)
   moved_stmt_cost o (overruns mask e) = ap (λ n. 6 + n) (moved_cost o e)
-  moved_stmt_cost o (turns count body) = ap (λ n. 11 + n) (moved_stmts_cost o body)
+  moved_stmt_cost o (iterations count body) = ap (λ n. 11 + n) (moved_stmts_cost o body)
 
   moved_stmts_cost : (o : ℕ) (ts : PlainStmts) → stmts_cost (stmts_moved o ts) ≡ stmts_cost ts
   moved_stmts_cost o no_stmt = refl
@@ -66,46 +66,59 @@ mutual
 
 -- ---- what a call costs that is taken in
 
-begun_cost : (at n : ℕ) (args : List PlainSp) → length args ≤ n → stmts_cost (begun_words at n args) + 2 * length args ≡ args_cost args + 3 * n
+begun_cost : (at n : ℕ) (args : List PlainSp) → length args ≤ n → stmts_cost (begun_words at n args) + length args ≡ args_cost args + 2 * n
 begun_cost at zero [] few = refl
 begun_cost at zero (e ∷ args) few = absurd (omega (arith, few))
 begun_cost at (suc n) [] few = let rest = begun_cost (at + 1) n [] (omega arith) in omega (arith, rest)
 begun_cost at (suc n) (e ∷ args) few = let rest = begun_cost (at + 1) n args (omega (arith, few)) in omega (arith, rest)
 
-call_cost : (o mask : ℕ) (f : PlainFunction) (args : List PlainSp) (result : Option ℕ) → length args ≤ slots_of f
-    → stmts_cost (call_statements o f mask args result) + 2 * length args
-    ≡ args_cost args + (3 * slots_of f + (3 + (stmts_cost f.body + stmts_cost (given_set mask result (o + f.result)))))
-call_cost o mask f args result few =
+pub handed_length : (at mask : ℕ) (args : List PlainSp) → length (handed at mask args) ≡ at + 1
+handed_length zero mask args = refl
+handed_length (suc n) mask [] = let rest = handed_length n mask [] in omega (arith, rest)
+handed_length (suc n) mask (e ∷ args) = let rest = handed_length n mask args in omega (arith, rest)
+
+handed_cost : (at mask : ℕ) (args : List PlainSp) → length args ≤ at → args_cost (handed at mask args) + length args ≡ args_cost args + at + 2
+handed_cost zero mask [] few = refl
+handed_cost zero mask (e ∷ args) few = absurd (omega (arith, few))
+handed_cost (suc n) mask [] few = let rest = handed_cost n mask [] (omega arith) in omega (arith, rest)
+handed_cost (suc n) mask (e ∷ args) few = let rest = handed_cost n mask args (omega (arith, few)) in omega (arith, rest)
+
+call_cost : (o mask : ℕ) (f : PlainFunction) (args : List PlainSp) (result : Option ℕ) → length args ≤ f.mask → f.mask < slots_of f
+    → stmts_cost (call_statements o f mask args result) + length args
+    ≡ args_cost args + (2 * slots_of f + (1 + (stmts_cost f.body + stmts_cost (given_set mask result (o + f.result)))))
+call_cost o mask f args result few below =
     let last = given_set mask result (o + f.result) in
     let body = joined (stmts_moved o f.body) last in
-    let begin = begun_words o (slots_of f) args in
-    let whole = joined_cost begin (stmt (masks (o + f.mask) (frame_word mask)) body) in
+    let all = handed f.mask mask args in
+    let begin = begun_words o (slots_of f) all in
+    let count = handed_length f.mask mask args in
+    let paid = handed_cost f.mask mask args few in
+    let whole = joined_cost begin body in
     let behind = joined_cost (stmts_moved o f.body) last in
-    let first = begun_cost o (slots_of f) args few in
+    let first = begun_cost o (slots_of f) all (omega (arith, count, below)) in
     let same = moved_stmts_cost o f.body in
-    let words = slots_of f in
     numbers (stmts_cost (call_statements o f mask args result)) (stmts_cost begin) (stmts_cost body) (stmts_cost (stmts_moved o f.body)) (stmts_cost f.body)
-    (stmts_cost last) (length args) (args_cost args) words whole behind first same
+    (stmts_cost last) (length args) (args_cost args) (length all) (args_cost all) f.mask (slots_of f) whole behind first same count paid
   where
-    numbers : (all begin body moved own last n args words : ℕ) → all ≡ begin + (1 + 2 + body) → body ≡ moved + last → begin + 2 * n ≡ args + 3 * words → moved ≡ own
-        → all + 2 * n ≡ args + (3 * words + (3 + (own + last)))
-    numbers all begin body moved own last n args words a b c d = omega (arith, a, b, c, d)
+    numbers : (all begin body moved own last n args m handed at words : ℕ) → all ≡ begin + body → body ≡ moved + last → begin + m ≡ handed + 2 * words → moved ≡ own
+        → m ≡ at + 1 → handed + n ≡ args + at + 2 → all + n ≡ args + (2 * words + (1 + (own + last)))
+    numbers all begin body moved own last n args m handed at words a b c d e h = omega (arith, a, b, c, d, e, h)
 
 pub grown : (o mask : ℕ) (f : PlainFunction) (args : List SpExpr) (result : Option ℕ) (words cost given : ℕ) → words ≡ slots_of f
-    → cost ≡ capped (stmts_cost f.body) → given ≡ stmts_cost (given_set mask result (o + f.result)) → length args ≤ words
-    → min (min (cost + (3 * words - 2 * length args + given + 3)) (2 ^ 64 - 1) - 16) (2 ^ 32)
+    → cost ≡ capped (stmts_cost f.body) → given ≡ stmts_cost (given_set mask result (o + f.result)) → length args ≤ f.mask → f.mask < words
+    → min (min (cost + (2 * words + 1 - length args + given)) (2 ^ 64 - 1) - 16) (2 ^ 32)
     ≡ min (growth (call_statements o f mask (map plain_sp args) result) (map plain_sp args)) (2 ^ 32)
-grown o mask f args result words cost given same_words same_cost same_given few =
+grown o mask f args result words cost given same_words same_cost same_given few below =
     let count = length-map args plain_sp in
-    let whole = call_cost o mask f (map plain_sp args) result (omega (arith, few, same_words, count)) in
+    let whole = call_cost o mask f (map plain_sp args) result (omega (arith, few, count)) (omega (arith, below, same_words)) in
     numbers (stmts_cost (call_statements o f mask (map plain_sp args) result)) (args_cost (map plain_sp args)) (stmts_cost f.body)
-    (stmts_cost (given_set mask result (o + f.result))) (length args) (length (map plain_sp args)) words (slots_of f) cost given
-    same_words same_cost same_given few count whole
+    (stmts_cost (given_set mask result (o + f.result))) (length args) (length (map plain_sp args)) f.mask words (slots_of f) cost given
+    same_words same_cost same_given few below count whole
   where
-    numbers : (all paid own last n m words slots cost given : ℕ) → words ≡ slots → cost ≡ min own (2 ^ 64 - 1) → given ≡ last → n ≤ words → m ≡ n
-        → all + 2 * m ≡ paid + (3 * slots + (3 + (own + last)))
-        → min (min (cost + (3 * words - 2 * n + given + 3)) (2 ^ 64 - 1) - 16) (2 ^ 32) ≡ min (all - (16 + paid)) (2 ^ 32)
-    numbers all paid own last n m words slots cost given a b c d e h = omega (arith, a, b, c, d, e, h)
+    numbers : (all paid own last n m at words slots cost given : ℕ) → words ≡ slots → cost ≡ min own (2 ^ 64 - 1) → given ≡ last → n ≤ at → at < words → m ≡ n
+        → all + m ≡ paid + (2 * slots + (1 + (own + last)))
+        → min (min (cost + (2 * words + 1 - n + given)) (2 ^ 64 - 1) - 16) (2 ^ 32) ≡ min (all - (16 + paid)) (2 ^ 32)
+    numbers all paid own last n m at words slots cost given a b c d p e h = omega (arith, a, b, c, d, p, e, h)
 
 -- ---- functions that are called
 
@@ -122,17 +135,16 @@ all_of false b c k n below = refl
 all_of true b c k n below = sym (ap (λ (d : Bool). d && (b && c)) (lt-ltb k n below))
 
 pub may_found : (c : Caller) (depth k : ℕ) (args : List SpExpr) (m : Measured) (b : Bool) → k < length c.functions.now
-    → (nat_lt 0 depth && (is_whole k (plain_function (get_or c.functions.now k m).function) && nat_le (length args) (get_or c.functions.now k m).words)) ≡ b
+    → (nat_lt 0 depth && (is_whole k (plain_function (get_or c.functions.now k m).function) && nat_le (length args) (get_or c.functions.now k m).function.mask)) ≡ b
     → may_take (plain_caller c) depth k (map plain_sp args) ≡ b
 may_found c depth k args m b below h =
     let ms = c.functions.now in
     let x = get_or ms k m in
     let g = callee (plain_caller c) k in
     let n = length (map plain_sp args) in
-    sym (all_of (nat_lt 0 depth) (is_whole k g) (nat_le n (slots_of g)) k (length (measured_functions ms)) (omega (arith, below, measured_length ms)))
-    ∙ sym (ap (λ f. nat_lt 0 depth && (is_whole k f && nat_le n (slots_of f))) (callee_is ms k m below))
-    ∙ sym (ap (λ w. nat_lt 0 depth && (is_whole k (plain_function x.function) && nat_le n w)) x.words_are)
-    ∙ ap (λ a. nat_lt 0 depth && (is_whole k (plain_function x.function) && nat_le a x.words)) (length-map args plain_sp) ∙ h
+    sym (all_of (nat_lt 0 depth) (is_whole k g) (nat_le n g.mask) k (length (measured_functions ms)) (omega (arith, below, measured_length ms)))
+    ∙ sym (ap (λ (f : PlainFunction). nat_lt 0 depth && (is_whole k f && nat_le n f.mask)) (callee_is ms k m below))
+    ∙ ap (λ a. nat_lt 0 depth && (is_whole k (plain_function x.function) && nat_le a x.function.mask)) (length-map args plain_sp) ∙ h
 
 not_true : (b : Bool) → (b ≡ true → ⊥) → b ≡ false
 not_true true is_not = absurd (is_not refl)
@@ -148,23 +160,23 @@ no_and false b = refl
 pub may_past : (c : Caller) (depth k : ℕ) (args : List PlainSp) → length c.functions.now ≤ k → may_take (plain_caller c) depth k args ≡ false
 may_past c depth k args past =
     let ms = c.functions.now in
-    ap (λ (b : Bool). nat_lt 0 depth && (b && (is_whole k (callee (plain_caller c) k) && nat_le (length args) (slots_of (callee (plain_caller c) k)))))
+    ap (λ (b : Bool). nat_lt 0 depth && (b && (is_whole k (callee (plain_caller c) k) && nat_le (length args) (callee (plain_caller c) k).mask)))
     (not_below k (length (measured_functions ms)) (omega (arith, past, measured_length ms)))
-    ∙ no_and (nat_lt 0 depth) (is_whole k (callee (plain_caller c) k) && nat_le (length args) (slots_of (callee (plain_caller c) k)))
+    ∙ no_and (nat_lt 0 depth) (is_whole k (callee (plain_caller c) k) && nat_le (length args) (callee (plain_caller c) k).mask)
 
 -- what is known of one that may be taken in
 pub record Fitting (f : PlainFunction) (count : ℕ) : Type 0 where
   pub reach : stmts_reach f.body ≤ slots_of f
   pub mask : f.mask < slots_of f
   pub result : f.result < slots_of f
-  pub few : count ≤ slots_of f
+  pub few : count ≤ f.mask
 
 pub fitting : (c : PlainCaller) (depth k : ℕ) (args : List PlainSp) → may_take c depth k args ≡ true → Fitting (callee c k) (length args)
 fitting c depth k args is =
     let f = callee c k in
     let a = and_parts (nat_lt 0 depth) _ is in
     let b = and_parts (nat_lt k (length c.functions)) _ a.1 in
-    let d = and_parts (is_whole k f) (nat_le (length args) (slots_of f)) b.1 in
+    let d = and_parts (is_whole k f) (nat_le (length args) f.mask) b.1 in
     let e = and_parts (nat_lt f.result (slots_of f)) _ d.0 in
     let g = and_parts (nat_le (stmts_reach f.body) (slots_of f)) _ e.1 in
     let h = and_parts (nat_le (stmts_calls f.body) k) (nat_lt f.mask (slots_of f)) g.1 in
@@ -172,7 +184,7 @@ fitting c depth k args is =
       reach = leb-true (stmts_reach f.body) (slots_of f) g.0;
       mask = ltb-true f.mask (slots_of f) h.1;
       result = ltb-true f.result (slots_of f) e.0;
-      few = leb-true (length args) (slots_of f) d.1;
+      few = leb-true (length args) f.mask d.1;
     }
 
 -- ---- room
@@ -268,8 +280,16 @@ taken_not c depth r k call g may same found =
     (no_room (has_room c r (growth more (args_of call)) (room_after c depth r (callee c k) more (args_of call))) _ here)
 
 pub few_args : (c : PlainCaller) (depth k : ℕ) (args : List SpExpr) (m : Measured) → may_take c depth k (map plain_sp args) ≡ true
-    → plain_function m.function ≡ callee c k → length args ≤ m.words
+    → plain_function m.function ≡ callee c k → length args ≤ m.function.mask
 few_args c depth k args m may same =
     let fits = (fitting c depth k (map plain_sp args) may).few in
+    let mask = ap (λ (f : PlainFunction). f.mask) same in
+    omega (arith, fits, mask, length-map args plain_sp)
+
+pub mask_there : (c : PlainCaller) (depth k : ℕ) (args : List SpExpr) (m : Measured) → may_take c depth k (map plain_sp args) ≡ true
+    → plain_function m.function ≡ callee c k → m.function.mask < m.words
+mask_there c depth k args m may same =
+    let there = (fitting c depth k (map plain_sp args) may).mask in
     let words = m.words_are ∙ ap slots_of same in
-    omega (arith, fits, words, length-map args plain_sp)
+    let mask = ap (λ (f : PlainFunction). f.mask) same in
+    omega (arith, there, words, mask)

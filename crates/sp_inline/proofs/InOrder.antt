@@ -13,11 +13,11 @@ use Rattle.sp_inline.specs.declared.measured.Measured.{Measured}
 use Rattle.sp_inline.specs.Shown.{measured_functions}
 use Rattle.sp_inline.specs.declared.room.Room.{Room}
 use Rattle.sp_inline.specs.Reach.{stmts_reach}
-use Rattle.sp_inline.specs.Taken.{loops_call, frame_for, PlainCaller, Taken, with_room, room_of, is_whole, stmts_taken, taken_after, body_taken, grown, function_taken, first_taken}
+use Rattle.sp_inline.specs.Taken.{PlainCaller, Taken, with_room, room_of, is_whole, stmts_taken, taken_after, body_taken, grown, function_taken, first_taken}
 use Rattle.sp_inline.proofs.Limits.{stmts_within}
 use Rattle.sp_inline.proofs.Taking.{first_length}
 
--- the first so many do not hang on those behind them
+-- the first so many do not depend on those behind them
 first_same : (most frames : List ℕ) (fs more : List PlainFunction) (n : ℕ) → n ≤ length fs → first_taken most frames (fs ++ more) n ≡ first_taken most frames fs n
 first_same most frames fs more zero within = refl
 first_same most frames fs more (suc n) within =
@@ -122,26 +122,15 @@ chosen : (b given : Bool) (f g : PlainFunction) → b ≡ given → (if b then f
 chosen b given f g is = ap (λ (x : Bool). if x then f else g) is
 
 pub whole_taken : (earlier : List Measured) (most frame : ℕ) (f : PlainFunction) → is_whole (length earlier) f ≡ true
-    → let fs = measured_functions earlier in grown f (body_taken fs most (frame_for fs most frame f) f) ≡ function_taken fs most frame f
+    → let fs = measured_functions earlier in grown f (body_taken fs most frame f) ≡ function_taken fs most frame f
 whole_taken earlier most frame f whole =
     let fs = measured_functions earlier in
-    sym (chosen (is_whole (length fs) f) true (grown f (body_taken fs most (frame_for fs most frame f) f)) f
+    sym (chosen (is_whole (length fs) f) true (grown f (body_taken fs most frame f)) f
     (ap (λ n. is_whole n f) (length-map earlier (λ m. plain_function m.function)) ∙ whole))
 
 pub other_taken : (earlier : List Measured) (most frame : ℕ) (f : PlainFunction) → is_whole (length earlier) f ≡ false
     → f ≡ function_taken (measured_functions earlier) most frame f
 other_taken earlier most frame f other =
     let fs = measured_functions earlier in
-    sym (chosen (is_whole (length fs) f) false (grown f (body_taken fs most (frame_for fs most frame f) f)) f
+    sym (chosen (is_whole (length fs) f) false (grown f (body_taken fs most frame f)) f
     (ap (λ n. is_whole n f) (length-map earlier (λ m. plain_function m.function)) ∙ other))
-
--- ---- all calls in loops, or none
-
-pub all_taken : (fs : List PlainFunction) (most frame : ℕ) (f : PlainFunction) (t : Taken) → t ≡ body_taken fs most frame f → loops_call t.body ≡ false
-    → t ≡ body_taken fs most (frame_for fs most frame f) f
-all_taken fs most frame f t is none = is ∙ sym (ap (λ (b : Bool). body_taken fs most (if b then 0 else frame) f) (sym (ap (λ (x : Taken). loops_call x.body) is) ∙ none))
-
-pub none_taken : (fs : List PlainFunction) (most frame : ℕ) (f : PlainFunction) (t u : Taken) → t ≡ body_taken fs most frame f → loops_call t.body ≡ true
-    → u ≡ body_taken fs most 0 f → u ≡ body_taken fs most (frame_for fs most frame f) f
-none_taken fs most frame f t u is some none =
-    none ∙ sym (ap (λ (b : Bool). body_taken fs most (if b then 0 else frame) f) (sym (ap (λ (x : Taken). loops_call x.body) is) ∙ some))

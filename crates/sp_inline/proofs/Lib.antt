@@ -1,5 +1,6 @@
 pub mod Windows
 pub mod Alike
+pub mod Shortened
 pub mod Taking
 pub mod Limits
 pub mod Used

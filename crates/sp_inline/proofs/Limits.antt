@@ -5,13 +5,14 @@ use Rattle.std.proofs.lemmas.Bool.{and_parts, leb-true}
 use Rattle.sp_tree.specs.Cost.{args_cost, stmt_cost, stmts_cost, cost}
 use Rattle.sp_tree.specs.Formed.{stmt_levels, stmts_levels, slots_of}
 use Rattle.sp_tree.specs.Plain.{PlainSp}
-use Rattle.sp_tree.specs.Statements.{PlainStmt, masks, writes, calls, transfers, overruns, turns, PlainStmts, no_stmt, stmt, joined, PlainFunction}
+use Rattle.sp_tree.specs.Statements.{PlainStmt, masks, writes, calls, transfers, overruns, iterations, PlainStmts, no_stmt, stmt, joined, PlainFunction}
 use Rattle.sp_tree.proofs.Joins.{joined_cost, joined_levels}
 use Rattle.sp_inline.specs.Moved.{stmt_moved, stmts_moved}
 use Rattle.sp_inline.specs.declared.room.Room.{Room}
-use Rattle.sp_inline.specs.Taken.{begun_words, given_set, call_statements, PlainCaller, Taken, callee, growth, room_after, may_take, is_taken, kept, call_taken, stmt_taken, stmts_taken, body_taken, grown}
+use Rattle.sp_inline.proofs.Shortened.{short_levels}
+use Rattle.sp_inline.specs.Taken.{begun_words, handed, given_set, call_statements, shortened, PlainCaller, Taken, callee, growth, room_after, may_take, is_taken, kept, call_taken, stmt_taken, stmts_taken, body_taken, grown}
 
--- ---- levels of turns
+-- ---- levels of iterations
 
 mutual
   moved_level : (o : ℕ) (t : PlainStmt) → stmt_levels (stmt_moved o t) ≡ stmt_levels t
@@ -20,7 +21,7 @@ mutual
   moved_level o (calls mask k args result) = refl
   moved_level o (transfers mask core source target count) = refl
   moved_level o (overruns mask e) = refl
-  moved_level o (turns count body) = ap (λ n. 1 + n) (moved_levels o body)
+  moved_level o (iterations count body) = ap (λ n. 1 + n) (moved_levels o body)
 
   pub moved_levels : (o : ℕ) (ts : PlainStmts) → stmts_levels (stmts_moved o ts) ≡ stmts_levels ts
   moved_levels o no_stmt = refl
@@ -38,10 +39,10 @@ given_levels mask (Some slot) word = omega arith
 pub call_levels : (o : ℕ) (f : PlainFunction) (mask : ℕ) (args : List PlainSp) (result : Option ℕ)
     → stmts_levels (call_statements o f mask args result) ≡ stmts_levels f.body
 call_levels o f mask args result =
-    let begin = begun_words o (slots_of f) args in
+    let begin = begun_words o (slots_of f) (handed f.mask mask args) in
     let last = given_set mask result (o + f.result) in
-    let behind = stmt (masks (o + f.mask) _) (joined (stmts_moved o f.body) last) in
-    let a = begun_levels o (slots_of f) args in
+    let behind = joined (stmts_moved o f.body) last in
+    let a = begun_levels o (slots_of f) (handed f.mask mask args) in
     let b = given_levels mask result (o + f.result) in
     let c = moved_levels o f.body in
     let d = joined_levels (stmts_moved o f.body) last in
@@ -73,7 +74,7 @@ call_within c depth r mask k args result above = by (is_taken c depth r k more a
     f = callee c k
 
     more : PlainStmts
-    more = call_statements c.words f mask args result
+    more = call_statements c.words (shortened f) mask args result
 
     by : (b : Bool) → is_taken c depth r k more args ≡ b
         → Within c depth r (16 + args_cost args)
@@ -84,12 +85,13 @@ call_within c depth r mask k args result above = by (is_taken c depth r k more a
         let v = and_parts (nat_le (growth more args) r.left) _ o.1 in
         let fits = leb-true (growth more args) r.left v.0 in
         let room = leb-true (after.words + (after.levels + 2)) c.frame v.1 in
-        let same = call_levels c.words f mask args result in
+        let same = call_levels c.words (shortened f) mask args result in
+        let levels = short_levels f.result f.body in
         record {
           cost = omega (arith, fits);
           words = omega arith;
           levels = omega arith;
-          inside = omega (arith, same);
+          inside = omega (arith, same, levels);
           frame = omega (arith, room);
         }
     by false is = kept_within c depth r (calls mask k args result) refl above
@@ -102,7 +104,7 @@ mutual
   stmt_within c depth r (transfers mask core source target count) above =
       kept_within c depth r (transfers mask core source target count) refl (omega (arith, above))
   stmt_within c depth r (overruns mask e) above = kept_within c depth r (overruns mask e) refl (omega (arith, above))
-  stmt_within c depth r (turns count body) above =
+  stmt_within c depth r (iterations count body) above =
       let h = stmts_within c (depth + 1) r body (omega (arith, above)) in
       record {
         cost = omega (arith, h.cost);
@@ -135,16 +137,16 @@ pub record Kept (most room : ℕ) (f : PlainFunction) (t : Taken) (g : PlainFunc
   pub words : slots_of g ≡ t.room.words
   pub more : slots_of f ≤ t.room.words
 
--- where it has a word for its mask, in a frame of no more words than are given
-pub function_kept : (before : List PlainFunction) (most frame room : ℕ) (f : PlainFunction) → frame ≤ room → f.mask < slots_of f
-    → Kept most room f (body_taken before most frame f) (grown f (body_taken before most frame f))
-function_kept before most frame room f narrow there =
+-- where it has a word for its mask
+pub function_kept : (before : List PlainFunction) (most frame : ℕ) (f : PlainFunction) → f.mask < slots_of f
+    → Kept most frame f (body_taken before most frame f) (grown f (body_taken before most frame f))
+function_kept before most frame f there =
     let c : PlainCaller = record { functions = before; words = slots_of f; frame = frame } in
     let r : Room = record { left = most - cost f; words = slots_of f; levels = stmts_levels f.body } in
     let h = stmts_within c 0 r f.body (omega arith) in
     record {
       cost = λ light. omega (arith, h.cost, light);
-      frame = λ small. (let fits = h.frame in let inside = h.inside in omega (arith, fits, inside, small, there, narrow));
+      frame = λ small. (let fits = h.frame in let inside = h.inside in omega (arith, fits, inside, small, there));
       words = omega arith;
       more = h.words;
     }

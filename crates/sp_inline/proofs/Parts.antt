@@ -5,10 +5,10 @@ use Rattle.tc_word.proofs.Items.{drop_item}
 use Rattle.sp_tree.specs.declared.expressions.SpExpr.{SpExpr}
 use Rattle.sp_tree.specs.Plain.{plain_sp}
 use Rattle.sp_tree.specs.Shown.{plain_stmt, stmts_of}
-use Rattle.sp_tree.specs.Statements.{PlainStmts, no_stmt, stmt, one, joined, turns}
+use Rattle.sp_tree.specs.Statements.{PlainStmts, no_stmt, stmt, one, joined, iterations}
 use Rattle.sp_tree.specs.declared.statements.SpStmt.{SpStmt}
-use Rattle.sp_tree.specs.declared.statements.SpStmt.TheViews.{Turns}
-use Rattle.sp_tree.proofs.Forms.{plain_turns}
+use Rattle.sp_tree.specs.declared.statements.SpStmt.TheViews.{Iterations}
+use Rattle.sp_tree.proofs.Forms.{plain_iterations}
 use Rattle.sp_tree.proofs.Joins.{joined_shown}
 use Rattle.sp_tree.specs.Cost.{args_cost, stmts_cost}
 use Rattle.sp_inline.specs.Capped.{capped}
@@ -50,11 +50,11 @@ pub none_moved : (place : ℕ) (out whole : PlainStmts) (body : List SpStmt) (i 
 none_moved place out whole body i past so_far =
     sym (joined_none out) ∙ ap (λ ts. joined out (stmts_moved place (stmts_of ts))) (sym (drop_all i body past)) ∙ so_far
 
--- turns by the list of their statements
-pub turns_is : (t : SpStmt) (count : ℕ) (body body' : List SpStmt) → t ≡ Turns count body → body' ≡ body → turns count (stmts_of body') ≡ plain_stmt t
-turns_is t count body body' is same = ap (λ b. turns count (stmts_of b)) same ∙ sym (plain_turns count body) ∙ ap plain_stmt (sym is)
+-- iterations by the list of their statements
+pub iterations_is : (t : SpStmt) (count : ℕ) (body body' : List SpStmt) → t ≡ Iterations count body → body' ≡ body → iterations count (stmts_of body') ≡ plain_stmt t
+iterations_is t count body body' is same = ap (λ b. iterations count (stmts_of b)) same ∙ sym (plain_iterations count body) ∙ ap plain_stmt (sym is)
 
--- ---- words of code, and levels of turns
+-- ---- words of code, and levels of iterations
 
 pub cost_done : (total n : ℕ) (body : List SpStmt) (i : ℕ) → length body ≤ i → total < 2 ^ 64 → capped (total + stmts_cost (stmts_of (drop i body))) ≡ n → total ≡ n
 cost_done total n body i past fits so_far =

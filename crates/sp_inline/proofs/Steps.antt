@@ -1,7 +1,8 @@
 -- One step more of what is written in the place of a call.
-use Rattle.std.proofs.Common.{◌≡◌, ℕ, zero, suc, ◌+◌, ◌<◌, ◌≤◌, List, [], ◌∷◌, ◌++◌, length, map, get_or, drop, sym, ◌∙◌, ap, ap₂, arith}
+use Rattle.std.proofs.Common.{◌≡◌, ℕ, zero, suc, ◌+◌, ◌<◌, ◌≤◌, List, [], ◌∷◌, ◌++◌, length, length-append, map, get_or, drop, refl, sym, ◌∙◌, ap, ap₂, arith}
 use Rattle.std.specs.Prelude.{◌-◌, Option, Result, Ok, Err, OnOk}
 use Rattle.std.proofs.lemmas.List.{length-map}
+use Rattle.sp_inline.proofs.Growth.{handed_length}
 use Rattle.tc_word.proofs.Items.{drop_item}
 use Rattle.sp_tree.specs.declared.expressions.SpExpr.{SpExpr}
 use Rattle.sp_tree.specs.declared.statements.SpStmt.{SpStmt}
@@ -11,7 +12,7 @@ use Rattle.sp_tree.specs.Shown.{plain_stmt, stmts_of}
 use Rattle.sp_tree.specs.Statements.{PlainStmts, no_stmt, stmt, one, joined, masks, PlainFunction}
 use Rattle.sp_tree.proofs.Joins.{joined_shown}
 use Rattle.sp_inline.specs.Moved.{stmts_moved}
-use Rattle.sp_inline.specs.Taken.{begun_words, given_set, call_statements}
+use Rattle.sp_inline.specs.Taken.{begun_words, handed, given_set, call_statements}
 use Rattle.sp_inline.proofs.Parts.{joined_joined, joined_none}
 
 pub one_more : (out : List SpStmt) (t : SpStmt) → stmts_of (out ++ t ∷ []) ≡ joined (stmts_of out) (one (plain_stmt t))
@@ -71,6 +72,22 @@ no_zero slot to out whole past so_far =
 
 -- ---- all words that are begun
 
+-- some words, and those after them
+begun_more : (at m n : ℕ) (args more : List PlainSp) → length args ≡ m → joined (begun_words at m args) (begun_words (at + m) n more) ≡ begun_words at (m + n) (args ++ more)
+begun_more at m n [] more count =
+    ap (λ k. joined (begun_words at k []) (begun_words (at + k) n more)) (sym count) ∙ ap₂ (λ a k. begun_words a k more) (omega arith) (omega (arith, count))
+begun_more at m n (e ∷ args) more count =
+    ap (λ k. joined (begun_words at k (e ∷ args)) (begun_words (at + k) n more)) (sym count)
+    ∙ ap (λ a. stmt (masks at e) (joined (begun_words (at + 1) (length args) args) (begun_words a n more))) moved_on
+    ∙ ap (stmt (masks at e)) (begun_more (at + 1) (length args) n args more refl)
+    ∙ sym (ap (λ k. begun_words at k (e ∷ (args ++ more))) again)
+  where
+    moved_on : at + length (e ∷ args) ≡ (at + 1) + length args
+    moved_on = omega arith
+
+    again : m + n ≡ suc (length args + n)
+    again = omega (arith, count)
+
 begun_split : (at m : ℕ) (args : List PlainSp) → joined (begun_words at (length args) args) (begun_words (at + length args) m []) ≡ begun_words at (length args + m) args
 begun_split at m [] = ap₂ (λ a n. begun_words a n []) (omega arith) (omega arith)
 begun_split at m (e ∷ args) =
@@ -83,31 +100,90 @@ begun_split at m (e ∷ args) =
     more : suc (length args + m) ≡ length (e ∷ args) + m
     more = omega arith
 
-pub all_begun : (place words : ℕ) (args : List SpExpr) (old middle new : PlainStmts) → length args ≤ words
-    → middle ≡ joined old (begun_words place (length args) (map plain_sp args))
-    → new ≡ joined middle (begun_words (place + length args) (place + words - (place + length args)) [])
-    → new ≡ joined old (begun_words place words (map plain_sp args))
-all_begun place words args old middle new few first second =
-    second ∙ followed old middle (begun_words (place + length args) (place + words - (place + length args)) []) (begun_words place (length args) (map plain_sp args)) first
-    ∙ ap (joined old)
-    (ap (λ n. joined (begun_words place n (map plain_sp args)) (begun_words (place + n) (place + words - (place + length args)) [])) (sym count)
-    ∙ begun_split place (place + words - (place + length args)) (map plain_sp args)
-    ∙ ap (λ n. begun_words place n (map plain_sp args)) (omega (arith, few, count)))
+-- so many 0
+abbrev zeros : ℕ → List PlainSp
+zeros zero = []
+zeros (suc n) = constant 0 ∷ zeros n
+
+zeros_begun : (at n : ℕ) → begun_words at n [] ≡ begun_words at n (zeros n)
+zeros_begun at zero = refl
+zeros_begun at (suc n) = ap (stmt (masks at (constant 0))) (zeros_begun (at + 1) n)
+
+zeros_length : (n : ℕ) → length (zeros n) ≡ n
+zeros_length zero = refl
+zeros_length (suc n) = let rest = zeros_length n in omega (arith, rest)
+
+-- what a function is handed, piece by piece
+handed_is : (at mask : ℕ) (args : List PlainSp) → length args ≤ at → (args ++ zeros (at - length args)) ++ frame_word mask ∷ [] ≡ handed at mask args
+handed_is zero mask [] few = refl
+handed_is zero mask (e ∷ args) few = absurd (omega (arith, few))
+handed_is (suc n) mask [] few =
+    ap (λ k. zeros k ++ frame_word mask ∷ []) (let same : suc n - 0 ≡ suc (n - 0) = omega arith in same) ∙ ap (λ es. constant 0 ∷ es) (handed_is n mask [] (omega arith))
+handed_is (suc n) mask (e ∷ args) few =
+    ap (λ k. (e ∷ args ++ zeros k) ++ frame_word mask ∷ []) (let same : suc n - length (e ∷ args) ≡ n - length args = omega arith in same)
+    ∙ ap (λ es. e ∷ es) (handed_is n mask args (omega (arith, few)))
+
+-- the arguments, then 0, and then the mask
+pub all_handed : (place at mask : ℕ) (args : List SpExpr) (old first second new : PlainStmts) → length args ≤ at
+    → first ≡ joined old (begun_words place (length args) (map plain_sp args))
+    → second ≡ joined first (begun_words (place + length args) (place + at - (place + length args)) [])
+    → new ≡ joined second (one (masks (place + at) (frame_word mask)))
+    → new ≡ joined old (begun_words place (at + 1) (handed at mask (map plain_sp args)))
+all_handed place at mask args old first second new few a b c =
+    c ∙ followed first second (one (masks (place + at) (frame_word mask))) (begun_words (place + length args) (place + at - (place + length args)) []) b
+    ∙ followed old first (joined (begun_words (place + length args) (place + at - (place + length args)) []) (one (masks (place + at) (frame_word mask)))) (begun_words place (length args) es) a
+    ∙ ap (joined old) (sym (joined_joined (begun_words place (length args) es) (begun_words (place + length args) (place + at - (place + length args)) []) (one (masks (place + at) (frame_word mask)))) ∙ whole)
   where
-    count : length (map plain_sp args) ≡ length args
+    es : List PlainSp
+    es = map plain_sp args
+
+    count : length es ≡ length args
     count = length-map args plain_sp
+
+    left : ℕ
+    left = at - length args
+
+    both : length (es ++ zeros left) ≡ at
+    both = (let x = length-append es (zeros left) in let y = zeros_length left in omega (arith, x, y, count, few))
+
+    upto : joined (begun_words place (length args) es) (begun_words (place + length args) (place + at - (place + length args)) []) ≡ begun_words place at (es ++ zeros left)
+    upto =
+        ap (λ n. joined (begun_words place (length args) es) (begun_words (place + length args) n [])) (omega arith)
+        ∙ ap (joined (begun_words place (length args) es)) (zeros_begun (place + length args) left)
+        ∙ begun_more place (length args) left es (zeros left) count ∙ ap (λ n. begun_words place n (es ++ zeros left)) (omega (arith, few))
+
+    whole : joined (joined (begun_words place (length args) es) (begun_words (place + length args) (place + at - (place + length args)) [])) (one (masks (place + at) (frame_word mask)))
+        ≡ begun_words place (at + 1) (handed at mask es)
+    whole =
+        ap (λ ts. joined ts (one (masks (place + at) (frame_word mask)))) upto
+        ∙ begun_more place at 1 (es ++ zeros left) (frame_word mask ∷ []) both
+        ∙ ap (begun_words place (at + 1)) (ap (λ n. (es ++ zeros (at - n)) ++ frame_word mask ∷ []) (sym count) ∙ handed_is at mask es (omega (arith, few, count)))
+
+-- and then 0 in the others
+pub all_begun : (place words at mask : ℕ) (args : List PlainSp) (old middle new : PlainStmts) → at < words
+    → middle ≡ joined old (begun_words place (at + 1) (handed at mask args))
+    → new ≡ joined middle (begun_words (place + at + 1) (place + words - (place + at + 1)) [])
+    → new ≡ joined old (begun_words place words (handed at mask args))
+all_begun place words at mask args old middle new few first second =
+    second ∙ followed old middle (begun_words (place + at + 1) (place + words - (place + at + 1)) []) (begun_words place (at + 1) (handed at mask args)) first
+    ∙ ap (joined old)
+    (ap₂ (λ a n. joined (begun_words place n (handed at mask args)) (begun_words a (place + words - (place + at + 1)) [])) (omega (arith, count)) (sym count)
+    ∙ begun_split place (place + words - (place + at + 1)) (handed at mask args)
+    ∙ ap (λ n. begun_words place n (handed at mask args)) (omega (arith, few, count)))
+  where
+    count : length (handed at mask args) ≡ at + 1
+    count = handed_length at mask args
 
 -- ---- a call
 
 pub nothing_set : (out : PlainStmts) → out ≡ joined out no_stmt
 nothing_set out = sym (joined_none out)
 
-pub call_added : (o mask words : ℕ) (f : PlainFunction) (args : List PlainSp) (result : Option ℕ) (old begun entered moved new : PlainStmts) → words ≡ slots_of f
-    → begun ≡ joined old (begun_words o words args) → entered ≡ joined begun (one (masks (o + f.mask) (frame_word mask)))
-    → moved ≡ joined entered (stmts_moved o f.body) → new ≡ joined moved (given_set mask result (o + f.result))
+pub call_added : (o mask words : ℕ) (f : PlainFunction) (args : List PlainSp) (result : Option ℕ) (old begun moved new : PlainStmts) → words ≡ slots_of f
+    → begun ≡ joined old (begun_words o words (handed f.mask mask args)) → moved ≡ joined begun (stmts_moved o f.body)
+    → new ≡ joined moved (given_set mask result (o + f.result))
     → new ≡ joined old (call_statements o f mask args result)
-call_added o mask words f args result old begun entered moved new same a b c d =
+call_added o mask words f args result old begun moved new same a b c =
     let last = given_set mask result (o + f.result) in
-    d ∙ followed entered moved last (stmts_moved o f.body) c ∙ followed begun entered (joined (stmts_moved o f.body) last) (one (masks (o + f.mask) (frame_word mask))) b
-    ∙ followed old begun (stmt (masks (o + f.mask) (frame_word mask)) (joined (stmts_moved o f.body) last)) (begun_words o words args) a
-    ∙ ap (λ n. joined old (joined (begun_words o n args) (stmt (masks (o + f.mask) (frame_word mask)) (joined (stmts_moved o f.body) last)))) same
+    c ∙ followed begun moved last (stmts_moved o f.body) b ∙ followed old begun (joined (stmts_moved o f.body) last) (begun_words o words (handed f.mask mask args)) a
+    ∙ ap (λ n. joined old (joined (begun_words o n (handed f.mask mask args)) (joined (stmts_moved o f.body) last))) same

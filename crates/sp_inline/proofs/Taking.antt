@@ -1,5 +1,5 @@
 -- A function that takes in calls gives what it gave.
-use Rattle.std.proofs.Common.{◌≡◌, ◌≢◌, ℕ, zero, suc, ◌+◌, ◌<◌, ◌≤◌, ◌==◌, Bool, true, false, if◌then◌else◌, List, [], ◌∷◌, ◌++◌, length, length-append, Option, Some, None, slice_index, slice_index_or, refl, ap, sym, ◌∙◌, arith, eq-eqb, ap₂, subst, ◌⊎◌, inl, inr}
+use Rattle.std.proofs.Common.{◌≡◌, ◌≢◌, ℕ, zero, suc, ◌+◌, ◌<◌, ◌≤◌, ◌==◌, Bool, true, false, if◌then◌else◌, List, [], ◌∷◌, ◌++◌, length, length-append, Option, Some, None, slice_index, slice_index_or, refl, ap, sym, ◌∙◌, arith, eq-eqb, ne_eqb, ap₂, subst, ◌⊎◌, inl, inr}
 use Rattle.std.specs.Prelude.{cond, ◌-◌, nat_lt, nat_le}
 use Rattle.std.proofs.lemmas.Bool.{cases_eq, cases_lt, and_parts, ltb-true, leb-true}
 use Rattle.std.proofs.lemmas.List.{get_or_append_left, get_or_at, get_or_past}
@@ -8,15 +8,16 @@ use Rattle.c_world.specs.World.{World}
 use Rattle.sp_tree.specs.Cost.{cost}
 use Rattle.sp_tree.specs.Formed.{stmts_levels, slots_of}
 use Rattle.sp_tree.specs.Plain.{PlainSp, frame_word}
-use Rattle.sp_tree.specs.Statements.{to_slot, PlainStmt, masks, writes, calls, transfers, overruns, turns, PlainStmts, no_stmt, stmt, joined, PlainFunction, no_function, PlainUnit}
-use Rattle.sp_tree.specs.Straight.{State, Given, Serves, with_slot, in_world, with_result, write_done, call_done, args_worth, worth, stmt_done, stmts_done, begun_frame, function_given, serves}
+use Rattle.sp_tree.specs.Statements.{to_slot, PlainStmt, masks, writes, calls, transfers, overruns, iterations, PlainStmts, no_stmt, stmt, joined, PlainFunction, no_function, PlainUnit}
+use Rattle.sp_tree.specs.Straight.{State, Outcome, Serves, with_slot, in_world, with_result, write_done, call_done, args_worth, worth, stmt_done, stmts_done, begun_frame, function_outcome, serves}
 use Rattle.sp_tree.specs.Begun.{begun, straight}
 use Rattle.sp_tree.proofs.Joins.{joined_done}
 use Rattle.sp_tree.proofs.Runs.{serves_own}
 use Rattle.sp_inline.specs.Moved.{stmts_moved}
 use Rattle.sp_inline.specs.Reach.{args_reach, stmt_reach, stmts_reach, stmts_calls}
 use Rattle.sp_inline.specs.declared.room.Room.{Room}
-use Rattle.sp_inline.specs.Taken.{frame_for, begun_words, given_set, call_statements, PlainCaller, Taken, callee, room_after, may_take, is_taken, kept, call_taken, stmt_taken, stmts_taken, body_taken, grown, is_whole, function_taken, first_taken, unit_taken}
+use Rattle.sp_inline.specs.Taken.{begun_words, handed, given_set, call_statements, shortened, PlainCaller, Taken, callee, room_after, may_take, is_taken, kept, call_taken, stmt_taken, stmts_taken, body_taken, grown, is_whole, function_taken, first_taken, unit_taken}
+use Rattle.sp_inline.proofs.Shortened.{short_calls, short_gives, short_fits}
 use Rattle.sp_inline.proofs.Windows.{window, put_here, put_there, stmts_window, stmts_low}
 use Rattle.sp_inline.proofs.Alike.{Alike, Same, args_alike, slot_alike, on_alike, call_alike, times_alike, stmt_alike, stmts_alike}
 
@@ -63,59 +64,69 @@ begun_done g o at (suc n) (e ∷ args) s past within =
 
 -- ---- a call that is taken in
 
+-- places that are one further on
+same_next : (n x : ℕ) → (suc n == suc x) ≡ (n == x)
+same_next n x = grind arith
+
+-- what it is handed names no more words than the arguments and the mask
+pub handed_reach : (o at mask : ℕ) (args : List PlainSp) → mask < o → args_reach args ≤ o → args_reach (handed at mask args) ≤ o
+handed_reach o zero mask args mask_in within = omega (arith, mask_in)
+handed_reach o (suc n) mask [] mask_in within = let rest = handed_reach o n mask [] mask_in (omega arith) in omega (arith, rest)
+handed_reach o (suc n) mask (e ∷ args) mask_in within = let rest = handed_reach o n mask args mask_in (omega (arith, within)) in omega (arith, rest, within)
+
+-- and is the mask in its own word, and each argument in its
+handed_worth : (at mask : ℕ) (args : List PlainSp) (s : State) (x : ℕ) → length args ≤ at
+    → slice_index (args_worth (handed at mask args) s) x ≡ cond (at == x) (s.frame mask) (slice_index (args_worth args s) x)
+handed_worth zero mask [] s zero few = refl
+handed_worth zero mask [] s (suc x) few = sym (ap (λ b. cond b (s.frame mask) (slice_index [] (suc x))) (ne_eqb zero (suc x) (omega arith)))
+handed_worth zero mask (e ∷ args) s x few = absurd (omega (arith, few))
+handed_worth (suc n) mask [] s zero few = sym (ap (λ b. cond b (s.frame mask) 0) (ne_eqb (suc n) zero (omega arith)))
+handed_worth (suc n) mask [] s (suc x) few = handed_worth n mask [] s x (omega arith) ∙ ap (λ b. cond b (s.frame mask) 0) (sym (same_next n x))
+handed_worth (suc n) mask (e ∷ args) s zero few = sym (ap (λ b. cond b (s.frame mask) (worth e s)) (ne_eqb (suc n) zero (omega arith)))
+handed_worth (suc n) mask (e ∷ args) s (suc x) few =
+    handed_worth n mask args s x (omega (arith, few)) ∙ ap (λ b. cond b (s.frame mask) (slice_index (args_worth args s) x)) (sym (same_next n x))
+
 -- as the statements of the function begin, their words are those that it begins with
-pub call_entered : (o : ℕ) (g : Serves) (f : PlainFunction) (mask : ℕ) (args : List PlainSp) → mask < o → args_reach args ≤ o → (s t : State) → Alike o s t
-    → let s1 = stmts_done g (begun_words o (slots_of f) args) s in
+pub call_entered : (o : ℕ) (g : Serves) (f : PlainFunction) (mask : ℕ) (args : List PlainSp) → mask < o → args_reach args ≤ o → length args ≤ f.mask → (s t : State) → Alike o s t
+    → let s1 = stmts_done g (begun_words o (slots_of f) (handed f.mask mask args)) s in
     let own : State = record { frame = begun_frame f (t.frame mask) (args_worth args t); world = t.world } in
-    Alike (slots_of f) (window o (with_slot (o + f.mask) (s1.frame mask) s1)) own
-call_entered o g f mask args mask_in within s t h = record { frame = λ x below. each x below (cases_eq f.mask x); world = begun.world ∙ h.world }
+    Alike (slots_of f) (window o s1) own
+call_entered o g f mask args mask_in within few s t h = record { frame = each; world = begun.world ∙ h.world }
   where
     s1 : State
-    s1 = stmts_done g (begun_words o (slots_of f) args) s
+    s1 = stmts_done g (begun_words o (slots_of f) (handed f.mask mask args)) s
 
-    begun : Begun o (slots_of f) (args_worth args s) s s1
-    begun = begun_done g o o (slots_of f) args s (omega arith) within
+    begun : Begun o (slots_of f) (args_worth (handed f.mask mask args) s) s s1
+    begun = begun_done g o o (slots_of f) (handed f.mask mask args) s (omega arith) (handed_reach o f.mask mask args mask_in within)
 
-    mask_same : s1.frame mask ≡ t.frame mask
-    mask_same = begun.before mask mask_in ∙ h.frame mask mask_in
-
-    each : (x : ℕ) → x < slots_of f → (f.mask ≡ x) ⊎ (f.mask ≢ x) → put (o + f.mask) (s1.frame mask) s1.frame (o + x) ≡ begun_frame f (t.frame mask) (args_worth args t) x
-    each x below (inl here) =
-        ap (λ b. cond b (s1.frame mask) (s1.frame (o + x))) (eq-eqb (o + f.mask) (o + x) (ap (λ n. o + n) here)) ∙ mask_same
-        ∙ sym (ap (λ b. cond b (t.frame mask) (slice_index (args_worth args t) x)) (eq-eqb f.mask x here))
-    each x below (inr other) =
-        put_there (o + f.mask) (s1.frame mask) (o + x) s1.frame (omega (arith, other)) ∙ begun.here x below
-        ∙ ap (λ vs. slice_index vs x) (args_alike o args s t h within)
-        ∙ sym (put_there f.mask (t.frame mask) x (slice_index (args_worth args t)) other)
+    each : (x : ℕ) → x < slots_of f → s1.frame (o + x) ≡ begun_frame f (t.frame mask) (args_worth args t) x
+    each x below =
+        begun.here x below ∙ handed_worth f.mask mask args s x few
+        ∙ ap₂ (λ v vs. cond (f.mask == x) v (slice_index vs x)) (h.frame mask mask_in) (args_alike o args s t h within)
 
 -- and behind them the words before stand
-pub call_low : (o : ℕ) (g : Serves) (f : PlainFunction) (mask : ℕ) (args : List PlainSp) → args_reach args ≤ o → (s : State) → (x : ℕ) → x < o
-    → let s1 = stmts_done g (begun_words o (slots_of f) args) s in
-    (stmts_done g (stmts_moved o f.body) (with_slot (o + f.mask) (s1.frame mask) s1)).frame x ≡ s.frame x
-call_low o g f mask args within s x below =
-    let s1 = stmts_done g (begun_words o (slots_of f) args) s in
-    let begun = begun_done g o o (slots_of f) args s (omega arith) within in
-    stmts_low g o f.body x below (with_slot (o + f.mask) (s1.frame mask) s1)
-    ∙ put_there (o + f.mask) (s1.frame mask) x s1.frame (omega (arith, below)) ∙ begun.before x below
+pub call_low : (o : ℕ) (g : Serves) (f : PlainFunction) (mask : ℕ) (args : List PlainSp) → mask < o → args_reach args ≤ o → (s : State) → (x : ℕ) → x < o
+    → (stmts_done g (stmts_moved o f.body) (stmts_done g (begun_words o (slots_of f) (handed f.mask mask args)) s)).frame x ≡ s.frame x
+call_low o g f mask args mask_in within s x below =
+    let s1 = stmts_done g (begun_words o (slots_of f) (handed f.mask mask args)) s in
+    let begun = begun_done g o o (slots_of f) (handed f.mask mask args) s (omega arith) (handed_reach o f.mask mask args mask_in within) in
+    stmts_low g o f.body x below s1 ∙ begun.before x below
 
 pub call_alike_taken : (k o : ℕ) (g inner : Serves) → Same k g inner → (f : PlainFunction) → f.result < slots_of f → stmts_reach f.body ≤ slots_of f → stmts_calls f.body ≤ k
-    → (mask : ℕ) (args : List PlainSp) (result : Option ℕ) → mask < o → args_reach args ≤ o → (s t : State) → Alike o s t
-    → (given : Given) → given ≡ function_given inner f (t.frame mask) (args_worth args t) t.world
+    → (mask : ℕ) (args : List PlainSp) (result : Option ℕ) → mask < o → args_reach args ≤ o → length args ≤ f.mask → (s t : State) → Alike o s t
+    → (given : Outcome) → given ≡ function_outcome inner f (t.frame mask) (args_worth args t) t.world
     → Alike o (stmts_done g (call_statements o f mask args result) s) (call_done mask result t given)
-call_alike_taken k o g inner same f result_in reach earlier mask args result mask_in within s t h given is =
+call_alike_taken k o g inner same f result_in reach earlier mask args result mask_in within few s t h given is =
     subst (λ u. Alike o u (call_done mask result t given))
-    (sym (joined_done g (begun_words o z args) (stmt (masks (o + f.mask) (frame_word mask)) (joined (stmts_moved o f.body) (given_set mask result (o + f.result)))) s
+    (sym (joined_done g (begun_words o z (handed f.mask mask args)) (joined (stmts_moved o f.body) (given_set mask result (o + f.result))) s
     ∙ joined_done g (stmts_moved o f.body) (given_set mask result (o + f.result)) s2))
     (by result)
   where
     z : ℕ
     z = slots_of f
 
-    s1 : State
-    s1 = stmts_done g (begun_words o z args) s
-
     s2 : State
-    s2 = with_slot (o + f.mask) (s1.frame mask) s1
+    s2 = stmts_done g (begun_words o z (handed f.mask mask args)) s
 
     s3 : State
     s3 = stmts_done g (stmts_moved o f.body) s2
@@ -124,20 +135,20 @@ call_alike_taken k o g inner same f result_in reach earlier mask args result mas
     own = record { frame = begun_frame f (t.frame mask) (args_worth args t); world = t.world }
 
     first_alike : Alike z (window o s2) own
-    first_alike = call_entered o g f mask args mask_in within s t h
+    first_alike = call_entered o g f mask args mask_in within few s t h
 
     last_alike : Alike z (stmts_done g f.body (window o s2)) (stmts_done inner f.body own)
     last_alike = stmts_alike k g inner same z f.body (window o s2) own reach earlier first_alike
 
     value_same : s3.frame (o + f.result) ≡ given.value
     value_same = ap (λ (u : State). u.frame f.result) (stmts_window g o f.body s2) ∙ last_alike.frame f.result result_in
-        ∙ sym (ap (λ (x : Given). x.value) is)
+        ∙ sym (ap (λ (x : Outcome). x.value) is)
 
     world_same : s3.world ≡ given.world
-    world_same = ap (λ (u : State). u.world) (stmts_window g o f.body s2) ∙ last_alike.world ∙ sym (ap (λ (x : Given). x.world) is)
+    world_same = ap (λ (u : State). u.world) (stmts_window g o f.body s2) ∙ last_alike.world ∙ sym (ap (λ (x : Outcome). x.world) is)
 
     low : (x : ℕ) → x < o → s3.frame x ≡ t.frame x
-    low x below = call_low o g f mask args within s x below ∙ h.frame x below
+    low x below = call_low o g f mask args mask_in within s x below ∙ h.frame x below
 
     behind : Alike o s3 (in_world t given.world)
     behind = record { frame = low; world = world_same }
@@ -162,7 +173,7 @@ pub record All (g h : Serves) : Type 0 where
 pub record Served (c : PlainCaller) (g old : Serves) : Type 0 where
   pub same : All g old
   pub inner : ℕ → Serves
-  pub own : (k mask : ℕ) (args : List ℕ) (w : World) → k < length c.functions → g k mask args w ≡ function_given (inner k) (callee c k) mask args w
+  pub own : (k mask : ℕ) (args : List ℕ) (w : World) → k < length c.functions → g k mask args w ≡ function_outcome (inner k) (callee c k) mask args w
   pub before : (k : ℕ) → k < length c.functions → Same k g (inner k)
 
 -- a call is taken in, or stays
@@ -174,10 +185,13 @@ call_by c g old served depth r mask k args result s u mask_in within a = by (is_
     f : PlainFunction
     f = callee c k
 
-    more : PlainStmts
-    more = call_statements c.words f mask args result
+    less : PlainFunction
+    less = shortened f
 
-    given : Given
+    more : PlainStmts
+    more = call_statements c.words less mask args result
+
+    given : Outcome
     given = old k (u.frame mask) (args_worth args u) u.world
 
     by : (b : Bool) → is_taken c depth r k more args ≡ b
@@ -192,9 +206,12 @@ call_by c g old served depth r mask k args result s u mask_in within a = by (is_
         let v = and_parts (nat_lt f.result (slots_of f)) _ whole in
         let w = and_parts (nat_le (stmts_reach f.body) (slots_of f)) _ v.1 in
         let below = ltb-true k (length c.functions) q.0 in
-        call_alike_taken k c.words g (served.inner k) (served.before k below) f (ltb-true f.result (slots_of f) v.0) (leb-true (stmts_reach f.body) (slots_of f) w.0)
-        (leb-true (stmts_calls f.body) k (and_parts (nat_le (stmts_calls f.body) k) _ w.1).0) mask args result mask_in within s u a given
-        (sym (served.same.gives k (u.frame mask) (args_worth args u) u.world) ∙ served.own k (u.frame mask) (args_worth args u) u.world below)
+        let fits = short_fits f (ltb-true f.result (slots_of f) v.0) (leb-true (stmts_reach f.body) (slots_of f) w.0) in
+        let few = leb-true (length args) f.mask (and_parts (is_whole k f) _ q.1).1 in
+        let called = leb-true (stmts_calls f.body) k (and_parts (nat_le (stmts_calls f.body) k) _ w.1).0 in
+        call_alike_taken k c.words g (served.inner k) (served.before k below) less fits.0 fits.1 (omega (arith, called, short_calls f.result f.body)) mask args result mask_in within few s u a given
+        (sym (served.same.gives k (u.frame mask) (args_worth args u) u.world) ∙ served.own k (u.frame mask) (args_worth args u) u.world below
+        ∙ sym (short_gives (served.inner k) f (u.frame mask) (args_worth args u) u.world))
     by false is =
         call_alike c.words mask result s u (g k (s.frame mask) (args_worth args s) s.world) given (a.frame mask mask_in) a
         (ap₂ (λ m vs. g k m vs s.world) (a.frame mask mask_in) (args_alike c.words args s u a within)
@@ -216,7 +233,7 @@ mutual
       stmt_alike 0 g old (no_calls g old) c.words (transfers mask core source target count) s u within (omega arith) a
   stmt_taken_alike c g old served depth r (overruns mask e) s u within a =
       stmt_alike 0 g old (no_calls g old) c.words (overruns mask e) s u within (omega arith) a
-  stmt_taken_alike c g old served depth r (turns count body) s u within a =
+  stmt_taken_alike c g old served depth r (iterations count body) s u within a =
       times_alike c.words (stmts_done g (stmts_taken c (depth + 1) r body).body) (stmts_done old body)
       (λ x y b. stmts_taken_alike c g old served (depth + 1) r body x y within b) count s u a
 
@@ -239,22 +256,21 @@ same_serves g h same = λ i k mask args w. same.gives k mask args w i
 -- a function that takes in calls gives what it gave
 pub function_same : (before : List PlainFunction) (most frame : ℕ) (g old : Serves) (f : PlainFunction)
     → Served (record { functions = before; words = slots_of f; frame = frame }) g old → (mask : ℕ) (args : List ℕ) (w : World)
-    → function_given g (function_taken before most frame f) mask args w ≡ function_given old f mask args w
+    → function_outcome g (function_taken before most frame f) mask args w ≡ function_outcome old f mask args w
 function_same before most frame g old f served mask args w = by (is_whole (length before) f) refl
   where
     by : (whole : Bool) → is_whole (length before) f ≡ whole
-        → function_given g (if whole then grown f (body_taken before most (frame_for before most frame f) f) else f) mask args w ≡ function_given old f mask args w
-    by false is = ap (λ h. function_given h f mask args w) (same_serves g old served.same)
+        → function_outcome g (if whole then grown f (body_taken before most frame f) else f) mask args w ≡ function_outcome old f mask args w
+    by false is = ap (λ h. function_outcome h f mask args w) (same_serves g old served.same)
     by true is =
         let p = and_parts (nat_lt f.result (slots_of f)) _ is in
         let q = and_parts (nat_le (stmts_reach f.body) (slots_of f)) _ p.1 in
         let s : State = record { frame = begun_frame f mask args; world = w } in
-        let c : PlainCaller = record { functions = before; words = slots_of f; frame = frame_for before most frame f } in
-        let here : Served c g old = record { same = served.same; inner = served.inner; own = served.own; before = served.before } in
+        let c : PlainCaller = record { functions = before; words = slots_of f; frame = frame } in
         let r : Room = record { left = most - cost f; words = slots_of f; levels = stmts_levels f.body } in
-        let ends = stmts_taken_alike c g old here 0 r f.body s s (leb-true (stmts_reach f.body) (slots_of f) q.0)
+        let ends = stmts_taken_alike c g old served 0 r f.body s s (leb-true (stmts_reach f.body) (slots_of f) q.0)
         (record { frame = λ x below. refl; world = refl }) in
-        ap₂ (λ v x. let t : Given = record { value = v; world = x } in t) (ends.frame f.result (ltb-true f.result (slots_of f) p.0)) ends.world
+        ap₂ (λ v x. let t : Outcome = record { value = v; world = x } in t) (ends.frame f.result (ltb-true f.result (slots_of f) p.0)) ends.world
 
 -- ---- units
 
@@ -303,8 +319,8 @@ past_all fs k past = get_or_past fs k no_function past
 -- the function of a number gives what it gave, where those before it do
 own_given : (most frames : List ℕ) (fs : List PlainFunction) (n : ℕ) → All (serves (first_taken most frames fs (length fs)) n) (serves fs n)
     → (mask : ℕ) (args : List ℕ) (w : World)
-    → function_given (serves (first_taken most frames fs (length fs)) n) (slice_index_or (first_taken most frames fs (length fs)) n no_function) mask args w
-    ≡ function_given (serves fs n) (slice_index_or fs n no_function) mask args w
+    → function_outcome (serves (first_taken most frames fs (length fs)) n) (slice_index_or (first_taken most frames fs (length fs)) n no_function) mask args w
+    ≡ function_outcome (serves fs n) (slice_index_or fs n no_function) mask args w
 own_given most frames fs n earlier mask args w = by (cases_lt n (length fs))
   where
     all : ℕ
@@ -322,19 +338,19 @@ own_given most frames fs n earlier mask args w = by (cases_lt n (length fs))
       inner = λ k. serves new k;
       own = λ k mask args w within. let below : k < n = (let size = first_length most frames fs n in omega (arith, within, size)) in
           serves_own new k n mask args w below
-          ∙ ap (λ h. function_given (serves new k) h mask args w) (first_before most frames fs all n k (omega (arith, below, there)) below);
+          ∙ ap (λ h. function_outcome (serves new k) h mask args w) (first_before most frames fs all n k (omega (arith, below, there)) below);
       before = λ k within. let below : k < n = (let size = first_length most frames fs n in omega (arith, within, size)) in record {
         gives = λ j mask args w less. serves_own new j n mask args w (omega (arith, less, below)) ∙ sym (serves_own new j k mask args w less);
       };
     }
 
-    by : (n < all) ⊎ (all ≤ n) → function_given (serves new n) (slice_index_or new n no_function) mask args w ≡ function_given (serves fs n) f mask args w
+    by : (n < all) ⊎ (all ≤ n) → function_outcome (serves new n) (slice_index_or new n no_function) mask args w ≡ function_outcome (serves fs n) f mask args w
     by (inl there) =
-        ap (λ h. function_given (serves new n) h mask args w) (first_at most frames fs all n there)
+        ap (λ h. function_outcome (serves new n) h mask args w) (first_at most frames fs all n there)
         ∙ function_same (first_taken most frames fs n) (slice_index most n) (slice_index frames n) (serves new n) (serves fs n) f (served there) mask args w
     by (inr past) =
-        ap (λ h. function_given (serves new n) h mask args w) (past_all new n (let size = first_length most frames fs all in omega (arith, past, size)))
-        ∙ ap (λ h. function_given (serves fs n) h mask args w) (sym (past_all fs n past))
+        ap (λ h. function_outcome (serves new n) h mask args w) (past_all new n (let size = first_length most frames fs all in omega (arith, past, size)))
+        ∙ ap (λ h. function_outcome (serves fs n) h mask args w) (sym (past_all fs n past))
 
 -- what the first so many functions give is what they gave
 pub same_given : (most frames : List ℕ) (fs : List PlainFunction) (n : ℕ) → All (serves (first_taken most frames fs (length fs)) n) (serves fs n)
@@ -345,12 +361,12 @@ same_given most frames fs (suc n) = record { gives = λ k mask args w. by (same_
     new = first_taken most frames fs (length fs)
 
     by : All (serves new n) (serves fs n) → (k mask : ℕ) (args : List ℕ) (w : World) → (own : Bool)
-        → (if own then function_given (serves new n) (slice_index_or new n no_function) mask args w else serves new n k mask args w)
-        ≡ (if own then function_given (serves fs n) (slice_index_or fs n no_function) mask args w else serves fs n k mask args w)
+        → (if own then function_outcome (serves new n) (slice_index_or new n no_function) mask args w else serves new n k mask args w)
+        ≡ (if own then function_outcome (serves fs n) (slice_index_or fs n no_function) mask args w else serves fs n k mask args w)
     by earlier k mask args w true = own_given most frames fs n earlier mask args w
     by earlier k mask args w false = earlier.gives k mask args w
 
--- a task comes to what it came to
+-- a task gives what it gave
 pub taken_straight : (most frames : List ℕ) (u : PlainUnit) (input : List ℕ) (shared comm : ℕ → ℕ)
     → straight (unit_taken most frames u) input shared comm ≡ straight u input shared comm
 taken_straight most frames u input shared comm =

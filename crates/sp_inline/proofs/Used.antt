@@ -6,12 +6,13 @@ use Rattle.shared_order.proofs.Lists.{each-append, each_first, each_rest, each_m
 use Rattle.sp_tree.specs.declared.expressions.SpCell.{SpCell}
 use Rattle.sp_tree.specs.Formed.{slots_of}
 use Rattle.sp_tree.specs.Plain.{PlainSp, constant, frame_word, cell_word, array_word, before_one, between_two}
-use Rattle.sp_tree.specs.Statements.{PlainSpTarget, to_slot, to_cell, to_array, PlainStmt, masks, writes, calls, transfers, overruns, turns, PlainStmts, no_stmt, stmt, joined, PlainFunction, no_function, PlainUnit}
+use Rattle.sp_tree.specs.Statements.{one, PlainSpTarget, to_slot, to_cell, to_array, PlainStmt, masks, writes, calls, transfers, overruns, iterations, PlainStmts, no_stmt, stmt, joined, PlainFunction, no_function, PlainUnit}
 use Rattle.sp_tree.specs.Uses.{Use, reads_cell, reads_array, writes_cell, writes_array, sends_to, expr_uses, args_uses, target_uses, stmt_uses, stmts_uses, functions_uses, uses_of, cell_apart, use_apart, are_apart}
 use Rattle.sp_tree.proofs.Joins.{joined_uses}
 use Rattle.sp_inline.specs.Moved.{moved, args_moved, target_moved, stmt_moved, stmts_moved}
 use Rattle.sp_inline.specs.declared.room.Room.{Room}
-use Rattle.sp_inline.specs.Taken.{frame_for, begun_words, given_set, call_statements, PlainCaller, Taken, callee, room_after, is_taken, kept, stmt_taken, stmts_taken, body_taken, grown, is_whole, function_taken, first_taken, unit_taken}
+use Rattle.sp_inline.proofs.Shortened.{short_is}
+use Rattle.sp_inline.specs.Taken.{begun_words, handed, given_set, call_statements, front, short_body, shortened, PlainCaller, Taken, callee, room_after, is_taken, kept, stmt_taken, stmts_taken, body_taken, grown, is_whole, function_taken, first_taken, unit_taken}
 
 -- ---- words of a frame from a place on
 
@@ -40,7 +41,7 @@ mutual
   moved_stmt o (transfers mask core source target count) =
       ap₂ (λ us vs. sends_to core ∷ (us ++ vs)) (moved_expr o source) (ap₂ (λ us vs. us ++ vs) (moved_expr o target) (moved_expr o count))
   moved_stmt o (overruns mask e) = moved_expr o e
-  moved_stmt o (turns count body) = moved_stmts o body
+  moved_stmt o (iterations count body) = moved_stmts o body
 
   moved_stmts : (o : ℕ) (ts : PlainStmts) → stmts_uses (stmts_moved o ts) ≡ stmts_uses ts
   moved_stmts o no_stmt = refl
@@ -58,6 +59,19 @@ begun_each P at (suc n) (e ∷ args) h =
     each-append P (expr_uses e) (stmts_uses (begun_words (at + 1) n args)) (each_first P (expr_uses e) (args_uses args) h)
     (begun_each P (at + 1) n args (each_rest P (expr_uses e) (args_uses args) h))
 
+handed_each : (P : Use → Type 0) (at mask : ℕ) (args : List PlainSp) → Each P (args_uses args) → Each P (args_uses (handed at mask args))
+handed_each P zero mask args h = tt
+handed_each P (suc n) mask [] h = handed_each P n mask [] tt
+handed_each P (suc n) mask (e ∷ args) h =
+    each-append P (expr_uses e) (args_uses (handed n mask args)) (each_first P (expr_uses e) (args_uses args) h) (handed_each P n mask args (each_rest P (expr_uses e) (args_uses args) h))
+
+-- a mask that is left out used nothing that the others do not
+short_each : (P : Use → Type 0) (result : ℕ) (ts : PlainStmts) → Each P (stmts_uses ts) → Each P (stmts_uses (short_body result ts))
+short_each P result ts h =
+    short_is (λ xs. Each P (stmts_uses xs)) result ts h
+    (λ x. each_first P (stmts_uses (front ts)) (stmts_uses (one (masks x.slot x.value)))
+    (subst (Each P) (joined_uses (front ts) (one (masks x.slot x.value))) (subst (λ xs. Each P (stmts_uses xs)) (sym x.is) h)))
+
 given_each : (P : Use → Type 0) (mask : ℕ) (result : Option ℕ) (word : ℕ) → Each P (stmts_uses (given_set mask result word))
 given_each P mask None word = tt
 given_each P mask (Some slot) word = tt
@@ -65,8 +79,8 @@ given_each P mask (Some slot) word = tt
 call_each : (P : Use → Type 0) (o : ℕ) (f : PlainFunction) (mask : ℕ) (args : List PlainSp) (result : Option ℕ) → Each P (args_uses args) → Each P (stmts_uses f.body)
     → Each P (stmts_uses (call_statements o f mask args result))
 call_each P o f mask args result h body =
-    joined_each P (begun_words o (slots_of f) args) (stmt (masks (o + f.mask) (frame_word mask)) (joined (stmts_moved o f.body) (given_set mask result (o + f.result))))
-    (begun_each P o (slots_of f) args h)
+    joined_each P (begun_words o (slots_of f) (handed f.mask mask args)) (joined (stmts_moved o f.body) (given_set mask result (o + f.result)))
+    (begun_each P o (slots_of f) (handed f.mask mask args) (handed_each P f.mask mask args h))
     (joined_each P (stmts_moved o f.body) (given_set mask result (o + f.result)) (subst (Each P) (sym (moved_stmts o f.body)) body) (given_each P mask result (o + f.result)))
 
 one_each : (P : Use → Type 0) (t : PlainStmt) → Each P (stmt_uses t) → Each P (stmts_uses (stmt t no_stmt))
@@ -77,19 +91,19 @@ mutual
       → Each P (stmts_uses (stmt_taken c depth r t).body)
   stmt_each P c each depth r (masks slot e) h = one_each P (masks slot e) h
   stmt_each P c each depth r (writes mask target e) h = one_each P (writes mask target e) h
-  stmt_each P c each depth r (calls mask k args result) h = by (is_taken c depth r k (call_statements c.words (callee c k) mask args result) args)
+  stmt_each P c each depth r (calls mask k args result) h = by (is_taken c depth r k (call_statements c.words (shortened (callee c k)) mask args result) args)
     where
       by : (b : Bool) → Each P (stmts_uses
           (if b then (let t : Taken = record {
-            body = call_statements c.words (callee c k) mask args result;
-            room = room_after c depth r (callee c k) (call_statements c.words (callee c k) mask args result) args;
+            body = call_statements c.words (shortened (callee c k)) mask args result;
+            room = room_after c depth r (callee c k) (call_statements c.words (shortened (callee c k)) mask args result) args;
           } in t) else kept r (calls mask k args result)).body)
-      by true = call_each P c.words (callee c k) mask args result h (each k)
+      by true = call_each P c.words (shortened (callee c k)) mask args result h (short_each P (callee c k).result (callee c k).body (each k))
       by false = one_each P (calls mask k args result) h
   stmt_each P c each depth r (transfers mask core source target count) h = one_each P (transfers mask core source target count) h
   stmt_each P c each depth r (overruns mask e) h = one_each P (overruns mask e) h
-  stmt_each P c each depth r (turns count body) h =
-      one_each P (turns count (stmts_taken c (depth + 1) r body).body) (stmts_each P c each (depth + 1) r body h)
+  stmt_each P c each depth r (iterations count body) h =
+      one_each P (iterations count (stmts_taken c (depth + 1) r body).body) (stmts_each P c each (depth + 1) r body h)
 
   stmts_each : (P : Use → Type 0) (c : PlainCaller) → ((k : ℕ) → Each P (stmts_uses (callee c k).body)) → (depth : ℕ) (r : Room) (ts : PlainStmts) → Each P (stmts_uses ts)
       → Each P (stmts_uses (stmts_taken c depth r ts).body)
@@ -128,7 +142,7 @@ first_each P most frames fs h (suc n) = by (first_each P most frames fs h n)
     by earlier = pushed_each P before (function_taken before (slice_index most n) (slice_index frames n) f) earlier
         (taken (is_whole (length before) f))
       where
-        taken : (whole : Bool) → Each P (stmts_uses (if whole then grown f (body_taken before (slice_index most n) (frame_for before (slice_index most n) (slice_index frames n) f) f) else f).body)
+        taken : (whole : Bool) → Each P (stmts_uses (if whole then grown f (body_taken before (slice_index most n) (slice_index frames n) f) else f).body)
         taken true = stmts_each P _ (function_each P before earlier) 0 _ f.body (function_each P fs h n)
         taken false = function_each P fs h n
 

@@ -6,12 +6,12 @@ use Rattle.std.proofs.lemmas.List.{drop_all, length-map}
 use Rattle.tc_word.proofs.Items.{drop_item}
 use Rattle.sp_tree.specs.declared.expressions.SpExpr.{SpExpr}
 use Rattle.sp_tree.specs.declared.statements.SpStmt.{SpStmt, Call}
-use Rattle.sp_tree.specs.declared.statements.SpStmt.TheViews.{Turns}
+use Rattle.sp_tree.specs.declared.statements.SpStmt.TheViews.{Iterations}
 use Rattle.sp_tree.specs.Formed.{stmt_levels, stmts_levels, slots_of}
 use Rattle.sp_tree.specs.Plain.{PlainSp, plain_sp, constant, frame_word, cell_word, array_word, before_one, between_two}
 use Rattle.sp_tree.specs.Shown.{plain_stmt, plain_function, stmts_of}
-use Rattle.sp_tree.specs.Statements.{PlainSpTarget, to_slot, to_cell, to_array, PlainStmt, masks, writes, calls, transfers, overruns, turns, PlainStmts, no_stmt, stmt, one, joined, PlainFunction}
-use Rattle.sp_tree.proofs.Forms.{plain_turns}
+use Rattle.sp_tree.specs.Statements.{PlainSpTarget, to_slot, to_cell, to_array, PlainStmt, masks, writes, calls, transfers, overruns, iterations, PlainStmts, no_stmt, stmt, one, joined, PlainFunction}
+use Rattle.sp_tree.proofs.Forms.{plain_iterations}
 use Rattle.sp_inline.specs.declared.calls.Call.{Call as Called}
 use Rattle.sp_inline.specs.declared.measured.Measured.{Measured}
 use Rattle.sp_inline.specs.declared.room.Room.{Room}
@@ -56,7 +56,7 @@ mutual
   stmt_none (transfers mask core source target count) =
       let same : 0 + mask ≡ mask = omega arith in λ i. transfers (same i) core (moved_none source i) (moved_none target i) (moved_none count i)
   stmt_none (overruns mask e) = let same : 0 + mask ≡ mask = omega arith in ap₂ overruns same (moved_none e)
-  stmt_none (turns count body) = ap (turns count) (stmts_none body)
+  stmt_none (iterations count body) = ap (iterations count) (stmts_none body)
 
   stmts_none : (ts : PlainStmts) → stmts_moved 0 ts ≡ ts
   stmts_none no_stmt = refl
@@ -111,7 +111,7 @@ call_taken_in c depth r after t call g old new is here same room added =
 -- what the code asks of a function that is taken in
 pub record Callable (c : PlainCaller) (m : Measured) (args : ℕ) : Type 0 where
   pub room : c.words + m.words < 2 ^ 32
-  pub few : args ≤ m.words
+  pub few : args ≤ m.function.mask
   pub reach : stmts_reach (stmts_of m.function.body) ≤ m.words
   pub mask : m.function.mask < m.words
   pub result : m.function.result < m.words
@@ -132,19 +132,19 @@ callable c depth r m call narrow here same =
     let result = ap (λ (g : PlainFunction). g.result) same in
     record {
       room = omega (arith, fits, words, narrow);
-      few = omega (arith, parts.few, words, length-map call.args.now plain_sp);
+      few = omega (arith, parts.few, mask, length-map call.args.now plain_sp);
       reach = omega (arith, parts.reach, words, reach);
       mask = omega (arith, parts.mask, words, mask);
       result = omega (arith, parts.result, words, result);
     }
 
--- turns
-pub turns_taken : (c : PlainCaller) (depth : ℕ) (r after : Room) (t : SpStmt) (count : ℕ) (body : List SpStmt) (old inside new : PlainStmts)
-    → turns count (stmts_of body) ≡ plain_stmt t → with_room inside after ≡ taken_after no_stmt (stmts_taken c (depth + 1) r (stmts_of body))
-    → new ≡ joined old (one (turns count inside)) → with_room new after ≡ taken_after old (stmt_taken c depth r (plain_stmt t))
-turns_taken c depth r after t count body old inside new is walked added =
+-- iterations
+pub iterations_taken : (c : PlainCaller) (depth : ℕ) (r after : Room) (t : SpStmt) (count : ℕ) (body : List SpStmt) (old inside new : PlainStmts)
+    → iterations count (stmts_of body) ≡ plain_stmt t → with_room inside after ≡ taken_after no_stmt (stmts_taken c (depth + 1) r (stmts_of body))
+    → new ≡ joined old (one (iterations count inside)) → with_room new after ≡ taken_after old (stmt_taken c depth r (plain_stmt t))
+iterations_taken c depth r after t count body old inside new is walked added =
     ap (λ ts. with_room ts after) added
-    ∙ ap (λ (x : Taken). taken_after old (with_room (one (turns count x.body)) x.room)) walked
+    ∙ ap (λ (x : Taken). taken_after old (with_room (one (iterations count x.body)) x.room)) walked
     ∙ ap (λ x. taken_after old (stmt_taken c depth r x)) is
 
 -- ---- statements one after another
@@ -174,9 +174,9 @@ level_kept c depth r after t old new taken above =
     let grows = h.levels in
     omega (arith, same, grows)
 
--- levels of turns
-pub turns_levels : (t : SpStmt) (count : ℕ) (body : List SpStmt) → t ≡ Turns count body → stmt_levels (plain_stmt t) ≡ 1 + stmts_levels (stmts_of body)
-turns_levels t count body is = ap (λ x. stmt_levels (plain_stmt x)) is ∙ ap stmt_levels (plain_turns count body)
+-- levels of iterations
+pub iterations_levels : (t : SpStmt) (count : ℕ) (body : List SpStmt) → t ≡ Iterations count body → stmt_levels (plain_stmt t) ≡ 1 + stmts_levels (stmts_of body)
+iterations_levels t count body is = ap (λ x. stmt_levels (plain_stmt x)) is ∙ ap stmt_levels (plain_iterations count body)
 
 pub level_part : (body : List SpStmt) (i : ℕ) (t : SpStmt) → i < length body → t ≡ get_or body i t → stmt_levels (plain_stmt t) ≤ stmts_levels (stmts_of body)
 level_part [] i t within is = absurd (omega (arith, within))

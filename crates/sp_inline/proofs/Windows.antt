@@ -8,8 +8,8 @@ use Rattle.c_world.specs.World.{World, with_element, with_send, with_overrun}
 use Rattle.c_world.specs.Numbers.{is_true}
 use Rattle.sp_tree.specs.Operators.{unary_value, binary_value}
 use Rattle.sp_tree.specs.Plain.{PlainSp, constant, frame_word, cell_word, array_word, before_one, between_two}
-use Rattle.sp_tree.specs.Statements.{PlainSpTarget, to_slot, to_cell, to_array, PlainStmt, masks, writes, calls, transfers, overruns, turns, PlainStmts, no_stmt, stmt}
-use Rattle.sp_tree.specs.Straight.{State, Given, Serves, with_slot, in_world, with_sp_target, with_result, where_on, write_done, transfer_done, overrun_done, call_done, args_worth, worth, times, stmt_done, stmts_done}
+use Rattle.sp_tree.specs.Statements.{PlainSpTarget, to_slot, to_cell, to_array, PlainStmt, masks, writes, calls, transfers, overruns, iterations, PlainStmts, no_stmt, stmt}
+use Rattle.sp_tree.specs.Straight.{State, Outcome, Serves, with_slot, in_world, with_sp_target, with_result, where_on, write_done, transfer_done, overrun_done, call_done, args_worth, worth, times, stmt_done, stmts_done}
 use Rattle.sp_tree.specs.Values.{sp_value, array_value}
 use Rattle.sp_inline.specs.Moved.{moved, args_moved, target_moved, result_moved, stmt_moved, stmts_moved}
 
@@ -92,7 +92,7 @@ mutual
       moved_call (g k (s.frame (o + mask)) (args_worth (args_moved o args) s) s.world)
       ∙ ap (λ vs. call_done mask result (window o s) (g k (s.frame (o + mask)) vs s.world)) (moved_args o args s)
     where
-      moved_call : (given : Given) → window o (call_done (o + mask) (result_moved o result) s given) ≡ call_done mask result (window o s) given
+      moved_call : (given : Outcome) → window o (call_done (o + mask) (result_moved o result) s given) ≡ call_done mask result (window o s) given
       moved_call given = moved_on o mask (with_result (result_moved o result) given.value) (with_result result given.value) (in_world s given.world)
           (moved_result o result given.value (in_world s given.world))
   stmt_window g o (transfers mask core source target count) s =
@@ -102,7 +102,7 @@ mutual
   stmt_window g o (overruns mask e) s =
       moved_on o mask (overrun_done (moved o e)) (overrun_done e) s
       (ap (λ v. in_world (window o s) (with_overrun (is_true v) s.world)) (moved_worth o e s))
-  stmt_window g o (turns count body) s = moved_times o (stmts_done g (stmts_moved o body)) (stmts_done g body) (λ t. stmts_window g o body t) count s
+  stmt_window g o (iterations count body) s = moved_times o (stmts_done g (stmts_moved o body)) (stmts_done g body) (λ t. stmts_window g o body t) count s
 
   pub stmts_window : (g : Serves) (o : ℕ) (ts : PlainStmts) (s : State) → window o (stmts_done g (stmts_moved o ts) s) ≡ stmts_done g ts (window o s)
   stmts_window g o no_stmt s = refl
@@ -144,7 +144,7 @@ mutual
   stmt_low g o (transfers mask core source target count) x below s =
       on_low (o + mask) x (transfer_done core (moved o source) (moved o target) (moved o count)) s refl
   stmt_low g o (overruns mask e) x below s = on_low (o + mask) x (overrun_done (moved o e)) s refl
-  stmt_low g o (turns count body) x below s = times_low x (stmts_done g (stmts_moved o body)) (λ t. stmts_low g o body x below t) count s
+  stmt_low g o (iterations count body) x below s = times_low x (stmts_done g (stmts_moved o body)) (λ t. stmts_low g o body x below t) count s
 
   pub stmts_low : (g : Serves) (o : ℕ) (ts : PlainStmts) (x : ℕ) → x < o → (s : State) → (stmts_done g (stmts_moved o ts) s).frame x ≡ s.frame x
   stmts_low g o no_stmt x below s = refl

@@ -3,3 +3,4 @@ pub mod Moved
 pub mod Reach
 pub mod Shown
 pub mod Taken
+pub mod Kept

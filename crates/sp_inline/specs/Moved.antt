@@ -1,7 +1,7 @@
 -- To be believed. Expressions and statements over the words of a frame from a place on.
 use Rattle.std.specs.Prelude.{ℕ, ◌+◌, List, [], ◌∷◌, Option, None, Some}
 use Rattle.sp_tree.specs.Plain.{PlainSp, constant, frame_word, cell_word, array_word, before_one, between_two}
-use Rattle.sp_tree.specs.Statements.{PlainSpTarget, to_slot, to_cell, to_array, PlainStmt, masks, writes, calls, transfers, overruns, turns, PlainStmts, no_stmt, stmt}
+use Rattle.sp_tree.specs.Statements.{PlainSpTarget, to_slot, to_cell, to_array, PlainStmt, masks, writes, calls, transfers, overruns, iterations, PlainStmts, no_stmt, stmt}
 
 abbrev pub moved : ℕ → PlainSp → PlainSp
 moved o (constant n) = constant n
@@ -32,7 +32,7 @@ abbrev mutual
   stmt_moved o (transfers mask core source target count) =
       transfers (o + mask) core (moved o source) (moved o target) (moved o count)
   stmt_moved o (overruns mask e) = overruns (o + mask) (moved o e)
-  stmt_moved o (turns count body) = turns count (stmts_moved o body)
+  stmt_moved o (iterations count body) = iterations count (stmts_moved o body)
 
   pub stmts_moved : ℕ → PlainStmts → PlainStmts
   stmts_moved o no_stmt = no_stmt

@@ -1,7 +1,7 @@
 -- To be believed. How many words of a frame statements name, and how many functions: one more than the greatest number.
 use Rattle.std.specs.Prelude.{ℕ, ◌+◌, max, List, [], ◌∷◌, Option, None, Some}
 use Rattle.sp_tree.specs.Plain.{PlainSp, constant, frame_word, cell_word, array_word, before_one, between_two}
-use Rattle.sp_tree.specs.Statements.{PlainSpTarget, to_slot, to_cell, to_array, PlainStmt, masks, writes, calls, transfers, overruns, turns, PlainStmts, no_stmt, stmt}
+use Rattle.sp_tree.specs.Statements.{PlainSpTarget, to_slot, to_cell, to_array, PlainStmt, masks, writes, calls, transfers, overruns, iterations, PlainStmts, no_stmt, stmt}
 
 abbrev pub expr_reach : PlainSp → ℕ
 expr_reach (constant n) = 0
@@ -32,7 +32,7 @@ abbrev mutual
   stmt_reach (transfers mask core source target count) =
       max (mask + 1) (max (expr_reach source) (max (expr_reach target) (expr_reach count)))
   stmt_reach (overruns mask e) = max (mask + 1) (expr_reach e)
-  stmt_reach (turns count body) = stmts_reach body
+  stmt_reach (iterations count body) = stmts_reach body
 
   pub stmts_reach : PlainStmts → ℕ
   stmts_reach no_stmt = 0
@@ -41,7 +41,7 @@ abbrev mutual
 abbrev mutual
   pub stmt_calls : PlainStmt → ℕ
   stmt_calls (calls mask k args result) = k + 1
-  stmt_calls (turns count body) = stmts_calls body
+  stmt_calls (iterations count body) = stmts_calls body
   stmt_calls _ = 0
 
   pub stmts_calls : PlainStmts → ℕ

@@ -6,7 +6,7 @@ use Rattle.sp_tree.specs.Statements.{PlainStmts, PlainFunction}
 use Rattle.sp_inline.specs.declared.calls.Call.{Call}
 use Rattle.sp_inline.specs.declared.measured.Measured.{Measured}
 use Rattle.sp_inline.specs.declared.callers.Caller.{Caller}
-use Rattle.sp_inline.specs.Taken.{PlainCaller, call_statements}
+use Rattle.sp_inline.specs.Taken.{PlainCaller, call_statements, shortened}
 
 abbrev pub measured_functions : List Measured → List PlainFunction
 measured_functions functions = map (λ m. plain_function m.function) functions
@@ -19,4 +19,4 @@ args_of call = map plain_sp call.args.now
 
 -- what stands in the place of a call of a function, over the words from a place on
 abbrev pub statements_for : ℕ → PlainFunction → Call → PlainStmts
-statements_for o f call = call_statements o f call.mask (args_of call) call.result
+statements_for o f call = call_statements o (shortened f) call.mask (args_of call) call.result

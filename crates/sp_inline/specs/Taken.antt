@@ -1,10 +1,10 @@
 -- To be believed. Calls in loops, in the place of which the statements of their functions stand, over further words of
 -- the frame, as far as the function keeps to so many words of code and of its frame.
-use Rattle.std.specs.Prelude.{ℕ, zero, suc, ◌+◌, ◌-◌, nat_lt, nat_le, max, Bool, false, if◌then◌else◌, ◌&&◌, ◌||◌, List, [], ◌∷◌, ◌++◌, length, Option, None, Some, slice_index, slice_index_or}
+use Rattle.std.specs.Prelude.{ℕ, zero, suc, ◌+◌, ◌-◌, ◌==◌, nat_lt, nat_le, max, Bool, false, not, if◌then◌else◌, ◌&&◌, List, [], ◌∷◌, ◌++◌, length, Option, None, Some, slice_index, slice_index_or}
 use Rattle.sp_tree.specs.Cost.{args_cost, stmts_cost, cost}
 use Rattle.sp_tree.specs.Formed.{stmts_levels, slots_of}
 use Rattle.sp_tree.specs.Plain.{PlainSp, constant, frame_word}
-use Rattle.sp_tree.specs.Statements.{to_slot, PlainStmt, masks, writes, calls, turns, PlainStmts, no_stmt, stmt, one, joined, PlainFunction, no_function, PlainUnit}
+use Rattle.sp_tree.specs.Statements.{to_slot, PlainStmt, masks, writes, calls, iterations, PlainStmts, no_stmt, stmt, one, joined, PlainFunction, no_function, PlainUnit}
 use Rattle.sp_inline.specs.declared.room.Room.{Room}
 use Rattle.sp_inline.specs.Moved.{stmts_moved}
 use Rattle.sp_inline.specs.Reach.{stmts_reach, stmts_calls}
@@ -17,6 +17,12 @@ begun_words at zero args = no_stmt
 begun_words at (suc n) [] = stmt (masks at (constant 0)) (begun_words (at + 1) n [])
 begun_words at (suc n) (e ∷ args) = stmt (masks at e) (begun_words (at + 1) n args)
 
+-- the arguments, 0 up to the word of the mask, and there the mask of the call
+abbrev pub handed : ℕ → ℕ → List PlainSp → List PlainSp
+handed zero mask args = frame_word mask ∷ []
+handed (suc n) mask [] = constant 0 ∷ handed n mask []
+handed (suc n) mask (e ∷ args) = e ∷ handed n mask args
+
 -- what was given is set under the mask of the call
 abbrev pub given_set : ℕ → Option ℕ → ℕ → PlainStmts
 given_set mask None word = no_stmt
@@ -24,8 +30,30 @@ given_set mask (Some slot) word = one (writes mask (to_slot slot) (frame_word wo
 
 abbrev pub call_statements : ℕ → PlainFunction → ℕ → List PlainSp → Option ℕ → PlainStmts
 call_statements o f mask args result =
-    joined (begun_words o (slots_of f) args) (stmt (masks (o + f.mask) (frame_word mask))
-    (joined (stmts_moved o f.body) (given_set mask result (o + f.result))))
+    joined (begun_words o (slots_of f) (handed f.mask mask args))
+    (joined (stmts_moved o f.body) (given_set mask result (o + f.result)))
+
+-- a word is set in any case, which is not that of the result
+abbrev pub is_other_mask : ℕ → PlainStmt → Bool
+is_other_mask result (masks slot e) = not (slot == result)
+is_other_mask result _ = false
+
+-- whether the last statement is so, where the one before them is or is not
+abbrev pub ends_so : ℕ → Bool → PlainStmts → Bool
+ends_so result before no_stmt = before
+ends_so result before (stmt t rest) = ends_so result (is_other_mask result t) rest
+
+abbrev pub front : PlainStmts → PlainStmts
+front no_stmt = no_stmt
+front (stmt t no_stmt) = no_stmt
+front (stmt t rest) = stmt t (front rest)
+
+-- Nobody reads a mask that a function sets last, as a `return` does: where it is taken in, that statement is left out
+abbrev pub short_body : ℕ → PlainStmts → PlainStmts
+short_body result body = if ends_so result false body then front body else body
+
+abbrev pub shortened : PlainFunction → PlainFunction
+shortened f = record f { body = short_body f.result f.body }
 
 -- ---- which calls are taken in
 
@@ -66,11 +94,12 @@ is_whole k f =
     nat_lt f.result (slots_of f) && (nat_le (stmts_reach f.body) (slots_of f)
     && (nat_le (stmts_calls f.body) k && nat_lt f.mask (slots_of f)))
 
--- it stands in a loop, and the function is an earlier one that is whole and has words for the arguments
+-- it stands in a loop, and the function is an earlier one that is whole and has words for the arguments before that of its
+-- mask
 abbrev pub may_take : PlainCaller → ℕ → ℕ → List PlainSp → Bool
 may_take c depth k args =
     nat_lt 0 depth && (nat_lt k (length c.functions)
-    && (is_whole k (callee c k) && nat_le (length args) (slots_of (callee c k))))
+    && (is_whole k (callee c k) && nat_le (length args) (callee c k).mask))
 
 -- for so many words of code more, and for the words and levels after it
 abbrev pub has_room : PlainCaller → Room → ℕ → Room → Bool
@@ -86,16 +115,16 @@ kept r t = record { body = one t; room = r }
 abbrev pub call_taken : PlainCaller → ℕ → Room → ℕ → ℕ → List PlainSp → Option ℕ → Taken
 call_taken c depth r mask k args result =
     let f = callee c k in
-    let more = call_statements c.words f mask args result in
+    let more = call_statements c.words (shortened f) mask args result in
     if is_taken c depth r k more args then record { body = more; room = room_after c depth r f more args }
     else kept r (calls mask k args result)
 
 abbrev mutual
   pub stmt_taken : PlainCaller → ℕ → Room → PlainStmt → Taken
   stmt_taken c depth r (calls mask k args result) = call_taken c depth r mask k args result
-  stmt_taken c depth r (turns count body) =
+  stmt_taken c depth r (iterations count body) =
       let inside = stmts_taken c (depth + 1) r body in
-      record { body = one (turns count inside.body); room = inside.room }
+      record { body = one (iterations count inside.body); room = inside.room }
   stmt_taken c depth r t = kept r t
 
   pub stmts_taken : PlainCaller → ℕ → Room → PlainStmts → Taken
@@ -116,27 +145,13 @@ body_taken fs most frame f =
     stmts_taken (record { functions = fs; words = slots_of f; frame = frame }) 0
     (record { left = most - cost f; words = slots_of f; levels = stmts_levels f.body }) f.body
 
--- whether a call stands in a loop
-abbrev pub stmt_loops_call : PlainStmt → Bool
-stmt_loops_call (turns count body) = nat_lt 0 (stmts_calls body)
-stmt_loops_call _ = false
-
-abbrev pub loops_call : PlainStmts → Bool
-loops_call no_stmt = false
-loops_call (stmt t rest) = stmt_loops_call t || loops_call rest
-
--- A function takes in all calls in its loops, or none: a call that is left would fetch a longer function at each return.
--- In a frame of no words no call has room
-abbrev pub frame_for : List PlainFunction → ℕ → ℕ → PlainFunction → ℕ
-frame_for fs most frame f = if loops_call (body_taken fs most frame f).body then 0 else frame
-
 abbrev pub grown : PlainFunction → Taken → PlainFunction
 grown f t = record f { frame = t.room.words + (stmts_levels t.body + 2); body = t.body }
 
 -- with at most so many words of code and of its frame
 abbrev pub function_taken : List PlainFunction → ℕ → ℕ → PlainFunction → PlainFunction
 function_taken fs most frame f =
-    if is_whole (length fs) f then grown f (body_taken fs most (frame_for fs most frame f) f) else f
+    if is_whole (length fs) f then grown f (body_taken fs most frame f) else f
 
 -- the first so many functions, each with what may be taken in of those before it
 abbrev pub first_taken : List ℕ → List ℕ → List PlainFunction → ℕ → List PlainFunction

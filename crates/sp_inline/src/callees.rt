@@ -1,8 +1,7 @@
-//! Which functions statements call, and whether they do in loops.
+//! Which functions statements call.
 ghost use Rattle.std.specs.Prelude.{◌≡◌};
 ghost use Rattle.sp_tree.specs.Shown.{plain_stmt, stmts_of};
 ghost use Rattle.sp_inline.specs.Reach.{stmt_calls, stmts_calls};
-ghost use Rattle.sp_inline.specs.Taken as taken;
 
 use sp_tree::SpStmt;
 
@@ -13,7 +12,7 @@ fn statement(t: &SpStmt) -> u64
 {
     match t {
         SpStmt::Call { function, .. } => u64::from(*function) + 1,
-        SpStmt::Turns { body, .. } => calls_of(body.as_slice()),
+        SpStmt::Iterations { body, .. } => calls_of(body.as_slice()),
         _ => 0,
     }
 }
@@ -30,27 +29,4 @@ pub fn calls_of(body: &[SpStmt]) -> u64
         most = calls.max(most);
     }
     most
-}
-
-// whether a statement is a loop in which a call stands
-#[tactic(auto, unfolding(sp_tree::specs::Shown::plain_stmt))]
-fn is_loop_with_calls(t: &SpStmt) -> bool
-    ensures { result ≡ taken.stmt_loops_call (plain_stmt t.now) }
-{
-    match t {
-        SpStmt::Turns { body, .. } => calls_of(body.as_slice()) > 0,
-        _ => false,
-    }
-}
-
-/// Whether a call stands in a loop of statements.
-pub fn loops_call(body: &[SpStmt]) -> bool
-    ensures { result ≡ taken.loops_call (stmts_of body.now) }
-{
-    for t in body {
-        if is_loop_with_calls(t) {
-            return true;
-        }
-    }
-    false
 }

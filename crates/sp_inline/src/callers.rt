@@ -1,5 +1,5 @@
 //! Which calls are taken in.
-ghost use Rattle.std.specs.Prelude.{◌≡◌, ◌+◌, ◌-◌, ◌&&◌, nat_lt, nat_le, ◌≤◌, ◌^◌, ℕ, length, min, true, false, MatchOption, Some, None, if◌then◌else◌};
+ghost use Rattle.std.specs.Prelude.{◌≡◌, ◌+◌, ◌-◌, ◌&&◌, nat_lt, nat_le, ◌<◌, ◌≤◌, ◌^◌, ℕ, length, min, true, false, MatchOption, Some, None, if◌then◌else◌};
 ghost use Rattle.sp_tree.specs.Cost.{stmts_cost};
 ghost use Rattle.sp_tree.specs.Shown.{plain_function};
 ghost use Rattle.sp_inline.specs.Shown.{plain_caller, args_of, statements_for};
@@ -20,9 +20,10 @@ pub struct Caller<'a> {
 // whether a call in loops of this depth may take in the function of a number
 fn is_fitting(callee: &Measured, number: usize, depth: u32, call: &Call<'_>) -> bool
     ensures { result ≡ (nat_lt 0 depth && (specs.is_whole number (plain_function callee.now.function)
-        && nat_le (length call.now.args.now) callee.now.words)) }
+        && nat_le (length call.now.args.now) callee.now.function.mask)) }
 {
-    depth > 0 && callee.is_whole(number) && call.args.len() as u64 <= u64::from(callee.words)
+    let mask = u64::from(callee.function.mask);
+    depth > 0 && callee.is_whole(number) && call.args.len() as u64 <= mask
 }
 
 // the function of a call in a loop that may be taken in
@@ -56,17 +57,18 @@ fn given_cost(given: Option<u32>) -> u64
     }
 }
 
-// by how many words of code a function grows that takes in a call; what passes 2^32 is told as that
+// by how many words of code a function grows that takes in a call; what passes 2^32 is counted as that
 fn growth(callee: &Measured, call: &Call<'_>) -> u64
-    requires { length call.now.args.now ≤ callee.now.words }
+    requires few { length call.now.args.now ≤ callee.now.function.mask }
+    requires mask { callee.now.function.mask < callee.now.words }
     ensures { (o : ℕ) → result
         ≡ min (specs.growth (statements_for o (plain_function callee.now.function) call.now) (args_of call.now))
         (2 ^ 32) }
 {
-    let begun = 3 * u64::from(callee.words) - 2 * call.args.len() as u64;
-    let others = begun + given_cost(call.result) + 3;
+    let begun = 2 * u64::from(callee.words) + 1 - call.args.len() as u64;
+    let others = begun + given_cost(call.result);
     callee
-        .cost
+        .kept_cost
         .saturating_add(others)
         .saturating_sub(16)
         .min(1 << 32)
@@ -96,7 +98,8 @@ fn room_after(
     callee: &Measured,
     call: &Call<'_>,
 ) -> Option<Room>
-    requires { length call.now.args.now ≤ callee.now.words }
+    requires few { length call.now.args.now ≤ callee.now.function.mask }
+    requires mask { callee.now.function.mask < callee.now.words }
     ensures { let c = plain_caller caller.now in
         let f = plain_function callee.now.function in
         let more = statements_for c.words f call.now in
@@ -110,7 +113,7 @@ fn room_after(
 }
 
 /// The function that a call takes in, and the room that is left after it, where it is taken in.
-#[tactic(auto, using(crate::proofs::Growth::taken_found, crate::proofs::Growth::taken_not, crate::proofs::Growth::may_not, crate::proofs::Growth::few_args))]
+#[tactic(auto, using(crate::proofs::Growth::taken_found, crate::proofs::Growth::taken_not, crate::proofs::Growth::may_not, crate::proofs::Growth::few_args, crate::proofs::Growth::mask_there))]
 pub fn taken<'a>(
     caller: &Caller<'a>,
     depth: u32,

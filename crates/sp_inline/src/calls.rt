@@ -2,14 +2,14 @@
 ghost use Rattle.std.specs.Prelude.{◌≡◌, ◌+◌, ◌-◌, ◌<◌, ◌≤◌, ◌^◌, [], length, map, OnOk};
 ghost use Rattle.sp_tree.specs.Plain.{plain_sp, frame_word};
 ghost use Rattle.sp_tree.specs.Shown.{plain_function, plain_stmt, stmts_of};
-ghost use Rattle.sp_tree.specs.Formed.{slots_of};
 ghost use Rattle.sp_tree.specs.Statements.{joined, one, masks};
 ghost use Rattle.sp_inline.specs.Shown.{statements_for};
 ghost use Rattle.sp_inline.specs.Taken as specs;
 ghost use Rattle.sp_inline.specs.Reach.{stmts_reach};
 
+use crate::measured::Measured;
 use crate::moves::add_moved;
-use sp_tree::{SpExpr, SpFunction, SpStmt, SpTarget, copied};
+use sp_tree::{SpExpr, SpStmt, SpTarget, copied};
 use std::alloc::Global;
 use tc_word::OutOfMemory;
 
@@ -88,21 +88,41 @@ fn add_zeros(out: &mut Vec<SpStmt>, from: u32, to: u32) -> Result<(), OutOfMemor
     Ok(())
 }
 
-// so many words from a place on are set to the arguments, and then to 0
+// the words from a place on up to that of the mask are set to the arguments, and then to 0
+fn add_handed(
+    alloc: Global,
+    place: u32,
+    mask: u32,
+    call: &Call<'_>,
+    out: &mut Vec<SpStmt>,
+) -> Result<(), OutOfMemory>
+    requires room { place + mask + 1 < 2 ^ 32 }
+    requires few { length call.now.args.now ≤ mask }
+    ensures { OnOk result (stmts_of out.new.items ≡ joined (stmts_of out.old.items)
+        (specs.begun_words place (mask + 1) (specs.handed mask call.now.mask (map plain_sp call.now.args.now)))) }
+{
+    add_arguments(alloc, place, call.args, out)?;
+    add_zeros(out, place + call.args.len() as u32, place + mask)?;
+    add_copy(out, place + mask, call.mask)
+}
+
+// so many words from a place on are set as the function begins with them
 fn add_begun(
     alloc: Global,
     place: u32,
     words: u32,
-    args: &[SpExpr],
+    mask: u32,
+    call: &Call<'_>,
     out: &mut Vec<SpStmt>,
 ) -> Result<(), OutOfMemory>
     requires room { place + words < 2 ^ 32 }
-    requires few { length args.now ≤ words }
-    ensures { OnOk result (stmts_of out.new.items
-        ≡ joined (stmts_of out.old.items) (specs.begun_words place words (map plain_sp args.now))) }
+    requires mask { mask < words }
+    requires few { length call.now.args.now ≤ mask }
+    ensures { OnOk result (stmts_of out.new.items ≡ joined (stmts_of out.old.items)
+        (specs.begun_words place words (specs.handed mask call.now.mask (map plain_sp call.now.args.now)))) }
 {
-    add_arguments(alloc, place, args, out)?;
-    add_zeros(out, place + args.len() as u32, place + words)
+    add_handed(alloc, place, mask, call, out)?;
+    add_zeros(out, place + mask + 1, place + words)
 }
 
 // under a mask a word is set to another, if one is to be set
@@ -129,26 +149,25 @@ fn add_given(
     }
 }
 
-/// The statements of a function that may name so many words, over the words from a place on, in the place of a call.
+/// The statements of a function, over the words from a place on, in the place of a call.
 pub fn add_call(
     alloc: Global,
     place: u32,
-    words: u32,
-    function: &SpFunction,
+    callee: &Measured,
     call: &Call<'_>,
     out: &mut Vec<SpStmt>,
 ) -> Result<(), OutOfMemory>
-    requires words { words ≡ slots_of (plain_function function.now) }
-    requires room { place + words < 2 ^ 32 }
-    requires few { length call.now.args.now ≤ words }
-    requires reach { stmts_reach (stmts_of function.now.body) ≤ words }
-    requires mask { function.now.mask < words }
-    requires result { function.now.result < words }
+    requires room { place + callee.now.words < 2 ^ 32 }
+    requires few { length call.now.args.now ≤ callee.now.function.mask }
+    requires reach { stmts_reach (stmts_of callee.now.function.body) ≤ callee.now.words }
+    requires mask { callee.now.function.mask < callee.now.words }
+    requires result { callee.now.function.result < callee.now.words }
     ensures { OnOk result (stmts_of out.new.items ≡ joined (stmts_of out.old.items)
-        (statements_for place (plain_function function.now) call.now)) }
+        (statements_for place (plain_function callee.now.function) call.now)) }
 {
-    add_begun(alloc, place, words, call.args, out)?;
-    add_copy(out, place + function.mask, call.mask)?;
-    add_moved(alloc, place, out, function.body.as_slice())?;
+    let function = &callee.function;
+    let statements = &function.body.as_slice()[..callee.kept];
+    add_begun(alloc, place, callee.words, function.mask, call, out)?;
+    add_moved(alloc, place, out, statements)?;
     add_given(out, call.mask, call.result, place + function.result)
 }

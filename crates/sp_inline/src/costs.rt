@@ -1,4 +1,4 @@
-//! How many words the code of statements takes at most. What passes 2^64 - 1 is told as that.
+//! How many words the code of statements takes at most. What passes 2^64 - 1 is counted as that.
 ghost use Rattle.std.specs.Prelude.{◌≡◌, map};
 ghost use Rattle.sp_tree.specs.Cost as specs;
 ghost use Rattle.sp_tree.specs.Plain.{plain_sp};
@@ -52,6 +52,12 @@ fn held_below(op: SpBinary) -> u32
     }
 }
 
+fn constant(value: u32) -> u64
+    ensures { result ≡ specs.constant_cost value }
+{
+    if value < 4096 { 1 } else { 2 }
+}
+
 #[tactic(auto, unfolding(sp_tree::specs::Plain::plain_sp))]
 fn is_held(op: SpBinary, e: &SpExpr) -> bool
     ensures { result ≡ specs.is_held op (plain_sp e.now) }
@@ -67,7 +73,8 @@ fn expression(e: &SpExpr) -> u64
     ensures { result ≡ capped (specs.expr_cost (plain_sp e.now)) }
 {
     match e {
-        SpExpr::Const { .. } | SpExpr::Frame { .. } => 2,
+        SpExpr::Const { value } => constant(*value),
+        SpExpr::Frame { .. } => 2,
         SpExpr::Scalar { .. } => 4,
         SpExpr::Element { index, .. } => expression(index).saturating_add(12),
         SpExpr::Unary { op, of } => expression(of).saturating_add(unary(*op)),
@@ -120,7 +127,7 @@ fn statement(t: &SpStmt) -> u64
             .saturating_add(expression(count))
             .saturating_add(20),
         SpStmt::Overrun { value, .. } => expression(value).saturating_add(6),
-        SpStmt::Turns { body, .. } => cost_of(body.as_slice()).saturating_add(11),
+        SpStmt::Iterations { body, .. } => cost_of(body.as_slice()).saturating_add(11),
     }
 }
 

@@ -10,7 +10,7 @@ ghost use Rattle.sp_tree.specs.Straight.{serves};
 ghost use Rattle.sp_tree.specs.Uses.{Use, uses_of};
 ghost use Rattle.sp_inline.specs.Taken.{first_taken, unit_taken};
 
-/// Calls that are taken in change nothing: a task comes to what it came to, and its functions give what they gave,
+/// Calls that are taken in change nothing: a task gives what it gave, and its functions give what they gave,
 /// whatever the unit, its input and the words of the memories. A law: it does nothing.
 #[tactic(auto, using(crate::proofs::Taking::taken_straight, crate::proofs::Taking::functions_same))]
 pub fn taken_calls_change_nothing()

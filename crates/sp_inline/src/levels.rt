@@ -1,4 +1,4 @@
-//! How many levels of turns stand inside one another.
+//! How many levels of iterations stand inside one another.
 ghost use Rattle.std.specs.Prelude.{◌≡◌};
 ghost use Rattle.sp_tree.specs.Formed.{stmt_levels, stmts_levels};
 ghost use Rattle.sp_tree.specs.Shown.{plain_stmt, stmts_of};
@@ -12,12 +12,12 @@ fn statement(t: &SpStmt) -> u64
     ensures { result ≡ capped (stmt_levels (plain_stmt t.now)) }
 {
     match t {
-        SpStmt::Turns { body, .. } => levels_of(body.as_slice()).saturating_add(1),
+        SpStmt::Iterations { body, .. } => levels_of(body.as_slice()).saturating_add(1),
         _ => 0,
     }
 }
 
-/// How many levels of turns stand inside one another. What passes 2^64 - 1 is told as that.
+/// How many levels of iterations stand inside one another. What passes 2^64 - 1 is counted as that.
 #[cycle(levels)]
 #[tactic(auto)]
 pub fn levels_of(body: &[SpStmt]) -> u64

@@ -1,9 +1,10 @@
 //! Calls in loops of single-path trees, in the place of which the statements of their functions stand.
 //!
 //! A call costs a load of the function's code into the method cache and the words that pass its arguments and its
-//! result, at each turn of the loop that it stands in. So [`take_in`] puts the statements of the function in its place,
-//! over further words of the caller's frame, for as long as the caller keeps to its most words of code and of its
-//! frame. It goes through each function once, and measures each once as it stands and once as it becomes.
+//! result, at each iteration of the loop that it stands in. So [`take_in`] puts the statements of the function in its
+//! place, over further words of the caller's frame, as far as the caller then keeps to its most words of code and of its
+//! frame: of the calls in its loops, from the first on, each for which there is room. It goes through each function once, and
+//! measures each once as it stands and once as it becomes.
 //!
 //! - What is made: `specs/Taken.antt`, over statements that are moved (`specs/Moved.antt`) and the words and functions
 //!   that they name (`specs/Reach.antt`). [`take_in`] makes exactly that, of every unit.
@@ -17,6 +18,7 @@ mod callees;
 mod callers;
 mod calls;
 mod costs;
+mod endings;
 mod laws;
 mod levels;
 mod measured;

@@ -2,7 +2,7 @@
 ghost use Rattle.std.specs.Prelude.{◌≡◌, ◌+◌, ◌<◌, ◌^◌, map, IfOk, OnOk};
 ghost use Rattle.sp_tree.specs.Plain.{plain_sp};
 ghost use Rattle.sp_tree.specs.Shown.{plain_sp_target, plain_stmt, stmts_of};
-ghost use Rattle.sp_tree.specs.Statements.{joined, turns};
+ghost use Rattle.sp_tree.specs.Statements.{joined, iterations};
 ghost use Rattle.sp_inline.specs.Moved as specs;
 ghost use Rattle.sp_inline.specs.Reach.{expr_reach, args_reach, target_reach, result_reach, stmt_reach, stmts_reach};
 
@@ -131,24 +131,29 @@ pub fn moved_statement(alloc: Global, place: u32, t: &SpStmt) -> Result<SpStmt, 
             mask: place + *mask,
             value: moved(alloc, place, value)?,
         }),
-        SpStmt::Turns { count, body } => moved_turns(alloc, place, *count, body.as_slice()),
+        SpStmt::Iterations { count, body } => moved_iterations(
+            alloc,
+            place,
+            *count,
+            body.as_slice(),
+        ),
     }
 }
 
 #[cycle(moving)]
-#[tactic(auto, using(sp_tree::proofs::Forms::plain_turns))]
-fn moved_turns(
+#[tactic(auto, using(sp_tree::proofs::Forms::plain_iterations))]
+fn moved_iterations(
     alloc: Global,
     place: u32,
     count: u32,
     body: &[SpStmt],
 ) -> Result<SpStmt, OutOfMemory>
     requires { place + stmts_reach (stmts_of body.now) < 2 ^ 32 }
-    ensures { IfOk result (λ m. plain_stmt m ≡ turns count (specs.stmts_moved place (stmts_of body.now))) }
+    ensures { IfOk result (λ m. plain_stmt m ≡ iterations count (specs.stmts_moved place (stmts_of body.now))) }
 {
     let mut inner = Vec::new(alloc);
     add_moved(alloc, place, &mut inner, body)?;
-    Ok(SpStmt::Turns {
+    Ok(SpStmt::Iterations {
         count,
         body: List::of(inner),
     })

@@ -82,7 +82,7 @@ fn statement(t: &SpStmt) -> u64
             count,
         )))),
         SpStmt::Overrun { mask, value } => (u64::from(*mask) + 1).max(expression(value)),
-        SpStmt::Turns { body, .. } => reach_of(body.as_slice()),
+        SpStmt::Iterations { body, .. } => reach_of(body.as_slice()),
     }
 }
 

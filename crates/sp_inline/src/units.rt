@@ -6,7 +6,6 @@ ghost use Rattle.sp_tree.specs.Shown.{plain_function, functions_of, plain_unit, 
 ghost use Rattle.sp_inline.specs.Shown.{measured_functions};
 ghost use Rattle.sp_inline.specs.Taken as specs;
 
-use crate::callees::loops_call;
 use crate::callers::Caller;
 use crate::levels::levels_of;
 use crate::measured::Measured;
@@ -79,28 +78,6 @@ fn take_body(
     Ok((body, left))
 }
 
-// the same, where all calls in its loops are taken in; else none is
-#[tactic(auto, using(crate::proofs::InOrder::all_taken, crate::proofs::InOrder::none_taken))]
-fn take_all_or_none(
-    alloc: Global,
-    earlier: &[Measured],
-    most: u32,
-    frame: u32,
-    own: &Measured,
-) -> Result<(Vec<SpStmt>, Room), OutOfMemory>
-    requires { specs.is_whole (length earlier.now) (plain_function own.now.function) ≡ true }
-    ensures { let fs = measured_functions earlier.now in
-        let f = plain_function own.now.function in
-        IfOk result (λ taken. specs.with_room (stmts_of taken.0.items) taken.1
-        ≡ specs.body_taken fs most (specs.frame_for fs most frame f) f) }
-{
-    let taken = take_body(alloc, earlier, most, frame, own)?;
-    if !loops_call(taken.0.as_slice()) {
-        return Ok(taken);
-    }
-    take_body(alloc, earlier, most, 0, own)
-}
-
 // the function with these statements
 fn take_whole(
     alloc: Global,
@@ -113,9 +90,9 @@ fn take_whole(
     ensures { let fs = measured_functions earlier.now in
         let f = plain_function own.function in
         IfOk result (λ m. plain_function m.function
-        ≡ specs.grown f (specs.body_taken fs most (specs.frame_for fs most frame f) f)) }
+        ≡ specs.grown f (specs.body_taken fs most frame f)) }
 {
-    let (body, left) = take_all_or_none(alloc, earlier, most, frame, &own)?;
+    let (body, left) = take_body(alloc, earlier, most, frame, &own)?;
     let Measured { function, .. } = own;
     Ok(Measured::of(grown(function, left.words, body)))
 }

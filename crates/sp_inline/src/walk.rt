@@ -2,7 +2,7 @@
 ghost use Rattle.std.specs.Prelude.{◌≡◌, ◌+◌, ◌<◌, ◌≤◌, ◌^◌, IfOk, OnOk};
 ghost use Rattle.sp_tree.specs.Formed.{stmt_levels, stmts_levels};
 ghost use Rattle.sp_tree.specs.Shown.{plain_stmt, stmts_of};
-ghost use Rattle.sp_tree.specs.Statements.{joined, one, calls, turns};
+ghost use Rattle.sp_tree.specs.Statements.{joined, one, calls, iterations};
 ghost use Rattle.sp_inline.specs.Reach.{stmt_reach, stmts_reach};
 ghost use Rattle.sp_inline.specs.Shown.{plain_caller, args_of};
 ghost use Rattle.sp_inline.specs.Taken as specs;
@@ -26,13 +26,13 @@ fn keep(alloc: Global, room: Room, out: &mut Vec<SpStmt>, t: &SpStmt) -> Result<
     Ok(room)
 }
 
-// turns, of statements that are made already
-#[tactic(auto, using(sp_tree::proofs::Forms::plain_turns))]
-fn add_turns(out: &mut Vec<SpStmt>, count: u32, body: List<SpStmt>) -> Result<(), OutOfMemory>
+// iterations, of statements that are made already
+#[tactic(auto, using(sp_tree::proofs::Forms::plain_iterations))]
+fn add_iterations(out: &mut Vec<SpStmt>, count: u32, body: List<SpStmt>) -> Result<(), OutOfMemory>
     ensures { OnOk result (stmts_of out.new.items
-        ≡ joined (stmts_of out.old.items) (one (turns count (stmts_of body)))) }
+        ≡ joined (stmts_of out.old.items) (one (iterations count (stmts_of body)))) }
 {
-    add(out, SpStmt::Turns { count, body })
+    add(out, SpStmt::Iterations { count, body })
 }
 
 // a call in loops of this depth, which is taken in or stays
@@ -56,14 +56,7 @@ fn take_call(
     match taken(caller, depth, room, call) {
         None => keep(alloc, room, out, t),
         Some((callee, after)) => {
-            add_call(
-                alloc,
-                caller.words,
-                callee.words,
-                &callee.function,
-                call,
-                out,
-            )?;
+            add_call(alloc, caller.words, callee, call, out)?;
             Ok(after)
         }
     }
@@ -103,7 +96,7 @@ fn take_statement(
             };
             take_call(caller, depth, room, out, t, &call)
         }
-        SpStmt::Turns { count, body } => {
+        SpStmt::Iterations { count, body } => {
             let mut inside = Vec::new(alloc);
             let after = take_statements(
                 alloc,
@@ -113,7 +106,7 @@ fn take_statement(
                 &mut inside,
                 body.as_slice(),
             )?;
-            add_turns(out, *count, List::of(inside))?;
+            add_iterations(out, *count, List::of(inside))?;
             Ok(after)
         }
         _ => keep(alloc, room, out, t),

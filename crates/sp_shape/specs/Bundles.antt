@@ -64,9 +64,9 @@ abbrev pub is_idle : Slots → Bool
 is_idle b = is_always b.first.guard && (is_idle_op b.first.op && is_none b.second)
 
 -- what stands after the flow of a tail
-abbrev pub turn_idles : List Slots → Bool
-turn_idles [] = true
-turn_idles (b ∷ bs) = if is_branch b.first.op then list_all is_idle bs else turn_idles bs
+abbrev pub iteration_idles : List Slots → Bool
+iteration_idles [] = true
+iteration_idles (b ∷ bs) = if is_branch b.first.op then list_all is_idle bs else iteration_idles bs
 
 abbrev pub way_idles : List Slots → Bool
 way_idles [] = true
@@ -75,7 +75,7 @@ way_idles (b ∷ bs) = list_all is_idle bs
 abbrev mutual
   pub part_idle : PlainPart → Bool
   part_idle (straight bs) = true
-  part_idle (repeats count body tail) = parts_idle body && turn_idles tail
+  part_idle (repeats count body tail) = parts_idle body && iteration_idles tail
   part_idle (calls_to k tail) = way_idles tail
   part_idle (leaves tail) = way_idles tail
 

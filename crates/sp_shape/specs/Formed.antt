@@ -1,5 +1,5 @@
 -- To be believed. Well-formed shapes: flows stand where their parts say and nowhere else, loops have
--- turns, and each function calls earlier ones and ends with its return (our own profile TP1, after the
+-- iterations, and each function calls earlier ones and ends with its return (our own profile TP1, after the
 -- delay slots of the Patmos Reference Handbook).
 use Rattle.std.specs.Prelude.{ℕ, zero, suc, ◌==◌, nat_lt, nat_le, Bool, true, false, not, ◌&&◌, List, [], ◌∷◌, length, slice_index_or, if◌then◌else◌}
 use Rattle.patmos_instr.specs.Bundles.{Slots}
@@ -46,9 +46,9 @@ are_delay_slots count bs = (length bs == count) && are_calm bs
 -- ---- tails
 
 -- bundles without a flow, a branch, and its two delay slots
-abbrev pub is_turn : List Slots → Bool
-is_turn [] = false
-is_turn (b ∷ bs) = if is_branch b.first.op then are_delay_slots 2 bs else (not (is_flow b.first.op) && is_turn bs)
+abbrev pub is_iteration : List Slots → Bool
+is_iteration [] = false
+is_iteration (b ∷ bs) = if is_branch b.first.op then are_delay_slots 2 bs else (not (is_flow b.first.op) && is_iteration bs)
 
 -- a flow that is always taken, and its three delay slots
 abbrev pub is_way : (Op → Bool) → List Slots → Bool
@@ -60,7 +60,7 @@ is_way is_it (b ∷ bs) = is_it b.first.op && (is_always b.first.guard && are_de
 abbrev mutual
   pub part_formed : ℕ → PlainPart → Bool
   part_formed number (straight bs) = are_calm bs
-  part_formed number (repeats count body tail) = nat_lt 0 count && (parts_formed number body && is_turn tail)
+  part_formed number (repeats count body tail) = nat_lt 0 count && (parts_formed number body && is_iteration tail)
   part_formed number (calls_to k tail) = nat_lt k number && is_way is_call tail
   part_formed number (leaves tail) = false
 

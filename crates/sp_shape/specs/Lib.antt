@@ -7,5 +7,5 @@ pub mod Run
 pub mod Shown
 pub mod Small
 pub mod Trail
-pub mod Turning
+pub mod Iterating
 pub mod Words

@@ -16,7 +16,7 @@ unfoldable mutual
   plain_row end_of-Part = no_part
   plain_row (more_of-Part p rest) = part (plain_part p) (plain_row rest)
 
--- the same of plain lists
+-- plain parts of a plain list
 abbrev pub parts_of : List Part → PlainParts
 parts_of [] = no_part
 parts_of (p ∷ rest) = part (plain_part p) (parts_of rest)

@@ -49,7 +49,7 @@ return = under always Return ∷ idle ∷ idle ∷ idle ∷ []
 abbrev pub empty : PlainParts
 empty = one (leaves return)
 
--- one that adds 1, does three turns in which it calls the one of a number, and adds 2
+-- one that adds 1, does three iterations in which it calls the one of a number, and adds 2
 abbrev pub caller : ℕ → PlainParts
 caller k =
     part (straight (add 1 ∷ [])) (part (repeats 3 (one (calls_to k call)) again) (part (straight (add 2 ∷ [])) empty))

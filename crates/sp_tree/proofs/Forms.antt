@@ -7,25 +7,25 @@ use Rattle.sp_tree.specs.declared.expressions.SpExpr.{SpExpr}
 use Rattle.sp_tree.specs.declared.expressions.SpTarget.{SpTarget}
 use Rattle.sp_tree.specs.declared.statements.SpFunction.{SpFunction}
 use Rattle.sp_tree.specs.declared.statements.SpStmt.{SpStmt, Mask, Write, Call}
-use Rattle.sp_tree.specs.declared.statements.SpStmt.TheViews.{Turns}
+use Rattle.sp_tree.specs.declared.statements.SpStmt.TheViews.{Iterations}
 use Rattle.sp_tree.specs.declared.statements.SpStmt.TheBlock.{hidden-the_row-SpStmt-0}
 use Rattle.sp_tree.specs.Formed.{names_words, expr_formed, args_formed, target_formed, result_formed, callee_formed, send_formed, stmt_formed, stmts_formed, slots_of, function_formed, functions_formed, array_formed}
 use Rattle.sp_tree.specs.Need.{need}
 use Rattle.sp_tree.specs.Plain.{PlainSp, constant, frame_word, cell_word, array_word, before_one, between_two, plain_sp}
 use Rattle.sp_tree.specs.Shown.{plain_stmt, plain_row, plain_sp_target, stmts_of, plain_function, functions_of}
 use Rattle.sp_tree.specs.Sizes.{stmt_size, stmts_size, total}
-use Rattle.sp_tree.specs.Statements.{PlainSpTarget, to_slot, to_cell, to_array, PlainStmt, masks, writes, calls, transfers, overruns, turns, PlainStmts, no_stmt, stmt, PlainFunction, no_function}
+use Rattle.sp_tree.specs.Statements.{PlainSpTarget, to_slot, to_cell, to_array, PlainStmt, masks, writes, calls, transfers, overruns, iterations, PlainStmts, no_stmt, stmt, PlainFunction, no_function}
 
--- ---- turns by the list of their statements
+-- ---- iterations by the list of their statements
 
 row_stmts : (body : List SpStmt) → plain_row (hidden-the_row-SpStmt-0 body) ≡ stmts_of body
 unfolding plain_stmt plain_row hidden-the_row-SpStmt-0 hidden
 row_stmts [] = refl
 row_stmts (t ∷ body) = ap (stmt (plain_stmt t)) (row_stmts body)
 
-pub plain_turns : (count : ℕ) (body : List SpStmt) → plain_stmt (Turns count body) ≡ turns count (stmts_of body)
+pub plain_iterations : (count : ℕ) (body : List SpStmt) → plain_stmt (Iterations count body) ≡ iterations count (stmts_of body)
 unfolding plain_stmt
-plain_turns count body = ap (turns count) (row_stmts body)
+plain_iterations count body = ap (iterations count) (row_stmts body)
 
 -- ---- more words of a frame
 
@@ -100,7 +100,7 @@ mutual
   more_stmt fs number slots width (overruns mask e) more h =
       let both = and_parts (nat_lt mask slots) (expr_formed slots e) h in
       and_from (nat_lt mask width) (expr_formed width e) (more_slot slots width mask more both.0) (more_expr slots width e more both.1)
-  more_stmt fs number slots width (turns count body) more h =
+  more_stmt fs number slots width (iterations count body) more h =
       let both = and_parts (nat_lt 0 count) (stmts_formed fs number slots body) h in
       and_from (nat_lt 0 count) (stmts_formed fs number width body) both.0 (more_stmts fs number slots width body more both.1)
 
@@ -151,11 +151,11 @@ call_part fs number slots t mask k args given is h =
       set = (and_parts (args_formed slots (map plain_sp args)) (result_formed slots given) b.1).1;
     }
 
-pub turns_part : (fs : List PlainFunction) (number slots : ℕ) (t : SpStmt) (count : ℕ) (body : List SpStmt) → t ≡ Turns count body
+pub iterations_part : (fs : List PlainFunction) (number slots : ℕ) (t : SpStmt) (count : ℕ) (body : List SpStmt) → t ≡ Iterations count body
     → stmt_formed fs number slots (plain_stmt t) ≡ true → stmts_formed fs number slots (stmts_of body) ≡ true
-turns_part fs number slots t count body is h =
+iterations_part fs number slots t count body is h =
     (and_parts (nat_lt 0 count) (stmts_formed fs number slots (stmts_of body))
-    (ap (stmt_formed fs number slots) (sym (plain_turns count body)) ∙ ap (λ x. stmt_formed fs number slots (plain_stmt x)) (sym is) ∙ h)).1
+    (ap (stmt_formed fs number slots) (sym (plain_iterations count body)) ∙ ap (λ x. stmt_formed fs number slots (plain_stmt x)) (sym is) ∙ h)).1
 
 pub item_part : (fs : List PlainFunction) (number slots : ℕ) (stmts : List SpStmt) (i : ℕ) (t : SpStmt) → i < length stmts → t ≡ get_or stmts i t
     → stmts_formed fs number slots (stmts_of stmts) ≡ true → stmt_formed fs number slots (plain_stmt t) ≡ true
@@ -236,8 +236,8 @@ pub call_size : (t : SpStmt) (mask k : ℕ) (args : List SpExpr) (given : Option
 unfolding plain_stmt
 call_size t mask k args given is = ap (λ x. stmt_size (plain_stmt x)) is
 
-pub turns_size : (t : SpStmt) (count : ℕ) (body : List SpStmt) → t ≡ Turns count body → stmt_size (plain_stmt t) ≡ 2 + stmts_size (stmts_of body)
-turns_size t count body is = ap (λ x. stmt_size (plain_stmt x)) is ∙ ap stmt_size (plain_turns count body)
+pub iterations_size : (t : SpStmt) (count : ℕ) (body : List SpStmt) → t ≡ Iterations count body → stmt_size (plain_stmt t) ≡ 2 + stmts_size (stmts_of body)
+iterations_size t count body is = ap (λ x. stmt_size (plain_stmt x)) is ∙ ap stmt_size (plain_iterations count body)
 
 pub item_size : (stmts : List SpStmt) (i : ℕ) (t : SpStmt) → i < length stmts → t ≡ get_or stmts i t → stmt_size (plain_stmt t) < stmts_size (stmts_of stmts)
 item_size [] i t within is = absurd (omega arith)

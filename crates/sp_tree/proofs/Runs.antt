@@ -10,16 +10,16 @@ use Rattle.sp_tree.specs.declared.statements.SpStmt.{SpStmt}
 use Rattle.sp_tree.specs.Ran.{state_of, HasDone, HasGiven}
 use Rattle.sp_tree.specs.Shown.{plain_stmt, stmts_of}
 use Rattle.sp_tree.specs.Statements.{PlainStmt, PlainStmts, stmt, PlainFunction, no_function}
-use Rattle.sp_tree.specs.Straight.{State, Given, Serves, where_on, times, stmt_done, stmts_done, begun_frame, function_given, serves}
+use Rattle.sp_tree.specs.Straight.{State, Outcome, Serves, where_on, times, stmt_done, stmts_done, begun_frame, function_outcome, serves}
 
 -- ---- an end, and what is yet to be done
 
 pub has_done : (s : State) (frame : List ℕ) (memory : Memory) (sends : List Sending) → s ≡ state_of frame memory sends → HasDone s frame memory
 has_done s frame memory sends is = record { ends = is ∙ ap (state_of frame memory) (sym (ap (λ (t : State). t.world.sends) is)) }
 
-pub has_given : (g : Given) (n : ℕ) (memory : Memory) (sends : List Sending) → g ≡ record { value = n; world = shown memory sends } → HasGiven g n memory
+pub has_given : (g : Outcome) (n : ℕ) (memory : Memory) (sends : List Sending) → g ≡ record { value = n; world = shown memory sends } → HasGiven g n memory
 has_given g n memory sends is = record {
-  gives = is ∙ ap (λ x. let t : Given = record { value = n; world = shown memory x } in t) (sym (ap (λ (t : Given). t.world.sends) is));
+  gives = is ∙ ap (λ x. let t : Outcome = record { value = n; world = shown memory x } in t) (sym (ap (λ (t : Outcome). t.world.sends) is));
 }
 
 -- from these words on, it ends as the whole does
@@ -73,35 +73,35 @@ pub at_the_end : (g : Serves) (d : State) (stmts : List SpStmt) (i : ℕ) (f : L
 at_the_end g d stmts i f m past r =
     has_done d f m r.sends (r.same ∙ ap (λ ts. stmts_done g (stmts_of ts) (state_of f m r.sends)) (drop_all i stmts past))
 
--- ---- turns
+-- ---- iterations
 
-pub another_turn : (b : State → State) (d : State) (n k : ℕ) (f : List ℕ) (m : Memory) → n ≡ k → Reaches d (times n b) f m → Reaches d (times k b) f m
-another_turn b d n k f m same r = record { sends = r.sends; same = r.same ∙ ap (λ j. times j b (state_of f m r.sends)) same }
+pub another_iteration : (b : State → State) (d : State) (n k : ℕ) (f : List ℕ) (m : Memory) → n ≡ k → Reaches d (times n b) f m → Reaches d (times k b) f m
+another_iteration b d n k f m same r = record { sends = r.sends; same = r.same ∙ ap (λ j. times j b (state_of f m r.sends)) same }
 
-pub next_turn : (b : State → State) (d : State) (n : ℕ) (f : List ℕ) (m : Memory) (f' : List ℕ) (m' : Memory)
+pub next_iteration : (b : State → State) (d : State) (n : ℕ) (f : List ℕ) (m : Memory) (f' : List ℕ) (m' : Memory)
     → Reaches d (times (suc n) b) f m → ((sends : List Sending) → HasDone (b (state_of f m sends)) f' m') → Reaches d (times n b) f' m'
-next_turn b d n f m f' m' r h = record {
+next_iteration b d n f m f' m' r h = record {
   sends = (b (state_of f m r.sends)).world.sends;
   same = r.same ∙ ap (times n b) (h r.sends).ends;
 }
 
-pub all_turned : (b : State → State) (d : State) (f : List ℕ) (m : Memory) → Reaches d (times zero b) f m → HasDone d f m
-all_turned b d f m r = has_done d f m r.sends r.same
+pub all_iterated : (b : State → State) (d : State) (f : List ℕ) (m : Memory) → Reaches d (times zero b) f m → HasDone d f m
+all_iterated b d f m r = has_done d f m r.sends r.same
 
 -- ---- functions
 
 pub serves_own : (fs : List PlainFunction) (k n mask : ℕ) (args : List ℕ) (w : World) → k < n
-    → serves fs n k mask args w ≡ function_given (serves fs k) (slice_index_or fs k no_function) mask args w
+    → serves fs n k mask args w ≡ function_outcome (serves fs k) (slice_index_or fs k no_function) mask args w
 serves_own fs k zero mask args w below = absurd (omega arith)
 serves_own fs k (suc n) mask args w below = elim (cases_lt k n) [
   | inl less ↦
       let other : k ≢ n = omega arith in
-      ap (λ b. if b then function_given (serves fs n) (slice_index_or fs n no_function) mask args w else serves fs n k mask args w) (ne_eqb k n other)
+      ap (λ b. if b then function_outcome (serves fs n) (slice_index_or fs n no_function) mask args w else serves fs n k mask args w) (ne_eqb k n other)
       ∙ serves_own fs k n mask args w less
   | inr more ↦
       let same : n ≡ k = omega arith in
-      ap (λ b. if b then function_given (serves fs n) (slice_index_or fs n no_function) mask args w else serves fs n k mask args w) (eq-eqb k n (sym same))
-      ∙ ap (λ j. function_given (serves fs j) (slice_index_or fs j no_function) mask args w) same
+      ap (λ b. if b then function_outcome (serves fs n) (slice_index_or fs n no_function) mask args w else serves fs n k mask args w) (eq-eqb k n (sym same))
+      ∙ ap (λ j. function_outcome (serves fs j) (slice_index_or fs j no_function) mask args w) same
 ]
 
 -- the function of a number, run on its own frame
@@ -112,10 +112,10 @@ pub body_given : (fs : List PlainFunction) (k n mask : ℕ) (args own : List ℕ
 body_given fs k n mask args own m sends run own' m' below is_run frame h =
     let done = stmts_done (serves fs k) run.body (state_of own m sends) in
     has_given (serves fs n k mask args (shown m sends)) (slice_index own' run.result) m' done.world.sends
-    (serves_own fs k n mask args (shown m sends) below ∙ ap (λ f. function_given (serves fs k) f mask args (shown m sends)) is_run
+    (serves_own fs k n mask args (shown m sends) below ∙ ap (λ f. function_outcome (serves fs k) f mask args (shown m sends)) is_run
     ∙ ap (λ words. let s = stmts_done (serves fs k) run.body (record { frame = words; world = shown m sends }) in
-    let t : Given = record { value = s.frame run.result; world = s.world } in t) (sym frame)
-    ∙ ap (λ (s : State). let t : Given = record { value = s.frame run.result; world = s.world } in t) h.ends)
+    let t : Outcome = record { value = s.frame run.result; world = s.world } in t) (sym frame)
+    ∙ ap (λ (s : State). let t : Outcome = record { value = s.frame run.result; world = s.world } in t) h.ends)
 
 -- a send changes no word
 pub sent : (mask core source target count : ℕ) (f : List ℕ) (m : Memory) (sends : List Sending)

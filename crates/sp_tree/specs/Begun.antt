@@ -3,7 +3,7 @@ use Rattle.std.specs.Prelude.{ℕ, ◌-◌, nat_lt, nat_le, false, ◌&&◌, if�
 use Rattle.c_world.specs.World.{World}
 use Rattle.local_store.specs.declared.store.TheConstants.{FIRST_DATA_WORD}
 use Rattle.sp_tree.specs.Statements.{PlainUnit}
-use Rattle.sp_tree.specs.Straight.{Given, serves}
+use Rattle.sp_tree.specs.Straight.{Outcome, serves}
 
 -- words that lie over others, from a place on and as far as their room reaches
 abbrev pub laid : ℕ → ℕ → List ℕ → (ℕ → ℕ) → ℕ → ℕ
@@ -31,9 +31,9 @@ begun u input shared comm = record {
 }
 
 -- what a task comes to on its input: what its entry gives under the mask 1, and the world after it
-abbrev pub straight : PlainUnit → List ℕ → (ℕ → ℕ) → (ℕ → ℕ) → Given
+abbrev pub straight : PlainUnit → List ℕ → (ℕ → ℕ) → (ℕ → ℕ) → Outcome
 straight u input shared comm = serves u.functions (length u.functions) u.entry 1 [] (begun u input shared comm)
 
--- the same where these words are 0
-abbrev pub straight_alone : PlainUnit → List ℕ → Given
+-- what a task comes to where the shared words and those for sending are 0
+abbrev pub straight_alone : PlainUnit → List ℕ → Outcome
 straight_alone u input = straight u input (λ _. 0) (λ _. 0)

@@ -6,7 +6,7 @@ use Rattle.sp_tree.specs.declared.operators.SpBinary.TheVariants as binary
 use Rattle.sp_tree.specs.declared.operators.SpUnary.{SpUnary}
 use Rattle.sp_tree.specs.declared.operators.SpUnary.TheVariants as unary
 use Rattle.sp_tree.specs.Plain.{PlainSp, constant, frame_word, cell_word, array_word, before_one, between_two}
-use Rattle.sp_tree.specs.Statements.{PlainSpTarget, to_slot, to_cell, to_array, PlainStmt, masks, writes, calls, transfers, overruns, turns, PlainStmts, no_stmt, stmt, PlainFunction}
+use Rattle.sp_tree.specs.Statements.{PlainSpTarget, to_slot, to_cell, to_array, PlainStmt, masks, writes, calls, transfers, overruns, iterations, PlainStmts, no_stmt, stmt, PlainFunction}
 
 -- ---- expressions
 
@@ -17,7 +17,7 @@ unary_cost unary.Complement = 1
 unary_cost unary.Not = 3
 
 -- `||` and `&&` compare both operands with 0, and join what comes of it; a comparison sets 0 and, under its predicate,
--- 1; a product is fetched from a register of its own; quotients and remainders take at most 16 turns
+-- 1; a product is fetched from a register of its own; quotients and remainders take at most 16 iterations
 abbrev pub binary_cost : SpBinary → ℕ
 binary_cost binary.Or = 5
 binary_cost binary.And = 5
@@ -50,10 +50,14 @@ abbrev pub is_held : SpBinary → PlainSp → Bool
 is_held op (constant n) = nat_lt n (held_below op)
 is_held op _ = false
 
--- a constant is an instruction of two words; a word of the frame a load; a word of a memory its address and a load; an
--- element the test of its index, its address and a load, with 0 in its place where the test fails
+-- a constant is an instruction, which has 12 bits for it in its one word, or a second word
+abbrev pub constant_cost : ℕ → ℕ
+constant_cost n = if nat_lt n 4096 then 1 else 2
+
+-- a word of the frame is a load; a word of a memory its address and a load; an element the test of its index, its address
+-- and a load, with 0 in its place where the test fails
 abbrev pub expr_cost : PlainSp → ℕ
-expr_cost (constant n) = 2
+expr_cost (constant n) = constant_cost n
 expr_cost (frame_word slot) = 2
 expr_cost (cell_word cell) = 4
 expr_cost (array_word array index) = 12 + expr_cost index
@@ -79,7 +83,7 @@ abbrev mutual
   stmt_cost (calls mask k args result) = 16 + args_cost args
   stmt_cost (transfers mask core source target count) = 20 + expr_cost source + expr_cost target + expr_cost count
   stmt_cost (overruns mask e) = 6 + expr_cost e
-  stmt_cost (turns count body) = 11 + stmts_cost body
+  stmt_cost (iterations count body) = 11 + stmts_cost body
 
   pub stmts_cost : PlainStmts → ℕ
   stmts_cost no_stmt = 0

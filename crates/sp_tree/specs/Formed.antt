@@ -12,7 +12,7 @@ use Rattle.sp_tree.specs.declared.limits.TheConstants.{MOST_FRAME, MOST_FUNCTION
 use Rattle.sp_tree.specs.Need.{need}
 use Rattle.sp_tree.specs.Plain.{PlainSp, constant, frame_word, cell_word, array_word, before_one, between_two}
 use Rattle.sp_tree.specs.Uses.{uses_of, are_apart}
-use Rattle.sp_tree.specs.Statements.{PlainSpTarget, to_slot, to_cell, to_array, PlainStmt, masks, writes, calls, transfers, overruns, turns, PlainStmts, no_stmt, stmt, PlainFunction, no_function, PlainUnit}
+use Rattle.sp_tree.specs.Statements.{PlainSpTarget, to_slot, to_cell, to_array, PlainStmt, masks, writes, calls, transfers, overruns, iterations, PlainStmts, no_stmt, stmt, PlainFunction, no_function, PlainUnit}
 
 -- ---- words of memories
 
@@ -79,7 +79,7 @@ abbrev mutual
   stmt_formed fs number slots (transfers mask core source target count) =
       nat_lt mask slots && send_formed slots core source target count
   stmt_formed fs number slots (overruns mask e) = nat_lt mask slots && expr_formed slots e
-  stmt_formed fs number slots (turns count body) = nat_lt 0 count && stmts_formed fs number slots body
+  stmt_formed fs number slots (iterations count body) = nat_lt 0 count && stmts_formed fs number slots body
 
   pub stmts_formed : List PlainFunction → ℕ → ℕ → PlainStmts → Bool
   stmts_formed fs number slots no_stmt = true
@@ -87,17 +87,17 @@ abbrev mutual
 
 -- ---- functions
 
--- how many levels of turns stand inside one another
+-- how many levels of iterations stand inside one another
 abbrev mutual
   pub stmt_levels : PlainStmt → ℕ
-  stmt_levels (turns count body) = 1 + stmts_levels body
+  stmt_levels (iterations count body) = 1 + stmts_levels body
   stmt_levels _ = 0
 
   pub stmts_levels : PlainStmts → ℕ
   stmts_levels no_stmt = 0
   stmts_levels (stmt t rest) = max (stmt_levels t) (stmts_levels rest)
 
--- the last words of a frame are for code: one for the turns of each level, and two for the place to which the function
+-- the last words of a frame are for code: one for the iterations of each level, and two for the place to which the function
 -- returns. A tree names the words below them
 abbrev pub slots_of : PlainFunction → ℕ
 slots_of f = f.frame - (stmts_levels f.body + 2)

@@ -3,7 +3,7 @@ use Rattle.std.specs.Prelude.{◌≡◌, ℕ, List, slice_index}
 use Rattle.c_world.specs.World.{Sending}
 use Rattle.c_world.specs.Shown.{shown}
 use Rattle.c_world.specs.declared.memory.Memory.{Memory}
-use Rattle.sp_tree.specs.Straight.{State, Given}
+use Rattle.sp_tree.specs.Straight.{State, Outcome}
 
 -- the words of a frame and of memories, where these sends were started
 abbrev pub state_of : List ℕ → Memory → List Sending → State
@@ -14,5 +14,5 @@ pub record HasDone (s : State) (frame : List ℕ) (memory : Memory) : Type 0 whe
   pub ends : s ≡ state_of frame memory s.world.sends
 
 -- a function gave this word, and left these words
-pub record HasGiven (g : Given) (value : ℕ) (memory : Memory) : Type 0 where
+pub record HasGiven (g : Outcome) (value : ℕ) (memory : Memory) : Type 0 where
   pub gives : g ≡ record { value = value; world = shown memory g.world.sends }

@@ -1,10 +1,10 @@
 -- To be believed. What statements, functions and units say, without the places of their boxes in memory.
 use Rattle.std.specs.Prelude.{List, [], ◌∷◌, map}
 use Rattle.sp_tree.specs.Plain.{plain_sp}
-use Rattle.sp_tree.specs.Statements.{PlainSpTarget, to_slot, to_cell, to_array, PlainStmt, masks, writes, calls, transfers, overruns, turns, PlainStmts, no_stmt, stmt, PlainFunction, PlainUnit}
+use Rattle.sp_tree.specs.Statements.{PlainSpTarget, to_slot, to_cell, to_array, PlainStmt, masks, writes, calls, transfers, overruns, iterations, PlainStmts, no_stmt, stmt, PlainFunction, PlainUnit}
 use Rattle.sp_tree.specs.declared.expressions.SpTarget.{SpTarget}
 use Rattle.sp_tree.specs.declared.expressions.SpTarget.TheVariants as target
-use Rattle.sp_tree.specs.declared.statements.SpStmt.{SpStmt, Mask, Write, Call, Send, Overrun, Turns'}
+use Rattle.sp_tree.specs.declared.statements.SpStmt.{SpStmt, Mask, Write, Call, Send, Overrun, Iterations'}
 use Rattle.sp_tree.specs.declared.statements.SpStmt.TheBlock.{Row_of-SpStmt, end_of-SpStmt, more_of-SpStmt}
 use Rattle.sp_tree.specs.declared.statements.SpFunction.{SpFunction}
 use Rattle.sp_tree.specs.declared.statements.SpUnit.{SpUnit}
@@ -21,13 +21,13 @@ unfoldable mutual
   plain_stmt (Call mask k args given) = calls mask k (map plain_sp args) given
   plain_stmt (Send mask core source aim count) = transfers mask core (plain_sp source) (plain_sp aim) (plain_sp count)
   plain_stmt (Overrun mask e) = overruns mask (plain_sp e)
-  plain_stmt (Turns' count l body) = turns count (plain_row body)
+  plain_stmt (Iterations' count l body) = iterations count (plain_row body)
 
   pub plain_row : {n : _} → Row_of-SpStmt n → PlainStmts
   plain_row end_of-SpStmt = no_stmt
   plain_row (more_of-SpStmt t rest) = stmt (plain_stmt t) (plain_row rest)
 
--- the same of plain lists
+-- plain statements of a plain list
 abbrev pub stmts_of : List SpStmt → PlainStmts
 stmts_of [] = no_stmt
 stmts_of (t ∷ rest) = stmt (plain_stmt t) (stmts_of rest)

@@ -1,6 +1,6 @@
 -- For proofs. How large statements are: a run goes from larger to smaller ones.
 use Rattle.std.specs.Prelude.{ℕ, zero, suc, ◌+◌, List, slice_index_or}
-use Rattle.sp_tree.specs.Statements.{PlainStmt, masks, writes, calls, transfers, overruns, turns, PlainStmts, no_stmt, stmt, PlainFunction, no_function}
+use Rattle.sp_tree.specs.Statements.{PlainStmt, masks, writes, calls, transfers, overruns, iterations, PlainStmts, no_stmt, stmt, PlainFunction, no_function}
 
 abbrev mutual
   pub stmt_size : PlainStmt → ℕ
@@ -9,7 +9,7 @@ abbrev mutual
   stmt_size (calls mask k args result) = 2
   stmt_size (transfers mask core source target count) = 1
   stmt_size (overruns mask e) = 1
-  stmt_size (turns count body) = 2 + stmts_size body
+  stmt_size (iterations count body) = 2 + stmts_size body
 
   pub stmts_size : PlainStmts → ℕ
   stmts_size no_stmt = 1

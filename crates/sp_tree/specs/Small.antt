@@ -9,7 +9,7 @@ use Rattle.sp_tree.specs.declared.expressions.SpCell.{SpCell}
 use Rattle.sp_tree.specs.declared.operators.SpBinary.TheVariants as binary
 use Rattle.sp_tree.specs.declared.operators.SpUnary.TheVariants as unary
 use Rattle.sp_tree.specs.Plain.{PlainSp, constant, frame_word, array_word, before_one, between_two}
-use Rattle.sp_tree.specs.Statements.{to_slot, to_cell, PlainStmt, masks, writes, calls, transfers, overruns, turns, PlainStmts, stmt, one, PlainFunction, PlainUnit}
+use Rattle.sp_tree.specs.Statements.{to_slot, to_cell, PlainStmt, masks, writes, calls, transfers, overruns, iterations, PlainStmts, stmt, one, PlainFunction, PlainUnit}
 use Rattle.sp_tree.specs.Straight.{State, Serves, serves}
 
 -- ---- memories and expressions
@@ -45,9 +45,9 @@ masking value = masks 1 (constant value)
 abbrev pub sending : ℕ → PlainStmt
 sending count = transfers 0 3 (constant 10) (constant 20) (constant count)
 
--- turns that each add 2 to word 1
+-- iterations that each add 2 to word 1
 abbrev pub adding : ℕ → PlainStmt
-adding count = turns count (one (masks 1 (between_two binary.Plus (frame_word 1) (constant 2))))
+adding count = iterations count (one (masks 1 (between_two binary.Plus (frame_word 1) (constant 2))))
 
 -- ---- functions
 
@@ -84,12 +84,12 @@ arm c =
     (between_two binary.BitXor (frame_word 3) (frame_word 4))))
     (one (masks 3 (between_two binary.BitAnd (frame_word 3) (frame_word 2)))))
 
--- `while (c) { }`: the mask of the loop, in each turn where the condition holds and after it; whether the bound was
+-- `while (c) { }`: the mask of the loop, in each iteration where the condition holds and after it; whether the bound was
 -- passed; and the masks after the loop
 abbrev pub while_loop : ℕ → PlainSp → PlainStmts
 while_loop count c =
     stmt (masks 4 (between_two binary.BitAnd (frame_word 3) (constant 1)))
-    (stmt (turns count (stmt (masks 4
+    (stmt (iterations count (stmt (masks 4
     (between_two binary.BitAnd (frame_word 4) (between_two binary.NotEqual c (constant 0))))
     (one (masks 4 (between_two binary.NotEqual (frame_word 4) (constant 0))))))
     (stmt (overruns 4 c)
@@ -106,7 +106,7 @@ leaving e =
 -- ---- units
 
 -- a function whose mask is word 0 and whose result is word 1, and whose trees may name words 0 to 3, or 0 to 2 where
--- there are turns
+-- there are iterations
 abbrev pub entry_of : PlainStmts → PlainFunction
 entry_of body = record { frame = 6; parameters = 0; mask = 0; result = 1; body = body }
 

@@ -11,7 +11,7 @@ pub data PlainSpTarget : Type 0 where
   to_cell : SpCell → PlainSpTarget
   to_array : SpArray → PlainSp → PlainSpTarget
 
--- a statement; the first number of each but `masks` and `turns` is the word of the frame that is its mask
+-- a statement; the first number of each but `masks` and `iterations` is the word of the frame that is its mask
 mutual
   pub data PlainStmt : Type 0 where
     masks : ℕ → PlainSp → PlainStmt
@@ -19,7 +19,7 @@ mutual
     calls : ℕ → ℕ → List PlainSp → Option ℕ → PlainStmt
     transfers : ℕ → ℕ → PlainSp → PlainSp → PlainSp → PlainStmt
     overruns : ℕ → PlainSp → PlainStmt
-    turns : ℕ → PlainStmts → PlainStmt
+    iterations : ℕ → PlainStmts → PlainStmt
 
   pub data PlainStmts : Type 0 where
     no_stmt : PlainStmts

@@ -6,7 +6,7 @@ use Rattle.c_world.specs.Numbers.{is_true}
 use Rattle.c_world.specs.World.{World, with_word, with_element, with_overrun, with_send}
 use Rattle.sp_tree.specs.Plain.{PlainSp}
 use Rattle.sp_tree.specs.Values.{sp_value}
-use Rattle.sp_tree.specs.Statements.{PlainSpTarget, to_slot, to_cell, to_array, PlainStmt, masks, writes, calls, transfers, overruns, turns, PlainStmts, no_stmt, stmt, PlainFunction, no_function}
+use Rattle.sp_tree.specs.Statements.{PlainSpTarget, to_slot, to_cell, to_array, PlainStmt, masks, writes, calls, transfers, overruns, iterations, PlainStmts, no_stmt, stmt, PlainFunction, no_function}
 
 -- the words of a function's frame, by their numbers, and of all memories
 pub record State : Type 0 where
@@ -14,13 +14,13 @@ pub record State : Type 0 where
   pub world : World
 
 -- what a function gives, and the world after it
-pub record Given : Type 0 where
+pub record Outcome : Type 0 where
   pub value : ℕ
   pub world : World
 
 -- what functions give: by their number, the word of the mask that they are run under, and the arguments
 abbrev pub Serves : Type 0
-Serves = ℕ → ℕ → List ℕ → World → Given
+Serves = ℕ → ℕ → List ℕ → World → Outcome
 
 abbrev pub worth : PlainSp → State → ℕ
 worth e s = sp_value s.frame s.world e
@@ -65,7 +65,7 @@ abbrev pub overrun_done : PlainSp → State → State
 overrun_done e s = in_world s (with_overrun (is_true (worth e s)) s.world)
 
 -- after a call, which is made in either case: what the function gave is set where the mask is 1
-abbrev pub call_done : ℕ → Option ℕ → State → Given → State
+abbrev pub call_done : ℕ → Option ℕ → State → Outcome → State
 call_done mask result s given = where_on mask (with_result result given.value) (in_world s given.world)
 
 -- ---- statements
@@ -82,7 +82,7 @@ abbrev mutual
   stmt_done g (calls mask k args result) s = call_done mask result s (g k (s.frame mask) (args_worth args s) s.world)
   stmt_done g (transfers mask core source target count) s = where_on mask (transfer_done core source target count) s
   stmt_done g (overruns mask e) s = where_on mask (overrun_done e) s
-  stmt_done g (turns count body) s = times count (stmts_done g body) s
+  stmt_done g (iterations count body) s = times count (stmts_done g body) s
 
   pub stmts_done : Serves → PlainStmts → State → State
   stmts_done g no_stmt s = s
@@ -95,8 +95,8 @@ abbrev mutual
 abbrev pub begun_frame : PlainFunction → ℕ → List ℕ → ℕ → ℕ
 begun_frame f mask args = put f.mask mask (slice_index args)
 
-abbrev pub function_given : Serves → PlainFunction → ℕ → List ℕ → World → Given
-function_given g f mask args world =
+abbrev pub function_outcome : Serves → PlainFunction → ℕ → List ℕ → World → Outcome
+function_outcome g f mask args world =
     let done = stmts_done g f.body (record { frame = begun_frame f mask args; world = world }) in
     record { value = done.frame f.result; world = done.world }
 
@@ -104,5 +104,5 @@ function_given g f mask args world =
 abbrev pub serves : List PlainFunction → ℕ → Serves
 serves fs zero k mask args world = record { value = 0; world = world }
 serves fs (suc n) k mask args world =
-    if k == n then function_given (serves fs n) (slice_index_or fs n no_function) mask args world
+    if k == n then function_outcome (serves fs n) (slice_index_or fs n no_function) mask args world
     else serves fs n k mask args world

@@ -7,7 +7,7 @@ use Rattle.c_world.specs.declared.region.Region.TheVariants as region
 use Rattle.sp_tree.specs.declared.expressions.SpArray.{SpArray}
 use Rattle.sp_tree.specs.declared.expressions.SpCell.{SpCell}
 use Rattle.sp_tree.specs.Plain.{PlainSp, constant, frame_word, cell_word, array_word, before_one, between_two}
-use Rattle.sp_tree.specs.Statements.{PlainSpTarget, to_slot, to_cell, to_array, PlainStmt, masks, writes, calls, transfers, overruns, turns, PlainStmts, no_stmt, stmt, PlainFunction, PlainUnit}
+use Rattle.sp_tree.specs.Statements.{PlainSpTarget, to_slot, to_cell, to_array, PlainStmt, masks, writes, calls, transfers, overruns, iterations, PlainStmts, no_stmt, stmt, PlainFunction, PlainUnit}
 
 pub data Use : Type 0 where
   reads_cell : SpCell → Use
@@ -41,7 +41,7 @@ abbrev mutual
   stmt_uses (transfers mask core source target count) =
       sends_to core ∷ (expr_uses source ++ (expr_uses target ++ expr_uses count))
   stmt_uses (overruns mask e) = expr_uses e
-  stmt_uses (turns count body) = stmts_uses body
+  stmt_uses (iterations count body) = stmts_uses body
 
   pub stmts_uses : PlainStmts → List Use
   stmts_uses no_stmt = []

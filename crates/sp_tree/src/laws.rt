@@ -6,13 +6,13 @@ ghost use Rattle.sp_tree.specs.Formed.{stmts_formed, stmts_levels, function_form
 ghost use Rattle.sp_tree.specs.Plain.{PlainSp};
 ghost use Rattle.sp_tree.specs.Shown.{stmts_of};
 ghost use Rattle.sp_tree.specs.Statements.{PlainSpTarget, PlainStmts, PlainFunction, no_function, joined, writes, calls, transfers, overruns};
-ghost use Rattle.sp_tree.specs.Straight.{State, Serves, args_worth, in_world, stmt_done, stmts_done, function_given, serves};
+ghost use Rattle.sp_tree.specs.Straight.{State, Serves, args_worth, in_world, stmt_done, stmts_done, function_outcome, serves};
 ghost use Rattle.sp_tree.specs.Uses.{stmts_uses};
 ghost use Rattle.sp_tree.specs.declared.statements.SpStmt.{SpStmt};
 ghost use Rattle.sp_tree.specs.declared.limits.TheConstants.{MOST_FRAME, MOST_FUNCTIONS, MOST_NEED, MOST_PARAMETERS};
 
-/// Statements after others: they go on from what these leave, and well-formedness, words, levels of turns and uses
-/// are told of both.
+/// Statements after others: they go on from what these leave, and well-formedness, words, levels of iterations and uses
+/// hold of both.
 pub fn statements_join()
     ensures done { (g : Serves) (xs ys : PlainStmts) (s : State)
         → stmts_done g (joined xs ys) s ≡ stmts_done g ys (stmts_done g xs s) }
@@ -50,7 +50,7 @@ pub fn frames_grow()
 #[tactic(auto, using(crate::proofs::Runs::serves_own, crate::proofs::Forms::earlier_ones))]
 pub fn earlier_functions_serve()
     ensures served { (fs : List PlainFunction) (k n mask : ℕ) (args : List ℕ) (w : World) → k < n
-        → serves fs n k mask args w ≡ function_given (serves fs k) (slice_index_or fs k no_function) mask args w }
+        → serves fs n k mask args w ≡ function_outcome (serves fs k) (slice_index_or fs k no_function) mask args w }
     ensures formed { (fs : List PlainFunction) (k n : ℕ) → k < n → functions_formed fs n ≡ true
         → function_formed fs k (slice_index_or fs k no_function) ≡ true }
     ensures earlier { (fs : List PlainFunction) (k n : ℕ) → k ≤ n → functions_formed fs n ≡ true

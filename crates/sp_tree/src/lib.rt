@@ -1,7 +1,7 @@
 //! Single-path trees.
 //!
 //! A single-path tree is a program without branches, between a C text and its code: masks, which are words of a
-//! function's frame, decide what has an effect, and loops always make all their turns. Its variables are the words of a
+//! function's frame, decide what has an effect, and loops always make all their iterations. Its variables are the words of a
 //! frame, by their numbers, and cells and arrays of the memories; what it works on is a [`c_world::Memory`].
 //!
 //! - What is said: expressions ([`SpExpr`]), targets that are set ([`SpTarget`]), statements ([`SpStmt`]), functions

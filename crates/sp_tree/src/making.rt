@@ -40,7 +40,7 @@ pub fn between_operands(
     Ok(SpExpr::Binary { op, a, b })
 }
 
-/// The same expression once more. It is `Err` where memory runs out.
+/// A copy of an expression. It is `Err` where memory runs out.
 #[tactic(auto, unfolding(crate::specs::Plain::plain_sp))]
 pub fn copied(alloc: Global, e: &SpExpr) -> Result<SpExpr, OutOfMemory>
     ensures { IfOk result (λ c. plain_sp c ≡ plain_sp e.now) }

@@ -68,7 +68,7 @@ fn act(
         }
         SpStmt::Send { .. } => {}
         SpStmt::Overrun { mask, value: e } => overrun(*mask, e, frame, memory),
-        SpStmt::Turns { count, body } => turns(
+        SpStmt::Iterations { count, body } => iterations(
             *count,
             body.as_slice(),
             functions,
@@ -106,9 +106,9 @@ fn all(
     }
 }
 
-// so many turns
+// so many iterations
 #[cycle(run)]
-fn turns(
+fn iterations(
     count: u32,
     body: &[SpStmt],
     functions: &[SpFunction],
@@ -128,7 +128,7 @@ fn turns(
         (state_of frame.old memory.old sends)) frame.new memory.new }
     ensures rooms { rooms memory.new ≡ all_rooms }
 {
-    for turned in 0..count {
+    for iterated in 0..count {
         all(body, functions, known, frame, rest, memory);
     }
 }

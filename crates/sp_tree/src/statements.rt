@@ -40,7 +40,7 @@ pub enum SpStmt {
         value: SpExpr,
     },
     /// The body is run so many times.
-    Turns {
+    Iterations {
         count: u32,
         body: List<SpStmt>,
     },

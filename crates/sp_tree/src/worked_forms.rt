@@ -5,7 +5,7 @@ ghost use Rattle.sp_tree.specs.Formed.{function_formed, is_formed};
 ghost use Rattle.sp_tree.specs.Need.{need};
 ghost use Rattle.sp_tree.specs.Plain.{PlainSp, constant, frame_word, cell_word, array_word, before_one, between_two};
 ghost use Rattle.sp_tree.specs.Small as small;
-ghost use Rattle.sp_tree.specs.Statements.{PlainUnit, PlainFunction, calls, masks, overruns, turns, writes, transfers, to_slot, to_cell, to_array, no_stmt, stmt, one};
+ghost use Rattle.sp_tree.specs.Statements.{PlainUnit, PlainFunction, calls, masks, overruns, iterations, writes, transfers, to_slot, to_cell, to_array, no_stmt, stmt, one};
 
 use crate::operators::{SpBinary, SpUnary};
 use c_world::Region;
@@ -15,7 +15,7 @@ pub fn worked_formed()
     ensures nothing { is_formed (small.unit_of no_stmt) ≡ true }
     ensures call { is_formed small.difference_unit ≡ true }
     ensures last_slot { is_formed (small.unit_of (one (masks 3 (constant 0)))) ≡ true }
-    ensures last_slot_in_turns { is_formed (small.unit_of (one (turns 1 (one (masks 2 (constant 0)))))) ≡ true }
+    ensures last_slot_in_iterations { is_formed (small.unit_of (one (iterations 1 (one (masks 2 (constant 0)))))) ≡ true }
     ensures last_private { is_formed
         (small.unit_of (one (writes 0 (to_cell (small.cell Region.Private 49151)) (constant 0)))) ≡ true }
     ensures first_private { is_formed
@@ -34,8 +34,8 @@ pub fn worked_unformed()
     ensures slot_past { is_formed (small.unit_of (one (masks 4 (constant 0)))) ≡ false }
     ensures mask_past { is_formed (small.unit_of (one (writes 4 (to_slot 1) (constant 0)))) ≡ false }
     ensures read_past { is_formed (small.unit_of (one (masks 1 (frame_word 4)))) ≡ false }
-    ensures counter_named { is_formed (small.unit_of (one (turns 1 (one (masks 3 (constant 0)))))) ≡ false }
-    ensures no_turn { is_formed (small.unit_of (one (turns 0 no_stmt))) ≡ false }
+    ensures counter_named { is_formed (small.unit_of (one (iterations 1 (one (masks 3 (constant 0)))))) ≡ false }
+    ensures no_iteration { is_formed (small.unit_of (one (iterations 0 no_stmt))) ≡ false }
     ensures private_past { is_formed (small.unit_of (one (masks 1 (cell_word (small.cell Region.Private 49152)))))
         ≡ false }
     ensures spare_word { is_formed (small.unit_of (one (masks 1 (cell_word (small.cell Region.Private 3))))) ≡ false }
@@ -106,10 +106,12 @@ pub fn worked_costs()
     ensures small_mask { expr_cost (between_two SpBinary.BitAnd (frame_word 0) (constant 4095)) ≡ 3 }
     ensures large_mask { expr_cost (between_two SpBinary.BitAnd (frame_word 0) (constant 4096)) ≡ 5 }
     ensures small_test { expr_cost (between_two SpBinary.NotEqual (frame_word 0) (constant 31)) ≡ 5 }
-    ensures large_test { expr_cost (between_two SpBinary.NotEqual (frame_word 0) (constant 32)) ≡ 7 }
-    ensures no_held_sum { expr_cost (between_two SpBinary.Plus (frame_word 0) (constant 1)) ≡ 5 }
+    ensures large_test { expr_cost (between_two SpBinary.NotEqual (frame_word 0) (constant 32)) ≡ 6 }
+    ensures no_held_sum { expr_cost (between_two SpBinary.Plus (frame_word 0) (constant 1)) ≡ 4 }
+    ensures small_constant { expr_cost (constant 4095) ≡ 1 }
+    ensures large_constant { expr_cost (constant 4096) ≡ 2 }
     ensures variable { expr_cost (cell_word (small.cell Region.Private 4)) ≡ 4 }
-    ensures element { expr_cost (array_word (small.array Region.Shared 0 4096) (constant 0)) ≡ 14 }
+    ensures element { expr_cost (array_word (small.array Region.Shared 0 4096) (constant 0)) ≡ 13 }
     ensures arm { (c : PlainSp) → stmts_cost (small.arm c) ≡ 23 + expr_cost c }
     ensures while_loop { (c : PlainSp) → stmts_cost (small.while_loop 10 c) ≡ 47 + 2 * expr_cost c }
     ensures leaving { (e : PlainSp) → stmts_cost (small.leaving e) ≡ 16 + expr_cost e }

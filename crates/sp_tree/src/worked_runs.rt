@@ -10,7 +10,7 @@ ghost use Rattle.sp_tree.specs.Straight.{Serves, stmt_done};
 use c_world::Region;
 
 /// Masks of 1, 0 and 2: what is written under each; what is set by `Mask` in any case; elements at the length of their
-/// array; turns.
+/// array; iterations.
 pub fn worked_masks()
     ensures on { (g : Serves) → (stmt_done g (small.writing 7) (small.under 1)).frame 1 ≡ 7 }
     ensures off { (g : Serves) → stmt_done g (small.writing 7) (small.under 0) ≡ small.under 0 }
@@ -22,9 +22,9 @@ pub fn worked_masks()
     ensures past { (g : Serves) → stmt_done g
         (writes 0 (to_array (small.array Region.Shared 8 3) (constant 3)) (constant 7)) (small.under 1)
         ≡ small.under 1 }
-    ensures three_turns { (g : Serves) → (stmt_done g (small.adding 3) (small.under 1)).frame 1 ≡ 6 }
-    ensures turns_off { (g : Serves) → (stmt_done g (small.adding 3) (small.under 0)).frame 1 ≡ 6 }
-    ensures no_turn { (g : Serves) → stmt_done g (small.adding 0) (small.under 1) ≡ small.under 1 }
+    ensures three_iterations { (g : Serves) → (stmt_done g (small.adding 3) (small.under 1)).frame 1 ≡ 6 }
+    ensures iterations_off { (g : Serves) → (stmt_done g (small.adding 3) (small.under 0)).frame 1 ≡ 6 }
+    ensures no_iteration { (g : Serves) → stmt_done g (small.adding 0) (small.under 1) ≡ small.under 1 }
 {}
 
 /// The flag and sends under masks of 1, 0 and 2.

@@ -1,4 +1,4 @@
--- A clock that begins whole periods later does the same so much later; and it hangs on no more of its start than the
+-- A clock that begins whole periods later does the same so much later; and it depends on no more of its start than the
 -- slot that comes first.
 use Rattle.std.proofs.Common.{◌≡◌, ℕ, zero, suc, ◌+◌, ◌-◌, ◌*◌, ◌/◌, ◌<◌, ◌==◌, Bool, true, false, List, ◌∷◌, ◌++◌, map, None, refl, sym, ap, ◌∙◌, arith}
 use Rattle.std.proofs.lemmas.Bool.{eqb-true}
@@ -37,7 +37,7 @@ module _ (site : Site) where
   period_later slots periods t =
       let far : ℕ = periods * period site.table site.slot in
       let round : (u : ℕ) → is_slot_start site.table site.slot site.core (u + far) ≡ is_slot_start site.table site.slot site.core u =
-      λ u. let turn : u + far ≡ far + u = omega arith in ap (is_slot_start site.table site.slot site.core) turn ∙ rounds_on site.table site.slot site.core periods u slots.lasts in
+      λ u. let iteration : u + far ≡ far + u = omega arith in ap (is_slot_start site.table site.slot site.core) iteration ∙ rounds_on site.table site.slot site.core periods u slots.lasts in
       first_later (is_slot_start site.table site.slot site.core) far round (period site.table site.slot) t
 
   -- whole periods later

@@ -1,4 +1,4 @@
--- What code may ask for does not hang on the start.
+-- What code may ask for does not depend on the start.
 use Rattle.std.proofs.Common.{◌≡◌, ℕ, ◌==◌, ◌&&◌, not, nat_lt, List, [], ◌∷◌, Option, None, Some, ◌∙◌}
 use Rattle.slot_arbiter.specs.declared.place.Place.{Place}
 use Rattle.local_store.specs.declared.map.Cell.{Cell}
@@ -55,7 +55,7 @@ module _ (site other : Site) (cores : other.cores ≡ site.cores) (core : other.
 -- code that behaves does so from each start
 pub behaves_still : (place other : Place) (s : PlainShape) (addresses : List ℕ) → IsSameCore place other → Behaves s place addresses → Behaves s other addresses
 behaves_still place other s addresses same behaves = record {
-  turns = behaves.turns;
+  iterations = behaves.iterations;
   sound = λ memory loads words.
       all_still (site_of place (linked s)) (site_of other (linked s)) same.cores same.core by_stack (trail s) (at_begin memory loads (backs_of s)) (behaves.sound memory loads words);
   same = behaves.same;

@@ -1,4 +1,4 @@
--- The code of a task asks for nothing that a check of a core stops, makes its turns, and has the same events.
+-- The code of a task asks for nothing that a check of a core stops, makes its iterations, and has the same events.
 use Rattle.std.proofs.Common.{◌≡◌, ℕ, ◌+◌, ◌*◌, ◌%◌, ◌^◌, ◌<◌, ◌⊎◌, inl, inr, true, Bool, List, [], ◌∷◌, ◌++◌, length, Option, None, Some, slice_index_or, refl, sym, ap, ◌∙◌, subst, arith}
 use Rattle.std.proofs.Math.ListN.{get_or-eq_default}
 use Rattle.std.specs.Prelude.{◌&&◌, is_none, nat_le, nat_lt}
@@ -45,12 +45,12 @@ use Rattle.tc_link.proofs.Constants.{function_words_fit}
 use Rattle.patmos_model.specs.Range.{IsWord, HasCode, constant_of}
 use Rattle.sp_emit.proofs.Aligned.{read_aligned, stored_aligned}
 use Rattle.sp_emit.proofs.Cells.{cell_in}
-use Rattle.sp_emit.proofs.FunctionTurns.{task_turns}
+use Rattle.sp_emit.proofs.FunctionIterations.{task_iterations}
 use Rattle.sp_emit.proofs.Sends.{port_found}
 use Rattle.sp_emit.proofs.TaskAsks.{task_asks}
 use Rattle.sp_emit.proofs.WithinStack.{task_stays}
 use Rattle.bundle_sched.proofs.Runs.{runs_as}
-use Rattle.bundle_sched.proofs.Turns.{turns_as}
+use Rattle.bundle_sched.proofs.Iterations.{iterations_as}
 use Rattle.sp_emit.proofs.Formed.{emitted_formed}
 use Rattle.tc_link.specs.Backs.{backs_of}
 use Rattle.tc_link.specs.Placed.{linked}
@@ -350,8 +350,8 @@ sends_there u place h code memory loads words =
 
 pub behaves : (u : PlainUnit) (place : Place) (h : IsRunnable u place) → IsCode u → Behaves (code_of u) place (asking u h.formed).cached
 behaves u place h code = record {
-  turns = λ memory loads words.
-      turns_as (emitted u) (code_of u) refl (emitted_formed u h.formed) by_stack (begins_at u h.formed memory loads) (whole u h.formed memory loads) (task_turns u by_stack memory loads (backs_of (code_of u)) refl h.formed (counts_of u code));
+  iterations = λ memory loads words.
+      iterations_as (emitted u) (code_of u) refl (emitted_formed u h.formed) by_stack (begins_at u h.formed memory loads) (whole u h.formed memory loads) (task_iterations u by_stack memory loads (backs_of (code_of u)) refl h.formed (counts_of u code));
   sound = λ memory loads words.
       all_sound (site_of place (linked (code_of u))) (MayAsk (Contains (uses_of u))) (sound_ask (Contains (uses_of u)) (λ core named. (targets_of u place h core named).0) (site_of place (linked (code_of u)))) by_stack (trail (code_of u)) (begins_at u h.formed memory loads)
       (may_there u h.formed memory loads)

@@ -1,5 +1,5 @@
 //! Compiled tasks on a core. A task's tree is emitted, scheduled and linked; its code behaves as
-//! `code_core` wants it: it makes its turns, asks for nothing that a check of a core stops, and loads by
+//! `code_core` wants it: it makes its iterations, asks for nothing that a check of a core stops, and loads by
 //! the data cache at fixed addresses, whatever words stand in memory and loads give. So a core follows it.
 //! The crate has definitions and laws, and no code besides.
 //!

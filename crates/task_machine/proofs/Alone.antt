@@ -35,7 +35,7 @@ use Rattle.task_words.specs.Meant.{Names}
 use Rattle.task_words.specs.Reach.{MayLoadWord, MayStoreWord, MaySendTo}
 use Rattle.task_words.proofs.Names.{names}
 use Rattle.task_machine.specs.Machines.{HasTask, Task, none, unknown, compiled, BeginsCompiled, BeginsAs, MayChange, IsAlone}
-use Rattle.task_machine.specs.Told.{read_by, task_operations}
+use Rattle.task_machine.specs.Reported.{read_by, task_operations}
 use Rattle.task_machine.proofs.Cores.{is_apart, with_image, values_fit}
 use Rattle.core_pace.proofs.Packets.{comes_bound, Coming, made_so, OwnSees, own_sees}
 use Rattle.shared_order.proofs.RangesApart.{Kept, apart_keeps}

@@ -14,7 +14,7 @@ use Rattle.patmos_model.proofs.Parts.{followed-run}
 use Rattle.sp_tree.specs.Statements.{PlainUnit}
 use Rattle.tc_link.specs.Placed.{linked}
 use Rattle.task_core.specs.Tasks.{code_of}
-use Rattle.task_machine.specs.Told.{read_by, task_operations, interface_operations, by_interface, IsAmong, AreMerged, AreAllItsOwn}
+use Rattle.task_machine.specs.Reported.{read_by, task_operations, interface_operations, by_interface, IsAmong, AreMerged, AreAllItsOwn}
 use Rattle.task_machine.proofs.Cores.{with_image}
 use Rattle.core_pace.proofs.Packets.{came, sent, acted}
 

@@ -15,7 +15,7 @@ use Rattle.patmos_model.specs.Cycle.{turn}
 use Rattle.patmos_model.specs.Range.{InRange}
 use Rattle.patmos_model.specs.State.{Core}
 use Rattle.patmos_model.proofs.CoreRanges.{core_keeps}
-use Rattle.task_machine.specs.Told.{read_by}
+use Rattle.task_machine.specs.Reported.{read_by}
 use Rattle.shared_order.proofs.RangesApart.{loads_fit}
 
 -- the core is its run apart on what its own loads gave

@@ -2,4 +2,4 @@ pub mod Running
 pub mod Cores
 pub mod Among
 pub mod Alone
-pub mod Told
+pub mod Reported

@@ -31,7 +31,7 @@ use Rattle.code_core.proofs.Shapes.{ends}
 use Rattle.code_times.proofs.Exact.{accesses_at, end_from, end_within, ended_cycle, stands_so}
 use Rattle.task_core.specs.Tasks.{bound_of, code_of, times_of, IsRunnable, IsCode}
 use Rattle.task_core.proofs.Behaving.{link, asking, behaves}
-use Rattle.task_machine.specs.Told.{HasTimes}
+use Rattle.task_machine.specs.Reported.{HasTimes}
 
 -- ---- states of a core after so many cycles
 

@@ -1,2 +1,2 @@
 pub mod Machines
-pub mod Told
+pub mod Reported

@@ -6,7 +6,7 @@ ghost use Rattle.sp_tree.specs.Statements.{PlainUnit};
 ghost use Rattle.task_core.specs.Tasks.{times_of};
 ghost use Rattle.task_words.specs.Meant.{HasMeaning, HasWorld};
 ghost use Rattle.task_machine.specs.Machines.{machine_after, HasTask, Task, BeginsAs, IsAlone};
-ghost use Rattle.task_machine.specs.Told.{task_operations, AreAllItsOwn, HasTimes, IsAmong};
+ghost use Rattle.task_machine.specs.Reported.{task_operations, AreAllItsOwn, HasTimes, IsAmong};
 
 use slot_arbiter::Place;
 
@@ -27,7 +27,7 @@ pub fn machines_keep_tasks_times(place: &Place)
         → AreAllItsOwn u place.now input (machine_after place.now.cores cores cycles) cycles }
 {}
 
-/// In a machine a compiled task comes to what its tree means. From its end on, for each world in which each of the
+/// In a machine a compiled task gives what its tree means. From its end on, for each world in which each of the
 /// task's own loads of a word that others reach gives its own last store there, else the world's word, it has the
 /// value, the flag, the words and the transfers that the tree comes to from that world. A law: it does nothing.
 pub fn machines_give_tasks_their_meaning(place: &Place)

@@ -1,4 +1,4 @@
--- A task's core comes to what the task's tree means.
+-- A task's core gives what the task's tree means.
 use Rattle.std.proofs.Common.{◌≡◌, ℕ, ◌+◌, ◌-◌, ◌/◌, ◌<◌, ◌&&◌, inl, inr, min, nat_le, nat_lt, true, false, if◌then◌else◌, List, length, take, slice_index, Some, refl, sym, ap, ◌∙◌, subst, arith, length-take, get_or-take}
 use Rattle.std.proofs.Math.ListN.{get_or-eq_default}
 use Rattle.std.specs.List.{Contains, AllByRecursion as Each}

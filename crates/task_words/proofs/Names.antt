@@ -85,7 +85,7 @@ module _ (u : PlainUnit) (place : Place) (h : IsRunnable u place) (code : IsCode
       let words : Each IsWord loads = loads_are_words place.cores place.core site input values (bundles_in (trail s)) among k.words k.initial given in
       let m : Run = at_begin no_memory loads (backs_of s) in
       let fits : FitsRegisters m.regs = record { count = refl; pred_count = refl; zero = refl; always = refl } in
-      let f : Follows (linked s) by_stack (trail s) (dues_of s (back 0 0)) (walk_from (entry (linked s)) m) = shape_followed s by_stack m k.formed k.fits k.bundles fits refl (b.turns no_memory loads words) in
+      let f : Follows (linked s) by_stack (trail s) (dues_of s (back 0 0)) (walk_from (entry (linked s)) m) = shape_followed s by_stack m k.formed k.fits k.bundles fits refl (b.iterations no_memory loads words) in
       well_as (MayLoadWord Use_named place.core) (MayStoreWord Use_named place.core) (MaySendTo Use_named) place.cores place.core site input values (Cached u (uses_apart u place input (λ _. 0) h.formed)) (cached_own u (uses_apart u place input (λ _. 0) h.formed))
       (trail s) (dues_of s (back 0 0)) no_memory (backs_of s) f.last 0 (unused_ports place s (asking u h.formed).cached k b slots among input) slots (starts_behind s) f.does_so (b.sound no_memory loads words)
       (all_apart u (uses_apart u place input (λ _. 0) h.formed) by_stack (trail s) m (may_there u h.formed no_memory loads))

@@ -1,4 +1,4 @@
--- A task's core comes to what the task's tree means.
+-- A task's core gives what the task's tree means.
 use Rattle.std.proofs.Common.{◌≡◌, ℕ, ◌<◌, ◌≤◌, ◌&&◌, true, List, [], length, slice_index, is_some, map, refl, sym, ap, ◌∙◌, true≢false}
 use Rattle.std.specs.Prelude.{nat_le}
 use Rattle.std.specs.List.{Contains}
@@ -17,7 +17,7 @@ use Rattle.core_pace.specs.Spans.{IsSlotted}
 use Rattle.sp_tree.specs.Begun as tree
 use Rattle.sp_tree.specs.Formed.{functions_formed, entry_formed, data_formed, is_formed}
 use Rattle.sp_tree.specs.Statements.{PlainUnit}
-use Rattle.sp_tree.specs.Straight.{Given}
+use Rattle.sp_tree.specs.Straight.{Outcome}
 use Rattle.sp_tree.specs.Uses.{Use, uses_of, are_apart}
 use Rattle.sp_shape.specs.Memory.{Memory}
 use Rattle.sp_shape.specs.Run.{Run, at_begin, by_words, run_late}
@@ -102,7 +102,7 @@ module _ (u : PlainUnit) (place : Place) (input : List ℕ) (world : ℕ → ℕ
 
       pub comes : (values : List ℕ) → AreGiven input values → Sees world (after_bundles place.cores place.core (begun (site_of place (linked (code_of u))) input) values (bundles_in (trail (code_of u)))).told.own → Comes values
       comes values given so =
-          let g : Given = tree.straight u input world comm_of in
+          let g : Outcome = tree.straight u input world comm_of in
           let m : Means place (code_of u) (asking u h.formed).cached (link u code) (behaves u place h code) slots among memory_of (Cached u (uses_apart h.formed)) (cached_own u (uses_apart h.formed)) world input values =
           means place (code_of u) (asking u h.formed).cached (link u code) (behaves u place h code) slots among memory_of (Cached u (uses_apart h.formed)) (cached_own u (uses_apart h.formed)) world input values given (λ loads words. all_apart u (uses_apart h.formed) by_stack (trail (code_of u)) (begun_at loads) (may_there u h.formed memory_of loads)) ports_begun own_begun board_begun so in
           let t : Run = ran u input world comm_of (backs_of (code_of u)) in

@@ -17,7 +17,7 @@ use Rattle.patmos_model.specs.State.{Core, Sending}
 use Rattle.patmos_model.specs.declared.state.CoreState.TheVariants.{Done}
 use Rattle.sp_tree.specs.Begun as tree
 use Rattle.sp_tree.specs.Statements.{PlainUnit}
-use Rattle.sp_tree.specs.Straight.{Given}
+use Rattle.sp_tree.specs.Straight.{Outcome}
 use Rattle.sp_tree.specs.Uses.{sends_to, uses_of}
 use Rattle.sp_emit.specs.Means.{HoldsWords, start_of}
 use Rattle.tc_link.specs.Placed.{linked}
@@ -31,7 +31,7 @@ abbrev pub comm_in : Place → (ℕ → ℕ) → ℕ → ℕ
 comm_in place world word = world (comm_word place.core word)
 
 -- what the tree means, from a world
-abbrev pub meant : PlainUnit → Place → List ℕ → (ℕ → ℕ) → Given
+abbrev pub meant : PlainUnit → Place → List ℕ → (ℕ → ℕ) → Outcome
 meant u place input world = tree.straight u input world (comm_in place world)
 
 -- input, initial words and the world are words

@@ -11,7 +11,7 @@ ghost use Rattle.task_words.specs.Meant.{HasWorld, ComesAt, Names};
 use core_pace::place_has_slots;
 use slot_arbiter::Place;
 
-/// A compiled task comes to what its tree means. Where each load of the task itself, of a word that other cores reach,
+/// A compiled task gives what its tree means. Where each load of the task itself, of a word that other cores reach,
 /// gives its own last store to that word, else the word of a world, it is done from its end on, with the value, the
 /// flag, the words of all memories and the transfers that the tree comes to from that world. A law: it does nothing.
 pub fn tasks_come_to_their_meaning(place: &Place)

@@ -1,5 +1,5 @@
 //! What compiled tasks leave, and what they may touch. A core that follows a task's code holds in its memories what the
-//! code's run holds, so it comes to what the task's tree means; and of the words that other cores reach it touches only
+//! code's run holds, so it gives what the task's tree means; and of the words that other cores reach it touches only
 //! those that the tree names. The crate has definitions and laws, and no code besides.
 //!
 //! - `specs/Reach.antt`: which words that other cores reach a tree names;

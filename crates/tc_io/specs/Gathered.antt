@@ -12,7 +12,7 @@ pub record Gathered : Type 0 where
 abbrev pub empty : ℕ → Gathered
 empty room = record { kept = []; room = room; rest = 0 }
 
--- the same sink with `piece` taken; the count of the rest stands still at its last value, 2^64 - 1
+-- the sink after it takes `piece`; the count of the rest stops at 2^64 - 1
 abbrev pub with_piece : Gathered → List ℕ → Gathered
 with_piece g piece = record g {
   kept = take g.room (g.kept ++ piece);

@@ -6,7 +6,7 @@ ghost use Rattle.tc_job.specs.Keys as specs;
 use tc_toml::{JobError, JobFault, Section};
 use toml::Value;
 
-/// The table whose keys are told.
+/// The table whose keys are reported.
 #[derive(Clone, Copy)]
 pub enum Level {
     /// The top level of a job without a slot table.

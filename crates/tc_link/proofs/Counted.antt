@@ -91,12 +91,12 @@ body_length start ps before behind is =
     omega (arith, ap length is, length-append before (codes (flat_parts start ps)), codes_words (flat_parts start ps), flat_words start ps)
 
 -- the bundles of a loop: those of the body, and those of the tail, whose branch counts the words that the body added
-pub turn_bundles : (start : ℕ → ℕ) (p : Part) (count : ℕ) (body inside : List Part) (tail turn : List Slots) (before behind : List ℕ) (words : ℕ) → p ≡ Repeat count body tail
-    → inside ≡ body → turn ≡ tail → behind ≡ before ++ codes (flat_parts start (parts_of inside)) → words ≡ length behind - length before
-    → flat_parts start (parts_of inside) ++ turned words turn ≡ flat_part start (plain_part p)
-turn_bundles start p count body inside tail turn before behind words is same_body same_tail added more =
+pub iteration_bundles : (start : ℕ → ℕ) (p : Part) (count : ℕ) (body inside : List Part) (tail iteration : List Slots) (before behind : List ℕ) (words : ℕ) → p ≡ Repeat count body tail
+    → inside ≡ body → iteration ≡ tail → behind ≡ before ++ codes (flat_parts start (parts_of inside)) → words ≡ length behind - length before
+    → flat_parts start (parts_of inside) ++ turned words iteration ≡ flat_part start (plain_part p)
+iteration_bundles start p count body inside tail iteration before behind words is same_body same_tail added more =
     let counted : words ≡ parts_words (parts_of inside) = omega (arith, more, body_length start (parts_of inside) before behind added) in
-    ap (λ n. flat_parts start (parts_of inside) ++ turned n turn) counted ∙ ap (λ ps. flat_part start (repeats count (parts_of ps) turn)) same_body
+    ap (λ n. flat_parts start (parts_of inside) ++ turned n iteration) counted ∙ ap (λ ps. flat_part start (repeats count (parts_of ps) iteration)) same_body
     ∙ ap (λ bs. flat_part start (repeats count (parts_of body) bs)) same_tail ∙ ap (flat_part start) (sym (repeat_said p count body tail is))
 
 pub added_behind : (before behind : List ℕ) (us vs bs : List Slots) → behind ≡ before ++ codes us → us ++ vs ≡ bs → behind ++ codes vs ≡ before ++ codes bs

@@ -6,7 +6,7 @@ use Rattle.patmos_instr.specs.Bundles.{FitsBundle}
 use Rattle.patmos_code.specs.declared.images.TheConstants.{MOST_IN_FUNCTION}
 use Rattle.sp_shape.specs.Run.{by_words, run_late}
 use Rattle.sp_shape.specs.Trail.{trail}
-use Rattle.sp_shape.specs.Turning.{ShapeTurns, back_of}
+use Rattle.sp_shape.specs.Iterating.{ShapeIterations, back_of}
 use Rattle.tc_link.specs.Dues.{dues_of}
 use Rattle.tc_link.specs.Examples.{second_run, one_call, task_of}
 use Rattle.tc_link.specs.Fits.{FitsImage}
@@ -34,11 +34,11 @@ one_fit zero within = All-from_recursion FitsBundle (flat one_call 0) (search ru
 one_fit (suc zero) within = All-from_recursion FitsBundle (flat one_call 1) (search rules)
 one_fit (suc (suc k)) within = absurd (omega (arith, within))
 
-one_turn : ShapeTurns (run_late by_words) one_call (task_of one_call)
-one_turn = search rules
+one_iteration : ShapeIterations (run_late by_words) one_call (task_of one_call)
+one_iteration = search rules
 
 pub one_followed : Follows (linked one_call) by_words (trail one_call) (dues_of one_call (back_of (task_of one_call))) (walk_from 1 (task_of one_call))
 one_followed =
     shape_followed one_call by_words (task_of one_call) refl
     (record { small = one_small; within = omega arith; initial = omega arith; input_from = omega arith; input_room = omega arith }) one_fit
-    (record { count = refl; pred_count = refl; zero = refl; always = refl }) refl one_turn
+    (record { count = refl; pred_count = refl; zero = refl; always = refl }) refl one_iteration

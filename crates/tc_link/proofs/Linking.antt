@@ -4,7 +4,7 @@ use Rattle.std.specs.Prelude.{nat_lt, nat_le, ◌&&◌}
 use Rattle.std.specs.List.{flat_map}
 use Rattle.std.proofs.lemmas.Bool.{and_parts, ltb-true, cases_lt}
 use Rattle.std.proofs.lemmas.List.{map-append, length-map, get_or_past}
-use Rattle.sp_shape.specs.Formed.{is_turn, is_way, is_call, part_formed, parts_formed, function_formed, functions_formed, is_formed}
+use Rattle.sp_shape.specs.Formed.{is_iteration, is_way, is_call, part_formed, parts_formed, function_formed, functions_formed, is_formed}
 use Rattle.sp_shape.specs.Parts.{PlainPart, straight, repeats, calls_to, leaves, PlainParts, no_part, part, PlainShape}
 use Rattle.sp_shape.specs.Words.{parts_words}
 use Rattle.sp_tree.specs.declared.limits.TheConstants.{MOST_FUNCTIONS}
@@ -29,7 +29,7 @@ mutual
   part_same : (f g : ℕ → ℕ) (n : ℕ) → ((k : ℕ) → k < n → f k ≡ g k) → (p : PlainPart) → part_formed n p ≡ true → flat_part f p ≡ flat_part g p
   part_same f g n same (straight bs) h = refl
   part_same f g n same (repeats count body tail) h =
-      let both = and_parts (parts_formed n body) (is_turn tail) (and_parts (nat_lt 0 count) (parts_formed n body && is_turn tail) h).1 in
+      let both = and_parts (parts_formed n body) (is_iteration tail) (and_parts (nat_lt 0 count) (parts_formed n body && is_iteration tail) h).1 in
       ap (λ bs. bs ++ turned (parts_words body) tail) (parts_same f g n same body both.0)
   part_same f g n same (calls_to k tail) h = ap (λ start. called start tail) (same k (ltb-true k n (and_parts (nat_lt k n) (is_way is_call tail) h).0))
   part_same f g n same (leaves tail) h = refl

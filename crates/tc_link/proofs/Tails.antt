@@ -20,14 +20,14 @@ use Rattle.patmos_sem.specs.declared.effects.Effect.TheVariants as effect
 use Rattle.patmos_sem.specs.declared.effects.FlowKind.{FlowKind}
 use Rattle.patmos_sem.specs.declared.effects.FlowKind.TheVariants as kind
 use Rattle.sp_shape.proofs.Whole.{behind, late_fits, late_append}
-use Rattle.sp_shape.specs.Formed.{is_branch, is_call, is_return, is_flow, is_always, are_calm, are_delay_slots, is_turn, is_way}
+use Rattle.sp_shape.specs.Formed.{is_branch, is_call, is_return, is_flow, is_always, are_calm, are_delay_slots, is_iteration, is_way}
 use Rattle.sp_shape.specs.Run.{Run, Way, Back, branches, calls, fills, returns, Sources, effected, late, first_back, other_backs, run_late}
 use Rattle.sp_shape.specs.Trail.{Step, begins, all_done}
 use Rattle.sp_shape.specs.Words.{bundle_words, bundles_words}
-use Rattle.sp_shape.specs.Turning.{back_of}
+use Rattle.sp_shape.specs.Iterating.{back_of}
 use Rattle.tc_link.specs.Backs.{back}
 use Rattle.tc_link.specs.Flat.{with_op, branch_back, called, turned}
-use Rattle.tc_link.specs.Dues.{undue, way_dues, turn_dues}
+use Rattle.tc_link.specs.Dues.{undue, way_dues, iteration_dues}
 use Rattle.tc_link.specs.Walk.{Walk, due, due_in, erased, bundle_done, with_back, Does}
 use Rattle.tc_link.proofs.Erased.{late_same}
 use Rattle.tc_link.proofs.Late.{not_flow, calm_first, calm_rest, late_backs, late_ways, done_backs, done_fits, calm_ways}
@@ -92,9 +92,9 @@ place_of (returns base offset) = back base offset
 
 -- ---- what comes of tails
 
--- of a loop's: another turn, or what stands after the loop
-pub record Turns (image : Parts) (from : Sources) (tail : List Slots) (base top next : ℕ) (rest : List Back) (w : Walk) (m : Run) : Type 0 where
-  pub again : (run_late from (all_done tail) m).ways ≡ m.ways ++ branches ∷ [] → Goes image from (all_done tail) (turn_dues (goal.Within top) tail) base top rest w (run_late from (all_done tail) m)
+-- of a loop's: another iteration, or what stands after the loop
+pub record Iterations (image : Parts) (from : Sources) (tail : List Slots) (base top next : ℕ) (rest : List Back) (w : Walk) (m : Run) : Type 0 where
+  pub again : (run_late from (all_done tail) m).ways ≡ m.ways ++ branches ∷ [] → Goes image from (all_done tail) (iteration_dues (goal.Within top) tail) base top rest w (run_late from (all_done tail) m)
   pub no_more : (run_late from (all_done tail) m).ways ≡ m.ways → Goes image from (all_done tail) (undue tail) base next rest w (run_late from (all_done tail) m)
 
 -- of a function's: its return to a place is due
@@ -135,12 +135,12 @@ module _ (image : Parts) (from : Sources) where
 
   -- ---- a loop's branch
 
-  branch_turns : (b : Slots) (by : ℤ) (bs : List Slots) (base top words : ℕ) (rest : List Back) (m : Run) (w : Walk) → are_delay_slots 2 bs ≡ true → top + words < 2 ^ 32 → top < size_at image base
+  branch_iterations : (b : Slots) (by : ℤ) (bs : List Slots) (base top words : ℕ) (rest : List Back) (m : Run) (w : Walk) → are_delay_slots 2 bs ≡ true → top + words < 2 ^ 32 → top < size_at image base
       → FetchAt image base (top + words) (with_op (Branch (pos 0 -ℤ pos words)) b ∷ bs) → Comes image base (top + words) rest m w
-      → Turns image from (with_op (Branch by) b ∷ bs) base top (top + words + bundles_words (with_op (Branch by) b ∷ bs)) rest w m
-  branch_turns b by bs base top words rest m w formed few inside h c = by_guard (holds m.regs b.first.guard) refl
+      → Iterations image from (with_op (Branch by) b ∷ bs) base top (top + words + bundles_words (with_op (Branch by) b ∷ bs)) rest w m
+  branch_iterations b by bs base top words rest m w formed few inside h c = by_guard (holds m.regs b.first.guard) refl
     where
-      by_guard : (on : Bool) → holds m.regs b.first.guard ≡ on → Turns image from (with_op (Branch by) b ∷ bs) base top (top + words + bundles_words (with_op (Branch by) b ∷ bs)) rest w m
+      by_guard : (on : Bool) → holds m.regs b.first.guard ≡ on → Iterations image from (with_op (Branch by) b ∷ bs) base top (top + words + bundles_words (with_op (Branch by) b ∷ bs)) rest w m
       by_guard true on =
           let it = with_op (Branch by) b in
           let there = with_op (Branch (pos 0 -ℤ pos words)) b in
@@ -181,22 +181,22 @@ module _ (image : Parts) (from : Sources) where
                 });
           }
 
-  turn_first : (b : Slots) (bs : List Slots) (base top words : ℕ) (rest : List Back) (m : Run) (w : Walk)
-      → ((more : ℕ) (n : Run) (x : Walk) → is_turn bs ≡ true → top + more + bundles_words bs < 2 ^ 32 → FetchAt image base (top + more) (turned more bs) → Comes image base (top + more) rest n x
-      → Turns image from bs base top (top + more + bundles_words bs) rest x n)
-      → (t : Bool) → is_branch b.first.op ≡ t → is_turn (b ∷ bs) ≡ true → top + words + bundles_words (b ∷ bs) < 2 ^ 32 → top < size_at image base
-      → FetchAt image base (top + words) (turned words (b ∷ bs)) → Comes image base (top + words) rest m w → Turns image from (b ∷ bs) base top (top + words + bundles_words (b ∷ bs)) rest w m
-  turn_first b bs base top words rest m w others true is formed few inside h c =
+  iteration_first : (b : Slots) (bs : List Slots) (base top words : ℕ) (rest : List Back) (m : Run) (w : Walk)
+      → ((more : ℕ) (n : Run) (x : Walk) → is_iteration bs ≡ true → top + more + bundles_words bs < 2 ^ 32 → FetchAt image base (top + more) (turned more bs) → Comes image base (top + more) rest n x
+      → Iterations image from bs base top (top + more + bundles_words bs) rest x n)
+      → (t : Bool) → is_branch b.first.op ≡ t → is_iteration (b ∷ bs) ≡ true → top + words + bundles_words (b ∷ bs) < 2 ^ 32 → top < size_at image base
+      → FetchAt image base (top + words) (turned words (b ∷ bs)) → Comes image base (top + words) rest m w → Iterations image from (b ∷ bs) base top (top + words + bundles_words (b ∷ bs)) rest w m
+  iteration_first b bs base top words rest m w others true is formed few inside h c =
       let by = branch_of b.first.op is in
-      let slots : are_delay_slots 2 bs ≡ true = sym (ap (λ t. if t then are_delay_slots 2 bs else (not (is_flow b.first.op) && is_turn bs)) is) ∙ formed in
+      let slots : are_delay_slots 2 bs ≡ true = sym (ap (λ t. if t then are_delay_slots 2 bs else (not (is_flow b.first.op) && is_iteration bs)) is) ∙ formed in
       let calm = (and_parts (length bs == 2) (are_calm bs) slots).1 in
       let it = with_op (Branch (pos 0 -ℤ pos words)) b in
       let told : turned words (b ∷ bs) ≡ it ∷ bs = ap (λ t. (if t then it else b) ∷ turned (words + bundle_words b) bs) is ∙ ap (λ xs. it ∷ xs) (calm_turned (words + bundle_words b) bs calm) in
-      subst (λ op. Turns image from (with_op op b ∷ bs) base top (top + words + bundles_words (with_op op b ∷ bs)) rest w m) (sym by.1)
-      (branch_turns b by.0 bs base top words rest m w slots (omega (arith, few)) inside (subst (FetchAt image base (top + words)) told h) c)
-  turn_first b bs base top words rest m w others false is formed few inside h c =
-      let calm_turn : (not (is_flow b.first.op) && is_turn bs) ≡ true = sym (ap (λ t. if t then are_delay_slots 2 bs else (not (is_flow b.first.op) && is_turn bs)) is) ∙ formed in
-      let parts = and_parts (not (is_flow b.first.op)) (is_turn bs) calm_turn in
+      subst (λ op. Iterations image from (with_op op b ∷ bs) base top (top + words + bundles_words (with_op op b ∷ bs)) rest w m) (sym by.1)
+      (branch_iterations b by.0 bs base top words rest m w slots (omega (arith, few)) inside (subst (FetchAt image base (top + words)) told h) c)
+  iteration_first b bs base top words rest m w others false is formed few inside h c =
+      let calm_iteration : (not (is_flow b.first.op) && is_iteration bs) ≡ true = sym (ap (λ t. if t then are_delay_slots 2 bs else (not (is_flow b.first.op) && is_iteration bs)) is) ∙ formed in
+      let parts = and_parts (not (is_flow b.first.op)) (is_iteration bs) calm_iteration in
       let calm = not_flow (is_flow b.first.op) parts.0 in
       let first : branch_back words b ≡ b = ap (λ t. if t then with_op (Branch (pos 0 -ℤ pos words)) b else b) is in
       let found : fetched_at image base (top + words) ≡ Found b (bundle_words b) = subst (λ x. fetched_at image base (top + words) ≡ Found x (bundle_words x)) first h.0 in
@@ -206,19 +206,19 @@ module _ (image : Parts) (from : Sources) where
       others (words + bundle_words b) (late from b m) (free base (top + words + bundle_words b) (late from b m)) parts.1 (omega (arith, few)) (subst (λ n. FetchAt image base n (turned (words + bundle_words b) bs)) there h.1)
       (subst (λ n. Comes image base n rest (late from b m) (free base (top + words + bundle_words b) (late from b m))) same d) in
       record {
-        again = λ e. subst (λ t. Goes image from (all_done (b ∷ bs)) (if t then way_dues (goal.Within top) (b ∷ bs) else None ∷ turn_dues (goal.Within top) bs) base top rest w (run_late from (all_done (b ∷ bs)) m)) (sym is)
-            (calm_then image from b (all_done bs) (turn_dues (goal.Within top) bs) base (top + words) base top rest rest m (run_late from (all_done (b ∷ bs)) m) w calm found c
+        again = λ e. subst (λ t. Goes image from (all_done (b ∷ bs)) (if t then way_dues (goal.Within top) (b ∷ bs) else None ∷ iteration_dues (goal.Within top) bs) base top rest w (run_late from (all_done (b ∷ bs)) m)) (sym is)
+            (calm_then image from b (all_done bs) (iteration_dues (goal.Within top) bs) base (top + words) base top rest rest m (run_late from (all_done (b ∷ bs)) m) w calm found c
             (λ d. (next d).again (e ∙ ap (λ ways. ways ++ branches ∷ []) (sym (late_ways from b m calm)))));
         no_more = λ e. calm_then image from b (all_done bs) (undue bs) base (top + words) base (top + words + bundles_words (b ∷ bs)) rest rest m (run_late from (all_done (b ∷ bs)) m) w calm found c
             (λ d. elsewhere image from (all_done bs) (undue bs) base (top + (words + bundle_words b) + bundles_words bs) (top + words + bundles_words (b ∷ bs)) rest (free base (top + words + bundle_words b) (late from b m)) (run_late from (all_done (b ∷ bs)) m) (omega arith)
             ((next d).no_more (e ∙ sym (late_ways from b m calm))));
       }
 
-  pub turn_goes : (tail : List Slots) (base top words : ℕ) (rest : List Back) (m : Run) (w : Walk) → is_turn tail ≡ true → top + words + bundles_words tail < 2 ^ 32 → top < size_at image base
-      → FetchAt image base (top + words) (turned words tail) → Comes image base (top + words) rest m w → Turns image from tail base top (top + words + bundles_words tail) rest w m
-  turn_goes [] base top words rest m w formed few inside h c = absurd (true≢false (sym formed))
-  turn_goes (b ∷ bs) base top words rest m w formed few inside h c =
-      turn_first b bs base top words rest m w (λ more n x formed few h c. turn_goes bs base top more rest n x formed few inside h c) (is_branch b.first.op) refl formed few inside h c
+  pub iteration_goes : (tail : List Slots) (base top words : ℕ) (rest : List Back) (m : Run) (w : Walk) → is_iteration tail ≡ true → top + words + bundles_words tail < 2 ^ 32 → top < size_at image base
+      → FetchAt image base (top + words) (turned words tail) → Comes image base (top + words) rest m w → Iterations image from tail base top (top + words + bundles_words tail) rest w m
+  iteration_goes [] base top words rest m w formed few inside h c = absurd (true≢false (sym formed))
+  iteration_goes (b ∷ bs) base top words rest m w formed few inside h c =
+      iteration_first b bs base top words rest m w (λ more n x formed few h c. iteration_goes bs base top more rest n x formed few inside h c) (is_branch b.first.op) refl formed few inside h c
 
   -- ---- calls
 

@@ -21,16 +21,16 @@ abbrev pub way_dues : Goal → List Slots → List (Option Goal)
 way_dues goal [] = []
 way_dues goal (b ∷ bs) = due_in (length bs) goal ∷ way_dues goal bs
 
--- the tail of a turn after which comes another
-abbrev pub turn_dues : Goal → List Slots → List (Option Goal)
-turn_dues goal [] = []
-turn_dues goal (b ∷ bs) = if is_branch b.first.op then way_dues goal (b ∷ bs) else None ∷ turn_dues goal bs
+-- the tail of an iteration after which comes another
+abbrev pub iteration_dues : Goal → List Slots → List (Option Goal)
+iteration_dues goal [] = []
+iteration_dues goal (b ∷ bs) = if is_branch b.first.op then way_dues goal (b ∷ bs) else None ∷ iteration_dues goal bs
 
--- so many turns, of their body, a tail, and the last one's
-abbrev pub turns_dues : List (Option Goal) → List (Option Goal) → List (Option Goal) → ℕ → List (Option Goal)
-turns_dues body again last zero = []
-turns_dues body again last (suc zero) = body ++ last
-turns_dues body again last (suc (suc n)) = (body ++ again) ++ turns_dues body again last (suc n)
+-- so many iterations, of their body, a tail, and the last one's
+abbrev pub iterations_dues : List (Option Goal) → List (Option Goal) → List (Option Goal) → ℕ → List (Option Goal)
+iterations_dues body again last zero = []
+iterations_dues body again last (suc zero) = body ++ last
+iterations_dues body again last (suc (suc n)) = (body ++ again) ++ iterations_dues body again last (suc n)
 
 -- parts that stand at an offset of the function that starts at a place and returns to another, over those of
 -- functions by their number and the place to which they return
@@ -38,7 +38,7 @@ abbrev mutual
   pub part_dues : (ℕ → ℕ) → (ℕ → Back → List (Option Goal)) → Back → ℕ → ℕ → PlainPart → List (Option Goal)
   part_dues start f home base at (straight bs) = undue bs
   part_dues start f home base at (repeats count body tail) =
-      turns_dues (parts_dues start f home base at body) (turn_dues (goal.Within at) tail) (undue tail) count
+      iterations_dues (parts_dues start f home base at body) (iteration_dues (goal.Within at) tail) (undue tail) count
   part_dues start f home base at (calls_to k tail) =
       way_dues (goal.Call (start k)) tail ++ f k (back base (at + bundles_words tail))
   part_dues start f home base at (leaves tail) = way_dues (goal.Return home.base home.offset) tail

@@ -28,7 +28,7 @@ abbrev pub asking : Goal → ℕ → Walk
 asking to slots =
     record { run = small.beginning; base = 1; offset = 5; flow = Some (record { goal = to; slots = slots }) }
 
--- a function that keeps the place to which it returns in r2 and r3, calls the one of number 0 in a single turn, and
+-- a function that keeps the place to which it returns in r2 and r3, calls the one of number 0 in a single iteration, and
 -- returns
 abbrev pub keeps_place : List Slots
 keeps_place =

@@ -21,7 +21,7 @@ abbrev pub words_below : (ℕ → ℕ) → ℕ → ℕ
 words_below size zero = 0
 words_below size (suc n) = words_below size n + (1 + size n)
 
--- the same without the entry
+-- the words of the first so many functions without the entry
 abbrev pub others_below : (ℕ → ℕ) → ℕ → ℕ → ℕ
 others_below size entry zero = 0
 others_below size entry (suc n) = others_below size entry n + (if n == entry then 0 else 1 + size n)

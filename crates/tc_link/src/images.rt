@@ -8,7 +8,7 @@ ghost use Rattle.sp_shape.specs.Formed.{is_formed};
 ghost use Rattle.sp_shape.specs.Run.{Run, Sources, run_late};
 ghost use Rattle.sp_shape.specs.Shown.{plain_shape};
 ghost use Rattle.sp_shape.specs.Trail.{trail};
-ghost use Rattle.sp_shape.specs.Turning.{ShapeTurns, back_of};
+ghost use Rattle.sp_shape.specs.Iterating.{ShapeIterations, back_of};
 ghost use Rattle.sp_shape.specs.Words.{parts_words};
 ghost use Rattle.tc_link.specs.Backs.{backs_of};
 ghost use Rattle.tc_link.specs.Dues.{dues_of};
@@ -64,9 +64,9 @@ pub fn link(alloc: Global, shape: &Shape) -> Result<Image, OutOfMemory>
     ensures is { IfOk result (λ image. image ≡ linked (plain_shape shape.now)) }
 
     // A core that is put where the entry starts, and that fetches its words and obeys its flows, does the bundles of
-    // the shape's trail, where its loops make all their turns and its functions come back.
+    // the shape's trail, where its loops make all their iterations and its functions come back.
     ensures preserves { IfOk result (λ image. (from : Sources) (m : Run) → FitsRegisters m.regs
-        → m.backs ≡ backs_of (plain_shape shape.now) → ShapeTurns (run_late from) (plain_shape shape.now) m
+        → m.backs ≡ backs_of (plain_shape shape.now) → ShapeIterations (run_late from) (plain_shape shape.now) m
         → Follows image from (trail (plain_shape shape.now)) (dues_of (plain_shape shape.now) (back_of m))
         (walk_from (entry image) m)) }
 

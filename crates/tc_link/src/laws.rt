@@ -21,7 +21,7 @@ ghost use Rattle.sp_shape.specs.Formed.{is_formed};
 ghost use Rattle.sp_shape.specs.Parts.{PlainParts, PlainShape};
 ghost use Rattle.sp_shape.specs.Run.{Run, Sources, late, run_late};
 ghost use Rattle.sp_shape.specs.Trail.{trail};
-ghost use Rattle.sp_shape.specs.Turning.{ShapeTurns, back_of};
+ghost use Rattle.sp_shape.specs.Iterating.{ShapeIterations, back_of};
 ghost use Rattle.tc_link.specs.Dues.{dues_of};
 ghost use Rattle.sp_shape.specs.Words.{bundles_words};
 ghost use Rattle.tc_link.specs.Backs.{backs_of};
@@ -80,13 +80,13 @@ pub fn targets_change_nothing()
 {}
 
 /// A core that is put where the entry starts, and that fetches the words of the image and obeys its flows, does the
-/// bundles of the shape's trail one after another: where its loops make all their turns and its functions come back,
+/// bundles of the shape's trail one after another: where its loops make all their iterations and its functions come back,
 /// and where the places to which its calls return are told as they are. Each flow goes to a place, and none stands in a
 /// delay slot of another. After the last bundle the entry's return is due.
 pub fn code_follows_the_trail()
     ensures { (s : PlainShape) (from : Sources) (m : Run) → is_formed s ≡ true → FitsImage s
         → ((k : ℕ) → k < length s.functions → All FitsBundle (flat s k))
-        → FitsRegisters m.regs → m.backs ≡ backs_of s → ShapeTurns (run_late from) s m
+        → FitsRegisters m.regs → m.backs ≡ backs_of s → ShapeIterations (run_late from) s m
         → Follows (linked s) from (trail s) (dues_of s (back_of m)) (walk_from (entry (linked s)) m) }
 {}
 

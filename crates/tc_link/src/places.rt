@@ -28,7 +28,7 @@ pub fn places_of(alloc: Global, sizes: &[u32], entry: usize) -> Result<Vec<Addr2
     Ok(places)
 }
 
-/// The same in the order of the image.
+/// The starts of the functions in the order of the image.
 pub fn in_order(alloc: Global, places: &[Addr22], entry: usize) -> Result<Vec<u32>, OutOfMemory>
     requires { entry < length places.now }
     ensures { IfOk result (λ starts. starts.items

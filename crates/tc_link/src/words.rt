@@ -54,7 +54,7 @@ fn push_call(words: &mut Vec<u32>, start: Addr22, tail: &[Bundle]) -> Result<(),
 }
 
 // adds those of the tail of a loop, which begins so many words after the body's first
-fn push_turn(words: &mut Vec<u32>, body: u32, tail: &[Bundle]) -> Result<(), OutOfMemory>
+fn push_iteration(words: &mut Vec<u32>, body: u32, tail: &[Bundle]) -> Result<(), OutOfMemory>
     requires { body + bundles_words tail.now ≤ MOST_IN_FUNCTION }
     ensures words { OnOk result (words.new.items ≡ words.old.items ++ codes (flat.turned body tail.now)) }
     ensures fit { OnOk result (All FitsBundle (flat.turned body tail.now)) }
@@ -92,7 +92,7 @@ fn push_part(words: &mut Vec<u32>, part: &Part, places: &[Addr22]) -> Result<(),
             let begin = words.len();
             push_parts(words, body.as_slice(), places)?;
             let body = words.len() - begin;
-            push_turn(words, body as u32, tail.as_slice())
+            push_iteration(words, body as u32, tail.as_slice())
         }
         Part::CallTo { function, tail } => {
             push_call(words, start_of(places, *function), tail.as_slice())

@@ -6,7 +6,7 @@ ghost use Rattle.patmos_model.specs.declared.fetched.Fetched.TheVariants.{Found}
 ghost use Rattle.patmos_model.specs.declared.flow.Goal.TheVariants as goal;
 ghost use Rattle.sp_shape.specs.Formed.{is_formed};
 ghost use Rattle.sp_shape.specs.Run.{by_words};
-ghost use Rattle.sp_shape.specs.Turning.{back_of};
+ghost use Rattle.sp_shape.specs.Iterating.{back_of};
 ghost use Rattle.tc_link.specs.Dues.{dues_of};
 ghost use Rattle.sp_shape.specs.Small as small;
 ghost use Rattle.sp_shape.specs.Trail.{trail};
@@ -63,7 +63,7 @@ pub fn worked_walks()
     ensures found { fetched_at (linked second_run) 1 1 ≡ Found (small.under small.always (Call 15)) 1 }
 {}
 
-/// A task that calls a function in a turn, and comes back: its code follows its trail.
+/// A task that calls a function in an iteration, and comes back: its code follows its trail.
 #[tactic(auto, using(crate::proofs::Example::one_followed))]
 pub fn worked_walk()
     ensures { Follows (linked one_call) by_words (trail one_call) (dues_of one_call (back_of (task_of one_call)))

@@ -39,7 +39,7 @@ is_done _ = false
 abbrev pub where_so : Bool → List ℕ → List ℕ
 where_so holds words = if holds then words else []
 
--- What is told of a C task on the same line: its bound, which no other task has, whether it is alone with
+-- What is reported of a C task on the same line: its bound, which no other task has, whether it is alone with
 -- its shared data, and whether a loop of it, now done, ran past its count.
 abbrev pub bound_text : Option ℕ → Bool → Bool → List ℕ
 bound_text None alone overrun = []

@@ -12,7 +12,7 @@ platform_line cores slot period =
     line (codes "platform cores " ++ decimal cores ++ codes " slot " ++ decimal slot ++ codes " period "
     ++ decimal period)
 
--- what became of a core's task; an overrun is told of a done task alone
+-- what became of a core's task; an overrun is reported of a done task alone
 unfoldable pub state_line : ℕ → Row → List ℕ
 state_line core row =
     line (about core ++ state_text row.state ++ bound_text row.bound row.alone (is_done row.state && row.overrun))
@@ -21,7 +21,7 @@ state_line core row =
 unfoldable pub out_lines : ℕ → Row → List ℕ
 out_lines core row = if is_done row.state then outs_from core row.outs_unsigned 0 row.outs else []
 
--- all that is told of a core
+-- all that is reported of a core
 unfoldable pub core_lines : ℕ → Row → List ℕ
 core_lines core row =
     state_line core row ++ out_lines core row ++ dropped_lines core row.dropped

@@ -46,7 +46,7 @@ fn is_done(state: RowState) -> bool
     matches!(state, RowState::Done { .. })
 }
 
-/// Appends what is told of a C task.
+/// Appends what is reported of a C task.
 fn put_bound(text: &mut Vec<u8>, bound: u64, alone: bool, overrun: bool) -> Result<(), OutOfMemory>
     ensures { OnOk result (text.new.items ≡ text.old.items ++ specs.bound_text (Some bound) alone overrun) }
 {
@@ -93,7 +93,7 @@ fn put_stage(text: &mut Vec<u8>, name: &str, place: Option<u32>) -> Result<(), O
     }
 }
 
-/// Appends the line that tells what a C task means: the value of its `main`, which is told as
+/// Appends the line that tells what a C task means: the value of its `main`, which is reported as
 /// signed, and whether a loop of it ran past its count.
 pub fn add_mean_line(
     text: &mut Vec<u8>,

@@ -1,6 +1,6 @@
 //! The report: what `run` writes about the end of a machine; and the lines that `mean` writes about a C task.
 //!
-//! Its first line tells the platform. Then each core in order is told: what became of its task, the words
+//! Its first line tells the platform. Then it has each core in order: what became of its task, the words
 //! of the array `out` of a done C task, how many starts of transfers were dropped, and its first
 //! transactions with main memory.
 //!

@@ -62,7 +62,7 @@ pub fn put_step_line(
     text.extend_from_slice(line.as_slice())
 }
 
-/// Appends the line that tells what a C task means: the value of its `main`, which is told as
+/// Appends the line that tells what a C task means: the value of its `main`, which is reported as
 /// signed, and whether a loop of it ran past its count.
 pub fn put_mean_line(
     text: &mut Vec<u8>,

@@ -41,7 +41,7 @@ pub enum RowState {
     Idle,
     /// The task still ran at the cycle limit.
     Limit,
-    /// The task is done: its value, a word that is told as signed, and how many cycles it took.
+    /// The task is done: its value, a word that is reported as signed, and how many cycles it took.
     Done { value: u32, cycles: u64 },
     /// The task trapped: the number of the trap, and its cycle.
     Trap { trap: u32, at: u64 },

@@ -34,7 +34,7 @@ pub fn add_platform_line(
     put(text, "\n")
 }
 
-/// Appends all that is told of the cores.
+/// Appends all that is reported of the cores.
 #[tactic(auto, using(crate::proofs::Appends::more_cores, crate::proofs::Appends::all_cores))]
 fn put_cores(text: &mut Vec<u8>, rows: &[Row]) -> Result<(), OutOfMemory>
     ensures { OnOk result (text.new.items ≡ text.old.items ++ specs.cores_from 0 rows.now) }
@@ -45,7 +45,7 @@ fn put_cores(text: &mut Vec<u8>, rows: &[Row]) -> Result<(), OutOfMemory>
     Ok(())
 }
 
-/// Appends all that is told of a core.
+/// Appends all that is reported of a core.
 #[tactic(auto, unfolding(crate::specs::Report::core_lines))]
 fn put_core(text: &mut Vec<u8>, core: u64, row: &Row) -> Result<(), OutOfMemory>
     ensures { OnOk result (text.new.items ≡ text.old.items ++ specs.core_lines core row.now) }

@@ -16,7 +16,7 @@ pub record IsBegun (trace : ℕ) (l : LoadedCore) (c : Cpu) : Type 0 where
   pub place : place_of c ≡ l.place
   pub room : IfSome l.image (λ image. room_of c ≡ trace)
 
--- so is each of the cores, in the order of their numbers, and they are all of the machine's
+-- each of the cores is begun, in the order of their numbers, and they are all of the machine's
 pub record AreBegun (m : Machine) (cores : List Cpu) : Type 0 where
   pub count : length cores ≡ length m.cores
   pub each : Every (λ k c. IfSome (slice_get m.cores k) (λ l. IsBegun m.trace l c)) cores

@@ -18,7 +18,7 @@ pub record IsFinalCore (m : Machine) (k : ℕ) (c : Cpu) : Type 0 where
   pub place : IfSome (slice_get m.cores k) (λ l. place_of c ≡ l.place)
   pub room : IfSome (slice_get m.cores k) (λ l. IfSome l.image (λ image. room_of c ≡ m.trace))
 
--- so is each of the cores, and they are all of the machine's
+-- each of the cores is final, and they are all of the machine's
 pub record AreFinal (m : Machine) (cores : List Cpu) : Type 0 where
   pub count : length cores ≡ length m.cores
   pub each : Every (IsFinalCore m) cores

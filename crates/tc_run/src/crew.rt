@@ -157,7 +157,7 @@ pub(crate) fn run_groups<R: Threads + Wait + Sync, G: Gate + Sync>(
     )
 }
 
-// the same, with the scope of the threads
+// runs the crew in the scope of its threads
 fn run_in<'s, E, R: Threads + Wait + Sync, G: Gate + Sync>(
     scope: &Scope<'s, E>,
     common: Common<'s, R, G>,

@@ -17,7 +17,7 @@ pub fn loaded_with_words(machine: &Loaded)
     }
 }
 
-// so is each of its cores
+// each core is loaded with words
 fn core_of_words(core: &LoadedCore)
     ensures { HoldsWords core.now }
 {
@@ -38,7 +38,7 @@ fn image_of_words(image: &Image)
     words_fit(image.initial());
 }
 
-// so are those of any slice of such numbers
+// the numbers of a slice of `u32` are words
 fn words_fit(words: &[u32])
     ensures { Each IsWord words.now }
 {}

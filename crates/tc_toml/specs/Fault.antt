@@ -45,7 +45,7 @@ abbrev pub IsReportedFor : Refusal → Option ℕ → List ℕ → JobError → 
 IsReportedFor refusals.Memory task key error = error ≡ errors.Memory
 IsReportedFor (refusals.Fault fault) task key error = IsReported fault task key error
 
--- what was read is answered, or it is told why it was refused
+-- what was read is answered, or why it was refused
 abbrev pub IsReportedAt : {A : Type 0} → Option ℕ → List ℕ → Result A Refusal → Result A JobError → Type 0
 IsReportedAt task key (Ok x) result = result ≡ Ok x
 IsReportedAt task key (Err refusal) result = IsErrAnd result (IsReportedFor refusal task key)
@@ -75,8 +75,8 @@ abbrev pub place_of : Option ℕ → List ℕ
 place_of None = []
 place_of (Some task) = codes " task " ++ signed_decimal (pos task)
 
--- The line in which a fault is told, without its end: a text that is no TOML at all has no key to name,
--- and any other fault is told with its task and its key.
+-- The line in which a fault is reported, without its end: a text that is no TOML at all has no key to name,
+-- and any other fault is reported with its task and its key.
 abbrev pub fault_text : JobFault → Option ℕ → List ℕ → List ℕ
 fault_text faults.Toml task key = codes "job: Toml"
 fault_text fault task key = codes "job: " ++ name_of fault ++ place_of task ++ codes " " ++ key

@@ -1,4 +1,4 @@
--- To be believed. Which keys may stand in a table, and which unknown one is told: the least by bytes, whatever the order
+-- To be believed. Which keys may stand in a table, and which unknown one is reported: the least by bytes, whatever the order
 -- of the members.
 use Rattle.std.specs.Prelude.{ℕ, Bool, if◌then◌else◌, List, Option, Some, None, Result, Ok, Err}
 use Rattle.std.specs.Cmp.Lexicographic.{slice_cmp}

@@ -53,7 +53,7 @@ abbrev pub each_of : {A B : Type 0} → (A → Option B) → List A → Option (
 each_of f [] = Some []
 each_of f (x ∷ xs) = in_front (f x) (each_of f xs)
 
--- the same over the items of an array
+-- what f finds in each item of an array, where it finds something in all
 abbrev pub each_item : {A : Type 0} → (Data → Option A) → Items → Option (List A)
 each_item f no_items = Some []
 each_item f (item d ds) = in_front (f d) (each_item f ds)

@@ -47,7 +47,7 @@ pub enum Refusal {
     Memory,
 }
 
-/// Appends the line in which a fault is told, without its end.
+/// Appends the line in which a fault is reported, without its end.
 pub fn put_fault(
     text: &mut Vec<u8>,
     kind: JobFault,

@@ -13,7 +13,7 @@ quotient a b = if b == 0 then 0 else cast_unsigned w32 (int_div (cast_signed w32
 abbrev pub rest : ℕ → ℕ → ℕ
 rest a b = if b == 0 then a else cast_unsigned w32 (int_rem (cast_signed w32 a) (cast_signed w32 b))
 
--- the same of unsigned words
+-- the quotient of unsigned words; 0 where the divisor is 0
 abbrev pub quotient_unsigned : ℕ → ℕ → ℕ
 quotient_unsigned a b = if b == 0 then 0 else a / b
 

@@ -20,7 +20,7 @@ pub const USAGE: &[u8] = b"usage: tccode\n";
 pub fn text_answer(alloc: Global, bytes: &[u8]) -> Result<Answer, OutOfMemory>
     ensures answer { IfOk result (λ answer. answer ≡ specs.job_answer (job_of bytes.now)) }
     ensures below { IfOk result (λ answer. answer.status < 5) }
-    ensures told { IfOk result (λ _. TellsJob bytes.now) }
+    ensures reported { IfOk result (λ _. TellsJob bytes.now) }
 {
     match read_job(alloc, bytes) {
         Ok(job) => code_answer(alloc, &RangedJob::of(job)),
@@ -33,7 +33,7 @@ pub fn text_answer(alloc: Global, bytes: &[u8]) -> Result<Answer, OutOfMemory>
 fn code_answer(alloc: Global, job: &RangedJob) -> Result<Answer, OutOfMemory>
     ensures answer { IfOk result (λ answer. answer ≡ specs.coded_answer job.now (coded_from job.now 0 job.now.cores)) }
     ensures below { IfOk result (λ answer. answer.status < 5) }
-    ensures told { IfOk result (λ _. (coded : prelude.List (Option Coded))
+    ensures reported { IfOk result (λ _. (coded : prelude.List (Option Coded))
         → coded_from job.now 0 job.now.cores ≡ Ok coded → TellsCodes job.now coded) }
 {
     match coded_tasks(alloc, job) {

@@ -10,7 +10,7 @@ use tc_word::Text;
 const ASSEMBLY: &[u8] =
     b"version = 1\ncores = 1\nslot = 6\ncycles = 100\n[[task]]\ncore = 0\nlang = \"asm\"\nsource = \".func main; addi r1 = r0, 7; ret; nop; nop; nop\"\n";
 
-/// Four loops of 65,535 turns around one another, whose bound is past the largest;
+/// Four loops of 65,535 iterations around one another, whose bound is past the largest;
 /// and a number past 32 bits, at byte 20.
 const LONG: &[u8] =
     b"version = 1\ncores = 1\nslot = 6\ncycles = 1000\n[[task]]\ncore = 0\nlang = \"c\"\nsource = '''int main() { _Pragma(\"loopbound min 0 max 65535\") while (0) { _Pragma(\"loopbound min 0 max 65535\") while (0) { _Pragma(\"loopbound min 0 max 65535\") while (0) { _Pragma(\"loopbound min 0 max 65535\") while (0) { } } } } return 0; }'''\n";

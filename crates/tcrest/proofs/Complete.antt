@@ -22,24 +22,27 @@ use Rattle.tcrest.specs.Telling.{HasReport}
 use Rattle.tcrest.proofs.Outcomes.{bytes_answer-within}
 use Rattle.job_tasks.proofs.TasksFound.{found_among}
 
-record IsMade (job : Job) (t : Task) : Type 0 where
+pub record IsMade (job : Job) (t : Task) : Type 0 where
   pub made : Made
   pub is : made_by job t ≡ Ok made
 
+pub bound_fits : (bound : ℕ) → bound ≤ MOST_BOUND → nat_le bound MOST_BOUND ≡ true
+bound_fits bound few = grind (arith, nat_tests, few)
+
 -- a task that has code is made
-made_of : (job : Job) (t : Task) → HasCode job t → IsMade job t
+unfoldable pub made_of : (job : Job) (t : Task) → HasCode job t → IsMade job t
 made_of job t (assembles code asm is) = record {
   made = of_code code;
   is = ap (λ l. made_in job t.core l t.source) asm ∙ ap (λ r. coded r >>= λ c. Ok (of_code c)) is;
 }
-made_of job t (compiles items c is few) = let fits : nat_le (bound_on job.table job.slot t.core items) MOST_BOUND ≡ true = grind (arith, nat_tests, few) in record {
+made_of job t (compiles items c is few) = let fits : nat_le (bound_on job.table job.slot t.core items) MOST_BOUND ≡ true = bound_fits (bound_on job.table job.slot t.core items) few in record {
   made = of_program job t.core items;
   is = ap (λ l. made_in job t.core l t.source) c
       ∙ ap (λ r. taken (within job.table job.slot t.core r) >>= λ ps. Ok (of_program job t.core ps)) is
       ∙ ap (λ b. taken (if b then Ok items else Err too_long) >>= λ ps. Ok (of_program job t.core ps)) fits;
 }
 
-record AreMade (job : Job) (core count : ℕ) : Type 0 where
+pub record AreMade (job : Job) (core count : ℕ) : Type 0 where
   pub coded : List (Option Coded)
   pub is : coded_from job core count ≡ Ok coded
 
@@ -56,13 +59,13 @@ one_made job core count (Some t) has more = (
     m : IsMade job t
     m = made_of job t has
 
-all_made : (job : Job) → Each (HasCode job) job.tasks → (core count : ℕ) → AreMade job core count
+pub all_made : (job : Job) → Each (HasCode job) job.tasks → (core count : ℕ) → AreMade job core count
 all_made job has core zero = record { coded = []; is = refl }
 all_made job has core (suc count) =
     let one = one_made job core count (task_on job.tasks core) (found_among (HasCode job) job.tasks core has) (all_made job has (core + 1) count) in
     record { coded = one.0; is = one.1 }
 
-status_is : (rows : List Row) → HasReport (status_of rows)
+pub status_is : (rows : List Row) → HasReport (status_of rows)
 status_is rows = by (list_any (λ r. is_early r.state) rows)
   where
     by : (early : Bool) → HasReport (elim early [ true ↦ 3 | false ↦ 0 ])

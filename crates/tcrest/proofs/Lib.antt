@@ -7,3 +7,4 @@ pub mod Piped
 pub mod Outs
 pub mod Telling
 pub mod Complete
+pub mod Generated

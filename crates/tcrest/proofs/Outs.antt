@@ -8,7 +8,7 @@ use Rattle.c_tree.specs.declared.layout.Slot.{Slot}
 use Rattle.c_tree.specs.Layout.{slots_from, layout_of}
 use Rattle.c_tree.specs.Plain.{PlainItem, global, function}
 use Rattle.c_tree.specs.Valid.{IsValid, item_words}
-use Rattle.c_run.specs.Told.{words_from, is_output, output_from, output_number}
+use Rattle.c_run.specs.Reported.{words_from, is_output, output_from, output_number}
 use Rattle.c_world.specs.declared.region.Region.{Region}
 use Rattle.c_world.specs.declared.region.Region.TheVariants as region
 use Rattle.c_world.specs.Shown.{room_in}

@@ -121,7 +121,7 @@ compiled_at job core c p m some = subst (λ o. IfSome o (IsCompiled job core c.m
 valid_at : (job : Job) (start : ℕ) (place : Place) (items : List PlainItem) → IsPlaceOf job start place → IsValid items job.cores place.core → IsValid items place.cores place.core
 valid_at job start place items at valid = subst (λ n. IsValid items n place.core) (sym at.cores) valid
 
--- what hangs on the table and the slots of a job is the same at a place of its platform
+-- what depends on the table and the slots of a job is the same at a place of its platform
 on_place : (job : Job) (start : ℕ) (place : Place) (f : List ℕ → ℕ → ℕ) → IsPlaceOf job start place → f job.table job.slot ≡ f place.table place.slot
 on_place job start place f at = ap (λ t. f t job.slot) (sym at.table) ∙ ap (f place.table) (sym at.slot)
 
@@ -256,7 +256,7 @@ pub always : {X E : Type 0} {P : Type 0} (result : Result X E) → P → IfOk re
 always (Ok x) p = p
 always (Err e) p = tt
 
-ok_is : {X E : Type 0} (a b : X) → (let r : Result X E = Ok a in r) ≡ Ok b → a ≡ b
+pub ok_is : {X E : Type 0} (a b : X) → (let r : Result X E = Ok a in r) ≡ Ok b → a ≡ b
 ok_is a b same = ap (λ r. elim r as (λ _. _) [ Ok x ↦ x | Err e ↦ a ]) same
 
 -- of a job that a command does not take nothing is told

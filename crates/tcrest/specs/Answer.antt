@@ -67,7 +67,7 @@ answer_with Mean job coded = whole (meanings job.cycles coded)
 answer_with Pipe job coded = pipe_with job coded
 answer_with Persist job coded = whole (bounds_text Persistent job coded)
 
--- the same, or a refused task
+-- what a command answers of the tasks of a job, or of the task that is refused
 abbrev pub answer_or : JobCommand → Job → Result (List (Option Coded)) CoreRefusal → Answer
 answer_or command job (Ok coded) = answer_with command job coded
 answer_or command job (Err refusal) = no_task refusal

@@ -9,7 +9,7 @@ use Rattle.tcrest.specs.declared.bounds.Bounds.{Bounds}
 use Rattle.tcrest.specs.declared.bounds.Bounds.TheVariants.{Plain, Persistent}
 use Rattle.job_tasks.specs.Tasks.{Bounded, Coded, Runs, nothing, assembly, program, runs_on, told_from}
 
--- the persistent bound, where it is told
+-- the persistent bound, where it is reported
 abbrev pub persist_text : Bounds → ℕ → List ℕ
 persist_text Plain persist = []
 persist_text Persistent persist = codes " persist " ++ decimal persist

@@ -4,8 +4,8 @@ use Rattle.c_tree.specs.declared.layout.Slot.{Slot}
 use Rattle.c_tree.specs.Layout.{layout_of}
 use Rattle.c_tree.specs.Plain.{PlainItem}
 use Rattle.c_meaning.specs.Begun.{meaning}
-use Rattle.c_meaning.specs.Meaning.{Given}
-use Rattle.c_run.specs.Told.{slot_words, output_number}
+use Rattle.c_meaning.specs.Meaning.{Outcome}
+use Rattle.c_run.specs.Reported.{slot_words, output_number}
 use Rattle.c_world.specs.World.{World}
 use Rattle.tc_report.specs.Line.{line, about, mean_line, outs_from}
 use Rattle.job_tasks.specs.Tasks.{Bounded, Made, Coded, told_from}
@@ -19,7 +19,7 @@ abbrev pub output_slot : List PlainItem → Option Slot
 output_slot items = elim (output_number items) [ None ↦ None | Some number ↦ slice_get (layout_of items) number ]
 
 -- what a program gave
-abbrev pub given_lines : ℕ → List PlainItem → Given → List ℕ
+abbrev pub given_lines : ℕ → List PlainItem → Outcome → List ℕ
 given_lines core items given =
     mean_line core given.value given.world.overrun ++ outs_of core given.world (output_slot items)
 
@@ -34,7 +34,7 @@ long_line core = line (about core ++ codes "long")
 abbrev pub timely_lines : ℕ → ℕ → List ℕ → Bounded → List ℕ
 timely_lines limit core input p = if nat_lt limit p.bound then long_line core else program_lines core input p.items
 
--- what is told of a core's task, if it has one; of an assembly task nothing is
+-- what is reported of a core's task, if it has one; of an assembly task nothing is
 abbrev pub lines_for : ℕ → ℕ → List ℕ → Made → List ℕ
 lines_for limit core input m = elim m.program as (λ _. List ℕ) [ None ↦ [] | Some p ↦ timely_lines limit core input p ]
 
@@ -42,6 +42,6 @@ abbrev pub lines_on : ℕ → ℕ → Option Coded → List ℕ
 lines_on limit core None = []
 lines_on limit core (Some c) = lines_for limit core c.task.input c.made
 
--- what is told of all cores
+-- what is reported of all cores
 abbrev pub meanings : ℕ → List (Option Coded) → List ℕ
 meanings limit coded = told_from (lines_on limit) 0 coded

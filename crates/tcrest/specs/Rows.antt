@@ -3,7 +3,7 @@ use Rattle.std.specs.Prelude.{ℕ, ◌+◌, ◌==◌, Bool, true, false, not, Li
 use Rattle.std.specs.List.{list_any}
 use Rattle.c_mentions.specs.Alone as alone
 use Rattle.c_mentions.specs.Alone.{Running, is_alone}
-use Rattle.c_run.specs.Told.{slot_words}
+use Rattle.c_run.specs.Reported.{slot_words}
 use Rattle.c_tree.specs.declared.layout.Slot.{Slot}
 use Rattle.c_world.specs.World.{World}
 use Rattle.slot_arbiter.specs.Slot.{period}
@@ -28,7 +28,7 @@ row_state state.Running = Limit
 row_state (state.Done value flag cycles) = Done value cycles
 row_state (state.Trapped trap at) = Trap (trap_number trap) at
 
--- ---- what is told of a C task besides
+-- ---- what is reported of a C task besides
 
 -- what a core runs, as far as its data is concerned
 abbrev pub running : Runs → Running

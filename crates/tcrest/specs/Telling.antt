@@ -5,7 +5,7 @@ use Rattle.slot_arbiter.specs.declared.place.Place.{Place}
 use Rattle.shared_order.specs.Machine.{State}
 use Rattle.shared_order.specs.Words.{zeros}
 use Rattle.c_tree.specs.Plain.{PlainItem}
-use Rattle.c_meaning.specs.Meaning.{Given}
+use Rattle.c_meaning.specs.Meaning.{Outcome}
 use Rattle.core_pace.specs.Growth.{below}
 use Rattle.job_gen.specs.Generator.{generated}
 use Rattle.patmos_model.specs.State.{Core}
@@ -34,12 +34,12 @@ pub record IsPlaceOf (job : Job) (start : ℕ) (place : Place) : Type 0 where
   pub starts : place.start ≡ start
 
 -- a row tells what a text means: the value, whether a loop ran past its bound, and the words of `out`
-pub record TellsMeaning (place : Place) (items : List PlainItem) (g : Given) (row : Row) : Type 0 where
+pub record TellsMeaning (place : Place) (items : List PlainItem) (g : Outcome) (row : Row) : Type 0 where
   pub state : row.state ≡ Done g.value ((times place items).end - place.start)
   pub overrun : row.overrun ≡ g.world.overrun
   pub outs : row.outs ≡ words_out g.world (output_slot items)
 
--- What the row of a core tells of a C task, in the machine of its job at the limit. The program's times hang on its
+-- What the row of a core tells of a C task, in the machine of its job at the limit. The program's times depend on its
 -- text and its place alone, and neither on its input nor on what the other cores do.
 pub record TellsTask (job : Job) (m : State Core) (place : Place) (items : List PlainItem) (input : List ℕ) (row : Row) : Type 0 where
   -- the transactions are the first of the program's times below the limit
@@ -48,13 +48,13 @@ pub record TellsTask (job : Job) (m : State Core) (place : Place) (items : List 
   pub done : (times place items).end ≤ job.cycles
       → (value : ℕ) × (row.state ≡ Done value ((times place items).end - place.start))
   pub limit : job.cycles < (times place items).end → row.state ≡ Limit
-  -- the program's bound is told, and its end is at most its start and that
+  -- the program's bound is reported, and its end is at most its start and that
   pub bound : row.bound ≡ Some (bound_of place items)
   pub within : (times place items).end ≤ place.start + bound_of place items
   -- the operations of the task, whose loads a world has to fit, are all that its core made in the machine without its
   -- interface's, in their order
   pub own : OwnsOperations items place input m job.cycles
-  -- a done task is told to be what its text means in each world that fits, and alone the world of zeros does
+  -- a done task is reported to be what its text means in each world that fits, and alone the world of zeros does
   pub meaning : (world : ℕ → ℕ) → IsWorld world → FitsWorld items place input m job.cycles world
       → (times place items).end ≤ job.cycles
       → TellsMeaning place items (said items place input world) row

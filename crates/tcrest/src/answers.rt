@@ -48,7 +48,7 @@ pub fn text_answer<R: Threads + Wait + Sync, G: Gate + Sync>(
     requires reads { words.ReadsNothing command → ⊥ }
     ensures answer { IfOk result (λ answer. answer ≡ specs.text_answer command bytes.now) }
     ensures below { IfOk result (λ answer. answer.status < 5) }
-    ensures told { IfOk result (λ _. TellsTasksOf command bytes.now) }
+    ensures reported { IfOk result (λ _. TellsTasksOf command bytes.now) }
 {
     match command {
         Command::OfJob(command) => job_answer(alloc, rt, command, bytes, gate),
@@ -69,7 +69,7 @@ pub fn unread_answer<R: Threads + Wait + Sync, G: Gate + Sync>(
     requires { words.ReadsNothing command }
     ensures answer { IfOk result (λ answer. answer ≡ specs.unread_answer command) }
     ensures below { IfOk result (λ answer. answer.status < 5) }
-    ensures told { IfOk result (λ _. TellsTasksOf command []) }
+    ensures reported { IfOk result (λ _. TellsTasksOf command []) }
 {
     match command {
         Command::Gen { number } => gen_answer(alloc, number),
@@ -97,7 +97,7 @@ fn bench_answer<R: Threads + Wait + Sync, G: Gate + Sync>(
 ) -> Result<Answer, OutOfMemory>
     ensures answer { IfOk result (λ answer. answer ≡ specs.job_answer variants.Run (job_of (generated number))) }
     ensures below { IfOk result (λ answer. answer.status < 5) }
-    ensures told { IfOk result (λ _. TellsJob variants.Run (generated number)) }
+    ensures reported { IfOk result (λ _. TellsJob variants.Run (generated number)) }
 {
     let text = generate(alloc, u64::from(number))?;
     job_answer(alloc, rt, JobCommand::Run, text.as_slice(), gate)
@@ -132,7 +132,7 @@ fn job_answer<R: Threads + Wait + Sync, G: Gate + Sync>(
 ) -> Result<Answer, OutOfMemory>
     ensures answer { IfOk result (λ answer. answer ≡ specs.job_answer command (job_of bytes.now)) }
     ensures below { IfOk result (λ answer. answer.status < 5) }
-    ensures told { IfOk result (λ _. TellsJob command bytes.now) }
+    ensures reported { IfOk result (λ _. TellsJob command bytes.now) }
 {
     match read_job(alloc, bytes) {
         Ok(job) => answer_by(alloc, rt, command, &RangedJob::of(job), gate),
@@ -152,7 +152,7 @@ fn answer_by<R: Threads + Wait + Sync, G: Gate + Sync>(
 ) -> Result<Answer, OutOfMemory>
     ensures answer { IfOk result (λ answer. answer ≡ specs.answer_by command job.now) }
     ensures below { IfOk result (λ answer. answer.status < 5) }
-    ensures told { IfOk result (λ _. (coded : prelude.List (Option Coded))
+    ensures reported { IfOk result (λ _. (coded : prelude.List (Option Coded))
         → coded_from job.now 0 job.now.cores ≡ Ok coded → TellsOf command job.now coded) }
 {
     if !is_taken(command, job.job()) {
@@ -189,7 +189,7 @@ fn answer_with<R: Threads + Wait + Sync, G: Gate + Sync>(
     requires made { AreMade job.now (all_shown coded.items) }
     requires taken { specs.is_taken command job.now ≡ true }
     ensures answer { IfOk result (λ answer. answer ≡ specs.answer_with command job.now (all_shown coded.entry.items)) }
-    ensures told { IfOk result (λ _. TellsOf command job.now (all_shown coded.entry.items)) }
+    ensures reported { IfOk result (λ _. TellsOf command job.now (all_shown coded.entry.items)) }
 {
     job.keeps_ranges();
     match command {
@@ -214,7 +214,7 @@ fn report_of<R: Threads + Wait + Sync, G: Gate + Sync>(
     requires among { All (IsAmong job.now.cores) coded.items }
     requires made { AreMade job.now (all_shown coded.items) }
     ensures answer { IfOk result (λ answer. answer ≡ specs.report_of job.now (all_shown coded.entry.items)) }
-    ensures told { IfOk result (λ _. TellsTasks job.now (all_shown coded.entry.items)) }
+    ensures reported { IfOk result (λ _. TellsTasks job.now (all_shown coded.entry.items)) }
 {
     job.keeps_ranges();
     machine_keeps_ranges();

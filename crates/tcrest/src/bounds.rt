@@ -9,7 +9,7 @@ use tc_io::put_number;
 use tc_report::{put_core_name, put_platform_line};
 use tc_word::OutOfMemory;
 
-/// Which bounds are told of a C task.
+/// Which bounds are reported of a C task.
 #[derive(Clone, Copy, Debug, PartialEq, Eq)]
 pub enum Bounds {
     /// How many cycles it takes at most.
@@ -82,7 +82,7 @@ fn put_line(
     text.extend_from_slice(b"\n")
 }
 
-// the persistent bound, where it is told
+// the persistent bound, where it is reported
 fn put_persist(text: &mut Vec<u8>, bounds: Bounds, persist: u64) -> Result<(), OutOfMemory>
     ensures { OnOk result (text.new.items ≡ text.old.items ++ specs.persist_text bounds persist) }
 {

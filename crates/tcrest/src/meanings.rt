@@ -1,5 +1,5 @@
 ghost use Rattle.std.specs.Prelude.{◌≡◌, ◌++◌, IfOk, OnOk, map};
-ghost use Rattle.c_run.specs.Told.{slot_words};
+ghost use Rattle.c_run.specs.Reported.{slot_words};
 ghost use Rattle.c_tree.specs.Plain.{plain};
 ghost use Rattle.c_world.specs.World.{World};
 ghost use Rattle.job_tasks.specs.Coding.{bounded, shown, all_shown};
@@ -28,7 +28,7 @@ pub fn meanings(
     Ok(text)
 }
 
-// what is told of a core's task: nothing of an assembly task
+// what is reported of a core's task: nothing of an assembly task
 fn put_lines_on(
     text: &mut Vec<u8>,
     limit: u64,

@@ -1,7 +1,7 @@
 ghost use Rattle.std.specs.Prelude.{◌≡◌, ℕ, ◌<◌, IfOk, IfSome, option_map};
 ghost use Rattle.c_meaning.specs.Fits.{SlotFits};
 ghost use Rattle.c_meaning.specs.Rooms.{all_rooms};
-ghost use Rattle.c_run.specs.Told.{slot_words};
+ghost use Rattle.c_run.specs.Reported.{slot_words};
 ghost use Rattle.c_tree.specs.Plain.{plain};
 ghost use Rattle.c_world.specs.Shown.{room_in};
 ghost use Rattle.c_world.specs.World.{words_in};
@@ -69,7 +69,7 @@ fn words_of(alloc: Global, slot: &Slot, core: &Core) -> Result<List<u32>, OutOfM
     Ok(List::of(words))
 }
 
-// a word of a memory; of those that others reach none is told
+// a word of a memory; those that others reach are not reported
 fn word_of(region: Region, word: u32, core: &Core) -> u32
     requires { word < room_in region all_rooms }
     ensures { (m : Machine) (k : ℕ) → IsFinalCore m k core.now

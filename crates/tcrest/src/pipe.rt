@@ -125,7 +125,7 @@ fn stages_answer(
     ended(alloc, text, row)
 }
 
-// the steps below a limit, of which the first so many are told
+// the steps below a limit, of which the first so many are reported
 fn put_steps(
     text: &mut Vec<u8>,
     core: &mut PipeCore,
@@ -134,7 +134,7 @@ fn put_steps(
 ) -> Result<(), OutOfMemory>
     requires most { limit ≤ MOST_CYCLES }
     requires first { limit_of core.old ≤ limit }
-    ensures told { OnOk result ((x : Core) → StandsFor core.old x 0
+    ensures reported { OnOk result ((x : Core) → StandsFor core.old x 0
         → text.new.items ≡ text.old.items ++ specs.steps_text x limit (min trace (length (done_below x limit)))) }
     ensures stands { OnOk result ((x : Core) → StandsFor core.old x 0
         → StandsFor core.new x (length (done_below x limit))) }
@@ -154,7 +154,7 @@ fn put_steps(
     Ok(())
 }
 
-// the row of the core, of which the line of its state alone is told
+// the row of the core, of which the line of its state alone is reported
 fn end_row(alloc: Global, task: &CoreTask, state: CoreState) -> Result<Row, OutOfMemory>
     ensures { IfOk result (λ row. row ≡ told_row (runs task.now) state) }
 {

@@ -100,7 +100,7 @@ fn plain_row(alloc: Global, core: &Core) -> Result<Row, OutOfMemory>
     })
 }
 
-// the row with what is told of a program besides
+// the row with what is reported of a program besides
 fn with_program(
     alloc: Global,
     row: Row,

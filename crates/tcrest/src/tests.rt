@@ -41,7 +41,7 @@ const PROGRAMS: &[u8] =
 const MEANINGS: &[u8] =
     b"core 0 mean 45\ncore 1 mean 10 overrun\ncore 1 out 0 -3\ncore 1 out 1 -1\ncore 1 out 2 0\ncore 1 out 3 5\ncore 1 out 4 -2147483648\ncore 1 out 5 2\n";
 
-/// Four loops of 65,535 turns around one another, whose bound is past the largest;
+/// Four loops of 65,535 iterations, one inside another, whose bound is past the largest;
 /// and a number past 32 bits, at byte 20.
 const LONG: &[u8] =
     b"version = 1\ncores = 1\nslot = 6\ncycles = 1000\n[[task]]\ncore = 0\nlang = \"c\"\nsource = '''int main() { _Pragma(\"loopbound min 0 max 65535\") while (0) { _Pragma(\"loopbound min 0 max 65535\") while (0) { _Pragma(\"loopbound min 0 max 65535\") while (0) { _Pragma(\"loopbound min 0 max 65535\") while (0) { } } } } return 0; }'''\n";
@@ -49,7 +49,7 @@ const LONG: &[u8] =
 const WIDE: &[u8] =
     b"version = 1\ncores = 1\nslot = 6\ncycles = 1000\n[[task]]\ncore = 0\nlang = \"c\"\nsource = \"int main() { return 4294967296; }\"\n";
 
-/// A task of five bundles, whose first five steps are told; one that goes on after its
+/// A task of five bundles, whose first five steps are reported; one that goes on after its
 /// function's end; and what their five stages hold.
 const STAGES_JOB: &[u8] =
     b"version = 1\ncores = 1\nslot = 6\ncycles = 1000\ntrace = 5\n[[task]]\ncore = 0\nlang = \"asm\"\nsource = \".func main; addi r1 = r0, 7; ret; nop; nop; nop\"\n";
@@ -83,7 +83,7 @@ pub fn answer_to<R: Threads + Wait + Sync>(
     answer_under(rt, alloc, given, input, &FreeGate)
 }
 
-/// The same, where a gate may hold the workers.
+/// The status and the bytes of an answer, where a gate may hold the workers.
 pub fn answer_under<R: Threads + Wait + Sync, G: Gate + Sync>(
     rt: &R,
     alloc: Global,

@@ -111,7 +111,7 @@ fn run_under<R: Threads + Wait + Sync, G: Gate + Sync>(
     answer_under(rt, alloc, &["run"], job, gate)
 }
 
-/// The same job, run by so many workers.
+/// The job, run by so many workers.
 fn with_workers(alloc: Global, workers: u32, job: &[u8]) -> Result<Vec<u8>, Fail> {
     let key = format!(in alloc; "workers = {workers}\n")?;
     let mut text = Vec::from_slice(alloc, key.as_bytes())?;

@@ -1,8 +1,12 @@
-ghost use Rattle.std.specs.Prelude.{◌≡◌, [], IfSome};
+ghost use Rattle.std.specs.Prelude.{◌≡◌, ℕ, ◌⊎◌, [], Ok, IfSome};
+ghost use Rattle.gen_jobs.specs.Jobs.{job_with};
 ghost use Rattle.tc_io.specs.Faults.{Rose};
+ghost use Rattle.tc_job.specs.Job.{job_of};
 ghost use Rattle.tcrest.specs.Answer as answers;
 ghost use Rattle.tcrest.specs.Answer.{answer, command_answer, bytes_answer};
 ghost use Rattle.tcrest.specs.Command as commands;
+ghost use Rattle.tcrest.specs.Complete.{IsWhole};
+ghost use Rattle.tcrest.specs.declared.command.Command.TheVariants.{Bench, Gen};
 ghost use Rattle.tcrest.specs.Telling.{HasReport, TellsTasksOf};
 ghost use Rattle.job_tasks.specs.Outcome.{Ends, IsAnswered, HasWritten};
 
@@ -51,14 +55,22 @@ pub fn tcrest<R: Threads + Wait + Sync, S: Source, K: Sink, G: Gate + Sync>(
         → IsAnswered (answer words.now []) result (K.taken sink.old) (K.taken sink.new) }
 
     // Of each C task its row in the report tells its times, its bound and what its text means: its transactions, its
-    // end and its cycles hang on its text and its place alone, its end is at most its start and the bound that is told,
+    // end and its cycles depend on its text and its place alone, its end is at most its start and the bound that is reported,
     // it never traps, and once it is done its value, its flag and its words of `out` are what its text means in each
-    // world that fits its loads; told to be alone, in the world of zeros. Under `bound` and `persist`, its end is at
-    // most its start and each bound that is told, and the persistent one is no more than the other.
+    // world that fits its loads; reported as `alone`, in the world of zeros. Under `bound` and `persist`, its end is at
+    // most its start and each bound that is reported, and the persistent one is no more than the other.
     ensures programs { IfSome (S.left source.old) (λ bytes. HasReport result
         → TellsTasksOf (commands.command_of words.now) bytes) }
     ensures programs_unread { commands.ReadsNothing (commands.command_of words.now) → HasReport result
         → TellsTasksOf (commands.command_of words.now) [] }
+
+    // `gen` writes a job. `bench` reports all of it, and each of its tasks is done: for every number its status is 0, but
+    // where the sink failed or memory was refused.
+    ensures generated { (n : ℕ) → commands.command_of words.now ≡ Gen n
+        → job_of (answer words.now []).text ≡ Ok (job_with n) }
+    ensures whole { (n : ℕ) → commands.command_of words.now ≡ Bench n → IsWhole (job_with n) (answer words.now []) }
+    ensures done { (n : ℕ) → commands.command_of words.now ≡ Bench n
+        → (result ≡ 0) ⊎ ((result ≡ 6) ⊎ (result ≡ 7)) }
 
     // What was written, whatever failed.
     ensures written { IfSome (S.left source.old) (λ bytes. HasWritten (answer words.now bytes)
@@ -85,8 +97,8 @@ fn perform<R: Threads + Wait + Sync, S: Source, K: Sink, G: Gate + Sync>(
     ensures unread { commands.ReadsNothing command → source.new ≡ source.old }
     ensures ends_unread { commands.ReadsNothing command → Ends (command_answer command []) ⊥ result
         (K.faults sink.old) (K.faults sink.new) (K.taken sink.old) (K.taken sink.new) }
-    ensures told { IfSome (S.left source.old) (λ bytes. HasReport result → TellsTasksOf command bytes) }
-    ensures told_unread { commands.ReadsNothing command → HasReport result → TellsTasksOf command [] }
+    ensures reported { IfSome (S.left source.old) (λ bytes. HasReport result → TellsTasksOf command bytes) }
+    ensures reported_unread { commands.ReadsNothing command → HasReport result → TellsTasksOf command [] }
     ensures read_fault { result ≡ 5 → Rose (S.faults source.old) (S.faults source.new) }
     ensures write_fault { result ≡ 6 → Rose (K.faults sink.old) (K.faults sink.new) }
 {
@@ -111,7 +123,7 @@ fn answer_input<R: Threads + Wait + Sync, S: Source, K: Sink, G: Gate + Sync>(
     ensures ends { IfSome (S.left source.old) (λ bytes. Ends (bytes_answer command bytes)
         (Rose (S.faults source.old) (S.faults source.new)) result
         (K.faults sink.old) (K.faults sink.new) (K.taken sink.old) (K.taken sink.new)) }
-    ensures told { IfSome (S.left source.old) (λ bytes. HasReport result → TellsTasksOf command bytes) }
+    ensures reported { IfSome (S.left source.old) (λ bytes. HasReport result → TellsTasksOf command bytes) }
     ensures read_fault { result ≡ 5 → Rose (S.faults source.old) (S.faults source.new) }
     ensures write_fault { result ≡ 6 → Rose (K.faults sink.old) (K.faults sink.new) }
 {
@@ -138,7 +150,7 @@ fn answer_unread<R: Threads + Wait + Sync, K: Sink, G: Gate + Sync>(
     requires unread { commands.ReadsNothing command }
     ensures ends { Ends (answers.unread_answer command) ⊥ result
         (K.faults sink.old) (K.faults sink.new) (K.taken sink.old) (K.taken sink.new) }
-    ensures told { HasReport result → TellsTasksOf command [] }
+    ensures reported { HasReport result → TellsTasksOf command [] }
     ensures read_fault { result ≡ 5 → ⊥ }
     ensures write_fault { result ≡ 6 → Rose (K.faults sink.old) (K.faults sink.new) }
 {

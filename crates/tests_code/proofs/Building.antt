@@ -3,7 +3,7 @@ use Rattle.std.proofs.Common.{◌≡◌, ℕ, ◌<◌, true, List, [], ◌∷◌
 use Rattle.std.proofs.lemmas.Bool.{and_from, lt-ltb}
 use Rattle.std.specs.Prelude.{nat_lt, ◌&&◌}
 use Rattle.patmos_instr.specs.Bundles.{Slots}
-use Rattle.sp_shape.specs.Formed.{is_turn, part_formed, parts_formed, function_formed}
+use Rattle.sp_shape.specs.Formed.{is_iteration, part_formed, parts_formed, function_formed}
 use Rattle.sp_shape.specs.Parts.{leaves, part, one}
 use Rattle.sp_shape.specs.Shown.{plain_part, parts_of}
 use Rattle.sp_shape.specs.Small as small
@@ -13,14 +13,14 @@ use Rattle.sp_shape.proofs.Functions.{function_then}
 use Rattle.sp_shape.proofs.Plain.{repeat_said}
 
 -- one part, so many times
-pub turns_formed : (n count : ℕ) (body : List Part) (p : Part) (tail : List Slots) → body ≡ p ∷ [] → tail ≡ small.again → 0 < count
+pub iterations_formed : (n count : ℕ) (body : List Part) (p : Part) (tail : List Slots) → body ≡ p ∷ [] → tail ≡ small.again → 0 < count
     → part_formed n (plain_part p) ≡ true → part_formed n (plain_part (Repeat count body tail)) ≡ true
-turns_formed n count body p tail is back some h =
+iterations_formed n count body p tail is back some h =
     ap (part_formed n) (repeat_said (Repeat count body tail) count body tail refl)
-    ∙ and_from (nat_lt 0 count) (parts_formed n (parts_of body) && is_turn tail) (lt-ltb 0 count some)
-    (and_from (parts_formed n (parts_of body)) (is_turn tail)
+    ∙ and_from (nat_lt 0 count) (parts_formed n (parts_of body) && is_iteration tail) (lt-ltb 0 count some)
+    (and_from (parts_formed n (parts_of body)) (is_iteration tail)
     (ap (λ xs. parts_formed n (parts_of xs)) is ∙ and_from (part_formed n (plain_part p)) true h refl)
-    (ap is_turn back))
+    (ap is_iteration back))
 
 -- a part and the return
 pub returning_formed : (n : ℕ) (p last : Part) (function : List Part) → function ≡ p ∷ last ∷ [] → plain_part last ≡ leaves small.return

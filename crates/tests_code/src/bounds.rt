@@ -7,7 +7,7 @@ ghost use Rattle.sp_shape.specs.Shown.{parts_of, plain_part, plain_shape};
 ghost use Rattle.sp_shape.specs.Small as small;
 
 use crate::expect::expect_same;
-use crate::making::{again, idle, leave, turns};
+use crate::making::{again, idle, iterations, leave};
 use bound_persist::persist_bound_uncounted;
 use cycle_bound::{Long, bound_uncounted};
 use slot_arbiter::Place;
@@ -26,8 +26,8 @@ fn bundle(alloc: Global) -> Result<Part, AllocError>
     })
 }
 
-// a part in a million turns
-fn million_turns(alloc: Global, body: Part) -> Result<Part, AllocError>
+// a part in a million iterations
+fn million_iterations(alloc: Global, body: Part) -> Result<Part, AllocError>
     requires body { (n : ℕ) → part_formed n (plain_part body) ≡ true }
     ensures { IfOk result (λ p. (n : ℕ) → part_formed n (plain_part p) ≡ true) }
 {
@@ -53,11 +53,11 @@ fn five_loops(alloc: Global) -> Result<List<Part>, AllocError>
     ensures { IfOk result (λ f. (n : ℕ) → function_formed n (parts_of f) ≡ true) }
 {
     let bundle = bundle(alloc)?;
-    let fifth = million_turns(alloc, bundle)?;
-    let fourth = million_turns(alloc, fifth)?;
-    let third = million_turns(alloc, fourth)?;
-    let second = million_turns(alloc, third)?;
-    let first = million_turns(alloc, second)?;
+    let fifth = million_iterations(alloc, bundle)?;
+    let fourth = million_iterations(alloc, fifth)?;
+    let third = million_iterations(alloc, fourth)?;
+    let second = million_iterations(alloc, third)?;
+    let first = million_iterations(alloc, second)?;
     function(alloc, first)
 }
 
@@ -119,9 +119,9 @@ fn calling(alloc: Global) -> Result<Shape, AllocError>
 {
     let leave_first = leave(alloc)?;
     let empty = List::of(vec![in alloc; leave_first]?);
-    let turns = turns(alloc)?;
+    let iterations = iterations(alloc)?;
     let leave_second = leave(alloc)?;
-    let thrice = List::of(vec![in alloc; turns, leave_second]?);
+    let thrice = List::of(vec![in alloc; iterations, leave_second]?);
     Ok(Shape {
         functions: List::of(vec![in alloc; empty, thrice]?),
         entry: 1,
@@ -132,7 +132,7 @@ fn calling(alloc: Global) -> Result<Shape, AllocError>
 }
 
 // 3 + 2 transactions of 29 cycles fetch both functions once, and 3 * (4 + 4 + 3) + 4 bundles are run. The bound counts
-// 3 transactions, and 2 + 3 more in each of the three turns.
+// 3 transactions, and 2 + 3 more in each of the three iterations.
 #[test]
 fn each_function_is_fetched_once(rt: HostRuntime) -> Result<(), Fail> {
     let place = Place::new(4, 2, 6, 0).expect(&rt, "a place");

@@ -11,15 +11,14 @@ fn words_are_the_assemblers(rt: HostRuntime) -> Result<(), Fail> {
     let unit = nine(rt.alloc())?;
     let code = code_of(rt.alloc(), &unit)?;
     let want = [
-        9,
+        8,
         0x8008_0000,
         0x000a_0000,
         0x0540_0000,
         0x8084_2001,
-        0x0006_0009,
+        0x000a_0009,
         0x8008_2000,
-        0x000a_3000,
-        0x8002_5000,
+        0x0002_5000,
         0x0005_a000,
     ];
     expect_same(&rt, code.image.words(), &want);

@@ -18,8 +18,7 @@ fn only(part: Option<&Part>) -> Option<Bundle> {
     }
 }
 
-// what a function begins with, r3 = 9, its copy in r5, in which word 1 of the frame stands, what a function ends with,
-// and the return
+// what a function begins with, r5 = 9, in which word 1 of the frame stands, what a function ends with, and the return
 #[test]
 fn a_constant_is_kept(rt: HostRuntime) -> Result<(), Fail> {
     let unit = nine(rt.alloc())?;
@@ -27,20 +26,13 @@ fn a_constant_is_kept(rt: HostRuntime) -> Result<(), Fail> {
     let functions = shape.functions.as_slice();
     expect_same(&rt, functions.len(), 1);
     let parts = functions.first().expect(&rt, "a function").as_slice();
-    expect_same(&rt, parts.len(), 5);
-    let nine = alone(Op::AluImm {
-        func: ImmFunc::Add,
-        rd: Reg::low(3),
-        ra: Reg::low(0),
-        imm: Imm12::low(9),
-    });
+    expect_same(&rt, parts.len(), 4);
     let kept = alone(Op::AluImm {
         func: ImmFunc::Add,
         rd: Reg::low(5),
-        ra: Reg::low(3),
-        imm: Imm12::low(0),
+        ra: Reg::low(0),
+        imm: Imm12::low(9),
     });
-    expect_same(&rt, only(parts.get(1)), Some(nine));
-    expect_same(&rt, only(parts.get(2)), Some(kept));
+    expect_same(&rt, only(parts.get(1)), Some(kept));
     Ok(())
 }

@@ -9,7 +9,7 @@ pub struct Kernel {
     pub runs: &'static [Run],
 }
 
-/// An input and what it comes to. Words are told in decimal, with blanks between them.
+/// An input and its results. Words are in decimal, with blanks between them.
 pub struct Run {
     pub input: &'static str,
     pub value: i32,

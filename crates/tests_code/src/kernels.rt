@@ -18,7 +18,7 @@ use std::test::Fail;
 /// How many transactions of a run are kept: more than a kernel has.
 const ROOM: u32 = 20_000;
 
-/// Words told in decimal, with blanks between them. Negative numbers are in two's complement.
+/// Words in decimal, with blanks between them. Negative numbers are in two's complement.
 fn words(alloc: Global, text: &str) -> Result<Vec<u32>, Fail> {
     let mut words = Vec::new(alloc);
     for number in text.split_whitespace() {
@@ -150,7 +150,7 @@ fn cores_come_to_what_gcc_gives(rt: HostRuntime) -> Result<(), Fail> {
 }
 
 /// A filter that sends the word that it comes to, and its bound on the first of four cores with slots of 6 cycles, by a
-/// schedule as told of the kernels.
+/// schedule as of the kernels.
 const FILTER: &str = "int in[64]; int h[16] = {1,1,1,1,1,1,1,1,1,1,1,1,1,1,1,1}; int out[1]; \
     int main() { int n = 0; int k = 0; int s = 0; \
     _Pragma(\"loopbound min 49 max 49\") for (n = 0; n < 49; n = n + 1) { s = 0; \
@@ -167,7 +167,7 @@ fn packed_code_has_a_lower_bound(rt: HostRuntime) -> Result<(), Fail> {
     Ok(())
 }
 
-/// Four loops inside one another, whose turns are more than 2^63.
+/// Four loops inside one another, whose iterations are more than 2^63.
 const LONG: &str = "int main() { \
     _Pragma(\"loopbound min 0 max 65535\") while (1) { _Pragma(\"loopbound min 0 max 65535\") while (1) { \
     _Pragma(\"loopbound min 0 max 65535\") while (1) { _Pragma(\"loopbound min 0 max 65535\") while (1) { \

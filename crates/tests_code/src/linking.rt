@@ -6,7 +6,7 @@ ghost use Rattle.sp_shape.specs.Small as small;
 ghost use Rattle.tc_link.specs.Examples.{second_run};
 
 use crate::expect::expect_same;
-use crate::making::{alone, leave, turns};
+use crate::making::{alone, iterations, leave};
 use patmos_instr::{Imm12, ImmFunc, Op, Reg};
 use sp_shape::{Part, Shape};
 use std::alloc::{AllocError, Global};
@@ -36,10 +36,10 @@ fn caller(alloc: Global) -> Result<List<Part>, AllocError>
     ensures { IfOk result (λ ps. parts_of ps ≡ small.caller 0) }
 {
     let before = add(alloc, 1)?;
-    let turns = turns(alloc)?;
+    let iterations = iterations(alloc)?;
     let behind = add(alloc, 2)?;
     let leave = leave(alloc)?;
-    Ok(List::of(vec![in alloc; before, turns, behind, leave]?))
+    Ok(List::of(vec![in alloc; before, iterations, behind, leave]?))
 }
 
 // a function that returns at once, and one that calls it, which is run

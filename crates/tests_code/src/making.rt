@@ -67,8 +67,8 @@ fn call(alloc: Global) -> Result<Part, AllocError>
     })
 }
 
-/// Three turns with a call in each.
-pub fn turns(alloc: Global) -> Result<Part, AllocError>
+/// Three iterations with a call in each.
+pub fn iterations(alloc: Global) -> Result<Part, AllocError>
     ensures { IfOk result (λ p. plain_part p ≡ repeats 3 (one (calls_to 0 small.call)) small.again) }
 {
     let call = call(alloc)?;

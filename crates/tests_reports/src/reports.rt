@@ -5,7 +5,7 @@ use std::test::Fail;
 use tc_report::{Row, RowState, Rows, report};
 use tc_word::List;
 
-/// A core in a state, of which nothing else is told.
+/// A core in a state, of which nothing else is reported.
 fn core_in(alloc: Global, state: RowState) -> Row {
     Row {
         state,

@@ -63,7 +63,7 @@ fn has_words(memory: &[u32], first: usize, words: &[u32]) -> bool {
     true
 }
 
-/// The tree comes to what is meant: value, flag, and all words of variables and arrays.
+/// The tree gives what is meant: value, flag, and all words of variables and arrays.
 fn is_meant(both: &Compared) -> bool {
     let mut number = 0usize;
     for slot in both.layout.as_slice() {

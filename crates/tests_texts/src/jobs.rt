@@ -4,7 +4,7 @@ use std::test::Fail;
 use tc_job::{Job, Lang, read_job};
 use tc_toml::{JobError, put_fault};
 
-/// The line in which the fault of a text is told, or `a job`.
+/// The line in which the fault of a text is reported, or `a job`.
 fn reported(alloc: Global, text: &str) -> Result<Vec<u8>, JobError> {
     match read_job(alloc, text.as_bytes()) {
         Ok(_) => Ok(Vec::from_slice(alloc, b"a job")?),

@@ -35,7 +35,7 @@ fn functions_are_numbered(rt: HostRuntime) {
     expect_same(&rt, calls_both(main.body.as_slice()), true);
 }
 
-/// What a loop of four turns with a step does, which is the third of six actions, of which the last returns.
+/// What a loop of four iterations with a step does, which is the third of six actions, of which the last returns.
 fn loop_of(body: &[Action]) -> Option<&[Action]> {
     match body {
         [

@@ -1,4 +1,4 @@
-//! What is told of small programs, and of tasks that run them.
+//! What is reported of small programs, and of tasks that run them.
 use crate::c_texts::parsed;
 use crate::expect::expect_same;
 use c_mentions::{Program, Task, is_alone, mentions_of};

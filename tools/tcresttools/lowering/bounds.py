@@ -1,4 +1,4 @@
-"""How often a loop turns: as the text says, as the command line says, or as a counter shows."""
+"""How often a loop iterates: as the text says, as the command line says, or as a counter shows."""
 
 from __future__ import annotations
 
@@ -12,7 +12,7 @@ from .tree import (
     Assign, Bound, Comma, Const, Convert, Decay, Declare, Do, Expression, Loop, PointerMove, Ref, Variable,
 )  # fmt: skip
 
-MOST_TURNS = 65_535
+MOST_ITERATIONS = 65_535
 
 
 def bound_of_loop(loop: Loop, intervals: Intervals, notes: Notes) -> Bound:
@@ -38,13 +38,13 @@ def bound_of_label(at: Place, told: Bound | None, options: Options) -> Bound:
 
 
 def checked(at: Place, bound: Bound) -> Bound:
-    if bound.most > MOST_TURNS:
-        raise Refused(at, f"a bound is at most {MOST_TURNS}, and this loop has {bound.most}: make two loops of it")
+    if bound.most > MOST_ITERATIONS:
+        raise Refused(at, f"a bound is at most {MOST_ITERATIONS}, and this loop has {bound.most}: make two loops of it")
     return Bound(min(bound.least, bound.most), bound.most)
 
 
 def counted(loop: Loop, intervals: Intervals) -> int | None:
-    """How often a loop with a counter turns at most."""
+    """How often a loop with a counter iterates at most."""
     if loop.condition is not None and isinstance(loop.condition, Const) and loop.condition.value == 0:
         return 0
     found: list[int] = []
@@ -53,11 +53,11 @@ def counted(loop: Loop, intervals: Intervals) -> int | None:
         start = intervals.range(begin) if begin is not None else intervals.of(counter.variable)
         limit = intervals.range(counter.compare.right)
         if start is not None and limit is not None:
-            turns = turns_between(start, limit, counter.by, counter.compare.sign in ("<=", ">="))
+            iterations = iterations_between(start, limit, counter.by, counter.compare.sign in ("<=", ">="))
             kind = counter.variable.type
             if isinstance(kind, Integer) and stays(kind, limit, counter.by):
-                found.append(turns)
-    found += pointer_turns(loop)
+                found.append(iterations)
+    found += pointer_iterations(loop)
     return min(found) if found else None
 
 
@@ -66,7 +66,7 @@ def stays(kind: Integer, limit: Range, by: int) -> bool:
     return limit.high + by <= kind.high if by > 0 else limit.low + by >= kind.low
 
 
-def turns_between(start: Range, limit: Range, by: int, with_edge: bool) -> int:
+def iterations_between(start: Range, limit: Range, by: int, with_edge: bool) -> int:
     """How often a counter steps from its start to its limit."""
     gap = limit.high - start.low if by > 0 else start.high - limit.low
     return max(0, -(-(gap + (1 if with_edge else 0)) // abs(by)))
@@ -96,7 +96,7 @@ def assigned(expression: Expression, variable: Variable) -> Expression | None:
     return None
 
 
-def pointer_turns(loop: Loop) -> list[int]:
+def pointer_iterations(loop: Loop) -> list[int]:
     """How often a pointer steps through an array up to a constant place."""
     found = []
     for counter in counters_of(loop):

@@ -10,7 +10,7 @@ from .kinds import UNSIGNED, Integer, Record, is_wide, leaves
 from .ranges import full
 from .regions import Memory
 from .spots import CellSpot, NameSpot, Spot, held, leaf_range, part_of, with_held
-from .subset import MOST_PARAMETERS, ONE, Element, Expr, Invoke, Name, Number, Turns, names_in
+from .subset import MOST_PARAMETERS, ONE, Element, Expr, Invoke, Iterations, Name, Number, names_in
 from .told import Refused
 from .tree import Call, Const, Expression, walk
 from .words import Pair, Value, any_word, constant
@@ -149,7 +149,7 @@ class Calls:
     def too_deep(self, target: Name | Element | None) -> None:
         """A call deeper than was told: a loop whose bound does not do raises the flag."""
         builder = self.to.builder
-        builder.emit(Turns(builder.at, ONE, [], 0, 0, builder.label()))
+        builder.emit(Iterations(builder.at, ONE, [], 0, 0, builder.label()))
         if isinstance(target, Name):
             builder.assign(target, Number(0))
         elif target is not None:

@@ -17,8 +17,8 @@ from .regions import HomeKind
 from .spots import CellSpot, Spot, part_of, plus
 
 from .subset import (
-    MOST_PARAMETERS, ONE, ZERO, Chain, Element, Expr, Function, GiveBack, GoOn, Labelled, Leave, Local, Name, Outer,
-    Put, Set, Stmt, Turns, number,
+    MOST_PARAMETERS, ONE, ZERO, Chain, Element, Expr, Function, GiveBack, GoOn, Iterations, Labelled, Leave, Local,
+    Name, Outer, Put, Set, Stmt, number,
 )  # fmt: skip
 from .switches import Switches
 from .told import Place, Refused
@@ -162,7 +162,7 @@ class Control:
         inner = next((around for around in reversed(self.around) if around.go_on is not None), None)
         if inner is None or inner.go_on is None:
             raise Refused(at, "`continue` outside a loop")
-        self.builder.emit(GoOn(at, inner.go_on) if inner.own_turn else Leave(at, inner.go_on))
+        self.builder.emit(GoOn(at, inner.go_on) if inner.own_iteration else Leave(at, inner.go_on))
 
     # `return`.
 
@@ -272,7 +272,7 @@ class Control:
         body: list[Stmt] = [Put(self.builder.at, Element(spot.memory.name, index, spot.memory.unsigned), source)]
         first, step = Set(self.builder.at, counter, ZERO), Set(self.builder.at, counter, chain("+", counter, ONE))
         count, condition = len(values), Chain("<", counter, number(len(values)))
-        self.builder.emit(Turns(self.builder.at, condition, body, count, count, self.builder.label(), first, step))
+        self.builder.emit(Iterations(self.builder.at, condition, body, count, count, self.builder.label(), first, step))
 
     # Loops.
 
@@ -314,7 +314,7 @@ class Control:
             self.around.pop()
 
     def flagged(self, loop: Loop, condition: Expr, statements: list[Stmt], least: int, most: int) -> None:
-        """A loop whose condition is worked out before it and at the end of each turn, into a flag."""
+        """A loop whose condition is worked out before it and at the end of each iteration, into a flag."""
         builder = self.builder
         flag = builder.local("go", False)
         if loop.test_last:
@@ -327,7 +327,7 @@ class Control:
         body += self.step(loop)
         again, more = builder.capture(lambda: self.test(loop))
         body += more + builder.block(lambda: builder.assign(flag, again))
-        builder.emit(Turns(loop.at, flag, body, least, most, label))
+        builder.emit(Iterations(loop.at, flag, body, least, most, label))
 
     def step(self, loop: Loop) -> list[Stmt]:
         """The step of a loop as statements."""
@@ -346,14 +346,14 @@ class Control:
         first = builder.out[-1] if builder.out else None
         if head is not None and loop.begin and isinstance(first, Set):
             builder.out.pop()
-            body = self.inside(Around(label, label, own_turn=True), loop.body)
-            builder.emit(Turns(loop.at, condition, body, least, most, label, first, head))
+            body = self.inside(Around(label, label, own_iteration=True), loop.body)
+            builder.emit(Iterations(loop.at, condition, body, least, most, label, first, head))
         elif not step:
-            body = self.inside(Around(label, label, own_turn=True), loop.body)
-            builder.emit(Turns(loop.at, condition, body, least, most, label))
+            body = self.inside(Around(label, label, own_iteration=True), loop.body)
+            builder.emit(Iterations(loop.at, condition, body, least, most, label))
         else:
-            turn: list[Stmt] = [Labelled(loop.at, inner, self.inside(Around(label, inner), loop.body)), *step]
-            builder.emit(Turns(loop.at, condition, turn, least, most, label))
+            iteration: list[Stmt] = [Labelled(loop.at, inner, self.inside(Around(label, inner), loop.body)), *step]
+            builder.emit(Iterations(loop.at, condition, iteration, least, most, label))
 
 
 def words_of(item: Initial) -> list[int]:

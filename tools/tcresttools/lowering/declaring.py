@@ -3,7 +3,7 @@
 from __future__ import annotations
 
 from .subset import (
-    Branch, Declaration, Function, Invoke, Labelled, Local, Mentions, Name, Set, Stmt, Turns, expressions_of,
+    Branch, Declaration, Function, Invoke, Iterations, Labelled, Local, Mentions, Name, Set, Stmt, expressions_of,
     names_in, own_mentions, parts,
 )  # fmt: skip
 
@@ -59,7 +59,7 @@ def only_part(users: list[Stmt], name: str, mentions: Mentions) -> list[Stmt] | 
     """The statements inside the only user that alone mention the variable; none where there are several, or a head
     does.
     """
-    if len(users) != 1 or not isinstance(users[0], Branch | Turns | Labelled):
+    if len(users) != 1 or not isinstance(users[0], Branch | Iterations | Labelled):
         return None
     user = users[0]
     if name in own_mentions(user):

@@ -6,8 +6,8 @@ from collections.abc import Callable
 from functools import partial
 
 from .subset import (
-    ONE, ZERO, Branch, Chain, GiveBack, GoOn, Labelled, Leave, Name, Set, Sign, Stmt, Turns, completes, copied, each,
-    negated, parts, weight_of,
+    ONE, ZERO, Branch, Chain, GiveBack, GoOn, Iterations, Labelled, Leave, Name, Set, Sign, Stmt, completes, copied,
+    each, negated, parts, weight_of,
 )  # fmt: skip
 from .told import Place
 
@@ -36,7 +36,7 @@ def resolved(statements: list[Stmt], flag: Callable[[], Name]) -> list[Stmt]:
         match statement:
             case Branch(at, condition, then, other):
                 found.append(Branch(at, condition, resolved(then, flag), resolved(other, flag)))
-            case Turns():
+            case Iterations():
                 found += loop(statement, flag)
             case Labelled(at, label, body):
                 found += opened(resolved(body, flag), label, at, flag)
@@ -47,7 +47,7 @@ def resolved(statements: list[Stmt], flag: Callable[[], Name]) -> list[Stmt]:
     return found
 
 
-def loop(statement: Turns, flag: Callable[[], Name]) -> list[Stmt]:
+def loop(statement: Iterations, flag: Callable[[], Name]) -> list[Stmt]:
     """A loop whose own exits stand in no other loop."""
     body = resolved(statement.body, flag)
     label, at = statement.label, statement.at
@@ -69,7 +69,7 @@ def trimmed(body: list[Stmt], label: int) -> list[Stmt]:
 def inside_loops(statements: list[Stmt], label: int, go_on: bool) -> bool:
     """Whether the label is left, or gone on with, from inside a loop among the statements."""
     for statement in statements:
-        if isinstance(statement, Turns):
+        if isinstance(statement, Iterations):
             if exits_of(statement.body, label, go_on):
                 return True
         elif any(inside_loops(inner, label, go_on) for inner in parts(statement)):
@@ -102,7 +102,7 @@ def tail(statements: list[Stmt], label: int, nested: int) -> list[Stmt] | None:
             return None
         if ends_then and ends_other and rest and weight_of(rest) > SHORT_REST:
             return None
-        if any(isinstance(inner, Turns) for inner in each(rest)) and ends_then and ends_other:
+        if any(isinstance(inner, Iterations) for inner in each(rest)) and ends_then and ends_other:
             return None
         then = tail(statement.then + (rest if ends_then else []), label, nested + 1)
         other = tail(statement.other + (copied(rest) if ends_other else []), label, nested + 1)
@@ -137,7 +137,7 @@ def guarded(
         rest = statements[number + 1 :]
         found.append(marked(statement, label, go_on, mark, leave))
         if leave is not None:
-            if isinstance(statement, Turns):
+            if isinstance(statement, Iterations):
                 found.append(Branch(statement.at, Chain("!=", mark, ZERO), [leave()]))
             return found + guarded(rest, label, go_on, mark, leave)
         if rest:
@@ -152,7 +152,7 @@ def marked(statement: Stmt, label: int, go_on: bool, mark: Name, leave: Callable
     if isinstance(statement, Branch):
         arms = [guarded(arm, label, go_on, mark, leave) for arm in (statement.then, statement.other)]
         return Branch(statement.at, statement.condition, *arms)
-    if isinstance(statement, Turns):
+    if isinstance(statement, Iterations):
         statement.body = left(statement.body, label, go_on, mark, statement.label)
     return statement
 
@@ -166,7 +166,7 @@ def left(statements: list[Stmt], label: int, go_on: bool, mark: Name, own: int) 
         if isinstance(statement, Branch):
             arms = [left(arm, label, go_on, mark, own) for arm in (statement.then, statement.other)]
             found.append(Branch(statement.at, statement.condition, *arms))
-        elif isinstance(statement, Turns) and exits_of(statement.body, label, go_on):
+        elif isinstance(statement, Iterations) and exits_of(statement.body, label, go_on):
             statement.body = left(statement.body, label, go_on, mark, statement.label)
             found += [statement, Branch(statement.at, Chain("!=", mark, ZERO), [Leave(statement.at, own)])]
         else:
@@ -181,7 +181,7 @@ def escapes(statements: list[Stmt], inside: frozenset[int] = frozenset()) -> boo
             return True
         if isinstance(line, Leave | GoOn) and line.label not in inside:
             return True
-        within = inside | {line.label} if isinstance(line, Turns | Labelled) else inside
+        within = inside | {line.label} if isinstance(line, Iterations | Labelled) else inside
         if any(escapes(part, within) for part in parts(line)):
             return True
     return False

@@ -12,8 +12,8 @@ from .declaring import first_set
 from .exits import escapes
 
 from .subset import (
-    MOST_PARAMETERS, Branch, Chain, Element, Expr, Function, GiveBack, Invoke, Local, Mentions, Name, Number, Put,
-    Set, Sign, Stmt, Text, Turns, each, own_mentions, parts, weight_of,
+    MOST_PARAMETERS, Branch, Chain, Element, Expr, Function, GiveBack, Invoke, Iterations, Local, Mentions, Name,
+    Number, Put, Set, Sign, Stmt, Text, each, own_mentions, parts, weight_of,
 )  # fmt: skip
 
 LEAST_WEIGHT = 150
@@ -79,7 +79,7 @@ class Shaper:
                 self.expr(condition)
                 self.statements(then)
                 self.statements(other)
-            case Turns():
+            case Iterations():
                 text.append(f"{statement.least} {statement.most}")
                 for head in (statement.first, statement.step):
                     if head is not None:
@@ -121,7 +121,7 @@ def candidates(function: Function) -> list[Found]:
     found = []
     for around in lists:
         for line in around:
-            if weight_of([line]) < LEAST_WEIGHT or not isinstance(line, Branch | Turns) or escapes([line]):
+            if weight_of([line]) < LEAST_WEIGHT or not isinstance(line, Branch | Iterations) or escapes([line]):
                 continue
             inside = counted([line])
             inner = {name for name in inside if name in own}
@@ -188,13 +188,13 @@ class Substitution:
             case Branch(at, condition, then, other):
                 first = self.expr(condition)
                 return Branch(at, first, self.statements(then), self.statements(other))
-            case Turns():
+            case Iterations():
                 heads = [self.statement(head) if head is not None else None for head in (line.first, line.step)]
                 condition = self.expr(line.condition)
-                made_turns = replace(line, condition=condition, body=self.statements(line.body))
-                made_turns.first = heads[0] if isinstance(heads[0], Set) else None
-                made_turns.step = heads[1] if isinstance(heads[1], Set) else None
-                return made_turns
+                made_iterations = replace(line, condition=condition, body=self.statements(line.body))
+                made_iterations.first = heads[0] if isinstance(heads[0], Set) else None
+                made_iterations.step = heads[1] if isinstance(heads[1], Set) else None
+                return made_iterations
         return replace(line)
 
     def statements(self, statements: list[Stmt]) -> list[Stmt]:

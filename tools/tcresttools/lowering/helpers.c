@@ -58,8 +58,8 @@ unsigned wide_right_signed(unsigned low, int high, unsigned by)
 unsigned wide_quotient(unsigned low, unsigned high, unsigned by_low, unsigned by_high)
 {
     unsigned rest_low = 0u, rest_high = 0u, out;
-    int turn;
-    for (turn = 0; turn < 64; turn++) {
+    int bit;
+    for (bit = 0; bit < 64; bit++) {
         out = rest_high >> 31;
         rest_high = (rest_high << 1) | (rest_low >> 31);
         rest_low = (rest_low << 1) | (high >> 31);

@@ -7,7 +7,7 @@ from functools import partial
 from typing import TYPE_CHECKING
 
 from .bounds import bound_of_label
-from .subset import ONE, GoOn, Labelled, Leave, Stmt, Turns
+from .subset import ONE, GoOn, Iterations, Labelled, Leave, Stmt
 from .told import Place, Refused
 from .tree import Block, Goto, If, Label, Loop, Statement, Switch
 
@@ -96,7 +96,7 @@ class Jumps:
         if not span.back:
             return Labelled(at, label, inner)
         bound = bound_of_label(at, span.label.bound, self.control.context.options)
-        return Turns(at, ONE, [*inner, Leave(at, label)], bound.least, bound.most, label)
+        return Iterations(at, ONE, [*inner, Leave(at, label)], bound.least, bound.most, label)
 
 
 def spans_of(statements: list[Statement]) -> list[Span]:

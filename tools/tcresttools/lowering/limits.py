@@ -14,8 +14,8 @@ from .exits import escapes, resolved
 from .folding import folded
 
 from .subset import (
-    MOST_FRAME, MOST_FUNCTION, MOST_FUNCTIONS, MOST_TASK, Branch, Function, GiveBack, Invoke, Labelled, Leave, Local,
-    Name, Outer, Put, Set, Stmt, Text, Turns, copied, each, expressions_of, frame, function_weight, mentioned,
+    MOST_FRAME, MOST_FUNCTION, MOST_FUNCTIONS, MOST_TASK, Branch, Function, GiveBack, Invoke, Iterations, Labelled,
+    Leave, Local, Name, Outer, Put, Set, Stmt, Text, copied, each, expressions_of, frame, function_weight, mentioned,
     names_in, parts, rooms, text_weight, weight_of,
 )  # fmt: skip
 from .told import Notes, Refused
@@ -173,7 +173,7 @@ class Limits:
             if isinstance(line, Branch):
                 line.then = self.without_returns(line.then, label, call)
                 line.other = self.without_returns(line.other, label, call)
-            elif isinstance(line, Turns | Labelled):
+            elif isinstance(line, Iterations | Labelled):
                 line.body = self.without_returns(line.body, label, call)
             found.append(line)
         return found
@@ -263,7 +263,7 @@ class Limits:
         if isinstance(line, Branch):
             line.then = self.lightened(function, line.then, limit)
             line.other = self.lightened(function, line.other, limit)
-        elif isinstance(line, Turns):
+        elif isinstance(line, Iterations):
             line.body = self.lightened(function, line.body, limit)
 
     def moved_out(self, function: Function, run: list[Stmt]) -> list[Stmt]:
@@ -320,7 +320,7 @@ def set_first(statements: list[Stmt], name: str) -> bool:
             continue
         if isinstance(line, Set | Invoke) and isinstance(line.target, Name) and line.target.name == name:
             return all(name not in names_in(expr) for expr in expressions_of(line))
-        if isinstance(line, Turns) and line.first is not None and line.first.target.name == name:
+        if isinstance(line, Iterations) and line.first is not None and line.first.target.name == name:
             return name not in names_in(line.first.value)
         return False
     return False

@@ -6,8 +6,8 @@ from collections.abc import Iterator
 from dataclasses import dataclass, field
 
 from .subset import (
-    LEVELS, Branch, Chain, Declaration, Element, Expr, Function, GiveBack, GoOn, Invoke, Labelled, Leave, Name,
-    Number, Outer, Put, Set, Sign, Stmt, Text, Turns, number, printed_value,
+    LEVELS, Branch, Chain, Declaration, Element, Expr, Function, GiveBack, GoOn, Invoke, Iterations, Labelled, Leave,
+    Name, Number, Outer, Put, Set, Sign, Stmt, Text, number, printed_value,
 )  # fmt: skip
 from .told import NOWHERE, Place
 
@@ -70,7 +70,7 @@ class Printer:
                 self.line(indent, f"{kind(local.unsigned)} {local.name};", at)
             case Branch():
                 self.branch(statement, indent)
-            case Turns():
+            case Iterations():
                 self.loop(statement, indent)
             case Labelled(at, label, body):
                 self.line(indent, f"block {label} {{", at)
@@ -98,7 +98,7 @@ class Printer:
             self.statements(other, indent + 1)
         self.line(indent, "}", NOWHERE)
 
-    def loop(self, statement: Turns, indent: int) -> None:
+    def loop(self, statement: Iterations, indent: int) -> None:
         """A loop with its bound."""
         at = statement.at
         self.line(indent, f'_Pragma("loopbound min {statement.least} max {statement.most}")', at)

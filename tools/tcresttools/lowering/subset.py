@@ -223,7 +223,7 @@ class Branch:
 
 
 @dataclass(eq=False)
-class Turns:
+class Iterations:
     """A loop. With a first assignment and a step it is a `for`, else a `while`."""
 
     at: Place
@@ -255,7 +255,7 @@ class Leave:
 
 @dataclass(eq=False)
 class GoOn:
-    """Begins the next turn of the loop of a label."""
+    """Begins the next iteration of the loop of a label."""
 
     at: Place
     label: int
@@ -269,7 +269,7 @@ class GiveBack:
     value: Expr | None
 
 
-Stmt: TypeAlias = Set | Put | Invoke | Declaration | Branch | Turns | Labelled | Leave | GoOn | GiveBack
+Stmt: TypeAlias = Set | Put | Invoke | Declaration | Branch | Iterations | Labelled | Leave | GoOn | GiveBack
 
 
 @dataclass
@@ -309,7 +309,7 @@ def parts(statement: Stmt) -> list[list[Stmt]]:
     match statement:
         case Branch():
             return [statement.then, statement.other]
-        case Turns() | Labelled():
+        case Iterations() | Labelled():
             return [statement.body]
     return []
 
@@ -318,7 +318,7 @@ def each(statements: list[Stmt]) -> Iterator[Stmt]:
     """All statements of a list and below it."""
     for statement in statements:
         yield statement
-        if isinstance(statement, Turns):
+        if isinstance(statement, Iterations):
             yield from (head for head in (statement.first, statement.step) if head is not None)
         for inner in parts(statement):
             yield from each(inner)
@@ -334,7 +334,7 @@ def expressions_of(statement: Stmt) -> list[Expr]:
         case Invoke():
             index = [statement.target.index] if isinstance(statement.target, Element) else []
             return [*statement.arguments, *index]
-        case Branch() | Turns():
+        case Branch() | Iterations():
             return [statement.condition]
         case GiveBack():
             return [statement.value] if statement.value is not None else []
@@ -365,7 +365,7 @@ def own_mentions(statement: Stmt) -> set[str]:
     written = written_by(statement)
     if written is not None:
         found.add(written)
-    if isinstance(statement, Turns):
+    if isinstance(statement, Iterations):
         for head in (statement.first, statement.step):
             if head is not None:
                 found |= own_mentions(head)
@@ -410,7 +410,7 @@ def statement_weight(statement: Stmt) -> int:
             return 16
         case Branch(condition=condition, then=then, other=other):
             return 24 + weight(condition) + weight_of(then) + weight_of(other)
-        case Turns(condition=condition, body=body, first=first, step=step):
+        case Iterations(condition=condition, body=body, first=first, step=step):
             heads = sum(statement_weight(head) for head in (first, step) if head is not None)
             return 48 + 2 * weight(condition) + weight_of(body) + heads
         case Labelled(body=body):
@@ -445,7 +445,7 @@ def declared_in(statements: list[Stmt]) -> set[str]:
 
 def rooms(statements: list[Stmt]) -> int:
     """The words of a frame for loops and arms."""
-    return sum(2 if isinstance(inner, Turns) else 1 if isinstance(inner, Branch) else 0 for inner in each(statements))
+    return sum(2 if isinstance(one, Iterations) else 1 if isinstance(one, Branch) else 0 for one in each(statements))
 
 
 def declarations(statements: list[Stmt]) -> int:
@@ -510,13 +510,13 @@ def copy_of(statement: Stmt, names: dict[str, str]) -> Stmt:
             return Declaration(at, replace(local, name=names.get(local.name, local.name)))
         case Branch(at, condition, then, other):
             return Branch(at, rebuilt(condition, names), copied(then, names), copied(other, names))
-        case Turns(at, condition, body, least, most, label, first, step):
+        case Iterations(at, condition, body, least, most, label, first, step):
             heads = [copy_of(head, names) if head is not None else None for head in (first, step)]
             assert all(head is None or isinstance(head, Set) for head in heads)
-            made_turns = Turns(at, rebuilt(condition, names), copied(body, names), least, most, label)
-            made_turns.first = heads[0] if isinstance(heads[0], Set) else None
-            made_turns.step = heads[1] if isinstance(heads[1], Set) else None
-            return made_turns
+            made_iterations = Iterations(at, rebuilt(condition, names), copied(body, names), least, most, label)
+            made_iterations.first = heads[0] if isinstance(heads[0], Set) else None
+            made_iterations.step = heads[1] if isinstance(heads[1], Set) else None
+            return made_iterations
         case Labelled(at, label, body):
             return Labelled(at, label, copied(body, names))
         case GiveBack(at, value):

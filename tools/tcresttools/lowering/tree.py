@@ -295,7 +295,7 @@ def operands(expression: Expression) -> list[Expression]:
 
 @dataclass(frozen=True)
 class Bound:
-    """How often a loop turns, at least and at most."""
+    """How often a loop iterates, at least and at most."""
 
     least: int
     most: int

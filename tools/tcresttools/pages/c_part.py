@@ -99,7 +99,7 @@ def time_row(core: int, row: Row, time: TaskTime) -> str:
         element("td", number(cost.bundles), class_="n", data_of="bundles"),
         element("td", number(cost.fetch), class_="n", data_of="fetch"),
         element("td", number(cost.memory), class_="n", data_of="memory"),
-        element("td", number(row.part.turns), class_="n", data_of="iterations"),
+        element("td", number(row.part.iterations), class_="n", data_of="iterations"),
     ]
     return element("tr", *cells, id=part, class_="loop" if row.part.is_loop else "function", data_part=part)
 

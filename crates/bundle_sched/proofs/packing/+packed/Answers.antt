@@ -1,6 +1,6 @@
 use Rattle.std.proofs.Common.{ap, ◌∙◌, arith}
 use Rattle.sp_shape.specs.Shown.{parts_of}
-use Rattle.bundle_sched.specs.Packing.{turn_packed, left_over, parts_merged}
+use Rattle.bundle_sched.specs.Packing.{iteration_packed, left_over, parts_merged}
 use Rattle.bundle_sched.proofs.PackingParts.{repeat_packed, call_left, leave_left, parts_done}
 use Rattle.bundle_sched.proofs.packing.+packed.Goals as goal
 
@@ -14,9 +14,9 @@ push_packed-returns-in_ok-push-in-Repeat-clause-out t c = λ rest.
     c.push_held.new.held.items c.args.out.now.items c.push_held.new.out.items c.push.new.self.items rest c.in-Repeat.is c.in_ok-push_held-in-Repeat.ensures.held
     c.in_ok-push_held-in-Repeat.ensures.out
     (ap parts_of c.of.ensures ∙ c.in_ok-body-in-Repeat.ensures.parts ∙ (λ k. parts_merged (c.new-end.ensures.items k) (parts_of (c.as_slice-in-Repeat.ensures k))))
-    (c.in_ok-tail-in-Repeat.ensures.turn
-    ∙ (λ k. turn_packed (c.in_ok-body-in-Repeat.ensures.left k) (c.as_slice-in-Repeat-2.ensures k))
-    ∙ (λ k. turn_packed (left_over (c.new-end.ensures.items k) (parts_of (c.as_slice-in-Repeat.ensures k))) c.in-Repeat.tail))
+    (c.in_ok-tail-in-Repeat.ensures.iteration
+    ∙ (λ k. iteration_packed (c.in_ok-body-in-Repeat.ensures.left k) (c.as_slice-in-Repeat-2.ensures k))
+    ∙ (λ k. iteration_packed (left_over (c.new-end.ensures.items k) (parts_of (c.as_slice-in-Repeat.ensures k))) c.in-Repeat.tail))
     c.in_ok-push-in-Repeat.ensures.items
 
 pub push_packed-returns-in_ok-push-in-CallTo-clause-left : goal.push_packed-returns-in_ok-push-in-CallTo-clause-left

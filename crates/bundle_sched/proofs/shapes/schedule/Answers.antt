@@ -2,7 +2,7 @@ use Rattle.sp_shape.specs.Shown.{plain_shape}
 use Rattle.bundle_sched.proofs.AllPacked.{packed_as}
 use Rattle.bundle_sched.proofs.Kept.{steady_as, room_as}
 use Rattle.bundle_sched.proofs.Runs.{runs_as}
-use Rattle.bundle_sched.proofs.Turns.{turns_as, loops_as}
+use Rattle.bundle_sched.proofs.Iterations.{iterations_as, loops_as}
 use Rattle.bundle_sched.proofs.WellFormed.{formed_as}
 use Rattle.bundle_sched.proofs.shapes.schedule.Goals as goal
 
@@ -12,8 +12,8 @@ returns-clause-formed c = formed_as (plain_shape c.args.shape) (plain_shape c.in
 pub returns-clause-preserves : goal.returns-clause-preserves
 returns-clause-preserves c = runs_as (plain_shape c.args.shape) (plain_shape c.in_ok-shape.shape) c.in_ok-shape.ensures.is
 
-pub returns-clause-turns : goal.returns-clause-turns
-returns-clause-turns c = turns_as (plain_shape c.args.shape) (plain_shape c.in_ok-shape.shape) c.in_ok-shape.ensures.is c.requires.formed
+pub returns-clause-iterations : goal.returns-clause-iterations
+returns-clause-iterations c = iterations_as (plain_shape c.args.shape) (plain_shape c.in_ok-shape.shape) c.in_ok-shape.ensures.is c.requires.formed
 
 pub returns-clause-loops : goal.returns-clause-loops
 returns-clause-loops c = loops_as (plain_shape c.args.shape) (plain_shape c.in_ok-shape.shape) c.in_ok-shape.ensures.is c.requires.formed

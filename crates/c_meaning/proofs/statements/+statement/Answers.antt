@@ -7,8 +7,8 @@ use Rattle.c_tree.specs.Plain.{plain_expr, plain_right, plain_head, plain_stmt}
 use Rattle.c_tree.proofs.Plains.{block_of, arms_of}
 use Rattle.c_meaning.specs.declared.actions.Branch.{Branch}
 use Rattle.c_meaning.specs.declared.actions.Action.TheViews.{Loop}
-use Rattle.c_meaning.specs.Actions.{PlainAction, PlainActions, turns, returns, branch, one, joined}
-use Rattle.c_meaning.specs.Meaning.{most_turns, names_after}
+use Rattle.c_meaning.specs.Actions.{PlainAction, PlainActions, iterations, returns, branch, one, joined}
+use Rattle.c_meaning.specs.Meaning.{most_iterations, names_after}
 use Rattle.c_meaning.specs.Open.{names_of, functions_of, closed}
 use Rattle.c_meaning.specs.Resolve.{variable_target, maybe_sets, resolved_right, resolved_begin, resolved_condition, resolved_next, choice, resolved_block, resolved_arms, resolved_stmt}
 use Rattle.c_meaning.specs.Shown.{actions_of, plain_action, plain_assignment}
@@ -154,7 +154,7 @@ stmt-returns-in-Loop-clause-actions t c =
     let part = loop_resolved fs names c.args.s.now c.in-Loop.bound c.in-Loop.head c.in-Loop.body c.in-Loop.is in
     let loop : List Stmt → PlainActions = λ body.
     joined (maybe_sets (resolved_begin names head))
-    (one (turns (most_turns c.in-Loop.bound) (resolved_condition names head) (resolved_block fs names (block_of body)) (resolved_next names head))) in
+    (one (iterations (most_iterations c.in-Loop.bound) (resolved_condition names head) (resolved_block fs names (block_of body)) (resolved_next names head))) in
     subst (λ a. OnOk c.repeat.result (actions_of c.repeat.new.out.items ≡ joined (actions_of c.args.out.now.items) a))
     (ap loop c.as_slice-in-Loop.ensures ∙ sym part) c.repeat.ensures.actions
 
@@ -198,11 +198,11 @@ repeat-returns-clause-actions t c =
     let head = plain_head c.args.head.now in
     let first : PlainActions = maybe_sets (resolved_begin names head) in
     let block = resolved_block fs names (block_of c.args.body.now) in
-    let loop : PlainAction = turns (most_turns c.args.bound) (resolved_condition names head) block (resolved_next names head) in
-    let plain : plain_action (Loop c.most_turns-max.result c.in_ok-condition.condition c.in_ok-body.body c.in_ok-step.step) ≡ loop =
-    plain_loop c.most_turns-max.result c.in_ok-condition.condition c.in_ok-body.body c.in_ok-step.step
-    ∙ ap₂ (λ m e. turns m e (actions_of c.in_ok-body.body) (option_map plain_assignment c.in_ok-step.step)) c.most_turns-max.ensures c.in_ok-condition.ensures
-    ∙ ap₂ (λ b n. turns (most_turns c.args.bound) (resolved_condition names head) b n) c.in_ok-body.ensures.actions c.in_ok-step.ensures in
+    let loop : PlainAction = iterations (most_iterations c.args.bound) (resolved_condition names head) block (resolved_next names head) in
+    let plain : plain_action (Loop c.most_iterations-max.result c.in_ok-condition.condition c.in_ok-body.body c.in_ok-step.step) ≡ loop =
+    plain_loop c.most_iterations-max.result c.in_ok-condition.condition c.in_ok-body.body c.in_ok-step.step
+    ∙ ap₂ (λ m e. iterations m e (actions_of c.in_ok-body.body) (option_map plain_assignment c.in_ok-step.step)) c.most_iterations-max.ensures c.in_ok-condition.ensures
+    ∙ ap₂ (λ b n. iterations (most_iterations c.args.bound) (resolved_condition names head) b n) c.in_ok-body.ensures.actions c.in_ok-step.ensures in
     let begun = c.in_ok-add_set.ensures ∙ ap (λ f. joined (actions_of c.args.out.now.items) (maybe_sets f)) c.in_ok-first.ensures in
     subst (λ all. OnOk c.add.result (actions_of c.add.new.out.items ≡ all))
     (ap₂ (λ xs a. joined xs (one a)) begun plain ∙ joined_joined (actions_of c.args.out.now.items) first (one loop)) c.add.ensures

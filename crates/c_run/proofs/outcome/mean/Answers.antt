@@ -7,8 +7,8 @@ use Rattle.c_meaning.specs.declared.actions.Routine.{Routine}
 use Rattle.c_meaning.proofs.Few.{as_many, few_functions}
 use Rattle.c_run.proofs.outcome.mean.Goals as goal
 
-pub main_given-requires-clause-number : goal.main_given-requires-clause-number
-main_given-requires-clause-number c =
+pub main_outcome-requires-clause-number : goal.main_outcome-requires-clause-number
+main_outcome-requires-clause-number c =
     let program = c.args.program.now in
     let items = plain program.unit in
     let body : Routine → PlainActions = λ r. actions_of r.body in

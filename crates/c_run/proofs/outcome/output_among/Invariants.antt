@@ -1,7 +1,7 @@
 use Rattle.std.proofs.Common.{◌≡◌, ◌≤◌, drop}
 use Rattle.std.specs.Prelude.{map}
 use Rattle.c_tree.specs.Plain.{plain_item}
-use Rattle.c_run.specs.Told.{output_from, output_number}
+use Rattle.c_run.specs.Reported.{output_from, output_number}
 use Rattle.c_run.proofs.outcome.output_among.Given as goal
 
 abbrev pub invariant-loop-item : goal.invariant-loop-item

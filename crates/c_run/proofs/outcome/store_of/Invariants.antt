@@ -1,7 +1,7 @@
 use Rattle.std.proofs.Common.{◌≡◌, List}
 use Rattle.c_world.specs.Shown.{shown}
 use Rattle.c_world.specs.World.{Sending, words_in}
-use Rattle.c_run.specs.Told.{words_from}
+use Rattle.c_run.specs.Reported.{words_from}
 use Rattle.c_run.proofs.outcome.store_of.Given as goal
 
 abbrev pub invariant-loop-at : goal.invariant-loop-at

@@ -1,7 +1,7 @@
 use Rattle.std.proofs.Common.{◌≡◌, List, map, take}
 use Rattle.c_world.specs.Shown.{shown}
 use Rattle.c_world.specs.World.{Sending}
-use Rattle.c_run.specs.Told.{slot_words}
+use Rattle.c_run.specs.Reported.{slot_words}
 use Rattle.c_run.proofs.outcome.stores_of.Given as goal
 
 abbrev pub invariant-loop-slot : goal.invariant-loop-slot

@@ -8,18 +8,18 @@ use Rattle.sp_tree.proofs.Runs.{sent_shown}
 use Rattle.c_meaning.specs.declared.actions.Action.{Action}
 use Rattle.c_meaning.specs.declared.actions.Routine.{Routine}
 use Rattle.c_meaning.specs.declared.ways.Way.TheVariants as way
-use Rattle.c_meaning.specs.Meaning.{Done, Given, goes_on, turn_done, turns_done}
-use Rattle.c_meaning.specs.Resolved.{worth, args_worth, holds, step_done, given_done, action_done, actions_done, branches_done}
+use Rattle.c_meaning.specs.Meaning.{Done, Outcome, goes_on, iteration_done, iterations_done}
+use Rattle.c_meaning.specs.Resolved.{worth, args_worth, holds, step_done, outcome_done, action_done, actions_done, branches_done}
 use Rattle.c_meaning.specs.Shown.{plain_action, plain_target, plain_assignment, actions_of, branches_of, bodies_of}
 use Rattle.c_meaning.specs.Values.{State}
 use Rattle.c_meaning.proofs.Acted.{plain_choose, plain_loop, body_at}
-use Rattle.c_run.specs.Ran.{state_of, served_by, HasDone, HasGiven}
+use Rattle.c_run.specs.Ran.{state_of, served_by, HasDone, HasOutcome}
 use Rattle.c_meaning.specs.Sizes.{actions_size, branches_size}
 use Rattle.c_run.specs.Sizes.{total}
 use Rattle.c_run.proofs.Earlier.{earlier_serve, earlier_total}
 use Rattle.c_meaning.proofs.Falls.{choose_size, loop_size, part_size}
 use Rattle.c_run.proofs.Falls.{call_size, total_grows}
-use Rattle.c_run.proofs.Runs.{has_done, along, reaches_first, reach_item, reach_end, next_action, left_by_break, left_by_continue, left_by_return, at_the_end, none_given, body_given, another_turn, not_held, next_turn, last_turn, all_turned}
+use Rattle.c_run.proofs.Runs.{has_done, along, reaches_first, reach_item, reach_end, next_action, left_by_break, left_by_continue, left_by_return, at_the_end, none_given, body_given, another_iteration, not_held, next_iteration, last_iteration, all_iterated}
 use Rattle.c_run.proofs.run.+run.Goals as goal
 
 pub act-called-given-requires : goal.act-called-given-requires
@@ -34,8 +34,8 @@ act-choose-requires t c =
     let otherwise = ap (λ as'. actions_size (actions_of as')) c.as_slice-otherwise.ensures in
     (omega (arith, c.decreases, size, branches, otherwise), (c.requires.frame, (c.requires.rest, c.requires.rooms)))
 
-pub act-turns-requires : goal.act-turns-requires
-act-turns-requires t c =
+pub act-iterations-requires : goal.act-iterations-requires
+act-iterations-requires t c =
     let size = loop_size c.args.action.now c.in-Loop.max c.in-Loop.condition c.in-Loop.body c.in-Loop.step c.in-Loop.is in
     let body = ap (λ as'. actions_size (actions_of as')) c.as_slice-body.ensures in
     (omega (arith, c.decreases, size, body), (c.requires.frame, (c.requires.rest, c.requires.rooms)))
@@ -54,13 +54,13 @@ pub choose-all-requires-in-None : goal.choose-all-requires-in-None
 choose-all-requires-in-None t c =
     (omega (arith, c.decreases), (c.requires.frame, (c.requires.rest, c.requires.rooms)))
 
-pub turn-all-requires : goal.turn-all-requires
-turn-all-requires t c =
+pub iteration-all-requires : goal.iteration-all-requires
+iteration-all-requires t c =
     (omega (arith, c.decreases), (c.requires.frame, (c.requires.rest, c.requires.rooms)))
 
-pub turns-turn-requires : goal.turns-turn-requires
-turns-turn-requires t c =
-    (omega (arith, c.decreases), (omega arith, (omega arith, c.loop-turned.invariant.rooms)))
+pub iterations-iteration-requires : goal.iterations-iteration-requires
+iterations-iteration-requires t c =
+    (omega (arith, c.decreases), (omega arith, (omega arith, c.loop-iterated.invariant.rooms)))
 
 pub act-returns-in-Set-clause-done : goal.act-returns-in-Set-clause-done
 unfolding plain_action
@@ -74,10 +74,10 @@ act-returns-in-Call-clause-done t c =
     λ sends.
     let s : State = state_of c.args.frame.now c.args.memory.now sends in
     let result = option_map plain_target c.in-Call.target in
-    let g : Given = served_by c.args.routines.now c.in-Call.function (args_worth (map plain_sp c.in-Call.args.values) s) (shown c.args.memory.now sends) in
+    let g : Outcome = served_by c.args.routines.now c.in-Call.function (args_worth (map plain_sp c.in-Call.args.values) s) (shown c.args.memory.now sends) in
     has_done (action_done (served_by c.args.routines.now) (plain_action c.args.action.now) s) way.On c.put.new.frame c.put.new.memory g.world.sends
     (ap (λ a. action_done (served_by c.args.routines.now) (plain_action a) s) c.in-Call.is
-    ∙ ap (λ x. goes_on (given_done result s x)) (c.called-given.ensures.given sends).gives
+    ∙ ap (λ x. goes_on (outcome_done result s x)) (c.called-given.ensures.given sends).gives
     ∙ ap goes_on (sym (c.result_location-location.ensures g.world.sends c.called-given.result) ∙ c.put.ensures.done g.world.sends))
 
 pub act-returns-in-Send-clause-done : goal.act-returns-in-Send-clause-done
@@ -104,12 +104,12 @@ act-returns-in-Choose-clause-done t c =
 pub act-returns-in-Loop-clause-done : goal.act-returns-in-Loop-clause-done
 act-returns-in-Loop-clause-done t c =
     λ sends.
-    let looped : List Action → Done = λ as'. turns_done (holds (plain_sp c.in-Loop.condition)) (actions_done (served_by c.args.routines.now) (actions_of as'))
+    let looped : List Action → Done = λ as'. iterations_done (holds (plain_sp c.in-Loop.condition)) (actions_done (served_by c.args.routines.now) (actions_of as'))
     (step_done (option_map plain_assignment c.in-Loop.step)) c.in-Loop.max (state_of c.args.frame.now c.args.memory.now sends) in
-    along (action_done (served_by c.args.routines.now) (plain_action c.args.action.now) (state_of c.args.frame.now c.args.memory.now sends)) (looped c.as_slice-body.result.now) c.turns.result c.turns.new.frame c.turns.new.memory
+    along (action_done (served_by c.args.routines.now) (plain_action c.args.action.now) (state_of c.args.frame.now c.args.memory.now sends)) (looped c.as_slice-body.result.now) c.iterations.result c.iterations.new.frame c.iterations.new.memory
     (ap (λ a. action_done (served_by c.args.routines.now) (plain_action a) (state_of c.args.frame.now c.args.memory.now sends)) c.in-Loop.is ∙ ap (λ p. action_done (served_by c.args.routines.now) p (state_of c.args.frame.now c.args.memory.now sends)) (plain_loop c.in-Loop.max c.in-Loop.condition c.in-Loop.body c.in-Loop.step)
     ∙ ap looped (sym c.as_slice-body.ensures))
-    (c.turns.ensures.done sends)
+    (c.iterations.ensures.done sends)
 
 pub act-returns-in-Break-clause-done : goal.act-returns-in-Break-clause-done
 unfolding plain_action
@@ -175,66 +175,66 @@ choose-returns-in-None-clause-done t c =
     (c.in-None.ensures.picked sends (served_by c.args.routines.now) (actions_done (served_by c.args.routines.now) (actions_of c.args.otherwise.now)))
     (c.all-in-None.ensures.done sends)
 
-pub turn-returns-in-On-clause-turned : goal.turn-returns-in-On-clause-turned
-turn-returns-in-On-clause-turned t c =
+pub iteration-returns-in-On-clause-iterated : goal.iteration-returns-in-On-clause-iterated
+iteration-returns-in-On-clause-iterated t c =
     λ sends. let d = (actions_done (served_by c.args.routines.now) (actions_of c.args.body.now) (state_of c.args.frame.now c.args.memory.now sends)) in record {
       sends = d.state.world.sends;
-      goes = λ more. ap (turn_done more (step_done (option_map plain_assignment c.args.next.now))) (c.in-On.ensures.done sends).ends ∙ ap more (c.step.ensures.done d.state.world.sends);
+      goes = λ more. ap (iteration_done more (step_done (option_map plain_assignment c.args.next.now))) (c.in-On.ensures.done sends).ends ∙ ap more (c.step.ensures.done d.state.world.sends);
     }
 
-pub turn-returns-in-Continued-clause-turned : goal.turn-returns-in-Continued-clause-turned
-turn-returns-in-Continued-clause-turned t c =
+pub iteration-returns-in-Continued-clause-iterated : goal.iteration-returns-in-Continued-clause-iterated
+iteration-returns-in-Continued-clause-iterated t c =
     λ sends. let d = (actions_done (served_by c.args.routines.now) (actions_of c.args.body.now) (state_of c.args.frame.now c.args.memory.now sends)) in record {
       sends = d.state.world.sends;
-      goes = λ more. ap (turn_done more (step_done (option_map plain_assignment c.args.next.now))) (c.in-Continued.ensures.done sends).ends ∙ ap more (c.step-in-Continued.ensures.done d.state.world.sends);
+      goes = λ more. ap (iteration_done more (step_done (option_map plain_assignment c.args.next.now))) (c.in-Continued.ensures.done sends).ends ∙ ap more (c.step-in-Continued.ensures.done d.state.world.sends);
     }
 
-pub turn-returns-in-Broken-clause-turned : goal.turn-returns-in-Broken-clause-turned
-turn-returns-in-Broken-clause-turned t c =
+pub iteration-returns-in-Broken-clause-iterated : goal.iteration-returns-in-Broken-clause-iterated
+iteration-returns-in-Broken-clause-iterated t c =
     λ sends more. let d = (actions_done (served_by c.args.routines.now) (actions_of c.args.body.now) (state_of c.args.frame.now c.args.memory.now sends)) in
-    has_done (turn_done more (step_done (option_map plain_assignment c.args.next.now)) d) way.On c.all.new.frame c.all.new.memory d.state.world.sends (ap (turn_done more (step_done (option_map plain_assignment c.args.next.now))) (c.in-Broken.ensures.done sends).ends)
+    has_done (iteration_done more (step_done (option_map plain_assignment c.args.next.now)) d) way.On c.all.new.frame c.all.new.memory d.state.world.sends (ap (iteration_done more (step_done (option_map plain_assignment c.args.next.now))) (c.in-Broken.ensures.done sends).ends)
 
-pub turn-returns-in-Returned-clause-turned : goal.turn-returns-in-Returned-clause-turned
-turn-returns-in-Returned-clause-turned t c =
+pub iteration-returns-in-Returned-clause-iterated : goal.iteration-returns-in-Returned-clause-iterated
+iteration-returns-in-Returned-clause-iterated t c =
     λ sends more. let d = (actions_done (served_by c.args.routines.now) (actions_of c.args.body.now) (state_of c.args.frame.now c.args.memory.now sends)) in
-    has_done (turn_done more (step_done (option_map plain_assignment c.args.next.now)) d) (way.Returned c.in-Returned.value) c.all.new.frame c.all.new.memory d.state.world.sends (ap (turn_done more (step_done (option_map plain_assignment c.args.next.now))) (c.in-Returned.ensures.done sends).ends)
+    has_done (iteration_done more (step_done (option_map plain_assignment c.args.next.now)) d) (way.Returned c.in-Returned.value) c.all.new.frame c.all.new.memory d.state.world.sends (ap (iteration_done more (step_done (option_map plain_assignment c.args.next.now))) (c.in-Returned.ensures.done sends).ends)
 
-pub turns-loop-turned-init : goal.turns-loop-turned-init
-turns-loop-turned-init t c =
+pub iterations-loop-iterated-init : goal.iterations-loop-iterated-init
+iterations-loop-iterated-init t c =
     let none : c.args.max ≡ c.args.max - 0 = omega arith in
     record {
-      reaches = λ sends. another_turn (holds (plain_sp c.args.turning.now.condition.now)) (actions_done (served_by c.args.routines.now) (actions_of c.args.turning.now.body.now)) (step_done (option_map plain_assignment c.args.turning.now.step.now)) (turns_done (holds (plain_sp c.args.turning.now.condition.now)) (actions_done (served_by c.args.routines.now) (actions_of c.args.turning.now.body.now)) (step_done (option_map plain_assignment c.args.turning.now.step.now)) c.args.max (state_of c.args.frame.now c.args.memory.now sends)) c.args.max (c.args.max - 0) c.args.frame.now c.args.memory.now none (reaches_first (turns_done (holds (plain_sp c.args.turning.now.condition.now)) (actions_done (served_by c.args.routines.now) (actions_of c.args.turning.now.body.now)) (step_done (option_map plain_assignment c.args.turning.now.step.now)) c.args.max) c.args.frame.now c.args.memory.now sends);
+      reaches = λ sends. another_iteration (holds (plain_sp c.args.iterating.now.condition.now)) (actions_done (served_by c.args.routines.now) (actions_of c.args.iterating.now.body.now)) (step_done (option_map plain_assignment c.args.iterating.now.step.now)) (iterations_done (holds (plain_sp c.args.iterating.now.condition.now)) (actions_done (served_by c.args.routines.now) (actions_of c.args.iterating.now.body.now)) (step_done (option_map plain_assignment c.args.iterating.now.step.now)) c.args.max (state_of c.args.frame.now c.args.memory.now sends)) c.args.max (c.args.max - 0) c.args.frame.now c.args.memory.now none (reaches_first (iterations_done (holds (plain_sp c.args.iterating.now.condition.now)) (actions_done (served_by c.args.routines.now) (actions_of c.args.iterating.now.body.now)) (step_done (option_map plain_assignment c.args.iterating.now.step.now)) c.args.max) c.args.frame.now c.args.memory.now sends);
       rooms = c.requires.rooms;
     }
 
-pub turns-returns-then-not-is_held-clause-done : goal.turns-returns-then-not-is_held-clause-done
-turns-returns-then-not-is_held-clause-done t c =
-    let left = c.args.max - (c.loop-turned._turned + 1) in
-    let more : c.args.max - c.loop-turned._turned ≡ suc left = omega arith in
-    λ sends. not_held (holds (plain_sp c.args.turning.now.condition.now)) (actions_done (served_by c.args.routines.now) (actions_of c.args.turning.now.body.now)) (step_done (option_map plain_assignment c.args.turning.now.step.now)) (turns_done (holds (plain_sp c.args.turning.now.condition.now)) (actions_done (served_by c.args.routines.now) (actions_of c.args.turning.now.body.now)) (step_done (option_map plain_assignment c.args.turning.now.step.now)) c.args.max (state_of c.args.frame.now c.args.memory.now sends)) left c.loop-turned.frame c.loop-turned.memory (another_turn (holds (plain_sp c.args.turning.now.condition.now)) (actions_done (served_by c.args.routines.now) (actions_of c.args.turning.now.body.now)) (step_done (option_map plain_assignment c.args.turning.now.step.now)) (turns_done (holds (plain_sp c.args.turning.now.condition.now)) (actions_done (served_by c.args.routines.now) (actions_of c.args.turning.now.body.now)) (step_done (option_map plain_assignment c.args.turning.now.step.now)) c.args.max (state_of c.args.frame.now c.args.memory.now sends)) (c.args.max - c.loop-turned._turned) (suc left) c.loop-turned.frame c.loop-turned.memory more (c.loop-turned.invariant.reaches sends)) (λ x. sym (c.is_held.ensures x) ∙ c.if-not-is_held.true)
+pub iterations-returns-then-not-is_held-clause-done : goal.iterations-returns-then-not-is_held-clause-done
+iterations-returns-then-not-is_held-clause-done t c =
+    let left = c.args.max - (c.loop-iterated._iterated + 1) in
+    let more : c.args.max - c.loop-iterated._iterated ≡ suc left = omega arith in
+    λ sends. not_held (holds (plain_sp c.args.iterating.now.condition.now)) (actions_done (served_by c.args.routines.now) (actions_of c.args.iterating.now.body.now)) (step_done (option_map plain_assignment c.args.iterating.now.step.now)) (iterations_done (holds (plain_sp c.args.iterating.now.condition.now)) (actions_done (served_by c.args.routines.now) (actions_of c.args.iterating.now.body.now)) (step_done (option_map plain_assignment c.args.iterating.now.step.now)) c.args.max (state_of c.args.frame.now c.args.memory.now sends)) left c.loop-iterated.frame c.loop-iterated.memory (another_iteration (holds (plain_sp c.args.iterating.now.condition.now)) (actions_done (served_by c.args.routines.now) (actions_of c.args.iterating.now.body.now)) (step_done (option_map plain_assignment c.args.iterating.now.step.now)) (iterations_done (holds (plain_sp c.args.iterating.now.condition.now)) (actions_done (served_by c.args.routines.now) (actions_of c.args.iterating.now.body.now)) (step_done (option_map plain_assignment c.args.iterating.now.step.now)) c.args.max (state_of c.args.frame.now c.args.memory.now sends)) (c.args.max - c.loop-iterated._iterated) (suc left) c.loop-iterated.frame c.loop-iterated.memory more (c.loop-iterated.invariant.reaches sends)) (λ x. sym (c.is_held.ensures x) ∙ c.if-not-is_held.true)
 
-pub turns-returns-in-Some-clause-done : goal.turns-returns-in-Some-clause-done
-turns-returns-in-Some-clause-done t c =
-    let left = c.args.max - (c.loop-turned._turned + 1) in
-    let more : c.args.max - c.loop-turned._turned ≡ suc left = omega arith in
-    λ sends. last_turn (holds (plain_sp c.args.turning.now.condition.now)) (actions_done (served_by c.args.routines.now) (actions_of c.args.turning.now.body.now)) (step_done (option_map plain_assignment c.args.turning.now.step.now)) (turns_done (holds (plain_sp c.args.turning.now.condition.now)) (actions_done (served_by c.args.routines.now) (actions_of c.args.turning.now.body.now)) (step_done (option_map plain_assignment c.args.turning.now.step.now)) c.args.max (state_of c.args.frame.now c.args.memory.now sends)) left c.loop-turned.frame c.loop-turned.memory c.in-Some.way c.turn.new.frame c.turn.new.memory (another_turn (holds (plain_sp c.args.turning.now.condition.now)) (actions_done (served_by c.args.routines.now) (actions_of c.args.turning.now.body.now)) (step_done (option_map plain_assignment c.args.turning.now.step.now)) (turns_done (holds (plain_sp c.args.turning.now.condition.now)) (actions_done (served_by c.args.routines.now) (actions_of c.args.turning.now.body.now)) (step_done (option_map plain_assignment c.args.turning.now.step.now)) c.args.max (state_of c.args.frame.now c.args.memory.now sends)) (c.args.max - c.loop-turned._turned) (suc left) c.loop-turned.frame c.loop-turned.memory more (c.loop-turned.invariant.reaches sends)) (λ x. sym (c.is_held.ensures x) ∙ c.if-not-is_held.false)
-    c.in-Some.ensures.turned
+pub iterations-returns-in-Some-clause-done : goal.iterations-returns-in-Some-clause-done
+iterations-returns-in-Some-clause-done t c =
+    let left = c.args.max - (c.loop-iterated._iterated + 1) in
+    let more : c.args.max - c.loop-iterated._iterated ≡ suc left = omega arith in
+    λ sends. last_iteration (holds (plain_sp c.args.iterating.now.condition.now)) (actions_done (served_by c.args.routines.now) (actions_of c.args.iterating.now.body.now)) (step_done (option_map plain_assignment c.args.iterating.now.step.now)) (iterations_done (holds (plain_sp c.args.iterating.now.condition.now)) (actions_done (served_by c.args.routines.now) (actions_of c.args.iterating.now.body.now)) (step_done (option_map plain_assignment c.args.iterating.now.step.now)) c.args.max (state_of c.args.frame.now c.args.memory.now sends)) left c.loop-iterated.frame c.loop-iterated.memory c.in-Some.way c.iteration.new.frame c.iteration.new.memory (another_iteration (holds (plain_sp c.args.iterating.now.condition.now)) (actions_done (served_by c.args.routines.now) (actions_of c.args.iterating.now.body.now)) (step_done (option_map plain_assignment c.args.iterating.now.step.now)) (iterations_done (holds (plain_sp c.args.iterating.now.condition.now)) (actions_done (served_by c.args.routines.now) (actions_of c.args.iterating.now.body.now)) (step_done (option_map plain_assignment c.args.iterating.now.step.now)) c.args.max (state_of c.args.frame.now c.args.memory.now sends)) (c.args.max - c.loop-iterated._iterated) (suc left) c.loop-iterated.frame c.loop-iterated.memory more (c.loop-iterated.invariant.reaches sends)) (λ x. sym (c.is_held.ensures x) ∙ c.if-not-is_held.false)
+    c.in-Some.ensures.iterated
 
-pub turns-loop-turned-preserved : goal.turns-loop-turned-preserved
-turns-loop-turned-preserved t c =
-    let left = c.args.max - (c.loop-turned._turned + 1) in
-    let more : c.args.max - c.loop-turned._turned ≡ suc left = omega arith in
+pub iterations-loop-iterated-preserved : goal.iterations-loop-iterated-preserved
+iterations-loop-iterated-preserved t c =
+    let left = c.args.max - (c.loop-iterated._iterated + 1) in
+    let more : c.args.max - c.loop-iterated._iterated ≡ suc left = omega arith in
     record {
-      reaches = λ sends. next_turn (holds (plain_sp c.args.turning.now.condition.now)) (actions_done (served_by c.args.routines.now) (actions_of c.args.turning.now.body.now)) (step_done (option_map plain_assignment c.args.turning.now.step.now)) (turns_done (holds (plain_sp c.args.turning.now.condition.now)) (actions_done (served_by c.args.routines.now) (actions_of c.args.turning.now.body.now)) (step_done (option_map plain_assignment c.args.turning.now.step.now)) c.args.max (state_of c.args.frame.now c.args.memory.now sends)) left c.loop-turned.frame c.loop-turned.memory c.turn.new.frame c.turn.new.memory (another_turn (holds (plain_sp c.args.turning.now.condition.now)) (actions_done (served_by c.args.routines.now) (actions_of c.args.turning.now.body.now)) (step_done (option_map plain_assignment c.args.turning.now.step.now)) (turns_done (holds (plain_sp c.args.turning.now.condition.now)) (actions_done (served_by c.args.routines.now) (actions_of c.args.turning.now.body.now)) (step_done (option_map plain_assignment c.args.turning.now.step.now)) c.args.max (state_of c.args.frame.now c.args.memory.now sends)) (c.args.max - c.loop-turned._turned) (suc left) c.loop-turned.frame c.loop-turned.memory more (c.loop-turned.invariant.reaches sends))
-          (λ x. sym (c.is_held.ensures x) ∙ c.if-not-is_held.false) c.in-None.ensures.turned;
+      reaches = λ sends. next_iteration (holds (plain_sp c.args.iterating.now.condition.now)) (actions_done (served_by c.args.routines.now) (actions_of c.args.iterating.now.body.now)) (step_done (option_map plain_assignment c.args.iterating.now.step.now)) (iterations_done (holds (plain_sp c.args.iterating.now.condition.now)) (actions_done (served_by c.args.routines.now) (actions_of c.args.iterating.now.body.now)) (step_done (option_map plain_assignment c.args.iterating.now.step.now)) c.args.max (state_of c.args.frame.now c.args.memory.now sends)) left c.loop-iterated.frame c.loop-iterated.memory c.iteration.new.frame c.iteration.new.memory (another_iteration (holds (plain_sp c.args.iterating.now.condition.now)) (actions_done (served_by c.args.routines.now) (actions_of c.args.iterating.now.body.now)) (step_done (option_map plain_assignment c.args.iterating.now.step.now)) (iterations_done (holds (plain_sp c.args.iterating.now.condition.now)) (actions_done (served_by c.args.routines.now) (actions_of c.args.iterating.now.body.now)) (step_done (option_map plain_assignment c.args.iterating.now.step.now)) c.args.max (state_of c.args.frame.now c.args.memory.now sends)) (c.args.max - c.loop-iterated._iterated) (suc left) c.loop-iterated.frame c.loop-iterated.memory more (c.loop-iterated.invariant.reaches sends))
+          (λ x. sym (c.is_held.ensures x) ∙ c.if-not-is_held.false) c.in-None.ensures.iterated;
       rooms = c.in-None.ensures.rooms;
     }
 
-pub turns-returns-clause-done : goal.turns-returns-clause-done
-turns-returns-clause-done t c =
-    let none : c.args.max - c.loop-turned._turned ≡ zero = omega arith in
-    λ sends. all_turned (holds (plain_sp c.args.turning.now.condition.now)) (actions_done (served_by c.args.routines.now) (actions_of c.args.turning.now.body.now)) (step_done (option_map plain_assignment c.args.turning.now.step.now)) (turns_done (holds (plain_sp c.args.turning.now.condition.now)) (actions_done (served_by c.args.routines.now) (actions_of c.args.turning.now.body.now)) (step_done (option_map plain_assignment c.args.turning.now.step.now)) c.args.max (state_of c.args.frame.now c.args.memory.now sends)) c.loop-turned.frame c.loop-turned.memory c.is_held-held.result c.overran.new.self
-    (another_turn (holds (plain_sp c.args.turning.now.condition.now)) (actions_done (served_by c.args.routines.now) (actions_of c.args.turning.now.body.now)) (step_done (option_map plain_assignment c.args.turning.now.step.now)) (turns_done (holds (plain_sp c.args.turning.now.condition.now)) (actions_done (served_by c.args.routines.now) (actions_of c.args.turning.now.body.now)) (step_done (option_map plain_assignment c.args.turning.now.step.now)) c.args.max (state_of c.args.frame.now c.args.memory.now sends)) (c.args.max - c.loop-turned._turned) zero c.loop-turned.frame c.loop-turned.memory none (c.loop-turned.invariant.reaches sends))
+pub iterations-returns-clause-done : goal.iterations-returns-clause-done
+iterations-returns-clause-done t c =
+    let none : c.args.max - c.loop-iterated._iterated ≡ zero = omega arith in
+    λ sends. all_iterated (holds (plain_sp c.args.iterating.now.condition.now)) (actions_done (served_by c.args.routines.now) (actions_of c.args.iterating.now.body.now)) (step_done (option_map plain_assignment c.args.iterating.now.step.now)) (iterations_done (holds (plain_sp c.args.iterating.now.condition.now)) (actions_done (served_by c.args.routines.now) (actions_of c.args.iterating.now.body.now)) (step_done (option_map plain_assignment c.args.iterating.now.step.now)) c.args.max (state_of c.args.frame.now c.args.memory.now sends)) c.loop-iterated.frame c.loop-iterated.memory c.is_held-held.result c.overran.new.self
+    (another_iteration (holds (plain_sp c.args.iterating.now.condition.now)) (actions_done (served_by c.args.routines.now) (actions_of c.args.iterating.now.body.now)) (step_done (option_map plain_assignment c.args.iterating.now.step.now)) (iterations_done (holds (plain_sp c.args.iterating.now.condition.now)) (actions_done (served_by c.args.routines.now) (actions_of c.args.iterating.now.body.now)) (step_done (option_map plain_assignment c.args.iterating.now.step.now)) c.args.max (state_of c.args.frame.now c.args.memory.now sends)) (c.args.max - c.loop-iterated._iterated) zero c.loop-iterated.frame c.loop-iterated.memory none (c.loop-iterated.invariant.reaches sends))
     c.is_held-held.ensures c.overran.ensures.world
 
 pub called-all-way-requires : goal.called-all-way-requires
@@ -268,4 +268,4 @@ called-returns-clause-given t c =
     earlier (c.all-way.ensures.done sends) in
     let given = body_given (bodies_of rs) k (length rs) (args_worth (map plain_sp c.args.args.now.values) s) c.pass.new.own c.args.memory.now sends (actions_of c.as_slice-body.result.now)
     c.all-way.result c.all-way.new.frame c.all-way.new.memory (omega arith) body words done in
-    subst (λ n. HasGiven (served_by rs k (args_worth (map plain_sp c.args.args.now.values) s) (shown c.args.memory.now sends)) n c.all-way.new.memory) (sym c.given_by.ensures) given
+    subst (λ n. HasOutcome (served_by rs k (args_worth (map plain_sp c.args.args.now.values) s) (shown c.args.memory.now sends)) n c.all-way.new.memory) (sym c.given_by.ensures) given

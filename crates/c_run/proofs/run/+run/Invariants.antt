@@ -3,7 +3,7 @@ use Rattle.std.specs.Prelude.{option_map}
 use Rattle.c_world.specs.Shown.{rooms}
 use Rattle.c_world.specs.World.{Sending}
 use Rattle.sp_tree.specs.Plain.{plain_sp}
-use Rattle.c_meaning.specs.Meaning.{turns_done}
+use Rattle.c_meaning.specs.Meaning.{iterations_done}
 use Rattle.c_meaning.specs.Resolved.{holds, step_done, actions_done}
 use Rattle.c_meaning.specs.Rooms.{all_rooms}
 use Rattle.c_meaning.specs.Shown.{plain_action, plain_assignment, actions_of, branches_of, bodies_of}
@@ -21,13 +21,13 @@ invariant-all-loop-action l = record {
   rooms : rooms l.memory ≡ all_rooms;
 }
 
-abbrev pub invariant-turns-loop-turned : goal.invariant-turns-loop-turned
-invariant-turns-loop-turned l = record {
+abbrev pub invariant-iterations-loop-iterated : goal.invariant-iterations-loop-iterated
+invariant-iterations-loop-iterated l = record {
   reaches : (sends : List Sending) → Reaches
-      (turns_done (holds (plain_sp l.turning.condition.now)) (actions_done (served_by l.routines) (actions_of l.turning.body.now))
-      (step_done (option_map plain_assignment l.turning.step.now)) l.max (state_of l.initial.frame l.initial.memory sends))
-      (turns_done (holds (plain_sp l.turning.condition.now)) (actions_done (served_by l.routines) (actions_of l.turning.body.now))
-      (step_done (option_map plain_assignment l.turning.step.now)) (l.max - l._turned)) l.frame l.memory;
+      (iterations_done (holds (plain_sp l.iterating.condition.now)) (actions_done (served_by l.routines) (actions_of l.iterating.body.now))
+      (step_done (option_map plain_assignment l.iterating.step.now)) l.max (state_of l.initial.frame l.initial.memory sends))
+      (iterations_done (holds (plain_sp l.iterating.condition.now)) (actions_done (served_by l.routines) (actions_of l.iterating.body.now))
+      (step_done (option_map plain_assignment l.iterating.step.now)) (l.max - l._iterated)) l.frame l.memory;
   rooms : rooms l.memory ≡ all_rooms;
 }
 
@@ -41,11 +41,11 @@ abbrev pub decreases-choose : goal.decreases-choose
 decreases-choose l =
     total (bodies_of l.routines.now) (length l.routines.now) + 1 + branches_size (branches_of l.branches.now) + actions_size (actions_of l.otherwise.now)
 
-abbrev pub decreases-turn : goal.decreases-turn
-decreases-turn l = total (bodies_of l.routines.now) (length l.routines.now) + 1 + actions_size (actions_of l.body.now)
+abbrev pub decreases-iteration : goal.decreases-iteration
+decreases-iteration l = total (bodies_of l.routines.now) (length l.routines.now) + 1 + actions_size (actions_of l.body.now)
 
-abbrev pub decreases-turns : goal.decreases-turns
-decreases-turns l = total (bodies_of l.routines.now) (length l.routines.now) + 2 + actions_size (actions_of l.turning.now.body.now)
+abbrev pub decreases-iterations : goal.decreases-iterations
+decreases-iterations l = total (bodies_of l.routines.now) (length l.routines.now) + 2 + actions_size (actions_of l.iterating.now.body.now)
 
 abbrev pub decreases-called : goal.decreases-called
 decreases-called l = total (bodies_of l.routines.now) (length l.routines.now) + 1

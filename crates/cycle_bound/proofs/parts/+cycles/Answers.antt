@@ -28,11 +28,11 @@ cycles_of_part-returns-in-Repeat-clause-cycles g t c =
     λ fs fill knows.
     let body = parts_bound c.args.each fill (bounds fs c.args.each fill c.args.number) c.args.number (parts_of c.in-Repeat.body) in
     let tail = bundles_bound c.args.each c.in-Repeat.tail in
-    let turn = held_sum c.plus-turn.result c.cycles_of_parts-once.result c.cycles_of_bundles-in-Repeat.result body tail c.plus-turn.ensures
+    let iteration = held_sum c.plus-iteration.result c.cycles_of_parts-once.result c.cycles_of_bundles-in-Repeat.result body tail c.plus-iteration.ensures
     (c.cycles_of_parts-once.ensures.cycles fs fill knows
     ∙ ap (λ ps. held (parts_bound c.args.each fill (bounds fs c.args.each fill c.args.number) c.args.number (parts_of ps))) c.as_slice-in-Repeat.ensures)
     (c.cycles_of_bundles-in-Repeat.ensures.cycles ∙ ap (λ bs. held (bundles_bound c.args.each bs)) c.as_slice-in-Repeat-2.ensures) in
-    held_times c.times.result c.in-Repeat.count c.plus-turn.result (body + tail) (c.times.ensures ∙ ap (λ n. held (n * c.plus-turn.result)) c.from.ensures) turn
+    held_times c.times.result c.in-Repeat.count c.plus-iteration.result (body + tail) (c.times.ensures ∙ ap (λ n. held (n * c.plus-iteration.result)) c.from.ensures) iteration
     ∙ ap (λ p. held (part_bound c.args.each fill (bounds fs c.args.each fill c.args.number) c.args.number p))
     (sym (repeat_said c.args.part.now c.in-Repeat.count c.in-Repeat.body c.in-Repeat.tail c.in-Repeat.is))
 

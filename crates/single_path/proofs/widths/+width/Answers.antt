@@ -14,8 +14,8 @@ one-choice-requires t c =
     c.in-Choose.is c.as_slice-in-Choose.ensures c.as_slice-in-Choose-2.ensures) in
     (omega (arith, c.decreases, size), tt)
 
-pub one-turns-requires : goal.one-turns-requires
-one-turns-requires t c =
+pub one-iterations-requires : goal.one-iterations-requires
+one-iterations-requires t c =
     let size = ap action_size (loop_is c.args.action.now c.in-Loop.max c.in-Loop.condition c.in-Loop.body c.as_slice-in-Loop.result.now c.in-Loop.step c.in-Loop.is
     c.as_slice-in-Loop.ensures) in
     (omega (arith, c.decreases, size), tt)
@@ -66,15 +66,15 @@ one-returns-in-Choose-clause-masks t c =
 
 pub one-returns-in-Loop-clause-variables : goal.one-returns-in-Loop-clause-variables
 one-returns-in-Loop-clause-variables t c =
-    subst (λ a. c.turns.result.variables ≡ capped (action_words a))
+    subst (λ a. c.iterations.result.variables ≡ capped (action_words a))
     (loop_is c.args.action.now c.in-Loop.max c.in-Loop.condition c.in-Loop.body c.as_slice-in-Loop.result.now c.in-Loop.step c.in-Loop.is
-    c.as_slice-in-Loop.ensures) c.turns.ensures.variables
+    c.as_slice-in-Loop.ensures) c.iterations.ensures.variables
 
 pub one-returns-in-Loop-clause-masks : goal.one-returns-in-Loop-clause-masks
 one-returns-in-Loop-clause-masks t c =
-    subst (λ a. c.turns.result.masks ≡ capped (action_masks a))
+    subst (λ a. c.iterations.result.masks ≡ capped (action_masks a))
     (loop_is c.args.action.now c.in-Loop.max c.in-Loop.condition c.in-Loop.body c.as_slice-in-Loop.result.now c.in-Loop.step c.in-Loop.is
-    c.as_slice-in-Loop.ensures) c.turns.ensures.masks
+    c.as_slice-in-Loop.ensures) c.iterations.ensures.masks
 
 pub one-returns-in-Return-clause-variables : goal.one-returns-in-Return-clause-variables
 unfolding plain_action

@@ -22,5 +22,5 @@ decreases-choice l = 1 + branches_size (branches_of l.branches.now) + actions_si
 abbrev pub decreases-arms : goal.decreases-arms
 decreases-arms l = branches_size (branches_of l.branches.now)
 
-abbrev pub decreases-turns : goal.decreases-turns
-decreases-turns l = 1 + actions_size (actions_of l.body.now)
+abbrev pub decreases-iterations : goal.decreases-iterations
+decreases-iterations l = 1 + actions_size (actions_of l.body.now)

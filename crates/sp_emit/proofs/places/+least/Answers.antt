@@ -1,12 +1,12 @@
 use Rattle.std.proofs.Common.{arith, ap, sym, ◌∙◌, subst, map}
-use Rattle.sp_tree.proofs.Forms.{item_size, turns_size, plain_turns}
+use Rattle.sp_tree.proofs.Forms.{item_size, iterations_size, plain_iterations}
 use Rattle.sp_tree.specs.Plain.{plain_sp}
 use Rattle.sp_tree.specs.Shown.{plain_stmt, stmts_of}
 use Rattle.sp_tree.specs.Sizes.{stmts_size}
-use Rattle.sp_tree.specs.Statements.{turns}
+use Rattle.sp_tree.specs.Statements.{iterations}
 use Rattle.sp_emit.specs.Fits.{ArgsFit, StmtFits}
 use Rattle.sp_emit.specs.Places.{stmt_least}
-use Rattle.sp_emit.proofs.Fitting.{calls_args, item_fits, turns_body}
+use Rattle.sp_emit.proofs.Fitting.{calls_args, item_fits, iterations_body}
 use Rattle.sp_emit.proofs.places.+least.Goals as goal
 
 pub statement_least-arguments_least-requires : goal.statement_least-arguments_least-requires
@@ -18,14 +18,14 @@ statement_least-arguments_least-requires t c =
 
 pub statement_least-statements_least-requires : goal.statement_least-statements_least-requires
 statement_least-statements_least-requires t c =
-    let size = turns_size c.args.t.now c.in-Turns.count c.in-Turns.body c.in-Turns.is in
-    let body = ap (λ ts. stmts_size (stmts_of ts)) c.as_slice-in-Turns.ensures in
-    let is = ap plain_stmt c.in-Turns.is ∙ plain_turns c.in-Turns.count c.in-Turns.body ∙ ap (λ ts. turns c.in-Turns.count (stmts_of ts)) (sym c.as_slice-in-Turns.ensures) in
-    (omega (arith, c.decreases, size, body), turns_body c.in-Turns.count (stmts_of c.as_slice-in-Turns.result.now) (subst (StmtFits c.args.frame c.args.counter) is c.requires))
+    let size = iterations_size c.args.t.now c.in-Iterations.count c.in-Iterations.body c.in-Iterations.is in
+    let body = ap (λ ts. stmts_size (stmts_of ts)) c.as_slice-in-Iterations.ensures in
+    let is = ap plain_stmt c.in-Iterations.is ∙ plain_iterations c.in-Iterations.count c.in-Iterations.body ∙ ap (λ ts. iterations c.in-Iterations.count (stmts_of ts)) (sym c.as_slice-in-Iterations.ensures) in
+    (omega (arith, c.decreases, size, body), iterations_body c.in-Iterations.count (stmts_of c.as_slice-in-Iterations.result.now) (subst (StmtFits c.args.frame c.args.counter) is c.requires))
 
-pub statement_least-returns-in-Turns : goal.statement_least-returns-in-Turns
-statement_least-returns-in-Turns t c =
-    let is = ap plain_stmt c.in-Turns.is ∙ plain_turns c.in-Turns.count c.in-Turns.body ∙ ap (λ ts. turns c.in-Turns.count (stmts_of ts)) (sym c.as_slice-in-Turns.ensures) in
+pub statement_least-returns-in-Iterations : goal.statement_least-returns-in-Iterations
+statement_least-returns-in-Iterations t c =
+    let is = ap plain_stmt c.in-Iterations.is ∙ plain_iterations c.in-Iterations.count c.in-Iterations.body ∙ ap (λ ts. iterations c.in-Iterations.count (stmts_of ts)) (sym c.as_slice-in-Iterations.ensures) in
     c.statements_least.ensures ∙ ap (stmt_least c.args.tops.now) (sym is)
 
 pub statements_least-statement_least-requires : goal.statements_least-statement_least-requires

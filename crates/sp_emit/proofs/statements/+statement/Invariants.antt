@@ -14,8 +14,8 @@ invariant-statements-loop-t l =
 abbrev pub decreases-statement : goal.decreases-statement
 decreases-statement l = stmt_size (plain_stmt l.t.now)
 
-abbrev pub decreases-turns : goal.decreases-turns
-decreases-turns l = 1 + stmts_size (stmts_of l.body.now)
+abbrev pub decreases-iterations : goal.decreases-iterations
+decreases-iterations l = 1 + stmts_size (stmts_of l.body.now)
 
 abbrev pub decreases-statements : goal.decreases-statements
 decreases-statements l = stmts_size (stmts_of l.body.now)

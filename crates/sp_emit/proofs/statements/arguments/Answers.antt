@@ -4,8 +4,15 @@ use Rattle.sp_shape.specs.Shown.{parts_of}
 use Rattle.sp_tree.specs.Plain.{plain_sp}
 use Rattle.sp_emit.specs.Fits.{ArgsFit}
 use Rattle.sp_emit.specs.Statements.{args_code}
+use Rattle.tc_word.proofs.Items.{drop_item}
+use Rattle.sp_emit.proofs.Fitting.{first_argument}
 use Rattle.sp_emit.proofs.Looping.{argument_added, arguments_done, others_fit}
 use Rattle.sp_emit.proofs.statements.arguments.Goals as goal
+
+pub expression-requires : goal.expression-requires
+expression-requires c =
+    let rest = drop (c.loop-e.e-index + 1) c.args.args.now in
+    first_argument (plain_sp c.e-item.result) (map plain_sp rest) (subst (λ es. ArgsFit (map plain_sp es) c.loop-e.rd) (drop_item c.args.args.now c.loop-e.e-index c.e-item.result (omega arith) c.e-item.is) c.loop-e.invariant.0)
 
 pub loop-e-preserved : goal.loop-e-preserved
 loop-e-preserved c =

@@ -25,3 +25,11 @@ returns-clause-factor c = refl
 pub returns-clause-rest_by_factor : goal.returns-clause-rest_by_factor
 unfolding count_leading_zeros highest is_power moved scale factor surplus is_exact factor_rest_to number_op read_op fetch_op set_op word_cleared
 returns-clause-rest_by_factor c = refl
+
+pub returns-clause-by_zero : goal.returns-clause-by_zero
+unfolding count_leading_zeros highest is_power moved scale factor surplus is_exact factor_rest_to number_op read_op fetch_op set_op word_cleared
+returns-clause-by_zero c = refl
+
+pub returns-clause-rest_by_zero : goal.returns-clause-rest_by_zero
+unfolding count_leading_zeros highest is_power moved scale factor surplus is_exact factor_rest_to number_op read_op fetch_op set_op word_cleared
+returns-clause-rest_by_zero c = refl

@@ -2,7 +2,7 @@ use Rattle.std.proofs.Common.{◌≡◌, ap, subst, arith}
 use Rattle.sp_tree.specs.Sizes.{stmt_size}
 use Rattle.sp_tree.proofs.Forms.{item_size}
 use Rattle.sp_inline.specs.Reach.{stmt_calls}
-use Rattle.sp_inline.proofs.Parts.{turns_is}
+use Rattle.sp_inline.proofs.Parts.{iterations_is}
 use Rattle.sp_inline.proofs.callees.+calls.Goals as goal
 
 pub calls_of-statement-calls-requires : goal.calls_of-statement-calls-requires
@@ -12,10 +12,10 @@ calls_of-statement-calls-requires t c =
 
 pub statement-calls_of-requires : goal.statement-calls_of-requires
 statement-calls_of-requires t c =
-    let size = ap stmt_size (turns_is c.args.t.now c.in-Turns.count c.in-Turns.body c.as_slice.result.now c.in-Turns.is c.as_slice.ensures) in
+    let size = ap stmt_size (iterations_is c.args.t.now c.in-Iterations.count c.in-Iterations.body c.as_slice.result.now c.in-Iterations.is c.as_slice.ensures) in
     (omega (arith, c.decreases, size), tt)
 
-pub statement-returns-in-Turns : goal.statement-returns-in-Turns
-statement-returns-in-Turns t c =
+pub statement-returns-in-Iterations : goal.statement-returns-in-Iterations
+statement-returns-in-Iterations t c =
     subst (λ a. c.calls_of.result ≡ stmt_calls a)
-    (turns_is c.args.t.now c.in-Turns.count c.in-Turns.body c.as_slice.result.now c.in-Turns.is c.as_slice.ensures) c.calls_of.ensures
+    (iterations_is c.args.t.now c.in-Iterations.count c.in-Iterations.body c.as_slice.result.now c.in-Iterations.is c.as_slice.ensures) c.calls_of.ensures

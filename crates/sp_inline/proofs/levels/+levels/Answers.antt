@@ -2,7 +2,7 @@ use Rattle.std.proofs.Common.{◌∙◌, ap, arith}
 use Rattle.sp_tree.specs.Sizes.{stmt_size}
 use Rattle.sp_tree.proofs.Forms.{item_size}
 use Rattle.sp_tree.specs.Formed.{stmt_levels}
-use Rattle.sp_inline.proofs.Parts.{turns_is}
+use Rattle.sp_inline.proofs.Parts.{iterations_is}
 use Rattle.sp_inline.proofs.levels.+levels.Goals as goal
 
 pub levels_of-statement-levels-requires : goal.levels_of-statement-levels-requires
@@ -12,10 +12,10 @@ levels_of-statement-levels-requires t c =
 
 pub statement-levels_of-requires : goal.statement-levels_of-requires
 statement-levels_of-requires t c =
-    let size = ap stmt_size (turns_is c.args.t.now c.in-Turns.count c.in-Turns.body c.as_slice.result.now c.in-Turns.is c.as_slice.ensures) in
+    let size = ap stmt_size (iterations_is c.args.t.now c.in-Iterations.count c.in-Iterations.body c.as_slice.result.now c.in-Iterations.is c.as_slice.ensures) in
     (omega (arith, c.decreases, size), tt)
 
-pub statement-returns-in-Turns : goal.statement-returns-in-Turns
-statement-returns-in-Turns t c =
-    let same = ap stmt_levels (turns_is c.args.t.now c.in-Turns.count c.in-Turns.body c.as_slice.result.now c.in-Turns.is c.as_slice.ensures) in
+pub statement-returns-in-Iterations : goal.statement-returns-in-Iterations
+statement-returns-in-Iterations t c =
+    let same = ap stmt_levels (iterations_is c.args.t.now c.in-Iterations.count c.in-Iterations.body c.as_slice.result.now c.in-Iterations.is c.as_slice.ensures) in
     c.saturating_add.ensures ∙ (omega (arith, same, c.levels_of.ensures))

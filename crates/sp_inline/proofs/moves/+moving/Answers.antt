@@ -6,20 +6,20 @@ use Rattle.sp_tree.specs.Statements.{joined}
 use Rattle.sp_tree.proofs.Forms.{item_size}
 use Rattle.sp_inline.specs.Moved.{stmt_moved, stmts_moved}
 use Rattle.sp_inline.specs.Reach.{stmt_reach}
-use Rattle.sp_inline.proofs.Parts.{stmt_part, none_moved, turns_is}
+use Rattle.sp_inline.proofs.Parts.{stmt_part, none_moved, iterations_is}
 use Rattle.sp_inline.proofs.moves.+moving.Goals as goal
 
-pub moved_statement-moved_turns-requires : goal.moved_statement-moved_turns-requires
-moved_statement-moved_turns-requires t c =
-    let same = turns_is c.args.t.now c.in-Turns.count c.in-Turns.body c.as_slice-in-Turns.result.now c.in-Turns.is c.as_slice-in-Turns.ensures in
+pub moved_statement-moved_iterations-requires : goal.moved_statement-moved_iterations-requires
+moved_statement-moved_iterations-requires t c =
+    let same = iterations_is c.args.t.now c.in-Iterations.count c.in-Iterations.body c.as_slice-in-Iterations.result.now c.in-Iterations.is c.as_slice-in-Iterations.ensures in
     let size = ap stmt_size same in
     let reach = ap stmt_reach same in
     (omega (arith, c.decreases, size), omega (arith, c.requires, reach))
 
-pub moved_statement-returns-in-Turns : goal.moved_statement-returns-in-Turns
-moved_statement-returns-in-Turns t c =
-    subst (λ a. IfOk c.moved_turns.result (λ m. plain_stmt m ≡ stmt_moved c.args.place a))
-    (turns_is c.args.t.now c.in-Turns.count c.in-Turns.body c.as_slice-in-Turns.result.now c.in-Turns.is c.as_slice-in-Turns.ensures) c.moved_turns.ensures
+pub moved_statement-returns-in-Iterations : goal.moved_statement-returns-in-Iterations
+moved_statement-returns-in-Iterations t c =
+    subst (λ a. IfOk c.moved_iterations.result (λ m. plain_stmt m ≡ stmt_moved c.args.place a))
+    (iterations_is c.args.t.now c.in-Iterations.count c.in-Iterations.body c.as_slice-in-Iterations.result.now c.in-Iterations.is c.as_slice-in-Iterations.ensures) c.moved_iterations.ensures
 
 pub add_moved-moved_statement-requires : goal.add_moved-moved_statement-requires
 add_moved-moved_statement-requires t c =

@@ -13,8 +13,8 @@ invariant-add_moved-loop-t l =
 abbrev pub decreases-moved_statement : goal.decreases-moved_statement
 decreases-moved_statement l = stmt_size (plain_stmt l.t.now)
 
-abbrev pub decreases-moved_turns : goal.decreases-moved_turns
-decreases-moved_turns l = 1 + stmts_size (stmts_of l.body.now)
+abbrev pub decreases-moved_iterations : goal.decreases-moved_iterations
+decreases-moved_iterations l = 1 + stmts_size (stmts_of l.body.now)
 
 abbrev pub decreases-add_moved : goal.decreases-add_moved
 decreases-add_moved l = stmts_size (stmts_of l.body.now)

@@ -2,13 +2,13 @@ use Rattle.std.proofs.Common.{◌+◌, ◌∙◌, ap, refl, arith}
 use Rattle.sp_tree.specs.Formed.{stmt_levels}
 use Rattle.sp_tree.specs.Shown.{plain_stmt, stmts_of}
 use Rattle.sp_tree.specs.Sizes.{stmt_size}
-use Rattle.sp_tree.specs.Statements.{joined, one, turns}
+use Rattle.sp_tree.specs.Statements.{joined, one, iterations}
 use Rattle.sp_tree.proofs.Forms.{item_size}
 use Rattle.sp_inline.specs.Reach.{stmt_reach}
 use Rattle.sp_inline.specs.Shown.{plain_caller}
 use Rattle.sp_inline.specs.Taken.{stmts_taken, taken_after}
-use Rattle.sp_inline.proofs.Parts.{turns_is, stmt_part}
-use Rattle.sp_inline.proofs.Walks.{call_is, turns_levels, level_part, level_kept, next_taken, none_taken, turns_taken}
+use Rattle.sp_inline.proofs.Parts.{iterations_is, stmt_part}
+use Rattle.sp_inline.proofs.Walks.{call_is, iterations_levels, level_part, level_kept, next_taken, none_taken, iterations_taken}
 use Rattle.sp_inline.proofs.walk.+walk.Goals as goal
 
 pub take_statement-keep-requires : goal.take_statement-keep-requires
@@ -24,27 +24,27 @@ take_statement-take_call-requires t c = record {
 
 pub take_statement-overflow_add-depth : goal.take_statement-overflow_add-depth
 take_statement-overflow_add-depth t c =
-    let level = turns_levels c.args.t.now c.in-Turns.count c.in-Turns.body c.in-Turns.is in
+    let level = iterations_levels c.args.t.now c.in-Iterations.count c.in-Iterations.body c.in-Iterations.is in
     omega (arith, c.requires.levels, level)
 
 pub take_statement-take_statements-requires : goal.take_statement-take_statements-requires
 take_statement-take_statements-requires t c =
-    let same = turns_is c.args.t.now c.in-Turns.count c.in-Turns.body c.as_slice-in-Turns.result.now c.in-Turns.is c.as_slice-in-Turns.ensures in
+    let same = iterations_is c.args.t.now c.in-Iterations.count c.in-Iterations.body c.as_slice-in-Iterations.result.now c.in-Iterations.is c.as_slice-in-Iterations.ensures in
     let size = ap stmt_size same in
     let level = ap stmt_levels same in
     let reach = ap stmt_reach same in
     (omega (arith, c.decreases, size), (omega (arith, c.requires.levels, level), (omega (arith, c.requires.words, reach), (c.requires.word, c.requires.frame))))
 
-pub take_statement-returns-in_ok-add_turns-in-Turns : goal.take_statement-returns-in_ok-add_turns-in-Turns
-take_statement-returns-in_ok-add_turns-in-Turns t c =
+pub take_statement-returns-in_ok-add_iterations-in-Iterations : goal.take_statement-returns-in_ok-add_iterations-in-Iterations
+take_statement-returns-in_ok-add_iterations-in-Iterations t c =
     let caller = plain_caller c.args.caller.now in
     let old = stmts_of c.args.out.now.items in
-    let body = c.as_slice-in-Turns.result.now in
-    let same = turns_is c.args.t.now c.in-Turns.count c.in-Turns.body body c.in-Turns.is c.as_slice-in-Turns.ensures in
-    turns_taken caller c.args.depth c.args.room c.in_ok-after-in-Turns.after c.args.t.now c.in-Turns.count body old (stmts_of c.take_statements.new.out.items)
-    (stmts_of c.add_turns.new.out.items) same
-    (c.in_ok-after-in-Turns.ensures ∙ ap (λ xs. taken_after (stmts_of xs) (stmts_taken caller (c.args.depth + 1) c.args.room (stmts_of body))) c.new-inside.ensures.items)
-    (c.in_ok-add_turns-in-Turns.ensures ∙ ap (λ xs. joined old (one (turns c.in-Turns.count (stmts_of xs)))) c.of.ensures)
+    let body = c.as_slice-in-Iterations.result.now in
+    let same = iterations_is c.args.t.now c.in-Iterations.count c.in-Iterations.body body c.in-Iterations.is c.as_slice-in-Iterations.ensures in
+    iterations_taken caller c.args.depth c.args.room c.in_ok-after-in-Iterations.after c.args.t.now c.in-Iterations.count body old (stmts_of c.take_statements.new.out.items)
+    (stmts_of c.add_iterations.new.out.items) same
+    (c.in_ok-after-in-Iterations.ensures ∙ ap (λ xs. taken_after (stmts_of xs) (stmts_taken caller (c.args.depth + 1) c.args.room (stmts_of body))) c.new-inside.ensures.items)
+    (c.in_ok-add_iterations-in-Iterations.ensures ∙ ap (λ xs. joined old (one (iterations c.in-Iterations.count (stmts_of xs)))) c.of.ensures)
 
 pub take_statements-loop-t-init : goal.take_statements-loop-t-init
 take_statements-loop-t-init t c = record { so_far = refl; levels = omega arith }

@@ -18,7 +18,7 @@ add_call-requires c =
     let chosen : is_taken caller c.args.depth c.args.room call.function (statements_for caller.words f call) (args_of call) ≡ true = search rules in
     let same : plain_function m.function ≡ f = search rules in
     let k = callable caller c.args.depth c.args.room m call c.requires.frame chosen same in
-    record { words = m.words_are; room = k.room; few = k.few; reach = k.reach; mask = k.mask; result = k.result }
+    record { room = k.room; few = k.few; reach = k.reach; mask = k.mask; result = k.result }
 
 pub returns-in-None : goal.returns-in-None
 returns-in-None c =

@@ -8,8 +8,8 @@ use Rattle.sp_tree.specs.Shown.{plain_stmt, plain_sp_target, plain_function, stm
 use Rattle.sp_tree.specs.Sizes.{stmts_size}
 use Rattle.sp_tree.specs.Straight.{State, worth, args_worth, with_slot, call_done, stmt_done, stmts_done, times, serves}
 use Rattle.sp_tree.specs.declared.statements.SpStmt.{SpStmt, Send}
-use Rattle.sp_tree.proofs.Forms.{mask_part, write_part, call_part, turns_part, item_part, plain_turns, function_at, known_function, few_arguments, earlier_ones, call_size, turns_size, item_size, total_grows}
-use Rattle.sp_tree.proofs.Runs.{has_done, along, reaches_first, reach_item, next_stmt, at_the_end, another_turn, next_turn, all_turned, body_given, sent}
+use Rattle.sp_tree.proofs.Forms.{mask_part, write_part, call_part, iterations_part, item_part, plain_iterations, function_at, known_function, few_arguments, earlier_ones, call_size, iterations_size, item_size, total_grows}
+use Rattle.sp_tree.proofs.Runs.{has_done, along, reaches_first, reach_item, next_stmt, at_the_end, another_iteration, next_iteration, all_iterated, body_given, sent}
 use Rattle.sp_tree.proofs.run.+run.Goals as goal
 
 pub act-bounds-frame-slot : goal.act-bounds-frame-slot
@@ -34,12 +34,12 @@ pub act-set_result-requires : goal.act-set_result-requires
 act-set_result-requires t c =
     record { formed = ap (λ n. result_formed n c.in-Call.result_slot) c.requires.frame ∙ (call_part (functions_of c.args.functions.now) c.args.known 128 c.args.t.now c.in-Call.mask c.in-Call.function c.in-Call.args c.in-Call.result_slot c.in-Call.is c.requires.formed).set }
 
-pub act-turns-requires : goal.act-turns-requires
-act-turns-requires t c =
-    let size = turns_size c.args.t.now c.in-Turns.count c.in-Turns.body c.in-Turns.is in
-    let body = ap (λ ts. stmts_size (stmts_of ts)) c.as_slice-in-Turns.ensures in
-    let formed = ap (λ ts. stmts_formed (functions_of c.args.functions.now) c.args.known 128 (stmts_of ts)) c.as_slice-in-Turns.ensures
-    ∙ turns_part (functions_of c.args.functions.now) c.args.known 128 c.args.t.now c.in-Turns.count c.in-Turns.body c.in-Turns.is c.requires.formed in
+pub act-iterations-requires : goal.act-iterations-requires
+act-iterations-requires t c =
+    let size = iterations_size c.args.t.now c.in-Iterations.count c.in-Iterations.body c.in-Iterations.is in
+    let body = ap (λ ts. stmts_size (stmts_of ts)) c.as_slice-in-Iterations.ensures in
+    let formed = ap (λ ts. stmts_formed (functions_of c.args.functions.now) c.args.known 128 (stmts_of ts)) c.as_slice-in-Iterations.ensures
+    ∙ iterations_part (functions_of c.args.functions.now) c.args.known 128 c.args.t.now c.in-Iterations.count c.in-Iterations.body c.in-Iterations.is c.requires.formed in
     (omega (arith, c.decreases, size, body), (c.requires.frame, (c.requires.rest, (c.requires.rooms, (c.requires.known, (c.requires.functions, formed))))))
 
 pub all-act-requires : goal.all-act-requires
@@ -48,9 +48,9 @@ all-act-requires t c =
     let formed = item_part (functions_of c.args.functions.now) c.args.known 128 c.args.stmts.now c.loop-t.t-index c.t-item.result (omega arith) c.t-item.is c.requires.formed in
     (omega (arith, c.decreases, part), (omega arith, (omega arith, (c.loop-t.invariant.rooms, (c.requires.known, (c.requires.functions, formed))))))
 
-pub turns-all-requires : goal.turns-all-requires
-turns-all-requires t c =
-    (omega (arith, c.decreases), (omega arith, (omega arith, (c.loop-turned.invariant.rooms, (c.requires.known, (c.requires.functions, c.requires.formed))))))
+pub iterations-all-requires : goal.iterations-all-requires
+iterations-all-requires t c =
+    (omega (arith, c.decreases), (omega arith, (omega arith, (c.loop-iterated.invariant.rooms, (c.requires.known, (c.requires.functions, c.requires.formed))))))
 
 pub called-begin_frame-requires-clause-mask : goal.called-begin_frame-requires-clause-mask
 called-begin_frame-requires-clause-mask t c =
@@ -115,14 +115,14 @@ act-returns-in-Overrun-clause-done t c =
     λ sends. has_done (stmt_done (serves (functions_of c.args.functions.now) c.args.known) (plain_stmt c.args.t.now) (state_of c.args.frame.now c.args.memory.now sends)) c.args.frame.now c.overrun.new.memory sends
     (ap (λ x. stmt_done (serves (functions_of c.args.functions.now) c.args.known) (plain_stmt x) (state_of c.args.frame.now c.args.memory.now sends)) c.in-Overrun.is ∙ c.overrun.ensures.done sends)
 
-pub act-returns-in-Turns-clause-done : goal.act-returns-in-Turns-clause-done
-act-returns-in-Turns-clause-done t c =
+pub act-returns-in-Iterations-clause-done : goal.act-returns-in-Iterations-clause-done
+act-returns-in-Iterations-clause-done t c =
     λ sends.
-    let turned : List SpStmt → State = λ ts. times c.in-Turns.count (stmts_done (serves (functions_of c.args.functions.now) c.args.known) (stmts_of ts)) (state_of c.args.frame.now c.args.memory.now sends) in
-    along (stmt_done (serves (functions_of c.args.functions.now) c.args.known) (plain_stmt c.args.t.now) (state_of c.args.frame.now c.args.memory.now sends)) (turned c.as_slice-in-Turns.result.now) c.turns.new.frame c.turns.new.memory
-    (ap (λ x. stmt_done (serves (functions_of c.args.functions.now) c.args.known) (plain_stmt x) (state_of c.args.frame.now c.args.memory.now sends)) c.in-Turns.is ∙ ap (λ p. stmt_done (serves (functions_of c.args.functions.now) c.args.known) p (state_of c.args.frame.now c.args.memory.now sends)) (plain_turns c.in-Turns.count c.in-Turns.body)
-    ∙ ap turned (sym c.as_slice-in-Turns.ensures))
-    (c.turns.ensures.done sends)
+    let iterated : List SpStmt → State = λ ts. times c.in-Iterations.count (stmts_done (serves (functions_of c.args.functions.now) c.args.known) (stmts_of ts)) (state_of c.args.frame.now c.args.memory.now sends) in
+    along (stmt_done (serves (functions_of c.args.functions.now) c.args.known) (plain_stmt c.args.t.now) (state_of c.args.frame.now c.args.memory.now sends)) (iterated c.as_slice-in-Iterations.result.now) c.iterations.new.frame c.iterations.new.memory
+    (ap (λ x. stmt_done (serves (functions_of c.args.functions.now) c.args.known) (plain_stmt x) (state_of c.args.frame.now c.args.memory.now sends)) c.in-Iterations.is ∙ ap (λ p. stmt_done (serves (functions_of c.args.functions.now) c.args.known) p (state_of c.args.frame.now c.args.memory.now sends)) (plain_iterations c.in-Iterations.count c.in-Iterations.body)
+    ∙ ap iterated (sym c.as_slice-in-Iterations.ensures))
+    (c.iterations.ensures.done sends)
 
 pub all-loop-t-init : goal.all-loop-t-init
 all-loop-t-init t c =
@@ -142,31 +142,31 @@ pub all-returns-clause-done : goal.all-returns-clause-done
 all-returns-clause-done t c =
     λ sends. at_the_end (serves (functions_of c.args.functions.now) c.args.known) (stmts_done (serves (functions_of c.args.functions.now) c.args.known) (stmts_of c.args.stmts.now) (state_of c.args.frame.now c.args.memory.now sends)) c.args.stmts.now c.loop-t.t-index c.loop-t.frame c.loop-t.memory (omega arith) (c.loop-t.invariant.reaches sends)
 
-pub turns-loop-turned-init : goal.turns-loop-turned-init
-turns-loop-turned-init t c =
+pub iterations-loop-iterated-init : goal.iterations-loop-iterated-init
+iterations-loop-iterated-init t c =
     let none : c.args.count ≡ c.args.count - 0 = omega arith in
     record {
-      reaches = λ sends. another_turn (stmts_done (serves (functions_of c.args.functions.now) c.args.known) (stmts_of c.args.body.now)) (times c.args.count (stmts_done (serves (functions_of c.args.functions.now) c.args.known) (stmts_of c.args.body.now)) (state_of c.args.frame.now c.args.memory.now sends)) c.args.count (c.args.count - 0) c.args.frame.now c.args.memory.now none
+      reaches = λ sends. another_iteration (stmts_done (serves (functions_of c.args.functions.now) c.args.known) (stmts_of c.args.body.now)) (times c.args.count (stmts_done (serves (functions_of c.args.functions.now) c.args.known) (stmts_of c.args.body.now)) (state_of c.args.frame.now c.args.memory.now sends)) c.args.count (c.args.count - 0) c.args.frame.now c.args.memory.now none
           (reaches_first (times c.args.count (stmts_done (serves (functions_of c.args.functions.now) c.args.known) (stmts_of c.args.body.now))) c.args.frame.now c.args.memory.now sends);
       rooms = c.requires.rooms;
     }
 
-pub turns-loop-turned-preserved : goal.turns-loop-turned-preserved
-turns-loop-turned-preserved t c =
-    let left = c.args.count - (c.loop-turned.turned + 1) in
-    let more : c.args.count - c.loop-turned.turned ≡ suc left = omega arith in
+pub iterations-loop-iterated-preserved : goal.iterations-loop-iterated-preserved
+iterations-loop-iterated-preserved t c =
+    let left = c.args.count - (c.loop-iterated.iterated + 1) in
+    let more : c.args.count - c.loop-iterated.iterated ≡ suc left = omega arith in
     record {
-      reaches = λ sends. next_turn (stmts_done (serves (functions_of c.args.functions.now) c.args.known) (stmts_of c.args.body.now)) (times c.args.count (stmts_done (serves (functions_of c.args.functions.now) c.args.known) (stmts_of c.args.body.now)) (state_of c.args.frame.now c.args.memory.now sends)) left c.loop-turned.frame c.loop-turned.memory c.all.new.frame c.all.new.memory
-          (another_turn (stmts_done (serves (functions_of c.args.functions.now) c.args.known) (stmts_of c.args.body.now)) (times c.args.count (stmts_done (serves (functions_of c.args.functions.now) c.args.known) (stmts_of c.args.body.now)) (state_of c.args.frame.now c.args.memory.now sends)) (c.args.count - c.loop-turned.turned) (suc left) c.loop-turned.frame c.loop-turned.memory more (c.loop-turned.invariant.reaches sends))
+      reaches = λ sends. next_iteration (stmts_done (serves (functions_of c.args.functions.now) c.args.known) (stmts_of c.args.body.now)) (times c.args.count (stmts_done (serves (functions_of c.args.functions.now) c.args.known) (stmts_of c.args.body.now)) (state_of c.args.frame.now c.args.memory.now sends)) left c.loop-iterated.frame c.loop-iterated.memory c.all.new.frame c.all.new.memory
+          (another_iteration (stmts_done (serves (functions_of c.args.functions.now) c.args.known) (stmts_of c.args.body.now)) (times c.args.count (stmts_done (serves (functions_of c.args.functions.now) c.args.known) (stmts_of c.args.body.now)) (state_of c.args.frame.now c.args.memory.now sends)) (c.args.count - c.loop-iterated.iterated) (suc left) c.loop-iterated.frame c.loop-iterated.memory more (c.loop-iterated.invariant.reaches sends))
           c.all.ensures.done;
       rooms = c.all.ensures.rooms;
     }
 
-pub turns-returns-clause-done : goal.turns-returns-clause-done
-turns-returns-clause-done t c =
-    let none : c.args.count - c.loop-turned.turned ≡ zero = omega arith in
-    λ sends. all_turned (stmts_done (serves (functions_of c.args.functions.now) c.args.known) (stmts_of c.args.body.now)) (times c.args.count (stmts_done (serves (functions_of c.args.functions.now) c.args.known) (stmts_of c.args.body.now)) (state_of c.args.frame.now c.args.memory.now sends)) c.loop-turned.frame c.loop-turned.memory
-    (another_turn (stmts_done (serves (functions_of c.args.functions.now) c.args.known) (stmts_of c.args.body.now)) (times c.args.count (stmts_done (serves (functions_of c.args.functions.now) c.args.known) (stmts_of c.args.body.now)) (state_of c.args.frame.now c.args.memory.now sends)) (c.args.count - c.loop-turned.turned) zero c.loop-turned.frame c.loop-turned.memory none (c.loop-turned.invariant.reaches sends))
+pub iterations-returns-clause-done : goal.iterations-returns-clause-done
+iterations-returns-clause-done t c =
+    let none : c.args.count - c.loop-iterated.iterated ≡ zero = omega arith in
+    λ sends. all_iterated (stmts_done (serves (functions_of c.args.functions.now) c.args.known) (stmts_of c.args.body.now)) (times c.args.count (stmts_done (serves (functions_of c.args.functions.now) c.args.known) (stmts_of c.args.body.now)) (state_of c.args.frame.now c.args.memory.now sends)) c.loop-iterated.frame c.loop-iterated.memory
+    (another_iteration (stmts_done (serves (functions_of c.args.functions.now) c.args.known) (stmts_of c.args.body.now)) (times c.args.count (stmts_done (serves (functions_of c.args.functions.now) c.args.known) (stmts_of c.args.body.now)) (state_of c.args.frame.now c.args.memory.now sends)) (c.args.count - c.loop-iterated.iterated) zero c.loop-iterated.frame c.loop-iterated.memory none (c.loop-iterated.invariant.reaches sends))
 
 pub called-returns-clause-given : goal.called-returns-clause-given
 called-returns-clause-given t c =

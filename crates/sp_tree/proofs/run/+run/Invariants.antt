@@ -17,11 +17,11 @@ invariant-all-loop-t l = record {
   rooms : rooms l.memory ≡ all_rooms;
 }
 
-abbrev pub invariant-turns-loop-turned : goal.invariant-turns-loop-turned
-invariant-turns-loop-turned l = record {
+abbrev pub invariant-iterations-loop-iterated : goal.invariant-iterations-loop-iterated
+invariant-iterations-loop-iterated l = record {
   reaches : (sends : List Sending) → Reaches
       (times l.count (stmts_done (serves (functions_of l.functions) l.known) (stmts_of l.body)) (state_of l.initial.frame l.initial.memory sends))
-      (times (l.count - l.turned) (stmts_done (serves (functions_of l.functions) l.known) (stmts_of l.body))) l.frame l.memory;
+      (times (l.count - l.iterated) (stmts_done (serves (functions_of l.functions) l.known) (stmts_of l.body))) l.frame l.memory;
   rooms : rooms l.memory ≡ all_rooms;
 }
 
@@ -31,8 +31,8 @@ decreases-act l = total (functions_of l.functions.now) l.known + stmt_size (plai
 abbrev pub decreases-all : goal.decreases-all
 decreases-all l = total (functions_of l.functions.now) l.known + stmts_size (stmts_of l.stmts.now)
 
-abbrev pub decreases-turns : goal.decreases-turns
-decreases-turns l = total (functions_of l.functions.now) l.known + 1 + stmts_size (stmts_of l.body.now)
+abbrev pub decreases-iterations : goal.decreases-iterations
+decreases-iterations l = total (functions_of l.functions.now) l.known + 1 + stmts_size (stmts_of l.body.now)
 
 abbrev pub decreases-called : goal.decreases-called
 decreases-called l = total (functions_of l.functions.now) l.known + 1

@@ -1,4 +1,4 @@
-use Rattle.task_machine.proofs.Told.{meaning_there}
+use Rattle.task_machine.proofs.Reported.{meaning_there}
 use Rattle.task_machine.proofs.laws.machines_give_tasks_their_meaning.Goals as goal
 
 pub returns : goal.returns

@@ -1,5 +1,5 @@
 use Rattle.task_machine.proofs.Among.{task_among, task_whole}
-use Rattle.task_machine.proofs.Told.{times_there}
+use Rattle.task_machine.proofs.Reported.{times_there}
 use Rattle.task_machine.proofs.laws.machines_keep_tasks_times.Goals as goal
 
 pub returns : goal.returns

@@ -6,18 +6,18 @@ use Rattle.tcrest.specs.Telling.{TellsOf}
 use Rattle.tcrest.proofs.Telling.{always, begin_fits, bounds_tell, report_tells}
 use Rattle.tcrest.proofs.answers.answer_with.Goals as goal
 
-pub returns-in_ok-bounds_text-in-Bound-clause-told : goal.returns-in_ok-bounds_text-in-Bound-clause-told
-returns-in_ok-bounds_text-in-Bound-clause-told g c =
+pub returns-in_ok-bounds_text-in-Bound-clause-reported : goal.returns-in_ok-bounds_text-in-Bound-clause-reported
+returns-in_ok-bounds_text-in-Bound-clause-reported g c =
     let coded = all_shown c.args.coded.items in
     subst (λ command. TellsOf command c.args.job.now coded) (sym c.in-Bound.is) (bounds_tell c.args.job.now coded c.requires.made)
 
-pub returns-in_ok-bounds_text-in-Persist-clause-told : goal.returns-in_ok-bounds_text-in-Persist-clause-told
-returns-in_ok-bounds_text-in-Persist-clause-told g c =
+pub returns-in_ok-bounds_text-in-Persist-clause-reported : goal.returns-in_ok-bounds_text-in-Persist-clause-reported
+returns-in_ok-bounds_text-in-Persist-clause-reported g c =
     let coded = all_shown c.args.coded.items in
     subst (λ command. TellsOf command c.args.job.now coded) (sym c.in-Persist.is) (bounds_tell c.args.job.now coded c.requires.made)
 
-pub returns-in-Pipe-clause-told : goal.returns-in-Pipe-clause-told
-returns-in-Pipe-clause-told g c =
+pub returns-in-Pipe-clause-reported : goal.returns-in-Pipe-clause-reported
+returns-in-Pipe-clause-reported g c =
     let job = c.args.job.now in
     let coded = all_shown c.args.coded.items in
     let ranges = c.keeps_ranges.ensures in

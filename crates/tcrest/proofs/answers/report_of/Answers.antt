@@ -17,8 +17,8 @@ returns-clause-answer g c =
     report_is c.args.job.now (all_shown c.args.coded.items) c.in_ok-loaded.tasks.items m c.in_ok-rows.rows.items c.reported.result
     c.in_ok-loaded.ensures.loaded c.in_ok-loaded.ensures.runs rows c.reported.ensures
 
-pub returns-clause-told : goal.returns-clause-told
-returns-clause-told g c =
+pub returns-clause-reported : goal.returns-clause-reported
+returns-clause-reported g c =
     let m = c.in_ok-loaded.loaded in
     let job = c.args.job.now in
     let coded = all_shown c.args.coded.items in

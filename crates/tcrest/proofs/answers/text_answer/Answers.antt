@@ -3,5 +3,5 @@ use Rattle.std.specs.Prelude.{IfOk}
 use Rattle.tcrest.specs.Telling.{TellsTasksOf}
 use Rattle.tcrest.proofs.answers.text_answer.Goals as goal
 
-pub returns-in-OfJob-clause-told : goal.returns-in-OfJob-clause-told
-returns-in-OfJob-clause-told g c = subst (λ command. IfOk c.job_answer.result (λ _. TellsTasksOf command c.args.bytes.now)) (sym c.in-OfJob.is) c.job_answer.ensures.told
+pub returns-in-OfJob-clause-reported : goal.returns-in-OfJob-clause-reported
+returns-in-OfJob-clause-reported g c = subst (λ command. IfOk c.job_answer.result (λ _. TellsTasksOf command c.args.bytes.now)) (sym c.in-OfJob.is) c.job_answer.ensures.reported

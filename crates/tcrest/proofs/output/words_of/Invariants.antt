@@ -1,5 +1,5 @@
 use Rattle.std.proofs.Common.{◌≡◌, ℕ}
-use Rattle.c_run.specs.Told.{words_from}
+use Rattle.c_run.specs.Reported.{words_from}
 use Rattle.c_world.specs.World.{words_in}
 use Rattle.global_step.specs.Loaded.{Machine}
 use Rattle.global_step.specs.Machine.{at_limit}

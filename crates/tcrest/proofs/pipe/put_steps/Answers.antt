@@ -26,8 +26,8 @@ loop-count-preserved c =
       ];
     }
 
-pub returns-clause-told : goal.returns-clause-told
-returns-clause-told c = λ x first. absurd (no_more x c.args.limit c.loop-count.count (c.loop-count.invariant.few x first) (search rules))
+pub returns-clause-reported : goal.returns-clause-reported
+returns-clause-reported c = λ x first. absurd (no_more x c.args.limit c.loop-count.count (c.loop-count.invariant.few x first) (search rules))
 
 pub returns-clause-stands : goal.returns-clause-stands
 returns-clause-stands c = λ x first. absurd (no_more x c.args.limit c.loop-count.count (c.loop-count.invariant.few x first) (search rules))

@@ -26,7 +26,7 @@ returns-in-Ok-text_answer-clause-write_fault g c = λ six.
       | inr cut ↦ cut.1
     ]
 
-pub returns-in-Ok-text_answer-clause-told : goal.returns-in-Ok-text_answer-clause-told
-returns-in-Ok-text_answer-clause-told g c =
+pub returns-in-Ok-text_answer-clause-reported : goal.returns-in-Ok-text_answer-clause-reported
+returns-in-Ok-text_answer-clause-reported g c =
     told_bytes c.args.command (g.S.Source.left c.args.source.now) c.in-Ok.bytes.items _ c.in-Ok.ensures.all
-    (rw (← c.as_slice.ensures.value) c.in-Ok-text_answer.ensures.told)
+    (rw (← c.as_slice.ensures.value) c.in-Ok-text_answer.ensures.reported)

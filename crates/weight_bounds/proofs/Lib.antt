@@ -1,0 +1,9 @@
+pub mod Bounding
+pub mod Emission
+pub mod Joins
+pub mod Once
+pub mod Programs
+pub mod Scheduling
+pub mod Taking
+pub mod Trees
+pub mod Weighing

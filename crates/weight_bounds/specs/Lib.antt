@@ -1,0 +1,4 @@
+pub mod Counts
+pub mod Leaves
+pub mod Trees
+pub mod Weights
