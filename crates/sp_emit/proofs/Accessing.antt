@@ -24,8 +24,8 @@ use Rattle.sp_shape.specs.Run.{Run, IsWhole, Sources, once, effected, run, begun
 use Rattle.sp_shape.specs.Trail.{Step, begins, all_done, copies, part_trail, parts_trail}
 use Rattle.sp_emit.specs.Instructions.{under, always, set_number}
 use Rattle.patmos_instr.specs.declared.guards.Guard.{Guard}
-use Rattle.sp_emit.specs.Places.{read_word, set_word, fetch_word}
-use Rattle.sp_emit.proofs.WordPlaces.{read_is, set_op_is, fetch_is}
+use Rattle.sp_emit.specs.Places.{read_word, set_word, fetch_word, keep_word}
+use Rattle.sp_emit.proofs.WordPlaces.{read_is, set_op_is, fetch_is, keep_is}
 use Rattle.sp_emit.specs.Accesses.{MayAsk, cached_addresses, cached_address, Asks, AsksOnly}
 use Rattle.sp_emit.proofs.Portless.{is_portless_op, is_portless, portless_start, start_append, words_left, words_right}
 use Rattle.sp_emit.proofs.Numbers.{number_op_is}
@@ -183,6 +183,9 @@ mutual
 
 pub near_read : (homes rd slot : ℕ) → is_near (read_word homes rd slot) ≡ true
 near_read homes rd slot = read_is (λ b. is_near b ≡ true) homes rd slot refl refl
+
+pub near_keep : (homes slot : ℕ) → is_near (keep_word homes slot) ≡ true
+near_keep homes slot = keep_is (λ b. is_near b ≡ true) homes slot refl refl
 
 pub near_fetch : (homes slot : ℕ) → is_near (fetch_word homes slot) ≡ true
 near_fetch homes slot = fetch_is (λ b. is_near b ≡ true) homes slot refl refl

@@ -33,7 +33,8 @@ use Rattle.sp_emit.proofs.CalmCode.{own_free}
 use Rattle.sp_emit.proofs.Words.{value_word}
 use Rattle.sp_emit.proofs.WordPlaces.{word_still, word_kept, read_is, read_leaves, read_others}
 use Rattle.sp_emit.proofs.Leaving.{did_with_short}
-use Rattle.sp_emit.proofs.Masks.{Done, follows_still, behind_still, keeps_then, tested, slot_where}
+use Rattle.sp_emit.proofs.Passing.{keeps_then}
+use Rattle.sp_emit.proofs.Masks.{Done, follows_still, behind_still, tested, slot_where}
 use Rattle.sp_emit.proofs.Values.{run_joined, run_lone}
 use Rattle.sp_emit.proofs.Arguments.{with_stack, did_stack, arguments_left}
 use Rattle.sp_emit.proofs.Once.{behind_slot, slot_behind, unchanged, with_regs, with_written, did_write, whole_written, stays_zero, kept, got}
@@ -122,7 +123,7 @@ result_done homes slots count frame mask (Some slot) v s t some most fits masked
     let test = tested homes slots mask s t most masked x in
     let u = run by_words (all_done (mask_test homes mask)) t in
     let d = slot_where homes slots count slot RESULT v s u (s.frame mask == 1) some most (ltb-true slot slots formed) fits word (follows_still test.keeps x) (test.keeps.low RESULT (omega arith) ∙ is) test.test in
-    record { follows = d.follows; keeps = keeps_then (behind_still slots count test.keeps) d.keeps }
+    record { follows = d.follows; keeps = keeps_then (behind_still count test.keeps) d.keeps }
 
 -- ---- the whole
 
@@ -161,7 +162,7 @@ args_count : (args : List PlainSp) (s : State) → length (args_worth args s) �
 args_count [] s = refl
 args_count (e ∷ args) s = ap suc (args_count args s)
 
-first_least : (args : List PlainSp) (rd : ℕ) → rd ≤ args_least args rd
+pub first_least : (args : List PlainSp) (rd : ℕ) → rd ≤ args_least args rd
 first_least [] rd = omega arith
 first_least (e ∷ args) rd = omega arith
 
@@ -197,12 +198,12 @@ call_is_done homes f g frame counter slots room top mask k args result s m most 
     let sens = did_stack by_words Sens frame t1 w.whole in
     let w2 : Follows homes slots (in_world s given.world) t2 = subst (Follows homes slots (in_world s given.world)) (sym sens) (record { whole = record { fits = w.whole.fits; pending = w.whole.pending }; shows = record { frame = λ slot lt. word_still homes slot t1 (with_stack Sens frame t1) (λ r from lt. refl) refl refl ∙ w.shows.frame slot lt; world = w.shows.world }; words = w.words; flag = w.flag }) in
     let d = result_done homes slots (counter + 1) frame mask result given.value (in_world s given.world) t2 (omega (arith, least)) most fits masked result_named answers.value_word w2 (ap (held RESULT) sens ∙ answers.value) in
-    let behind : KeepsBehind (homes + slots) (counter + 1) u t2 = subst (KeepsBehind (homes + slots) (counter + 1) u) (sym sens) (record {
+    let behind : KeepsBehind (homes + (counter + 1)) (counter + 1) u t2 = subst (KeepsBehind (homes + (counter + 1)) (counter + 1) u) (sym sens) (record {
       st = answers.st ∙ b.st;
       stack = λ at above. answers.stack at (subst (λ st. st ≤ at) (sym b.st) (omega (arith, above))) ∙ ap (λ words. words at) b.stack;
       high = λ r from lt. high r (omega (arith, from)) lt;
     }) in
     subst (Done homes slots (counter + 1) (stmt_done g (calls mask k args result) s) m) (sym (run_joined by_words f (args_code homes args FIRST) (call_code homes frame mask k result) m ∙ call_run homes by_words f frame mask k result n)) (record {
       follows = d.follows;
-      keeps = keeps_then (behind_still slots (counter + 1) a.keeps) (keeps_then (behind_still slots (counter + 1) h.keeps) (keeps_then behind d.keeps));
+      keeps = keeps_then (behind_still (counter + 1) a.keeps) (keeps_then (behind_still (counter + 1) h.keeps) (keeps_then behind d.keeps));
     })

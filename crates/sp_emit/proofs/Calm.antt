@@ -27,7 +27,7 @@ abbrev pub is_free : ℕ → ℕ → ℕ → Bool
 is_free rd homes r = (r == 0) || (nat_le rd r && (nat_lt OVERRUN r || (nat_lt r homes && not (r == OVERRUN))))
 
 -- an instruction that writes no other register, and stores nothing
-abbrev is_calm_op : ℕ → ℕ → Op → Bool
+abbrev pub is_calm_op : ℕ → ℕ → Op → Bool
 is_calm_op rd homes (AluImm func r ra imm) = is_free rd homes r
 is_calm_op rd homes (AluReg func r ra rb) = is_free rd homes r
 is_calm_op rd homes (AluLong func r ra constant) = is_free rd homes r
@@ -90,10 +90,10 @@ keeps_fewer low le a = record {
 }
 
 -- what is free is none of those that are kept
-record IsApart (rd homes r : ℕ) : Type 0 where
-  above : rd ≤ r
-  other : r ≡ OVERRUN → ⊥
-  beside : (OVERRUN < r) ⊎ (r < homes)
+pub record IsApart (rd homes r : ℕ) : Type 0 where
+  pub above : rd ≤ r
+  pub other : r ≡ OVERRUN → ⊥
+  pub beside : (OVERRUN < r) ⊎ (r < homes)
 
 free_parts : (rd homes r : ℕ) → nat_le rd r && (nat_lt OVERRUN r || (nat_lt r homes && not (r == OVERRUN))) ≡ true → IsApart rd homes r
 free_parts rd homes r free =
@@ -106,7 +106,7 @@ free_parts rd homes r free =
         let b = and_parts (nat_lt r homes) (not (r == OVERRUN)) before in
         record { above = leb-true rd r le; other = eqb-false r OVERRUN (not-true (r == OVERRUN) b.1); beside = inr (ltb-true r homes b.0) }
 
-free_cases : (rd homes r : ℕ) → is_free rd homes r ≡ true → (r ≡ 0) ⊎ IsApart rd homes r
+pub free_cases : (rd homes r : ℕ) → is_free rd homes r ≡ true → (r ≡ 0) ⊎ IsApart rd homes r
 free_cases rd homes r free = by (or_cases (r == 0) (nat_le rd r && (nat_lt OVERRUN r || (nat_lt r homes && not (r == OVERRUN)))) free)
   where
     by : ((r == 0) ≡ true) ⊎ ((nat_le rd r && (nat_lt OVERRUN r || (nat_lt r homes && not (r == OVERRUN)))) ≡ true) → (r ≡ 0) ⊎ IsApart rd homes r
@@ -140,7 +140,7 @@ free_high rd homes r x free at some lt same = by (free_cases rd homes r free)
 
 -- ---- writes
 
-keeps_register : (rd homes r v : ℕ) (m : Run) → rd < 32 → IsWhole m → is_free rd homes r ≡ true → Keeps rd homes m (with_written (write.Register r v) m)
+pub keeps_register : (rd homes r v : ℕ) (m : Run) → rd < 32 → IsWhole m → is_free rd homes r ≡ true → Keeps rd homes m (with_written (write.Register r v) m)
 keeps_register rd homes r v m few whole free = record {
   whole = whole_written (write.Register r v) m whole;
   low = low;

@@ -9,14 +9,14 @@ use Rattle.sp_tree.specs.declared.operators.SpBinary.{SpBinary}
 use Rattle.sp_shape.specs.Bundles.{has_word, part_all, parts_all}
 use Rattle.sp_shape.specs.Parts.{straight, PlainParts, no_part, part, one, joined}
 use Rattle.sp_emit.specs.Functions.{codes}
-use Rattle.sp_emit.specs.Places.{homes_of, fetch_word, fetched_at}
+use Rattle.sp_emit.specs.Places.{homes_of, fetch_word, fetched_at, keep_word}
 use Rattle.sp_emit.proofs.Codes.{codes_at}
 use Rattle.std.proofs.lemmas.Bool.{cases_lt}
 use Rattle.sp_emit.specs.Counts.{HasStmtCounts, HasStmtsCounts, HasCounts}
 use Rattle.sp_emit.proofs.Held.{short_below}
 use Rattle.sp_emit.proofs.Lasts.{Gives, write_is}
 use Rattle.sp_emit.proofs.Operands.{mask_is}
-use Rattle.sp_emit.specs.Expressions.{element_code, is_home, unless, value_code, operands_code, expr_to, expr_code, operand_code, immediate_below, is_immediate}
+use Rattle.sp_emit.specs.Expressions.{is_home, unless, value_code, operands_code, expr_to, expr_code, operand_code, immediate_below, is_immediate}
 use Rattle.sp_emit.specs.Functions.{first_counter, function_begin, function_rest, function_code, emitted}
 use Rattle.sp_emit.specs.Means.{HasWordConstants, HasTargetConstants, HasArgsConstants, HasStmtConstants, HasStmtsConstants, HasConstants}
 use Rattle.sp_emit.specs.Statements.{mask_test, element_write, target_write, guarded_code, args_code, call_code, send_code, overrun_code, slot_set, iterations_begin, iterations_tail, stmt_code, stmts_code}
@@ -133,10 +133,10 @@ mutual
   stmt_words homes frame counter (overruns mask e) h = (expr_words homes e 3 3 (split (expr_code homes e 3) (one (straight (overrun_code homes mask))) h).0, tt)
   stmt_words homes frame counter (iterations count body) h =
       let inner = stmts_code homes frame (counter - 1) body in
-      let iteration = parts_all has_word inner && list_all has_word (iterations_tail counter) in
-      let x = and_parts (list_all has_word (iterations_begin counter count)) (iteration && true) h in
-      let b = stmts_words homes frame (counter - 1) body (and_parts (parts_all has_word inner) (list_all has_word (iterations_tail counter)) (and_parts iteration true x.1).0).0 in
-      (b.0, (ltb-true count (2 ^ 32) (and_parts (nat_lt count (2 ^ 32)) true x.0).0, b.1))
+      let iteration = parts_all has_word inner && list_all has_word (iterations_tail homes counter) in
+      let x = and_parts (list_all has_word (iterations_begin homes counter count)) (iteration && true) h in
+      let b = stmts_words homes frame (counter - 1) body (and_parts (parts_all has_word inner) (list_all has_word (iterations_tail homes counter)) (and_parts iteration true x.1).0).0 in
+      (b.0, (ltb-true count (2 ^ 32) (and_parts (nat_lt count (2 ^ 32)) (list_all has_word (keep_word homes counter ∷ [])) x.0).0, b.1))
 
   stmts_words : (homes : ℕ) (frame counter : ℕ) (ts : PlainStmts) → Wordy (stmts_code homes frame counter ts) → HasStmtsConstants ts × HasStmtsCounts ts
   stmts_words homes frame counter no_stmt h = (tt, tt)

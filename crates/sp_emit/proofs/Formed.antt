@@ -6,6 +6,8 @@ use Rattle.patmos_instr.specs.Bundles.{Slots}
 use Rattle.patmos_instr.specs.declared.instructions.Op.{Op}
 use Rattle.c_world.specs.declared.region.Region.{Region}
 use Rattle.c_world.specs.declared.region.Region.TheVariants as region
+use Rattle.patmos_instr.specs.declared.functions.CmpFunc.TheVariants as cmp
+use Rattle.patmos_instr.specs.declared.functions.ImmFunc.TheVariants as imm
 use Rattle.sp_tree.specs.Formed as tree
 use Rattle.sp_tree.specs.Need.{need}
 use Rattle.sp_tree.specs.Plain.{PlainSp, constant, frame_word, cell_word, array_word, before_one, between_two}
@@ -14,24 +16,24 @@ use Rattle.sp_tree.specs.declared.operators.SpBinary.{SpBinary}
 use Rattle.sp_tree.specs.declared.operators.SpBinary.TheVariants as binary
 use Rattle.sp_tree.specs.declared.operators.SpUnary.{SpUnary}
 use Rattle.sp_tree.specs.declared.operators.SpUnary.TheVariants as unary
-use Rattle.sp_shape.specs.Formed.{are_calm, part_formed, parts_formed, function_formed, functions_formed, is_formed}
+use Rattle.sp_shape.specs.Formed.{are_calm, part_formed, parts_formed, function_formed, functions_formed, is_formed, is_iteration}
 use Rattle.sp_shape.specs.Parts.{straight, repeats, calls_to, leaves, PlainParts, no_part, part, one, joined, PlainShape}
 use Rattle.sp_shape.proofs.Lists.{calm_append}
 use Rattle.sp_emit.proofs.Operands.{one_of, each_operands_are, each_expr_is, mask_is}
 use Rattle.sp_emit.proofs.Held.{held_is}
 use Rattle.sp_emit.specs.Division.{unsigned_quotient_to}
 use Rattle.sp_emit.specs.Divisors.{factor_rest_to}
-use Rattle.sp_emit.specs.Expressions.{unary_code, binary_code, held_code, element_code, number_of, value_code, operands_code, expr_to, expr_code, value_at, is_immediate, address_of}
+use Rattle.sp_emit.specs.Expressions.{unary_code, binary_code, held_code, number_of, value_code, operands_code, expr_to, expr_code, value_at, is_immediate, address_of}
 use Rattle.sp_emit.proofs.Codes.{kept_is, brought_is, taken_is, freed_is}
 use Rattle.sp_emit.specs.Functions.{argument_kept, first_counter, arguments_kept, mask_kept, state_kept, place_brought, frame_taken, result_given, function_begin, function_end, function_rest, function_code, emitted}
 use Rattle.sp_shape.specs.Formed.{is_flow}
 use Rattle.sp_emit.specs.Functions.{codes}
-use Rattle.sp_emit.specs.Instructions.{always, where_so, under, set_short, number_op}
-use Rattle.sp_emit.specs.Places.{in_register, read_op, set_op, word_cleared, words_cleared, homes_of, fetch_op}
-use Rattle.sp_emit.specs.declared.registers.TheConstants.{RESULT, MASK, FIRST, TEST, SPARE}
+use Rattle.sp_emit.specs.Instructions.{always, where_so, under, set_short, number_op, idle, with_short, compare_short, branch}
+use Rattle.sp_emit.specs.Places.{in_register, read_op, set_op, word_cleared, words_cleared, homes_of, fetch_op, fetched_at, keep_op, keep_word}
+use Rattle.sp_emit.specs.declared.registers.TheConstants.{RESULT, MASK, FIRST, TEST, SPARE, MORE}
 use Rattle.sp_emit.proofs.Codes.{codes_at, codes_length}
-use Rattle.sp_emit.proofs.WordPlaces.{read_op_is, set_op_is, fetch_op_is}
-use Rattle.sp_emit.specs.Statements.{mask_test, cell_write, element_write, target_write, guarded_code, mask_handed, way_to, args_code, behind_call, call_code, send_code, overrun_code, slot_set, stmt_code, stmts_code}
+use Rattle.sp_emit.proofs.WordPlaces.{read_op_is, set_op_is, fetch_op_is, fetch_is, keep_is}
+use Rattle.sp_emit.specs.Statements.{mask_test, cell_write, element_write, target_write, guarded_code, mask_handed, way_to, args_code, behind_call, call_code, send_code, overrun_code, slot_set, stmt_code, stmts_code, iterations_begin, iterations_tail}
 use Rattle.sp_emit.proofs.Numbers.{number_op_is}
 use Rattle.sp_emit.proofs.Lasts.{is_alu, write_is}
 
@@ -86,6 +88,16 @@ read_flow homes rd slot = read_op_is (λ op. is_flow op ≡ false) homes rd slot
 
 fetch_flow : (homes slot : ℕ) → is_flow (fetch_op homes slot) ≡ false
 fetch_flow homes slot = fetch_op_is (λ op. is_flow op ≡ false) homes slot refl refl
+
+keep_flow : (homes slot : ℕ) → is_flow (keep_op homes slot) ≡ false
+keep_flow homes slot = keep_is (λ b. is_flow b.first.op ≡ false) homes slot refl refl
+
+tail_formed : (homes counter : ℕ) → is_iteration (iterations_tail homes counter) ≡ true
+tail_formed homes counter =
+    let left = fetched_at homes counter in
+    let last = compare_short cmp.Neq MORE left 0 ∷ branch MORE ∷ idle ∷ idle ∷ [] in
+    let kept = keep_is (λ b. is_iteration (b ∷ last) ≡ true) homes counter refl refl in
+    fetch_is (λ b. is_iteration (b ∷ with_short always imm.Sub left left 1 ∷ keep_word homes counter ∷ last) ≡ true) homes counter kept kept
 
 number_flow : (rd n : ℕ) → is_flow (number_op rd n) ≡ false
 number_flow rd n = number_op_is (λ op. is_flow op ≡ false) rd n refl refl
@@ -175,9 +187,11 @@ mutual
   stmt_formed homes fs n slots frame counter (overruns mask e) h = both n (expr_code homes e 3) (one (straight (overrun_code homes mask))) (expr_formed homes n e 3 3) (rw (fetch_flow homes mask) refl)
   stmt_formed homes fs n slots frame counter (iterations count body) h =
       let b = and_parts (nat_lt 0 count) (tree.stmts_formed fs n slots body) h in
-      let iteration = and_from (parts_formed n (stmts_code homes frame (counter - 1) body)) true (stmts_formed homes fs n slots frame (counter - 1) body b.1) refl in
-      and_from (nat_lt 0 count && (parts_formed n (stmts_code homes frame (counter - 1) body) && true)) true
-      (and_from (nat_lt 0 count) (parts_formed n (stmts_code homes frame (counter - 1) body) && true) b.0 iteration) refl
+      let code = stmts_code homes frame (counter - 1) body in
+      let tail = is_iteration (iterations_tail homes counter) in
+      let iteration = and_from (parts_formed n code) tail (stmts_formed homes fs n slots frame (counter - 1) body b.1) (tail_formed homes counter) in
+      both n (one (straight (iterations_begin homes counter count))) (one (repeats count code (iterations_tail homes counter))) (rw (keep_flow homes counter) refl)
+      (and_from (nat_lt 0 count && (parts_formed n code && tail)) true (and_from (nat_lt 0 count) (parts_formed n code && tail) b.0 iteration) refl)
 
   pub stmts_formed : (homes : ℕ) (fs : List PlainFunction) (n slots frame counter : ℕ) (ts : PlainStmts) → tree.stmts_formed fs n slots ts ≡ true → parts_formed n (stmts_code homes frame counter ts) ≡ true
   stmts_formed homes fs n slots frame counter no_stmt h = refl

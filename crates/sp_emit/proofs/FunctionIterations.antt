@@ -20,7 +20,7 @@ use Rattle.sp_shape.specs.Trail.{Step, all_done}
 use Rattle.sp_shape.specs.Iterating.{Returns, PartsIteration, back_of, FunctionsIteration, ShapeIterations}
 use Rattle.sp_shape.proofs.Lists.{all_append}
 use Rattle.sp_emit.specs.Functions.{codes}
-use Rattle.sp_emit.specs.Places.{set_word, words_cleared, homes_of}
+use Rattle.sp_emit.specs.Places.{set_word, words_cleared, homes_of, tops}
 use Rattle.sp_emit.proofs.Codes.{codes_at, codes_length, taken_is, freed_is}
 use Rattle.sp_emit.proofs.WordPlaces.{read_is, set_op_is, cleared_all}
 use Rattle.sp_emit.specs.Counts.{HasStmtsCounts, HasCounts}
@@ -40,12 +40,12 @@ use Rattle.sp_emit.proofs.Uncalled.{stmts_uncalled}
 use Rattle.sp_emit.proofs.Leaving.{slot_leaves}
 use Rattle.sp_emit.proofs.LoopIterations.{Callees, iterations_joined, stmts_iteration}
 use Rattle.sp_emit.proofs.Once.{did_write, got}
-use Rattle.sp_emit.proofs.Passed.{taken, cleared, entered, worked, enters_frame, works_in_frame, all_pass}
+use Rattle.sp_emit.proofs.Passed.{taken, cleared, entered, worked, enters_frame, works_in_frame, all_pass, InWindow, window_end, own_window}
 use Rattle.sp_emit.proofs.Bare.{calls_need}
 use Rattle.sp_emit.proofs.Beginning.{words_taken, taken_few}
 use Rattle.sp_emit.proofs.Passing.{AllPass, Passes, passes_done}
 use Rattle.sp_emit.proofs.Returning.{did_return}
-use Rattle.sp_emit.proofs.Serves.{begin_run, Parts, parts_of_function, code_of}
+use Rattle.sp_emit.proofs.Serves.{begin_run, Parts, code_of}
 use Rattle.sp_emit.proofs.Storing.{did_store_slot}
 
 -- ---- the place is kept in the frame
@@ -114,13 +114,14 @@ entered_home homes from fs number f m has p whole =
         let h = once_whole from (from_special SPARE s) n whole in
         ap (λ t. t.st) (did_store_slot from always slot SPARE t h h.fits.always few) ∙ ap (λ t. t.st) (did_write from always (FromSpecial SPARE s) n whole whole.fits.always refl refl)
 
-worked_home : (homes : ℕ) (from : Sources) (code : ℕ → List Step) (fs : List PlainFunction) (number low : ℕ) (f : PlainFunction) (m : Run) → stmts_call f.body ≡ true → Parts fs number f → AllPass from code number low → IsWhole m → low + 128 ≤ m.st
+worked_home : (homes : ℕ) (from : Sources) (code : ℕ → List Step) (tops : List ℕ) (fs : List PlainFunction) (number low : ℕ) (f : PlainFunction) (m : Run) → stmts_call f.body ≡ true → InWindow homes tops fs number f → AllPass from code tops number low → IsWhole m → low + 128 ≤ m.st
     → Holds (base_slot f) (offset_slot f) (back_of m) (worked homes from code f m)
-worked_home homes from code fs number low f m has p others whole enough =
+worked_home homes from code tops fs number low f m has window others whole enough =
+    let p = window.parts in
     let e = entered homes from f m in
     let w = worked homes from code f m in
     let h = entered_home homes from fs number f m has p whole in
-    let k = (subst (λ b. Passes (words_taken b (first_counter f + 1)) e w) (calls_need homes f has) (works_in_frame homes from code fs number low f m p others whole enough)).keeps in
+    let k = (subst (λ b. Passes (window_end homes f) (words_taken b (first_counter f + 1)) e w) (calls_need homes f has) (works_in_frame homes from code tops fs number low f m window others whole enough)).keeps in
     record {
       base_is = ap (λ st. w.stack (st + base_slot f)) k.st ∙ k.stack (e.st + base_slot f) (omega (arith, p.room)) ∙ h.base_is;
       offset_is = ap (λ st. w.stack (st + offset_slot f)) k.st ∙ k.stack (e.st + offset_slot f) (omega (arith, p.room)) ∙ h.offset_is;
@@ -146,7 +147,7 @@ brings_home homes from f back m has told few_base few_offset whole h =
     let e2 = once from (to_special writable.Srb SPARE) e1 in
     let h2 = once_whole from (to_special writable.Srb SPARE) e1 h1 in
     let did2 = did_write from always (ToSpecial writable.Srb SPARE) e1 h1 h1.fits.always refl refl in
-    let k = (passes_done from 0 (load_slot SPARE (base_slot f) ∷ to_special writable.Srb SPARE ∷ []) m (omega arith) whole refl).keeps in
+    let k = (passes_done from OVERRUN 0 (load_slot SPARE (base_slot f) ∷ to_special writable.Srb SPARE ∷ []) m (omega arith) whole refl).keeps in
     let e3 = once from (load_slot SPARE (offset_slot f)) e2 in
     let h3 = once_whole from (load_slot SPARE (offset_slot f)) e2 h2 in
     let e4 = once from (to_special writable.Sro SPARE) e3 in
@@ -187,28 +188,29 @@ begin_entered : (homes : ℕ) (from : Sources) (f : PlainFunction) (m : Run) →
 unfolding entered cleared taken
 begin_entered homes from f m = begin_run homes from f m
 
-comes_home : (homes : ℕ) (from : Sources) (code : ℕ → List Step) (fs : List PlainFunction) (number low : ℕ) (f : PlainFunction) (m : Run) → from.stack ≡ true → Parts fs number f → AllPass from code number low → IsWhole m → low + 128 ≤ m.st
+comes_home : (homes : ℕ) (from : Sources) (code : ℕ → List Step) (tops : List ℕ) (fs : List PlainFunction) (number low : ℕ) (f : PlainFunction) (m : Run) → from.stack ≡ true → InWindow homes tops fs number f → AllPass from code tops number low → IsWhole m → low + 128 ≤ m.st
     → (b : Bool) → stmts_call f.body ≡ b → Home (back_of m) (run from (all_done (function_end homes f)) (worked homes from code f m))
-comes_home homes from code fs number low f m told p others whole enough true has =
-    brings_home homes from f (back_of m) (worked homes from code f m) has told (omega (arith, p.frame, p.room)) (omega (arith, p.frame, p.room)) (works_in_frame homes from code fs number low f m p others whole enough).whole
-    (worked_home homes from code fs number low f m has p others whole enough)
-comes_home homes from code fs number low f m told p others whole enough false none =
-    stays_home homes from f m (worked homes from code f m) none (works_in_frame homes from code fs number low f m p others whole enough).whole (worked_back homes from code fs number f m none p)
+comes_home homes from code tops fs number low f m told window others whole enough true has =
+    let p = window.parts in
+    brings_home homes from f (back_of m) (worked homes from code f m) has told (omega (arith, p.frame, p.room)) (omega (arith, p.frame, p.room)) (works_in_frame homes from code tops fs number low f m window others whole enough).whole
+    (worked_home homes from code tops fs number low f m has window others whole enough)
+comes_home homes from code tops fs number low f m told window others whole enough false none =
+    stays_home homes from f m (worked homes from code f m) none (works_in_frame homes from code tops fs number low f m window others whole enough).whole (worked_back homes from code fs number f m none window.parts)
 
-function_iterations : (homes : ℕ) (from : Sources) (code : ℕ → List Step) (Called : ℕ → Run → Type 0) (fs : List PlainFunction) (number low : ℕ) (f : PlainFunction) → from.stack ≡ true → function_formed fs number f ≡ true → HasStmtsCounts f.body → Callees from code Called number low
+function_iterations : (homes : ℕ) (from : Sources) (code : ℕ → List Step) (Called : ℕ → Run → Type 0) (tops : List ℕ) (fs : List PlainFunction) (number low : ℕ) (f : PlainFunction) → from.stack ≡ true → InWindow homes tops fs number f → HasStmtsCounts f.body → Callees from code Called tops number low
     → (m : Run) → IsWhole m → low + 128 ≤ m.st → PartsIteration (run from) code Called (back_of m) (function_code homes f) m
 unfolding worked
-function_iterations homes from code Called fs number low f told formed counts callees m whole enough =
-    let p = parts_of_function fs number f formed in
-    let e = enters_frame homes from fs number f m p whole (omega (arith, enough, p.frame)) in
+function_iterations homes from code Called tops fs number low f told window counts callees m whole enough =
+    let p = window.parts in
+    let e = enters_frame homes from fs number f m window.homed.own p whole (omega (arith, enough, p.frame)) in
     let few = taken_few (needs_none homes f) f.frame in
     let body = stmts_code homes f.frame (first_counter f) f.body in
     let w = worked homes from code f m in
-    let home = comes_home homes from code fs number low f m told p callees.passing whole enough (stmts_call f.body) refl in (
+    let home = comes_home homes from code tops fs number low f m told window callees.passing whole enough (stmts_call f.body) refl in (
       tt,
       subst (PartsIteration (run from) code Called (back_of m) (joined body (function_rest homes f))) (sym (begin_entered homes from f m))
           (iterations_joined from code Called (back_of m) body (function_rest homes f) (entered homes from f m)
-          (stmts_iteration homes from code Called (back_of m) fs number (slots_of f) f.frame (first_counter f) low told callees (omega (arith, p.mask)) (omega (arith, p.frame, p.room)) f.body (omega (arith, p.room, p.mask)) p.body counts (entered homes from f m) e.whole (omega (arith, e.st, few, enough, p.frame)))
+          (stmts_iteration homes from code Called (back_of m) tops fs number (slots_of f) f.frame (first_counter f) low told callees window.homed (omega (arith, p.frame, p.room)) f.body (omega (arith, p.room, p.mask)) p.body counts window.least (entered homes from f m) e.whole (omega (arith, e.st, few, enough, p.frame)))
           (tt, (asks_home from (back_of m) (run from (all_done (function_end homes f)) w) home, tt))),
     )
 
@@ -219,14 +221,14 @@ functions_iteration : (from : Sources) (fs : List PlainFunction) → from.stack 
 functions_iteration from fs told counts zero within formed k less m whole enough = tt
 functions_iteration from fs told counts (suc n) within formed k less m whole enough =
     let parts = and_parts (functions_formed fs n) (function_formed fs n (slice_index_or fs n no_function)) formed in
-    by parts.1 (record { passing = all_pass from fs n (omega (arith, within)) parts.0; iterating = functions_iteration from fs told counts n (omega (arith, within)) parts.0 }) (k == n) refl
+    by parts.0 parts.1 (record { passing = all_pass from fs n (omega (arith, within)) parts.0; iterating = functions_iteration from fs told counts n (omega (arith, within)) parts.0 }) (k == n) refl
   where
-    by : function_formed fs n (slice_index_or fs n no_function) ≡ true → Callees from (code_of fs n) (FunctionsIteration (run from) (codes fs) n) n (n * 128) → (b : Bool) → (k == n) ≡ b
+    by : functions_formed fs n ≡ true → function_formed fs n (slice_index_or fs n no_function) ≡ true → Callees from (code_of fs n) (FunctionsIteration (run from) (codes fs) n) (tops fs n) n (n * 128) → (b : Bool) → (k == n) ≡ b
         → MatchBool b (PartsIteration (run from) (code_of fs n) (FunctionsIteration (run from) (codes fs) n) (back_of m) (slice_index_or (codes fs) n no_part) m) (FunctionsIteration (run from) (codes fs) n k m)
-    by own callees true is =
+    by before own callees true is =
         subst (λ c. PartsIteration (run from) (code_of fs n) (FunctionsIteration (run from) (codes fs) n) (back_of m) c m) (sym (codes_at fs n (omega (arith, within))))
-        (function_iterations (homes_of fs n) from (code_of fs n) (FunctionsIteration (run from) (codes fs) n) fs n (n * 128) (slice_index_or fs n no_function) told own (counts n) callees m whole (omega (arith, enough)))
-    by own callees false other = callees.iterating k (earlier (cases_lt k n)) m whole (omega (arith, enough))
+        (function_iterations (homes_of fs n) from (code_of fs n) (FunctionsIteration (run from) (codes fs) n) (tops fs n) fs n (n * 128) (slice_index_or fs n no_function) told (own_window fs n before own) (counts n) callees m whole (omega (arith, enough)))
+    by before own callees false other = callees.iterating k (earlier (cases_lt k n)) m whole (omega (arith, enough))
       where
         earlier : (k < n) ⊎ (n ≤ k) → k < n
         earlier (inl lt) = lt

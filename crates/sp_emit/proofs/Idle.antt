@@ -1,21 +1,25 @@
 -- The delay slots of compiled code do nothing.
-use Rattle.std.proofs.Common.{◌≡◌, ℕ, ◌+◌, ◌-◌, arith, Bool, true, false, List, [], ◌∷◌, ◌++◌, refl, if◌then◌else◌}
+use Rattle.std.proofs.Common.{◌≡◌, ℕ, ◌+◌, ◌-◌, arith, true, List, [], ◌∷◌, ◌++◌, refl}
 use Rattle.std.specs.Prelude.{nat_lt, ◌&&◌}
 use Rattle.std.proofs.lemmas.Bool.{and_parts, and_from}
+use Rattle.patmos_instr.specs.declared.functions.CmpFunc.TheVariants as cmp
+use Rattle.patmos_instr.specs.declared.functions.ImmFunc.TheVariants as imm
 use Rattle.sp_tree.specs.Need.{need}
 use Rattle.sp_tree.specs.Plain.{PlainSp, constant, frame_word, cell_word, array_word, before_one, between_two}
 use Rattle.sp_tree.specs.Statements.{PlainSpTarget, to_slot, to_cell, to_array, PlainStmt, masks, writes, calls, transfers, overruns, iterations, PlainStmts, no_stmt, stmt, PlainFunction}
 use Rattle.sp_tree.specs.declared.operators.SpBinary.{SpBinary}
-use Rattle.sp_shape.specs.Bundles.{part_idle, parts_idle}
+use Rattle.sp_shape.specs.Bundles.{iteration_idles, part_idle, parts_idle}
 use Rattle.sp_shape.specs.Parts.{straight, PlainParts, no_part, part, one, joined}
 use Rattle.sp_emit.proofs.Operands.{one_of, each_operands_are, each_expr_is, mask_is}
 use Rattle.sp_emit.specs.Division.{unsigned_quotient_to}
-use Rattle.sp_emit.specs.Expressions.{unary_code, binary_code, held_code, element_code, number_of, value_code, operands_code, expr_to, expr_code, value_at, is_immediate}
+use Rattle.sp_emit.specs.Expressions.{binary_code, held_code, number_of, value_code, operands_code, expr_to, expr_code, value_at, is_immediate}
 use Rattle.sp_emit.specs.Functions.{first_counter, function_rest, function_code}
-use Rattle.sp_emit.specs.Instructions.{where_so, under}
-use Rattle.sp_emit.specs.declared.registers.TheConstants.{TEST}
+use Rattle.sp_emit.specs.Instructions.{always, where_so, under, idle, with_short, compare_short, branch}
+use Rattle.sp_emit.specs.Places.{fetched_at, keep_word}
+use Rattle.sp_emit.specs.declared.registers.TheConstants.{TEST, MORE}
 use Rattle.sp_emit.proofs.Lasts.{write_is}
-use Rattle.sp_emit.specs.Statements.{mask_test, element_write, target_write, args_code, call_code, send_code, overrun_code, slot_set, stmt_code, stmts_code}
+use Rattle.sp_emit.specs.Statements.{mask_test, element_write, target_write, args_code, call_code, send_code, overrun_code, slot_set, iterations_tail, stmt_code, stmts_code}
+use Rattle.sp_emit.proofs.WordPlaces.{fetch_is, keep_is}
 
 abbrev Idles : PlainParts → Type 0
 Idles parts = parts_idle parts ≡ true
@@ -55,6 +59,13 @@ target_idle homes mask (to_slot slot) = refl
 target_idle homes mask (to_cell cell) = refl
 target_idle homes mask (to_array array index) = both (expr_code homes index 4) (one (straight (element_write homes mask array))) (expr_idle homes index 4 4) refl
 
+tail_idles : (homes counter : ℕ) → iteration_idles (iterations_tail homes counter) ≡ true
+tail_idles homes counter =
+    let left = fetched_at homes counter in
+    let last = compare_short cmp.Neq MORE left 0 ∷ branch MORE ∷ idle ∷ idle ∷ [] in
+    let kept = keep_is (λ b. iteration_idles (b ∷ last) ≡ true) homes counter refl refl in
+    fetch_is (λ b. iteration_idles (b ∷ with_short always imm.Sub left left 1 ∷ keep_word homes counter ∷ last) ≡ true) homes counter kept kept
+
 mutual
   stmt_idle : (homes : ℕ) (frame counter : ℕ) (t : PlainStmt) → Idles (stmt_code homes frame counter t)
   stmt_idle homes frame counter (masks slot e) = mask_is Idles homes slot e (λ here. expr_idle homes e 3 (homes + slot)) (λ there. both (expr_code homes e 3) (slot_set homes slot) (expr_idle homes e 3 3) refl)
@@ -68,8 +79,8 @@ mutual
       (both (expr_code homes target 4) (joined (expr_code homes count 5) sent) (expr_idle homes target 4 4) (both (expr_code homes count 5) sent (expr_idle homes count 5 5) refl))
   stmt_idle homes frame counter (overruns mask e) = both (expr_code homes e 3) (one (straight (overrun_code homes mask))) (expr_idle homes e 3 3) refl
   stmt_idle homes frame counter (iterations count body) =
-      let iteration = and_from (parts_idle (stmts_code homes frame (counter - 1) body)) true (stmts_idle homes frame (counter - 1) body) refl in
-      and_from (parts_idle (stmts_code homes frame (counter - 1) body) && true) true iteration refl
+      let tail = iteration_idles (iterations_tail homes counter) in
+      and_from (parts_idle (stmts_code homes frame (counter - 1) body) && tail) true (and_from (parts_idle (stmts_code homes frame (counter - 1) body)) tail (stmts_idle homes frame (counter - 1) body) (tail_idles homes counter)) refl
 
   stmts_idle : (homes : ℕ) (frame counter : ℕ) (ts : PlainStmts) → Idles (stmts_code homes frame counter ts)
   stmts_idle homes frame counter no_stmt = refl

@@ -1,83 +1,143 @@
--- What the code of loops leaves: the counter of iterations stands in a word of the frame that no tree names.
-use Rattle.std.proofs.Common.{◌≡◌, ℕ, zero, suc, ◌+◌, ◌<◌, ◌≤◌, true, List, [], ◌∷◌, ◌++◌, refl, sym, ap, ◌∙◌, subst, arith, append-nil}
-use Rattle.patmos_instr.specs.Bundles.{Slots}
+-- What the code of loops leaves: the counter of iterations stands in a word that no tree names, in a register or in the
+-- frame.
+use Rattle.std.proofs.Common.{◌≡◌, ℕ, zero, suc, ◌+◌, ◌%◌, ◌^◌, ◌<◌, ◌≤◌, Bool, true, false, if◌then◌else◌, List, [], ◌∷◌, ◌++◌, refl, sym, ap, ◌∙◌, subst, arith, append-nil}
 use Rattle.patmos_instr.specs.declared.functions.CmpFunc.TheVariants as cmp
 use Rattle.patmos_instr.specs.declared.functions.ImmFunc.TheVariants as imm
+use Rattle.patmos_instr.specs.declared.instructions.Op.TheVariants.{AluImm, Store}
+use Rattle.patmos_instr.specs.declared.memories.Mem.TheVariants as mem
+use Rattle.patmos_instr.specs.declared.memories.StoreWidth.TheVariants as store
+use Rattle.patmos_sem.specs.Operations.{alu_of, alu_value}
+use Rattle.patmos_sem.specs.declared.writes.Write.TheVariants as write
 use Rattle.sp_tree.specs.Straight.{State, times}
 use Rattle.sp_shape.proofs.Whole.{run_append}
 use Rattle.sp_shape.specs.Parts.{straight, repeats, PlainParts, one, joined}
-use Rattle.sp_shape.specs.Run.{Run, by_words, once, run}
+use Rattle.sp_shape.specs.Run.{Run, by_words, once, run, IsWhole}
 use Rattle.sp_shape.specs.Trail.{Step, all_done, copies, parts_trail}
-use Rattle.sp_emit.specs.Holding.{held}
-use Rattle.sp_emit.specs.Instructions.{always, idle, set_long, with_short, compare_short, load_slot, store_slot, branch}
-use Rattle.sp_emit.specs.Means.{Follows, KeepsBehind}
+use Rattle.sp_emit.specs.Holding.{held, Keeps}
+use Rattle.sp_emit.specs.Instructions.{always, under, idle, set_long, with_short, compare_short, branch}
+use Rattle.sp_emit.specs.Means.{Follows, HasWords, KeepsBehind}
+use Rattle.sp_emit.specs.Places.{in_register, word_of, fetch_word, fetched_at, keep_op, keep_word}
 use Rattle.sp_emit.specs.Statements.{iterations_begin, iterations_tail}
-use Rattle.sp_emit.specs.declared.registers.TheConstants.{SPARE, MORE}
-use Rattle.sp_emit.proofs.Calm.{is_calm_trail, calm_run}
-use Rattle.sp_emit.proofs.Frames.{put_other}
-use Rattle.sp_emit.proofs.Masks.{Done, follows_still, behind_still, keeps_then}
-use Rattle.sp_emit.proofs.Storing.{with_slot_word, did_store_slot}
+use Rattle.sp_emit.specs.declared.registers.TheConstants.{SPARE, OVERRUN, MORE}
+use Rattle.sp_emit.proofs.Calm.{is_calm_trail, calm_run, keeps_register}
+use Rattle.sp_emit.proofs.CalmCode.{spare_free}
+use Rattle.sp_emit.proofs.Leaving.{did_with_short, did_set_long}
+use Rattle.sp_emit.proofs.Masks.{Done, behind_still, keeps_set}
+use Rattle.sp_emit.proofs.Once.{with_written}
+use Rattle.sp_emit.proofs.Passing.{kept_all, keeps_then}
+use Rattle.sp_emit.proofs.Storing.{did_store_slot}
 use Rattle.sp_emit.proofs.Values.{run_joined}
-use Rattle.sp_emit.proofs.WordPlaces.{beside_word}
+use Rattle.sp_emit.proofs.WordPlaces.{Sets, fetch_is, fetched_is, word_still, sets_register, sets_stack}
 
--- a word of the frame that no tree names
-follows_beside : (homes : ℕ) (slots slot v : ℕ) (s : State) (m : Run) → slots ≤ slot → Follows homes slots s m → Follows homes slots s (with_slot_word slot v m)
-follows_beside homes slots slot v s m beside x = record {
-  whole = record { fits = x.whole.fits; pending = x.whole.pending };
-  shows = record { frame = λ u lt. beside_word homes slot u v m (λ is. absurd (omega (arith, is, beside, lt))) ∙ x.shows.frame u lt; world = x.shows.world };
-  words = x.words;
-  flag = x.flag;
+-- ---- what is done about a counter
+
+-- all but the word of a counter, the spare register and predicates is as it was
+record Beside (homes counter : ℕ) (m t : Run) : Type 0 where
+  whole : IsWhole t
+  memory : t.memory ≡ m.memory
+  flag : held OVERRUN t ≡ held OVERRUN m
+  words : (u : ℕ) → u < counter → word_of homes u t ≡ word_of homes u m
+  keeps : KeepsBehind (homes + (counter + 1)) (counter + 1) m t
+
+beside_then : {homes counter : ℕ} {m n t : Run} → Beside homes counter m n → Beside homes counter n t → Beside homes counter m t
+beside_then a b = record {
+  whole = b.whole;
+  memory = b.memory ∙ a.memory;
+  flag = b.flag ∙ a.flag;
+  words = λ u lt. b.words u lt ∙ a.words u lt;
+  keeps = keeps_then a.keeps b.keeps;
 }
 
--- the counter is set
-counter_set : (homes : ℕ) (slots counter rs : ℕ) (s : State) (m : Run) → slots ≤ counter → counter < 128 → Follows homes slots s m → Done homes slots (counter + 1) s m (once by_words (store_slot always counter rs) m)
-counter_set homes slots counter rs s m beside few x =
-    subst (Done homes slots (counter + 1) s m) (sym (did_store_slot by_words always counter rs m x.whole x.whole.fits.always few)) (record {
-      follows = follows_beside homes slots counter (held rs m) s m beside x;
-      keeps = record { st = refl; stack = λ a above. put_other (m.st + counter) a (held rs m) m.stack (λ is. absurd (omega (arith, is, above))); high = λ q from lt. refl };
-    })
+beside_kept : {homes counter : ℕ} {m t : Run} → Keeps SPARE homes m t → Beside homes counter m t
+beside_kept {homes} {counter} {m} {t} keeps = record {
+  whole = keeps.whole;
+  memory = keeps.memory;
+  flag = keeps.flag;
+  words = λ u lt. word_still homes u m t keeps.high keeps.stack keeps.st;
+  keeps = behind_still (counter + 1) keeps;
+}
 
--- calm bundles, and then the counter, and then others
-around_counter : (homes : ℕ) (slots counter : ℕ) (before behind : List Slots) (s : State) (m : Run) → slots ≤ counter → counter < 128 → is_calm_trail SPARE homes (all_done before) ≡ true → is_calm_trail SPARE homes (all_done behind) ≡ true → Follows homes slots s m
-    → Done homes slots (counter + 1) s m (run by_words (all_done behind) (once by_words (store_slot always counter SPARE) (run by_words (all_done before) m)))
-around_counter homes slots counter before behind s m beside few calm_before calm_behind x =
-    let k1 = calm_run by_words SPARE homes (all_done before) m (omega arith) x.whole calm_before in
-    let n = run by_words (all_done before) m in
-    let d = counter_set homes slots counter SPARE s n beside few (follows_still k1 x) in
-    let k2 = calm_run by_words SPARE homes (all_done behind) (once by_words (store_slot always counter SPARE) n) (omega arith) d.follows.whole calm_behind in
-    record {
-      follows = follows_still k2 d.follows;
-      keeps = keeps_then (behind_still slots (counter + 1) k1) (keeps_then d.keeps (behind_still slots (counter + 1) k2));
-    }
+beside_set : {most homes counter v : ℕ} {m t : Run} → 1 ≤ homes → OVERRUN ≤ most → Sets most homes counter v m t → Beside homes counter m t
+beside_set {most} {homes} {counter} some least set = record {
+  whole = set.whole;
+  memory = set.memory;
+  flag = set.flag;
+  words = λ u lt. set.others u (λ is. absurd (omega (arith, is, lt)));
+  keeps = keeps_set homes (counter + 1) some least (omega arith) set;
+}
 
-pub done_then : {homes : ℕ} {slots count : ℕ} {z : State} {m n t : Run} → KeepsBehind (homes + slots) count m n → Done homes slots count z n t → Done homes slots count z m t
+-- the register in which it is counted is written
+beside_written : (homes counter v : ℕ) (m : Run) → 1 ≤ homes → IsWhole m → Beside homes counter m (with_written (write.Register (fetched_at homes counter) v) m)
+beside_written homes counter v m some whole =
+    fetched_is (λ r. Beside homes counter m (with_written (write.Register r v) m)) homes counter
+    (λ lt. beside_set some (omega arith) (sets_register homes counter v m some whole lt)) (beside_kept (keeps_register SPARE homes SPARE v m (omega arith) whole (spare_free SPARE homes SPARE (omega arith) (omega arith))))
+
+beside_back : (homes counter : ℕ) (m : Run) → 1 ≤ homes → counter < 128 → IsWhole m → Beside homes counter m (once by_words (keep_word homes counter) m)
+unfolding keep_op
+beside_back homes counter m some few whole = by (in_register homes counter) refl
+  where
+    by : (b : Bool) → in_register homes counter ≡ b → Beside homes counter m (once by_words (under always (if b then AluImm imm.Add 0 0 0 else Store mem.S store.Word 0 SPARE counter)) m)
+    by true is = beside_kept (calm_run by_words SPARE homes (all_done (idle ∷ [])) m (omega arith) whole refl)
+    by false is = subst (Beside homes counter m) (sym (did_store_slot by_words always counter SPARE m whole whole.fits.always few)) (beside_set some (omega arith) (sets_stack homes counter (held SPARE m) m whole is))
+
+beside_done : (homes slots counter : ℕ) (s : State) (m t : Run) → slots ≤ counter → Beside homes counter m t → Follows homes slots s m → Done homes slots (counter + 1) s m t
+beside_done homes slots counter s m t le b x = record {
+  follows = record {
+    whole = b.whole;
+    shows = record { frame = λ u lt. b.words u (omega (arith, lt, le)) ∙ x.shows.frame u lt; world = subst (HasWords s.world) (sym b.memory) x.shows.world };
+    words = x.words;
+    flag = b.flag ∙ x.flag;
+  };
+  keeps = b.keeps;
+}
+
+begin_beside : (homes counter count : ℕ) (m : Run) → 1 ≤ homes → counter < 128 → IsWhole m → Beside homes counter m (run by_words (all_done (iterations_begin homes counter count)) m)
+begin_beside homes counter count m some few whole =
+    let first = subst (Beside homes counter m) (sym (did_set_long by_words (fetched_at homes counter) count m whole)) (beside_written homes counter ((0 + count) % 2 ^ 32) m some whole) in
+    beside_then first (beside_back homes counter (once by_words (set_long (fetched_at homes counter) count) m) some few first.whole)
+
+tail_beside : (homes counter : ℕ) (m : Run) → 1 ≤ homes → counter < 128 → IsWhole m → Beside homes counter m (run by_words (all_done (iterations_tail homes counter)) m)
+tail_beside homes counter m some few whole =
+    let left = fetched_at homes counter in
+    let first : Beside homes counter m (once by_words (fetch_word homes counter) m) =
+    beside_kept (calm_run by_words SPARE homes (all_done (fetch_word homes counter ∷ [])) m (omega arith) whole (fetch_is (λ b. is_calm_trail SPARE homes (all_done (b ∷ [])) ≡ true) homes counter refl refl)) in
+    let n = once by_words (fetch_word homes counter) m in
+    let counted = subst (Beside homes counter n) (sym (did_with_short by_words imm.Sub left left 1 n first.whole)) (beside_written homes counter (alu_value (alu_of imm.Sub) (held left n) 1) n some first.whole) in
+    let u = once by_words (with_short always imm.Sub left left 1) n in
+    let back = beside_back homes counter u some few counted.whole in
+    let last = calm_run by_words SPARE homes (all_done (compare_short cmp.Neq MORE left 0 ∷ branch MORE ∷ idle ∷ idle ∷ [])) (once by_words (keep_word homes counter) u) (omega arith) back.whole refl in
+    beside_then first (beside_then counted (beside_then back (beside_kept last)))
+
+-- ---- loops
+
+pub done_then : {homes : ℕ} {slots count : ℕ} {z : State} {m n t : Run} → KeepsBehind (homes + count) count m n → Done homes slots count z n t → Done homes slots count z m t
 done_then keeps d = record { follows = d.follows; keeps = keeps_then keeps d.keeps }
 
 -- so many iterations of a body
-iterations_run : (homes : ℕ) (f : ℕ → List Step) (slots counter low : ℕ) (body : PlainParts) (change : State → State) → slots ≤ counter → counter < 128
+iterations_run : (homes : ℕ) (f : ℕ → List Step) (slots counter low : ℕ) (body : PlainParts) (change : State → State) → 1 ≤ homes → slots ≤ counter → counter < 128
     → ((s : State) (m : Run) → low ≤ m.st → Follows homes slots s m → Done homes slots (counter + 1) (change s) m (run by_words (parts_trail f body) m))
-    → (count : ℕ) (s : State) (m : Run) → low ≤ m.st → Follows homes slots s m → Done homes slots (counter + 1) (times count change s) m (run by_words (copies count (parts_trail f body ++ all_done (iterations_tail counter))) m)
-iterations_run homes f slots counter low body change beside few iteration zero s m enough x = record { follows = x; keeps = record { st = refl; stack = λ a above. refl; high = λ r at lt. refl } }
-iterations_run homes f slots counter low body change beside few iteration (suc count) s m enough x =
-    let one_iteration = parts_trail f body ++ all_done (iterations_tail counter) in
+    → (count : ℕ) (s : State) (m : Run) → low ≤ m.st → Follows homes slots s m → Done homes slots (counter + 1) (times count change s) m (run by_words (copies count (parts_trail f body ++ all_done (iterations_tail homes counter))) m)
+iterations_run homes f slots counter low body change some beside few iteration zero s m enough x = record { follows = x; keeps = kept_all (homes + (counter + 1)) (counter + 1) m }
+iterations_run homes f slots counter low body change some beside few iteration (suc count) s m enough x =
+    let one_iteration = parts_trail f body ++ all_done (iterations_tail homes counter) in
     let n = run by_words (parts_trail f body) m in
     let d = iteration s m enough x in
-    let tail = around_counter homes slots counter (load_slot SPARE counter ∷ with_short always imm.Sub SPARE SPARE 1 ∷ []) (compare_short cmp.Neq MORE SPARE 0 ∷ branch MORE ∷ idle ∷ idle ∷ []) (change s) n beside few refl refl d.follows in
-    let t = run by_words (all_done (iterations_tail counter)) n in
-    let rest = iterations_run homes f slots counter low body change beside few iteration count (change s) t (subst (λ st. low ≤ st) (sym (keeps_then d.keeps tail.keeps).st) enough) tail.follows in
+    let t = run by_words (all_done (iterations_tail homes counter)) n in
+    let tail = beside_done homes slots counter (change s) n t beside (tail_beside homes counter n some few d.follows.whole) d.follows in
+    let rest = iterations_run homes f slots counter low body change some beside few iteration count (change s) t (subst (λ st. low ≤ st) (sym (keeps_then d.keeps tail.keeps).st) enough) tail.follows in
     subst (Done homes slots (counter + 1) (times (suc count) change s) m)
-    (sym (run_append by_words one_iteration (copies count one_iteration) m ∙ ap (run by_words (copies count one_iteration)) (run_append by_words (parts_trail f body) (all_done (iterations_tail counter)) m)))
+    (sym (run_append by_words one_iteration (copies count one_iteration) m ∙ ap (run by_words (copies count one_iteration)) (run_append by_words (parts_trail f body) (all_done (iterations_tail homes counter)) m)))
     (done_then (keeps_then d.keeps tail.keeps) rest)
 
 -- a loop
-pub iterations_done : (homes : ℕ) (f : ℕ → List Step) (slots counter low count : ℕ) (body : PlainParts) (change : State → State) (s : State) (m : Run) → slots ≤ counter → counter < 128
+pub iterations_done : (homes : ℕ) (f : ℕ → List Step) (slots counter low count : ℕ) (body : PlainParts) (change : State → State) (s : State) (m : Run) → 1 ≤ homes → slots ≤ counter → counter < 128
     → ((s : State) (m : Run) → low ≤ m.st → Follows homes slots s m → Done homes slots (counter + 1) (change s) m (run by_words (parts_trail f body) m)) → low ≤ m.st → Follows homes slots s m
-    → Done homes slots (counter + 1) (times count change s) m (run by_words (parts_trail f (joined (one (straight (iterations_begin counter count))) (one (repeats count body (iterations_tail counter))))) m)
-iterations_done homes f slots counter low count body change s m beside few iteration enough x =
-    let begin = around_counter homes slots counter (set_long SPARE count ∷ []) [] s m beside few refl refl x in
-    let n = run by_words (all_done (iterations_begin counter count)) m in
-    let rest = iterations_run homes f slots counter low body change beside few iteration count s n (subst (λ st. low ≤ st) (sym begin.keeps.st) enough) begin.follows in
+    → Done homes slots (counter + 1) (times count change s) m (run by_words (parts_trail f (joined (one (straight (iterations_begin homes counter count))) (one (repeats count body (iterations_tail homes counter))))) m)
+iterations_done homes f slots counter low count body change s m some beside few iteration enough x =
+    let n = run by_words (all_done (iterations_begin homes counter count)) m in
+    let begin = beside_done homes slots counter s m n beside (begin_beside homes counter count m some few x.whole) x in
+    let rest = iterations_run homes f slots counter low body change some beside few iteration count s n (subst (λ st. low ≤ st) (sym begin.keeps.st) enough) begin.follows in
     subst (Done homes slots (counter + 1) (times count change s) m)
-    (sym (run_joined by_words f (one (straight (iterations_begin counter count))) (one (repeats count body (iterations_tail counter))) m
-    ∙ ap (λ steps. run by_words steps n) (append-nil (copies count (parts_trail f body ++ all_done (iterations_tail counter))))))
+    (sym (run_joined by_words f (one (straight (iterations_begin homes counter count))) (one (repeats count body (iterations_tail homes counter))) m
+    ∙ ap (λ steps. run by_words steps n) (append-nil (copies count (parts_trail f body ++ all_done (iterations_tail homes counter))))))
     (done_then begin.keeps rest)

@@ -1,5 +1,5 @@
 -- The loops of expressions and statements make all their iterations, where those of the functions that are called do.
-use Rattle.std.proofs.Common.{◌≡◌, ℕ, ◌+◌, ◌-◌, ◌^◌, ◌<◌, ◌≤◌, ◌==◌, Bool, true, false, ◌&&◌, if◌then◌else◌, List, [], ◌∷◌, ◌++◌, Option, length, slice_index_or, nat_lt, refl, ap, ◌∙◌, subst, arith}
+use Rattle.std.proofs.Common.{◌≡◌, ℕ, ◌+◌, ◌-◌, ◌^◌, ◌<◌, ◌≤◌, ◌==◌, true, ◌&&◌, List, [], ◌∷◌, ◌++◌, Option, length, slice_index_or, nat_lt, ◌∙◌, subst, arith}
 use Rattle.std.proofs.lemmas.Bool.{and_parts, ltb-true}
 use Rattle.patmos_instr.specs.Bundles.{Slots}
 use Rattle.sp_tree.specs.Formed.{callee_formed, args_formed, result_formed, stmt_formed, stmts_formed, stmt_levels, stmts_levels}
@@ -8,29 +8,28 @@ use Rattle.sp_tree.specs.Plain.{PlainSp, constant, frame_word, cell_word, array_
 use Rattle.sp_tree.specs.Statements.{PlainSpTarget, to_slot, to_cell, to_array, PlainStmt, masks, writes, calls, transfers, overruns, iterations, PlainStmts, no_stmt, stmt, PlainFunction, no_function}
 use Rattle.sp_tree.specs.declared.operators.SpBinary.{SpBinary}
 use Rattle.sp_tree.specs.declared.operators.SpBinary.TheVariants as binary
-use Rattle.sp_shape.proofs.Whole.{run_append, run_whole}
+use Rattle.sp_shape.proofs.Whole.{once_whole, run_append, run_whole}
 use Rattle.sp_shape.specs.Parts.{straight, PlainParts, no_part, part, one, joined}
 use Rattle.sp_shape.specs.Run.{Run, Sources, Back, once, run, begun, IsWhole}
 use Rattle.sp_shape.specs.Trail.{Step, all_done, part_trail, parts_trail}
 use Rattle.sp_shape.specs.Iterating.{PartsIteration}
 use Rattle.sp_emit.proofs.Lasts.{write_is}
 use Rattle.sp_emit.proofs.Operands.{one_of, each_operands_are, each_expr_is, mask_is}
-use Rattle.sp_emit.specs.Places.{set_word}
+use Rattle.sp_emit.specs.Places.{word_of, fetched_at, set_word, args_least, stmt_least, stmts_least}
 use Rattle.sp_emit.specs.Counts.{HasStmtCounts, HasStmtsCounts}
 use Rattle.sp_emit.specs.Division.{unsigned_quotient_to, unsigned_rest_to, signed_quotient_to, signed_rest_to}
-use Rattle.sp_emit.specs.Expressions.{unary_code, binary_code, held_code, element_code, number_of, value_code, operands_code, expr_to, expr_code, value_at, is_immediate}
-use Rattle.sp_emit.specs.Holding.{held}
+use Rattle.sp_emit.specs.Expressions.{binary_code, held_code, number_of, value_code, operands_code, expr_to, expr_code, value_at, is_immediate}
 use Rattle.sp_emit.specs.Instructions.{always, where_so, under, set_long}
 use Rattle.sp_emit.specs.Statements.{mask_test, element_write, target_write, mask_handed, call_tail, args_code, call_code, send_code, overrun_code, slot_set, iterations_begin, stmt_code, stmts_code}
-use Rattle.sp_emit.specs.declared.registers.TheConstants.{MASK, FIRST, TEST, SPARE}
+use Rattle.sp_emit.specs.declared.registers.TheConstants.{FIRST, TEST}
 use Rattle.sp_emit.proofs.Counters.{counter_iterations}
 use Rattle.sp_emit.proofs.DigitIterations.{division_iterations, signed_division_iterations}
 use Rattle.sp_emit.proofs.Formed as formed
-use Rattle.sp_emit.proofs.Frames.{put_same}
 use Rattle.sp_emit.proofs.Leaving.{constant_leaves}
-use Rattle.sp_emit.proofs.Low.{Low, args_low, stmt_low, stmts_low, iterations_begin_low, read_low}
+use Rattle.sp_emit.proofs.Calling.{first_least}
+use Rattle.sp_emit.proofs.Low.{Low, IsHomed, few_args, args_low, handed_low, call_tail_low, stmt_low, stmts_low, iterations_begin_low}
 use Rattle.sp_emit.proofs.Passing.{AllPass, passes_then, passes_done, passes_parts, passes_begun, enough_still}
-use Rattle.sp_emit.proofs.Storing.{did_store_slot}
+use Rattle.sp_emit.proofs.WordPlaces.{fetched_some, fetched_few, keep_leaves}
 
 -- ---- parts after others
 
@@ -104,77 +103,79 @@ target_iterations homes from f Called back mask (to_array array index) m whole =
     two_parts from f Called back (expr_code homes index (FIRST + 1)) (one (straight (element_write homes mask array))) (expr_iterations homes from f Called back index (FIRST + 1) (FIRST + 1)) (bundles from f Called back (element_write homes mask array)) m whole
 
 -- functions that are called iteration, and leave the stack, where it has so much room
-pub record Callees (from : Sources) (f : ℕ → List Step) (Called : ℕ → Run → Type 0) (number low : ℕ) : Type 0 where
-  pub passing : AllPass from f number low
+pub record Callees (from : Sources) (f : ℕ → List Step) (Called : ℕ → Run → Type 0) (tops : List ℕ) (number low : ℕ) : Type 0 where
+  pub passing : AllPass from f tops number low
   pub iterating : (k : ℕ) → k < number → (m : Run) → IsWhole m → low ≤ m.st → Called k m
 
-call_iterations : (homes : ℕ) (from : Sources) (f : ℕ → List Step) (Called : ℕ → Run → Type 0) (back : Back) (number low frame mask k : ℕ) (args : List PlainSp) (result : Option ℕ) (m : Run) → Callees from f Called number low → k < number → IsWhole m → low ≤ m.st
-    → PartsIteration (run from) f Called back (joined (args_code homes args FIRST) (call_code homes frame mask k result)) m
-call_iterations homes from f Called back number low frame mask k args result m callees earlier whole enough =
-    let p = passes_parts from f number low 0 (omega arith) callees.passing (args_code homes args FIRST) (formed.args_formed homes number args FIRST) (args_low homes 0 args FIRST) m whole enough in
+call_iterations : (homes : ℕ) (from : Sources) (f : ℕ → List Step) (Called : ℕ → Run → Type 0) (back : Back) (tops : List ℕ) (number slots low frame mask k : ℕ) (args : List PlainSp) (result : Option ℕ) (m : Run) → Callees from f Called tops number low → k < number
+    → slots ≤ 128 → FIRST + length args ≤ 10 → args_formed slots args ≡ true → args_least args FIRST ≤ homes → IsWhole m → low ≤ m.st → PartsIteration (run from) f Called back (joined (args_code homes args FIRST) (call_code homes frame mask k result)) m
+call_iterations homes from f Called back tops number slots low frame mask k args result m callees earlier most count named least whole enough =
+    let first = first_least args FIRST in
+    let p = passes_parts from f tops number low homes 0 (omega arith) callees.passing (args_code homes args FIRST) (formed.args_formed homes number args FIRST) (args_low tops homes slots homes 0 args FIRST most count named least (omega arith)) m whole enough in
     let n = run from (parts_trail f (args_code homes args FIRST)) m in
-    let q = passes_done from 0 (mask_handed homes mask) n (omega arith) p.whole (rw (read_low 0 homes MASK mask) refl) in
+    let q = passes_done from homes 0 (mask_handed homes mask) n (omega arith) p.whole (handed_low homes 0 homes mask (omega (arith, first, least))) in
     let u = run from (all_done (mask_handed homes mask)) n in
-    let r = passes_done from 0 call_tail u (omega arith) q.whole refl in
+    let r = passes_done from homes 0 call_tail u (omega arith) q.whole (call_tail_low homes 0 (omega (arith, first, least))) in
     let c = run from (all_done call_tail) u in
-    let b = passes_begun 0 c r.whole in
+    let b = passes_begun homes 0 c r.whole in
     iterations_joined from f Called back (args_code homes args FIRST) (call_code homes frame mask k result) m (args_iteration homes from f Called back args FIRST m whole)
     (tt, (callees.iterating k earlier (begun c) b.whole (enough_still (passes_then p (passes_then q (passes_then r b))) enough), (tt, tt)))
 
--- the counter's word where a loop begins
-counter_set : (from : Sources) (counter count : ℕ) (m : Run) → IsWhole m → counter < 128 → count < 2 ^ 32
-    → (run from (all_done (iterations_begin counter count)) m).stack ((run from (all_done (iterations_begin counter count)) m).st + counter) ≡ count
-counter_set from counter count m whole few word =
-    let n = once from (set_long SPARE count) m in
-    let h = run_whole from (all_done (set_long SPARE count ∷ [])) m whole in
-    ap (λ t. t.stack (t.st + counter)) (did_store_slot from always counter SPARE n h h.fits.always few) ∙ put_same (n.st + counter) (held SPARE n) n.stack ∙ constant_leaves from SPARE count m whole (omega arith) (omega arith) word
+-- the counter where a loop begins
+counter_set : (from : Sources) (homes counter count : ℕ) (m : Run) → 1 ≤ homes → IsWhole m → counter < 128 → count < 2 ^ 32 → word_of homes counter (run from (all_done (iterations_begin homes counter count)) m) ≡ count
+counter_set from homes counter count m some whole few word =
+    let left = fetched_at homes counter in
+    let n = once from (set_long left count) m in
+    (keep_leaves from homes counter n (once_whole from (set_long left count) m whole) few).word ∙ constant_leaves from left count m whole (fetched_some homes counter some) (fetched_few homes counter) word
 
 mutual
-  stmt_iterations : (homes : ℕ) (from : Sources) (f : ℕ → List Step) (Called : ℕ → Run → Type 0) (back : Back) (fs : List PlainFunction) (number slots frame counter low : ℕ) → from.stack ≡ true → Callees from f Called number low → 1 ≤ slots → counter < 128
-      → (t : PlainStmt) → slots + stmt_levels t ≤ counter + 1 → stmt_formed fs number slots t ≡ true → HasStmtCounts t
+  stmt_iterations : (homes : ℕ) (from : Sources) (f : ℕ → List Step) (Called : ℕ → Run → Type 0) (back : Back) (tops : List ℕ) (fs : List PlainFunction) (number slots frame counter low : ℕ) → from.stack ≡ true → Callees from f Called tops number low → IsHomed homes fs number slots → counter < 128
+      → (t : PlainStmt) → slots + stmt_levels t ≤ counter + 1 → stmt_formed fs number slots t ≡ true → HasStmtCounts t → stmt_least tops t ≤ homes
       → (m : Run) → IsWhole m → low ≤ m.st → PartsIteration (run from) f Called back (stmt_code homes frame counter t) m
-  stmt_iterations homes from f Called back fs number slots frame counter low told callees some few (masks slot e) levels is counts m whole enough =
+  stmt_iterations homes from f Called back tops fs number slots frame counter low told callees h few (masks slot e) levels is counts least m whole enough =
       mask_is (Iteration from f Called back) homes slot e (λ here. expr_iterations homes from f Called back e FIRST (homes + slot))
       (λ there. two_parts from f Called back (expr_code homes e FIRST) (slot_set homes slot) (expr_iterations homes from f Called back e FIRST FIRST) (bundles from f Called back (set_word homes always slot FIRST ∷ []))) m whole
-  stmt_iterations homes from f Called back fs number slots frame counter low told callees some few (writes mask target e) levels is counts m whole enough =
+  stmt_iterations homes from f Called back tops fs number slots frame counter low told callees h few (writes mask target e) levels is counts least m whole enough =
       write_is (Iteration from f Called back) homes mask target e (two_parts from f Called back (expr_code homes e FIRST) (target_write homes mask target) (expr_iterations homes from f Called back e FIRST FIRST) (target_iterations homes from f Called back mask target))
       (λ slot op is gives. let last = mask_test homes mask ++ under (where_so TEST) op ∷ [] in two_parts from f Called back (operands_code homes e FIRST) (one (straight last)) (operands_iteration homes from f Called back e FIRST) (bundles from f Called back last)) m whole
-  stmt_iterations homes from f Called back fs number slots frame counter low told callees some few (calls mask k args result) levels is counts m whole enough =
+  stmt_iterations homes from f Called back tops fs number slots frame counter low told callees h few (calls mask k args result) levels is counts least m whole enough =
       let a = and_parts (nat_lt mask slots) (callee_formed fs number k (length args) && (args_formed slots args && result_formed slots result)) is in
       let b = and_parts (callee_formed fs number k (length args)) (args_formed slots args && result_formed slots result) a.1 in
       let callee = and_parts (nat_lt k number) (length args == (slice_index_or fs k no_function).parameters) b.0 in
-      call_iterations homes from f Called back number low frame mask k args result m callees (ltb-true k number callee.0) whole enough
-  stmt_iterations homes from f Called back fs number slots frame counter low told callees some few (transfers mask core source target count) levels is counts m whole enough =
+      call_iterations homes from f Called back tops number slots low frame mask k args result m callees (ltb-true k number callee.0) h.most (few_args fs number k (length args) h.earlier b.0)
+      (and_parts (args_formed slots args) (result_formed slots result) b.1).0 (omega (arith, least)) whole enough
+  stmt_iterations homes from f Called back tops fs number slots frame counter low told callees h few (transfers mask core source target count) levels is counts least m whole enough =
       let sent = one (straight (send_code homes mask core)) in
       two_parts from f Called back (expr_code homes source FIRST) (joined (expr_code homes target (FIRST + 1)) (joined (expr_code homes count (FIRST + 2)) sent)) (expr_iterations homes from f Called back source FIRST FIRST)
       (two_parts from f Called back (expr_code homes target (FIRST + 1)) (joined (expr_code homes count (FIRST + 2)) sent) (expr_iterations homes from f Called back target (FIRST + 1) (FIRST + 1))
       (two_parts from f Called back (expr_code homes count (FIRST + 2)) sent (expr_iterations homes from f Called back count (FIRST + 2) (FIRST + 2)) (bundles from f Called back (send_code homes mask core)))) m whole
-  stmt_iterations homes from f Called back fs number slots frame counter low told callees some few (overruns mask e) levels is counts m whole enough =
+  stmt_iterations homes from f Called back tops fs number slots frame counter low told callees h few (overruns mask e) levels is counts least m whole enough =
       two_parts from f Called back (expr_code homes e FIRST) (one (straight (overrun_code homes mask))) (expr_iterations homes from f Called back e FIRST FIRST) (bundles from f Called back (overrun_code homes mask)) m whole
-  stmt_iterations homes from f Called back fs number slots frame counter low told callees some few (iterations count body) levels is counts m whole enough =
+  stmt_iterations homes from f Called back tops fs number slots frame counter low told callees h few (iterations count body) levels is counts least m whole enough =
       let parts = and_parts (nat_lt 0 count) (stmts_formed fs number slots body) is in
       let code = stmts_code homes frame (counter - 1) body in
-      let n = run from (all_done (iterations_begin counter count)) m in
-      let p = passes_done from (counter + 1) (iterations_begin counter count) m (omega (arith, few)) whole (iterations_begin_low (counter + 1) counter count (omega arith)) in
-      let low_body : Low counter code = subst (λ c. Low c code) (let e : counter - 1 + 1 ≡ counter = omega (arith, levels, some) in e) (stmts_low homes fs number slots frame (counter - 1) body some (omega (arith, levels, some)) parts.1) in (
+      let some : 1 ≤ homes = omega (arith, h.own) in
+      let n = run from (all_done (iterations_begin homes counter count)) m in
+      let p = passes_done from (homes + (counter + 1)) (counter + 1) (iterations_begin homes counter count) m (omega (arith, few)) whole (iterations_begin_low (homes + (counter + 1)) (counter + 1) homes counter count (omega arith) (omega arith) (omega arith)) in
+      let low_body : Low tops (homes + counter) counter code = subst (λ c. Low tops (homes + c) c code) (let e : counter - 1 + 1 ≡ counter = omega (arith, levels, h.some) in e) (stmts_low tops homes fs number slots frame (counter - 1) body h (omega (arith, levels, h.some)) parts.1 (omega (arith, least))) in (
         tt,
         (
-          counter_iterations from f (PartsIteration (run from) f Called back code) code counter low told few
-              (λ t rest room. stmts_iteration homes from f Called back fs number slots frame (counter - 1) low told callees some (omega (arith, few)) body (omega (arith, levels, some)) parts.1 counts.1 t rest room)
-              (λ t rest room. passes_parts from f number low counter (omega (arith, few)) callees.passing code (formed.stmts_formed homes fs number slots frame (counter - 1) body parts.1) low_body t rest room)
-              count counts.0 n p.whole (enough_still p enough) (counter_set from counter count m whole few counts.0),
+          counter_iterations from f (PartsIteration (run from) f Called back code) code homes counter low told some few
+              (λ t rest room. stmts_iteration homes from f Called back tops fs number slots frame (counter - 1) low told callees h (omega (arith, few)) body (omega (arith, levels, h.some)) parts.1 counts.1 (omega (arith, least)) t rest room)
+              (λ t rest room. passes_parts from f tops number low (homes + counter) counter (omega (arith, few)) callees.passing code (formed.stmts_formed homes fs number slots frame (counter - 1) body parts.1) low_body t rest room)
+              count counts.0 n p.whole (enough_still p enough) (counter_set from homes counter count m some whole few counts.0),
           tt,
         ),
       )
 
-  pub stmts_iteration : (homes : ℕ) (from : Sources) (f : ℕ → List Step) (Called : ℕ → Run → Type 0) (back : Back) (fs : List PlainFunction) (number slots frame counter low : ℕ) → from.stack ≡ true → Callees from f Called number low → 1 ≤ slots → counter < 128
-      → (ts : PlainStmts) → slots + stmts_levels ts ≤ counter + 1 → stmts_formed fs number slots ts ≡ true → HasStmtsCounts ts
+  pub stmts_iteration : (homes : ℕ) (from : Sources) (f : ℕ → List Step) (Called : ℕ → Run → Type 0) (back : Back) (tops : List ℕ) (fs : List PlainFunction) (number slots frame counter low : ℕ) → from.stack ≡ true → Callees from f Called tops number low → IsHomed homes fs number slots → counter < 128
+      → (ts : PlainStmts) → slots + stmts_levels ts ≤ counter + 1 → stmts_formed fs number slots ts ≡ true → HasStmtsCounts ts → stmts_least tops ts ≤ homes
       → (m : Run) → IsWhole m → low ≤ m.st → PartsIteration (run from) f Called back (stmts_code homes frame counter ts) m
-  stmts_iteration homes from f Called back fs number slots frame counter low told callees some few no_stmt levels is counts m whole enough = tt
-  stmts_iteration homes from f Called back fs number slots frame counter low told callees some few (stmt t rest) levels is counts m whole enough =
+  stmts_iteration homes from f Called back tops fs number slots frame counter low told callees h few no_stmt levels is counts least m whole enough = tt
+  stmts_iteration homes from f Called back tops fs number slots frame counter low told callees h few (stmt t rest) levels is counts least m whole enough =
       let parts = and_parts (stmt_formed fs number slots t) (stmts_formed fs number slots rest) is in
-      let p = passes_parts from f number low (counter + 1) (omega (arith, few)) callees.passing (stmt_code homes frame counter t) (formed.stmt_formed homes fs number slots frame counter t parts.0)
-      (stmt_low homes fs number slots frame counter t some (omega (arith, levels)) parts.0) m whole enough in
+      let p = passes_parts from f tops number low (homes + (counter + 1)) (counter + 1) (omega (arith, few)) callees.passing (stmt_code homes frame counter t) (formed.stmt_formed homes fs number slots frame counter t parts.0)
+      (stmt_low tops homes fs number slots frame counter t h (omega (arith, levels)) parts.0 (omega (arith, least))) m whole enough in
       iterations_joined from f Called back (stmt_code homes frame counter t) (stmts_code homes frame counter rest) m
-      (stmt_iterations homes from f Called back fs number slots frame counter low told callees some few t (omega (arith, levels)) parts.0 counts.0 m whole enough)
-      (stmts_iteration homes from f Called back fs number slots frame counter low told callees some few rest (omega (arith, levels)) parts.1 counts.1 (run from (parts_trail f (stmt_code homes frame counter t)) m) p.whole (enough_still p enough))
+      (stmt_iterations homes from f Called back tops fs number slots frame counter low told callees h few t (omega (arith, levels)) parts.0 counts.0 (omega (arith, least)) m whole enough)
+      (stmts_iteration homes from f Called back tops fs number slots frame counter low told callees h few rest (omega (arith, levels)) parts.1 counts.1 (omega (arith, least)) (run from (parts_trail f (stmt_code homes frame counter t)) m) p.whole (enough_still p enough))

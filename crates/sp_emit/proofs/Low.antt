@@ -1,174 +1,391 @@
--- The code of statements stores no word of the stack after the next counter of iterations.
-use Rattle.std.proofs.Common.{◌≡◌, ℕ, ◌+◌, ◌-◌, ◌<◌, ◌≤◌, ◌==◌, Bool, true, false, if◌then◌else◌, ◌&&◌, List, Option, None, Some, length, nat_lt, refl, arith}
+-- The code of statements changes no word of the stack after the next counter of iterations, and none of the registers that
+-- stand for such words.
+use Rattle.std.proofs.Common.{◌≡◌, ℕ, ◌+◌, ◌-◌, ◌<◌, ◌≤◌, ◌==◌, ◌⊎◌, inl, inr, Bool, true, false, true≢false, if◌then◌else◌, ◌&&◌, is_none, List, [], ◌∷◌, ◌++◌, Option, None, Some, length, nat_lt, slice_index_or, refl, subst, sym, arith}
+use Rattle.std.specs.Prelude.{nat_le}
 use Rattle.std.specs.List.{list_all}
-use Rattle.std.proofs.lemmas.Bool.{and_parts, and_from, lt-ltb, ltb-true}
+use Rattle.std.proofs.lemmas.Bool.{and_parts, and_from, or_cases, or_right, le-leb, lt-ltb, leb-true, ltb-true, eqb-true}
 use Rattle.patmos_instr.specs.Bundles.{Slots}
+use Rattle.patmos_instr.specs.declared.guards.Guard.{Guard}
 use Rattle.patmos_instr.specs.declared.instructions.Op.{Op}
-use Rattle.patmos_instr.specs.declared.instructions.Op.TheVariants.{AluImm, AluReg, AluLong, Mul, Cmp, CmpImm, Comb, ToSpecial, FromSpecial, Stack, Load, Store, Branch, Call, BranchFill, Return}
+use Rattle.patmos_instr.specs.declared.instructions.Op.TheVariants.{AluImm, AluReg, AluLong, FromSpecial, Stack, Load, Store}
 use Rattle.patmos_instr.specs.declared.functions.ImmFunc.TheVariants as imm
 use Rattle.patmos_instr.specs.declared.functions.StackFunc.TheVariants.{Sres, Sens, Sfree}
 use Rattle.patmos_instr.specs.declared.memories.Mem.TheVariants as mem
 use Rattle.patmos_instr.specs.declared.memories.StoreWidth.TheVariants as store
+use Rattle.patmos_instr.specs.declared.memories.Width.TheVariants as load
 use Rattle.c_world.specs.declared.region.Region.{Region}
-use Rattle.sp_tree.specs.Formed.{target_formed, expr_formed, callee_formed, args_formed, result_formed, stmt_formed, stmts_formed, stmt_levels, stmts_levels}
+use Rattle.sp_tree.specs.Formed.{names_words, array_formed, target_formed, expr_formed, callee_formed, args_formed, result_formed, send_formed, stmt_formed, stmts_formed, functions_formed, stmt_levels, stmts_levels}
+use Rattle.sp_tree.specs.Need.{need}
 use Rattle.sp_tree.specs.Plain.{PlainSp}
-use Rattle.sp_tree.specs.Statements.{PlainSpTarget, to_slot, to_cell, to_array, PlainStmt, masks, writes, calls, transfers, overruns, iterations, PlainStmts, no_stmt, stmt, PlainFunction}
-use Rattle.sp_shape.specs.Bundles.{parts_all}
-use Rattle.sp_shape.specs.Parts.{straight, repeats, PlainParts, one, joined}
-use Rattle.sp_emit.specs.Expressions.{operands_code, expr_to, expr_code, address_of}
-use Rattle.sp_emit.specs.Statements.{slot_write, cell_write, element_write, target_write, args_code, call_code, send_code, overrun_code, slot_set, iterations_begin, iterations_tail, stmt_code, stmts_code}
-use Rattle.sp_emit.specs.declared.registers.TheConstants.{RESULT, MASK, FIRST, TEST, SPARE}
-use Rattle.sp_emit.specs.Places.{in_register, read_op, set_op, fetch_op}
-use Rattle.sp_emit.proofs.WordPlaces.{read_op_is, set_op_is, fetch_op_is}
-use Rattle.sp_emit.proofs.Lasts.{alu_quiet, write_is, guarded_each}
-use Rattle.sp_emit.proofs.Operands.{mask_is}
-use Rattle.sp_emit.proofs.Passing.{is_low, passes}
-use Rattle.sp_emit.proofs.Quiet.{each_joined, each_lone, each_so, is_quiet, operands_quiet, expr_quiet, args_quiet}
-use Rattle.sp_emit.specs.Instructions.{where_so, under, number_op}
+use Rattle.sp_tree.specs.Statements.{PlainSpTarget, to_slot, to_cell, to_array, PlainStmt, masks, writes, calls, transfers, overruns, iterations, PlainStmts, no_stmt, stmt, PlainFunction, no_function}
+use Rattle.sp_shape.specs.Parts.{PlainPart, straight, repeats, calls_to, leaves, PlainParts, no_part, part, one, joined}
+use Rattle.sp_shape.proofs.Lists.{all_weaker}
+use Rattle.sp_emit.specs.Expressions.{value_code, operands_code, expr_to, expr_code, address_of}
+use Rattle.sp_emit.specs.Fits.{ExprFits}
+use Rattle.sp_emit.specs.Instructions.{always, where_so, under, set_number}
+use Rattle.sp_emit.specs.Places.{in_register, fetched_at, read_word, fetch_word, keep_word, set_op, set_word, args_least, target_least, stmt_least, stmts_least}
+use Rattle.sp_emit.specs.Statements.{mask_test, slot_write, cell_write, element_write, target_write, write_code, guarded_code, args_code, mask_handed, call_tail, behind_call, call_code, way_to, send_code, overrun_code, slot_set, iterations_begin, iterations_tail, stmt_code, stmts_code}
+use Rattle.sp_emit.specs.declared.registers.TheConstants.{RESULT, MASK, FIRST, TEST, SPARE, OVERRUN}
+use Rattle.sp_emit.proofs.Calm.{IsApart, free_cases, is_free, is_calm_op, is_calm, part_calm, parts_calm}
+use Rattle.sp_tree.proofs.Forms.{few_arguments}
+use Rattle.sp_emit.proofs.Lasts.{Gives, slot_write_is}
 use Rattle.sp_emit.proofs.Numbers.{number_op_is}
+use Rattle.sp_emit.proofs.Operands.{mask_is}
+use Rattle.sp_emit.proofs.Passing.{is_outside, outside_low, is_low, passes, part_passes, parts_pass}
+use Rattle.sp_emit.proofs.Values.{before, operands_calm, value_calm}
+use Rattle.sp_emit.proofs.WordPlaces.{read_is, fetch_is, fetched_is, keep_is, set_op_is}
 
-abbrev pub Low : ℕ → PlainParts → Type 0
-Low count parts = parts_all (passes count) parts ≡ true
+abbrev pub Low : List ℕ → ℕ → ℕ → PlainParts → Type 0
+Low tops top count parts = parts_pass tops top count parts ≡ true
 
-abbrev pub AreLow : ℕ → List Slots → Type 0
-AreLow count bs = list_all (passes count) bs ≡ true
+abbrev pub AreLow : ℕ → ℕ → List Slots → Type 0
+AreLow top count bs = list_all (passes top count) bs ≡ true
 
-low_quiet : (count : ℕ) (b : Slots) → is_quiet b ≡ true → passes count b ≡ true
-low_quiet count b quiet = grind (arith, quiet)
+pub low_joined : (tops : List ℕ) (top count : ℕ) (a b : PlainParts) → Low tops top count a → Low tops top count b → Low tops top count (joined a b)
+low_joined tops top count no_part b x y = y
+low_joined tops top count (part p a) b x y =
+    let parts = and_parts (part_passes tops top count p) (parts_pass tops top count a) x in
+    and_from (part_passes tops top count p) (parts_pass tops top count (joined a b)) parts.0 (low_joined tops top count a b parts.1 y)
 
-low_more : (count more : ℕ) → count ≤ more → (op : Op) → is_low count op ≡ true → is_low more op ≡ true
-low_more count more le (Store mem.S store.Word ra rs imm) low =
-    let both = and_parts (ra == 0) (nat_lt imm count) low in
-    and_from (ra == 0) (nat_lt imm more) both.0 (lt-ltb imm more (omega (arith, le, ltb-true imm count both.1)))
-low_more count more le (Store mem.S store.Half ra rs imm) low = low
-low_more count more le (Store mem.S store.Byte ra rs imm) low = low
-low_more count more le (Store mem.L width ra rs imm) low = refl
-low_more count more le (Store mem.C width ra rs imm) low = refl
-low_more count more le (Store mem.M width ra rs imm) low = refl
-low_more count more le (Stack Sres n) low = low
-low_more count more le (Stack Sens n) low = refl
-low_more count more le (Stack Sfree n) low = low
-low_more count more le (AluImm func rd ra imm) low = refl
-low_more count more le (AluReg func rd ra rb) low = refl
-low_more count more le (AluLong func rd ra constant) low = refl
-low_more count more le (Mul unsigned ra rb) low = refl
-low_more count more le (Cmp func pd ra rb) low = refl
-low_more count more le (CmpImm func pd ra imm) low = refl
-low_more count more le (Comb func pd a b) low = refl
-low_more count more le (ToSpecial special ra) low = refl
-low_more count more le (FromSpecial rd special) low = refl
-low_more count more le (Load space width rd ra imm) low = refl
-low_more count more le (Branch offset) low = refl
-low_more count more le (Call target) low = refl
-low_more count more le (BranchFill target) low = refl
-low_more count more le Return low = refl
+pub low_lone : (tops : List ℕ) (top count : ℕ) (bs : List Slots) → AreLow top count bs → Low tops top count (one (straight bs))
+low_lone tops top count bs low = and_from (list_all (passes top count) bs) true low refl
 
-pub low_all_more : (count more : ℕ) (parts : PlainParts) → count ≤ more → Low count parts → Low more parts
-low_all_more count more parts le low = each_so (passes count) (passes more) (λ b x. low_more count more le b.first.op x) parts low
+-- ---- calm code
 
-pub expr_low : (homes : ℕ) (count : ℕ) (e : PlainSp) (rd to : ℕ) → Low count (expr_to homes e rd to)
-expr_low homes count e rd to = each_so is_quiet (passes count) (low_quiet count) (expr_to homes e rd to) (expr_quiet homes e rd to)
+free_outside : (rd homes top r : ℕ) → 1 ≤ top → homes ≤ top → is_free rd homes r ≡ true → is_outside top r ≡ true
+free_outside rd homes top r some le free = by (free_cases rd homes r free)
+  where
+    by : (r ≡ 0) ⊎ IsApart rd homes r → is_outside top r ≡ true
+    by (inl zero_is) = outside_low top r (omega (arith, zero_is, some))
+    by (inr apart) = beside apart.beside
+      where
+        beside : (OVERRUN < r) ⊎ (r < homes) → is_outside top r ≡ true
+        beside (inl past) = or_right (nat_lt r top) (nat_le OVERRUN r) (le-leb OVERRUN r (omega (arith, past)))
+        beside (inr before) = outside_low top r (omega (arith, before, le))
 
-pub args_low : (homes : ℕ) (count : ℕ) (args : List PlainSp) (rd : ℕ) → Low count (args_code homes args rd)
-args_low homes count args rd = each_so is_quiet (passes count) (low_quiet count) (args_code homes args rd) (args_quiet homes args rd)
+calm_op_low : (rd homes top count : ℕ) → 1 ≤ top → homes ≤ top → (op : Op) → is_calm_op rd homes op ≡ true → is_low top count op ≡ true
+calm_op_low rd homes top count some le (AluImm func r ra imm) calm = free_outside rd homes top r some le calm
+calm_op_low rd homes top count some le (AluReg func r ra rb) calm = free_outside rd homes top r some le calm
+calm_op_low rd homes top count some le (AluLong func r ra constant) calm = free_outside rd homes top r some le calm
+calm_op_low rd homes top count some le (FromSpecial r special) calm = free_outside rd homes top r some le calm
+calm_op_low rd homes top count some le (Load space load.Word r ra imm) calm = free_outside rd homes top r some le calm
+calm_op_low rd homes top count some le (Load space load.Half r ra imm) calm = absurd (true≢false (sym calm))
+calm_op_low rd homes top count some le (Load space load.Byte r ra imm) calm = absurd (true≢false (sym calm))
+calm_op_low rd homes top count some le (Load space load.HalfUnsigned r ra imm) calm = absurd (true≢false (sym calm))
+calm_op_low rd homes top count some le (Load space load.ByteUnsigned r ra imm) calm = absurd (true≢false (sym calm))
+calm_op_low rd homes top count some le (Store space width ra rs imm) calm = absurd (true≢false (sym calm))
+calm_op_low rd homes top count some le (Stack func n) calm = absurd (true≢false (sym calm))
+calm_op_low rd homes top count some le _ calm = refl
 
-both : (count : ℕ) (a b : PlainParts) → Low count a → Low count b → Low count (joined a b)
-both count = each_joined (passes count)
+calm_low : (rd homes top count : ℕ) → 1 ≤ top → homes ≤ top → (b : Slots) → is_calm rd homes b ≡ true → passes top count b ≡ true
+calm_low rd homes top count some le b calm =
+    let both = and_parts (is_calm_op rd homes b.first.op) (is_none b.second) calm in
+    and_from (is_low top count b.first.op) (is_none b.second) (calm_op_low rd homes top count some le b.first.op both.0) both.1
+
+mutual
+  calm_part_low : (tops : List ℕ) (rd homes top count : ℕ) → 1 ≤ top → homes ≤ top → (p : PlainPart) → part_calm rd homes p ≡ true → part_passes tops top count p ≡ true
+  calm_part_low tops rd homes top count some le (straight bs) calm = all_weaker (is_calm rd homes) (passes top count) (calm_low rd homes top count some le) bs calm
+  calm_part_low tops rd homes top count some le (repeats n body tail) calm =
+      let both = and_parts (parts_calm rd homes body) (list_all (is_calm rd homes) tail) calm in
+      and_from (parts_pass tops top count body) (list_all (passes top count) tail) (calm_parts_low tops rd homes top count some le body both.0) (all_weaker (is_calm rd homes) (passes top count) (calm_low rd homes top count some le) tail both.1)
+  calm_part_low tops rd homes top count some le (calls_to k tail) calm = absurd (true≢false (sym calm))
+  calm_part_low tops rd homes top count some le (leaves tail) calm = absurd (true≢false (sym calm))
+
+  calm_parts_low : (tops : List ℕ) (rd homes top count : ℕ) → 1 ≤ top → homes ≤ top → (ps : PlainParts) → parts_calm rd homes ps ≡ true → Low tops top count ps
+  calm_parts_low tops rd homes top count some le no_part calm = refl
+  calm_parts_low tops rd homes top count some le (part p rest) calm =
+      let both = and_parts (part_calm rd homes p) (parts_calm rd homes rest) calm in
+      and_from (part_passes tops top count p) (parts_pass tops top count rest) (calm_part_low tops rd homes top count some le p both.0) (calm_parts_low tops rd homes top count some le rest both.1)
+
+-- ---- values
+
+pub expr_low : (tops : List ℕ) (homes top count : ℕ) (e : PlainSp) (rd to : ℕ) → ExprFits e rd → rd + need e ≤ homes → homes ≤ top → to < OVERRUN → to < top → Low tops top count (expr_to homes e rd to)
+expr_low tops homes top count e rd to fits free le few within =
+    let some : 1 ≤ top = omega (arith, within) in
+    low_joined tops top count (operands_code homes e rd) (value_code homes e rd to) (calm_parts_low tops rd homes top count some le (operands_code homes e rd) (operands_calm homes rd e rd (omega arith) fits free))
+    (calm_parts_low tops 0 top top count some (omega arith) (value_code homes e rd to) (value_calm homes 0 top e rd to (omega arith) few within))
+
+pub formed_fits : (slots : ℕ) (e : PlainSp) (rd : ℕ) → slots ≤ 128 → rd ≤ 9 → expr_formed slots e ≡ true → ExprFits e rd
+formed_fits slots e rd most few formed =
+    let parts = and_parts (names_words slots e) (nat_le (need e) 12) formed in
+    record { slots = slots; most = most; names = parts.0; registers = omega (arith, few, leb-true (need e) 12 parts.1) }
+
+-- where an expression is formed, and the first register suffices
+own_low : (tops : List ℕ) (homes slots top count : ℕ) (e : PlainSp) (rd : ℕ) → slots ≤ 128 → rd ≤ 9 → expr_formed slots e ≡ true → rd + need e ≤ homes → homes ≤ top → Low tops top count (expr_code homes e rd)
+own_low tops homes slots top count e rd most few formed free le = expr_low tops homes top count e rd rd (formed_fits slots e rd most few formed) free le (omega (arith, few)) (omega (arith, before homes e free, le))
+
+pub args_low : (tops : List ℕ) (homes slots top count : ℕ) (args : List PlainSp) (rd : ℕ) → slots ≤ 128 → rd + length args ≤ 10 → args_formed slots args ≡ true → args_least args rd ≤ homes → homes ≤ top → Low tops top count (args_code homes args rd)
+args_low tops homes slots top count [] rd most few formed free le = refl
+args_low tops homes slots top count (e ∷ args) rd most few formed free le =
+    let parts = and_parts (expr_formed slots e) (args_formed slots args) formed in
+    low_joined tops top count (expr_code homes e rd) (args_code homes args (rd + 1)) (own_low tops homes slots top count e rd most (omega (arith, few)) parts.0 (omega (arith, free)) le)
+    (args_low tops homes slots top count args (rd + 1) most (omega (arith, few)) parts.1 (omega (arith, free)) le)
+
+-- ---- words of a frame
+
+pub spare_low : (top : ℕ) → is_outside top SPARE ≡ true
+spare_low top = or_right (nat_lt SPARE top) true refl
+
+flag_low : (top : ℕ) → is_outside top OVERRUN ≡ true
+flag_low top = or_right (nat_lt OVERRUN top) true refl
+
+fetched_low : (top homes slot : ℕ) → homes + slot < top → is_outside top (fetched_at homes slot) ≡ true
+fetched_low top homes slot within = fetched_is (λ r. is_outside top r ≡ true) homes slot (λ lt. outside_low top (homes + slot) within) (spare_low top)
+
+pub read_low : (top count homes rd slot : ℕ) → rd < top → passes top count (read_word homes rd slot) ≡ true
+read_low top count homes rd slot lt = read_is (λ b. passes top count b ≡ true) homes rd slot (rw (outside_low top rd lt) refl) (rw (outside_low top rd lt) refl)
+
+fetch_low : (top count homes slot : ℕ) → 1 ≤ top → passes top count (fetch_word homes slot) ≡ true
+fetch_low top count homes slot some = fetch_is (λ b. passes top count b ≡ true) homes slot (rw (outside_low top 0 some) refl) (rw (spare_low top) refl)
+
+set_low : (top count homes : ℕ) (g : Guard) (slot rs : ℕ) → homes + slot < top → slot < count → passes top count (set_word homes g slot rs) ≡ true
+set_low top count homes g slot rs within lt = set_op_is (λ op. passes top count (under g op) ≡ true) homes slot rs (rw (outside_low top (homes + slot) within) refl) (rw (lt-ltb slot count lt) refl)
+
+keep_low : (top count homes slot : ℕ) → 1 ≤ top → slot < count → passes top count (keep_word homes slot) ≡ true
+keep_low top count homes slot some lt = keep_is (λ b. passes top count b ≡ true) homes slot (rw (outside_low top 0 some) refl) (rw (lt-ltb slot count lt) refl)
+
+-- where it stands in the stack, it is one of the first so many; and in the window, it is before its end
+pub set_beside : (top count homes slot rs : ℕ) → homes + slot < top → (in_register homes slot ≡ false → slot < count) → passes top count (set_word homes always slot rs) ≡ true
+unfolding set_op
+set_beside top count homes slot rs within out = by (in_register homes slot) refl
+  where
+    by : (b : Bool) → in_register homes slot ≡ b → passes top count (under always (if b then AluImm imm.Add (homes + slot) rs 0 else Store mem.S store.Word 0 rs slot)) ≡ true
+    by true is = rw (outside_low top (homes + slot) within) refl
+    by false is = rw (lt-ltb slot count (out is)) refl
+
+number_low : (top count rd n : ℕ) → is_outside top rd ≡ true → passes top count (set_number rd n) ≡ true
+number_low top count rd n out = number_op_is (λ op. passes top count (under always op) ≡ true) rd n (rw (out) refl) (rw (out) refl)
 
 -- ---- statements
 
-pub read_low : (count homes rd slot : ℕ) → is_low count (read_op homes rd slot) ≡ true
-read_low count homes rd slot = read_op_is (λ op. is_low count op ≡ true) homes rd slot refl refl
+test_low : (top count homes mask : ℕ) → 1 ≤ top → AreLow top count (mask_test homes mask)
+test_low top count homes mask some = rw (fetch_low top count homes mask some) refl
 
-fetch_low : (count homes slot : ℕ) → is_low count (fetch_op homes slot) ≡ true
-fetch_low count homes slot = fetch_op_is (λ op. is_low count op ≡ true) homes slot refl refl
+slot_write_low : (top count homes mask slot : ℕ) → homes + slot < top → slot < count → AreLow top count (slot_write homes mask slot)
+slot_write_low top count homes mask slot within lt = rw (fetch_low top count homes mask (omega (arith, within)), set_low top count homes (where_so TEST) slot FIRST within lt) refl
 
-number_low : (count rd n : ℕ) → is_low count (number_op rd n) ≡ true
-number_low count rd n = number_op_is (λ op. is_low count op ≡ true) rd n refl refl
+cell_write_low : (top count homes mask : ℕ) (r : Region) (word : ℕ) → 1 ≤ top → AreLow top count (cell_write homes mask (record { region = r; word = word }))
+cell_write_low top count homes mask r word some =
+    let read = fetch_low top count homes mask some in
+    let spare = spare_low top in
+    let address = number_low top count SPARE (address_of r word) spare in
+    grind (arith, read, spare, address)
 
-set_low : (count homes slot rs : ℕ) → slot < count → is_low count (set_op homes slot rs) ≡ true
-set_low count homes slot rs lt = set_op_is (λ op. is_low count op ≡ true) homes slot rs refl (rw (lt-ltb slot count lt) refl)
+element_write_low : (top count homes mask : ℕ) (r : Region) (first length : ℕ) → FIRST + 1 < top → AreLow top count (element_write homes mask (record { region = r; first = first; length = length }))
+element_write_low top count homes mask r first length within =
+    let read = fetch_low top count homes mask (omega (arith, within)) in
+    let spare = spare_low top in
+    let index = outside_low top (FIRST + 1) within in
+    let size = number_low top count SPARE length spare in
+    let address = number_low top count SPARE (address_of r first) spare in
+    grind (arith, read, index, size, address)
 
--- where it stands in the stack, it is one of the first so many
-pub set_beside : (count homes slot rs : ℕ) → (in_register homes slot ≡ false → slot < count) → is_low count (set_op homes slot rs) ≡ true
-unfolding set_op
-set_beside count homes slot rs out = by (in_register homes slot) refl
+target_low : (tops : List ℕ) (homes slots top count mask : ℕ) (target : PlainSpTarget) → slots ≤ 128 → slots ≤ count → homes + slots ≤ top → 1 ≤ homes → target_formed slots target ≡ true → target_least target ≤ homes → Low tops top count (target_write homes mask target)
+target_low tops homes slots top count mask (to_slot slot) most le within own formed free =
+    let named = ltb-true slot slots formed in
+    low_lone tops top count (slot_write homes mask slot) (slot_write_low top count homes mask slot (omega (arith, within, named)) (omega (arith, le, named)))
+target_low tops homes slots top count mask (to_cell cell) most le within own formed free = low_lone tops top count (cell_write homes mask cell) (cell_write_low top count homes mask cell.region cell.word (omega (arith, within, own)))
+target_low tops homes slots top count mask (to_array array index) most le within own formed free =
+    let least = before homes index free in
+    low_joined tops top count (expr_code homes index (FIRST + 1)) (one (straight (element_write homes mask array)))
+    (own_low tops homes slots top count index (FIRST + 1) most (omega arith) (and_parts (array_formed array) (expr_formed slots index) formed).1 free (omega (arith, within)))
+    (low_lone tops top count (element_write homes mask array) (element_write_low top count homes mask array.region array.first array.length (omega (arith, least, within))))
+
+pub handed_low : (top count homes mask : ℕ) → MASK < top → AreLow top count (mask_handed homes mask)
+handed_low top count homes mask own = rw (read_low top count homes MASK mask own, outside_low top MASK own) refl
+
+pub call_tail_low : (top count : ℕ) → 1 ≤ top → AreLow top count call_tail
+call_tail_low top count some = rw (outside_low top 0 some) refl
+
+behind_low : (top count homes slots frame mask : ℕ) (result : Option ℕ) → 1 ≤ top → slots ≤ count → homes + slots ≤ top → result_formed slots result ≡ true → AreLow top count (behind_call homes frame mask result)
+behind_low top count homes slots frame mask None own le within formed = refl
+behind_low top count homes slots frame mask (Some slot) own le within formed =
+    let named = ltb-true slot slots formed in
+    rw (fetch_low top count homes mask own, set_low top count homes (where_so TEST) slot RESULT (omega (arith, within, named)) (omega (arith, le, named))) refl
+
+call_low : (tops : List ℕ) (homes slots top count frame mask k : ℕ) (result : Option ℕ) → slots ≤ count → homes + slots ≤ top → FIRST ≤ homes → slice_index_or tops k 0 ≤ homes → result_formed slots result ≡ true → Low tops top count (call_code homes frame mask k result)
+call_low tops homes slots top count frame mask k result le within own window formed =
+    low_joined tops top count (one (straight (mask_handed homes mask))) (joined (one (way_to k)) (one (straight (behind_call homes frame mask result))))
+    (low_lone tops top count (mask_handed homes mask) (handed_low top count homes mask (omega (arith, own, within))))
+    (low_joined tops top count (one (way_to k)) (one (straight (behind_call homes frame mask result)))
+    (and_from (nat_le (slice_index_or tops k 0) top && list_all (passes top count) call_tail) true
+    (and_from (nat_le (slice_index_or tops k 0) top) (list_all (passes top count) call_tail) (le-leb (slice_index_or tops k 0) top (omega (arith, window, within))) (call_tail_low top count (omega (arith, own, within)))) refl)
+    (low_lone tops top count (behind_call homes frame mask result) (behind_low top count homes slots frame mask result (omega (arith, own, within)) le within formed)))
+
+send_low : (top count homes mask core : ℕ) → FIRST + 3 < top → AreLow top count (send_code homes mask core)
+send_low top count homes mask core within =
+    let read = fetch_low top count homes mask (omega (arith, within)) in
+    let spare = spare_low top in
+    let third = outside_low top (FIRST + 3) within in
+    grind (arith, read, spare, third)
+
+overrun_low : (top count homes mask : ℕ) → 1 ≤ top → AreLow top count (overrun_code homes mask)
+overrun_low top count homes mask some =
+    let read = fetch_low top count homes mask some in
+    let flag = flag_low top in
+    grind (arith, read, flag)
+
+pub iterations_begin_low : (top count homes counter n : ℕ) → 1 ≤ top → homes + counter < top → counter < count → AreLow top count (iterations_begin homes counter n)
+iterations_begin_low top count homes counter n some within lt = rw (fetched_low top homes counter within, keep_low top count homes counter some lt) refl
+
+pub iterations_tail_low : (top count homes counter : ℕ) → 1 ≤ top → homes + counter < top → counter < count → AreLow top count (iterations_tail homes counter)
+iterations_tail_low top count homes counter some within lt = rw (fetch_low top count homes counter some, fetched_low top homes counter within, keep_low top count homes counter some lt, outside_low top 0 some) refl
+
+-- a value that is worked out, and its last instruction under a mask
+guarded_low : (tops : List ℕ) (homes slots top count mask slot : ℕ) (e : PlainSp) (op : Op) → slots ≤ 128 → homes ≤ top → homes + slot < OVERRUN → homes + slot < top → expr_formed slots e ≡ true → FIRST + need e ≤ homes → Gives (value_code homes e FIRST (homes + slot)) op
+    → Low tops top count (guarded_code homes mask e op)
+guarded_low tops homes slots top count mask slot e op most le lt within formed free gives =
+    let some : 1 ≤ top = omega (arith, within) in
+    let value = calm_parts_low tops 0 top top count some (omega arith) (value_code homes e FIRST (homes + slot)) (value_calm homes 0 top e FIRST (homes + slot) (omega arith) lt within) in
+    let last : Low tops top count (one (straight (under always op ∷ []))) = subst (Low tops top count) gives.is value in
+    let own = (and_parts (is_low top count op) true (and_parts (passes top count (under always op)) true (and_parts (list_all (passes top count) (under always op ∷ [])) true last).0).0).0 in
+    low_joined tops top count (operands_code homes e FIRST) (one (straight (mask_test homes mask ++ under (where_so TEST) op ∷ [])))
+    (calm_parts_low tops FIRST homes top count some le (operands_code homes e FIRST) (operands_calm homes FIRST e FIRST (omega arith) (formed_fits slots e FIRST most (omega arith) formed) free))
+    (low_lone tops top count (mask_test homes mask ++ under (where_so TEST) op ∷ []) (rw (fetch_low top count homes mask some, own) refl))
+
+write_low : (tops : List ℕ) (homes slots top count mask : ℕ) (target : PlainSpTarget) (e : PlainSp) → slots ≤ 128 → slots ≤ count → homes + slots ≤ top → 1 ≤ homes → target_formed slots target ≡ true → expr_formed slots e ≡ true → FIRST + need e ≤ homes → target_least target ≤ homes
+    → Low tops top count (write_code homes mask target e)
+write_low tops homes slots top count mask target e most le within some formed value free least = by target formed least
   where
-    by : (b : Bool) → in_register homes slot ≡ b → is_low count (if b then AluImm imm.Add (homes + slot) rs 0 else Store mem.S store.Word 0 rs slot) ≡ true
-    by true is = refl
-    by false is = rw (lt-ltb slot count (out is)) refl
+    stored : (target : PlainSpTarget) → target_formed slots target ≡ true → target_least target ≤ homes → Low tops top count (joined (expr_code homes e FIRST) (target_write homes mask target))
+    stored target formed least =
+        low_joined tops top count (expr_code homes e FIRST) (target_write homes mask target) (own_low tops homes slots top count e FIRST most (omega arith) value free (omega (arith, within)))
+        (target_low tops homes slots top count mask target most le within some formed least)
 
-slot_low : (homes : ℕ) (count slot : ℕ) → slot < count → Low count (slot_set homes slot)
-slot_low homes count slot lt = rw (set_low count homes slot FIRST lt) refl
+    by : (target : PlainSpTarget) → target_formed slots target ≡ true → target_least target ≤ homes → Low tops top count (write_code homes mask target e)
+    by (to_slot slot) formed least =
+        slot_write_is (Low tops top count) homes mask slot e (stored (to_slot slot) formed least)
+        (λ op lt gives. guarded_low tops homes slots top count mask slot e op most (omega (arith, within)) lt (omega (arith, within, ltb-true slot slots formed)) value free gives)
+    by (to_cell cell) formed least = stored (to_cell cell) formed least
+    by (to_array array index) formed least = stored (to_array array index) formed least
 
-slot_write_low : (homes : ℕ) (count mask slot : ℕ) → slot < count → AreLow count (slot_write homes mask slot)
-slot_write_low homes count mask slot lt = rw (fetch_low count homes mask, set_low count homes slot FIRST lt) refl
+outside_more : (top higher rd : ℕ) → top ≤ higher → is_outside top rd ≡ true → is_outside higher rd ≡ true
+outside_more top higher rd le out = by (or_cases (nat_lt rd top) (nat_le OVERRUN rd) out)
+  where
+    by : (nat_lt rd top ≡ true) ⊎ (nat_le OVERRUN rd ≡ true) → is_outside higher rd ≡ true
+    by (inl before) = outside_low higher rd (omega (arith, le, ltb-true rd top before))
+    by (inr past) = or_right (nat_lt rd higher) (nat_le OVERRUN rd) past
 
-cell_write_low : (homes : ℕ) (count mask : ℕ) (r : Region) (word : ℕ) → AreLow count (cell_write homes mask (record { region = r; word = word }))
-cell_write_low homes count mask r word =
-    let read = fetch_low count homes mask in
-    let address = number_low count SPARE (address_of r word) in
-    grind (arith, read, address)
+-- ---- more words, and a later register
 
-element_write_low : (homes : ℕ) (count mask : ℕ) (r : Region) (first length : ℕ) → AreLow count (element_write homes mask (record { region = r; first = first; length = length }))
-element_write_low homes count mask r first length =
-    let read = fetch_low count homes mask in
-    let size = number_low count SPARE length in
-    let address = number_low count SPARE (address_of r first) in
-    grind (arith, read, size, address)
+op_more : (top higher count more : ℕ) → top ≤ higher → count ≤ more → (op : Op) → is_low top count op ≡ true → is_low higher more op ≡ true
+op_more top higher count more le fewer (AluImm func rd ra imm) low = outside_more top higher rd le low
+op_more top higher count more le fewer (AluReg func rd ra rb) low = outside_more top higher rd le low
+op_more top higher count more le fewer (AluLong func rd ra constant) low = outside_more top higher rd le low
+op_more top higher count more le fewer (FromSpecial rd special) low = outside_more top higher rd le low
+op_more top higher count more le fewer (Load space load.Word rd ra imm) low = outside_more top higher rd le low
+op_more top higher count more le fewer (Load space load.Half rd ra imm) low = low
+op_more top higher count more le fewer (Load space load.Byte rd ra imm) low = low
+op_more top higher count more le fewer (Load space load.HalfUnsigned rd ra imm) low = low
+op_more top higher count more le fewer (Load space load.ByteUnsigned rd ra imm) low = low
+op_more top higher count more le fewer (Store mem.S store.Word ra rs imm) low =
+    let both = and_parts (ra == 0) (nat_lt imm count) low in
+    and_from (ra == 0) (nat_lt imm more) both.0 (lt-ltb imm more (omega (arith, fewer, ltb-true imm count both.1)))
+op_more top higher count more le fewer (Store mem.S store.Half ra rs imm) low = low
+op_more top higher count more le fewer (Store mem.S store.Byte ra rs imm) low = low
+op_more top higher count more le fewer (Store mem.L width ra rs imm) low = refl
+op_more top higher count more le fewer (Store mem.C width ra rs imm) low = refl
+op_more top higher count more le fewer (Store mem.M width ra rs imm) low = refl
+op_more top higher count more le fewer (Stack Sres n) low = low
+op_more top higher count more le fewer (Stack Sens n) low = refl
+op_more top higher count more le fewer (Stack Sfree n) low = low
+op_more top higher count more le fewer _ low = refl
 
-target_low : (homes : ℕ) (count slots mask : ℕ) (target : PlainSpTarget) → slots ≤ count → target_formed slots target ≡ true → Low count (target_write homes mask target)
-target_low homes count slots mask (to_slot slot) le formed = each_lone (passes count) (slot_write homes mask slot) (slot_write_low homes count mask slot (omega (arith, le, ltb-true slot slots formed)))
-target_low homes count slots mask (to_cell cell) le formed = each_lone (passes count) (cell_write homes mask cell) (cell_write_low homes count mask cell.region cell.word)
-target_low homes count slots mask (to_array array index) le formed =
-    both count (expr_code homes index (FIRST + 1)) (one (straight (element_write homes mask array))) (expr_low homes count index (FIRST + 1) (FIRST + 1))
-    (each_lone (passes count) (element_write homes mask array) (element_write_low homes count mask array.region array.first array.length))
-
-call_low : (homes : ℕ) (count slots frame mask k : ℕ) (result : Option ℕ) → slots ≤ count → result_formed slots result ≡ true → Low count (call_code homes frame mask k result)
-call_low homes count slots frame mask k None le formed = rw (read_low count homes MASK mask) refl
-call_low homes count slots frame mask k (Some slot) le formed = rw (read_low count homes MASK mask, fetch_low count homes mask, set_low count homes slot RESULT (omega (arith, le, ltb-true slot slots formed))) refl
-
-pub iterations_begin_low : (count counter n : ℕ) → counter < count → AreLow count (iterations_begin counter n)
-iterations_begin_low count counter n lt = rw (lt-ltb counter count lt) refl
-
-pub iterations_tail_low : (count counter : ℕ) → counter < count → AreLow count (iterations_tail counter)
-iterations_tail_low count counter lt = rw (lt-ltb counter count lt) refl
+bundle_more : (top higher count more : ℕ) → top ≤ higher → count ≤ more → (b : Slots) → passes top count b ≡ true → passes higher more b ≡ true
+bundle_more top higher count more le fewer b low =
+    let both = and_parts (is_low top count b.first.op) (is_none b.second) low in
+    and_from (is_low higher more b.first.op) (is_none b.second) (op_more top higher count more le fewer b.first.op both.0) both.1
 
 mutual
-  pub stmt_low : (homes : ℕ) (fs : List PlainFunction) (number slots frame counter : ℕ) (t : PlainStmt) → 1 ≤ slots → slots + stmt_levels t ≤ counter + 1 → stmt_formed fs number slots t ≡ true → Low (counter + 1) (stmt_code homes frame counter t)
-  stmt_low homes fs number slots frame counter (masks slot e) some levels formed =
+  part_more : (tops : List ℕ) (top higher count more : ℕ) → top ≤ higher → count ≤ more → (p : PlainPart) → part_passes tops top count p ≡ true → part_passes tops higher more p ≡ true
+  part_more tops top higher count more le fewer (straight bs) low = all_weaker (passes top count) (passes higher more) (bundle_more top higher count more le fewer) bs low
+  part_more tops top higher count more le fewer (repeats n body tail) low =
+      let both = and_parts (parts_pass tops top count body) (list_all (passes top count) tail) low in
+      and_from (parts_pass tops higher more body) (list_all (passes higher more) tail) (low_more tops top higher count more body le fewer both.0) (all_weaker (passes top count) (passes higher more) (bundle_more top higher count more le fewer) tail both.1)
+  part_more tops top higher count more le fewer (calls_to k tail) low =
+      let both = and_parts (nat_le (slice_index_or tops k 0) top) (list_all (passes top count) tail) low in
+      and_from (nat_le (slice_index_or tops k 0) higher) (list_all (passes higher more) tail) (le-leb (slice_index_or tops k 0) higher (omega (arith, le, leb-true (slice_index_or tops k 0) top both.0)))
+      (all_weaker (passes top count) (passes higher more) (bundle_more top higher count more le fewer) tail both.1)
+  part_more tops top higher count more le fewer (leaves tail) low = absurd (true≢false (sym low))
+
+  pub low_more : (tops : List ℕ) (top higher count more : ℕ) (parts : PlainParts) → top ≤ higher → count ≤ more → Low tops top count parts → Low tops higher more parts
+  low_more tops top higher count more no_part le fewer low = refl
+  low_more tops top higher count more (part p rest) le fewer low =
+      let both = and_parts (part_passes tops top count p) (parts_pass tops top count rest) low in
+      and_from (part_passes tops higher more p) (parts_pass tops higher more rest) (part_more tops top higher count more le fewer p both.0) (low_more tops top higher count more rest le fewer both.1)
+
+-- ---- statements of a function whose window begins after all registers that its code uses
+
+pub record IsHomed (homes : ℕ) (fs : List PlainFunction) (number slots : ℕ) : Type 0 where
+  pub earlier : functions_formed fs number ≡ true
+  pub some : 1 ≤ slots
+  pub most : slots ≤ 128
+  pub own : FIRST ≤ homes
+
+pub few_args : (fs : List PlainFunction) (number k count : ℕ) → functions_formed fs number ≡ true → callee_formed fs number k count ≡ true → FIRST + count ≤ 10
+few_args fs number k count earlier formed =
+    let callee = slice_index_or fs k no_function in
+    let c = and_parts (nat_lt k number) (count == callee.parameters) formed in
+    omega (arith, few_arguments fs k number (ltb-true k number c.0) earlier, eqb-true count callee.parameters c.1)
+
+mutual
+  pub stmt_low : (tops : List ℕ) (homes : ℕ) (fs : List PlainFunction) (number slots frame counter : ℕ) (t : PlainStmt) → IsHomed homes fs number slots → slots + stmt_levels t ≤ counter + 1 → stmt_formed fs number slots t ≡ true → stmt_least tops t ≤ homes
+      → Low tops (homes + (counter + 1)) (counter + 1) (stmt_code homes frame counter t)
+  stmt_low tops homes fs number slots frame counter (masks slot e) h levels formed free =
       let parts = and_parts (nat_lt slot slots) (expr_formed slots e) formed in
-      mask_is (Low (counter + 1)) homes slot e (λ here. expr_low homes (counter + 1) e FIRST (homes + slot))
-      (λ there. both (counter + 1) (expr_code homes e FIRST) (slot_set homes slot) (expr_low homes (counter + 1) e FIRST FIRST) (slot_low homes (counter + 1) slot (omega (arith, levels, ltb-true slot slots parts.0))))
-  stmt_low homes fs number slots frame counter (writes mask target e) some levels formed =
+      let named = ltb-true slot slots parts.0 in
+      let top = homes + (counter + 1) in
+      let low = counter + 1 in
+      mask_is (Low tops top low) homes slot e
+      (λ here. expr_low tops homes top low e FIRST (homes + slot) (formed_fits slots e FIRST h.most (omega arith) parts.1) free (omega arith) (ltb-true (homes + slot) OVERRUN here) (omega (arith, named, levels)))
+      (λ there. low_joined tops top low (expr_code homes e FIRST) (slot_set homes slot) (own_low tops homes slots top low e FIRST h.most (omega arith) parts.1 free (omega arith))
+      (low_lone tops top low (set_word homes always slot FIRST ∷ []) (rw (set_low top low homes always slot FIRST (omega (arith, named, levels)) (omega (arith, named, levels))) refl)))
+  stmt_low tops homes fs number slots frame counter (writes mask target e) h levels formed free =
       let parts = and_parts (nat_lt mask slots) (target_formed slots target && expr_formed slots e) formed in
       let targets = and_parts (target_formed slots target) (expr_formed slots e) parts.1 in
+      let top = homes + (counter + 1) in
       let low = counter + 1 in
-      write_is (Low low) homes mask target e (both low (expr_code homes e FIRST) (target_write homes mask target) (expr_low homes low e FIRST FIRST) (target_low homes low slots mask target (omega (arith, levels)) targets.0))
-      (λ slot op is gives. guarded_each (passes low) homes mask e op (each_so is_quiet (passes low) (low_quiet low) (operands_code homes e FIRST) (operands_quiet homes e FIRST)) (fetch_low low homes mask) refl (low_quiet low (under (where_so TEST) op) (alu_quiet (where_so TEST) op gives.alu)))
-  stmt_low homes fs number slots frame counter (calls mask k args result) some levels formed =
+      write_low tops homes slots top low mask target e h.most (omega (arith, levels)) (omega (arith, levels)) (omega (arith, h.own)) targets.0 targets.1 (omega (arith, free)) (omega (arith, free))
+  stmt_low tops homes fs number slots frame counter (calls mask k args result) h levels formed free =
       let a = and_parts (nat_lt mask slots) (callee_formed fs number k (length args) && (args_formed slots args && result_formed slots result)) formed in
       let b = and_parts (callee_formed fs number k (length args)) (args_formed slots args && result_formed slots result) a.1 in
       let c = and_parts (args_formed slots args) (result_formed slots result) b.1 in
-      both (counter + 1) (args_code homes args FIRST) (call_code homes frame mask k result) (args_low homes (counter + 1) args FIRST) (call_low homes (counter + 1) slots frame mask k result (omega (arith, levels)) c.1)
-  stmt_low homes fs number slots frame counter (transfers mask core source target count) some levels formed =
+      let top = homes + (counter + 1) in
+      low_joined tops top (counter + 1) (args_code homes args FIRST) (call_code homes frame mask k result)
+      (args_low tops homes slots top (counter + 1) args FIRST h.most (few_args fs number k (length args) h.earlier b.0) c.0 (omega (arith, free)) (omega arith))
+      (call_low tops homes slots top (counter + 1) frame mask k result (omega (arith, levels)) (omega (arith, levels)) h.own (omega (arith, free)) c.1)
+  stmt_low tops homes fs number slots frame counter (transfers mask core source target count) h levels formed free =
+      let parts = and_parts (nat_lt mask slots) (send_formed slots core source target count) formed in
+      let send = and_parts (nat_lt core 16) (expr_formed slots source && (expr_formed slots target && expr_formed slots count)) parts.1 in
+      let first = and_parts (expr_formed slots source) (expr_formed slots target && expr_formed slots count) send.1 in
+      let rest = and_parts (expr_formed slots target) (expr_formed slots count) first.1 in
+      let top = homes + (counter + 1) in
       let low = counter + 1 in
       let sent = one (straight (send_code homes mask core)) in
-      both low (expr_code homes source FIRST) (joined (expr_code homes target (FIRST + 1)) (joined (expr_code homes count (FIRST + 2)) sent)) (expr_low homes low source FIRST FIRST)
-      (both low (expr_code homes target (FIRST + 1)) (joined (expr_code homes count (FIRST + 2)) sent) (expr_low homes low target (FIRST + 1) (FIRST + 1)) (both low (expr_code homes count (FIRST + 2)) sent (expr_low homes low count (FIRST + 2) (FIRST + 2)) (rw (fetch_low low homes mask) refl)))
-  stmt_low homes fs number slots frame counter (overruns mask e) some levels formed =
-      both (counter + 1) (expr_code homes e FIRST) (one (straight (overrun_code homes mask))) (expr_low homes (counter + 1) e FIRST FIRST) (rw (fetch_low (counter + 1) homes mask) refl)
-  stmt_low homes fs number slots frame counter (iterations count body) some levels formed =
+      low_joined tops top low (expr_code homes source FIRST) (joined (expr_code homes target (FIRST + 1)) (joined (expr_code homes count (FIRST + 2)) sent)) (own_low tops homes slots top low source FIRST h.most (omega arith) first.0 (omega (arith, free)) (omega arith))
+      (low_joined tops top low (expr_code homes target (FIRST + 1)) (joined (expr_code homes count (FIRST + 2)) sent) (own_low tops homes slots top low target (FIRST + 1) h.most (omega arith) rest.0 (omega (arith, free)) (omega arith))
+      (low_joined tops top low (expr_code homes count (FIRST + 2)) sent (own_low tops homes slots top low count (FIRST + 2) h.most (omega arith) rest.1 (omega (arith, free)) (omega arith))
+      (low_lone tops top low (send_code homes mask core) (send_low top low homes mask core (omega (arith, free))))))
+  stmt_low tops homes fs number slots frame counter (overruns mask e) h levels formed free =
+      let parts = and_parts (nat_lt mask slots) (expr_formed slots e) formed in
+      let top = homes + (counter + 1) in
+      low_joined tops top (counter + 1) (expr_code homes e FIRST) (one (straight (overrun_code homes mask))) (own_low tops homes slots top (counter + 1) e FIRST h.most (omega arith) parts.1 free (omega arith))
+      (low_lone tops top (counter + 1) (overrun_code homes mask) (overrun_low top (counter + 1) homes mask (omega arith)))
+  stmt_low tops homes fs number slots frame counter (iterations count body) h levels formed free =
       let parts = and_parts (nat_lt 0 count) (stmts_formed fs number slots body) formed in
-      let inner = stmts_low homes fs number slots frame (counter - 1) body some (omega (arith, levels, some)) parts.1 in
+      let code = stmts_code homes frame (counter - 1) body in
+      let top = homes + (counter + 1) in
       let low = counter + 1 in
-      let within : Low low (stmts_code homes frame (counter - 1) body) = low_all_more (counter - 1 + 1) low (stmts_code homes frame (counter - 1) body) (omega (arith, levels, some)) inner in
-      both low (one (straight (iterations_begin counter count))) (one (repeats count (stmts_code homes frame (counter - 1) body) (iterations_tail counter))) (each_lone (passes low) (iterations_begin counter count) (iterations_begin_low low counter count (omega arith)))
-      (and_from _ true (and_from (parts_all (passes low) (stmts_code homes frame (counter - 1) body)) (list_all (passes low) (iterations_tail counter)) within (iterations_tail_low low counter (omega arith))) refl)
+      let inner = stmts_low tops homes fs number slots frame (counter - 1) body h (omega (arith, levels, h.some)) parts.1 (omega (arith, free)) in
+      let within : Low tops top low code = low_more tops (homes + (counter - 1 + 1)) top (counter - 1 + 1) low code (omega arith) (omega (arith, levels, h.some)) inner in
+      low_joined tops top low (one (straight (iterations_begin homes counter count))) (one (repeats count code (iterations_tail homes counter)))
+      (low_lone tops top low (iterations_begin homes counter count) (iterations_begin_low top low homes counter count (omega arith) (omega arith) (omega arith)))
+      (and_from _ true (and_from (parts_pass tops top low code) (list_all (passes top low) (iterations_tail homes counter)) within (iterations_tail_low top low homes counter (omega arith) (omega arith) (omega arith))) refl)
 
-  pub stmts_low : (homes : ℕ) (fs : List PlainFunction) (number slots frame counter : ℕ) (ts : PlainStmts) → 1 ≤ slots → slots + stmts_levels ts ≤ counter + 1 → stmts_formed fs number slots ts ≡ true → Low (counter + 1) (stmts_code homes frame counter ts)
-  stmts_low homes fs number slots frame counter no_stmt some levels formed = refl
-  stmts_low homes fs number slots frame counter (stmt t rest) some levels formed =
+  pub stmts_low : (tops : List ℕ) (homes : ℕ) (fs : List PlainFunction) (number slots frame counter : ℕ) (ts : PlainStmts) → IsHomed homes fs number slots → slots + stmts_levels ts ≤ counter + 1 → stmts_formed fs number slots ts ≡ true → stmts_least tops ts ≤ homes
+      → Low tops (homes + (counter + 1)) (counter + 1) (stmts_code homes frame counter ts)
+  stmts_low tops homes fs number slots frame counter no_stmt h levels formed free = refl
+  stmts_low tops homes fs number slots frame counter (stmt t rest) h levels formed free =
       let parts = and_parts (stmt_formed fs number slots t) (stmts_formed fs number slots rest) formed in
-      both (counter + 1) (stmt_code homes frame counter t) (stmts_code homes frame counter rest) (stmt_low homes fs number slots frame counter t some (omega (arith, levels)) parts.0)
-      (stmts_low homes fs number slots frame counter rest some (omega (arith, levels)) parts.1)
+      low_joined tops (homes + (counter + 1)) (counter + 1) (stmt_code homes frame counter t) (stmts_code homes frame counter rest) (stmt_low tops homes fs number slots frame counter t h (omega (arith, levels)) parts.0 (omega (arith, free)))
+      (stmts_low tops homes fs number slots frame counter rest h (omega (arith, levels)) parts.1 (omega (arith, free)))

@@ -27,6 +27,7 @@ use Rattle.sp_emit.proofs.WordPlaces.{with_word, Sets, fetch_is, fetch_leaves, d
 use Rattle.sp_emit.proofs.Once.{so, so_got, did_nothing}
 use Rattle.sp_emit.proofs.Frames.{put_same, put_other, put_word}
 use Rattle.sp_emit.proofs.Lasts.{Gives, alu_on, slot_write_is}
+use Rattle.sp_emit.proofs.Passing.{kept_all, keeps_then}
 use Rattle.sp_emit.proofs.Operands.{mask_is}
 use Rattle.sp_emit.proofs.Values.{behind, worked, fits_of, shows_still, worked_keeps, value_keeps, expr_keeps, run_joined, value_sent, value_left, value_small}
 
@@ -49,15 +50,15 @@ follows_set homes slots slot v s m t word set x = record {
 pub follows_slot : (homes : ℕ) (slots slot v : ℕ) (s : State) (m : Run) → 1 ≤ homes → v < 2 ^ 32 → Follows homes slots s m → Follows homes slots (with_slot slot v s) (with_word homes slot v m)
 follows_slot homes slots slot v s m some word x = follows_set homes slots slot v s m (with_word homes slot v m) word (sets_word homes slot v m some x.whole) x
 
-keeps_set : {most slot v : ℕ} {m t : Run} (homes slots count : ℕ) → 1 ≤ homes → OVERRUN ≤ most → slot < slots → slot < count → Sets most homes slot v m t → KeepsBehind (homes + slots) count m t
-keeps_set homes slots count some least inside named set = record {
+pub keeps_set : {most slot v : ℕ} {m t : Run} (homes count : ℕ) → 1 ≤ homes → OVERRUN ≤ most → slot < count → Sets most homes slot v m t → KeepsBehind (homes + count) count m t
+keeps_set homes count some least named set = record {
   st = set.st;
   stack = λ a above. set.stack a (λ out is. absurd (omega (arith, is, above, named)));
-  high = λ r at lt. set.regs r (omega (arith, at, some)) (omega (arith, lt, least)) (λ is. absurd (omega (arith, is, at, inside)));
+  high = λ r at lt. set.regs r (omega (arith, at, some)) (omega (arith, lt, least)) (λ is. absurd (omega (arith, is, at, named)));
 }
 
-pub keeps_slot : (homes slots : ℕ) (count slot v : ℕ) (m : Run) → 1 ≤ homes → IsWhole m → slot < slots → slot < count → KeepsBehind (homes + slots) count m (with_word homes slot v m)
-keeps_slot homes slots count slot v m some whole inside named = keeps_set homes slots count some (omega arith) inside named (sets_word homes slot v m some whole)
+pub keeps_slot : (homes count slot v : ℕ) (m : Run) → 1 ≤ homes → IsWhole m → slot < count → KeepsBehind (homes + count) count m (with_word homes slot v m)
+keeps_slot homes count slot v m some whole named = keeps_set homes count some (omega arith) named (sets_word homes slot v m some whole)
 
 -- code of values leaves the run where the state is
 pub follows_still : {homes : ℕ} {slots rd : ℕ} {s : State} {m t : Run} → Keeps rd homes m t → Follows homes slots s m → Follows homes slots s t
@@ -68,17 +69,14 @@ follows_still {homes} {slots} {rd} {s} {m} {t} keeps x = record {
   flag = keeps.flag ∙ x.flag;
 }
 
-pub behind_still : {homes : ℕ} {rd : ℕ} {m t : Run} (slots count : ℕ) → Keeps rd homes m t → KeepsBehind (homes + slots) count m t
-behind_still slots count keeps = record { st = keeps.st; stack = λ a above. ap (λ words. words a) keeps.stack; high = λ r at lt. keeps.high r (omega (arith, at)) lt }
-
-pub stays_behind : (top count : ℕ) (m : Run) → KeepsBehind top count m m
-stays_behind top count m = record { st = refl; stack = λ a above. refl; high = λ r at lt. refl }
+pub behind_still : {homes : ℕ} {rd : ℕ} {m t : Run} (count : ℕ) → Keeps rd homes m t → KeepsBehind (homes + count) count m t
+behind_still count keeps = record { st = keeps.st; stack = λ a above. ap (λ words. words a) keeps.stack; high = λ r at lt. keeps.high r (omega (arith, at)) lt }
 
 -- ---- what a statement leaves
 
 pub record Done (homes : ℕ) (slots count : ℕ) (s : State) (m t : Run) : Type 0 where
   pub follows : Follows homes slots s t
-  pub keeps : KeepsBehind (homes + slots) count m t
+  pub keeps : KeepsBehind (homes + count) count m t
 
 -- an expression of a statement is ready from a register on
 pub ready : (homes : ℕ) (slots rd : ℕ) (e : PlainSp) (s : State) (m : Run) → 1 ≤ rd → rd ≤ 9 → rd + need e ≤ homes → slots ≤ 128 → expr_formed slots e ≡ true → HasWordConstants e → Follows homes slots s m → IsReady homes slots e rd s m
@@ -96,21 +94,14 @@ ready homes slots rd e s m some few free most formed constants x =
       shows = x.shows;
     }
 
-pub keeps_then : {top count : ℕ} {m n t : Run} → KeepsBehind top count m n → KeepsBehind top count n t → KeepsBehind top count m t
-keeps_then {top} {count} {m} {n} {t} a b = record {
-  st = b.st ∙ a.st;
-  stack = λ at above. b.stack at (subst (λ st. st + count ≤ at) (sym a.st) above) ∙ a.stack at above;
-  high = λ r at lt. b.high r at lt ∙ a.high r at lt;
-}
-
 -- a value that goes straight to the register of a word, after code of values
-straight_done : (homes slots count slot v : ℕ) (s : State) (m n t : Run) → 1 ≤ homes → slot < slots → slot < count → homes + slot < OVERRUN → v < 2 ^ 32 → Keeps FIRST homes m n → Keeps (homes + slot) (homes + slot + 1) n t → held (homes + slot) t ≡ v
+straight_done : (homes slots count slot v : ℕ) (s : State) (m n t : Run) → 1 ≤ homes → slot < count → homes + slot < OVERRUN → v < 2 ^ 32 → Keeps FIRST homes m n → Keeps (homes + slot) (homes + slot + 1) n t → held (homes + slot) t ≡ v
     → Follows homes slots s m → Done homes slots count (with_slot slot v s) m t
-straight_done homes slots count slot v s m n t some inside named lt word before last is x =
+straight_done homes slots count slot v s m n t some named lt word before last is x =
     let set = sets_straight homes slot v n t lt last is in
     record {
       follows = follows_set homes slots slot v s n t word set (follows_still before x);
-      keeps = keeps_then (behind_still slots count before) (keeps_set homes slots count some (omega arith) inside named set);
+      keeps = keeps_then (behind_still count before) (keeps_set homes count some (omega arith) named set);
     }
 
 -- a mask, set whatever it was
@@ -129,7 +120,7 @@ mask_done homes f frame counter slots slot e s m most fits named formed constant
     here lt =
         let n = worked homes f e FIRST m in
         subst (Done homes slots (counter + 1) (with_slot slot (worth e s) s) m) (sym (run_joined by_words f (operands_code homes e FIRST) (value_code homes e FIRST (homes + slot)) m))
-        (straight_done homes slots (counter + 1) slot (worth e s) s m n (run by_words (parts_trail f (value_code homes e FIRST (homes + slot))) n) some named (omega (arith, named, fits)) lt (value_small e r)
+        (straight_done homes slots (counter + 1) slot (worth e s) s m n (run by_words (parts_trail f (value_code homes e FIRST (homes + slot))) n) some (omega (arith, named, fits)) lt (value_small e r)
         (worked_keeps f e r) (value_keeps homes by_words f e FIRST (homes + slot) n lt (worked_keeps f e r).whole) (value_sent f e r n (keeps_all SPARE homes n (worked_keeps f e r).whole) (homes + slot) (omega (arith, some)) lt) x)
 
     there : Done homes slots (counter + 1) (with_slot slot (worth e s) s) m (run by_words (parts_trail f (joined (expr_code homes e FIRST) (slot_set homes slot))) m)
@@ -139,7 +130,7 @@ mask_done homes f frame counter slots slot e s m most fits named formed constant
         let steps = run_joined by_words f (expr_code homes e FIRST) (slot_set homes slot) m ∙ did_set_word by_words homes always slot FIRST (worth e s) n keeps.whole keeps.whole.fits.always (omega (arith, named, most)) (value_left f e r) (value_small e r) in
         subst (Done homes slots (counter + 1) (with_slot slot (worth e s) s) m) (sym steps) (record {
           follows = follows_slot homes slots slot (worth e s) s n some (value_small e r) (follows_still keeps x);
-          keeps = keeps_then (behind_still slots (counter + 1) keeps) (keeps_slot homes slots (counter + 1) slot (worth e s) n some keeps.whole named (omega (arith, named, fits)));
+          keeps = keeps_then (behind_still (counter + 1) keeps) (keeps_slot homes (counter + 1) slot (worth e s) n some keeps.whole (omega (arith, named, fits)));
         })
 
 -- ---- what is done where a mask is 1
@@ -175,10 +166,10 @@ pub slot_where : (homes : ℕ) (slots count slot rs v : ℕ) (s : State) (r : Ru
 slot_where homes slots count slot rs v s r true some most named fits word x is on =
     subst (Done homes slots count (with_slot slot v s) r) (sym (did_set_word by_words homes (where_so TEST) slot rs v r x.whole on (omega (arith, named, most)) is word)) (record {
       follows = follows_slot homes slots slot v s r some word x;
-      keeps = keeps_slot homes slots count slot v r some x.whole named (omega (arith, named, fits));
+      keeps = keeps_slot homes count slot v r some x.whole (omega (arith, named, fits));
     })
 slot_where homes slots count slot rs v s r false some most named fits word x is off =
-    subst (Done homes slots count s r) (sym (set_off by_words homes (where_so TEST) slot rs r x.whole off)) (record { follows = x; keeps = stays_behind (homes + slots) count r })
+    subst (Done homes slots count s r) (sym (set_off by_words homes (where_so TEST) slot rs r x.whole off)) (record { follows = x; keeps = kept_all (homes + count) count r })
 
 -- so is the last instruction of a value, which sets the register of the word
 guarded_done : (homes : ℕ) (f : ℕ → List Step) (slots count slot : ℕ) (e : PlainSp) (op : Op) (s : State) (m u : Run) (on : Bool) → IsReady homes slots e FIRST s m → slot < slots → slots ≤ count → homes + slot < OVERRUN → Gives (value_code homes e FIRST (homes + slot)) op
@@ -188,11 +179,11 @@ guarded_done homes f slots count slot e op s m u true r named fits lt gives keep
     let t = run by_words (parts_trail f (value_code homes e FIRST (homes + slot))) u in
     let steps : once by_words (under (where_so TEST) op) u ≡ t = alu_on by_words (where_so TEST) op u gives.alu keeps.whole on ∙ ap (λ ps. run by_words (parts_trail f ps) u) (sym gives.is) in
     subst (Done homes slots count (with_slot slot (worth e s) s) m) (sym steps)
-    (straight_done homes slots count slot (worth e s) s m u t some named (omega (arith, named, fits)) lt (value_small e r) (keeps_both (worked_keeps f e r) (keeps_fewer FIRST (omega arith) keeps)) (value_keeps homes by_words f e FIRST (homes + slot) u lt keeps.whole)
+    (straight_done homes slots count slot (worth e s) s m u t some (omega (arith, named, fits)) lt (value_small e r) (keeps_both (worked_keeps f e r) (keeps_fewer FIRST (omega arith) keeps)) (value_keeps homes by_words f e FIRST (homes + slot) u lt keeps.whole)
     (value_sent f e r u keeps (homes + slot) (omega (arith, some)) lt) x)
 guarded_done homes f slots count slot e op s m u false r named fits lt gives keeps off x =
     let before = keeps_both (worked_keeps f e r) (keeps_fewer FIRST (omega arith) keeps) in
-    subst (Done homes slots count s m) (sym (did_nothing by_words (where_so TEST) op u keeps.whole off)) (record { follows = follows_still before x; keeps = behind_still slots count before })
+    subst (Done homes slots count s m) (sym (did_nothing by_words (where_so TEST) op u keeps.whole off)) (record { follows = follows_still before x; keeps = behind_still count before })
 
 -- a value that is set in a word of the frame
 pub slot_done : (homes : ℕ) (f : ℕ → List Step) (frame counter slots mask slot : ℕ) (e : PlainSp) (s : State) (m : Run) → slots ≤ 128 → slots ≤ counter + 1 → mask < slots → slot < slots → expr_formed slots e ≡ true → HasWordConstants e → FIRST + need e ≤ homes
@@ -221,5 +212,5 @@ slot_done homes f frame counter slots mask slot e s m most fits masked named for
         let done = slot_where homes slots (counter + 1) slot FIRST (worth e s) s u (s.frame mask == 1) (omega (arith, free)) most named fits (value_small e r) (follows_still t.keeps y) (t.keeps.low FIRST (omega arith) ∙ value_left f e r) t.test in
         subst (Done homes slots (counter + 1) (where_on mask (write_done (to_slot slot) e) s) m) (sym (run_joined by_words f (expr_code homes e FIRST) (target_write homes mask (to_slot slot)) m)) (record {
           follows = done.follows;
-          keeps = keeps_then (behind_still slots (counter + 1) keeps) (keeps_then (behind_still slots (counter + 1) t.keeps) done.keeps);
+          keeps = keeps_then (behind_still (counter + 1) keeps) (keeps_then (behind_still (counter + 1) t.keeps) done.keeps);
         })

@@ -1,6 +1,7 @@
 -- What a bundle of one instruction leaves that is read at once.
-use Rattle.std.proofs.Common.{◌≡◌, ℕ, ℤ, zero, suc, ◌<◌, ◌≤◌, Bool, true, false, if◌then◌else◌, [], ◌∷◌, ◌++◌, length, refl, sym, ap, ◌∙◌, arith, eq-eqb, ne_eqb}
+use Rattle.std.proofs.Common.{◌≡◌, ℕ, ℤ, zero, suc, ◌<◌, ◌≤◌, Bool, true, false, true≢false, if◌then◌else◌, [], ◌∷◌, ◌++◌, length, refl, sym, ap, ◌∙◌, arith, eq-eqb, ne_eqb}
 use Rattle.patmos_instr.specs.declared.guards.Guard.{Guard}
+use Rattle.patmos_instr.specs.declared.functions.StackFunc.TheVariants.{Sres, Sens, Sfree}
 use Rattle.patmos_instr.specs.declared.instructions.Op.{Op}
 use Rattle.patmos_instr.specs.declared.instructions.Op.TheVariants.{Mul, Load, Branch}
 use Rattle.patmos_instr.specs.declared.memories.Mem.{Mem}
@@ -10,6 +11,8 @@ use Rattle.patmos_sem.specs.Bundles.{arrived}
 use Rattle.patmos_sem.specs.Effects.{address_of, write_of, begun, asked}
 use Rattle.patmos_sem.specs.Registers.{Registers, FitsRegisters, pred_in, holds}
 use Rattle.patmos_sem.specs.Writes.{after_writes, came, register_after, pred_after}
+use Rattle.patmos_instr.specs.declared.specials.WritableSpecial.{WritableSpecial}
+use Rattle.patmos_sem.specs.declared.effects.Effect.{Effect}
 use Rattle.patmos_sem.specs.declared.effects.Effect.TheVariants as effect
 use Rattle.patmos_sem.specs.declared.pending.Pending.{Pending}
 use Rattle.patmos_sem.specs.declared.pending.Pending.TheVariants as pending
@@ -105,6 +108,36 @@ did_branch from g offset m whole on =
     ∙ ap (λ h. with_regs (record m { ways = m.ways ++ branches ∷ [] }) (settled (slot_behind h (Branch offset) m))) on
     ∙ ap (with_regs (record m { ways = m.ways ++ branches ∷ [] })) (behind_slot write.Nothing pending.Nothing m.regs whole.pending ∙ unchanged m.regs whole.fits whole.pending)
 
+-- what writes no register and loads nothing leaves them all
+abbrev pub is_load : Effect → Bool
+is_load (effect.Load space width rd address) = true
+is_load _ = false
+
+regs_asked : (from : Sources) (e : Effect) (m : Run) (regs : Registers) → is_load e ≡ false → (effected from e (with_regs m regs)).regs ≡ regs
+unfolding with_regs
+regs_asked from effect.Nothing m regs other = refl
+regs_asked from (effect.Load space width rd address) m regs other = absurd (true≢false other)
+regs_asked from (effect.Store mem.S width address value) m regs other = refl
+regs_asked from (effect.Store mem.L width address value) m regs other = refl
+regs_asked from (effect.Store mem.C width address value) m regs other = refl
+regs_asked from (effect.Store mem.M width address value) m regs other = refl
+regs_asked from (effect.StackOp Sres count) m regs other = refl
+regs_asked from (effect.StackOp Sens count) m regs other = refl
+regs_asked from (effect.StackOp Sfree count) m regs other = refl
+regs_asked from (effect.Flow kind) m regs other = refl
+
+pub regs_stay : (from : Sources) (g : Guard) (op : Op) (m : Run) → IsWhole m → holds m.regs g ≡ true → is_load (asked m.regs op) ≡ false → begun m.regs op ≡ pending.Nothing → write_of m.st m.ss m.regs op ≡ write.Nothing
+    → (once from (under g op) m).regs ≡ m.regs
+unfolding slot_behind with_regs
+regs_stay from g op m whole on other nothing none =
+    ap (λ e. settled (effected from e (with_regs m (slot_behind (holds m.regs g) op m))).regs) (ap (λ h. if h then asked m.regs op else effect.Nothing) on)
+    ∙ ap (λ h. settled (effected from (asked m.regs op) (with_regs m (slot_behind h op m))).regs) on
+    ∙ ap settled (regs_asked from (asked m.regs op) m (slot_behind true op m) other)
+    ∙ behind_slot (write_of m.st m.ss m.regs op) (begun m.regs op) m.regs whole.pending
+    ∙ ap (λ w. at_rest (after_writes (w ∷ came (begun m.regs op) ∷ []) m.regs)) none
+    ∙ ap (λ p. at_rest (after_writes (write.Nothing ∷ came p ∷ []) m.regs)) nothing
+    ∙ unchanged m.regs whole.fits whole.pending
+
 -- ---- loads
 
 given_same : (from : Sources) (space : Mem) (address : ℕ) (m : Run) (regs : Registers) → word_given from space address (with_regs m regs) ≡ word_given from space address m
@@ -169,6 +202,10 @@ kept_by_pred p b (suc r) m whole lt = held_written (write.Predicate p b) (suc r)
 pub kept_by_product : (low high r : ℕ) (m : Run) → IsWhole m → r < 32 → held r (with_written (write.Product low high) m) ≡ held r m
 kept_by_product low high zero m whole lt = stays_zero (write.Product low high) m whole
 kept_by_product low high (suc r) m whole lt = held_written (write.Product low high) (suc r) m whole lt ∙ rw (ne_eqb (suc r) 0 (omega arith))
+
+pub kept_by_special : (s : WritableSpecial) (v r : ℕ) (m : Run) → IsWhole m → r < 32 → held r (with_written (write.Special s v) m) ≡ held r m
+kept_by_special s v zero m whole lt = stays_zero (write.Special s v) m whole
+kept_by_special s v (suc r) m whole lt = held_written (write.Special s v) (suc r) m whole lt ∙ rw (ne_eqb (suc r) 0 (omega arith))
 
 pub so_got : (p : ℕ) (b : Bool) (m : Run) → IsWhole m → 1 ≤ p → p < 8 → so p (with_written (write.Predicate p b) m) ≡ b
 so_got p b m whole some lt = so_written (write.Predicate p b) p m whole lt ∙ rw (ne_eqb p 0 (omega (arith, some)), eq-eqb p p refl)

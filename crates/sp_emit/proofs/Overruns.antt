@@ -24,7 +24,8 @@ use Rattle.sp_tree.specs.Need.{need}
 use Rattle.sp_emit.proofs.WordPlaces.{word_still}
 use Rattle.sp_emit.proofs.Calm.{calm_run}
 use Rattle.sp_emit.proofs.Leaving.{did_compare_short, did_combine, did_set_short}
-use Rattle.sp_emit.proofs.Masks.{Done, ready, follows_still, behind_still, keeps_then, tested}
+use Rattle.sp_emit.proofs.Passing.{keeps_then}
+use Rattle.sp_emit.proofs.Masks.{Done, ready, follows_still, behind_still, tested}
 use Rattle.sp_emit.proofs.Once.{so, with_written, did_nothing, whole_written, held_written, kept, so_written}
 use Rattle.sp_emit.proofs.Values.{behind, fits_of, expr_keeps, run_joined, value_left}
 
@@ -93,5 +94,5 @@ overrun_is_done homes f frame counter slots mask e s m most masked formed consta
     let done = flag_where homes slots (counter + 1) s w ((s.frame mask == 1) && is_true (worth e s)) (follows_still joined_keeps (follows_still t.keeps y)) test in
     subst (Done homes slots (counter + 1) (where_on mask (overrun_done e) s) m) (sym (run_joined by_words f (expr_code homes e FIRST) (one (straight (overrun_code homes mask))) m)) (record {
       follows = subst (λ z. Follows homes slots z (once by_words (set_short (where_so TEST) OVERRUN 1) w)) (same_state (s.frame mask == 1) (worth e s) s) done.follows;
-      keeps = keeps_then (behind_still slots (counter + 1) keeps) (keeps_then (behind_still slots (counter + 1) t.keeps) (keeps_then (behind_still slots (counter + 1) joined_keeps) done.keeps));
+      keeps = keeps_then (behind_still (counter + 1) keeps) (keeps_then (behind_still (counter + 1) t.keeps) (keeps_then (behind_still (counter + 1) joined_keeps) done.keeps));
     })

@@ -1,11 +1,12 @@
--- Functions leave the whole stack as it was, whatever their loads give.
+-- Functions leave the whole stack as it was, and the registers after their windows, whatever their loads give.
+use Rattle.std.specs.Prelude.{min}
 use Rattle.std.proofs.Common.{◌≡◌, ℕ, zero, suc, ◌+◌, ◌-◌, ◌*◌, ◌<◌, ◌≤◌, ◌==◌, ◌⊎◌, inl, inr, Bool, true, false, if◌then◌else◌, List, [], ◌∷◌, ◌++◌, length, slice_index_or, refl, sym, ap, ◌∙◌, subst, arith}
-use Rattle.std.proofs.lemmas.Bool.{cases_lt, and_parts, lt-ltb, eqb-false}
+use Rattle.std.proofs.lemmas.Bool.{cases_lt, and_parts, lt-ltb, eqb-true, eqb-false}
 use Rattle.patmos_instr.specs.Bundles.{Slots}
 use Rattle.patmos_instr.specs.declared.functions.StackFunc.TheVariants.{Sres, Sfree}
 use Rattle.sp_tree.specs.Formed.{slots_of, function_formed, functions_formed}
 use Rattle.sp_tree.specs.Statements.{PlainFunction, no_function}
-use Rattle.sp_shape.specs.Parts.{no_part}
+use Rattle.sp_shape.specs.Parts.{PlainParts, no_part}
 use Rattle.sp_shape.specs.Run.{Run, Sources, run, IsWhole}
 use Rattle.sp_shape.specs.Trail.{Step, all_done, parts_trail}
 use Rattle.sp_shape.proofs.Lists.{all_append}
@@ -18,24 +19,28 @@ use Rattle.sp_emit.specs.Chains.{stmts_call}
 use Rattle.sp_emit.proofs.Bare.{needs_parts, bare_body, outside}
 use Rattle.sp_emit.proofs.Beginning.{Outside, words_taken, taken_few, reserved_behind}
 use Rattle.sp_emit.specs.Functions.{codes}
-use Rattle.sp_emit.specs.Places.{read_word, words_cleared, homes_of}
-use Rattle.sp_emit.proofs.Codes.{codes_at, kept_is, brought_is}
-use Rattle.sp_emit.proofs.WordPlaces.{cleared_all}
+use Rattle.sp_emit.specs.Holding.{KeepsFrom}
+use Rattle.sp_emit.specs.Places.{read_word, words_cleared, stmts_least, tops, homes_of, top_of}
+use Rattle.sp_emit.proofs.Codes.{codes_at, tops_at, kept_is, brought_is}
+use Rattle.sp_emit.proofs.WordPlaces.{cleared_within}
 use Rattle.sp_emit.proofs.Formed as formed
-use Rattle.sp_emit.proofs.Low.{AreLow, stmts_low, read_low, set_beside}
-use Rattle.sp_emit.proofs.Passing.{AllPass, Passes, passes, passes_done, passes_parts}
+use Rattle.sp_emit.proofs.Low.{AreLow, IsHomed, spare_low, read_low, set_beside, stmts_low}
+use Rattle.sp_emit.proofs.Passing.{outside_low, AllPass, Passes, passes, passes_then, passes_more, passes_done, passes_parts}
 use Rattle.sp_emit.proofs.Serves.{Parts, parts_of_function, whole_frame, function_run, code_of}
 
 -- ---- before and after the body
 
-arguments_low : (homes slots count n : ℕ) → n ≤ slots → Outside homes slots count → AreLow count (arguments_kept homes n)
-arguments_low homes slots count zero le out = refl
-arguments_low homes slots count (suc n) le out = all_append (passes count) (arguments_kept homes n) (argument_kept homes n) (arguments_low homes slots count n (omega (arith, le)) out) (rw (set_beside count homes n (FIRST + n) (out n le)) refl)
+arguments_low : (homes slots top count n : ℕ) → n ≤ slots → homes + slots ≤ top → Outside homes slots count → AreLow top count (arguments_kept homes n)
+arguments_low homes slots top count zero le within out = refl
+arguments_low homes slots top count (suc n) le within out =
+    all_append (passes top count) (arguments_kept homes n) (argument_kept homes n) (arguments_low homes slots top count n (omega (arith, le)) within out) (rw (set_beside top count homes n (FIRST + n) (omega (arith, le, within)) (out n le)) refl)
 
-state_low : (homes count : ℕ) (f : PlainFunction) → f.mask < slots_of f → Outside homes (slots_of f) count → (stmts_call f.body ≡ true → f.frame ≤ count) → 2 ≤ f.frame → AreLow count (state_kept homes f)
-state_low homes count f mask out whole some =
-    let set = set_beside count homes f.mask MASK (out f.mask mask) in
-    kept_is (λ bs. AreLow count (mask_kept homes f ++ bs)) f (λ has. rw (set, lt-ltb (base_slot f) count (omega (arith, whole has, some)), lt-ltb (offset_slot f) count (omega (arith, whole has, some))) refl) (rw (set) refl)
+state_low : (homes top count : ℕ) (f : PlainFunction) → f.mask < slots_of f → homes + slots_of f ≤ top → MASK < top → Outside homes (slots_of f) count → (stmts_call f.body ≡ true → f.frame ≤ count) → 2 ≤ f.frame → AreLow top count (state_kept homes f)
+state_low homes top count f mask within own out whole some =
+    let set = set_beside top count homes f.mask MASK (omega (arith, mask, within)) (out f.mask mask) in
+    let inverted = outside_low top MASK own in
+    kept_is (λ bs. AreLow top count (mask_kept homes f ++ bs)) f
+    (λ has. rw (inverted, set, spare_low top, lt-ltb (base_slot f) count (omega (arith, whole has, some)), lt-ltb (offset_slot f) count (omega (arith, whole has, some))) refl) (rw (inverted, set) refl)
 
 -- the end of a function, before its frame is freed
 abbrev pub result_read : ℕ → PlainFunction → List Slots
@@ -50,18 +55,24 @@ end_run homes from f m = brought_is (λ bs. run from (all_done (bs ++ result_giv
 
 -- ---- functions
 
--- a frame was taken; its top is so far down
-pub record InFrame (frame : ℕ) (m t : Run) : Type 0 where
+-- a frame was taken; its top is so far down, and the registers from one on are as they were
+pub record InFrame (top frame : ℕ) (m t : Run) : Type 0 where
   pub whole : IsWhole t
   pub st : t.st ≡ m.st - frame
   pub behind : (a : ℕ) → m.st ≤ a → t.stack a ≡ m.stack a
+  pub high : KeepsFrom top m t
 
-pub in_frame_still : {frame count : ℕ} {m n t : Run} → count ≤ frame → frame ≤ m.st → InFrame frame m n → Passes count n t → InFrame frame m t
+pub in_frame_still : {top frame count : ℕ} {m n t : Run} → count ≤ frame → frame ≤ m.st → InFrame top frame m n → Passes top count n t → InFrame top frame m t
 in_frame_still le enough x p = record {
   whole = p.whole;
   st = p.keeps.st ∙ x.st;
   behind = λ a above. p.keeps.stack a (omega (arith, x.st, above, le, enough)) ∙ x.behind a above;
+  high = λ r from lt. p.keeps.high r from lt ∙ x.high r from lt;
 }
+
+-- where the window of a function ends
+abbrev pub window_end : ℕ → PlainFunction → ℕ
+window_end homes f = homes + (f.frame - 2)
 
 -- the states of a function's run
 unfoldable pub taken : ℕ → Sources → PlainFunction → Run → Run
@@ -76,51 +87,67 @@ entered homes from f m = run from (all_done (state_kept homes f)) (run from (all
 unfoldable pub worked : ℕ → Sources → (ℕ → List Step) → PlainFunction → Run → Run
 worked homes from code f m = run from (parts_trail code (stmts_code homes f.frame (first_counter f) f.body)) (entered homes from f m)
 
-takes_room : (from : Sources) (frame : ℕ) (none : Bool) (m : Run) → IsWhole m → frame ≤ m.st → InFrame (words_taken none frame) m (run from (all_done (if none then [] else stack_op Sres frame ∷ [])) m)
-takes_room from frame true m whole enough = record { whole = whole; st = omega arith; behind = λ a above. refl }
-takes_room from frame false m whole enough = subst (InFrame frame m) (sym (did_stack from Sres frame m whole)) (record {
+takes_room : (from : Sources) (top frame : ℕ) (none : Bool) (m : Run) → IsWhole m → frame ≤ m.st → InFrame top (words_taken none frame) m (run from (all_done (if none then [] else stack_op Sres frame ∷ [])) m)
+takes_room from top frame true m whole enough = record { whole = whole; st = omega arith; behind = λ a above. refl; high = λ r at lt. refl }
+takes_room from top frame false m whole enough = subst (InFrame top frame m) (sym (did_stack from Sres frame m whole)) (record {
   whole = record { fits = whole.fits; pending = whole.pending };
   st = refl;
   behind = λ a above. reserved_behind m.st frame a m.stack above;
+  high = λ r at lt. refl;
 })
 
-pub enters_frame : (homes : ℕ) (from : Sources) (fs : List PlainFunction) (number : ℕ) (f : PlainFunction) (m : Run) → Parts fs number f → IsWhole m → f.frame ≤ m.st → InFrame (words_taken (needs_none homes f) f.frame) m (entered homes from f m)
+pub enters_frame : (homes : ℕ) (from : Sources) (fs : List PlainFunction) (number : ℕ) (f : PlainFunction) (m : Run) → FIRST ≤ homes → Parts fs number f → IsWhole m → f.frame ≤ m.st → InFrame (window_end homes f) (words_taken (needs_none homes f) f.frame) m (entered homes from f m)
 unfolding entered cleared taken
-enters_frame homes from fs number f m p whole enough =
+enters_frame homes from fs number f m own p whole enough =
     let n = words_taken (needs_none homes f) f.frame in
+    let top = window_end homes f in
     let few = taken_few (needs_none homes f) f.frame in
     let most : n ≤ 128 = omega (arith, few, p.frame) in
     let room : n ≤ m.st = omega (arith, few, enough) in
     let out = outside homes f (omega (arith, p.room)) (needs_none homes f) refl in
-    let first = takes_room from f.frame (needs_none homes f) m whole enough in
-    let c = passes_done from n (words_cleared homes (slots_of f)) (taken homes from f m) most first.whole (cleared_all (passes n) homes (slots_of f) (λ r. refl)) in
+    let first = takes_room from top f.frame (needs_none homes f) m whole enough in
+    let c = passes_done from top n (words_cleared homes (slots_of f)) (taken homes from f m) most first.whole
+    (cleared_within (passes top n) homes (slots_of f) (λ slot lt. rw (outside_low top (homes + slot) (omega (arith, lt, p.room))) refl)) in
     let second = in_frame_still (omega arith) room first c in
-    let a = passes_done from n (arguments_kept homes f.parameters) (cleared homes from f m) most c.whole (arguments_low homes (slots_of f) n f.parameters (omega (arith, p.before_mask, p.mask)) out) in
+    let a = passes_done from top n (arguments_kept homes f.parameters) (cleared homes from f m) most c.whole (arguments_low homes (slots_of f) top n f.parameters (omega (arith, p.before_mask, p.mask)) (omega (arith, p.room)) out) in
     let third = in_frame_still (omega arith) room second a in
-    let b = passes_done from n (state_kept homes f) (run from (all_done (arguments_kept homes f.parameters)) (cleared homes from f m)) most a.whole
-    (state_low homes n f p.mask out (whole_frame homes f) (omega (arith, p.room))) in
+    let b = passes_done from top n (state_kept homes f) (run from (all_done (arguments_kept homes f.parameters)) (cleared homes from f m)) most a.whole
+    (state_low homes top n f p.mask (omega (arith, p.room)) (omega (arith, own)) out (whole_frame homes f) (omega (arith, p.room))) in
     in_frame_still (omega arith) room third b
 
-pub works_in_frame : (homes : ℕ) (from : Sources) (code : ℕ → List Step) (fs : List PlainFunction) (number low : ℕ) (f : PlainFunction) (m : Run) → Parts fs number f → AllPass from code number low → IsWhole m → low + 128 ≤ m.st
-    → Passes (words_taken (needs_none homes f) (first_counter f + 1)) (entered homes from f m) (worked homes from code f m)
+-- a function whose window begins after all that its code and what it calls use
+pub record InWindow (homes : ℕ) (tops : List ℕ) (fs : List PlainFunction) (number : ℕ) (f : PlainFunction) : Type 0 where
+  pub parts : Parts fs number f
+  pub homed : IsHomed homes fs number (slots_of f)
+  pub least : stmts_least tops f.body ≤ homes
+
+pub works_in_frame : (homes : ℕ) (from : Sources) (code : ℕ → List Step) (tops : List ℕ) (fs : List PlainFunction) (number low : ℕ) (f : PlainFunction) (m : Run) → InWindow homes tops fs number f → AllPass from code tops number low → IsWhole m → low + 128 ≤ m.st
+    → Passes (window_end homes f) (words_taken (needs_none homes f) (first_counter f + 1)) (entered homes from f m) (worked homes from code f m)
 unfolding worked
-works_in_frame homes from code fs number low f m p others whole enough =
-    let x = enters_frame homes from fs number f m p whole (omega (arith, enough, p.frame)) in
+works_in_frame homes from code tops fs number low f m w others whole enough =
+    let p = w.parts in
+    let x = enters_frame homes from fs number f m w.homed.own p whole (omega (arith, enough, p.frame)) in
     by (needs_none homes f) refl x.whole (omega (arith, x.st, taken_few (needs_none homes f) f.frame, enough, p.frame))
   where
-    by : (b : Bool) → needs_none homes f ≡ b → IsWhole (entered homes from f m) → low ≤ (entered homes from f m).st
-        → Passes (words_taken b (first_counter f + 1)) (entered homes from f m) (run from (parts_trail code (stmts_code homes f.frame (first_counter f) f.body)) (entered homes from f m))
-    by true none here room = bare_body homes from code fs number f p.body (needs_parts homes f none) (entered homes from f m) here
-    by false some here room =
-        let body = stmts_code homes f.frame (first_counter f) f.body in
-        passes_parts from code number low (first_counter f + 1) (omega (arith, p.frame)) others body (formed.stmts_formed homes fs number (slots_of f) f.frame (first_counter f) f.body p.body)
-        (stmts_low homes fs number (slots_of f) f.frame (first_counter f) f.body (omega (arith, p.mask)) (omega (arith, p.room, p.mask)) p.body) (entered homes from f m) here room
+    body : PlainParts
+    body = stmts_code homes f.frame (first_counter f) f.body
 
-frees_frame : (from : Sources) (frame : ℕ) (none : Bool) (m n : Run) → frame ≤ m.st → InFrame (words_taken none frame) m n → Passes 0 m (run from (all_done (if none then [] else stack_op Sfree frame ∷ [])) n)
-frees_frame from frame true m n enough x = record { whole = x.whole; keeps = record { st = omega (arith, x.st); stack = λ a above. x.behind a (omega (arith, above)) } }
-frees_frame from frame false m n enough x = subst (Passes 0 m) (sym (did_stack from Sfree frame n x.whole)) (record {
+    counted : homes + (first_counter f + 1) ≤ window_end homes f
+    counted = omega (arith, w.parts.room, w.parts.mask)
+
+    by : (b : Bool) → needs_none homes f ≡ b → IsWhole (entered homes from f m) → low ≤ (entered homes from f m).st
+        → Passes (window_end homes f) (words_taken b (first_counter f + 1)) (entered homes from f m) (run from (parts_trail code body) (entered homes from f m))
+    by true none here room = passes_more counted (omega arith) (bare_body homes from code fs number f tops w.homed w.parts.body w.parts.room w.least (needs_parts homes f none) (entered homes from f m) here)
+    by false some here room =
+        let p = w.parts in
+        passes_more counted (omega arith) (passes_parts from code tops number low (homes + (first_counter f + 1)) (first_counter f + 1) (omega (arith, p.frame)) others body (formed.stmts_formed homes fs number (slots_of f) f.frame (first_counter f) f.body p.body)
+        (stmts_low tops homes fs number (slots_of f) f.frame (first_counter f) f.body w.homed (omega (arith, p.room, p.mask)) p.body w.least) (entered homes from f m) here room)
+
+frees_frame : (from : Sources) (top frame : ℕ) (none : Bool) (m n : Run) → frame ≤ m.st → InFrame top (words_taken none frame) m n → Passes top 0 m (run from (all_done (if none then [] else stack_op Sfree frame ∷ [])) n)
+frees_frame from top frame true m n enough x = record { whole = x.whole; keeps = record { st = omega (arith, x.st); stack = λ a above. x.behind a (omega (arith, above)); high = x.high } }
+frees_frame from top frame false m n enough x = subst (Passes top 0 m) (sym (did_stack from Sfree frame n x.whole)) (record {
   whole = record { fits = x.whole.fits; pending = x.whole.pending };
-  keeps = record { st = omega (arith, x.st, enough); stack = λ a above. x.behind a (omega (arith, above)) };
+  keeps = record { st = omega (arith, x.st, enough); stack = λ a above. x.behind a (omega (arith, above)); high = x.high };
 })
 
 -- the body uses no more than is taken
@@ -128,44 +155,73 @@ used_few : (none : Bool) (used frame : ℕ) → used ≤ frame → words_taken n
 used_few true used frame le = omega arith
 used_few false used frame le = le
 
-pub passes_function : (homes : ℕ) (from : Sources) (code : ℕ → List Step) (fs : List PlainFunction) (number low : ℕ) (f : PlainFunction) → function_formed fs number f ≡ true → AllPass from code number low
-    → (m : Run) → IsWhole m → low + 128 ≤ m.st → Passes 0 m (run from (parts_trail code (function_code homes f)) m)
+-- the end of a function changes no word of the stack
+given_low : (homes top : ℕ) (f : PlainFunction) → MASK < top → AreLow top 0 (given_back homes f)
+given_low homes top f own =
+    let read = read_low top 0 homes RESULT f.result (omega (arith, own)) in
+    let flag = outside_low top MASK own in
+    brought_is (λ bs. AreLow top 0 (bs ++ result_read homes f)) f (λ has. rw (spare_low top, read, flag) refl) (rw (read, flag) refl)
+
+return_low : (top : ℕ) → 1 ≤ top → AreLow top 0 return_tail
+return_low top some = rw (outside_low top 0 some) refl
+
+pub passes_function : (homes : ℕ) (from : Sources) (code : ℕ → List Step) (tops : List ℕ) (fs : List PlainFunction) (number low : ℕ) (f : PlainFunction) → InWindow homes tops fs number f → AllPass from code tops number low
+    → (m : Run) → IsWhole m → low + 128 ≤ m.st → Passes (window_end homes f) 0 m (run from (parts_trail code (function_code homes f)) m)
 unfolding worked entered cleared taken
-passes_function homes from code fs number low f formed others m whole enough =
-    let p = parts_of_function fs number f formed in
+passes_function homes from code tops fs number low f window others m whole enough =
+    let p = window.parts in
+    let own = window.homed.own in
+    let top = window_end homes f in
     let room = (let e : f.frame ≤ m.st = omega (arith, enough, p.frame) in e) in
-    let x = enters_frame homes from fs number f m p whole room in
+    let x = enters_frame homes from fs number f m own p whole room in
     let none = needs_none homes f in
     let fits : words_taken none f.frame ≤ m.st = omega (arith, taken_few none f.frame, room) in
-    let y = in_frame_still (used_few none (first_counter f + 1) f.frame (omega (arith, p.room, p.mask))) fits x (works_in_frame homes from code fs number low f m p others whole enough) in
-    let z = in_frame_still (omega arith) fits y (passes_done from 0 (given_back homes f) (worked homes from code f m) (omega arith) y.whole
-    (brought_is (λ bs. AreLow 0 (bs ++ result_read homes f)) f (λ has. rw (read_low 0 homes RESULT f.result) refl) (rw (read_low 0 homes RESULT f.result) refl))) in
+    let y = in_frame_still (used_few none (first_counter f + 1) f.frame (omega (arith, p.room, p.mask))) fits x (works_in_frame homes from code tops fs number low f m window others whole enough) in
+    let z = in_frame_still (omega arith) fits y (passes_done from top 0 (given_back homes f) (worked homes from code f m) (omega arith) y.whole (given_low homes top f (omega (arith, own)))) in
     let n = run from (all_done (given_back homes f)) (worked homes from code f m) in
-    let w = frees_frame from f.frame none m n room z in
-    let r = passes_done from 0 return_tail (run from (all_done (frame_freed homes f)) n) (omega arith) w.whole refl in
-    subst (Passes 0 m) (sym (function_run homes from code f m ∙ ap (run from (all_done return_tail)) (end_run homes from f (worked homes from code f m)))) (record {
-      whole = r.whole;
-      keeps = record { st = r.keeps.st ∙ w.keeps.st; stack = λ a above. r.keeps.stack a (omega (arith, above, w.keeps.st)) ∙ w.keeps.stack a above };
-    })
+    let w = frees_frame from top f.frame none m n room z in
+    let r = passes_done from top 0 return_tail (run from (all_done (frame_freed homes f)) n) (omega arith) w.whole (return_low top (omega (arith, own))) in
+    subst (Passes top 0 m) (sym (function_run homes from code f m ∙ ap (run from (all_done return_tail)) (end_run homes from f (worked homes from code f m)))) (passes_then w r)
 
 -- ---- all of them, in order
 
-pub all_pass : (from : Sources) (fs : List PlainFunction) (n : ℕ) → n ≤ length fs → functions_formed fs n ≡ true → AllPass from (code_of fs n) n (n * 128)
+-- a window that ends past the flag ends there
+capped_passes : {top : ℕ} {m t : Run} → Passes top 0 m t → Passes (min OVERRUN top) 0 m t
+capped_passes p = record { whole = p.whole; keeps = record { st = p.keeps.st; stack = p.keeps.stack; high = λ r from lt. p.keeps.high r (omega (arith, from, lt)) lt } }
+
+-- each in its window, over the earlier ones
+pub own_window : (fs : List PlainFunction) (n : ℕ) → functions_formed fs n ≡ true → function_formed fs n (slice_index_or fs n no_function) ≡ true → InWindow (homes_of fs n) (tops fs n) fs n (slice_index_or fs n no_function)
+own_window fs n earlier formed =
+    let p = parts_of_function fs n (slice_index_or fs n no_function) formed in
+    record {
+      parts = p;
+      homed = record { earlier = earlier; some = omega (arith, p.mask); most = omega (arith, p.room, p.frame); own = omega arith };
+      least = omega arith;
+    }
+
+pub all_pass : (from : Sources) (fs : List PlainFunction) (n : ℕ) → n ≤ length fs → functions_formed fs n ≡ true → AllPass from (code_of fs n) (tops fs n) n (n * 128)
 all_pass from fs zero within formed = record { called = λ k less. absurd (omega (arith, less)) }
 all_pass from fs (suc n) within formed =
     let parts = and_parts (functions_formed fs n) (function_formed fs n (slice_index_or fs n no_function)) formed in
-    record { called = λ k less m whole enough. by parts.1 (all_pass from fs n (omega (arith, within)) parts.0) k less m whole (omega (arith, enough)) (k == n) refl }
+    record {
+      called = λ k less m whole enough.
+          subst (λ top. Passes top 0 m (run from (code_of fs (suc n) k) m)) (sym (tops_at fs (suc n) k less))
+          (by parts.0 parts.1 (all_pass from fs n (omega (arith, within)) parts.0) k less m whole (omega (arith, enough)) (k == n) refl);
+    }
   where
     f : PlainFunction
     f = slice_index_or fs n no_function
 
-    by : function_formed fs n f ≡ true → AllPass from (code_of fs n) n (n * 128) → (k : ℕ) → k < suc n → (m : Run) → IsWhole m → n * 128 + 128 ≤ m.st → (b : Bool) → (k == n) ≡ b
-        → Passes 0 m (run from (if b then parts_trail (code_of fs n) (slice_index_or (codes fs) n no_part) else code_of fs n k) m)
-    by own before k less m whole enough true is =
-        subst (λ c. Passes 0 m (run from (parts_trail (code_of fs n) c) m)) (sym (codes_at fs n (omega (arith, within))))
-        (passes_function (homes_of fs n) from (code_of fs n) fs n (n * 128) f own before m whole enough)
-    by own before k less m whole enough false other = before.called k (earlier (cases_lt k n)) m whole (omega (arith, enough))
+    by : functions_formed fs n ≡ true → function_formed fs n f ≡ true → AllPass from (code_of fs n) (tops fs n) n (n * 128) → (k : ℕ) → k < suc n → (m : Run) → IsWhole m → n * 128 + 128 ≤ m.st → (b : Bool) → (k == n) ≡ b
+        → Passes (top_of fs k) 0 m (run from (if b then parts_trail (code_of fs n) (slice_index_or (codes fs) n no_part) else code_of fs n k) m)
+    by earlier own before k less m whole enough true is =
+        subst (λ i. Passes (top_of fs i) 0 m (run from (parts_trail (code_of fs n) (slice_index_or (codes fs) n no_part)) m)) (sym (eqb-true k n is))
+        (subst (λ c. Passes (top_of fs n) 0 m (run from (parts_trail (code_of fs n) c) m)) (sym (codes_at fs n (omega (arith, within))))
+        (capped_passes (passes_function (homes_of fs n) from (code_of fs n) (tops fs n) fs n (n * 128) f (own_window fs n earlier own) before m whole enough)))
+    by earlier own before k less m whole enough false other =
+        let lt = before_last (cases_lt k n) in
+        subst (λ top. Passes top 0 m (run from (code_of fs n k) m)) (tops_at fs n k lt) (before.called k lt m whole (omega (arith, enough)))
       where
-        earlier : (k < n) ⊎ (n ≤ k) → k < n
-        earlier (inl lt) = lt
-        earlier (inr ge) = absurd (eqb-false k n other (omega (arith, ge, less)))
+        before_last : (k < n) ⊎ (n ≤ k) → k < n
+        before_last (inl lt) = lt
+        before_last (inr ge) = absurd (eqb-false k n other (omega (arith, ge, less)))

@@ -1,48 +1,131 @@
--- What code leaves of the stack after the first words of a frame, whatever its loads give.
-use Rattle.std.proofs.Common.{◌≡◌, ℕ, zero, suc, ◌+◌, ◌*◌, ◌/◌, ◌%◌, ◌^◌, ◌<◌, ◌≤◌, ◌==◌, Bool, true, false, ◌&&◌, if◌then◌else◌, List, [], ◌∷◌, ◌++◌, nat_lt, refl, sym, ap, ◌∙◌, subst, arith, true≢false}
+-- What code leaves of the stack after the first words of a frame, and of the registers from one on, whatever its loads give.
+use Rattle.std.proofs.Common.{◌≡◌, ℕ, zero, suc, ◌+◌, ◌*◌, ◌/◌, ◌%◌, ◌^◌, ◌<◌, ◌≤◌, ◌==◌, ◌⊎◌, inl, inr, Bool, true, false, ◌&&◌, ◌||◌, if◌then◌else◌, is_none, Option, None, Some, List, [], ◌∷◌, ◌++◌, nat_lt, slice_index_or, refl, sym, ap, ◌∙◌, subst, arith, true≢false}
+use Rattle.std.specs.Prelude.{nat_le}
 use Rattle.std.specs.List.{list_all}
-use Rattle.std.proofs.lemmas.Bool.{and_parts, ltb-true, eqb-true}
+use Rattle.std.proofs.lemmas.Bool.{and_parts, or_cases, leb-true, lt-ltb, ltb-true, eqb-true}
 use Rattle.shared_order.specs.Words.{put}
 use Rattle.patmos_instr.specs.Bundles.{Slots}
 use Rattle.patmos_instr.specs.declared.functions.StackFunc.TheVariants.{Sres, Sens, Sfree}
+use Rattle.patmos_instr.specs.declared.guards.Guard.{Guard}
+use Rattle.patmos_instr.specs.declared.instructions.Instr.{Instr}
 use Rattle.patmos_instr.specs.declared.instructions.Op.{Op}
 use Rattle.patmos_instr.specs.declared.instructions.Op.TheVariants.{AluImm, AluReg, AluLong, Mul, Cmp, CmpImm, Comb, ToSpecial, FromSpecial, Stack, Load, Store, Branch, Call, BranchFill, Return}
 use Rattle.patmos_instr.specs.declared.memories.Mem.TheVariants as mem
 use Rattle.patmos_instr.specs.declared.memories.StoreWidth.TheVariants as store
-use Rattle.patmos_sem.specs.Effects.{asked}
+use Rattle.patmos_instr.specs.declared.memories.Width.TheVariants as load
+use Rattle.patmos_sem.specs.Effects.{address_of, asked, begun as begun_by, write_of}
 use Rattle.patmos_sem.specs.Registers.{Registers, word_in, holds}
+use Rattle.patmos_sem.specs.Writes.{came}
 use Rattle.patmos_sem.specs.declared.effects.Effect.TheVariants as effect
+use Rattle.patmos_sem.specs.declared.writes.Write.{Write}
+use Rattle.patmos_sem.specs.declared.writes.Write.TheVariants as write
 use Rattle.sp_shape.proofs.Whole.{behind, once_whole, begun_whole, run_append}
-use Rattle.sp_shape.specs.Bundles.{part_all, parts_all}
 use Rattle.sp_shape.specs.Formed.{is_call, is_way, is_iteration, part_formed, parts_formed}
 use Rattle.sp_shape.specs.Parts.{PlainPart, straight, repeats, calls_to, leaves, PlainParts, no_part, part}
-use Rattle.sp_shape.specs.Run.{Run, Sources, once, effected, run, begun, IsWhole}
+use Rattle.sp_shape.specs.Run.{Run, Sources, word_given, once, effected, run, begun, IsWhole}
 use Rattle.sp_shape.specs.Trail.{Step, begins, all_done, copies, part_trail, parts_trail}
-use Rattle.sp_emit.specs.Means.{KeepsStack}
+use Rattle.sp_emit.specs.Holding.{held, KeepsFrom}
+use Rattle.sp_emit.specs.Instructions.{under}
+use Rattle.sp_emit.specs.Means.{KeepsStack, KeepsBehind}
+use Rattle.sp_emit.specs.declared.registers.TheConstants.{OVERRUN}
 use Rattle.sp_emit.proofs.Frames.{put_other}
+use Rattle.sp_emit.proofs.Once.{with_written, did_write, did_nothing, did_multiply, did_load, regs_stay, kept, kept_by_pred, kept_by_product, kept_by_special}
+
+-- ---- what an instruction may change
+
+-- a register that is none of those from one on, before the flag of loops
+abbrev pub is_outside : ℕ → ℕ → Bool
+is_outside top r = nat_lt r top || nat_le OVERRUN r
+
+-- an instruction that changes no word of the stack but one of the first so many, leaves its top, and sets no register from
+-- one on, before the flag of loops
+abbrev pub is_low : ℕ → ℕ → Op → Bool
+is_low top count (AluImm func rd ra imm) = is_outside top rd
+is_low top count (AluReg func rd ra rb) = is_outside top rd
+is_low top count (AluLong func rd ra constant) = is_outside top rd
+is_low top count (FromSpecial rd special) = is_outside top rd
+is_low top count (Load space load.Word rd ra imm) = is_outside top rd
+is_low top count (Load space width rd ra imm) = false
+is_low top count (Store mem.S store.Word ra rs imm) = (ra == 0) && nat_lt imm count
+is_low top count (Store mem.S width ra rs imm) = false
+is_low top count (Stack Sres n) = false
+is_low top count (Stack Sfree n) = false
+is_low top count _ = true
+
+abbrev pub passes : ℕ → ℕ → Slots → Bool
+passes top count b = is_low top count b.first.op && is_none b.second
+
+-- nothing is pending, and the stack after so many words and the registers from one on are as they were
+pub record Passes (top count : ℕ) (m t : Run) : Type 0 where
+  pub whole : IsWhole t
+  pub keeps : KeepsBehind top count m t
+
+-- ---- registers
+
+outside_apart : (top rd r : ℕ) → is_outside top rd ≡ true → top ≤ r → r < OVERRUN → rd ≡ r → ⊥
+outside_apart top rd r out from few same = by (or_cases (nat_lt rd top) (nat_le OVERRUN rd) out)
+  where
+    by : (nat_lt rd top ≡ true) ⊎ (nat_le OVERRUN rd ≡ true) → ⊥
+    by (inl before) = omega (arith, same, from, ltb-true rd top before)
+    by (inr past) = omega (arith, same, few, leb-true OVERRUN rd past)
+
+pub outside_low : (top r : ℕ) → r < top → is_outside top r ≡ true
+outside_low top r lt = rw (lt-ltb r top lt) refl
+
+by_write : (top rd v : ℕ) (m : Run) → IsWhole m → is_outside top rd ≡ true → KeepsFrom top m (with_written (write.Register rd v) m)
+by_write top rd v m whole out = λ r from lt. kept rd v r m whole (omega (arith, lt)) (outside_apart top rd r out from lt)
+
+abbrev is_register : Write → Bool
+is_register (write.Register rd value) = true
+is_register _ = false
+
+by_other : (top : ℕ) (w : Write) (m : Run) → IsWhole m → is_register w ≡ false → KeepsFrom top m (with_written w m)
+by_other top (write.Register rd value) m whole other = absurd (true≢false other)
+by_other top write.Nothing m whole other = λ r from lt. kept_by_pred 1 false r m whole (omega (arith, lt))
+by_other top (write.Predicate pd value) m whole other = λ r from lt. kept_by_pred pd value r m whole (omega (arith, lt))
+by_other top (write.Product low high) m whole other = λ r from lt. kept_by_product low high r m whole (omega (arith, lt))
+by_other top (write.Special special value) m whole other = λ r from lt. kept_by_special special value r m whole (omega (arith, lt))
+
+by_none : (top : ℕ) (m t : Run) → t.regs ≡ m.regs → KeepsFrom top m t
+by_none top m t is = λ r from lt. ap (λ regs. word_in regs r) is
+
+high_on : (from : Sources) (top count : ℕ) (g : Guard) (op : Op) (m : Run) → IsWhole m → holds m.regs g ≡ true → is_low top count op ≡ true → KeepsFrom top m (once from (under g op) m)
+high_on from top count g (AluImm func rd ra imm) m whole on low = subst (KeepsFrom top m) (sym (did_write from g (AluImm func rd ra imm) m whole on refl refl)) (by_write top rd _ m whole low)
+high_on from top count g (AluReg func rd ra rb) m whole on low = subst (KeepsFrom top m) (sym (did_write from g (AluReg func rd ra rb) m whole on refl refl)) (by_write top rd _ m whole low)
+high_on from top count g (AluLong func rd ra constant) m whole on low = subst (KeepsFrom top m) (sym (did_write from g (AluLong func rd ra constant) m whole on refl refl)) (by_write top rd _ m whole low)
+high_on from top count g (FromSpecial rd special) m whole on low = subst (KeepsFrom top m) (sym (did_write from g (FromSpecial rd special) m whole on refl refl)) (by_write top rd _ m whole low)
+high_on from top count g (Load space load.Word rd ra imm) m whole on low =
+    subst (KeepsFrom top m) (sym (did_load from g space rd ra imm m whole on)) (by_write top rd (word_given from space (address_of (held ra m) imm 4) m) m whole low)
+high_on from top count g (Load space load.Half rd ra imm) m whole on low = absurd (true≢false (sym low))
+high_on from top count g (Load space load.Byte rd ra imm) m whole on low = absurd (true≢false (sym low))
+high_on from top count g (Load space load.HalfUnsigned rd ra imm) m whole on low = absurd (true≢false (sym low))
+high_on from top count g (Load space load.ByteUnsigned rd ra imm) m whole on low = absurd (true≢false (sym low))
+high_on from top count g (Mul unsigned ra rb) m whole on low = subst (KeepsFrom top m) (sym (did_multiply from g unsigned ra rb m whole on)) (by_other top (came (begun_by m.regs (Mul unsigned ra rb))) m whole refl)
+high_on from top count g (Cmp func pd ra rb) m whole on low = subst (KeepsFrom top m) (sym (did_write from g (Cmp func pd ra rb) m whole on refl refl)) (by_other top (write_of m.st m.ss m.regs (Cmp func pd ra rb)) m whole refl)
+high_on from top count g (CmpImm func pd ra imm) m whole on low = subst (KeepsFrom top m) (sym (did_write from g (CmpImm func pd ra imm) m whole on refl refl)) (by_other top (write_of m.st m.ss m.regs (CmpImm func pd ra imm)) m whole refl)
+high_on from top count g (Comb func pd a b) m whole on low = subst (KeepsFrom top m) (sym (did_write from g (Comb func pd a b) m whole on refl refl)) (by_other top (write_of m.st m.ss m.regs (Comb func pd a b)) m whole refl)
+high_on from top count g (ToSpecial special ra) m whole on low = subst (KeepsFrom top m) (sym (did_write from g (ToSpecial special ra) m whole on refl refl)) (by_other top (write_of m.st m.ss m.regs (ToSpecial special ra)) m whole refl)
+high_on from top count g (Store space width ra rs imm) m whole on low = by_none top m (once from (under g (Store space width ra rs imm)) m) (regs_stay from g (Store space width ra rs imm) m whole on refl refl refl)
+high_on from top count g (Stack func n) m whole on low = by_none top m (once from (under g (Stack func n)) m) (regs_stay from g (Stack func n) m whole on refl refl refl)
+high_on from top count g (Branch offset) m whole on low = by_none top m (once from (under g (Branch offset)) m) (regs_stay from g (Branch offset) m whole on refl refl refl)
+high_on from top count g (Call target) m whole on low = by_none top m (once from (under g (Call target)) m) (regs_stay from g (Call target) m whole on refl refl refl)
+high_on from top count g (BranchFill target) m whole on low = by_none top m (once from (under g (BranchFill target)) m) (regs_stay from g (BranchFill target) m whole on refl refl refl)
+high_on from top count g Return m whole on low = by_none top m (once from (under g Return) m) (regs_stay from g Return m whole on refl refl refl)
+
+high_once : (from : Sources) (top count : ℕ) (b : Slots) (m : Run) → IsWhole m → passes top count b ≡ true → KeepsFrom top m (once from b m)
+high_once from top count b m whole low =
+    let both = and_parts (is_low top count b.first.op) (is_none b.second) low in
+    by b.second both.1 (alone both.0 (holds m.regs b.first.guard) refl)
+  where
+    alone : is_low top count b.first.op ≡ true → (on : Bool) → holds m.regs b.first.guard ≡ on → KeepsFrom top m (once from (under b.first.guard b.first.op) m)
+    alone own true on = high_on from top count b.first.guard b.first.op m whole on own
+    alone own false off = subst (KeepsFrom top m) (sym (did_nothing from b.first.guard b.first.op m whole off)) (λ r at lt. refl)
+
+    by : (second : Option Instr) → is_none second ≡ true → KeepsFrom top m (once from (under b.first.guard b.first.op) m) → KeepsFrom top m (once from (record { first = b.first; second = second }) m)
+    by None none h = h
+    by (Some i) none h = absurd (true≢false (sym none))
 
 -- ---- the stack
-
--- an instruction that changes no word of the stack but one of the first so many, and leaves its top
-abbrev pub is_low : ℕ → Op → Bool
-is_low count (Store mem.S store.Word ra rs imm) = (ra == 0) && nat_lt imm count
-is_low count (Store mem.S store.Half ra rs imm) = false
-is_low count (Store mem.S store.Byte ra rs imm) = false
-is_low count (Stack Sres n) = false
-is_low count (Stack Sens n) = true
-is_low count (Stack Sfree n) = false
-is_low count _ = true
-
-abbrev pub passes : ℕ → Slots → Bool
-passes count b = is_low count b.first.op
-
--- nothing is pending, and the stack after so many words is as it was
-pub record Passes (count : ℕ) (m t : Run) : Type 0 where
-  pub whole : IsWhole t
-  pub keeps : KeepsStack count m t
-
-pub stack_then : {count : ℕ} {m n t : Run} → KeepsStack count m n → KeepsStack count n t → KeepsStack count m t
-stack_then {count} {m} {n} {t} a b = record { st = b.st ∙ a.st; stack = λ at above. b.stack at (subst (λ st. st + count ≤ at) (sym a.st) above) ∙ a.stack at above }
 
 stays : (count : ℕ) (m t : Run) → t.st ≡ m.st → t.stack ≡ m.stack → KeepsStack count m t
 stays count m t st stack = record { st = st; stack = λ a above. ap (λ words. words a) stack }
@@ -55,102 +138,129 @@ slot_stored count ra imm value regs m few zero_is base named a above =
     ∙ ap (λ n. put (m.st + n) value m.stack a) (let e : (0 + imm * 4) % 2 ^ 32 / 4 ≡ imm = omega (arith, named, few) in e)
     ∙ put_other (m.st + imm) a value m.stack (λ same. absurd (omega (arith, same, named, above)))
 
-passes_effect : (from : Sources) (count : ℕ) (on : Bool) (op : Op) (regs : Registers) (m : Run) → count ≤ 128 → word_in regs 0 ≡ 0 → is_low count op ≡ true
+passes_effect : (from : Sources) (top count : ℕ) (on : Bool) (op : Op) (regs : Registers) (m : Run) → count ≤ 128 → word_in regs 0 ≡ 0 → is_low top count op ≡ true
     → KeepsStack count m (effected from (if on then asked regs op else effect.Nothing) m)
-passes_effect from count false op regs m few zero_is low = stays count m _ refl refl
-passes_effect from count true (AluImm func rd ra imm) regs m few zero_is low = stays count m _ refl refl
-passes_effect from count true (AluReg func rd ra rb) regs m few zero_is low = stays count m _ refl refl
-passes_effect from count true (AluLong func rd ra constant) regs m few zero_is low = stays count m _ refl refl
-passes_effect from count true (Mul unsigned ra rb) regs m few zero_is low = stays count m _ refl refl
-passes_effect from count true (Cmp func pd ra rb) regs m few zero_is low = stays count m _ refl refl
-passes_effect from count true (CmpImm func pd ra imm) regs m few zero_is low = stays count m _ refl refl
-passes_effect from count true (Comb func pd a b) regs m few zero_is low = stays count m _ refl refl
-passes_effect from count true (ToSpecial special ra) regs m few zero_is low = stays count m _ refl refl
-passes_effect from count true (FromSpecial rd special) regs m few zero_is low = stays count m _ refl refl
-passes_effect from count true (Load space width rd ra imm) regs m few zero_is low = stays count m _ refl refl
-passes_effect from count true (Store mem.S store.Word ra rs imm) regs m few zero_is low =
+passes_effect from top count false op regs m few zero_is low = stays count m _ refl refl
+passes_effect from top count true (AluImm func rd ra imm) regs m few zero_is low = stays count m _ refl refl
+passes_effect from top count true (AluReg func rd ra rb) regs m few zero_is low = stays count m _ refl refl
+passes_effect from top count true (AluLong func rd ra constant) regs m few zero_is low = stays count m _ refl refl
+passes_effect from top count true (Mul unsigned ra rb) regs m few zero_is low = stays count m _ refl refl
+passes_effect from top count true (Cmp func pd ra rb) regs m few zero_is low = stays count m _ refl refl
+passes_effect from top count true (CmpImm func pd ra imm) regs m few zero_is low = stays count m _ refl refl
+passes_effect from top count true (Comb func pd a b) regs m few zero_is low = stays count m _ refl refl
+passes_effect from top count true (ToSpecial special ra) regs m few zero_is low = stays count m _ refl refl
+passes_effect from top count true (FromSpecial rd special) regs m few zero_is low = stays count m _ refl refl
+passes_effect from top count true (Load space width rd ra imm) regs m few zero_is low = stays count m _ refl refl
+passes_effect from top count true (Store mem.S store.Word ra rs imm) regs m few zero_is low =
     let both = and_parts (ra == 0) (nat_lt imm count) low in
     record { st = refl; stack = slot_stored count ra imm _ regs m few zero_is (eqb-true ra 0 both.0) (ltb-true imm count both.1) }
-passes_effect from count true (Store mem.S store.Half ra rs imm) regs m few zero_is low = absurd (true≢false (sym low))
-passes_effect from count true (Store mem.S store.Byte ra rs imm) regs m few zero_is low = absurd (true≢false (sym low))
-passes_effect from count true (Store mem.L width ra rs imm) regs m few zero_is low = stays count m _ refl refl
-passes_effect from count true (Store mem.C width ra rs imm) regs m few zero_is low = stays count m _ refl refl
-passes_effect from count true (Store mem.M width ra rs imm) regs m few zero_is low = stays count m _ refl refl
-passes_effect from count true (Stack Sres n) regs m few zero_is low = absurd (true≢false (sym low))
-passes_effect from count true (Stack Sens n) regs m few zero_is low = stays count m _ refl refl
-passes_effect from count true (Stack Sfree n) regs m few zero_is low = absurd (true≢false (sym low))
-passes_effect from count true (Branch offset) regs m few zero_is low = stays count m _ refl refl
-passes_effect from count true (Call target) regs m few zero_is low = stays count m _ refl refl
-passes_effect from count true (BranchFill target) regs m few zero_is low = stays count m _ refl refl
-passes_effect from count true Return regs m few zero_is low = stays count m _ refl refl
+passes_effect from top count true (Store mem.S store.Half ra rs imm) regs m few zero_is low = absurd (true≢false (sym low))
+passes_effect from top count true (Store mem.S store.Byte ra rs imm) regs m few zero_is low = absurd (true≢false (sym low))
+passes_effect from top count true (Store mem.L width ra rs imm) regs m few zero_is low = stays count m _ refl refl
+passes_effect from top count true (Store mem.C width ra rs imm) regs m few zero_is low = stays count m _ refl refl
+passes_effect from top count true (Store mem.M width ra rs imm) regs m few zero_is low = stays count m _ refl refl
+passes_effect from top count true (Stack Sres n) regs m few zero_is low = absurd (true≢false (sym low))
+passes_effect from top count true (Stack Sens n) regs m few zero_is low = stays count m _ refl refl
+passes_effect from top count true (Stack Sfree n) regs m few zero_is low = absurd (true≢false (sym low))
+passes_effect from top count true (Branch offset) regs m few zero_is low = stays count m _ refl refl
+passes_effect from top count true (Call target) regs m few zero_is low = stays count m _ refl refl
+passes_effect from top count true (BranchFill target) regs m few zero_is low = stays count m _ refl refl
+passes_effect from top count true Return regs m few zero_is low = stays count m _ refl refl
 
-pub passes_once : (from : Sources) (count : ℕ) (b : Slots) (m : Run) → count ≤ 128 → IsWhole m → passes count b ≡ true → Passes count m (once from b m)
-passes_once from count b m few whole low =
-    let k = passes_effect from count (holds m.regs b.first.guard) b.first.op m.regs (behind b m) few whole.fits.zero low in
-    record { whole = once_whole from b m whole; keeps = record { st = k.st; stack = k.stack } }
+pub passes_once : (from : Sources) (top count : ℕ) (b : Slots) (m : Run) → count ≤ 128 → IsWhole m → passes top count b ≡ true → Passes top count m (once from b m)
+passes_once from top count b m few whole low =
+    let own = (and_parts (is_low top count b.first.op) (is_none b.second) low).0 in
+    let k = passes_effect from top count (holds m.regs b.first.guard) b.first.op m.regs (behind b m) few whole.fits.zero own in
+    record { whole = once_whole from b m whole; keeps = record { st = k.st; stack = k.stack; high = high_once from top count b m whole low } }
 
 -- ---- trails
 
-pub passes_all : (count : ℕ) (m : Run) → IsWhole m → Passes count m m
-passes_all count m whole = record { whole = whole; keeps = stays count m m refl refl }
+pub kept_all : (top count : ℕ) (m : Run) → KeepsBehind top count m m
+kept_all top count m = record { st = refl; stack = λ a above. refl; high = λ r at lt. refl }
 
-pub passes_then : {count : ℕ} {m n t : Run} → Passes count m n → Passes count n t → Passes count m t
-passes_then a b = record { whole = b.whole; keeps = stack_then a.keeps b.keeps }
+pub passes_all : (top count : ℕ) (m : Run) → IsWhole m → Passes top count m m
+passes_all top count m whole = record { whole = whole; keeps = kept_all top count m }
 
-pub passes_more : {count more : ℕ} {m t : Run} → count ≤ more → Passes count m t → Passes more m t
-passes_more le a = record { whole = a.whole; keeps = record { st = a.keeps.st; stack = λ at above. a.keeps.stack at (omega (arith, above, le)) } }
+pub keeps_then : {top count : ℕ} {m n t : Run} → KeepsBehind top count m n → KeepsBehind top count n t → KeepsBehind top count m t
+keeps_then {top} {count} {m} {n} {t} a b = record {
+  st = b.st ∙ a.st;
+  stack = λ at above. b.stack at (subst (λ st. st + count ≤ at) (sym a.st) above) ∙ a.stack at above;
+  high = λ r at lt. b.high r at lt ∙ a.high r at lt;
+}
 
-pub passes_done : (from : Sources) (count : ℕ) (bs : List Slots) (m : Run) → count ≤ 128 → IsWhole m → list_all (passes count) bs ≡ true → Passes count m (run from (all_done bs) m)
-passes_done from count [] m few whole low = passes_all count m whole
-passes_done from count (b ∷ bs) m few whole low =
-    let both = and_parts (passes count b) (list_all (passes count) bs) low in
-    let one = passes_once from count b m few whole both.0 in
-    passes_then one (passes_done from count bs (once from b m) few one.whole both.1)
+pub passes_then : {top count : ℕ} {m n t : Run} → Passes top count m n → Passes top count n t → Passes top count m t
+passes_then a b = record { whole = b.whole; keeps = keeps_then a.keeps b.keeps }
 
--- functions that leave the whole stack as it was, where it has so much room
-pub record AllPass (from : Sources) (f : ℕ → List Step) (number low : ℕ) : Type 0 where
-  pub called : (k : ℕ) → k < number → (m : Run) → IsWhole m → low ≤ m.st → Passes 0 m (run from (f k) m)
+pub passes_more : {top more_top count more : ℕ} {m t : Run} → top ≤ more_top → count ≤ more → Passes top count m t → Passes more_top more m t
+passes_more higher le a = record {
+  whole = a.whole;
+  keeps = record { st = a.keeps.st; stack = λ at above. a.keeps.stack at (omega (arith, above, le)); high = λ r from lt. a.keeps.high r (omega (arith, from, higher)) lt };
+}
+
+pub passes_done : (from : Sources) (top count : ℕ) (bs : List Slots) (m : Run) → count ≤ 128 → IsWhole m → list_all (passes top count) bs ≡ true → Passes top count m (run from (all_done bs) m)
+passes_done from top count [] m few whole low = passes_all top count m whole
+passes_done from top count (b ∷ bs) m few whole low =
+    let both = and_parts (passes top count b) (list_all (passes top count) bs) low in
+    let one = passes_once from top count b m few whole both.0 in
+    passes_then one (passes_done from top count bs (once from b m) few one.whole both.1)
+
+-- functions that leave the whole stack, and the registers behind their windows, as they were, where there is so much room
+pub record AllPass (from : Sources) (f : ℕ → List Step) (tops : List ℕ) (number low : ℕ) : Type 0 where
+  pub called : (k : ℕ) → k < number → (m : Run) → IsWhole m → low ≤ m.st → Passes (slice_index_or tops k 0) 0 m (run from (f k) m)
+
+-- code whose bundles pass, and that calls functions whose windows end before a register alone
+abbrev mutual
+  pub part_passes : List ℕ → ℕ → ℕ → PlainPart → Bool
+  part_passes tops top count (straight bs) = list_all (passes top count) bs
+  part_passes tops top count (repeats n body tail) = parts_pass tops top count body && list_all (passes top count) tail
+  part_passes tops top count (calls_to k tail) = nat_le (slice_index_or tops k 0) top && list_all (passes top count) tail
+  part_passes tops top count (leaves tail) = false
+
+  pub parts_pass : List ℕ → ℕ → ℕ → PlainParts → Bool
+  parts_pass tops top count no_part = true
+  parts_pass tops top count (part p rest) = part_passes tops top count p && parts_pass tops top count rest
 
 -- where a function begins
-pub passes_begun : (count : ℕ) (m : Run) → IsWhole m → Passes count m (begun m)
-passes_begun count m whole = record { whole = begun_whole m whole; keeps = stays count m (begun m) refl refl }
+pub passes_begun : (top count : ℕ) (m : Run) → IsWhole m → Passes top count m (begun m)
+passes_begun top count m whole = record { whole = begun_whole m whole; keeps = record { st = refl; stack = λ a above. refl; high = λ r at lt. refl } }
 
-pub enough_still : {count low : ℕ} {m t : Run} → Passes count m t → low ≤ m.st → low ≤ t.st
-enough_still {count} {low} {m} {t} p enough = subst (λ st. low ≤ st) (sym p.keeps.st) enough
+pub enough_still : {top count low : ℕ} {m t : Run} → Passes top count m t → low ≤ m.st → low ≤ t.st
+enough_still {top} {count} {low} {m} {t} p enough = subst (λ st. low ≤ st) (sym p.keeps.st) enough
 
-passes_copies : (from : Sources) (count low n : ℕ) (iteration : List Step) → ((m : Run) → IsWhole m → low ≤ m.st → Passes count m (run from iteration m))
-    → (m : Run) → IsWhole m → low ≤ m.st → Passes count m (run from (copies n iteration) m)
-passes_copies from count low zero iteration one m whole enough = passes_all count m whole
-passes_copies from count low (suc n) iteration one m whole enough =
+passes_copies : (from : Sources) (top count low n : ℕ) (iteration : List Step) → ((m : Run) → IsWhole m → low ≤ m.st → Passes top count m (run from iteration m))
+    → (m : Run) → IsWhole m → low ≤ m.st → Passes top count m (run from (copies n iteration) m)
+passes_copies from top count low zero iteration one m whole enough = passes_all top count m whole
+passes_copies from top count low (suc n) iteration one m whole enough =
     let p = one m whole enough in
-    subst (Passes count m) (sym (run_append from iteration (copies n iteration) m)) (passes_then p (passes_copies from count low n iteration one (run from iteration m) p.whole (enough_still p enough)))
+    subst (Passes top count m) (sym (run_append from iteration (copies n iteration) m)) (passes_then p (passes_copies from top count low n iteration one (run from iteration m) p.whole (enough_still p enough)))
 
 mutual
-  pub passes_part : (from : Sources) (f : ℕ → List Step) (number low count : ℕ) → count ≤ 128 → AllPass from f number low → (p : PlainPart) → part_formed number p ≡ true → part_all (passes count) p ≡ true
-      → (m : Run) → IsWhole m → low ≤ m.st → Passes count m (run from (part_trail f p) m)
-  passes_part from f number low count few others (straight bs) formed each m whole enough = passes_done from count bs m few whole each
-  passes_part from f number low count few others (repeats n body tail) formed each m whole enough =
+  pub passes_part : (from : Sources) (f : ℕ → List Step) (tops : List ℕ) (number low top count : ℕ) → count ≤ 128 → AllPass from f tops number low → (p : PlainPart) → part_formed number p ≡ true → part_passes tops top count p ≡ true
+      → (m : Run) → IsWhole m → low ≤ m.st → Passes top count m (run from (part_trail f p) m)
+  passes_part from f tops number low top count few others (straight bs) formed each m whole enough = passes_done from top count bs m few whole each
+  passes_part from f tops number low top count few others (repeats n body tail) formed each m whole enough =
       let a = and_parts (nat_lt 0 n) (parts_formed number body && is_iteration tail) formed in
       let b = and_parts (parts_formed number body) (is_iteration tail) a.1 in
-      let c = and_parts (parts_all (passes count) body) (list_all (passes count) tail) each in
-      passes_copies from count low n (parts_trail f body ++ all_done tail) (λ t rest room.
-      let p = passes_parts from f number low count few others body b.0 c.0 t rest room in
-      subst (Passes count t) (sym (run_append from (parts_trail f body) (all_done tail) t)) (passes_then p (passes_done from count tail (run from (parts_trail f body) t) few p.whole c.1))) m whole enough
-  passes_part from f number low count few others (calls_to k tail) formed each m whole enough =
+      let c = and_parts (parts_pass tops top count body) (list_all (passes top count) tail) each in
+      passes_copies from top count low n (parts_trail f body ++ all_done tail) (λ t rest room.
+      let p = passes_parts from f tops number low top count few others body b.0 c.0 t rest room in
+      subst (Passes top count t) (sym (run_append from (parts_trail f body) (all_done tail) t)) (passes_then p (passes_done from top count tail (run from (parts_trail f body) t) few p.whole c.1))) m whole enough
+  passes_part from f tops number low top count few others (calls_to k tail) formed each m whole enough =
       let a = and_parts (nat_lt k number) (is_way is_call tail) formed in
-      let p = passes_done from count tail m few whole each in
+      let c = and_parts (nat_le (slice_index_or tops k 0) top) (list_all (passes top count) tail) each in
+      let p = passes_done from top count tail m few whole c.1 in
       let n = run from (all_done tail) m in
-      let q = passes_begun count n p.whole in
-      let r = passes_more (omega arith) (others.called k (ltb-true k number a.0) (begun n) q.whole (enough_still (passes_then p q) enough)) in
-      subst (Passes count m) (sym (run_append from (all_done tail) (begins ∷ f k) m)) (passes_then p (passes_then q r))
-  passes_part from f number low count few others (leaves tail) formed each m whole enough = absurd (true≢false (sym formed))
+      let q = passes_begun top count n p.whole in
+      let r = passes_more (leb-true (slice_index_or tops k 0) top c.0) (omega arith) (others.called k (ltb-true k number a.0) (begun n) q.whole (enough_still (passes_then p q) enough)) in
+      subst (Passes top count m) (sym (run_append from (all_done tail) (begins ∷ f k) m)) (passes_then p (passes_then q r))
+  passes_part from f tops number low top count few others (leaves tail) formed each m whole enough = absurd (true≢false (sym formed))
 
-  pub passes_parts : (from : Sources) (f : ℕ → List Step) (number low count : ℕ) → count ≤ 128 → AllPass from f number low → (ps : PlainParts) → parts_formed number ps ≡ true → parts_all (passes count) ps ≡ true
-      → (m : Run) → IsWhole m → low ≤ m.st → Passes count m (run from (parts_trail f ps) m)
-  passes_parts from f number low count few others no_part formed each m whole enough = passes_all count m whole
-  passes_parts from f number low count few others (part p rest) formed each m whole enough =
+  pub passes_parts : (from : Sources) (f : ℕ → List Step) (tops : List ℕ) (number low top count : ℕ) → count ≤ 128 → AllPass from f tops number low → (ps : PlainParts) → parts_formed number ps ≡ true → parts_pass tops top count ps ≡ true
+      → (m : Run) → IsWhole m → low ≤ m.st → Passes top count m (run from (parts_trail f ps) m)
+  passes_parts from f tops number low top count few others no_part formed each m whole enough = passes_all top count m whole
+  passes_parts from f tops number low top count few others (part p rest) formed each m whole enough =
       let a = and_parts (part_formed number p) (parts_formed number rest) formed in
-      let c = and_parts (part_all (passes count) p) (parts_all (passes count) rest) each in
-      let one = passes_part from f number low count few others p a.0 c.0 m whole enough in
-      subst (Passes count m) (sym (run_append from (part_trail f p) (parts_trail f rest) m))
-      (passes_then one (passes_parts from f number low count few others rest a.1 c.1 (run from (part_trail f p) m) one.whole (enough_still one enough)))
+      let c = and_parts (part_passes tops top count p) (parts_pass tops top count rest) each in
+      let one = passes_part from f tops number low top count few others p a.0 c.0 m whole enough in
+      subst (Passes top count m) (sym (run_append from (part_trail f p) (parts_trail f rest) m))
+      (passes_then one (passes_parts from f tops number low top count few others rest a.1 c.1 (run from (part_trail f p) m) one.whole (enough_still one enough)))

@@ -1,5 +1,5 @@
 -- Parts that are pushed after others.
-use Rattle.std.proofs.Common.{◌≡◌, ℕ, ◌+◌, ◌-◌, Option, None, Some, List, [], ◌∷◌, ◌++◌, ap, sym, ◌∙◌}
+use Rattle.std.proofs.Common.{◌≡◌, ℕ, ◌-◌, Option, None, Some, List, [], ◌∷◌, ◌++◌, ap, sym, ◌∙◌}
 use Rattle.patmos_instr.specs.Bundles.{Slots}
 use Rattle.sp_shape.proofs.Joins.{shown, joined-nothing, joined-assoc}
 use Rattle.sp_shape.specs.Parts.{PlainParts, no_part, part, straight, repeats, one, joined}
@@ -71,11 +71,11 @@ pub call_pushed : (homes : ℕ) (old first second third : PlainParts) (frame mas
 call_pushed homes old first second third frame mask k slot a b c =
     three_pushed old first second third (one (straight (mask_handed homes mask))) (one (way_to k)) (one (straight (behind_call homes frame mask slot))) a b c
 
-pub iterations_pushed : (homes : ℕ) (old first second iteration : PlainParts) (frame counter count : ℕ) (body : PlainStmts) → first ≡ joined old (one (straight (iterations_begin counter count)))
-    → iteration ≡ stmts_code homes frame (counter - 1) body → second ≡ joined first (one (repeats count iteration (iterations_tail counter))) → second ≡ joined old (stmt_code homes frame counter (iterations count body))
+pub iterations_pushed : (homes : ℕ) (old first second iteration : PlainParts) (frame counter count : ℕ) (body : PlainStmts) → first ≡ joined old (one (straight (iterations_begin homes counter count)))
+    → iteration ≡ stmts_code homes frame (counter - 1) body → second ≡ joined first (one (repeats count iteration (iterations_tail homes counter))) → second ≡ joined old (stmt_code homes frame counter (iterations count body))
 iterations_pushed homes old first second iteration frame counter count body a is b =
-    two_pushed old first second (one (straight (iterations_begin counter count))) (one (repeats count (stmts_code homes frame (counter - 1) body) (iterations_tail counter))) a
-    (b ∙ ap (λ t. joined first (one (repeats count t (iterations_tail counter)))) is)
+    two_pushed old first second (one (straight (iterations_begin homes counter count))) (one (repeats count (stmts_code homes frame (counter - 1) body) (iterations_tail homes counter))) a
+    (b ∙ ap (λ t. joined first (one (repeats count t (iterations_tail homes counter)))) is)
 
 pub straight_as : (old new : PlainParts) (xs ys : List Slots) → new ≡ joined old (one (straight xs)) → xs ≡ ys → new ≡ joined old (one (straight ys))
 straight_as old new xs ys is same = is ∙ ap (λ l. joined old (one (straight l))) same

@@ -1,5 +1,5 @@
 -- What a function's code leaves after its body: its result, the flag, and the stack without its frame.
-use Rattle.std.proofs.Common.{◌≡◌, ℕ, zero, suc, ◌+◌, ◌%◌, ◌^◌, ◌<◌, Bool, true, false, if◌then◌else◌, List, [], ◌∷◌, ◌++◌, refl, sym, ap, ◌∙◌, subst, arith, ne_eqb}
+use Rattle.std.proofs.Common.{◌≡◌, ℕ, ◌+◌, ◌%◌, ◌^◌, ◌<◌, Bool, true, false, if◌then◌else◌, List, [], ◌∷◌, ◌++◌, refl, sym, ap, ◌∙◌, subst, arith}
 use Rattle.patmos_instr.specs.Bundles.{Slots}
 use Rattle.patmos_instr.specs.declared.functions.StackFunc.TheVariants.{Sfree}
 use Rattle.patmos_instr.specs.declared.instructions.Op.TheVariants.{ToSpecial, Return}
@@ -29,12 +29,7 @@ use Rattle.sp_emit.proofs.Calm.{is_calm_trail, calm_run}
 use Rattle.sp_emit.proofs.CalmCode.{own_free}
 use Rattle.sp_emit.proofs.WordPlaces.{word_still, read_is, read_leaves}
 use Rattle.sp_emit.proofs.Quotients.{did_copy}
-use Rattle.sp_emit.proofs.Once.{behind_slot, slot_behind, unchanged, with_regs, with_written, did_write, whole_written, held_written, stays_zero}
-
--- a special register is written: no general one is
-kept_by_special : (s : WritableSpecial) (v r : ℕ) (m : Run) → IsWhole m → r < 32 → held r (with_written (write.Special s v) m) ≡ held r m
-kept_by_special s v zero m whole lt = stays_zero (write.Special s v) m whole
-kept_by_special s v (suc r) m whole lt = held_written (write.Special s v) (suc r) m whole lt ∙ rw (ne_eqb (suc r) 0 (omega arith))
+use Rattle.sp_emit.proofs.Once.{behind_slot, slot_behind, unchanged, with_regs, did_write, whole_written, held_written, kept_by_special}
 
 -- the stack, the window and the world as they were
 pub record Ends (homes : ℕ) (w : World) (m t : Run) : Type 0 where

@@ -21,7 +21,7 @@ use Rattle.sp_emit.proofs.Operands.{operand_is, mask_is}
 use Rattle.sp_emit.proofs.Held.{held_is}
 use Rattle.sp_emit.specs.Division.{unsigned_quotient_to}
 use Rattle.sp_emit.specs.Divisors.{factor_rest_to}
-use Rattle.sp_emit.specs.Expressions.{unary_code, binary_code, held_code, element_code, number_of, value_code, operands_code, expr_to, expr_code, operand_code, value_at, is_immediate, address_of}
+use Rattle.sp_emit.specs.Expressions.{unary_code, binary_code, held_code, number_of, value_code, operands_code, expr_to, expr_code, operand_code, value_at, is_immediate, address_of}
 use Rattle.sp_emit.proofs.Codes.{kept_is, brought_is, taken_is, freed_is}
 use Rattle.sp_emit.specs.Functions.{argument_kept, first_counter, arguments_kept, mask_kept, state_kept, frame_taken, result_given, function_rest, function_code}
 use Rattle.std.specs.Prelude.{◌-◌}
@@ -29,9 +29,9 @@ use Rattle.patmos_instr.specs.declared.guards.Guard.{Guard}
 use Rattle.patmos_instr.specs.declared.instructions.Op.{Op}
 use Rattle.c_world.specs.declared.region.Region.TheVariants as region
 use Rattle.sp_emit.specs.Instructions.{always, where_so, under, set_short, set_number, number_op}
-use Rattle.sp_emit.specs.Places.{in_register, read_word, set_word, word_cleared, words_cleared, fetch_word}
+use Rattle.sp_emit.specs.Places.{in_register, read_word, set_word, word_cleared, words_cleared, fetch_word, keep_word}
 use Rattle.sp_emit.specs.declared.registers.TheConstants.{RESULT, MASK, FIRST, OVERRUN, TEST, SPARE}
-use Rattle.sp_emit.proofs.WordPlaces.{read_is, set_op_is, fetch_is}
+use Rattle.sp_emit.proofs.WordPlaces.{read_is, set_op_is, fetch_is, keep_is}
 use Rattle.sp_emit.specs.Statements.{mask_test, cell_write, element_write, target_write, guarded_code, args_code, call_code, send_code, overrun_code, slot_set, stmt_code, stmts_code}
 use Rattle.sp_emit.proofs.Lasts.{Gives, write_is}
 use Rattle.sp_emit.proofs.Numbers.{number_op_is}
@@ -55,6 +55,9 @@ held_room op rd ra n = held_is (λ bs. bundles_room bs ≤ binary_cost op) op rd
 
 read_words : (homes rd slot : ℕ) → bundle_room (read_word homes rd slot) ≤ 2
 read_words homes rd slot = read_is (λ b. bundle_room b ≤ 2) homes rd slot (omega arith) (omega arith)
+
+keep_words : (homes slot : ℕ) → bundle_room (keep_word homes slot) ≤ 1
+keep_words homes slot = keep_is (λ b. bundle_room b ≤ 1) homes slot (omega arith) (omega arith)
 
 fetch_words : (homes slot : ℕ) → bundle_room (fetch_word homes slot) ≤ 2
 fetch_words homes slot = fetch_is (λ b. bundle_room b ≤ 2) homes slot (omega arith) (omega arith)
@@ -175,7 +178,7 @@ mutual
         fetch_words homes mask,
       )
   stmt_room homes frame counter (overruns mask e) = omega (arith, room_both (expr_code homes e 3) (one (straight (overrun_code homes mask))), expr_room homes e 3 3, fetch_words homes mask)
-  stmt_room homes frame counter (iterations count body) = omega (arith, stmts_room homes frame (counter - 1) body)
+  stmt_room homes frame counter (iterations count body) = omega (arith, stmts_room homes frame (counter - 1) body, fetch_words homes counter, keep_words homes counter)
 
   stmts_room : (homes : ℕ) (frame counter : ℕ) (ts : PlainStmts) → parts_room (stmts_code homes frame counter ts) ≤ stmts_cost ts
   stmts_room homes frame counter no_stmt = omega arith

@@ -1,5 +1,5 @@
 -- The code of statements leaves the run where their meaning leaves the state, where the code of calls does.
-use Rattle.std.proofs.Common.{◌≡◌, ℕ, ◌+◌, ◌-◌, ◌<◌, ◌≤◌, true, ◌&&◌, List, [], Option, refl, sym, subst, arith, nat_lt}
+use Rattle.std.proofs.Common.{◌≡◌, ℕ, ◌+◌, ◌-◌, ◌<◌, ◌≤◌, true, ◌&&◌, List, [], Option, sym, subst, arith, nat_lt}
 use Rattle.std.proofs.lemmas.Bool.{and_parts, ltb-true}
 use Rattle.sp_tree.specs.Formed.{send_formed, target_formed, array_formed, expr_formed, stmt_formed, stmts_formed, stmt_levels, stmts_levels}
 use Rattle.sp_tree.specs.Plain.{PlainSp}
@@ -10,6 +10,7 @@ use Rattle.sp_shape.specs.Trail.{Step, parts_trail}
 use Rattle.sp_emit.specs.Means.{Follows, KeepsBehind, HasStmtConstants, HasStmtsConstants}
 use Rattle.sp_emit.specs.Places.{stmt_least, stmts_least}
 use Rattle.sp_emit.specs.Statements.{stmt_code, stmts_code}
+use Rattle.sp_emit.proofs.Passing.{kept_all}
 use Rattle.sp_emit.proofs.Masks.{Done, mask_done, slot_done}
 use Rattle.sp_emit.proofs.Overruns.{overrun_is_done}
 use Rattle.sp_emit.proofs.TargetWrites.{cell_done, element_done}
@@ -26,8 +27,8 @@ pub record CallsRun (homes : ℕ) (tops : List ℕ) (f : ℕ → List Step) (g :
   pub calls : (counter mask k : ℕ) (args : List PlainSp) (result : Option ℕ) → slots ≤ counter + 1 → counter + 3 ≤ frame → stmt_formed fs number slots (calls mask k args result) ≡ true → HasStmtConstants (calls mask k args result) → stmt_least tops (calls mask k args result) ≤ homes
       → Runs homes f g frame counter slots low (calls mask k args result)
 
-fewer_kept : {top : ℕ} {count more : ℕ} {m t : Run} → count ≤ more → KeepsBehind top count m t → KeepsBehind top more m t
-fewer_kept le k = record { st = k.st; stack = λ a above. k.stack a (omega (arith, above, le)); high = k.high }
+fewer_kept : {count more : ℕ} {m t : Run} (homes : ℕ) → count ≤ more → KeepsBehind (homes + count) count m t → KeepsBehind (homes + more) more m t
+fewer_kept homes le k = record { st = k.st; stack = λ a above. k.stack a (omega (arith, above, le)); high = λ r from lt. k.high r (omega (arith, from, le)) lt }
 
 write_run : (homes : ℕ) (f : ℕ → List Step) (g : Serves) (frame counter slots low mask : ℕ) (target : PlainSpTarget) (e : PlainSp) → slots ≤ 128 → slots ≤ counter + 1 → mask < slots → target_formed slots target ≡ true → expr_formed slots e ≡ true → HasStmtConstants (writes mask target e) → stmt_least [] (writes mask target e) ≤ homes
     → Runs homes f g frame counter slots low (writes mask target e)
@@ -59,14 +60,14 @@ mutual
       overrun_is_done homes f frame counter slots mask e s m most (ltb-true mask slots parts.0) parts.1 constants least x
   stmt_runs homes tops f g fs number frame slots counter low others most few within (iterations count body) levels formed constants least s m enough x =
       let parts = and_parts (nat_lt 0 count) (stmts_formed fs number slots body) formed in
-      iterations_done homes f slots counter low count (stmts_code homes frame (counter - 1) body) (stmts_done g body) s m (omega (arith, levels)) few
-      (λ z n more y. let d = stmts_run homes tops f g fs number frame slots (counter - 1) low others most (omega (arith, few)) (omega (arith, within)) body (omega (arith, levels)) parts.1 constants least z n more y in
-      record { follows = d.follows; keeps = fewer_kept (omega (arith, levels)) d.keeps }) enough x
+      iterations_done homes f slots counter low count (stmts_code homes frame (counter - 1) body) (stmts_done g body) s m (omega (arith, least)) (omega (arith, levels)) few
+      (λ z n more y. let d = stmts_run homes tops f g fs number frame slots (counter - 1) low others most (omega (arith, few)) (omega (arith, within)) body (omega (arith, levels)) parts.1 constants (omega (arith, least)) z n more y in
+      record { follows = d.follows; keeps = fewer_kept homes (omega (arith, levels)) d.keeps }) enough x
 
   pub stmts_run : (homes : ℕ) (tops : List ℕ) (f : ℕ → List Step) (g : Serves) (fs : List PlainFunction) (number frame slots counter low : ℕ) → CallsRun homes tops f g fs number frame slots low → slots ≤ 128 → counter < 128 → counter + 3 ≤ frame
       → (ts : PlainStmts) → slots + stmts_levels ts ≤ counter + 1 → stmts_formed fs number slots ts ≡ true → HasStmtsConstants ts → stmts_least tops ts ≤ homes
       → (s : State) (m : Run) → low ≤ m.st → Follows homes slots s m → Done homes slots (counter + 1) (stmts_done g ts s) m (run by_words (parts_trail f (stmts_code homes frame counter ts)) m)
-  stmts_run homes tops f g fs number frame slots counter low others most few within no_stmt levels formed constants least s m enough x = record { follows = x; keeps = record { st = refl; stack = λ a above. refl; high = λ r at lt. refl } }
+  stmts_run homes tops f g fs number frame slots counter low others most few within no_stmt levels formed constants least s m enough x = record { follows = x; keeps = kept_all (homes + (counter + 1)) (counter + 1) m }
   stmts_run homes tops f g fs number frame slots counter low others most few within (stmt t rest) levels formed constants least s m enough x =
       let parts = and_parts (stmt_formed fs number slots t) (stmts_formed fs number slots rest) formed in
       let d = stmt_runs homes tops f g fs number frame slots counter low others most few within t (omega (arith, levels)) parts.0 constants.0 (omega (arith, least)) s m enough x in

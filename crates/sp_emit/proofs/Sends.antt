@@ -36,7 +36,8 @@ use Rattle.sp_emit.proofs.CalmCode.{own_free}
 use Rattle.sp_emit.proofs.Calm.{calm_run}
 use Rattle.sp_emit.proofs.CellWrites.{follows_world}
 use Rattle.sp_emit.proofs.Frames.{put_same}
-use Rattle.sp_emit.proofs.Masks.{Done, ready, follows_still, behind_still, keeps_then, tested}
+use Rattle.sp_emit.proofs.Passing.{keeps_then}
+use Rattle.sp_emit.proofs.Masks.{Done, ready, follows_still, behind_still, tested}
 use Rattle.sp_emit.proofs.Storing.{with_store, did_store}
 use Rattle.sp_emit.proofs.Leaving.{did_set_long, did_with_short, did_compare, did_combine, did_compute}
 use Rattle.sp_emit.proofs.Once.{so, with_written, did_nothing, whole_written, held_written, so_written, got, so_by_register}
@@ -276,6 +277,6 @@ send_done homes f frame counter slots mask core source target count s m most mas
     (sym (run_joined by_words f (expr_code homes source FIRST) _ m ∙ run_joined by_words f (expr_code homes target (FIRST + 1)) _ na ∙ run_joined by_words f (expr_code homes count (FIRST + 2)) (one (straight (send_code homes mask core))) nb ∙ run_lone by_words f (send_code homes mask core) nc))
     (record {
       follows = subst (λ z. Follows homes slots z (run by_words (all_done start_stores) w)) (same_send b core (worth source s) (worth target s) (worth count s) s) done.follows;
-      keeps = keeps_then (behind_still slots (counter + 1) ka) (keeps_then (behind_still slots (counter + 1) kb) (keeps_then (behind_still slots (counter + 1) kc)
-          (keeps_then (behind_still slots (counter + 1) t.keeps) (keeps_then (behind_still slots (counter + 1) allowed.keeps) (keeps_then (behind_still slots (counter + 1) kw) done.keeps)))));
+      keeps = keeps_then (behind_still (counter + 1) ka) (keeps_then (behind_still (counter + 1) kb) (keeps_then (behind_still (counter + 1) kc)
+          (keeps_then (behind_still (counter + 1) t.keeps) (keeps_then (behind_still (counter + 1) allowed.keeps) (keeps_then (behind_still (counter + 1) kw) done.keeps)))));
     })

@@ -94,10 +94,10 @@ function_run homes from code f m =
     ∙ run_append from (all_done (function_end homes f)) (all_done return_tail) (run from (parts_trail code body) (run from (all_done (state_kept homes f)) (run from (all_done (arguments_kept homes f.parameters)) c)))
 
 -- a function over what the earlier ones do
-pub function_serves : (homes : ℕ) (tops : List ℕ) (code : ℕ → List Step) (g : Serves) (fs : List PlainFunction) (number low : ℕ) (f : PlainFunction) → function_formed fs number f ≡ true → HasStmtsConstants f.body → homes_over tops f ≤ homes
+pub function_serves : (homes : ℕ) (tops : List ℕ) (code : ℕ → List Step) (g : Serves) (fs : List PlainFunction) (number low : ℕ) (f : PlainFunction) → functions_formed fs number ≡ true → function_formed fs number f ≡ true → HasStmtsConstants f.body → homes_over tops f ≤ homes
     → CallsRun homes tops code g fs number f.frame (slots_of f) low
-    → (mask : ℕ) (args : List ℕ) (w : World) (m : Run) → length args ≡ f.parameters → low + 128 ≤ m.st → CalledWith mask args w m → Returns (homes + slots_of f) (function_outcome g f mask args w) m (run by_words (parts_trail code (function_code homes f)) m)
-function_serves homes tops code g fs number low f formed constants least others mask args w m count enough x =
+    → (mask : ℕ) (args : List ℕ) (w : World) (m : Run) → length args ≡ f.parameters → low + 128 ≤ m.st → CalledWith mask args w m → Returns (homes + (f.frame - 2)) (function_outcome g f mask args w) m (run by_words (parts_trail code (function_code homes f)) m)
+function_serves homes tops code g fs number low f earlier formed constants least others mask args w m count enough x =
     let p = parts_of_function fs number f formed in
     let slots = slots_of f in
     let t1 = run by_words (all_done (arguments_kept homes f.parameters)) (run by_words (all_done (words_cleared homes slots)) (run by_words (all_done (frame_taken homes f)) m)) in
@@ -121,7 +121,7 @@ function_serves homes tops code g fs number low f formed constants least others 
     let z = stmts_done g f.body s in
     let r = returns_value homes z.world f.frame (f.frame - 2) (f.frame - 1) none f.result (z.frame f.result) (stmts_call f.body) t3 (record { whole = d.follows.whole; has = d.follows.shows.world; words = d.follows.words.world; flag = d.follows.flag })
     (omega (arith, least)) (omega (arith, p.result, p.room, p.frame)) (d.follows.shows.frame f.result p.result) (d.follows.words.frame f.result p.result) in
-    subst (Returns (homes + slots) (function_outcome g f mask args w) m) (sym (function_run homes by_words code f m)) (record {
+    subst (Returns (homes + (f.frame - 2)) (function_outcome g f mask args w) m) (sym (function_run homes by_words code f m)) (record {
       answers = record {
         carries = r.carries;
         value = r.value;
@@ -130,15 +130,16 @@ function_serves homes tops code g fs number low f formed constants least others 
         st = omega (arith, r.st, d.keeps.st, e.st, few, enough, p.frame);
         stack = λ a above. ap (λ words. words a) r.stack ∙ stands none refl e.carries.whole e.st d.keeps a above ∙ e.behind a above;
       };
-      high = λ q from lt. r.high q (omega (arith, from)) lt ∙ d.keeps.high q from lt ∙ e.high q from lt;
+      high = λ q from lt. r.high q (omega (arith, from)) lt ∙ d.keeps.high q (omega (arith, from, p.room, p.mask)) lt ∙ e.high q (omega (arith, from, p.room)) lt;
     })
   where
     -- its body leaves the stack of its callers
-    stands : {t : Run} (b : Bool) → needs_none homes f ≡ b → IsWhole t → t.st ≡ m.st - words_taken (needs_none homes f) f.frame → KeepsBehind (homes + slots_of f) (first_counter f + 1) t (run by_words (parts_trail code (stmts_code homes f.frame (first_counter f) f.body)) t)
+    stands : {t : Run} (b : Bool) → needs_none homes f ≡ b → IsWhole t → t.st ≡ m.st - words_taken (needs_none homes f) f.frame → KeepsBehind (homes + (first_counter f + 1)) (first_counter f + 1) t (run by_words (parts_trail code (stmts_code homes f.frame (first_counter f) f.body)) t)
         → (a : ℕ) → m.st ≤ a → (run by_words (parts_trail code (stmts_code homes f.frame (first_counter f) f.body)) t).stack a ≡ t.stack a
     stands {t} true none whole st keeps a above =
         let p = parts_of_function fs number f formed in
-        (bare_body homes by_words code fs number f p.body (needs_parts homes f none) t whole).keeps.stack a (omega (arith, st, above))
+        let stays = bare_body homes by_words code fs number f tops (record { earlier = earlier; some = omega (arith, p.mask); most = omega (arith, p.room, p.frame); own = omega (arith, least) }) p.body p.room (omega (arith, least)) (needs_parts homes f none) t whole in
+        stays.keeps.stack a (omega (arith, st, above))
     stands {t} false some whole st keeps a above =
         let p = parts_of_function fs number f formed in
         keeps.stack a (let same = ap (λ b. words_taken b f.frame) some in omega (arith, st, same, above, p.frame, p.room, p.mask, enough))
@@ -189,7 +190,7 @@ all_serve fs constants (suc n) within formed k less mask args w m count room cal
     last : AllServe fs n → k ≡ n → Returns (top_of fs n) (function_outcome (serves fs n) f mask args w) m (run by_words (parts_trail (code_of fs n) (function_code (homes_of fs n) f)) m)
     last before is =
         let p = parts_of_function fs n f parts.1 in
-        ends_at (function_serves (homes_of fs n) (tops fs n) (code_of fs n) (serves fs n) fs n (n * 128) f parts.1 (constants n) (omega arith) (calls_run (homes_of fs n) fs n f.frame (slots_of f) parts.0 (omega (arith, p.room, p.frame)) before)
+        ends_at (function_serves (homes_of fs n) (tops fs n) (code_of fs n) (serves fs n) fs n (n * 128) f parts.0 parts.1 (constants n) (omega arith) (calls_run (homes_of fs n) fs n f.frame (slots_of f) parts.0 (omega (arith, p.room, p.frame)) before)
         mask args w m (count ∙ ap (λ j. (slice_index_or fs j no_function).parameters) is) (omega (arith, room, is)) called)
 
     by : AllServe fs n → (b : Bool) → (k == n) ≡ b

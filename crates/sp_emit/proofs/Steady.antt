@@ -13,15 +13,15 @@ use Rattle.c_world.specs.declared.region.Region.{Region}
 use Rattle.sp_tree.specs.Plain.{PlainSp}
 use Rattle.sp_tree.specs.Statements.{PlainSpTarget, to_slot, to_cell, to_array, PlainStmt, masks, writes, calls, transfers, overruns, iterations, PlainStmts, no_stmt, stmt, PlainFunction}
 use Rattle.sp_shape.specs.Bundles.{is_steady, parts_all}
-use Rattle.sp_shape.specs.Parts.{straight, PlainParts, one, joined}
+use Rattle.sp_shape.specs.Parts.{straight, PlainParts, one, joined, repeats}
 use Rattle.sp_emit.specs.Expressions.{operands_code, expr_to, expr_code, address_of}
 use Rattle.sp_emit.specs.Functions.{first_counter, function_begin, function_end, function_rest, function_code}
 use Rattle.patmos_instr.specs.declared.guards.Guard.{Guard}
 use Rattle.sp_emit.specs.Instructions.{always, where_so, under, set_number}
-use Rattle.sp_emit.specs.Places.{read_word, set_word, fetch_word}
+use Rattle.sp_emit.specs.Places.{read_word, set_word, fetch_word, keep_word}
 use Rattle.sp_emit.specs.declared.registers.TheConstants.{RESULT, MASK, FIRST, TEST, SPARE}
-use Rattle.sp_emit.proofs.WordPlaces.{read_is, set_op_is, fetch_is}
-use Rattle.sp_emit.specs.Statements.{cell_write, element_write, target_write, args_code, call_code, send_code, overrun_code, slot_set, stmt_code, stmts_code}
+use Rattle.sp_emit.proofs.WordPlaces.{read_is, set_op_is, fetch_is, keep_is}
+use Rattle.sp_emit.specs.Statements.{cell_write, element_write, target_write, args_code, call_code, send_code, overrun_code, slot_set, stmt_code, stmts_code, iterations_begin, iterations_tail}
 use Rattle.sp_emit.proofs.Quiet.{each_joined, each_lone, each_so, is_quiet, operands_quiet, expr_quiet, args_quiet}
 use Rattle.sp_emit.proofs.Lasts.{alu_quiet, write_is, guarded_each}
 use Rattle.sp_emit.proofs.Operands.{mask_is}
@@ -62,6 +62,9 @@ args_firm homes args rd = each_so is_quiet is_firm firm_quiet (args_code homes a
 
 read_firm : (homes rd slot : ℕ) → is_firm (read_word homes rd slot) ≡ true
 read_firm homes rd slot = read_is (λ b. is_firm b ≡ true) homes rd slot refl refl
+
+keep_firm : (homes slot : ℕ) → is_firm (keep_word homes slot) ≡ true
+keep_firm homes slot = keep_is (λ b. is_firm b ≡ true) homes slot refl refl
 
 fetch_firm : (homes slot : ℕ) → is_firm (fetch_word homes slot) ≡ true
 fetch_firm homes slot = fetch_is (λ b. is_firm b ≡ true) homes slot refl refl
@@ -110,8 +113,10 @@ mutual
       (both (expr_code homes target 4) (joined (expr_code homes count 5) sent) (expr_firm homes target 4 4) (both (expr_code homes count 5) sent (expr_firm homes count 5 5) (rw (fetch_firm homes mask) refl)))
   stmt_firm homes frame counter (overruns mask e) = both (expr_code homes e 3) (one (straight (overrun_code homes mask))) (expr_firm homes e 3 3) (rw (fetch_firm homes mask) refl)
   stmt_firm homes frame counter (iterations count body) =
-      let iteration = and_from (parts_all is_firm (stmts_code homes frame (counter - 1) body)) true (stmts_firm homes frame (counter - 1) body) refl in
-      and_from (parts_all is_firm (stmts_code homes frame (counter - 1) body) && true) true iteration refl
+      let code = stmts_code homes frame (counter - 1) body in
+      let kept = keep_firm homes counter in
+      both (one (straight (iterations_begin homes counter count))) (one (repeats count code (iterations_tail homes counter))) (rw (kept) refl)
+      (and_from _ true (and_from (parts_all is_firm code) (list_all is_firm (iterations_tail homes counter)) (stmts_firm homes frame (counter - 1) body) (rw (fetch_firm homes counter, kept) refl)) refl)
 
   pub stmts_firm : (homes : ℕ) (frame counter : ℕ) (ts : PlainStmts) → Firm (stmts_code homes frame counter ts)
   stmts_firm homes frame counter no_stmt = refl

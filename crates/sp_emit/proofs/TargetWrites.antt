@@ -36,7 +36,8 @@ use Rattle.sp_emit.proofs.Calm.{calm_run}
 use Rattle.sp_emit.proofs.CellWrites.{with_where, local_store, main_store, cached_is_plain, main_is_plain}
 use Rattle.sp_emit.proofs.Cells.{cell_found, element_found, element_address, few_words, first_small}
 use Rattle.sp_emit.proofs.Leaving.{did_set_number, did_compute, did_compare, did_combine}
-use Rattle.sp_emit.proofs.Masks.{Done, ready, follows_still, behind_still, keeps_then, tested}
+use Rattle.sp_emit.proofs.Passing.{keeps_then}
+use Rattle.sp_emit.proofs.Masks.{Done, ready, follows_still, behind_still, tested}
 use Rattle.sp_emit.proofs.Once.{so, with_written, whole_written, held_written, so_written, got, so_by_register}
 use Rattle.sp_emit.proofs.Values.{behind, fits_of, expr_keeps, run_joined, run_lone, value_left, value_small}
 
@@ -108,7 +109,7 @@ cell_done homes f frame counter slots mask c e s m most masked cell formed const
     }) in
     subst (Done homes slots (counter + 1) (where_on mask (write_done (to_cell c) e) s) m) (sym (run_joined by_words f (expr_code homes e FIRST) (target_write homes mask (to_cell c)) m ∙ run_lone by_words f (cell_write homes mask c) n)) (record {
       follows = done.follows;
-      keeps = keeps_then (behind_still slots (counter + 1) keeps) (keeps_then (behind_still slots (counter + 1) t.keeps) (keeps_then (behind_still slots (counter + 1) long) done.keeps));
+      keeps = keeps_then (behind_still (counter + 1) keeps) (keeps_then (behind_still (counter + 1) t.keeps) (keeps_then (behind_still (counter + 1) long) done.keeps));
     })
 
 -- ---- elements
@@ -215,6 +216,6 @@ element_done homes f frame counter slots mask array index e s m most masked form
     (sym (run_joined by_words f (expr_code homes e FIRST) (target_write homes mask (to_array array index)) m ∙ run_joined by_words f (expr_code homes index (FIRST + 1)) (one (straight (element_write homes mask array))) n ∙ run_lone by_words f (element_write homes mask array) ni))
     (record {
       follows = subst (λ z. Follows homes slots z (run by_words (all_done (masked_store (array_space array.region) (FIRST + 1))) w)) (same_element b array.region array.first array.length i v s) done.follows;
-      keeps = keeps_then (behind_still slots (counter + 1) keeps) (keeps_then (behind_still slots (counter + 1) keeps_i)
-          (keeps_then (behind_still slots (counter + 1) t.keeps) (keeps_then (behind_still slots (counter + 1) reached.keeps) done.keeps)));
+      keeps = keeps_then (behind_still (counter + 1) keeps) (keeps_then (behind_still (counter + 1) keeps_i)
+          (keeps_then (behind_still (counter + 1) t.keeps) (keeps_then (behind_still (counter + 1) reached.keeps) done.keeps)));
     })

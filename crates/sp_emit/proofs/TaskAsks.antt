@@ -15,12 +15,12 @@ use Rattle.sp_shape.specs.Bundles.{parts_all}
 use Rattle.sp_shape.specs.Parts.{straight, no_part, one, joined}
 use Rattle.sp_shape.specs.Trail.{Step, all_done, parts_trail, trails, trail}
 use Rattle.sp_emit.specs.Accesses.{AsksOnly}
-use Rattle.sp_emit.specs.Expressions.{operands_code, expr_to, expr_code}
+use Rattle.sp_emit.specs.Expressions.{operands_code, expr_code}
 use Rattle.sp_emit.specs.Functions.{first_counter, function_begin, function_end, function_rest, function_code, return_tail, emitted}
 use Rattle.sp_emit.specs.Statements.{mask_test, slot_write, cell_write, element_write, target_write, args_code, call_code, send_code, overrun_code, slot_set, iterations_begin, iterations_tail, stmt_code, stmts_code}
 use Rattle.sp_emit.specs.Instructions.{always, where_so, under}
 use Rattle.sp_emit.specs.declared.registers.TheConstants.{RESULT, MASK, FIRST, OVERRUN, TEST}
-use Rattle.sp_emit.proofs.Accessing.{asks_append, asks_nothing, asks_copies, is_near, near_asks, near_parts, near_read, near_set, near_fetch}
+use Rattle.sp_emit.proofs.Accessing.{asks_append, asks_nothing, asks_copies, is_near, near_asks, near_parts, near_read, near_set, near_fetch, near_keep}
 use Rattle.sp_emit.specs.Places.{set_word, homes_of}
 use Rattle.sp_emit.specs.Functions.{codes}
 use Rattle.sp_emit.proofs.Around.{begin_all, end_all}
@@ -109,8 +109,9 @@ mutual
   stmt_asks homes Named f fs number slots frame counter called earlier most some (iterations count body) formed named =
       let parts = and_parts (nat_lt 0 count) (stmts_formed fs number slots body) formed in
       let code = stmts_code homes frame (counter - 1) body in
-      asks_append (near_asks Named (iterations_begin counter count) refl)
-      (asks_append (asks_copies count (parts_trail f code ++ all_done (iterations_tail counter)) (asks_append (stmts_ask homes Named f fs number slots frame (counter - 1) called earlier most some body parts.1 named) (near_asks Named (iterations_tail counter) refl))) (asks_nothing Named))
+      let kept = near_keep homes counter in
+      asks_append (near_asks Named (iterations_begin homes counter count) (rw (kept) refl))
+      (asks_append (asks_copies count (parts_trail f code ++ all_done (iterations_tail homes counter)) (asks_append (stmts_ask homes Named f fs number slots frame (counter - 1) called earlier most some body parts.1 named) (near_asks Named (iterations_tail homes counter) (rw (near_fetch homes counter, kept) refl)))) (asks_nothing Named))
 
   stmts_ask : (homes : ℕ) (Named : Use → Type 0) (f : ℕ → List Step) (fs : List PlainFunction) (number slots frame counter : ℕ) → ((k : ℕ) → k < number → AsksOnly Named (f k)) → functions_formed fs number ≡ true → slots ≤ 128 → 1 ≤ homes
       → (ts : PlainStmts) → stmts_formed fs number slots ts ≡ true → AreNamed Named (stmts_uses ts) → AsksOnly Named (parts_trail f (stmts_code homes frame counter ts))

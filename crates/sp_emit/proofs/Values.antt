@@ -48,7 +48,7 @@ pub before : {rd : ℕ} (homes : ℕ) (e : PlainSp) → rd + need e ≤ homes �
 before homes e free = omega (arith, free, some_need e)
 
 -- what gives the value is calm from the register on to which that goes
-value_calm : (homes low top : ℕ) (e : PlainSp) (rd to : ℕ) → low ≤ to → to < OVERRUN → to < top → parts_calm low top (value_code homes e rd to) ≡ true
+pub value_calm : (homes low top : ℕ) (e : PlainSp) (rd to : ℕ) → low ≤ to → to < OVERRUN → to < top → parts_calm low top (value_code homes e rd to) ≡ true
 value_calm homes low top (constant n) rd to le few within = lone_calm low top (set_number to n ∷ []) (constant_calm low top to n le few within)
 value_calm homes low top (frame_word slot) rd to le few within = lone_calm low top (read_word homes to slot ∷ []) (slot_calm low top homes to slot le few within)
 value_calm homes low top (cell_word cell) rd to le few within = lone_calm low top (cell_code cell to) (cell_calm cell low top to le few within)
@@ -81,7 +81,7 @@ free_handed homes = record {
 }
 
 -- the operands are calm from the first register on
-operands_calm : (homes low : ℕ) (e : PlainSp) (rd : ℕ) → low ≤ rd → ExprFits e rd → rd + need e ≤ homes → parts_calm low homes (operands_code homes e rd) ≡ true
+pub operands_calm : (homes low : ℕ) (e : PlainSp) (rd : ℕ) → low ≤ rd → ExprFits e rd → rd + need e ≤ homes → parts_calm low homes (operands_code homes e rd) ≡ true
 operands_calm homes low e rd le fits free =
     operands_are (λ ps. parts_calm low homes ps ≡ true) homes (λ e rd. (low ≤ rd) × (ExprFits e rd × (rd + need e ≤ homes))) refl (joined_calm low homes) (both_handed (above_handed low) (both_handed fits_handed (free_handed homes)))
     (λ e rd h. value_calm homes low homes e rd rd h.0 (omega (arith, left e h.1.0)) (before homes e h.1.1)) e rd (le, (fits, free))

@@ -27,8 +27,8 @@ use Rattle.patmos_instr.specs.declared.instructions.Op.TheVariants.{AluImm, Load
 use Rattle.patmos_instr.specs.declared.memories.Mem.TheVariants as mem
 use Rattle.patmos_instr.specs.declared.memories.StoreWidth.TheVariants as store
 use Rattle.patmos_instr.specs.declared.memories.Width.TheVariants as load
-use Rattle.sp_emit.specs.Places.{in_register, read_op, read_word, set_op, set_word, fetch_word}
-use Rattle.sp_emit.proofs.WordPlaces.{read_is, set_op_is, fetch_is}
+use Rattle.sp_emit.specs.Places.{in_register, read_op, read_word, set_op, set_word, fetch_word, keep_word}
+use Rattle.sp_emit.proofs.WordPlaces.{read_is, set_op_is, fetch_is, keep_is}
 use Rattle.sp_emit.specs.Chains.{stmt_chain, stmts_chain}
 use Rattle.sp_emit.proofs.Held.{held_is}
 use Rattle.sp_emit.specs.Division.{unsigned_quotient_to}
@@ -79,6 +79,9 @@ element_inside frame r first length rd ra =
 
 pub read_inside : (frame homes rd slot : ℕ) → slot < frame → is_inside frame (read_word homes rd slot) ≡ true
 read_inside frame homes rd slot lt = read_is (λ b. is_inside frame b ≡ true) homes rd slot refl (rw (lt-ltb slot frame lt) refl)
+
+keep_inside : (frame homes slot : ℕ) → slot < frame → is_inside frame (keep_word homes slot) ≡ true
+keep_inside frame homes slot lt = keep_is (λ b. is_inside frame b ≡ true) homes slot refl (rw (lt-ltb slot frame lt) refl)
 
 fetch_inside : (frame homes slot : ℕ) → slot < frame → is_inside frame (fetch_word homes slot) ≡ true
 fetch_inside frame homes slot lt = fetch_is (λ b. is_inside frame b ≡ true) homes slot refl (rw (lt-ltb slot frame lt) refl)
@@ -296,13 +299,14 @@ mutual
   stmt_stays homes from f g fs number slots frame counter callees some within (iterations count body) levels is m framed enough =
       let parts = and_parts (nat_lt 0 count) (stmts_formed fs number slots body) is in
       let code = stmts_code homes frame (counter - 1) body in
-      let counted = lt-ltb counter frame (omega (arith, within)) in
-      let begin = inside_done from frame (iterations_begin counter count) m framed (rw counted refl) in
-      let n = run from (all_done (iterations_begin counter count)) m in
-      let iteration = parts_trail f code ++ all_done (iterations_tail counter) in
+      let kept = keep_inside frame homes counter (omega (arith, within)) in
+      let begin = inside_done from frame (iterations_begin homes counter count) m framed (rw (kept) refl) in
+      let n = run from (all_done (iterations_begin homes counter count)) m in
+      let iteration = parts_trail f code ++ all_done (iterations_tail homes counter) in
       let rest = loop_stays from frame count iteration (49152 + stmts_chain g body) (λ t framed enough.
       let b = stmts_stay homes from f g fs number slots frame (counter - 1) callees some (omega (arith, within)) body (omega (arith, levels, some)) parts.1 t framed enough in
-      subst (Stays frame t) (sym (run_append from (parts_trail f code) (all_done (iterations_tail counter)) t)) (stays_then b (inside_done from frame (iterations_tail counter) (run from (parts_trail f code) t) b.framed (rw counted refl)))) n begin.framed (omega (arith, begin.st, enough)) in
+      subst (Stays frame t) (sym (run_append from (parts_trail f code) (all_done (iterations_tail homes counter)) t))
+      (stays_then b (inside_done from frame (iterations_tail homes counter) (run from (parts_trail f code) t) b.framed (rw (fetch_inside frame homes counter (omega (arith, within)), kept) refl)))) n begin.framed (omega (arith, begin.st, enough)) in
       subst (Stays frame m) (sym (run_append from (copies count iteration) [] n)) (stays_then begin rest)
 
   pub stmts_stay : (homes : ℕ) (from : Sources) (f : ℕ → List Step) (g : ℕ → ℕ) (fs : List PlainFunction) (number slots frame counter : ℕ) → CalleesStay from f number g → 1 ≤ slots → counter + 3 ≤ frame

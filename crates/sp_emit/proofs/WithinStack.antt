@@ -112,7 +112,7 @@ function_stays homes from code g fs number f formed callees m whole high held en
         let p = parts_of_function fs number f formed in
         let facts = needs_parts homes f none in
         let body = stmts_code homes f.frame (first_counter f) f.body in
-        stay_parts from code 0 body (body_lone homes fs number f p.body facts) (each_so is_bare (is_inside 0) bare_inside body (body_bare homes fs number f p.body facts)) t framed
+        stay_parts from code 0 body (body_lone homes fs number f p.body facts) (each_so is_bare (is_inside 0) bare_inside body (body_bare homes fs number f p.body p.room (omega (arith, p.mask)) facts)) t framed
     by false some t framed room =
         let p = parts_of_function fs number f formed in
         stmts_stay homes from code g fs number (slots_of f) f.frame (first_counter f) callees (omega (arith, p.mask)) (omega (arith, p.room, p.mask)) f.body (omega (arith, p.room, p.mask)) p.body t framed room

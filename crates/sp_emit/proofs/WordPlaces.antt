@@ -18,8 +18,9 @@ use Rattle.patmos_sem.specs.Effects.{address_of as address_by}
 use Rattle.sp_shape.specs.Trail.{all_done}
 use Rattle.sp_shape.specs.Run.{Run, Sources, word_given, once, run, IsWhole}
 use Rattle.sp_emit.specs.Holding.{held, Keeps, KeepsFrom}
-use Rattle.sp_emit.specs.Instructions.{always, under, idle, set_short, copy, load_slot}
-use Rattle.sp_emit.specs.Places.{in_register, word_of, read_op, read_word, fetch_op, fetch_word, fetched_at, set_op, set_word, word_cleared, words_cleared}
+use Rattle.sp_emit.specs.Instructions.{always, under, idle, set_short, copy, load_slot, store_slot}
+use Rattle.sp_emit.specs.Means.{KeepsBehind}
+use Rattle.sp_emit.specs.Places.{in_register, word_of, read_op, read_word, fetch_op, fetch_word, fetched_at, keep_op, keep_word, set_op, set_word, word_cleared, words_cleared}
 use Rattle.sp_emit.specs.declared.registers.TheConstants.{SPARE, OVERRUN}
 use Rattle.sp_emit.proofs.Frames.{put_same, put_other}
 use Rattle.sp_emit.proofs.Once.{with_written, stays_zero, did_write, did_nothing, did_load, got, kept, whole_written}
@@ -50,6 +51,28 @@ fetch_op_is P homes slot here there = by (in_register homes slot)
 pub fetch_is : (P : Slots → Type 0) (homes slot : ℕ) → P idle → P (load_slot SPARE slot) → P (fetch_word homes slot)
 fetch_is P homes slot here there = fetch_op_is (λ op. P (under always op)) homes slot here there
 
+-- the register to which it is fetched: its own, or the spare one
+pub fetched_is : (P : ℕ → Type 0) (homes slot : ℕ) → (homes + slot < OVERRUN → P (homes + slot)) → P SPARE → P (fetched_at homes slot)
+fetched_is P homes slot here there = by (in_register homes slot) refl
+  where
+    by : (b : Bool) → in_register homes slot ≡ b → P (if b then homes + slot else SPARE)
+    by true is = here (ltb-true (homes + slot) OVERRUN is)
+    by false is = there
+
+pub fetched_some : (homes slot : ℕ) → 1 ≤ homes → 1 ≤ fetched_at homes slot
+fetched_some homes slot some = fetched_is (λ r. 1 ≤ r) homes slot (λ lt. omega (arith, some)) (omega arith)
+
+pub fetched_few : (homes slot : ℕ) → fetched_at homes slot < 32
+fetched_few homes slot = fetched_is (λ r. r < 32) homes slot (λ lt. omega (arith, lt)) (omega arith)
+
+pub keep_is : (P : Slots → Type 0) (homes slot : ℕ) → P idle → P (store_slot always slot SPARE) → P (keep_word homes slot)
+unfolding keep_op
+keep_is P homes slot here there = by (in_register homes slot)
+  where
+    by : (b : Bool) → P (under always (if b then AluImm imm.Add 0 0 0 else Store mem.S store.Word 0 SPARE slot))
+    by true = here
+    by false = there
+
 pub set_op_is : (P : Op → Type 0) (homes slot rs : ℕ) → P (AluImm imm.Add (homes + slot) rs 0) → P (Store mem.S store.Word 0 rs slot) → P (set_op homes slot rs)
 unfolding set_op
 set_op_is P homes slot rs here there = by (in_register homes slot)
@@ -58,18 +81,22 @@ set_op_is P homes slot rs here there = by (in_register homes slot)
     by true = here
     by false = there
 
--- what holds of each bundle that sets a register to 0 holds of those that clear words
-cleared_one : (holds : Slots → Bool) (homes slot : ℕ) → ((r : ℕ) → holds (set_short always r 0) ≡ true) → list_all holds (word_cleared homes slot) ≡ true
+-- what holds of each bundle that sets a register of the window to 0 holds of those that clear words
+cleared_one : (holds : Slots → Bool) (homes slot : ℕ) → holds (set_short always (homes + slot) 0) ≡ true → list_all holds (word_cleared homes slot) ≡ true
 unfolding word_cleared
-cleared_one holds homes slot each = by (in_register homes slot)
+cleared_one holds homes slot one = by (in_register homes slot)
   where
     by : (b : Bool) → list_all holds (if b then set_short always (homes + slot) 0 ∷ [] else []) ≡ true
-    by true = and_from (holds (set_short always (homes + slot) 0)) true (each (homes + slot)) refl
+    by true = and_from (holds (set_short always (homes + slot) 0)) true one refl
     by false = refl
 
+pub cleared_within : (holds : Slots → Bool) (homes n : ℕ) → ((slot : ℕ) → slot < n → holds (set_short always (homes + slot) 0) ≡ true) → list_all holds (words_cleared homes n) ≡ true
+cleared_within holds homes zero each = refl
+cleared_within holds homes (suc n) each =
+    all_append holds (words_cleared homes n) (word_cleared homes n) (cleared_within holds homes n (λ slot lt. each slot (omega (arith, lt)))) (cleared_one holds homes n (each n (omega arith)))
+
 pub cleared_all : (holds : Slots → Bool) (homes n : ℕ) → ((r : ℕ) → holds (set_short always r 0) ≡ true) → list_all holds (words_cleared homes n) ≡ true
-cleared_all holds homes zero each = refl
-cleared_all holds homes (suc n) each = all_append holds (words_cleared homes n) (word_cleared homes n) (cleared_all holds homes n each) (cleared_one holds homes n each)
+cleared_all holds homes n each = cleared_within holds homes n (λ slot lt. each (homes + slot))
 
 -- ---- words
 
@@ -89,6 +116,15 @@ word_kept homes slot m t high stack st = by (in_register homes slot) refl
     by : (b : Bool) → in_register homes slot ≡ b → (if b then held (homes + slot) t else t.stack (t.st + slot)) ≡ (if b then held (homes + slot) m else m.stack (m.st + slot))
     by true is = high (homes + slot) (omega arith) (ltb-true (homes + slot) OVERRUN is)
     by false is = ap (λ st. t.stack (st + slot)) st ∙ stack (m.st + slot) (omega arith)
+
+-- and where only those behind it are
+pub behind_word : (homes slot : ℕ) (m t : Run) → KeepsBehind (homes + slot) slot m t → word_of homes slot t ≡ word_of homes slot m
+unfolding word_of
+behind_word homes slot m t keeps = by (in_register homes slot) refl
+  where
+    by : (b : Bool) → in_register homes slot ≡ b → (if b then held (homes + slot) t else t.stack (t.st + slot)) ≡ (if b then held (homes + slot) m else m.stack (m.st + slot))
+    by true is = keeps.high (homes + slot) (omega arith) (ltb-true (homes + slot) OVERRUN is)
+    by false is = ap (λ st. t.stack (st + slot)) keeps.st ∙ keeps.stack (m.st + slot) (omega arith)
 
 -- ---- reading
 
@@ -117,6 +153,29 @@ fetch_leaves from homes slot m told whole near = by (in_register homes slot) ref
         ap (held (homes + slot)) (did_write from always (AluImm imm.Add 0 0 0) m whole whole.fits.always refl refl)
         ∙ nothing_written ((held 0 m + 0) % 2 ^ 32) (homes + slot) m whole (omega (arith, ltb-true (homes + slot) OVERRUN is))
     by false is = slot_leaves from SPARE slot m told whole (omega arith) (omega arith) near
+
+-- ---- a word that is changed where it was fetched
+
+-- it goes back to its place, and stays where it was fetched
+pub record Back (homes slot : ℕ) (m t : Run) : Type 0 where
+  pub word : word_of homes slot t ≡ held (fetched_at homes slot) m
+  pub stays : held (fetched_at homes slot) t ≡ held (fetched_at homes slot) m
+
+pub keep_leaves : (from : Sources) (homes slot : ℕ) (m : Run) → IsWhole m → slot < 128 → Back homes slot m (once from (keep_word homes slot) m)
+unfolding keep_op word_of
+keep_leaves from homes slot m whole near = record { word = word (in_register homes slot) refl; stays = stays (in_register homes slot) refl }
+  where
+    nothing : (r : ℕ) → r < 32 → held r (once from idle m) ≡ held r m
+    nothing r few = ap (held r) (did_write from always (AluImm imm.Add 0 0 0) m whole whole.fits.always refl refl) ∙ nothing_written ((held 0 m + 0) % 2 ^ 32) r m whole few
+
+    word : (b : Bool) → in_register homes slot ≡ b
+        → (let t = once from (under always (if b then AluImm imm.Add 0 0 0 else Store mem.S store.Word 0 SPARE slot)) m in if b then held (homes + slot) t else t.stack (t.st + slot)) ≡ held (if b then homes + slot else SPARE) m
+    word true is = nothing (homes + slot) (omega (arith, ltb-true (homes + slot) OVERRUN is))
+    word false is = ap (λ t. t.stack (t.st + slot)) (did_store_slot from always slot SPARE m whole whole.fits.always near) ∙ put_same (m.st + slot) (held SPARE m) m.stack
+
+    stays : (b : Bool) → in_register homes slot ≡ b → held (if b then homes + slot else SPARE) (once from (under always (if b then AluImm imm.Add 0 0 0 else Store mem.S store.Word 0 SPARE slot)) m) ≡ held (if b then homes + slot else SPARE) m
+    stays true is = nothing (homes + slot) (omega (arith, ltb-true (homes + slot) OVERRUN is))
+    stays false is = ap (held SPARE) (did_store_slot from always slot SPARE m whole whole.fits.always near)
 
 -- ---- setting
 
@@ -198,7 +257,7 @@ sets_straight homes slot v m t lt keeps is = record {
     word u apart true in_it = other (homes + u) (ltb-true (homes + u) OVERRUN in_it) (λ same. apart (omega (arith, same))) (cases_lt (homes + u) (homes + slot))
     word u apart false in_it = ap (λ words. words (t.st + u)) keeps.stack ∙ ap (λ st. m.stack (st + u)) keeps.st
 
-sets_stack : (homes slot v : ℕ) (m : Run) → IsWhole m → in_register homes slot ≡ false → Sets 32 homes slot v m (with_slot_word slot v m)
+pub sets_stack : (homes slot v : ℕ) (m : Run) → IsWhole m → in_register homes slot ≡ false → Sets 32 homes slot v m (with_slot_word slot v m)
 unfolding word_of
 sets_stack homes slot v m whole is = record {
   whole = record { fits = whole.fits; pending = whole.pending };

@@ -1,13 +1,13 @@
 -- To be believed. The code of functions and tasks. A function takes its frame from the stack, where its code needs one:
 -- first the words that its tree names; last the place to which it returns, where it calls others; and before that the
 -- counters of iterations, those inside others before them.
-use Rattle.std.specs.Prelude.{ℕ, zero, suc, ◌+◌, ◌-◌, ◌==◌, nat_le, Bool, not, ◌&&◌, if◌then◌else◌, List, [], ◌∷◌, ◌++◌, length, slice_index_or}
+use Rattle.std.specs.Prelude.{ℕ, zero, suc, ◌+◌, ◌-◌, nat_le, Bool, not, ◌&&◌, if◌then◌else◌, List, [], ◌∷◌, ◌++◌, length, slice_index_or}
 use Rattle.patmos_instr.specs.Bundles.{Slots}
 use Rattle.patmos_instr.specs.declared.functions.ImmFunc.TheVariants as imm
 use Rattle.patmos_instr.specs.declared.functions.StackFunc.TheVariants.{Sres, Sfree}
 use Rattle.patmos_instr.specs.declared.specials.Special.TheVariants as special
 use Rattle.patmos_instr.specs.declared.specials.WritableSpecial.TheVariants as writable
-use Rattle.sp_tree.specs.Formed.{slots_of, stmts_levels}
+use Rattle.sp_tree.specs.Formed.{slots_of}
 use Rattle.sp_tree.specs.Statements.{PlainFunction, no_function, PlainUnit}
 use Rattle.sp_shape.specs.Parts.{PlainPart, straight, leaves, PlainParts, no_part, part, joined, PlainShape}
 use Rattle.sp_emit.specs.Instructions.{always, idle, copy, with_short, from_special, to_special, stack_op, load_slot, store_slot, return}
@@ -66,11 +66,10 @@ mask_kept homes f = with_short always imm.Xor MASK MASK 1 ∷ set_word homes alw
 abbrev pub state_kept : ℕ → PlainFunction → List Slots
 state_kept homes f = mask_kept homes f ++ place_kept f
 
--- whether code needs no word of the stack: it calls no function and makes no iterations, and registers hold all words that
--- its tree names
+-- whether code needs no word of the stack: it calls no function, and registers hold all words that its tree names and its
+-- counters of iterations
 abbrev pub needs_none : ℕ → PlainFunction → Bool
-needs_none homes f =
-    not (stmts_call f.body) && ((stmts_levels f.body == 0) && nat_le (homes + slots_of f) OVERRUN)
+needs_none homes f = not (stmts_call f.body) && nat_le (homes + (f.frame - 2)) OVERRUN
 
 -- then it takes no frame
 abbrev pub frame_taken : ℕ → PlainFunction → List Slots

@@ -1,5 +1,5 @@
--- To be believed. Where the words of a frame stand that its tree names: the first ones in registers, from one on and
--- before the flag of loops, those that find none there in the stack.
+-- To be believed. Where the words of a frame stand, those that its tree names and the counters of iterations after them:
+-- the first ones in registers, from one on and before the flag of loops, those that find none there in the stack.
 use Rattle.std.specs.Prelude.{ℕ, ◌+◌, ◌-◌, ◌^◌, nat_lt, max, min, Bool, if◌then◌else◌, zero, suc, List, [], ◌∷◌, ◌++◌, slice_index_or}
 use Rattle.patmos_instr.specs.Bundles.{Slots}
 use Rattle.patmos_instr.specs.declared.guards.Guard.{Guard}
@@ -9,7 +9,6 @@ use Rattle.patmos_instr.specs.declared.instructions.Op.TheVariants.{AluImm, Load
 use Rattle.patmos_instr.specs.declared.memories.Mem.TheVariants as mem
 use Rattle.patmos_instr.specs.declared.memories.StoreWidth.TheVariants as store
 use Rattle.patmos_instr.specs.declared.memories.Width.TheVariants as load
-use Rattle.sp_tree.specs.Formed.{slots_of}
 use Rattle.sp_tree.specs.Need.{need}
 use Rattle.sp_tree.specs.Plain.{PlainSp}
 use Rattle.sp_tree.specs.Statements.{PlainSpTarget, to_slot, to_cell, to_array, PlainStmt, masks, writes, calls, transfers, overruns, iterations, PlainStmts, no_stmt, stmt, PlainFunction, no_function}
@@ -47,6 +46,13 @@ fetch_word homes slot = under always (fetch_op homes slot)
 
 abbrev pub fetched_at : ℕ → ℕ → ℕ
 fetched_at homes slot = if in_register homes slot then homes + slot else SPARE
+
+-- and goes back to the stack from there
+unfoldable pub keep_op : ℕ → ℕ → Op
+keep_op homes slot = if in_register homes slot then AluImm imm.Add 0 0 0 else Store mem.S store.Word 0 SPARE slot
+
+abbrev pub keep_word : ℕ → ℕ → Slots
+keep_word homes slot = under always (keep_op homes slot)
 
 -- a word gets what a register holds
 unfoldable pub set_op : ℕ → ℕ → ℕ → Op
@@ -88,7 +94,7 @@ abbrev mutual
   stmt_least tops (transfers mask core source target count) =
       max (FIRST + 4) (max (FIRST + need source) (max (FIRST + 1 + need target) (FIRST + 2 + need count)))
   stmt_least tops (overruns mask e) = FIRST + need e
-  stmt_least tops (iterations count body) = stmts_least tops body
+  stmt_least tops (iterations count body) = max FIRST (stmts_least tops body)
 
   pub stmts_least : List ℕ → PlainStmts → ℕ
   stmts_least tops no_stmt = 0
@@ -97,9 +103,12 @@ abbrev mutual
 abbrev pub homes_over : List ℕ → PlainFunction → ℕ
 homes_over tops f = max (FIRST + f.parameters) (stmts_least tops f.body)
 
--- where the window of a function ends, at most at the flag of loops
+-- where the window of a function ends, that of its words and its counters: at most at the flag of loops
+abbrev pub top_from : ℕ → PlainFunction → ℕ
+top_from homes f = min OVERRUN (homes + (f.frame - 2))
+
 abbrev pub top_over : List ℕ → PlainFunction → ℕ
-top_over tops f = min OVERRUN (homes_over tops f + slots_of f)
+top_over tops f = top_from (homes_over tops f) f
 
 -- where the windows of the first so many functions end, each over the earlier ones
 abbrev pub tops : List PlainFunction → ℕ → List ℕ

@@ -80,4 +80,4 @@ pub record Unchanged (top : ℕ) (m t : Run) : Type 0 where
 pub record OwnUnchanged (homes slots count : ℕ) (before after : ℕ → ℕ) (m t : Run) : Type 0 where
   pub world : WorldStands m t
   pub frame : (slot : ℕ) → slot < slots → after slot ≡ before slot → word_of homes slot t ≡ word_of homes slot m
-  pub behind : KeepsBehind (homes + slots) count m t
+  pub behind : KeepsBehind (homes + count) count m t

@@ -18,8 +18,8 @@ use Rattle.sp_tree.specs.declared.expressions.SpCell.{SpCell}
 use Rattle.sp_shape.specs.Parts.{PlainPart, straight, repeats, calls_to, PlainParts, no_part, one, joined}
 use Rattle.sp_emit.specs.Endings.{last_op}
 use Rattle.sp_emit.specs.Expressions.{address_of, cell_space, array_space, operands_code, expr_to, expr_code}
-use Rattle.sp_emit.specs.Instructions.{always, where_so, where_not, under, idle, set_long, set_number, set_short, compute, with_short, compare, compare_short, combine, stack_op, load_slot, store_to, store_slot, branch, call}
-use Rattle.sp_emit.specs.Places.{in_register, read_word, fetch_word, fetched_at, set_word}
+use Rattle.sp_emit.specs.Instructions.{always, where_so, where_not, under, idle, set_long, set_number, set_short, compute, with_short, compare, compare_short, combine, stack_op, store_to, branch, call}
+use Rattle.sp_emit.specs.Places.{in_register, read_word, fetch_word, fetched_at, keep_word, set_word}
 use Rattle.sp_emit.specs.declared.registers.TheConstants.{RESULT, MASK, FIRST, SPARE, OVERRUN, TEST, SECOND, MORE}
 
 -- whether a mask is 1: it is compared where it stands in a register, and else where it is loaded to. In the first case
@@ -144,16 +144,16 @@ overrun_code homes mask =
     ∷ set_short (where_so TEST) OVERRUN 1
     ∷ []
 
--- the iterations that are left stand in a word of the frame
-abbrev pub iterations_begin : ℕ → ℕ → List Slots
-iterations_begin counter count = set_long SPARE count ∷ store_slot always counter SPARE ∷ []
+-- the iterations that are left stand in a word of the frame, and are counted in its register or in the spare one
+abbrev pub iterations_begin : ℕ → ℕ → ℕ → List Slots
+iterations_begin homes counter count = set_long (fetched_at homes counter) count ∷ keep_word homes counter ∷ []
 
-abbrev pub iterations_tail : ℕ → List Slots
-iterations_tail counter =
-    load_slot SPARE counter
-    ∷ with_short always imm.Sub SPARE SPARE 1
-    ∷ store_slot always counter SPARE
-    ∷ compare_short cmp.Neq MORE SPARE 0
+abbrev pub iterations_tail : ℕ → ℕ → List Slots
+iterations_tail homes counter =
+    fetch_word homes counter
+    ∷ with_short always imm.Sub (fetched_at homes counter) (fetched_at homes counter) 1
+    ∷ keep_word homes counter
+    ∷ compare_short cmp.Neq MORE (fetched_at homes counter) 0
     ∷ branch MORE
     ∷ idle
     ∷ idle
@@ -181,8 +181,8 @@ abbrev mutual
       (joined (expr_code homes count (FIRST + 2)) (one (straight (send_code homes mask core)))))
   stmt_code homes frame counter (overruns mask e) = joined (expr_code homes e FIRST) (one (straight (overrun_code homes mask)))
   stmt_code homes frame counter (iterations count body) =
-      joined (one (straight (iterations_begin counter count)))
-      (one (repeats count (stmts_code homes frame (counter - 1) body) (iterations_tail counter)))
+      joined (one (straight (iterations_begin homes counter count)))
+      (one (repeats count (stmts_code homes frame (counter - 1) body) (iterations_tail homes counter)))
 
   pub stmts_code : ℕ → ℕ → ℕ → PlainStmts → PlainParts
   stmts_code homes frame counter no_stmt = no_part

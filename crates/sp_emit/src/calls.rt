@@ -5,11 +5,11 @@ ghost use Rattle.sp_shape.specs.Parts.{straight, repeats, one, joined};
 ghost use Rattle.sp_shape.specs.Shown.{parts_of};
 
 use crate::instructions::{
-    always, branch, call, combine, compare, compare_short, compute, idle, load_slot, set_long,
-    set_short, stack_op, store_slot, store_to, where_so, with_short,
+    always, branch, call, combine, compare, compare_short, compute, idle, set_long, set_short,
+    stack_op, store_to, where_so, with_short,
 };
 use crate::parts::{listed, push, push_straight};
-use crate::places::{read_word, set_word};
+use crate::places::{fetch_word, fetched_at, keep_word, read_word, set_word};
 use crate::registers::{
     FIRST, MASK, MORE, OVERRUN, RESULT, SECOND, SPARE, TEST, behind, pred, reg,
 };
@@ -159,26 +159,31 @@ pub fn overrun(out: &mut Vec<Part>, homes: u32, mask: u32) -> Result<(), OutOfMe
 }
 
 /// The counter of iterations begins. It is `Err` where memory runs out.
-pub fn begin_iterations(out: &mut Vec<Part>, counter: u32, count: u32) -> Result<(), OutOfMemory>
+pub fn begin_iterations(
+    out: &mut Vec<Part>,
+    homes: u32,
+    counter: u32,
+    count: u32,
+) -> Result<(), OutOfMemory>
     requires { counter < 128 }
     ensures { OnOk result (parts_of out.new.items
-        ≡ joined (parts_of out.old.items) (one (straight (specs.iterations_begin counter count)))) }
+        ≡ joined (parts_of out.old.items) (one (straight (specs.iterations_begin homes counter count)))) }
 {
-    let begin = set_long(reg(SPARE), count);
-    push_straight(out, &[begin, store_slot(always(), counter, reg(SPARE))])
+    let begin = set_long(fetched_at(homes, counter), count);
+    push_straight(out, &[begin, keep_word(homes, counter)])
 }
 
 // an iteration ends: the next one begins where the counter is not at its end
-fn iterations_tail(counter: u32) -> [Bundle; 7]
+fn iterations_tail(homes: u32, counter: u32) -> [Bundle; 7]
     requires { counter < 128 }
-    ensures { result ≡ specs.iterations_tail counter }
+    ensures { result ≡ specs.iterations_tail homes counter }
 {
-    let (spare, more) = (reg(SPARE), pred(MORE));
+    let (left, more) = (fetched_at(homes, counter), pred(MORE));
     [
-        load_slot(spare, counter),
-        with_short(always(), ImmFunc::Sub, spare, spare, 1),
-        store_slot(always(), counter, spare),
-        compare_short(CmpFunc::Neq, more, spare, 0),
+        fetch_word(homes, counter),
+        with_short(always(), ImmFunc::Sub, left, left, 1),
+        keep_word(homes, counter),
+        compare_short(CmpFunc::Neq, more, left, 0),
         branch(more),
         idle(),
         idle(),
@@ -189,15 +194,16 @@ fn iterations_tail(counter: u32) -> [Bundle; 7]
 #[tactic(auto, using(sp_shape::proofs::Plain::plain_repeat))]
 pub fn repeat(
     out: &mut Vec<Part>,
+    homes: u32,
     counter: u32,
     count: u32,
     iteration: Vec<Part>,
 ) -> Result<(), OutOfMemory>
     requires { counter < 128 }
     ensures { OnOk result (parts_of out.new.items
-        ≡ joined (parts_of out.old.items) (one (repeats count (parts_of iteration.items) (specs.iterations_tail counter)))) }
+        ≡ joined (parts_of out.old.items) (one (repeats count (parts_of iteration.items) (specs.iterations_tail homes counter)))) }
 {
-    let tail = listed(*out.allocator(), &iterations_tail(counter))?;
+    let tail = listed(*out.allocator(), &iterations_tail(homes, counter))?;
     let body = List::of(iteration);
     push(out, Part::Repeat { count, body, tail })
 }

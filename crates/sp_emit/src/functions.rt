@@ -27,7 +27,7 @@ use crate::instructions::{
 };
 use crate::parts::{listed, push, push_straight};
 use crate::places::{
-    have_calls, homes_over, is_in_register, needs_none, read_word, set_word, words_of,
+    have_calls, homes_over, is_in_register, needs_none, read_word, set_word, top_from, words_of,
 };
 use crate::registers::{FIRST, MASK, OVERRUN, RESULT, SPARE, reg};
 use crate::statements::statements;
@@ -199,7 +199,7 @@ fn functions(alloc: Global, fs: &[SpFunction]) -> Result<List<List<Part>>, OutOf
     let mut tops = Vec::new(alloc);
     for f in fs {
         let homes = homes_over(tops.as_slice(), f);
-        tops.push(homes.saturating_add(words_of(f)).min(OVERRUN))?;
+        tops.push(top_from(homes, f))?;
         let parts = function(alloc, homes, f)?;
         made.push(parts)?;
     }

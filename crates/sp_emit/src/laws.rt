@@ -63,8 +63,8 @@ pub fn tasks_do_what_they_mean()
 /// frame on are as they were, so that the frames of its callers stand. So do the words of its callers wherever they
 /// stand, in registers or in the stack: each word of a window that begins at the end of the function's own, or after it.
 /// Statements leave the run where they leave the tree's state: the words of the frame that the tree names, all memories
-/// but word 0, the transfers and the flag; besides these they change registers below the window, and of the frame the
-/// words up to a counter of iterations alone.
+/// but word 0, the transfers and the flag; besides these they change registers below the window, and of the frame and its
+/// window the words up to a counter of iterations alone.
 ///
 /// So where the tree changes nothing of its world, as under a mask of 0, code changes word 0 of private memory alone,
 /// registers before the end of the window, predicates, caches and words of the stack: the words that the trees of its
@@ -96,7 +96,7 @@ pub fn functions_do_what_they_give()
         (run by_words (parts_trail (trails (codes fs) n) (stmts_code homes frame counter ts)) m) }
     ensures frame { (fs : List PlainFunction) (n homes frame slots counter : ℕ) (ts : PlainStmts) (s : State)
         (m : Run) → AreStatements fs n homes frame slots counter ts s m
-        → KeepsBehind (homes + slots) (counter + 1) m (run by_words
+        → KeepsBehind (homes + (counter + 1)) (counter + 1) m (run by_words
         (parts_trail (trails (codes fs) n) (stmts_code homes frame counter ts)) m) }
 {}
 

@@ -11,7 +11,7 @@ ghost use Rattle.sp_emit.specs.Functions as functions;
 ghost use Rattle.sp_emit.specs.Places as specs;
 
 use crate::expressions::need_of;
-use crate::instructions::{copy, idle, load_slot, store_slot, with_short};
+use crate::instructions::{always, copy, idle, load_slot, store_slot, with_short};
 use crate::registers::{FIRST, OVERRUN, SPARE, reg};
 use patmos_instr::{Bundle, Guard, ImmFunc, Reg};
 use sp_tree::{SpExpr, SpFunction, SpStmt, SpTarget};
@@ -57,6 +57,19 @@ pub fn fetched_at(homes: u32, slot: u32) -> Reg
         reg(homes + slot)
     } else {
         reg(SPARE)
+    }
+}
+
+/// A word of the stack gets what the spare register holds; where the word stands in a register, nothing is done.
+#[tactic(auto, unfolding(crate::specs::Places::keep_op))]
+pub fn keep_word(homes: u32, slot: u32) -> Bundle
+    requires { slot < 128 }
+    ensures { result ≡ specs.keep_word homes slot }
+{
+    if is_in_register(homes, slot) {
+        idle()
+    } else {
+        store_slot(always(), slot, reg(SPARE))
     }
 }
 
@@ -144,9 +157,8 @@ pub fn needs_none(homes: u32, f: &SpFunction) -> bool
     requires { FunctionFits (plain_function f.now) }
     ensures { result ≡ functions.needs_none homes (plain_function f.now) }
 {
-    let words = words_of(f);
-    let kept = homes <= OVERRUN && words <= OVERRUN - homes;
-    !have_calls(f.body.as_slice()) && levels_of(f.body.as_slice()) == 0 && kept
+    let words = f.frame - 2;
+    !have_calls(f.body.as_slice()) && homes <= OVERRUN && words <= OVERRUN - homes
 }
 
 // ---- from which register on they stand
@@ -208,12 +220,10 @@ fn statement_least(tops: &[u32], t: &SpStmt, frame: u32, counter: u32) -> u32
             );
             values.max(FIRST + 4)
         }
-        SpStmt::Iterations { body, .. } => statements_least(
-            tops,
-            body.as_slice(),
-            frame,
-            counter - 1,
-        ),
+        SpStmt::Iterations { body, .. } => {
+            let inner = statements_least(tops, body.as_slice(), frame, counter - 1);
+            FIRST.max(inner)
+        }
     }
 }
 
@@ -235,4 +245,13 @@ pub fn homes_over(tops: &[u32], f: &SpFunction) -> u32
     ensures { result ≡ specs.homes_over tops.now (plain_function f.now) }
 {
     (FIRST + f.parameters).max(statements_least(tops, f.body.as_slice(), f.frame, f.frame - 3))
+}
+
+/// Where the window of a function ends that begins with the register of this number.
+#[tactic(auto, using(crate::proofs::Fitting::frame_least))]
+pub fn top_from(homes: u32, f: &SpFunction) -> u32
+    requires { FunctionFits (plain_function f.now) }
+    ensures { result ≡ specs.top_from homes (plain_function f.now) }
+{
+    homes.saturating_add(f.frame - 2).min(OVERRUN)
 }

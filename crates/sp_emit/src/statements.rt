@@ -244,10 +244,10 @@ fn iterations(
     ensures { OnOk result (parts_of out.new.items
         ≡ joined (parts_of out.old.items) (specs.stmt_code homes frame counter (plain.iterations count (stmts_of body.now)))) }
 {
-    begin_iterations(out, counter, count)?;
+    begin_iterations(out, homes, counter, count)?;
     let mut iteration = Vec::new(*out.allocator());
     statements(&mut iteration, homes, body, frame, counter - 1)?;
-    repeat(out, counter, count, iteration)
+    repeat(out, homes, counter, count, iteration)
 }
 
 /// The code of statements stands after the parts. It is `Err` where memory runs out.

@@ -69,7 +69,7 @@ pub fn worked_divisions()
 {}
 
 /// Iterations, masks and what they keep off: a store at main memory goes to word 0. The flag, and a send.
-#[tactic(auto, unfolding(crate::specs::Places::read_op, crate::specs::Places::fetch_op, crate::specs::Places::set_op, crate::specs::Places::word_cleared, crate::specs::Instructions::number_op))]
+#[tactic(auto, unfolding(crate::specs::Places::read_op, crate::specs::Places::fetch_op, crate::specs::Places::keep_op, crate::specs::Places::set_op, crate::specs::Places::word_cleared, crate::specs::Instructions::number_op))]
 pub fn worked_effects()
     ensures iterations { word_in (ran_alone (small.unit_of (one (small.adding 2))) []).regs 1 ≡ 4 }
     ensures slot_off { word_in (ran_alone

@@ -25,7 +25,7 @@ use Rattle.sp_emit.specs.Divisors.{factor_rest_to}
 use Rattle.sp_emit.specs.Expressions.{address_of, cell_space, array_space, unary_code, binary_code, held_code, cell_code, element_code, number_of, value_at, value_code, operands_code, expr_to, expr_code, is_immediate}
 use Rattle.sp_emit.specs.Functions.{first_counter, argument_kept, arguments_kept, mask_kept, state_kept, frame_taken, place_brought, result_given, function_begin, function_end, function_rest, function_code}
 use Rattle.sp_emit.specs.Instructions.{always, where_so, under, set_number}
-use Rattle.sp_emit.specs.Places.{read_word, fetch_word, set_word, words_cleared}
+use Rattle.sp_emit.specs.Places.{read_word, fetch_word, keep_word, set_word, words_cleared}
 use Rattle.sp_emit.specs.Statements.{mask_test, cell_write, element_write, target_write, guarded_code, args_code, call_code, send_code, overrun_code, iterations_begin, iterations_tail, slot_set, stmt_code, stmts_code}
 use Rattle.sp_emit.specs.declared.registers.TheConstants.{RESULT, MASK, FIRST, SPARE, TEST}
 use Rattle.sp_emit.proofs.Codes.{kept_is, brought_is, taken_is, freed_is}
@@ -33,7 +33,7 @@ use Rattle.sp_emit.proofs.Held.{held_is}
 use Rattle.sp_emit.proofs.Lasts.{is_alu, write_is}
 use Rattle.sp_emit.proofs.Numbers.{number_op_is}
 use Rattle.sp_emit.proofs.Operands.{Handed, one_of, operands_are, mask_is}
-use Rattle.sp_emit.proofs.WordPlaces.{read_is, fetch_is, set_op_is, cleared_all}
+use Rattle.sp_emit.proofs.WordPlaces.{read_is, fetch_is, keep_is, set_op_is, cleared_all}
 use Rattle.weight_bounds.specs.Counts.{parts_iterations, parts_calls, bundle_past, bundles_past, parts_past}
 use Rattle.weight_bounds.specs.Trees.{op_iterations, expr_iterations, args_iterations, target_iterations, stmt_iterations, stmts_iterations, stmt_call_count, stmts_call_count}
 use Rattle.weight_bounds.proofs.Trees.{some_expr, some_args}
@@ -65,6 +65,9 @@ few_straight most count bs some past = record { some = some; iterations = omega 
 
 read_past : (homes rd slot : ℕ) → bundle_past (read_word homes rd slot) ≤ 0
 read_past homes rd slot = read_is (λ b. bundle_past b ≤ 0) homes rd slot (omega arith) (omega arith)
+
+keep_past : (homes slot : ℕ) → bundle_past (keep_word homes slot) ≤ 0
+keep_past homes slot = keep_is (λ b. bundle_past b ≤ 0) homes slot (omega arith) (omega arith)
 
 fetch_past : (homes slot : ℕ) → bundle_past (fetch_word homes slot) ≤ 0
 fetch_past homes slot = fetch_is (λ b. bundle_past b ≤ 0) homes slot (omega arith) (omega arith)
@@ -187,12 +190,13 @@ call_few most homes frame mask k (Some slot) some = record {
   past = omega (arith, read_past homes MASK mask, fetch_past homes mask, set_past homes (where_so TEST) slot RESULT);
 }
 
-repeated_few : (count counter most made : ℕ) (body : PlainParts) → IsFew most made body → IsFew (max 1 (count * most)) made (joined (one (straight (iterations_begin counter count))) (one (repeats count body (iterations_tail counter))))
-repeated_few count counter most made body x = record {
+repeated_few : (homes count counter most made : ℕ) (body : PlainParts) → IsFew most made body
+    → IsFew (max 1 (count * most)) made (joined (one (straight (iterations_begin homes counter count))) (one (repeats count body (iterations_tail homes counter))))
+repeated_few homes count counter most made body x = record {
   some = omega arith;
   iterations = let times = mul-le-mul_left count x.iterations in omega (arith, times);
   calls = omega (arith, x.calls);
-  past = omega (arith, x.past);
+  past = omega (arith, x.past, fetch_past homes counter, keep_past homes counter);
 }
 
 mutual
@@ -223,7 +227,7 @@ mutual
       let some = some_expr e in
       few_both i 0 0 (expr_code homes e FIRST) (one (straight (overrun_code homes mask))) (expr_few i homes e FIRST FIRST some (omega arith)) (few_straight i 0 (overrun_code homes mask) some (omega (arith, fetch_past homes mask)))
   stmt_few homes frame counter (iterations count body) =
-      repeated_few count counter (stmts_iterations body) (stmts_call_count body) (stmts_code homes frame (counter - 1) body) (stmts_few homes frame (counter - 1) body)
+      repeated_few homes count counter (stmts_iterations body) (stmts_call_count body) (stmts_code homes frame (counter - 1) body) (stmts_few homes frame (counter - 1) body)
 
   pub stmts_few : (homes frame counter : ℕ) (ts : PlainStmts) → IsFew (stmts_iterations ts) (stmts_call_count ts) (stmts_code homes frame counter ts)
   stmts_few homes frame counter no_stmt = record { some = omega arith; iterations = omega arith; calls = omega arith; past = omega arith }
