@@ -101,7 +101,7 @@ def test_lines_stand_in_front_of_their_code(tool: Tool) -> None:
     assert f"{last:36}  {text[last - 1]}" in behind
     # bundles of the loop stand further in
     inner = [line for line in behind if " br L0" in line]
-    assert len(inner) == 1 and inner[0][42:].startswith("(p5) br")
+    assert len(inner) == 1 and inner[0][42:].startswith("(p3) br")
 
 
 def test_a_loop_of_another_text_is_named_with_its_line(tool: Tool) -> None:

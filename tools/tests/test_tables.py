@@ -72,7 +72,7 @@ def test_numbers_of_cores() -> None:
 
 
 def test_parts_of_a_bound() -> None:
-    # docs/COMPILER.md: 17 bundles, and 7 transactions of 11 cycles with slots of 6 on one core; of 13 with slots of 7.
+    # 17 bundles, and 7 transactions of 11 cycles with slots of 6 on one core; of 13 with slots of 7.
     assert parts_of(17 + 7 * 11, 17 + 7 * 13, 1) == Parts(17, 7)
     # Its persistent bound by hand: 39 bundles and 6 transactions of 29 cycles, on four cores with slots of 6.
     assert Parts(39, 6).cycles(4, 6) == 213

@@ -2,6 +2,7 @@
 ghost use Rattle.std.specs.Prelude.{◌≡◌, ℕ, Bool, true, Some, slice_index_or};
 ghost use Rattle.bundle_sched.specs.Packed.{can_join, pair, lone};
 ghost use Rattle.bundle_sched.specs.Scheduled.{scheduled};
+ghost use Rattle.bundle_sched.specs.declared.ordering.TheConstants.{WINDOW};
 ghost use Rattle.patmos_instr.specs.Bundles.{Slots};
 ghost use Rattle.patmos_instr.specs.declared.instructions.Instr.{Instr};
 ghost use Rattle.sp_shape.specs.Bundles.{is_idle, parts_all};
@@ -19,4 +20,9 @@ pub fn no_bundle_is_lost()
         → (s : PlainShape) (k : ℕ)
         → parts_all holds (slice_index_or (scheduled s).functions k no_part) ≡ true
         → parts_all holds (slice_index_or s.functions k no_part) ≡ true }
+{}
+
+/// How many rows an instruction looks back at most. A law: it does nothing.
+pub fn limits()
+    ensures window { WINDOW ≡ 16 }
 {}

@@ -10,7 +10,7 @@ ghost use Rattle.tc_link.specs.Fits.{FitsImage};
 /// bundle. It calls nothing, has no loop and keeps no word in the stack, so it reserves no frame and stores no place to
 /// return to. It returns at once. In the delay slots the mask is inverted while 9 is set, the mask is kept while the
 /// result is given, and the flag is given. The words are the assembler's for these bundles, written by hand.
-#[tactic(auto, using(crate::proofs::Example::nine_fits), unfolding(patmos_code::specs::Codes::code, sp_emit::specs::Places::read_op, sp_emit::specs::Places::set_op, sp_emit::specs::Places::word_cleared, sp_emit::specs::Instructions::number_op))]
+#[tactic(auto, using(crate::proofs::Example::nine_fits), unfolding(patmos_code::specs::Codes::code, sp_emit::specs::Places::read_op, sp_emit::specs::Places::set_op, sp_emit::specs::Places::cleared_in, sp_emit::specs::Places::flag_of, sp_emit::specs::Instructions::number_op))]
 pub fn worked_image()
     ensures formed { is_formed nine ≡ true }
     ensures fits { FitsImage (code_of nine) }

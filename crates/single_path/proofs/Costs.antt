@@ -26,7 +26,7 @@ use Rattle.c_meaning.specs.Scope as scope
 use Rattle.c_meaning.specs.Values.{Names, named, expr_unsigned}
 use Rattle.single_path.specs.declared.counted.Start.{Start}
 use Rattle.single_path.specs.declared.part_words.PartWords.{PartWords}
-use Rattle.single_path.specs.PartWords.{in_arm, in_loop, outermost, both, less_by, bit_of, is_truth, where_so, where_not_taken, where_other, where_on, where_not_returned, not_zero, returned_function, returned_loop}
+use Rattle.single_path.specs.PartWords.{in_arm, in_loop, outermost, both, without, bit_of, is_truth, where_so, where_not_taken, where_other, where_on, where_not_returned, not_zero, returned_function, returned_loop}
 use Rattle.single_path.specs.Counted.{start_of}
 use Rattle.single_path.specs.Made.{is_zero, made_target, made_step, made_result, made_return, ends, is_no_action, is_no_branch, made_arm, made_otherwise, made_on, made_after, made_behind, made_again, any_exit, by_continue, by_return, actions_exit, branches_exit, made_iteration, made_loop, is_counted, made_counted, made_action, made, made_branches}
 use Rattle.single_path.specs.Single.{variables, made_function}
@@ -188,8 +188,8 @@ return_cost p e =
     omega (arith, joined_cost (made_result p e) ends_all, ended_cost (p.function == p.iteration) outer, by (p.own == p.iteration))
   where
     by : (alone : Bool)
-        → expr_cost (less_by (frame_word p.function) (if alone then bit_of p.own else frame_word p.own))
-        + expr_cost (if alone then both (frame_word p.iteration) (constant 2) else less_by (frame_word p.iteration) (frame_word p.own)) ≤ 10
+        → expr_cost (without (frame_word p.function) (if alone then bit_of p.own else frame_word p.own))
+        + expr_cost (if alone then both (frame_word p.iteration) (constant 2) else without (frame_word p.iteration) (frame_word p.own)) ≤ 10
     by true = omega arith
     by false = omega arith
 

@@ -13,7 +13,7 @@ use Rattle.sp_tree.proofs.Joins.{joined_uses}
 use Rattle.c_meaning.specs.Actions.{PlainTarget, to_level, to_cell, to_array, PlainAssignment, PlainAction, sets, calls, transfers, chooses, iterations, breaks, continues, returns, PlainActions, no_action, action, PlainBranches, no_branch, branch}
 use Rattle.single_path.specs.declared.counted.Start.{Start}
 use Rattle.single_path.specs.declared.part_words.PartWords.{PartWords}
-use Rattle.single_path.specs.PartWords.{in_arm, in_loop, outermost, both, less_by, bit_of, not_zero, is_truth, where_so, where_not_taken, where_other, where_on, where_not_returned, returned_function, returned_loop}
+use Rattle.single_path.specs.PartWords.{in_arm, in_loop, outermost, both, without, bit_of, not_zero, is_truth, where_so, where_not_taken, where_other, where_on, where_not_returned, returned_function, returned_loop}
 use Rattle.single_path.specs.Counted.{start_of}
 use Rattle.single_path.specs.Made.{is_zero, made_target, made_assignment, made_step, made_call, made_result, made_return, ends, is_no_action, is_no_branch, made_arm, made_otherwise, made_on, made_after, made_behind, made_again, any_exit, by_continue, by_return, actions_exit, branches_exit, made_iteration, made_loop, is_counted, made_counted, made_action, made, made_branches}
 use Rattle.single_path.specs.Single.{variables, begun_mask, made_functions}
@@ -143,8 +143,8 @@ return_does P p e does =
     ended = stmt (masks p.function (returned_function p)) outer
 
     by : (alone : Bool)
-        → ExprDoes P (less_by (frame_word p.function) (if alone then bit_of p.own else frame_word p.own))
-        × ExprDoes P (if alone then both (frame_word p.iteration) (constant 2) else less_by (frame_word p.iteration) (frame_word p.own))
+        → ExprDoes P (without (frame_word p.function) (if alone then bit_of p.own else frame_word p.own))
+        × ExprDoes P (if alone then both (frame_word p.iteration) (constant 2) else without (frame_word p.iteration) (frame_word p.own))
     by true = ((tt, (tt, tt)), (tt, tt))
     by false = ((tt, tt), (tt, tt))
 

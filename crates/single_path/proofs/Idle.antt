@@ -87,7 +87,7 @@ idle_not_returned a b c waits = refl
 idle_not_returned a b c skips = refl
 idle_not_returned a b c gone = refl
 
-idle_broken : (a b c : ℕ) → Idle a b c → difference_of b (bit_and a 1) ≡ b
+idle_broken : (a b c : ℕ) → Idle a b c → bit_xor b (bit_and a 1) ≡ b
 idle_broken a b c left = refl
 idle_broken a b c armed = refl
 idle_broken a b c waits = refl
@@ -101,14 +101,14 @@ idle_continued a b c waits = refl
 idle_continued a b c skips = refl
 idle_continued a b c gone = refl
 
-idle_less : (a b c : ℕ) → Idle a b c → difference_of b 0 ≡ b
-idle_less a b c left = refl
-idle_less a b c armed = refl
-idle_less a b c waits = refl
-idle_less a b c skips = refl
-idle_less a b c gone = refl
+idle_without : (a b c : ℕ) → Idle a b c → bit_xor b 0 ≡ b
+idle_without a b c left = refl
+idle_without a b c armed = refl
+idle_without a b c waits = refl
+idle_without a b c skips = refl
+idle_without a b c gone = refl
 
-idle_function : (a b c : ℕ) → Idle a b c → difference_of c 0 ≡ c
+idle_function : (a b c : ℕ) → Idle a b c → bit_xor c 0 ≡ c
 idle_function a b c left = refl
 idle_function a b c armed = refl
 idle_function a b c waits = refl
@@ -234,22 +234,22 @@ result_still g n p e true s is = still_here n s
 result_still g n p e false s is = same_still n s (stmt_done g (writes p.own (to_slot p.result) e) s) (write_off g p.own (to_slot p.result) e s is)
 
 returned_function_still : (p : PartWords) (s : State) (alone : Bool) → (p.own == p.iteration) ≡ alone → Dead p s
-    → difference_of (s.frame p.function) (worth (if alone then bit_of p.own else frame_word p.own) s) ≡ s.frame p.function
+    → bit_xor (s.frame p.function) (worth (if alone then bit_of p.own else frame_word p.own) s) ≡ s.frame p.function
 returned_function_still p s true is d =
-    ap₂ (λ c a. difference_of c (bit_and a 1)) d.function d.own ∙ ap (difference_of d.function_word) (idle_bit d.own_word d.loop_word d.function_word d.idle)
+    ap₂ (λ c a. bit_xor c (bit_and a 1)) d.function d.own ∙ ap (bit_xor d.function_word) (idle_bit d.own_word d.loop_word d.function_word d.idle)
     ∙ idle_function d.own_word d.loop_word d.function_word d.idle ∙ sym d.function
 returned_function_still p s false is d =
-    ap₂ difference_of d.function (d.own ∙ idle_apart d.own_word d.loop_word d.function_word d.idle (λ two. true≢false (sym (eq-eqb p.own p.iteration (d.alone two)) ∙ is)))
+    ap₂ bit_xor d.function (d.own ∙ idle_apart d.own_word d.loop_word d.function_word d.idle (λ two. true≢false (sym (eq-eqb p.own p.iteration (d.alone two)) ∙ is)))
     ∙ idle_function d.own_word d.loop_word d.function_word d.idle ∙ sym d.function
 
 returned_loop_still : (p : PartWords) (s : State) (alone : Bool) → (p.own == p.iteration) ≡ alone → Dead p s
-    → worth (if alone then mask.both (frame_word p.iteration) (constant 2) else mask.less_by (frame_word p.iteration) (frame_word p.own)) s ≡ s.frame p.iteration
+    → worth (if alone then mask.both (frame_word p.iteration) (constant 2) else mask.without (frame_word p.iteration) (frame_word p.own)) s ≡ s.frame p.iteration
 returned_loop_still p s true is d =
     ap (λ b. bit_and b 2) d.loop
     ∙ idle_alone d.own_word d.loop_word d.function_word d.idle (sym d.own ∙ ap s.frame (eqb-true p.own p.iteration is) ∙ d.loop) ∙ sym d.loop
 returned_loop_still p s false is d =
-    ap₂ difference_of d.loop (d.own ∙ idle_apart d.own_word d.loop_word d.function_word d.idle (λ two. true≢false (sym (eq-eqb p.own p.iteration (d.alone two)) ∙ is)))
-    ∙ idle_less d.own_word d.loop_word d.function_word d.idle ∙ sym d.loop
+    ap₂ bit_xor d.loop (d.own ∙ idle_apart d.own_word d.loop_word d.function_word d.idle (λ two. true≢false (sym (eq-eqb p.own p.iteration (d.alone two)) ∙ is)))
+    ∙ idle_without d.own_word d.loop_word d.function_word d.idle ∙ sym d.loop
 
 outer_still : (g : Serves) (p : PartWords) (outside : Bool) (s : State) → Dead p s
     → Still p.free s (stmts_done g (if outside then no_stmt else one (masks p.iteration (returned_loop p))) s)
@@ -486,7 +486,7 @@ mutual
       (loop_still g n p most condition (actions_exit by_return body) (actions_exit by_continue body) (made None (in_loop p) body) step o
       (λ t. dead g quiet n body None (in_loop p) t (order_loop n p o)) s d)
   dead_action g quiet n breaks known p s o d = set_same p.free p.iteration (worth (broken p) s) s
-      (ap₂ (λ b a. difference_of b (bit_and a 1)) d.loop d.own ∙ idle_broken d.own_word d.loop_word d.function_word d.idle ∙ sym d.loop)
+      (ap₂ (λ b a. bit_xor b (bit_and a 1)) d.loop d.own ∙ idle_broken d.own_word d.loop_word d.function_word d.idle ∙ sym d.loop)
   dead_action g quiet n continues known p s o d = set_same p.free p.iteration (worth (continued p) s) s
       (ap₂ (λ b a. sum_of b (bit_and a 1)) d.loop d.own ∙ idle_continued d.own_word d.loop_word d.function_word d.idle ∙ sym d.loop)
   dead_action g quiet n (returns e) known p s o d = return_still g n p e s o d

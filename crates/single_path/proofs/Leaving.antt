@@ -1,7 +1,7 @@
 -- Ways on that are taken, and the masks that are repaired after arms and loops.
 use Rattle.std.proofs.Common.{◌≡◌, ◌≢◌, ℕ, ◌<◌, ◌≤◌, ◌==◌, Bool, true, false, if◌then◌else◌, refl, ap, sym, ◌∙◌, arith, eq-eqb, eqb-true, ap₂, subst, true≢false, ◌⊎◌, inl, inr, None}
-use Rattle.std.specs.Prelude.{bit_and}
-use Rattle.c_world.specs.Numbers.{sum_of, difference_of}
+use Rattle.std.specs.Prelude.{bit_and, bit_xor}
+use Rattle.c_world.specs.Numbers.{sum_of}
 use Rattle.sp_tree.specs.Plain.{PlainSp, constant, frame_word, cell_word, array_word, before_one, between_two}
 use Rattle.sp_tree.specs.Statements.{to_slot, masks, writes, no_stmt, stmt, one}
 use Rattle.sp_tree.specs.Straight.{State, Serves, with_slot, write_done, worth, stmts_done}
@@ -44,7 +44,7 @@ loop_set n p v w s l o nested live h is function value = record {
 pub broken_acted : (gc : resolved.Serves) (g : Serves) (n : ℕ) (p : PartWords) (s : State) (l : values.State) → Order n p → p.function < p.iteration → Live p s → Agrees n s l
     → Acted breaks n p s (resolved.action_done gc breaks l) (stmts_done g (made_action None p breaks) s)
 broken_acted gc g n p s l o nested live h = record {
-  went = loop_set n p (worth (broken p) s) way.Broken s l o nested live h (ap₂ (λ b a. difference_of b (bit_and a 1)) live.loop live.own) refl refl;
+  went = loop_set n p (worth (broken p) s) way.Broken s l o nested live h (ap₂ (λ b a. bit_xor b (bit_and a 1)) live.loop live.own) refl refl;
   ended = λ is other. absurd (cc);
   idle = λ is. absurd (true≢false is);
 }
@@ -88,14 +88,14 @@ result_set g n p e false s l is behind live h within =
 
 -- the masks of the function, and of a loop that stands in it
 returned_function_set : (p : PartWords) (s : State) (alone : Bool) → s.frame p.own ≡ 1 → s.frame p.function ≡ 1
-    → difference_of (s.frame p.function) (worth (if alone then bit_of p.own else frame_word p.own) s) ≡ 0
-returned_function_set p s true own function = ap₂ (λ c a. difference_of c (bit_and a 1)) function own
-returned_function_set p s false own function = ap₂ difference_of function own
+    → bit_xor (s.frame p.function) (worth (if alone then bit_of p.own else frame_word p.own) s) ≡ 0
+returned_function_set p s true own function = ap₂ (λ c a. bit_xor c (bit_and a 1)) function own
+returned_function_set p s false own function = ap₂ bit_xor function own
 
 returned_loop_set : (p : PartWords) (s : State) (alone : Bool) → s.frame p.own ≡ 1 → s.frame p.iteration ≡ 1
-    → worth (if alone then mask.both (frame_word p.iteration) (constant 2) else mask.less_by (frame_word p.iteration) (frame_word p.own)) s ≡ 0
+    → worth (if alone then mask.both (frame_word p.iteration) (constant 2) else mask.without (frame_word p.iteration) (frame_word p.own)) s ≡ 0
 returned_loop_set p s true own loop = ap (λ b. bit_and b 2) loop
-returned_loop_set p s false own loop = ap₂ difference_of loop own
+returned_loop_set p s false own loop = ap₂ bit_xor loop own
 
 returned_went : (g : Serves) (n : ℕ) (p : PartWords) (v : ℕ) (outside : Bool) (s t : State) (l : values.State) → (p.function == p.iteration) ≡ outside → Order n p → Live p s
     → Results n p v s t l

@@ -9,7 +9,7 @@ use Rattle.sp_tree.specs.Statements.{PlainStmt, PlainStmts, no_stmt, stmt, Plain
 use Rattle.sp_tree.specs.Statements as tree
 use Rattle.sp_tree.proofs.Joins.{joined_formed}
 use Rattle.single_path.specs.declared.part_words.PartWords.{PartWords}
-use Rattle.single_path.specs.PartWords.{both, less_by, is_truth, where_so, where_not_taken, where_other, where_on, where_not_returned, bit_of, not_zero, broken, continued, returned_function, returned_loop}
+use Rattle.single_path.specs.PartWords.{both, without, is_truth, where_so, where_not_taken, where_other, where_on, where_not_returned, bit_of, not_zero, broken, continued, returned_function, returned_loop}
 use Rattle.single_path.specs.Single.{begun_mask}
 use Rattle.single_path.specs.Widths.{expr_words}
 use Rattle.single_path.proofs.Frames.{Order}
@@ -122,7 +122,7 @@ other_formed fs number slots p false b free = by (p.own == p.iteration)
         mask_formed fs number slots p.free (between_two binary.BitXor (frame_word p.own) (frame_word p.free)) free
         (record { ranged = (tt, tt); few = omega arith }) (omega (arith, b.own, free))
 
--- ---- masks after `return`: two ways to take from them, of which the part decides
+-- ---- masks after `return`: two ways to clear them, of which the part decides
 
 either_formed : (fs : List PlainFunction) (number slots slot : ℕ) (e : PlainSp → PlainSp) (first : Bool) (a b : PlainSp)
     → stmt_formed fs number slots (masks slot (e a)) ≡ true → stmt_formed fs number slots (masks slot (e b)) ≡ true
@@ -133,18 +133,18 @@ either_formed fs number slots slot e false a b ha hb = hb
 pub returned_function_formed : (fs : List PlainFunction) (number slots : ℕ) (p : PartWords) → Below p slots
     → stmt_formed fs number slots (masks p.function (returned_function p)) ≡ true
 returned_function_formed fs number slots p b =
-    let less = less_by (frame_word p.function) in
-    either_formed fs number slots p.function less (p.own == p.iteration) (bit_of p.own) (frame_word p.own)
-    (mask_formed fs number slots p.function (less (bit_of p.own)) b.function (record { ranged = (tt, (tt, tt)); few = omega arith })
+    let rest = without (frame_word p.function) in
+    either_formed fs number slots p.function rest (p.own == p.iteration) (bit_of p.own) (frame_word p.own)
+    (mask_formed fs number slots p.function (rest (bit_of p.own)) b.function (record { ranged = (tt, (tt, tt)); few = omega arith })
     (omega (arith, b.function, b.own)))
-    (mask_formed fs number slots p.function (less (frame_word p.own)) b.function (record { ranged = (tt, tt); few = omega arith })
+    (mask_formed fs number slots p.function (rest (frame_word p.own)) b.function (record { ranged = (tt, tt); few = omega arith })
     (omega (arith, b.function, b.own)))
 
 pub returned_loop_formed : (fs : List PlainFunction) (number slots : ℕ) (p : PartWords) → Below p slots
     → stmt_formed fs number slots (masks p.iteration (returned_loop p)) ≡ true
 returned_loop_formed fs number slots p b =
     let bit = both (frame_word p.iteration) (constant 2) in
-    let less = less_by (frame_word p.iteration) (frame_word p.own) in
-    either_formed fs number slots p.iteration (λ e. e) (p.own == p.iteration) bit less
+    let rest = without (frame_word p.iteration) (frame_word p.own) in
+    either_formed fs number slots p.iteration (λ e. e) (p.own == p.iteration) bit rest
     (mask_formed fs number slots p.iteration bit b.loop (record { ranged = (tt, tt); few = omega arith }) (omega (arith, b.loop)))
-    (mask_formed fs number slots p.iteration less b.loop (record { ranged = (tt, tt); few = omega arith }) (omega (arith, b.loop, b.own)))
+    (mask_formed fs number slots p.iteration rest b.loop (record { ranged = (tt, tt); few = omega arith }) (omega (arith, b.loop, b.own)))

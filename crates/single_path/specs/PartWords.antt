@@ -24,8 +24,10 @@ outermost words = record { result = words; function = words + 1; iteration = wor
 abbrev pub both : PlainSp → PlainSp → PlainSp
 both a b = between_two binary.BitAnd a b
 
-abbrev pub less_by : PlainSp → PlainSp → PlainSp
-less_by a b = between_two binary.Minus a b
+-- a mask, where another is not 1: 1 without 1 is 0, and any mask without 0 is itself. This is an exclusive or and not
+-- a difference, since of two words that are 0 or 1 it is 0 or 1, whichever they are
+abbrev pub without : PlainSp → PlainSp → PlainSp
+without a b = between_two binary.BitXor a b
 
 abbrev pub not_zero : PlainSp → PlainSp
 not_zero e = between_two binary.NotEqual e (constant 0)
@@ -81,18 +83,18 @@ where_on p = both (frame_word p.own) (frame_word p.iteration)
 abbrev pub where_not_returned : PartWords → PlainSp
 where_not_returned p = both (frame_word p.iteration) (before_one unary.Minus (frame_word p.function))
 
--- `break` takes 1 from the loop's mask, and `continue` adds 1
+-- where the part's own mask is 1, so is the loop's: `break` makes that one 0, and `continue` adds 1 to it
 abbrev pub broken : PartWords → PlainSp
-broken p = less_by (frame_word p.iteration) (bit_of p.own)
+broken p = without (frame_word p.iteration) (bit_of p.own)
 
 abbrev pub continued : PartWords → PlainSp
 continued p = between_two binary.Plus (frame_word p.iteration) (bit_of p.own)
 
--- `return` takes 1 from the function's mask and from the loop's, where its own is 1; that one may be 2 only where it is
--- the loop's
+-- where the part's own mask is 1, so are the function's and the loop's: `return` makes both 0. The own one may be 2 only
+-- where it is the loop's
 abbrev pub returned_function : PartWords → PlainSp
-returned_function p = less_by (frame_word p.function) (if p.own == p.iteration then bit_of p.own else frame_word p.own)
+returned_function p = without (frame_word p.function) (if p.own == p.iteration then bit_of p.own else frame_word p.own)
 
 abbrev pub returned_loop : PartWords → PlainSp
 returned_loop p =
-    if p.own == p.iteration then both (frame_word p.iteration) (constant 2) else less_by (frame_word p.iteration) (frame_word p.own)
+    if p.own == p.iteration then both (frame_word p.iteration) (constant 2) else without (frame_word p.iteration) (frame_word p.own)

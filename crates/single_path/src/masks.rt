@@ -162,7 +162,7 @@ pub fn broken(alloc: Global, part: PartWords) -> Result<SpExpr, OutOfMemory>
     ensures { IfOk result (λ m. plain_sp m ≡ specs.broken part) }
 {
     let own = bit_of(alloc, part.own)?;
-    between_operands(alloc, SpBinary::Minus, word(part.iteration), own)
+    between_operands(alloc, SpBinary::BitXor, word(part.iteration), own)
 }
 
 /// The iteration's mask after `continue`.
@@ -182,7 +182,7 @@ pub fn returned_function(alloc: Global, part: PartWords) -> Result<SpExpr, OutOf
     } else {
         word(part.own)
     };
-    between_operands(alloc, SpBinary::Minus, word(part.function), own)
+    between_operands(alloc, SpBinary::BitXor, word(part.function), own)
 }
 
 /// The iteration's mask after `return` in a loop.
@@ -192,6 +192,11 @@ pub fn returned_iteration(alloc: Global, part: PartWords) -> Result<SpExpr, OutO
     if part.own == part.iteration {
         between_operands(alloc, SpBinary::BitAnd, word(part.iteration), number(2))
     } else {
-        between_operands(alloc, SpBinary::Minus, word(part.iteration), word(part.own))
+        between_operands(
+            alloc,
+            SpBinary::BitXor,
+            word(part.iteration),
+            word(part.own),
+        )
     }
 }

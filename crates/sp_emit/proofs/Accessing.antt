@@ -24,11 +24,16 @@ use Rattle.sp_shape.specs.Run.{Run, IsWhole, Sources, once, effected, run, begun
 use Rattle.sp_shape.specs.Trail.{Step, begins, all_done, copies, part_trail, parts_trail}
 use Rattle.sp_emit.specs.Instructions.{under, always, set_number}
 use Rattle.patmos_instr.specs.declared.guards.Guard.{Guard}
-use Rattle.sp_emit.specs.Places.{read_word, set_word, fetch_word, keep_word}
+use Rattle.sp_emit.specs.Places.{read_word, set_word, fetch_word, keep_word, seek_word, match_word}
+use Rattle.sp_emit.proofs.FlagWords.{seek_is, match_is}
 use Rattle.sp_emit.proofs.WordPlaces.{read_is, set_op_is, fetch_is, keep_is}
 use Rattle.sp_emit.specs.Accesses.{MayAsk, cached_addresses, cached_address, Asks, AsksOnly}
 use Rattle.sp_emit.proofs.Portless.{is_portless_op, is_portless, portless_start, start_append, words_left, words_right}
 use Rattle.sp_emit.proofs.Numbers.{number_op_is}
+use Rattle.sp_emit.proofs.Offsets.{AddressAre, address_are}
+use Rattle.sp_tree.specs.declared.expressions.SpArray.{SpArray}
+use Rattle.sp_emit.specs.declared.registers.TheConstants.{SPARE}
+use Rattle.sp_emit.specs.declared.stands.Homes.{Homes}
 
 -- ---- one after another
 
@@ -190,8 +195,17 @@ near_keep homes slot = keep_is (λ b. is_near b ≡ true) homes slot refl refl
 pub near_fetch : (homes slot : ℕ) → is_near (fetch_word homes slot) ≡ true
 near_fetch homes slot = fetch_is (λ b. is_near b ≡ true) homes slot refl refl
 
+pub near_seek : (homes : Homes) (mask : ℕ) → is_near (seek_word homes mask) ≡ true
+near_seek homes mask = seek_is (λ b. is_near b ≡ true) homes mask refl (near_fetch homes.first mask)
+
+pub near_match : (homes : Homes) (mask : ℕ) → is_near (match_word homes mask) ≡ true
+near_match homes mask = match_is (λ b. is_near b ≡ true) homes mask refl refl
+
 pub near_number : (rd n : ℕ) → is_near (set_number rd n) ≡ true
 near_number rd n = number_op_is (λ op. is_near (under always op) ≡ true) rd n refl refl
+
+pub near_address : (a : SpArray) (pd rd ra : ℕ) → AddressAre (λ b. is_near b ≡ true) a pd rd ra
+near_address a pd rd ra = address_are (λ b. is_near b ≡ true) a pd rd ra refl (near_number SPARE) refl refl refl refl
 
 pub near_set : (homes : ℕ) (g : Guard) (slot rs : ℕ) → is_near (set_word homes g slot rs) ≡ true
 near_set homes g slot rs = set_op_is (λ op. is_near (under g op) ≡ true) homes slot rs refl refl

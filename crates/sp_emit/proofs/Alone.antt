@@ -1,5 +1,5 @@
 -- Each bundle of compiled code is one instruction.
-use Rattle.std.proofs.Common.{◌≡◌, ℕ, true, refl}
+use Rattle.std.proofs.Common.{◌≡◌, true, refl}
 use Rattle.std.specs.Prelude.{Bool, is_none}
 use Rattle.std.specs.List.{list_all}
 use Rattle.std.proofs.lemmas.Bool.{and_parts, and_from}
@@ -7,12 +7,12 @@ use Rattle.patmos_instr.specs.Bundles.{Slots}
 use Rattle.sp_tree.specs.Statements.{PlainFunction}
 use Rattle.sp_shape.specs.Bundles.{parts_all}
 use Rattle.sp_shape.specs.Parts.{joined}
-use Rattle.sp_emit.specs.Functions.{first_counter, function_begin, function_end, function_rest, function_code}
-use Rattle.sp_emit.specs.Statements.{stmts_code}
+use Rattle.sp_emit.specs.Functions.{function_begin, function_end, function_rest, body_code, function_code}
 use Rattle.sp_emit.proofs.Around.{begin_all, end_all}
 use Rattle.sp_emit.proofs.Homing.{sets_none}
 use Rattle.sp_emit.proofs.Quiet.{each_joined, each_so}
-use Rattle.sp_emit.proofs.Steady.{is_firm, place_firm, stmts_firm}
+use Rattle.sp_emit.proofs.Steady.{is_firm, place_firm, body_firm}
+use Rattle.sp_emit.specs.declared.stands.Homes.{Homes}
 
 abbrev is_alone : Slots → Bool
 is_alone b = is_none b.second
@@ -20,9 +20,9 @@ is_alone b = is_none b.second
 alone_firm : (b : Slots) → is_firm b ≡ true → is_alone b ≡ true
 alone_firm b firm = (and_parts (sets_none b.first.op) (is_alone b) (place_firm b firm)).1
 
-pub function_alone : (homes : ℕ) (f : PlainFunction) → parts_all (λ b. is_none b.second) (function_code homes f) ≡ true
+pub function_alone : (homes : Homes) (f : PlainFunction) → parts_all (λ b. is_none b.second) (function_code homes f) ≡ true
 function_alone homes f =
-    let body = stmts_code homes f.frame (first_counter f) f.body in
-    and_from (list_all is_alone (function_begin homes f)) (parts_all is_alone (joined body (function_rest homes f))) (begin_all is_alone homes f refl (λ r. refl) (λ slot rs. refl) refl refl)
-    (each_joined is_alone body (function_rest homes f) (each_so is_firm is_alone alone_firm body (stmts_firm homes f.frame (first_counter f) f.body))
-    (and_from (list_all is_alone (function_end homes f)) true (end_all is_alone homes f refl refl refl refl) refl))
+    let body = body_code homes f in
+    and_from (list_all is_alone (function_begin homes f)) (parts_all is_alone (joined body (function_rest homes.first f))) (begin_all is_alone homes f refl (λ r. refl) (λ slot rs. refl) refl (λ p. refl) (λ p. refl) refl)
+    (each_joined is_alone body (function_rest homes.first f) (each_so is_firm is_alone alone_firm body (body_firm homes f))
+    (and_from (list_all is_alone (function_end homes.first f)) true (end_all is_alone homes.first f refl refl refl refl) refl))

@@ -23,6 +23,7 @@ use Rattle.sp_emit.proofs.Calm.{keeps_all, keeps_both, keeps_fewer}
 use Rattle.sp_emit.proofs.Masks.{ready, follows_still}
 use Rattle.sp_emit.proofs.Once.{behind_slot, slot_behind, unchanged, with_regs}
 use Rattle.sp_emit.proofs.Values.{behind, fits_of, expr_keeps, run_joined, value_left}
+use Rattle.sp_emit.specs.declared.stands.Homes.{Homes}
 
 -- ---- stack instructions
 
@@ -59,13 +60,13 @@ did_stack from func count m whole =
 
 -- ---- arguments
 
-pub record ArgumentsLeft (homes : ℕ) (rd : ℕ) (given : List ℕ) (m t : Run) : Type 0 where
-  pub keeps : Keeps rd homes m t
+pub record ArgumentsLeft (homes : Homes) (rd : ℕ) (given : List ℕ) (m t : Run) : Type 0 where
+  pub keeps : Keeps rd homes.first m t
   pub values : (i : ℕ) → i < length given → held (rd + i) t ≡ slice_index given i
 
-pub arguments_left : (homes : ℕ) (f : ℕ → List Step) (slots : ℕ) (args : List PlainSp) (rd : ℕ) (s : State) (m : Run) → 1 ≤ rd → rd + length args ≤ 10 → slots ≤ 128 → args_formed slots args ≡ true → HasArgsConstants args → args_least args rd ≤ homes → Follows homes slots s m
+pub arguments_left : (homes : Homes) (f : ℕ → List Step) (slots : ℕ) (args : List PlainSp) (rd : ℕ) (s : State) (m : Run) → 1 ≤ rd → rd + length args ≤ 10 → slots ≤ 128 → args_formed slots args ≡ true → HasArgsConstants args → args_least args rd ≤ homes.first → Follows homes slots s m
     → ArgumentsLeft homes rd (args_worth args s) m (run by_words (parts_trail f (args_code homes args rd)) m)
-arguments_left homes f slots [] rd s m some few most formed constants free x = record { keeps = keeps_all rd homes m x.whole; values = λ i lt. absurd (omega (arith, lt)) }
+arguments_left homes f slots [] rd s m some few most formed constants free x = record { keeps = keeps_all rd homes.first m x.whole; values = λ i lt. absurd (omega (arith, lt)) }
 arguments_left homes f slots (e ∷ args) rd s m some few most formed constants free x =
     let parts = and_parts (expr_formed slots e) (args_formed slots args) formed in
     let r = ready homes slots rd e s m some (omega (arith, few)) (omega (arith, free)) most parts.0 constants.0 x in

@@ -15,10 +15,10 @@ use Rattle.sp_shape.proofs.Whole.{behind}
 use Rattle.sp_shape.specs.Formed.{is_flow, are_calm}
 use Rattle.sp_shape.specs.Run.{Run, Sources, branches, once, effected, run, IsWhole}
 use Rattle.sp_shape.specs.Trail.{all_done}
-use Rattle.sp_emit.specs.Holding.{held}
+use Rattle.sp_emit.specs.Holding.{held, so}
 use Rattle.sp_emit.specs.Instructions.{always, where_so, idle, with_short, compare_short, branch}
 use Rattle.sp_emit.proofs.Leaving.{did_with_short, did_compare_short}
-use Rattle.sp_emit.proofs.Once.{so, did_nothing, did_branch, got, so_got}
+use Rattle.sp_emit.proofs.Once.{did_nothing, did_branch, got, so_got}
 
 -- ---- bundles that ask for no flow
 

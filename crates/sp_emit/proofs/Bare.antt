@@ -21,20 +21,26 @@ use Rattle.sp_shape.specs.Bundles.{part_all, parts_all}
 use Rattle.sp_shape.specs.Formed.{parts_formed}
 use Rattle.sp_shape.specs.Run.{Run, Sources, run, IsWhole}
 use Rattle.sp_shape.specs.Trail.{Step, parts_trail}
-use Rattle.sp_emit.specs.Functions.{first_counter, needs_none}
+use Rattle.sp_emit.specs.Functions.{first_counter, needs_none, body_code}
 use Rattle.sp_shape.specs.Parts.{PlainPart, straight, repeats, calls_to, leaves, PlainParts, no_part, part, one, joined}
 use Rattle.sp_emit.specs.Chains.{stmt_calls, stmts_call}
 use Rattle.sp_emit.specs.Division.{unsigned_quotient_to}
 use Rattle.sp_emit.specs.Divisors.{factor_rest_to}
 use Rattle.sp_emit.specs.Expressions.{unary_code, binary_code, held_code, cell_code, element_code, number_of, value_code, operands_code, expr_to, expr_code, value_at, is_immediate, address_of}
 use Rattle.sp_emit.specs.Instructions.{always, where_so, set_number}
-use Rattle.sp_emit.specs.Places.{read_op, read_word, fetch_op, fetch_word, keep_op, keep_word, set_op, set_word, stmts_least}
+use Rattle.sp_shape.proofs.Lists.{all_weaker}
+use Rattle.sp_emit.specs.Flags.{begun_body}
+use Rattle.sp_emit.specs.Places.{told_at, seek_word, match_word, read_op, read_word, fetch_op, fetch_word, keep_op, keep_word, set_op, set_word, stmts_least, fetched_at}
 use Rattle.sp_emit.specs.Statements.{cell_write, element_write, target_write, send_code, overrun_code, slot_set, iterations_begin, iterations_tail, stmt_code, stmts_code}
-use Rattle.sp_emit.specs.declared.registers.TheConstants.{FIRST, SPARE, OVERRUN, TEST}
+use Rattle.sp_emit.specs.declared.registers.TheConstants.{FIRST, SPARE, OVERRUN, TEST, SECOND}
 use Rattle.sp_emit.proofs.Held.{held_is}
 use Rattle.sp_emit.proofs.Lasts.{is_alu, write_is, guarded_each}
 use Rattle.sp_emit.proofs.Numbers.{number_op_is}
-use Rattle.sp_emit.proofs.Operands.{one_of, names_handed, operands_are, mask_is}
+use Rattle.sp_emit.proofs.Offsets.{address_are}
+use Rattle.sp_emit.proofs.Operands.{one_of, names_handed, operands_are, word_code_is, mask_is}
+use Rattle.sp_emit.proofs.BegunBody.{begun_formed, begun_levels, begun_least, begun_uncalled}
+use Rattle.sp_emit.proofs.FlagWords.{seek_is, match_is}
+use Rattle.sp_emit.proofs.TruthCode.{is_test_bundle, AreTests, TruthParts, flag_is}
 use Rattle.sp_emit.proofs.Beginning.{words_taken, Outside}
 use Rattle.sp_emit.proofs.Formed as forms
 use Rattle.sp_emit.proofs.Low.{AreLow, Low, IsHomed, stmts_low}
@@ -42,6 +48,7 @@ use Rattle.sp_emit.proofs.Passing.{is_low, passes, part_passes, parts_pass, Pass
 use Rattle.sp_emit.proofs.Pointing.{is_inside}
 use Rattle.sp_emit.proofs.Quiet.{each_joined, each_lone}
 use Rattle.sp_emit.proofs.Uncalled.{neither, stmts_uncalled}
+use Rattle.sp_emit.specs.declared.stands.Homes.{Homes}
 
 -- an instruction that has nothing to do with the stack
 abbrev is_bare_op : Op → Bool
@@ -97,18 +104,23 @@ set_bare : (homes : ℕ) (g : Guard) (slot rs : ℕ) → homes + slot < OVERRUN 
 unfolding set_op
 set_bare homes g slot rs lt = rw (lt-ltb (homes + slot) OVERRUN lt) refl
 
+seek_bare : (homes : Homes) (mask : ℕ) → homes.first + mask < OVERRUN → is_bare (seek_word homes mask) ≡ true
+seek_bare homes mask lt = seek_is (λ b. is_bare b ≡ true) homes mask refl (fetch_bare homes.first mask lt)
+
+match_bare : (homes : Homes) (mask : ℕ) → is_bare (match_word homes mask) ≡ true
+match_bare homes mask = match_is (λ b. is_bare b ≡ true) homes mask refl refl
+
 cell_bare : (r : Region) (word rd : ℕ) → AreBare (cell_code (record { region = r; word = word }) rd)
 cell_bare r word rd = let address = number_bare rd (address_of r word) in grind (arith, address)
 
 element_bare : (r : Region) (first length rd ra : ℕ) → AreBare (element_code (record { region = r; first = first; length = length }) rd ra)
 element_bare r first length rd ra =
-    let size = number_bare SPARE length in
-    let address = number_bare SPARE (address_of r first) in
-    grind (arith, size, address)
+    let address = address_are (λ b. is_bare b ≡ true) (record { region = r; first = first; length = length }) TEST rd ra refl (number_bare SPARE) refl refl refl refl in
+    grind (arith, address.length, address.below, address.base, address.scaled)
 
-value_bare : (homes slots : ℕ) (e : PlainSp) (rd to : ℕ) → homes + slots ≤ OVERRUN → names_words slots e ≡ true → Bare (value_code homes e rd to)
+value_bare : (homes : Homes) (slots : ℕ) (e : PlainSp) (rd to : ℕ) → homes.first + slots ≤ OVERRUN → names_words slots e ≡ true → Bare (value_code homes e rd to)
 value_bare homes slots (constant n) rd to fits named = rw (number_bare to n) refl
-value_bare homes slots (frame_word slot) rd to fits named = rw (read_bare homes to slot (omega (arith, fits, ltb-true slot slots named))) refl
+value_bare homes slots (frame_word slot) rd to fits named = word_code_is (λ bs. Bare (one (straight bs))) homes to slot (λ p. refl) (rw (read_bare homes.first to slot (omega (arith, fits, ltb-true slot slots named))) refl)
 value_bare homes slots (cell_word cell) rd to fits named = each_lone is_bare (cell_code cell to) (cell_bare cell.region cell.word to)
 value_bare homes slots (array_word array index) rd to fits named =
     each_lone is_bare (element_code array to (value_at homes index rd)) (element_bare array.region array.first array.length to (value_at homes index rd))
@@ -121,48 +133,66 @@ value_bare homes slots (between_two op a b) rd to fits named =
 alu_bare : (op : Op) → is_alu op ≡ true → is_bare_op op ≡ true
 alu_bare op alu = grind (arith, alu)
 
-operands_bare : (homes slots : ℕ) (e : PlainSp) (rd : ℕ) → homes + slots ≤ OVERRUN → expr_formed slots e ≡ true → Bare (operands_code homes e rd)
-operands_bare homes slots e rd fits formed =
-    operands_are Bare homes (λ e rd. names_words slots e ≡ true) refl both (names_handed slots) (λ e rd names. value_bare homes slots e rd rd fits names) e rd (and_parts (names_words slots e) (nat_le (need e) 12) formed).0
+named_bare : (homes : Homes) (slots : ℕ) (e : PlainSp) (rd : ℕ) → homes.first + slots ≤ OVERRUN → names_words slots e ≡ true → Bare (operands_code homes e rd)
+named_bare homes slots e rd fits named =
+    operands_are Bare homes (λ e rd. names_words slots e ≡ true) refl both (names_handed slots) (λ e rd names. value_bare homes slots e rd rd fits names) e rd named
 
-expr_bare : (homes slots : ℕ) (e : PlainSp) (rd to : ℕ) → homes + slots ≤ OVERRUN → expr_formed slots e ≡ true → Bare (expr_to homes e rd to)
+tests_bare : (bs : List Slots) → AreTests bs → Bare (one (straight bs))
+tests_bare bs tests = each_lone is_bare bs (all_weaker is_test_bundle is_bare (λ b is. grind (arith, is)) bs tests)
+
+truths_bare : (homes : Homes) (slots : ℕ) → homes.first + slots ≤ OVERRUN → TruthParts Bare homes (λ e. names_words slots e ≡ true)
+truths_bare homes slots fits = record {
+  none = refl;
+  both = both;
+  second = λ op a b h. (and_parts (names_words slots a) (names_words slots b) h).1;
+  operands = λ e h. named_bare homes slots e FIRST fits h;
+  tests = tests_bare;
+}
+
+operands_bare : (homes : Homes) (slots : ℕ) (e : PlainSp) (rd : ℕ) → homes.first + slots ≤ OVERRUN → expr_formed slots e ≡ true → Bare (operands_code homes e rd)
+operands_bare homes slots e rd fits formed =
+    named_bare homes slots e rd fits (and_parts (names_words slots e) (nat_le (need e) 12) formed).0
+
+expr_bare : (homes : Homes) (slots : ℕ) (e : PlainSp) (rd to : ℕ) → homes.first + slots ≤ OVERRUN → expr_formed slots e ≡ true → Bare (expr_to homes e rd to)
 expr_bare homes slots e rd to fits formed =
     both (operands_code homes e rd) (value_code homes e rd to) (operands_bare homes slots e rd fits formed) (value_bare homes slots e rd to fits (and_parts (names_words slots e) (nat_le (need e) 12) formed).0)
 
 -- ---- statements
 
-cell_write_bare : (homes mask : ℕ) (r : Region) (word : ℕ) → homes + mask < OVERRUN → AreBare (cell_write homes mask (record { region = r; word = word }))
+cell_write_bare : (homes : Homes) (mask : ℕ) (r : Region) (word : ℕ) → homes.first + mask < OVERRUN → AreBare (cell_write homes mask (record { region = r; word = word }))
 cell_write_bare homes mask r word lt =
-    let read = fetch_bare homes mask lt in
+    let read = seek_bare homes mask lt in
+    let match = match_bare homes mask in
     let address = number_bare SPARE (address_of r word) in
-    grind (arith, read, address)
+    grind (arith, read, match, address)
 
-element_write_bare : (homes mask : ℕ) (r : Region) (first length : ℕ) → homes + mask < OVERRUN → AreBare (element_write homes mask (record { region = r; first = first; length = length }))
+element_write_bare : (homes : Homes) (mask : ℕ) (r : Region) (first length : ℕ) → homes.first + mask < OVERRUN → AreBare (element_write homes mask (record { region = r; first = first; length = length }))
 element_write_bare homes mask r first length lt =
-    let read = fetch_bare homes mask lt in
-    let size = number_bare SPARE length in
-    let address = number_bare SPARE (address_of r first) in
-    grind (arith, read, size, address)
+    let read = seek_bare homes mask lt in
+    let match = match_bare homes mask in
+    let address = address_are (λ b. is_bare b ≡ true) (record { region = r; first = first; length = length }) SECOND (FIRST + 1) (FIRST + 1) refl (number_bare SPARE) refl refl refl refl in
+    grind (arith, read, match, address.length, address.below, address.base, address.scaled)
 
-target_bare : (homes slots mask : ℕ) (target : PlainSpTarget) → homes + slots ≤ OVERRUN → mask < slots → target_formed slots target ≡ true → Bare (target_write homes mask target)
+target_bare : (homes : Homes) (slots mask : ℕ) (target : PlainSpTarget) → homes.first + slots ≤ OVERRUN → mask < slots → target_formed slots target ≡ true → Bare (target_write homes mask target)
 target_bare homes slots mask (to_slot slot) fits masked formed =
-    rw (fetch_bare homes mask (omega (arith, fits, masked)), set_bare homes (where_so TEST) slot FIRST (omega (arith, fits, ltb-true slot slots formed))) refl
+    rw (seek_bare homes mask (omega (arith, fits, masked)), match_bare homes mask, set_bare homes.first (where_so (told_at homes mask)) slot FIRST (omega (arith, fits, ltb-true slot slots formed))) refl
 target_bare homes slots mask (to_cell cell) fits masked formed = each_lone is_bare (cell_write homes mask cell) (cell_write_bare homes mask cell.region cell.word (omega (arith, fits, masked)))
 target_bare homes slots mask (to_array array index) fits masked formed =
     both (expr_code homes index (FIRST + 1)) (one (straight (element_write homes mask array))) (expr_bare homes slots index (FIRST + 1) (FIRST + 1) fits (and_parts (array_formed array) (expr_formed slots index) formed).1)
     (each_lone is_bare (element_write homes mask array) (element_write_bare homes mask array.region array.first array.length (omega (arith, fits, masked))))
 
 mutual
-  stmt_bare : (homes : ℕ) (fs : List PlainFunction) (number slots frame counter : ℕ) (t : PlainStmt) → homes + (counter + 1) ≤ OVERRUN → stmt_calls t ≡ false → slots + stmt_levels t ≤ counter + 1 → stmt_formed fs number slots t ≡ true → Bare (stmt_code homes frame counter t)
+  stmt_bare : (homes : Homes) (fs : List PlainFunction) (number slots frame counter : ℕ) (t : PlainStmt) → homes.first + (counter + 1) ≤ OVERRUN → stmt_calls t ≡ false → slots + stmt_levels t ≤ counter + 1 → stmt_formed fs number slots t ≡ true → Bare (stmt_code homes frame counter t)
   stmt_bare homes fs number slots frame counter (masks slot e) within none levels formed =
       let parts = and_parts (nat_lt slot slots) (expr_formed slots e) formed in
-      mask_is Bare homes slot e (λ here. expr_bare homes slots e FIRST (homes + slot) (omega (arith, within, levels)) parts.1)
-      (λ there. both (expr_code homes e FIRST) (slot_set homes slot) (expr_bare homes slots e FIRST FIRST (omega (arith, within, levels)) parts.1) (rw (set_bare homes always slot FIRST (omega (arith, within, levels, ltb-true slot slots parts.0))) refl))
+      mask_is Bare homes slot e (λ p is. flag_is (truths_bare homes slots (omega (arith, within, levels))) p (λ func a b. refl) e (and_parts (names_words slots e) (nat_le (need e) 12) parts.1).0)
+      (λ plain here. expr_bare homes slots e FIRST (homes.first + slot) (omega (arith, within, levels)) parts.1)
+      (λ plain there. both (expr_code homes e FIRST) (slot_set homes.first slot) (expr_bare homes slots e FIRST FIRST (omega (arith, within, levels)) parts.1) (rw (set_bare homes.first always slot FIRST (omega (arith, within, levels, ltb-true slot slots parts.0))) refl))
   stmt_bare homes fs number slots frame counter (writes mask target e) within none levels formed =
       let parts = and_parts (nat_lt mask slots) (target_formed slots target && expr_formed slots e) formed in
       let targets = and_parts (target_formed slots target) (expr_formed slots e) parts.1 in
       write_is Bare homes mask target e (both (expr_code homes e FIRST) (target_write homes mask target) (expr_bare homes slots e FIRST FIRST (omega (arith, within, levels)) targets.1) (target_bare homes slots mask target (omega (arith, within, levels)) (ltb-true mask slots parts.0) targets.0))
-      (λ slot op is gives. guarded_each is_bare homes mask e op (operands_bare homes slots e FIRST (omega (arith, within, levels)) targets.1) (fetch_bare homes mask (omega (arith, within, levels, ltb-true mask slots parts.0))) refl (alu_bare op gives.alu))
+      (λ slot op is gives. guarded_each is_bare homes mask e op (operands_bare homes slots e FIRST (omega (arith, within, levels)) targets.1) (seek_bare homes mask (omega (arith, within, levels, ltb-true mask slots parts.0))) (match_bare homes mask) (alu_bare op gives.alu))
   stmt_bare homes fs number slots frame counter (calls mask k args result) within none levels formed = absurd (true≢false none)
   stmt_bare homes fs number slots frame counter (transfers mask core source target count) within none levels formed =
       let parts = and_parts (nat_lt mask slots) (send_formed slots core source target count) formed in
@@ -172,19 +202,19 @@ mutual
       let sent = one (straight (send_code homes mask core)) in
       both (expr_code homes source FIRST) (joined (expr_code homes target (FIRST + 1)) (joined (expr_code homes count (FIRST + 2)) sent)) (expr_bare homes slots source FIRST FIRST (omega (arith, within, levels)) first.0)
       (both (expr_code homes target (FIRST + 1)) (joined (expr_code homes count (FIRST + 2)) sent) (expr_bare homes slots target (FIRST + 1) (FIRST + 1) (omega (arith, within, levels)) rest.0)
-      (both (expr_code homes count (FIRST + 2)) sent (expr_bare homes slots count (FIRST + 2) (FIRST + 2) (omega (arith, within, levels)) rest.1) (rw (fetch_bare homes mask (omega (arith, within, levels, ltb-true mask slots parts.0))) refl)))
+      (both (expr_code homes count (FIRST + 2)) sent (expr_bare homes slots count (FIRST + 2) (FIRST + 2) (omega (arith, within, levels)) rest.1) (rw (seek_bare homes mask (omega (arith, within, levels, ltb-true mask slots parts.0)), match_bare homes mask) refl)))
   stmt_bare homes fs number slots frame counter (overruns mask e) within none levels formed =
       let parts = and_parts (nat_lt mask slots) (expr_formed slots e) formed in
-      both (expr_code homes e FIRST) (one (straight (overrun_code homes mask))) (expr_bare homes slots e FIRST FIRST (omega (arith, within, levels)) parts.1) (rw (fetch_bare homes mask (omega (arith, within, levels, ltb-true mask slots parts.0))) refl)
+      both (expr_code homes e FIRST) (one (straight (overrun_code homes mask))) (expr_bare homes slots e FIRST FIRST (omega (arith, within, levels)) parts.1) (rw (seek_bare homes mask (omega (arith, within, levels, ltb-true mask slots parts.0)), match_bare homes mask) refl)
   stmt_bare homes fs number slots frame counter (iterations count body) within none levels formed =
       let parts = and_parts (nat_lt 0 count) (stmts_formed fs number slots body) formed in
       let code = stmts_code homes frame (counter - 1) body in
-      let counted : homes + counter < OVERRUN = omega (arith, within) in
+      let counted : homes.first + counter < OVERRUN = omega (arith, within) in
       let inner = stmts_bare homes fs number slots frame (counter - 1) body (omega (arith, within, levels)) none (omega (arith, levels)) parts.1 in
-      both (one (straight (iterations_begin homes counter count))) (one (repeats count code (iterations_tail homes counter))) (rw (keep_bare homes counter counted) refl)
-      (and_from _ true (and_from (parts_all is_bare code) (list_all is_bare (iterations_tail homes counter)) inner (rw (fetch_bare homes counter counted, keep_bare homes counter counted) refl)) refl)
+      both (one (straight (iterations_begin homes.first counter count))) (one (repeats count code (iterations_tail homes.first counter))) (rw (number_bare (fetched_at homes.first counter) count, keep_bare homes.first counter counted) refl)
+      (and_from _ true (and_from (parts_all is_bare code) (list_all is_bare (iterations_tail homes.first counter)) inner (rw (fetch_bare homes.first counter counted, keep_bare homes.first counter counted) refl)) refl)
 
-  pub stmts_bare : (homes : ℕ) (fs : List PlainFunction) (number slots frame counter : ℕ) (ts : PlainStmts) → homes + (counter + 1) ≤ OVERRUN → stmts_call ts ≡ false → slots + stmts_levels ts ≤ counter + 1 → stmts_formed fs number slots ts ≡ true → Bare (stmts_code homes frame counter ts)
+  pub stmts_bare : (homes : Homes) (fs : List PlainFunction) (number slots frame counter : ℕ) (ts : PlainStmts) → homes.first + (counter + 1) ≤ OVERRUN → stmts_call ts ≡ false → slots + stmts_levels ts ≤ counter + 1 → stmts_formed fs number slots ts ≡ true → Bare (stmts_code homes frame counter ts)
   stmts_bare homes fs number slots frame counter no_stmt within none levels formed = refl
   stmts_bare homes fs number slots frame counter (stmt t rest) within none levels formed =
       let each = neither (stmt_calls t) (stmts_call rest) none in
@@ -254,22 +284,28 @@ pub calls_need : (homes : ℕ) (f : PlainFunction) → stmts_call f.body ≡ tru
 calls_need homes f has = ap (λ b. not b && nat_le (homes + (f.frame - 2)) OVERRUN) has
 
 -- its body
-pub body_bare : (homes : ℕ) (fs : List PlainFunction) (number : ℕ) (f : PlainFunction) → stmts_formed fs number (slots_of f) f.body ≡ true → slots_of f + stmts_levels f.body + 2 ≡ f.frame → 1 ≤ slots_of f → NeedsNone homes f
-    → parts_all is_bare (stmts_code homes f.frame (first_counter f) f.body) ≡ true
+pub body_bare : (homes : Homes) (fs : List PlainFunction) (number : ℕ) (f : PlainFunction) → stmts_formed fs number (slots_of f) f.body ≡ true → slots_of f + stmts_levels f.body + 2 ≡ f.frame → 1 ≤ slots_of f → NeedsNone homes.first f
+    → parts_all is_bare (body_code homes f) ≡ true
 body_bare homes fs number f formed room some none =
-    stmts_bare homes fs number (slots_of f) f.frame (first_counter f) f.body (let homed = none.homed in omega (arith, homed, room, some)) none.calls (omega (arith, room, some)) formed
+    let levels = begun_levels homes.flags f in
+    stmts_bare homes fs number (slots_of f) f.frame (first_counter f) (begun_body homes.flags f) (let homed = none.homed in omega (arith, homed, room, some)) (begun_uncalled homes.flags f none.calls) (omega (arith, room, some, levels))
+    (begun_formed homes.flags fs number (slots_of f) f formed)
 
-pub body_lone : (homes : ℕ) (fs : List PlainFunction) (number : ℕ) (f : PlainFunction) → stmts_formed fs number (slots_of f) f.body ≡ true → NeedsNone homes f → parts_formed 0 (stmts_code homes f.frame (first_counter f) f.body) ≡ true
-body_lone homes fs number f formed none = forms.stmts_formed homes fs 0 (slots_of f) f.frame (first_counter f) f.body (stmts_uncalled fs number (slots_of f) f.body none.calls formed)
+pub body_lone : (homes : Homes) (fs : List PlainFunction) (number : ℕ) (f : PlainFunction) → stmts_formed fs number (slots_of f) f.body ≡ true → NeedsNone homes.first f → parts_formed 0 (body_code homes f) ≡ true
+body_lone homes fs number f formed none =
+    forms.stmts_formed homes fs 0 (slots_of f) f.frame (first_counter f) (begun_body homes.flags f)
+    (stmts_uncalled fs number (slots_of f) (begun_body homes.flags f) (begun_uncalled homes.flags f none.calls) (begun_formed homes.flags fs number (slots_of f) f formed))
 
 -- leaves the whole stack, and the registers behind its window
-pub bare_body : (homes : ℕ) (from : Sources) (code : ℕ → List Step) (fs : List PlainFunction) (number : ℕ) (f : PlainFunction) (tops : List ℕ) → IsHomed homes fs number (slots_of f) → stmts_formed fs number (slots_of f) f.body ≡ true → slots_of f + stmts_levels f.body + 2 ≡ f.frame
-    → stmts_least tops f.body ≤ homes → NeedsNone homes f → (m : Run) → IsWhole m → Passes (homes + (first_counter f + 1)) 0 m (run from (parts_trail code (stmts_code homes f.frame (first_counter f) f.body)) m)
+pub bare_body : (homes : Homes) (from : Sources) (code : ℕ → List Step) (fs : List PlainFunction) (number : ℕ) (f : PlainFunction) (tops : List ℕ) → IsHomed homes fs number (slots_of f) → stmts_formed fs number (slots_of f) f.body ≡ true → slots_of f + stmts_levels f.body + 2 ≡ f.frame
+    → stmts_least tops f.body ≤ homes.first → NeedsNone homes.first f → (m : Run) → IsWhole m → Passes (homes.first + (first_counter f + 1)) 0 m (run from (parts_trail code (body_code homes f)) m)
 bare_body homes from code fs number f tops h formed room least none m whole =
-    let body = stmts_code homes f.frame (first_counter f) f.body in
-    let top = homes + (first_counter f + 1) in
+    let body = body_code homes f in
+    let top = homes.first + (first_counter f + 1) in
     let bare = body_bare homes fs number f formed room h.some none in
-    let low = stmts_low tops homes fs number (slots_of f) f.frame (first_counter f) f.body h (omega (arith, room, h.some)) formed least in
+    let levels = begun_levels homes.flags f in
+    let fewer = begun_least homes.flags tops f in
+    let low = stmts_low tops homes fs number (slots_of f) f.frame (first_counter f) (begun_body homes.flags f) h (omega (arith, room, h.some, levels)) (begun_formed homes.flags fs number (slots_of f) f formed) (omega (arith, fewer, least)) in
     passes_parts from code tops 0 0 top 0 (omega arith) (record { called = λ k less. absurd (omega (arith, less)) }) body (body_lone homes fs number f formed none) (bare_parts tops top (first_counter f + 1) body bare low) m whole (omega arith)
 
 -- the words of a function that stand in no register stand in the frame that it takes

@@ -1,9 +1,11 @@
 -- What the code leaves with which a function begins: its frame holds the arguments and the mask, and 0 in all other words.
-use Rattle.std.proofs.Common.{◌≡◌, ℕ, zero, suc, ◌+◌, ◌-◌, ◌^◌, ◌<◌, ◌≤◌, ◌⊎◌, inl, inr, Bool, true, false, if◌then◌else◌, List, [], ◌∷◌, length, slice_index, nat_lt, refl, sym, ap, ◌∙◌, subst, arith}
-use Rattle.std.proofs.lemmas.Bool.{cases_lt, cases_eq, lt-ltb, le-ltb, le-leb}
+use Rattle.std.proofs.Common.{◌≡◌, ℕ, zero, suc, ◌+◌, ◌-◌, ◌^◌, ◌<◌, ◌≤◌, ◌⊎◌, inl, inr, Bool, true, false, if◌then◌else◌, Option, None, Some, List, [], ◌∷◌, length, slice_index, nat_lt, refl, sym, ap, ◌∙◌, subst, arith}
+use Rattle.std.proofs.lemmas.Bool.{cases_lt, cases_eq, ltb-true, lt-ltb, le-ltb, le-leb}
 use Rattle.tc_word.proofs.Items.{past_all}
 use Rattle.shared_order.specs.Words.{put}
+use Rattle.patmos_instr.specs.declared.functions.PredFunc.TheVariants as comb
 use Rattle.patmos_instr.specs.declared.functions.StackFunc.TheVariants.{Sres}
+use Rattle.patmos_sem.specs.Operations.{pred_value}
 use Rattle.sp_shape.proofs.Whole.{run_append}
 use Rattle.sp_shape.specs.Run.{Run, Sources, by_words, once, run, reserved, IsWhole}
 use Rattle.sp_shape.specs.Trail.{all_done}
@@ -11,13 +13,16 @@ use Rattle.sp_shape.proofs.Lists.{done_append}
 use Rattle.sp_emit.specs.Functions.{argument_kept, arguments_kept}
 use Rattle.patmos_sem.specs.declared.writes.Write.TheVariants as write
 use Rattle.sp_emit.specs.Holding.{held, KeepsFrom}
-use Rattle.sp_emit.specs.Instructions.{always, stack_op}
-use Rattle.sp_emit.specs.Places.{in_register, word_of, set_word, word_cleared, words_cleared}
+use Rattle.sp_emit.specs.Instructions.{always, set_short, stack_op}
+use Rattle.sp_emit.specs.Places.{flag_of, in_register, shown_word, set_word, cleared_in, word_cleared, words_cleared}
 use Rattle.sp_emit.specs.declared.registers.TheConstants.{FIRST, OVERRUN}
 use Rattle.sp_emit.proofs.Arguments.{did_stack}
 use Rattle.sp_emit.proofs.Frames.{put_same, put_other}
-use Rattle.sp_emit.proofs.Once.{with_written}
-use Rattle.sp_emit.proofs.WordPlaces.{with_word, Sets, did_set_word, sets_word, sets_register, word_cleared_is, in_stack}
+use Rattle.sp_emit.proofs.FlagWords.{shown_plain, shown_set, shown_beside, flag_own, flag_beside}
+use Rattle.sp_emit.proofs.Leaving.{did_set_short, did_combine}
+use Rattle.sp_emit.proofs.Once.{with_written, whole_written, kept_by_pred}
+use Rattle.sp_emit.proofs.WordPlaces.{with_word, Sets, did_set_word, sets_word, sets_register, in_stack}
+use Rattle.sp_emit.specs.declared.stands.Homes.{Homes}
 
 -- the first so many of some words, and 0 after them
 abbrev pub first_words : ℕ → List ℕ → ℕ → ℕ
@@ -25,14 +30,14 @@ first_words count words x = if nat_lt x count then slice_index words x else 0
 
 -- a frame was taken, whose first words are these; all memories are as they were, and so are the stack after it, the
 -- registers before the window and those after it
-pub record Taken (homes frame slots : ℕ) (words : ℕ → ℕ) (m t : Run) : Type 0 where
+pub record Taken (homes : Homes) (frame slots : ℕ) (words : ℕ → ℕ) (m t : Run) : Type 0 where
   pub whole : IsWhole t
   pub memory : t.memory ≡ m.memory
   pub st : t.st ≡ m.st - frame
-  pub frame_is : (x : ℕ) → x < slots → word_of homes x t ≡ words x
+  pub frame_is : (x : ℕ) → x < slots → shown_word homes x t ≡ words x
   pub behind : (a : ℕ) → m.st ≤ a → t.stack a ≡ m.stack a
-  pub low : (r : ℕ) → 1 ≤ r → r < homes → r < 32 → held r t ≡ held r m
-  pub high : KeepsFrom (homes + slots) m t
+  pub low : (r : ℕ) → 1 ≤ r → r < homes.first → r < 32 → held r t ≡ held r m
+  pub high : KeepsFrom (homes.first + slots) m t
   pub flag : held OVERRUN t ≡ held OVERRUN m
 
 -- how many words of the stack are taken, or none
@@ -50,18 +55,18 @@ pub reserved_behind : (st count word : ℕ) (stack : ℕ → ℕ) → st ≤ wor
 reserved_behind st count word stack above = rw (le-leb (st - count) word (omega (arith, above)), le-ltb word st above) refl
 
 -- the first so many words are 0 so far, and so are all of the stack
-record Clears (homes frame slots count : ℕ) (m t : Run) : Type 0 where
+record Clears (homes : Homes) (frame slots count : ℕ) (m t : Run) : Type 0 where
   whole : IsWhole t
   memory : t.memory ≡ m.memory
   st : t.st ≡ m.st - frame
-  cleared : (x : ℕ) → x < count → word_of homes x t ≡ 0
+  cleared : (x : ℕ) → x < count → shown_word homes x t ≡ 0
   zeros : (x : ℕ) → x < frame → t.stack (t.st + x) ≡ 0
   behind : (a : ℕ) → m.st ≤ a → t.stack a ≡ m.stack a
-  low : (r : ℕ) → 1 ≤ r → r < homes → r < 32 → held r t ≡ held r m
-  high : KeepsFrom (homes + slots) m t
+  low : (r : ℕ) → 1 ≤ r → r < homes.first → r < 32 → held r t ≡ held r m
+  high : KeepsFrom (homes.first + slots) m t
   flag : held OVERRUN t ≡ held OVERRUN m
 
-takes_frame : (from : Sources) (homes frame slots : ℕ) (none : Bool) (m : Run) → IsWhole m → frame ≤ m.st → Clears homes (words_taken none frame) slots 0 m (run from (all_done (if none then [] else stack_op Sres frame ∷ [])) m)
+takes_frame : (from : Sources) (homes : Homes) (frame slots : ℕ) (none : Bool) (m : Run) → IsWhole m → frame ≤ m.st → Clears homes (words_taken none frame) slots 0 m (run from (all_done (if none then [] else stack_op Sres frame ∷ [])) m)
 takes_frame from homes frame slots true m whole enough = record {
   whole = whole;
   memory = refl;
@@ -89,7 +94,36 @@ takes_frame from homes frame slots false m whole enough = subst (Clears homes fr
 abbrev pub Outside : ℕ → ℕ → ℕ → Type 0
 Outside homes slots frame = (x : ℕ) → x < slots → in_register homes x ≡ false → x < frame
 
-clears_words : (from : Sources) (homes frame slots count : ℕ) (m t : Run) → 1 ≤ homes → Outside homes slots frame → count ≤ slots → Clears homes frame slots 0 m t → Clears homes frame slots count m (run from (all_done (words_cleared homes count)) t)
+-- a word is cleared in a predicate or in a register, or is left in the stack
+word_cleared_is : (P : Run → Type 0) (from : Sources) (homes : Homes) (slot : ℕ) (m : Run) → IsWhole m → ((p : ℕ) → flag_of homes.flags slot ≡ Some p → P (with_written (write.Predicate p false) m)) → (flag_of homes.flags slot ≡ None → homes.first + slot < OVERRUN → P (with_written (write.Register (homes.first + slot) 0) m))
+    → (flag_of homes.flags slot ≡ None → in_register homes.first slot ≡ false → P m) → P (run from (all_done (word_cleared homes slot)) m)
+unfolding cleared_in
+word_cleared_is P from homes slot m whole flagged here there = by (flag_of homes.flags slot) refl
+  where
+    in_it : flag_of homes.flags slot ≡ None → (b : Bool) → in_register homes.first slot ≡ b → P (run from (all_done (if b then set_short always (homes.first + slot) 0 ∷ [] else [])) m)
+    in_it plain true is = subst P (sym (did_set_short from always (homes.first + slot) 0 m whole whole.fits.always)) (here plain (ltb-true (homes.first + slot) OVERRUN is))
+    in_it plain false is = there plain is
+
+    by : (o : Option ℕ) → flag_of homes.flags slot ≡ o → P (run from (all_done (cleared_in o homes.first slot)) m)
+    by None plain = in_it plain (in_register homes.first slot) refl
+    by (Some p) is = subst P (sym (did_combine from comb.Pxor p 0 0 m whole ∙ ap (λ b. with_written (write.Predicate p (pred_value comb.Pxor b b)) m) whole.fits.always)) (flagged p is)
+
+next_word : (n v : ℕ) → v < suc n → (n ≡ v → ⊥) → v < n
+next_word n v lt other = less (cases_lt v n)
+  where
+    less : (v < n) ⊎ (n ≤ v) → v < n
+    less (inl is) = is
+    less (inr more) = absurd (other (omega (arith, more, lt)))
+
+-- one more word is 0 where the earlier ones are, and stay
+one_cleared : (homes : Homes) (n : ℕ) (u w : Run) → ((x : ℕ) → x < n → shown_word homes x u ≡ 0) → shown_word homes n w ≡ 0 → ((x : ℕ) → (n ≡ x → ⊥) → shown_word homes x w ≡ shown_word homes x u) → (v : ℕ) → v < suc n → shown_word homes v w ≡ 0
+one_cleared homes n u w earlier own others v lt = by (cases_eq n v)
+  where
+    by : (n ≡ v) ⊎ (n ≡ v → ⊥) → shown_word homes v w ≡ 0
+    by (inl same) = ap (λ i. shown_word homes i w) (sym same) ∙ own
+    by (inr other) = others v other ∙ earlier v (next_word n v lt other)
+
+clears_words : (from : Sources) (homes : Homes) (frame slots count : ℕ) (m t : Run) → 1 ≤ homes.first → Outside homes.first slots frame → count ≤ slots → Clears homes frame slots 0 m t → Clears homes frame slots count m (run from (all_done (words_cleared homes count)) t)
 clears_words from homes frame slots zero m t some out few x = x
 clears_words from homes frame slots (suc n) m t some out few x =
     let y = clears_words from homes frame slots n m t some out (omega (arith, few)) x in
@@ -97,46 +131,41 @@ clears_words from homes frame slots (suc n) m t some out few x =
     subst (Clears homes frame slots (suc n) m)
     (sym (ap (λ steps. run from steps t) (done_append (words_cleared homes n) (word_cleared homes n)) ∙ run_append from (all_done (words_cleared homes n)) (all_done (word_cleared homes n)) t))
     (word_cleared_is (Clears homes frame slots (suc n) m) from homes n u y.whole
-    (λ in_it. let set = sets_register homes n 0 u some y.whole in_it in record {
+    (λ p is. record {
+      whole = whole_written (write.Predicate p false) u y.whole;
+      memory = y.memory;
+      st = y.st;
+      cleared = one_cleared homes n u (with_written (write.Predicate p false) u) y.cleared (flag_own homes n p false u y.whole is) (λ v other. flag_beside homes n v p false u y.whole is other);
+      zeros = y.zeros;
+      behind = y.behind;
+      low = λ r least before small. kept_by_pred p false r u y.whole small ∙ y.low r least before small;
+      high = λ r past lt. kept_by_pred p false r u y.whole (omega (arith, lt)) ∙ y.high r past lt;
+      flag = kept_by_pred p false OVERRUN u y.whole (omega arith) ∙ y.flag;
+    })
+    (λ plain in_it. let set = sets_register homes.first n 0 u some y.whole in_it in record {
       whole = set.whole;
       memory = set.memory ∙ y.memory;
       st = set.st ∙ y.st;
-      cleared = λ v lt. at u (with_written (write.Register (homes + n) 0) u) set y.cleared v lt (cases_eq n v);
+      cleared = one_cleared homes n u (with_written (write.Register (homes.first + n) 0) u) y.cleared (shown_set homes set plain) (λ v other. shown_beside homes v set other);
       zeros = λ v lt. y.zeros v lt;
       behind = λ a above. y.behind a above;
       low = λ r least before small. set.regs r least small (λ same. absurd (omega (arith, same, before))) ∙ y.low r least before small;
       high = λ r past lt. set.regs r (omega (arith, past, some)) (omega (arith, lt)) (λ same. absurd (omega (arith, same, past, few))) ∙ y.high r past lt;
       flag = set.flag ∙ y.flag;
     })
-    (λ none. record {
+    (λ plain none. record {
       whole = y.whole;
       memory = y.memory;
       st = y.st;
-      cleared = λ v lt. left u y.cleared (in_stack homes n u none ∙ y.zeros n (out n few none)) v lt (cases_eq n v);
+      cleared = one_cleared homes n u u y.cleared (shown_plain homes n u plain ∙ in_stack homes.first n u none ∙ y.zeros n (out n (omega (arith, few)) none)) (λ v other. refl);
       zeros = y.zeros;
       behind = y.behind;
       low = y.low;
       high = y.high;
       flag = y.flag;
     }))
-  where
-    at : (u w : Run) → Sets 32 homes n 0 u w → ((x : ℕ) → x < n → word_of homes x u ≡ 0) → (v : ℕ) → v < suc n → (n ≡ v) ⊎ (n ≡ v → ⊥) → word_of homes v w ≡ 0
-    at u w set earlier v lt (inl same) = ap (λ i. word_of homes i w) (sym same) ∙ set.own
-    at u w set earlier v lt (inr other) = set.others v other ∙ earlier v (less v lt other (cases_lt v n))
-      where
-        less : (v : ℕ) → v < suc n → (n ≡ v → ⊥) → (v < n) ⊎ (n ≤ v) → v < n
-        less v lt other (inl is) = is
-        less v lt other (inr more) = absurd (other (omega (arith, more, lt)))
 
-    left : (u : Run) → ((x : ℕ) → x < n → word_of homes x u ≡ 0) → word_of homes n u ≡ 0 → (v : ℕ) → v < suc n → (n ≡ v) ⊎ (n ≡ v → ⊥) → word_of homes v u ≡ 0
-    left u earlier own v lt (inl same) = ap (λ i. word_of homes i u) (sym same) ∙ own
-    left u earlier own v lt (inr other) = earlier v (less (cases_lt v n))
-      where
-        less : (v < n) ⊎ (n ≤ v) → v < n
-        less (inl is) = is
-        less (inr more) = absurd (other (omega (arith, more, lt)))
-
-takes_words : (from : Sources) (homes frame slots : ℕ) (args : List ℕ) (m t : Run) → 1 ≤ homes → Outside homes slots frame → Clears homes frame slots 0 m t → Taken homes frame slots (first_words 0 args) m (run from (all_done (words_cleared homes slots)) t)
+takes_words : (from : Sources) (homes : Homes) (frame slots : ℕ) (args : List ℕ) (m t : Run) → 1 ≤ homes.first → Outside homes.first slots frame → Clears homes frame slots 0 m t → Taken homes frame slots (first_words 0 args) m (run from (all_done (words_cleared homes slots)) t)
 takes_words from homes frame slots args m t some out first =
     let x = clears_words from homes frame slots slots m t some out (omega arith) first in
     record {
@@ -167,11 +196,11 @@ one_more j u args = by (cases_eq j u)
             past (inr same) = absurd (other (omega (arith, more, same)))
 
 -- the words of a frame with one of them set
-stores_word : (homes frame slots slot rs v : ℕ) (words more : ℕ → ℕ) (m t : Run) → 1 ≤ homes → slot < slots → Outside homes slots frame → slots ≤ 128 → frame ≤ m.st → held rs t ≡ v → v < 2 ^ 32 → Taken homes frame slots words m t → ((u : ℕ) → put slot v words u ≡ more u)
-    → Taken homes frame slots more m (once by_words (set_word homes always slot rs) t)
-stores_word homes frame slots slot rs v words more m t some named out most enough is word x each =
-    let set = sets_word homes slot v t some x.whole in
-    subst (Taken homes frame slots more m) (sym (did_set_word by_words homes always slot rs v t x.whole x.whole.fits.always (omega (arith, named, most)) is word)) (record {
+stores_word : (homes : Homes) (frame slots slot rs v : ℕ) (words more : ℕ → ℕ) (m t : Run) → flag_of homes.flags slot ≡ None → 1 ≤ homes.first → slot < slots → Outside homes.first slots frame → slots ≤ 128 → frame ≤ m.st → held rs t ≡ v → v < 2 ^ 32 → Taken homes frame slots words m t → ((u : ℕ) → put slot v words u ≡ more u)
+    → Taken homes frame slots more m (once by_words (set_word homes.first always slot rs) t)
+stores_word homes frame slots slot rs v words more m t plain some named out most enough is word x each =
+    let set = sets_word homes.first slot v t some x.whole in
+    subst (Taken homes frame slots more m) (sym (did_set_word by_words homes.first always slot rs v t x.whole x.whole.fits.always (omega (arith, named, most)) is word)) (record {
       whole = set.whole;
       memory = set.memory ∙ x.memory;
       st = set.st ∙ x.st;
@@ -182,22 +211,22 @@ stores_word homes frame slots slot rs v words more m t some named out most enoug
       flag = set.flag ∙ x.flag;
     })
   where
-    at : (u : ℕ) → u < slots → Sets 32 homes slot v t (with_word homes slot v t) → (slot ≡ u) ⊎ (slot ≡ u → ⊥) → word_of homes u (with_word homes slot v t) ≡ put slot v words u
-    at u lt set (inl same) = ap (λ i. word_of homes i (with_word homes slot v t)) (sym same) ∙ set.own ∙ sym (put_same slot v words) ∙ ap (put slot v words) same
-    at u lt set (inr other) = set.others u other ∙ x.frame_is u lt ∙ sym (put_other slot u v words other)
+    at : (u : ℕ) → u < slots → Sets 32 homes.first slot v t (with_word homes.first slot v t) → (slot ≡ u) ⊎ (slot ≡ u → ⊥) → shown_word homes u (with_word homes.first slot v t) ≡ put slot v words u
+    at u lt set (inl same) = ap (λ i. shown_word homes i (with_word homes.first slot v t)) (sym same) ∙ shown_set homes set plain ∙ sym (put_same slot v words) ∙ ap (put slot v words) same
+    at u lt set (inr other) = shown_beside homes u set other ∙ x.frame_is u lt ∙ sym (put_other slot u v words other)
 
 -- so many arguments
-stores_arguments : (homes frame slots j : ℕ) (args : List ℕ) (m t : Run) → FIRST + length args ≤ homes → j ≤ length args → length args ≤ slots → length args ≤ 6 → Outside homes slots frame → slots ≤ 128 → frame ≤ m.st
+stores_arguments : (homes : Homes) (frame slots j : ℕ) (args : List ℕ) (m t : Run) → ((i : ℕ) → i < length args → flag_of homes.flags i ≡ None) → FIRST + length args ≤ homes.first → j ≤ length args → length args ≤ slots → length args ≤ 6 → Outside homes.first slots frame → slots ≤ 128 → frame ≤ m.st
     → ((i : ℕ) → i < length args → held (FIRST + i) m ≡ slice_index args i) → ((i : ℕ) → slice_index args i < 2 ^ 32) → Taken homes frame slots (first_words 0 args) m t
-    → Taken homes frame slots (first_words j args) m (run by_words (all_done (arguments_kept homes j)) t)
-stores_arguments homes frame slots zero args m t before few inside small out most enough given words x = x
-stores_arguments homes frame slots (suc j) args m t before few inside small out most enough given words x =
-    let y = stores_arguments homes frame slots j args m t before (omega (arith, few)) inside small out most enough given words x in
-    let n = run by_words (all_done (arguments_kept homes j)) t in
+    → Taken homes frame slots (first_words j args) m (run by_words (all_done (arguments_kept homes.first j)) t)
+stores_arguments homes frame slots zero args m t plain before few inside small out most enough given words x = x
+stores_arguments homes frame slots (suc j) args m t plain before few inside small out most enough given words x =
+    let y = stores_arguments homes frame slots j args m t plain before (omega (arith, few)) inside small out most enough given words x in
+    let n = run by_words (all_done (arguments_kept homes.first j)) t in
     let is : held (FIRST + j) n ≡ slice_index args j = y.low (FIRST + j) (omega arith) (omega (arith, few, before)) (omega (arith, few, small)) ∙ given j few in
     subst (Taken homes frame slots (first_words (suc j) args) m)
-    (sym (ap (λ steps. run by_words steps t) (done_append (arguments_kept homes j) (argument_kept homes j)) ∙ run_append by_words (all_done (arguments_kept homes j)) (all_done (argument_kept homes j)) t))
-    (stores_word homes frame slots j (FIRST + j) (slice_index args j) (first_words j args) (first_words (suc j) args) m n (omega (arith, before)) (omega (arith, few, inside)) out most enough is (words j) y (λ u. one_more j u args))
+    (sym (ap (λ steps. run by_words steps t) (done_append (arguments_kept homes.first j) (argument_kept homes.first j)) ∙ run_append by_words (all_done (arguments_kept homes.first j)) (all_done (argument_kept homes.first j)) t))
+    (stores_word homes frame slots j (FIRST + j) (slice_index args j) (first_words j args) (first_words (suc j) args) m n (plain j few) (omega (arith, before)) (omega (arith, few, inside)) out most enough is (words j) y (λ u. one_more j u args))
 
 all_words : (args : List ℕ) (u : ℕ) → first_words (length args) args u ≡ slice_index args u
 all_words args u = by (cases_lt u (length args))
@@ -206,15 +235,15 @@ all_words args u = by (cases_lt u (length args))
     by (inl less) = rw (lt-ltb u (length args) less) refl
     by (inr more) = rw (le-ltb u (length args) more) (sym (past_all args u more))
 
-pub begins_frame : (homes frame slots parameters : ℕ) (none : Bool) (args : List ℕ) (m : Run) → IsWhole m → length args ≡ parameters → FIRST + parameters ≤ homes → parameters ≤ slots → parameters ≤ 6 → Outside homes slots (words_taken none frame) → slots ≤ 128 → frame ≤ m.st
+pub begins_frame : (homes : Homes) (frame slots parameters : ℕ) (none : Bool) (args : List ℕ) (m : Run) → ((i : ℕ) → i < length args → flag_of homes.flags i ≡ None) → IsWhole m → length args ≡ parameters → FIRST + parameters ≤ homes.first → parameters ≤ slots → parameters ≤ 6 → Outside homes.first slots (words_taken none frame) → slots ≤ 128 → frame ≤ m.st
     → ((i : ℕ) → i < length args → held (FIRST + i) m ≡ slice_index args i) → ((i : ℕ) → slice_index args i < 2 ^ 32)
-    → Taken homes (words_taken none frame) slots (slice_index args) m (run by_words (all_done (arguments_kept homes parameters)) (run by_words (all_done (words_cleared homes slots)) (run by_words (all_done (if none then [] else stack_op Sres frame ∷ [])) m)))
-begins_frame homes frame slots parameters none args m whole count before inside small out most enough given words =
+    → Taken homes (words_taken none frame) slots (slice_index args) m (run by_words (all_done (arguments_kept homes.first parameters)) (run by_words (all_done (words_cleared homes slots)) (run by_words (all_done (if none then [] else stack_op Sres frame ∷ [])) m)))
+begins_frame homes frame slots parameters none args m plain whole count before inside small out most enough given words =
     let t0 = run by_words (all_done (if none then [] else stack_op Sres frame ∷ [])) m in
     let t = run by_words (all_done (words_cleared homes slots)) t0 in
     let n = words_taken none frame in
-    subst (λ p. Taken homes n slots (slice_index args) m (run by_words (all_done (arguments_kept homes p)) t)) count
-    (retold (stores_arguments homes n slots (length args) args m t (omega (arith, count, before)) (omega arith) (omega (arith, count, inside)) (omega (arith, count, small)) out most (omega (arith, taken_few none frame, enough)) given words
+    subst (λ p. Taken homes n slots (slice_index args) m (run by_words (all_done (arguments_kept homes.first p)) t)) count
+    (retold (stores_arguments homes n slots (length args) args m t plain (omega (arith, count, before)) (omega arith) (omega (arith, count, inside)) (omega (arith, count, small)) out most (omega (arith, taken_few none frame, enough)) given words
     (takes_words by_words homes n slots args m t0 (omega (arith, before)) out (takes_frame by_words homes frame slots none m whole enough))))
   where
     retold : {t : Run} → Taken homes (words_taken none frame) slots (first_words (length args) args) m t → Taken homes (words_taken none frame) slots (slice_index args) m t

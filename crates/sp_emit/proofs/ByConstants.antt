@@ -16,12 +16,12 @@ use Rattle.sp_shape.proofs.Whole.{run_append, run_whole}
 use Rattle.sp_shape.specs.Run.{Run, Sources, once, run, IsWhole}
 use Rattle.sp_shape.specs.Trail.{all_done}
 use Rattle.sp_emit.specs.Divisors.{highest, is_power, moved, scale, factor, power_quotient_to, power_rest_to, factor_quotient_to, factor_rest_to, signed_to}
-use Rattle.sp_emit.specs.Holding.{held}
+use Rattle.sp_emit.specs.Holding.{held, so}
 use Rattle.sp_emit.specs.Instructions.{always, where_so, copy, with_short, compute, multiply_unsigned, from_special}
 use Rattle.sp_emit.specs.declared.registers.TheConstants.{DIVIDEND, DIVISOR, REMAINDER, TEST}
 use Rattle.sp_emit.proofs.Factors.{power_some, power_quotient, power_rest, Exact, exact_quotient, upper_moved}
 use Rattle.sp_emit.proofs.Leaving.{did_compare_short, did_compute, did_set_long, did_with_short, held_computed_leaves}
-use Rattle.sp_emit.proofs.Once.{so, with_written, did_write, did_multiply, whole_written, got, kept, kept_by_pred, kept_by_product, so_got, so_by_register}
+use Rattle.sp_emit.proofs.Once.{with_written, did_write, did_multiply, whole_written, got, kept, kept_by_pred, kept_by_product, so_got, so_by_register}
 use Rattle.sp_emit.proofs.Quotients.{did_copy, word_copied, negates}
 use Rattle.sp_emit.proofs.Signs.{signed, size_of, size_most, signed_quotient_by, signed_rest_by}
 use Rattle.sp_emit.proofs.Untouched.{register, predicate, leaves, left_run}

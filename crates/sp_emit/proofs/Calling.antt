@@ -23,21 +23,23 @@ use Rattle.sp_emit.specs.Holding.{held, Keeps, KeepsFrom}
 use Rattle.sp_emit.specs.Instructions.{always, idle, call, with_short, stack_op}
 use Rattle.sp_emit.specs.Means.{HasArgsConstants, HasWords, HasWordFrame, Follows, KeepsBehind}
 use Rattle.sp_emit.specs.Serving.{CalledWith, Answers}
-use Rattle.sp_emit.specs.Statements.{mask_test, args_code, mask_handed, call_tail, call_code, way_to, behind_call, result_write, stmt_code}
+use Rattle.sp_emit.specs.Statements.{args_code, mask_handed, call_tail, call_code, way_to, behind_call, result_write, stmt_code}
 use Rattle.sp_emit.specs.declared.registers.TheConstants.{RESULT, MASK, FIRST, OVERRUN}
 use Rattle.sp_tree.specs.Need.{need}
 use Rattle.sp_shape.proofs.Whole.{once_whole}
-use Rattle.sp_emit.specs.Places.{read_word, args_least}
+use Rattle.sp_emit.specs.Places.{flag_of, word_of, read_word, mask_test, told_at, args_least}
 use Rattle.sp_emit.proofs.Calm.{is_calm_trail, calm_run}
 use Rattle.sp_emit.proofs.CalmCode.{own_free}
 use Rattle.sp_emit.proofs.Words.{value_word}
-use Rattle.sp_emit.proofs.WordPlaces.{word_still, word_kept, read_is, read_leaves, read_others}
+use Rattle.sp_emit.proofs.FlagWords.{none_stands, shown_plain, shown_still, shown_kept}
+use Rattle.sp_emit.proofs.WordPlaces.{read_is, read_leaves, read_others}
 use Rattle.sp_emit.proofs.Leaving.{did_with_short}
 use Rattle.sp_emit.proofs.Passing.{keeps_then}
 use Rattle.sp_emit.proofs.Masks.{Done, follows_still, behind_still, tested, slot_where}
 use Rattle.sp_emit.proofs.Values.{run_joined, run_lone}
 use Rattle.sp_emit.proofs.Arguments.{with_stack, did_stack, arguments_left}
 use Rattle.sp_emit.proofs.Once.{behind_slot, slot_behind, unchanged, with_regs, with_written, did_write, whole_written, stays_zero, kept, got}
+use Rattle.sp_emit.specs.declared.stands.Homes.{Homes}
 
 -- a call is asked for
 did_call : (m : Run) → IsWhole m → once by_words call m ≡ record m { ways = m.ways ++ runs.calls ∷ [] }
@@ -81,29 +83,30 @@ tail_begins m whole =
 
 -- ---- the mask is handed
 
-pub record Hands (homes : ℕ) (handed : ℕ) (n u : Run) : Type 0 where
-  keeps : Keeps MASK homes n u
+pub record Hands (homes : Homes) (handed : ℕ) (n u : Run) : Type 0 where
+  keeps : Keeps MASK homes.first n u
   masked : held MASK u ≡ handed
   others : (x : ℕ) → x < 32 → (MASK ≡ x → ⊥) → held x u ≡ held x n
 
-pub hands_mask : (homes : ℕ) (slots mask : ℕ) (s : State) (n : Run) → MASK < homes → slots ≤ 128 → mask < slots → Follows homes slots s n → Hands homes (bit_xor (s.frame mask) 1) n (run by_words (all_done (mask_handed homes mask)) n)
-hands_mask homes slots mask s n within most named x =
-    let u1 = once by_words (read_word homes MASK mask) n in
-    let h1 = once_whole by_words (read_word homes MASK mask) n x.whole in
-    let word = subst (λ v. v < 2 ^ 32) (sym (x.shows.frame mask named)) (x.words.frame mask named) in
-    let value : held MASK u1 ≡ s.frame mask = read_leaves by_words homes MASK mask n refl x.whole (omega arith) (omega arith) (omega (arith, named, most)) word ∙ x.shows.frame mask named in
+pub hands_mask : (homes : Homes) (slots mask : ℕ) (s : State) (n : Run) → flag_of homes.flags mask ≡ None → MASK < homes.first → slots ≤ 128 → mask < slots → Follows homes slots s n → Hands homes (bit_xor (s.frame mask) 1) n (run by_words (all_done (mask_handed homes.first mask)) n)
+hands_mask homes slots mask s n plain within most named x =
+    let is : word_of homes.first mask n ≡ s.frame mask = sym (shown_plain homes mask n plain) ∙ x.shows.frame mask named in
+    let u1 = once by_words (read_word homes.first MASK mask) n in
+    let h1 = once_whole by_words (read_word homes.first MASK mask) n x.whole in
+    let word = subst (λ v. v < 2 ^ 32) (sym is) (x.words.frame mask named) in
+    let value : held MASK u1 ≡ s.frame mask = read_leaves by_words homes.first MASK mask n refl x.whole (omega arith) (omega arith) (omega (arith, named, most)) word ∙ is in
     let w = bit_xor (held MASK u1) 1 in
-    let steps : run by_words (all_done (mask_handed homes mask)) n ≡ with_written (write.Register MASK w) u1 = did_with_short by_words imm.Xor MASK MASK 1 u1 h1 in
-    let free = own_free MASK homes MASK (omega arith) (omega arith) within in
+    let steps : run by_words (all_done (mask_handed homes.first mask)) n ≡ with_written (write.Register MASK w) u1 = did_with_short by_words imm.Xor MASK MASK 1 u1 h1 in
+    let free = own_free MASK homes.first MASK (omega arith) (omega arith) within in
     record {
-      keeps = calm_run by_words MASK homes (all_done (mask_handed homes mask)) n (omega arith) x.whole
-          (read_is (λ b. is_calm_trail MASK homes (all_done (b ∷ with_short always imm.Xor MASK MASK 1 ∷ [])) ≡ true) homes MASK mask (grind (arith, free)) (grind (arith, free)));
+      keeps = calm_run by_words MASK homes.first (all_done (mask_handed homes.first mask)) n (omega arith) x.whole
+          (read_is (λ b. is_calm_trail MASK homes.first (all_done (b ∷ with_short always imm.Xor MASK MASK 1 ∷ [])) ≡ true) homes.first MASK mask (grind (arith, free)) (grind (arith, free)));
       masked = ap (held MASK) steps ∙ got MASK w u1 h1 (omega arith) (omega arith) ∙ ap (λ b. bit_xor b 1) value;
-      others = λ y lt other. ap (held y) steps ∙ kept MASK w y u1 h1 lt other ∙ read_others by_words homes MASK mask y n x.whole lt other;
+      others = λ y lt other. ap (held y) steps ∙ kept MASK w y u1 h1 lt other ∙ read_others by_words homes.first MASK mask y n x.whole lt other;
     }
 
 -- arguments are words
-pub args_word : (homes : ℕ) (slots : ℕ) (args : List PlainSp) (s : State) (m : Run) → slots ≤ 128 → args_formed slots args ≡ true → HasArgsConstants args → HasWordFrame slots s → (i : ℕ) → slice_index (args_worth args s) i < 2 ^ 32
+pub args_word : (homes : Homes) (slots : ℕ) (args : List PlainSp) (s : State) (m : Run) → slots ≤ 128 → args_formed slots args ≡ true → HasArgsConstants args → HasWordFrame slots s → (i : ℕ) → slice_index (args_worth args s) i < 2 ^ 32
 args_word homes slots [] s m most formed constants x i = omega arith
 args_word homes slots (e ∷ args) s m most formed constants x zero =
     let a = and_parts (expr_formed slots e) (args_formed slots args) formed in
@@ -112,17 +115,18 @@ args_word homes slots (e ∷ args) s m most formed constants x (suc i) = args_wo
 
 -- ---- what the function gave
 
-pub result_done : (homes : ℕ) (slots count frame mask : ℕ) (result : Option ℕ) (v : ℕ) (s : State) (t : Run) → 1 ≤ homes → slots ≤ 128 → slots ≤ count → mask < slots → result_formed slots result ≡ true → v < 2 ^ 32 → Follows homes slots s t → held RESULT t ≡ v
+pub result_done : (homes : Homes) (slots count frame mask : ℕ) (result : Option ℕ) (v : ℕ) (s : State) (t : Run) → (homes.flags.count == 0) ≡ true → 1 ≤ homes.first → slots ≤ 128 → slots ≤ count → mask < slots → result_formed slots result ≡ true → v < 2 ^ 32 → Follows homes slots s t → held RESULT t ≡ v
     → Done homes slots count (where_on mask (with_result result v) s) t (run by_words (all_done (result_write homes mask result)) t)
-result_done homes slots count frame mask None v s t some most fits masked formed word x is = record { follows = subst (λ z. Follows homes slots z t) (same (s.frame mask == 1)) x; keeps = record { st = refl; stack = λ a above. refl; high = λ r at lt. refl } }
+result_done homes slots count frame mask None v s t none some most fits masked formed word x is = record { follows = subst (λ z. Follows homes slots z t) (same (s.frame mask == 1)) x; keeps = record { st = refl; stack = λ a above. refl; high = λ r at lt. refl } }
   where
     same : (b : Bool) → s ≡ (if b then s else s)
     same true = refl
     same false = refl
-result_done homes slots count frame mask (Some slot) v s t some most fits masked formed word x is =
+result_done homes slots count frame mask (Some slot) v s t none some most fits masked formed word x is =
+    let named = ltb-true slot slots formed in
     let test = tested homes slots mask s t most masked x in
     let u = run by_words (all_done (mask_test homes mask)) t in
-    let d = slot_where homes slots count slot RESULT v s u (s.frame mask == 1) some most (ltb-true slot slots formed) fits word (follows_still test.keeps x) (test.keeps.low RESULT (omega arith) ∙ is) test.test in
+    let d = slot_where homes slots count (told_at homes mask) slot RESULT v s u (s.frame mask == 1) (none_stands homes.flags slot none) some most named fits word (follows_still test.keeps x) (test.keeps.low RESULT (omega arith) ∙ is) test.test in
     record { follows = d.follows; keeps = keeps_then (behind_still count test.keeps) d.keeps }
 
 -- ---- the whole
@@ -137,23 +141,23 @@ unfoldable pub ServedBy : (ℕ → List Step) → Serves → ℕ → ℕ → ℕ
 ServedBy f g k arguments room top = (mask : ℕ) (args : List ℕ) (w : World) (m : Run) → length args ≡ arguments → room ≤ m.st → CalledWith mask args w m → Returns top (g k mask args w) m (run by_words (f k) m)
 
 -- a frame's words after a call, and the world that the function gave
-follows_answer : (homes : ℕ) (slots : ℕ) (s : State) (g : Outcome) (m c t : Run) → Follows homes slots s m → KeepsFrom homes m t → c.stack ≡ m.stack → c.st ≡ m.st → Answers g c t → Follows homes slots (in_world s g.world) t
-follows_answer homes slots s g m c t x high same_stack same_st a = record {
+follows_answer : (homes : Homes) (slots : ℕ) (s : State) (g : Outcome) (m c t : Run) → (homes.flags.count == 0) ≡ true → Follows homes slots s m → KeepsFrom homes.first m t → c.stack ≡ m.stack → c.st ≡ m.st → Answers g c t → Follows homes slots (in_world s g.world) t
+follows_answer homes slots s g m c t none x high same_stack same_st a = record {
   whole = a.carries.whole;
   shows = record {
-    frame = λ slot lt. word_kept homes slot m t high (λ at above. a.stack at (subst (λ st. st ≤ at) (sym same_st) above) ∙ ap (λ words. words at) same_stack) (a.st ∙ same_st) ∙ x.shows.frame slot lt;
+    frame = λ slot lt. shown_kept homes slot m t none high (λ at above. a.stack at (subst (λ st. st ≤ at) (sym same_st) above) ∙ ap (λ words. words at) same_stack) (a.st ∙ same_st) ∙ x.shows.frame slot lt;
     world = a.carries.has;
   };
   words = record { frame = x.words.frame; world = a.carries.words };
   flag = a.carries.flag;
 }
 
-pub call_run : (homes : ℕ) (from : Sources) (f : ℕ → List Step) (frame mask k : ℕ) (result : Option ℕ) (n : Run)
+pub call_run : (homes : Homes) (from : Sources) (f : ℕ → List Step) (frame mask k : ℕ) (result : Option ℕ) (n : Run)
     → run from (parts_trail f (call_code homes frame mask k result)) n
-    ≡ run from (all_done (behind_call homes frame mask result)) (run from (f k) (begun (run from (all_done call_tail) (run from (all_done (mask_handed homes mask)) n))))
+    ≡ run from (all_done (behind_call homes frame mask result)) (run from (f k) (begun (run from (all_done call_tail) (run from (all_done (mask_handed homes.first mask)) n))))
 call_run homes from f frame mask k result n =
-    let u = run from (all_done (mask_handed homes mask)) n in
-    run_joined from f (one (straight (mask_handed homes mask))) (joined (one (way_to k)) (one (straight (behind_call homes frame mask result)))) n
+    let u = run from (all_done (mask_handed homes.first mask)) n in
+    run_joined from f (one (straight (mask_handed homes.first mask))) (joined (one (way_to k)) (one (straight (behind_call homes frame mask result)))) n
     ∙ run_joined from f (one (way_to k)) (one (straight (behind_call homes frame mask result))) u
     ∙ ap (λ steps. run from (parts_trail f (one (straight (behind_call homes frame mask result)))) (run from steps (begun (run from (all_done call_tail) u)))) (append-nil (f k))
     ∙ run_lone from f (behind_call homes frame mask result) (run from (f k) (begun (run from (all_done call_tail) u)))
@@ -166,17 +170,17 @@ pub first_least : (args : List PlainSp) (rd : ℕ) → rd ≤ args_least args rd
 first_least [] rd = omega arith
 first_least (e ∷ args) rd = omega arith
 
-pub call_is_done : (homes : ℕ) (f : ℕ → List Step) (g : Serves) (frame counter slots room top mask k : ℕ) (args : List PlainSp) (result : Option ℕ) (s : State) (m : Run) → slots ≤ 128 → slots ≤ counter + 1 → mask < slots → length args ≤ 7 → args_formed slots args ≡ true
-    → HasArgsConstants args → result_formed slots result ≡ true → ServedBy f g k (length args) room top → top ≤ homes → args_least args FIRST ≤ homes → room ≤ m.st → Follows homes slots s m
+pub call_is_done : (homes : Homes) (f : ℕ → List Step) (g : Serves) (frame counter slots room top mask k : ℕ) (args : List PlainSp) (result : Option ℕ) (s : State) (m : Run) → (homes.flags.count == 0) ≡ true → slots ≤ 128 → slots ≤ counter + 1 → mask < slots → length args ≤ 7 → args_formed slots args ≡ true
+    → HasArgsConstants args → result_formed slots result ≡ true → ServedBy f g k (length args) room top → top ≤ homes.first → args_least args FIRST ≤ homes.first → room ≤ m.st → Follows homes slots s m
     → Done homes slots (counter + 1) (stmt_done g (calls mask k args result) s) m (run by_words (parts_trail f (stmt_code homes frame counter (calls mask k args result))) m)
 unfolding ServedBy
-call_is_done homes f g frame counter slots room top mask k args result s m most fits masked few formed constants result_named served windows free enough x =
-    let least : FIRST ≤ homes = omega (arith, first_least args FIRST, free) in
+call_is_done homes f g frame counter slots room top mask k args result s m none most fits masked few formed constants result_named served windows free enough x =
+    let least : FIRST ≤ homes.first = omega (arith, first_least args FIRST, free) in
     let a = arguments_left homes f slots args FIRST s m (omega arith) (omega (arith, few)) most formed constants free x in
     let n = run by_words (parts_trail f (args_code homes args FIRST)) m in
     let y = follows_still a.keeps x in
-    let h = hands_mask homes slots mask s n (omega (arith, least)) most masked y in
-    let u = run by_words (all_done (mask_handed homes mask)) n in
+    let h = hands_mask homes slots mask s n (none_stands homes.flags mask none) (omega (arith, least)) most masked y in
+    let u = run by_words (all_done (mask_handed homes.first mask)) n in
     let z = follows_still h.keeps y in
     let b = tail_begins u h.keeps.whole in
     let c = begun (run by_words (all_done call_tail) u) in
@@ -192,13 +196,13 @@ call_is_done homes f g frame counter slots room top mask k args result s m most 
     let answers = returned.answers in
     let given = g k (s.frame mask) values s.world in
     let t1 = run by_words (f k) c in
-    let high : KeepsFrom homes u t1 = λ r from lt. returned.high r (omega (arith, windows, from, lt)) lt ∙ b.regs r (omega (arith, lt)) in
-    let w = follows_answer homes slots s given u c t1 z high b.stack b.st answers in
+    let high : KeepsFrom homes.first u t1 = λ r from lt. returned.high r (omega (arith, windows, from, lt)) lt ∙ b.regs r (omega (arith, lt)) in
+    let w = follows_answer homes slots s given u c t1 none z high b.stack b.st answers in
     let t2 = once by_words (stack_op Sens frame) t1 in
     let sens = did_stack by_words Sens frame t1 w.whole in
-    let w2 : Follows homes slots (in_world s given.world) t2 = subst (Follows homes slots (in_world s given.world)) (sym sens) (record { whole = record { fits = w.whole.fits; pending = w.whole.pending }; shows = record { frame = λ slot lt. word_still homes slot t1 (with_stack Sens frame t1) (λ r from lt. refl) refl refl ∙ w.shows.frame slot lt; world = w.shows.world }; words = w.words; flag = w.flag }) in
-    let d = result_done homes slots (counter + 1) frame mask result given.value (in_world s given.world) t2 (omega (arith, least)) most fits masked result_named answers.value_word w2 (ap (held RESULT) sens ∙ answers.value) in
-    let behind : KeepsBehind (homes + (counter + 1)) (counter + 1) u t2 = subst (KeepsBehind (homes + (counter + 1)) (counter + 1) u) (sym sens) (record {
+    let w2 : Follows homes slots (in_world s given.world) t2 = subst (Follows homes slots (in_world s given.world)) (sym sens) (record { whole = record { fits = w.whole.fits; pending = w.whole.pending }; shows = record { frame = λ slot lt. shown_still homes slot t1 (with_stack Sens frame t1) (λ r from lt. refl) (λ p from lt. refl) refl refl ∙ w.shows.frame slot lt; world = w.shows.world }; words = w.words; flag = w.flag }) in
+    let d = result_done homes slots (counter + 1) frame mask result given.value (in_world s given.world) t2 none (omega (arith, least)) most fits masked result_named answers.value_word w2 (ap (held RESULT) sens ∙ answers.value) in
+    let behind : KeepsBehind (homes.first + (counter + 1)) (counter + 1) u t2 = subst (KeepsBehind (homes.first + (counter + 1)) (counter + 1) u) (sym sens) (record {
       st = answers.st ∙ b.st;
       stack = λ at above. answers.stack at (subst (λ st. st ≤ at) (sym b.st) (omega (arith, above))) ∙ ap (λ words. words at) b.stack;
       high = λ r from lt. high r (omega (arith, from)) lt;

@@ -17,8 +17,8 @@ use Rattle.sp_shape.specs.Parts.{PlainPart, straight, repeats, calls_to, leaves,
 use Rattle.sp_shape.specs.Trail.{Step, does, begins, all_done, copies, part_trail, parts_trail}
 use Rattle.sp_emit.specs.Holding.{held, Keeps, KeepsFrom}
 use Rattle.sp_emit.specs.Instructions.{under}
-use Rattle.sp_emit.specs.declared.registers.TheConstants.{OVERRUN}
-use Rattle.sp_emit.proofs.Once.{with_written, loaded, did_write, did_nothing, did_multiply, did_branch, did_load, whole_written, stays_zero, kept, kept_by_pred, kept_by_product}
+use Rattle.sp_emit.specs.declared.registers.TheConstants.{OVERRUN, FLAGS}
+use Rattle.sp_emit.proofs.Once.{with_written, loaded, did_write, did_nothing, did_multiply, did_branch, did_load, whole_written, stays_zero, kept, kept_by_pred, kept_by_product, so_kept, so_by_register, so_by_product}
 
 -- ---- calm instructions and code
 
@@ -26,7 +26,11 @@ use Rattle.sp_emit.proofs.Once.{with_written, loaded, did_write, did_nothing, di
 abbrev pub is_free : ℕ → ℕ → ℕ → Bool
 is_free rd homes r = (r == 0) || (nat_le rd r && (nat_lt OVERRUN r || (nat_lt r homes && not (r == OVERRUN))))
 
--- an instruction that writes no other register, and stores nothing
+-- a predicate in which no word of a frame stands
+abbrev pub is_passing : ℕ → Bool
+is_passing p = nat_lt p FLAGS
+
+-- an instruction that writes no other register or predicate, and stores nothing
 abbrev pub is_calm_op : ℕ → ℕ → Op → Bool
 is_calm_op rd homes (AluImm func r ra imm) = is_free rd homes r
 is_calm_op rd homes (AluReg func r ra rb) = is_free rd homes r
@@ -34,9 +38,9 @@ is_calm_op rd homes (AluLong func r ra constant) = is_free rd homes r
 is_calm_op rd homes (FromSpecial r special) = is_free rd homes r
 is_calm_op rd homes (Load space load.Word r ra imm) = is_free rd homes r
 is_calm_op rd homes (Mul unsigned ra rb) = true
-is_calm_op rd homes (Cmp func pd ra rb) = true
-is_calm_op rd homes (CmpImm func pd ra imm) = true
-is_calm_op rd homes (Comb func pd a b) = true
+is_calm_op rd homes (Cmp func pd ra rb) = is_passing pd
+is_calm_op rd homes (CmpImm func pd ra imm) = is_passing pd
+is_calm_op rd homes (Comb func pd a b) = is_passing pd
 is_calm_op rd homes (Branch offset) = true
 is_calm_op _ homes _ = false
 
@@ -64,13 +68,14 @@ abbrev mutual
 -- ---- what is kept
 
 pub keeps_all : (rd homes : ℕ) (m : Run) → IsWhole m → Keeps rd homes m m
-keeps_all rd homes m whole = record { whole = whole; low = λ r lt. refl; high = λ r at lt. refl; flag = refl; stack = refl; st = refl; memory = refl }
+keeps_all rd homes m whole = record { whole = whole; low = λ r lt. refl; high = λ r at lt. refl; flags = λ p from lt. refl; flag = refl; stack = refl; st = refl; memory = refl }
 
 pub keeps_both : {rd homes : ℕ} {m n t : Run} → Keeps rd homes m n → Keeps rd homes n t → Keeps rd homes m t
 keeps_both a b = record {
   whole = b.whole;
   low = λ r lt. b.low r lt ∙ a.low r lt;
   high = λ r at lt. b.high r at lt ∙ a.high r at lt;
+  flags = λ p from lt. b.flags p from lt ∙ a.flags p from lt;
   flag = b.flag ∙ a.flag;
   stack = b.stack ∙ a.stack;
   st = b.st ∙ a.st;
@@ -83,6 +88,7 @@ keeps_fewer low le a = record {
   whole = a.whole;
   low = λ r lt. a.low r (omega (arith, lt, le));
   high = a.high;
+  flags = a.flags;
   flag = a.flag;
   stack = a.stack;
   st = a.st;
@@ -145,6 +151,7 @@ keeps_register rd homes r v m few whole free = record {
   whole = whole_written (write.Register r v) m whole;
   low = low;
   high = high;
+  flags = λ p from lt. so_by_register r v p m whole lt;
   flag = kept r v OVERRUN m whole (omega arith) (free_flag rd homes r free);
   stack = refl;
   st = refl;
@@ -159,11 +166,12 @@ keeps_register rd homes r v m few whole free = record {
     high zero at lt = stays_zero (write.Register r v) m whole
     high (suc x) at lt = kept r v (suc x) m whole (omega (arith, lt)) (free_high rd homes r (suc x) free at (omega arith) lt)
 
-keeps_pred : (rd homes p : ℕ) (b : Bool) (m : Run) → rd < 32 → IsWhole m → Keeps rd homes m (with_written (write.Predicate p b) m)
-keeps_pred rd homes p b m few whole = record {
+keeps_pred : (rd homes p : ℕ) (b : Bool) (m : Run) → rd < 32 → IsWhole m → is_passing p ≡ true → Keeps rd homes m (with_written (write.Predicate p b) m)
+keeps_pred rd homes p b m few whole passing = record {
   whole = whole_written (write.Predicate p b) m whole;
   low = λ x lt. kept_by_pred p b x m whole (omega (arith, lt, few));
   high = λ x at lt. kept_by_pred p b x m whole (omega (arith, lt));
+  flags = λ q from lt. so_kept p b q m whole lt (λ same. absurd (omega (arith, same, from, ltb-true p FLAGS passing)));
   flag = kept_by_pred p b OVERRUN m whole (omega arith);
   stack = refl;
   st = refl;
@@ -175,6 +183,7 @@ keeps_product rd homes low high m few whole = record {
   whole = whole_written (write.Product low high) m whole;
   low = λ x lt. kept_by_product low high x m whole (omega (arith, lt, few));
   high = λ x at lt. kept_by_product low high x m whole (omega (arith, lt));
+  flags = λ q from lt. so_by_product low high q m whole lt;
   flag = kept_by_product low high OVERRUN m whole (omega arith);
   stack = refl;
   st = refl;
@@ -184,7 +193,7 @@ keeps_product rd homes low high m few whole = record {
 keeps_load : (from : Sources) (space : Mem) (rd homes r address : ℕ) (m : Run) → rd < 32 → IsWhole m → is_free rd homes r ≡ true → Keeps rd homes m (loaded from space r address m)
 keeps_load from space rd homes r address m few whole free =
     let a = keeps_register rd homes r (word_given from space address m) m few whole free in
-    record { whole = record { fits = a.whole.fits; pending = a.whole.pending }; low = a.low; high = a.high; flag = a.flag; stack = refl; st = refl; memory = refl }
+    record { whole = record { fits = a.whole.fits; pending = a.whole.pending }; low = a.low; high = a.high; flags = a.flags; flag = a.flag; stack = refl; st = refl; memory = refl }
 
 -- ---- bundles
 
@@ -194,13 +203,13 @@ calm_on from rd homes g (AluImm func r ra imm) m few whole calm on = subst (Keep
 calm_on from rd homes g (AluReg func r ra rb) m few whole calm on = subst (Keeps rd homes m) (sym (did_write from g (AluReg func r ra rb) m whole on refl refl)) (keeps_register rd homes r _ m few whole calm)
 calm_on from rd homes g (AluLong func r ra constant) m few whole calm on = subst (Keeps rd homes m) (sym (did_write from g (AluLong func r ra constant) m whole on refl refl)) (keeps_register rd homes r _ m few whole calm)
 calm_on from rd homes g (FromSpecial r special) m few whole calm on = subst (Keeps rd homes m) (sym (did_write from g (FromSpecial r special) m whole on refl refl)) (keeps_register rd homes r _ m few whole calm)
-calm_on from rd homes g (Cmp func pd ra rb) m few whole calm on = subst (Keeps rd homes m) (sym (did_write from g (Cmp func pd ra rb) m whole on refl refl)) (keeps_pred rd homes pd _ m few whole)
-calm_on from rd homes g (CmpImm func pd ra imm) m few whole calm on = subst (Keeps rd homes m) (sym (did_write from g (CmpImm func pd ra imm) m whole on refl refl)) (keeps_pred rd homes pd _ m few whole)
-calm_on from rd homes g (Comb func pd a b) m few whole calm on = subst (Keeps rd homes m) (sym (did_write from g (Comb func pd a b) m whole on refl refl)) (keeps_pred rd homes pd _ m few whole)
+calm_on from rd homes g (Cmp func pd ra rb) m few whole calm on = subst (Keeps rd homes m) (sym (did_write from g (Cmp func pd ra rb) m whole on refl refl)) (keeps_pred rd homes pd _ m few whole calm)
+calm_on from rd homes g (CmpImm func pd ra imm) m few whole calm on = subst (Keeps rd homes m) (sym (did_write from g (CmpImm func pd ra imm) m whole on refl refl)) (keeps_pred rd homes pd _ m few whole calm)
+calm_on from rd homes g (Comb func pd a b) m few whole calm on = subst (Keeps rd homes m) (sym (did_write from g (Comb func pd a b) m whole on refl refl)) (keeps_pred rd homes pd _ m few whole calm)
 calm_on from rd homes g (Mul unsigned ra rb) m few whole calm on = subst (Keeps rd homes m) (sym (did_multiply from g unsigned ra rb m whole on)) (keeps_product rd homes _ _ m few whole)
 calm_on from rd homes g (Load space load.Word r ra imm) m few whole calm on = subst (Keeps rd homes m) (sym (did_load from g space r ra imm m whole on)) (keeps_load from space rd homes r _ m few whole calm)
 calm_on from rd homes g (Branch offset) m few whole calm on =
-    subst (Keeps rd homes m) (sym (did_branch from g offset m whole on)) (record { whole = record { fits = whole.fits; pending = whole.pending }; low = λ r lt. refl; high = λ r at lt. refl; flag = refl; stack = refl; st = refl; memory = refl })
+    subst (Keeps rd homes m) (sym (did_branch from g offset m whole on)) (record { whole = record { fits = whole.fits; pending = whole.pending }; low = λ r lt. refl; high = λ r at lt. refl; flags = λ p from lt. refl; flag = refl; stack = refl; st = refl; memory = refl })
 calm_on from rd homes g (Load space load.Half r ra imm) m few whole calm on = absurd (true≢false (sym calm))
 calm_on from rd homes g (Load space load.Byte r ra imm) m few whole calm on = absurd (true≢false (sym calm))
 calm_on from rd homes g (Load space load.HalfUnsigned r ra imm) m few whole calm on = absurd (true≢false (sym calm))

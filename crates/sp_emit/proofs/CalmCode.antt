@@ -12,15 +12,18 @@ use Rattle.sp_tree.specs.declared.operators.SpUnary.{SpUnary}
 use Rattle.sp_shape.specs.Parts.{straight, PlainParts, no_part, part, one, joined}
 use Rattle.sp_shape.proofs.Lists.{all_append}
 use Rattle.sp_emit.specs.Division.{operands, without_signs, highest_bit, digit_tail, unsigned_quotient_to, unsigned_rest_to, signed_quotient_to, signed_rest_to, around}
-use Rattle.sp_emit.proofs.Calm.{is_free, is_calm, part_calm, parts_calm}
+use Rattle.sp_emit.proofs.Calm.{is_free, is_passing, is_calm, part_calm, parts_calm}
 use Rattle.sp_emit.proofs.Held.{held_is}
 use Rattle.sp_emit.specs.Divisors.{factor_rest_to}
-use Rattle.sp_emit.specs.Expressions.{unary_code, binary_code, held_code, cell_code, element_code, address_of}
+use Rattle.sp_emit.specs.Expressions.{word_code, unary_code, binary_code, held_code, cell_code, element_code, address_of}
 use Rattle.sp_emit.specs.Instructions.{always, under, set_number}
-use Rattle.sp_emit.specs.Places.{read_word}
-use Rattle.sp_emit.specs.declared.registers.TheConstants.{OVERRUN}
+use Rattle.sp_emit.specs.Places.{flag_of}
+use Rattle.sp_emit.specs.declared.registers.TheConstants.{OVERRUN, SPARE, TEST, SECOND}
+use Rattle.sp_emit.proofs.Operands.{word_code_is}
 use Rattle.sp_emit.proofs.WordPlaces.{read_is}
+use Rattle.sp_emit.specs.declared.stands.Homes.{Homes}
 use Rattle.sp_emit.proofs.Numbers.{number_op_is}
+use Rattle.sp_emit.proofs.Offsets.{AddressAre, address_are}
 
 pub joined_calm : (rd homes : ℕ) (xs ys : PlainParts) → parts_calm rd homes xs ≡ true → parts_calm rd homes ys ≡ true → parts_calm rd homes (joined xs ys) ≡ true
 joined_calm rd homes no_part ys a b = b
@@ -72,17 +75,17 @@ around_calm low homes before behind d a b =
 operands_calm : (low homes ra rb : ℕ) → Divides low homes → list_all (is_calm low homes) (operands ra rb) ≡ true
 operands_calm low homes ra rb d = grind (arith, d.dividend, d.divisor, d.remainder, d.digits)
 
-signed_operands_calm : (low homes ra rb : ℕ) → Divides low homes → list_all (is_calm low homes) (operands ra rb ++ without_signs) ≡ true
-signed_operands_calm low homes ra rb d = grind (arith, d.dividend, d.divisor, d.remainder, d.digits)
+signed_operands_calm : (low homes p q ra rb : ℕ) → is_passing p ≡ true → is_passing q ≡ true → Divides low homes → list_all (is_calm low homes) (operands ra rb ++ without_signs p q) ≡ true
+signed_operands_calm low homes p q ra rb own other d = grind (arith, own, other, d.dividend, d.divisor, d.remainder, d.digits)
 
 pub binary_calm : (op : SpBinary) (low homes rd ra rb : ℕ) → low ≤ rd → rd < OVERRUN → rd < homes → parts_calm low homes (binary_code op rd ra rb) ≡ true
 unfolding unsigned_quotient_to
 binary_calm op low homes rd ra rb le few within = by op (own_free low homes rd le few within) (divides low homes (omega (arith, le, few)))
   where
     by : (op : SpBinary) → is_free low homes rd ≡ true → Divides low homes → parts_calm low homes (binary_code op rd ra rb) ≡ true
-    by binary.Divide free d = around_calm low homes (operands ra rb ++ without_signs) (signed_quotient_to rd) d (signed_operands_calm low homes ra rb d) (grind (arith, free))
+    by binary.Divide free d = around_calm low homes (operands ra rb ++ without_signs TEST SECOND) (signed_quotient_to rd) d (signed_operands_calm low homes TEST SECOND ra rb refl refl d) (grind (arith, free))
     by binary.DivideUnsigned free d = around_calm low homes (operands ra rb) (unsigned_quotient_to rd ra) d (operands_calm low homes ra rb d) (grind (arith, free, d.dividend))
-    by binary.Remainder free d = around_calm low homes (operands ra rb ++ without_signs) (signed_rest_to rd) d (signed_operands_calm low homes ra rb d) (grind (arith, free))
+    by binary.Remainder free d = around_calm low homes (operands ra rb ++ without_signs SECOND TEST) (signed_rest_to rd) d (signed_operands_calm low homes SECOND TEST ra rb refl refl d) (grind (arith, free))
     by binary.RemainderUnsigned free d = around_calm low homes (operands ra rb) (unsigned_rest_to rd ra) d (operands_calm low homes ra rb d) (grind (arith, free, d.remainder))
     by binary.Or free d = grind (arith, free)
     by binary.And free d = grind (arith, free)
@@ -115,10 +118,10 @@ number_calm low homes rd n free = number_op_is (λ op. is_calm low homes (under 
 pub constant_calm : (low homes rd n : ℕ) → low ≤ rd → rd < OVERRUN → rd < homes → list_all (is_calm low homes) (set_number rd n ∷ []) ≡ true
 constant_calm low homes rd n le few within = rw (number_calm low homes rd n (own_free low homes rd le few within)) refl
 
-pub slot_calm : (low top homes rd slot : ℕ) → low ≤ rd → rd < OVERRUN → rd < top → list_all (is_calm low top) (read_word homes rd slot ∷ []) ≡ true
+pub slot_calm : (low top : ℕ) (homes : Homes) (rd slot : ℕ) → low ≤ rd → rd < OVERRUN → rd < top → list_all (is_calm low top) (word_code (flag_of homes.flags slot) homes.first rd slot) ≡ true
 slot_calm low top homes rd slot le few within =
     let free = own_free low top rd le few within in
-    read_is (λ b. list_all (is_calm low top) (b ∷ []) ≡ true) homes rd slot (grind (arith, free)) (grind (arith, free))
+    word_code_is (λ bs. list_all (is_calm low top) bs ≡ true) homes rd slot (λ p. grind (arith, free)) (read_is (λ b. list_all (is_calm low top) (b ∷ []) ≡ true) homes.first rd slot (grind (arith, free)) (grind (arith, free)))
 
 pub cell_calm : (c : SpCell) (low homes rd : ℕ) → low ≤ rd → rd < OVERRUN → rd < homes → list_all (is_calm low homes) (cell_code c rd) ≡ true
 cell_calm c low homes rd le few within =
@@ -126,10 +129,13 @@ cell_calm c low homes rd le few within =
     let address = number_calm low homes rd (address_of c.region c.word) free in
     grind (arith, free, address)
 
+pub calm_address : (low homes : ℕ) (a : SpArray) (pd rd ra : ℕ) → is_passing pd ≡ true → is_free low homes rd ≡ true → is_free low homes SPARE ≡ true → AddressAre (λ b. is_calm low homes b ≡ true) a pd rd ra
+calm_address low homes a pd rd ra own free spare =
+    address_are (λ b. is_calm low homes b ≡ true) a pd rd ra refl (λ n. number_calm low homes SPARE n spare) (grind (arith, own)) (grind (arith, own)) (grind (arith, free)) (grind (arith, free))
+
 pub element_calm : (a : SpArray) (low homes rd ra : ℕ) → low ≤ rd → rd < OVERRUN → rd < homes → list_all (is_calm low homes) (element_code a rd ra) ≡ true
 element_calm a low homes rd ra le few within =
     let free = own_free low homes rd le few within in
     let spare = spare_free low homes 27 (omega (arith, le, few)) (omega arith) in
-    let length = number_calm low homes 27 a.length spare in
-    let address = number_calm low homes 27 (address_of a.region a.first) spare in
-    grind (arith, free, spare, length, address)
+    let address = calm_address low homes a TEST rd ra refl free spare in
+    grind (arith, free, address.length, address.below, address.base, address.scaled)

@@ -7,8 +7,8 @@ use Rattle.patmos_instr.specs.Bundles.{Slots}
 use Rattle.patmos_instr.specs.declared.functions.StackFunc.TheVariants.{Sres, Sfree}
 use Rattle.sp_emit.specs.Chains.{stmts_call}
 use Rattle.sp_emit.specs.Instructions.{stack_op}
-use Rattle.sp_emit.specs.Functions.{place_stored, place_loaded, place_kept, place_brought, needs_none, frame_taken, frame_freed, function_code, functions_code, codes}
-use Rattle.sp_emit.specs.Places.{homes_of, tops, top_of}
+use Rattle.sp_emit.specs.Functions.{place_stored, place_loaded, place_kept, place_brought, needs_none, frame_taken, frame_freed, function_code, places_of, functions_code, codes}
+use Rattle.sp_emit.specs.Places.{tops, top_of}
 
 length_more : (xs : List PlainParts) (x : PlainParts) → length (xs ++ x ∷ []) ≡ suc (length xs)
 length_more [] x = refl
@@ -25,26 +25,26 @@ at_end (y ∷ xs) x d = at_end xs x d
 
 pub functions_length : (fs : List PlainFunction) (n : ℕ) → length (functions_code fs n) ≡ n
 functions_length fs zero = refl
-functions_length fs (suc n) = length_more (functions_code fs n) (function_code (homes_of fs n) (slice_index_or fs n no_function)) ∙ ap suc (functions_length fs n)
+functions_length fs (suc n) = length_more (functions_code fs n) (function_code (places_of fs n) (slice_index_or fs n no_function)) ∙ ap suc (functions_length fs n)
 
 pub codes_length : (fs : List PlainFunction) → length (codes fs) ≡ length fs
 codes_length fs = functions_length fs (length fs)
 
-function_at : (fs : List PlainFunction) (n k : ℕ) → k < n → slice_index_or (functions_code fs n) k no_part ≡ function_code (homes_of fs k) (slice_index_or fs k no_function)
+function_at : (fs : List PlainFunction) (n k : ℕ) → k < n → slice_index_or (functions_code fs n) k no_part ≡ function_code (places_of fs k) (slice_index_or fs k no_function)
 function_at fs zero k lt = absurd (omega (arith, lt))
 function_at fs (suc n) k lt = by (λ less. function_at fs n k less) (cases_lt k n)
   where
     last : PlainParts
-    last = function_code (homes_of fs n) (slice_index_or fs n no_function)
+    last = function_code (places_of fs n) (slice_index_or fs n no_function)
 
-    by : (k < n → slice_index_or (functions_code fs n) k no_part ≡ function_code (homes_of fs k) (slice_index_or fs k no_function)) → (k < n) ⊎ (n ≤ k) → slice_index_or (functions_code fs n ++ last ∷ []) k no_part ≡ function_code (homes_of fs k) (slice_index_or fs k no_function)
+    by : (k < n → slice_index_or (functions_code fs n) k no_part ≡ function_code (places_of fs k) (slice_index_or fs k no_function)) → (k < n) ⊎ (n ≤ k) → slice_index_or (functions_code fs n ++ last ∷ []) k no_part ≡ function_code (places_of fs k) (slice_index_or fs k no_function)
     by earlier (inl less) = at_more (functions_code fs n) last no_part k (let same = functions_length fs n in omega (arith, same, less)) ∙ earlier less
     by earlier (inr more) =
         let is : k ≡ length (functions_code fs n) = let same = functions_length fs n in omega (arith, same, more, lt) in
         let here : k ≡ n = omega (arith, more, lt) in
-        ap (λ i. slice_index_or (functions_code fs n ++ last ∷ []) i no_part) is ∙ at_end (functions_code fs n) last no_part ∙ ap (λ i. function_code (homes_of fs i) (slice_index_or fs i no_function)) (sym here)
+        ap (λ i. slice_index_or (functions_code fs n ++ last ∷ []) i no_part) is ∙ at_end (functions_code fs n) last no_part ∙ ap (λ i. function_code (places_of fs i) (slice_index_or fs i no_function)) (sym here)
 
-pub codes_at : (fs : List PlainFunction) (k : ℕ) → k < length fs → slice_index_or (codes fs) k no_part ≡ function_code (homes_of fs k) (slice_index_or fs k no_function)
+pub codes_at : (fs : List PlainFunction) (k : ℕ) → k < length fs → slice_index_or (codes fs) k no_part ≡ function_code (places_of fs k) (slice_index_or fs k no_function)
 codes_at fs k lt = function_at fs (length fs) k lt
 
 -- ---- where windows end

@@ -9,14 +9,13 @@ use Rattle.sp_shape.specs.Parts.{PlainParts}
 use Rattle.sp_shape.specs.Run.{Run, Sources, branches, once, run, IsWhole}
 use Rattle.sp_shape.specs.Trail.{Step, all_done, parts_trail}
 use Rattle.sp_shape.specs.Iterating.{AsksAgain, AsksNoMore, AllIterations}
-use Rattle.sp_emit.specs.Holding.{held}
+use Rattle.sp_emit.specs.Holding.{held, so}
 use Rattle.sp_emit.specs.Instructions.{always, with_short, compare_short}
 use Rattle.sp_emit.specs.Places.{word_of, fetch_word, fetched_at, keep_word}
 use Rattle.sp_emit.specs.Statements.{iterations_tail}
 use Rattle.sp_emit.specs.declared.registers.TheConstants.{SPARE, MORE}
 use Rattle.sp_emit.proofs.Asking.{same_ways, back_again, again, no_more, counts_down, tests_count}
 use Rattle.sp_emit.proofs.Calm.{calm_run}
-use Rattle.sp_emit.proofs.Once.{so}
 use Rattle.sp_emit.proofs.Low.{iterations_tail_low}
 use Rattle.sp_emit.proofs.Passing.{Passes, passes_done, enough_still}
 use Rattle.sp_emit.proofs.WordPlaces.{fetch_is, fetched_some, fetched_few, fetch_leaves, keep_is, keep_leaves, behind_word, word_still}

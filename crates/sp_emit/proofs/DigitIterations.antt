@@ -9,13 +9,13 @@ use Rattle.sp_shape.specs.Run.{Run, Sources, Back, branches, once, run, IsWhole}
 use Rattle.sp_shape.specs.Trail.{Step, all_done}
 use Rattle.sp_shape.specs.Iterating.{AsksAgain, AsksNoMore, AllIterations, PartsIteration}
 use Rattle.sp_emit.specs.Division.{operands, without_signs, highest_bit, digit, digit_iteration, digit_tail, around}
-use Rattle.sp_emit.specs.Holding.{held}
+use Rattle.sp_emit.specs.Holding.{held, so}
 use Rattle.sp_emit.specs.Instructions.{always, set_short, copy, with_short, compare_short}
 use Rattle.sp_emit.specs.declared.registers.TheConstants.{DIVIDEND, DIVISOR, REMAINDER, DIGITS, MORE}
 use Rattle.sp_emit.proofs.Asking.{same_ways, back_again, again, no_more, counts_down, tests_count}
 use Rattle.sp_emit.proofs.Dividing.{run_before}
 use Rattle.sp_emit.proofs.Leaving.{did_set_short}
-use Rattle.sp_emit.proofs.Once.{so, got}
+use Rattle.sp_emit.proofs.Once.{got}
 use Rattle.sp_emit.proofs.Untouched.{register, predicate, left_once, left_run}
 
 -- ---- an iteration
@@ -87,8 +87,8 @@ around_iterations from f Called back before behind m whole is =
 pub division_iterations : (from : Sources) (f : ℕ → List Step) (Called : ℕ → Run → Type 0) (back : Back) (ra rb : ℕ) (behind : List Slots) (m : Run) → IsWhole m → PartsIteration (run from) f Called back (around (operands ra rb) behind) m
 division_iterations from f Called back ra rb behind m whole = around_iterations from f Called back (operands ra rb) behind m whole (operands_set from ra rb m whole)
 
-pub signed_division_iterations : (from : Sources) (f : ℕ → List Step) (Called : ℕ → Run → Type 0) (back : Back) (ra rb : ℕ) (behind : List Slots) (m : Run) → IsWhole m → PartsIteration (run from) f Called back (around (operands ra rb ++ without_signs) behind) m
-signed_division_iterations from f Called back ra rb behind m whole =
+pub signed_division_iterations : (from : Sources) (f : ℕ → List Step) (Called : ℕ → Run → Type 0) (back : Back) (p q ra rb : ℕ) (behind : List Slots) (m : Run) → IsWhole m → PartsIteration (run from) f Called back (around (operands ra rb ++ without_signs p q) behind) m
+signed_division_iterations from f Called back p q ra rb behind m whole =
     let n = run from (all_done (operands ra rb)) m in
     let h = run_whole from (all_done (operands ra rb)) m whole in
-    around_iterations from f Called back (operands ra rb ++ without_signs) behind m whole (left_run from (register DIGITS) without_signs n (omega arith) h refl ∙ operands_set from ra rb m whole)
+    around_iterations from f Called back (operands ra rb ++ without_signs p q) behind m whole (left_run from (register DIGITS) (without_signs p q) n (omega arith) h refl ∙ operands_set from ra rb m whole)

@@ -18,25 +18,19 @@ use Rattle.sp_shape.proofs.Whole.{once_whole, run_whole, run_append}
 use Rattle.sp_shape.specs.Run.{Run, Sources, once, run, IsWhole}
 use Rattle.sp_shape.specs.Trail.{all_done, copies}
 use Rattle.sp_emit.specs.Division.{highest_bit, digit, counted, digit_tail}
-use Rattle.sp_emit.specs.Holding.{held}
+use Rattle.sp_emit.specs.Holding.{held, so}
 use Rattle.sp_emit.specs.Instructions.{under, always, where_so, with_short, compute, compare}
-use Rattle.sp_emit.specs.declared.registers.TheConstants.{SPARE, DIVIDEND, DIVISOR, REMAINDER, TEST, REST_NEGATIVE, QUOTIENT_NEGATIVE, MORE}
+use Rattle.sp_emit.specs.declared.registers.TheConstants.{SPARE, DIVIDEND, DIVISOR, REMAINDER, TEST, SECOND, MORE}
 use Rattle.sp_emit.proofs.Asking.{back_again}
 use Rattle.sp_emit.proofs.Digits.{shifted, goes, next_rest, next_dividend, step, iterated}
 use Rattle.sp_emit.proofs.Leaving.{did_compare, did_compute, did_with_short}
-use Rattle.sp_emit.proofs.Once.{so, with_written, did_write, did_nothing, got, so_got}
+use Rattle.sp_emit.proofs.Once.{with_written, did_write, did_nothing, got, so_got}
 use Rattle.sp_emit.proofs.Untouched.{register, predicate, leaves, left_once, left_run}
 
--- which results are to be negative
-pub record Signs : Type 0 where
-  pub rest : Bool
-  pub quotient : Bool
-
--- the registers of a division, and the predicates of its signs, and what they hold
-pub record Divides (signs : Signs) (dividend rest divisor : ℕ) (m : Run) : Type 0 where
+-- the registers of a division, and the predicate of its sign, and what they hold
+pub record Divides (negative : Bool) (dividend rest divisor : ℕ) (m : Run) : Type 0 where
   pub whole : IsWhole m
-  pub rest_negative : so REST_NEGATIVE m ≡ signs.rest
-  pub quotient_negative : so QUOTIENT_NEGATIVE m ≡ signs.quotient
+  pub sign : so SECOND m ≡ negative
   pub dividend_is : held DIVIDEND m ≡ dividend
   pub rest_is : held REMAINDER m ≡ rest
   pub divisor_is : held DIVISOR m ≡ divisor
@@ -44,23 +38,21 @@ pub record Divides (signs : Signs) (dividend rest divisor : ℕ) (m : Run) : Typ
 -- bundles that write none of them
 abbrev pub leaves_division : List Slots → Bool
 leaves_division bs =
-    list_all (leaves (predicate REST_NEGATIVE)) bs && (list_all (leaves (predicate QUOTIENT_NEGATIVE)) bs && (list_all (leaves (register DIVIDEND)) bs
-    && (list_all (leaves (register REMAINDER)) bs && list_all (leaves (register DIVISOR)) bs)))
+    list_all (leaves (predicate SECOND)) bs && (list_all (leaves (register DIVIDEND)) bs
+    && (list_all (leaves (register REMAINDER)) bs && list_all (leaves (register DIVISOR)) bs))
 
-pub still_divides : (from : Sources) (signs : Signs) (dividend rest divisor : ℕ) (bs : List Slots) (m : Run) → leaves_division bs ≡ true → Divides signs dividend rest divisor m
-    → Divides signs dividend rest divisor (run from (all_done bs) m)
-still_divides from signs dividend rest divisor bs m quiet d =
-    let a = and_parts (list_all (leaves (predicate REST_NEGATIVE)) bs) _ quiet in
-    let b = and_parts (list_all (leaves (predicate QUOTIENT_NEGATIVE)) bs) _ a.1 in
-    let c = and_parts (list_all (leaves (register DIVIDEND)) bs) _ b.1 in
-    let e = and_parts (list_all (leaves (register REMAINDER)) bs) (list_all (leaves (register DIVISOR)) bs) c.1 in
+pub still_divides : (from : Sources) (negative : Bool) (dividend rest divisor : ℕ) (bs : List Slots) (m : Run) → leaves_division bs ≡ true → Divides negative dividend rest divisor m
+    → Divides negative dividend rest divisor (run from (all_done bs) m)
+still_divides from negative dividend rest divisor bs m quiet d =
+    let a = and_parts (list_all (leaves (predicate SECOND)) bs) _ quiet in
+    let b = and_parts (list_all (leaves (register DIVIDEND)) bs) _ a.1 in
+    let c = and_parts (list_all (leaves (register REMAINDER)) bs) (list_all (leaves (register DIVISOR)) bs) b.1 in
     record {
       whole = run_whole from (all_done bs) m d.whole;
-      rest_negative = left_run from (predicate REST_NEGATIVE) bs m (omega arith) d.whole a.0 ∙ d.rest_negative;
-      quotient_negative = left_run from (predicate QUOTIENT_NEGATIVE) bs m (omega arith) d.whole b.0 ∙ d.quotient_negative;
-      dividend_is = left_run from (register DIVIDEND) bs m (omega arith) d.whole c.0 ∙ d.dividend_is;
-      rest_is = left_run from (register REMAINDER) bs m (omega arith) d.whole e.0 ∙ d.rest_is;
-      divisor_is = left_run from (register DIVISOR) bs m (omega arith) d.whole e.1 ∙ d.divisor_is;
+      sign = left_run from (predicate SECOND) bs m (omega arith) d.whole a.0 ∙ d.sign;
+      dividend_is = left_run from (register DIVIDEND) bs m (omega arith) d.whole b.0 ∙ d.dividend_is;
+      rest_is = left_run from (register REMAINDER) bs m (omega arith) d.whole c.0 ∙ d.rest_is;
+      divisor_is = left_run from (register DIVISOR) bs m (omega arith) d.whole c.1 ∙ d.divisor_is;
     }
 
 -- ---- the highest bit of the dividend
@@ -69,13 +61,13 @@ bit_taken : (from : Sources) (dividend : ℕ) (m : Run) → IsWhole m → held D
 bit_taken from dividend m whole is = ap (held SPARE) (did_with_short from imm.Sr SPARE DIVIDEND 31 m whole) ∙ got SPARE _ m whole (omega arith) (omega arith) ∙ ap (λ n. n / 2 ^ 31) is
 
 -- it stands apart too
-record Iterations (signs : Signs) (dividend rest divisor : ℕ) (m : Run) : Type 0 where
-  divides : Divides signs dividend rest divisor m
+record Iterations (negative : Bool) (dividend rest divisor : ℕ) (m : Run) : Type 0 where
+  divides : Divides negative dividend rest divisor m
   bit_is : held SPARE m ≡ dividend / 2 ^ 31
 
-stands_apart : (from : Sources) (signs : Signs) (dividend rest divisor : ℕ) (m : Run) → Divides signs dividend rest divisor m → Iterations signs dividend rest divisor (once from highest_bit m)
-stands_apart from signs dividend rest divisor m d = record {
-  divides = still_divides from signs dividend rest divisor (highest_bit ∷ []) m refl d;
+stands_apart : (from : Sources) (negative : Bool) (dividend rest divisor : ℕ) (m : Run) → Divides negative dividend rest divisor m → Iterations negative dividend rest divisor (once from highest_bit m)
+stands_apart from negative dividend rest divisor m d = record {
+  divides = still_divides from negative dividend rest divisor (highest_bit ∷ []) m refl d;
   bit_is = bit_taken from dividend m d.whole d.dividend_is;
 }
 
@@ -98,8 +90,8 @@ record Tested (dividend rest divisor : ℕ) (m : Run) : Type 0 where
   bit_is : held SPARE m ≡ (dividend + dividend) % 2 ^ 32 / 2 ^ 31
   test : so TEST m ≡ goes divisor dividend rest
 
-compares : (from : Sources) (signs : Signs) (dividend rest divisor : ℕ) (m : Run) → Iterations signs dividend rest divisor m → Tested dividend rest divisor (run from (all_done compared) m)
-compares from signs dividend rest divisor m t =
+compares : (from : Sources) (negative : Bool) (dividend rest divisor : ℕ) (m : Run) → Iterations negative dividend rest divisor m → Tested dividend rest divisor (run from (all_done compared) m)
+compares from negative dividend rest divisor m t =
     let d = t.divides in
     let b1 = compute always alu.Shadd REMAINDER REMAINDER SPARE in
     let b2 = compute always alu.Add DIVIDEND DIVIDEND DIVIDEND in
@@ -181,16 +173,15 @@ takes_off from dividend rest divisor m x =
 
 -- ---- iterations
 
-digit_done : (from : Sources) (signs : Signs) (dividend rest divisor : ℕ) (m : Run) → Iterations signs dividend rest divisor m
-    → Iterations signs (next_dividend divisor dividend rest) (next_rest divisor dividend rest) divisor (run from (all_done digit) m)
-digit_done from signs dividend rest divisor m t =
+digit_done : (from : Sources) (negative : Bool) (dividend rest divisor : ℕ) (m : Run) → Iterations negative dividend rest divisor m
+    → Iterations negative (next_dividend divisor dividend rest) (next_rest divisor dividend rest) divisor (run from (all_done digit) m)
+digit_done from negative dividend rest divisor m t =
     let d = t.divides in
-    let o = takes_off from dividend rest divisor (run from (all_done compared) m) (compares from signs dividend rest divisor m t) in
+    let o = takes_off from dividend rest divisor (run from (all_done compared) m) (compares from negative dividend rest divisor m t) in
     record {
       divides = record {
         whole = run_whole from (all_done digit) m d.whole;
-        rest_negative = left_run from (predicate REST_NEGATIVE) digit m (omega arith) d.whole refl ∙ d.rest_negative;
-        quotient_negative = left_run from (predicate QUOTIENT_NEGATIVE) digit m (omega arith) d.whole refl ∙ d.quotient_negative;
+        sign = left_run from (predicate SECOND) digit m (omega arith) d.whole refl ∙ d.sign;
         dividend_is = o.dividend_is;
         rest_is = o.rest_is;
         divisor_is = left_run from (register DIVISOR) digit m (omega arith) d.whole refl ∙ d.divisor_is;
@@ -198,46 +189,46 @@ digit_done from signs dividend rest divisor m t =
       bit_is = o.bit_is;
     }
 
-still_iterations : (from : Sources) (signs : Signs) (dividend rest divisor : ℕ) (bs : List Slots) (m : Run) → leaves_division bs ≡ true → list_all (leaves (register SPARE)) bs ≡ true → Iterations signs dividend rest divisor m
-    → Iterations signs dividend rest divisor (run from (all_done bs) m)
-still_iterations from signs dividend rest divisor bs m quiet spare t = record {
-  divides = still_divides from signs dividend rest divisor bs m quiet t.divides;
+still_iterations : (from : Sources) (negative : Bool) (dividend rest divisor : ℕ) (bs : List Slots) (m : Run) → leaves_division bs ≡ true → list_all (leaves (register SPARE)) bs ≡ true → Iterations negative dividend rest divisor m
+    → Iterations negative dividend rest divisor (run from (all_done bs) m)
+still_iterations from negative dividend rest divisor bs m quiet spare t = record {
+  divides = still_divides from negative dividend rest divisor bs m quiet t.divides;
   bit_is = left_run from (register SPARE) bs m (omega arith) t.divides.whole spare ∙ t.bit_is;
 }
 
 -- an iteration is counted, and takes two digits
-iteration_done : (from : Sources) (signs : Signs) (d : ℕ × ℕ) (divisor : ℕ) (m : Run) → Iterations signs d.0 d.1 divisor m
-    → Iterations signs (step divisor (step divisor d)).0 (step divisor (step divisor d)).1 divisor (run from (all_done digit_tail) m)
-iteration_done from signs d divisor m t =
+iteration_done : (from : Sources) (negative : Bool) (d : ℕ × ℕ) (divisor : ℕ) (m : Run) → Iterations negative d.0 d.1 divisor m
+    → Iterations negative (step divisor (step divisor d)).0 (step divisor (step divisor d)).1 divisor (run from (all_done digit_tail) m)
+iteration_done from negative d divisor m t =
     let m1 = run from (all_done counted) m in
     let m2 = run from (all_done digit) m1 in
     let one = step divisor d in
     let two = step divisor one in
-    let t1 = still_iterations from signs d.0 d.1 divisor counted m refl refl t in
-    let t2 = digit_done from signs d.0 d.1 divisor m1 t1 in
-    let t3 = digit_done from signs one.0 one.1 divisor m2 t2 in
-    still_iterations from signs two.0 two.1 divisor (back_again MORE) (run from (all_done digit) m2) refl refl t3
+    let t1 = still_iterations from negative d.0 d.1 divisor counted m refl refl t in
+    let t2 = digit_done from negative d.0 d.1 divisor m1 t1 in
+    let t3 = digit_done from negative one.0 one.1 divisor m2 t2 in
+    still_iterations from negative two.0 two.1 divisor (back_again MORE) (run from (all_done digit) m2) refl refl t3
 
 abbrev twice : ℕ → ℕ
 twice zero = zero
 twice (suc n) = suc (suc (twice n))
 
-iterations_done : (from : Sources) (signs : Signs) (n : ℕ) (d : ℕ × ℕ) (divisor : ℕ) (m : Run) → Iterations signs d.0 d.1 divisor m
-    → Iterations signs (iterated (twice n) divisor d).0 (iterated (twice n) divisor d).1 divisor (run from (copies n (all_done digit_tail)) m)
-iterations_done from signs zero d divisor m t = t
-iterations_done from signs (suc n) d divisor m t =
-    subst (Iterations signs _ _ divisor) (sym (run_append from (all_done digit_tail) (copies n (all_done digit_tail)) m))
-    (iterations_done from signs n (step divisor (step divisor d)) divisor (run from (all_done digit_tail) m) (iteration_done from signs d divisor m t))
+iterations_done : (from : Sources) (negative : Bool) (n : ℕ) (d : ℕ × ℕ) (divisor : ℕ) (m : Run) → Iterations negative d.0 d.1 divisor m
+    → Iterations negative (iterated (twice n) divisor d).0 (iterated (twice n) divisor d).1 divisor (run from (copies n (all_done digit_tail)) m)
+iterations_done from negative zero d divisor m t = t
+iterations_done from negative (suc n) d divisor m t =
+    subst (Iterations negative _ _ divisor) (sym (run_append from (all_done digit_tail) (copies n (all_done digit_tail)) m))
+    (iterations_done from negative n (step divisor (step divisor d)) divisor (run from (all_done digit_tail) m) (iteration_done from negative d divisor m t))
 
 -- the first bit stands apart after what is before
 pub run_before : (from : Sources) (before : List Slots) (m : Run) → run from (all_done (before ++ highest_bit ∷ [])) m ≡ once from highest_bit (run from (all_done before) m)
 run_before from before m = ap (λ l. run from l m) (done_append before (highest_bit ∷ [])) ∙ run_append from (all_done before) (all_done (highest_bit ∷ [])) m
 
 -- all digits then
-pub digits_done : (from : Sources) (signs : Signs) (dividend divisor : ℕ) (m : Run) → Divides signs dividend 0 divisor m
-    → Divides signs (iterated 32 divisor (dividend, 0)).0 (iterated 32 divisor (dividend, 0)).1 divisor (run from (copies 16 (all_done digit_tail)) (once from highest_bit m))
-digits_done from signs dividend divisor m d =
+pub digits_done : (from : Sources) (negative : Bool) (dividend divisor : ℕ) (m : Run) → Divides negative dividend 0 divisor m
+    → Divides negative (iterated 32 divisor (dividend, 0)).0 (iterated 32 divisor (dividend, 0)).1 divisor (run from (copies 16 (all_done digit_tail)) (once from highest_bit m))
+digits_done from negative dividend divisor m d =
     let t = run from (copies 16 (all_done digit_tail)) (once from highest_bit m) in
     let same : twice 16 ≡ 32 = refl in
-    subst (λ k. Divides signs (iterated k divisor (dividend, 0)).0 (iterated k divisor (dividend, 0)).1 divisor t) same
-    (iterations_done from signs 16 (dividend, 0) divisor (once from highest_bit m) (stands_apart from signs dividend 0 divisor m d)).divides
+    subst (λ k. Divides negative (iterated k divisor (dividend, 0)).0 (iterated k divisor (dividend, 0)).1 divisor t) same
+    (iterations_done from negative 16 (dividend, 0) divisor (once from highest_bit m) (stands_apart from negative dividend 0 divisor m d)).divides

@@ -13,7 +13,10 @@ use Rattle.sp_tree.specs.Shown.{plain_stmt, plain_function, stmts_of, functions_
 use Rattle.sp_tree.specs.declared.statements.SpFunction.{SpFunction}
 use Rattle.sp_tree.specs.declared.statements.SpStmt.{SpStmt}
 use Rattle.sp_emit.specs.Functions.{first_counter}
+use Rattle.sp_emit.specs.Flags.{begun_body}
+use Rattle.sp_emit.proofs.BegunBody.{begun_formed, begun_levels}
 use Rattle.sp_emit.specs.Fits.{ExprFits, ArgsFit, TargetFits, StmtFits, StmtsFit, FunctionFits}
+use Rattle.sp_emit.specs.declared.stands.Flags.{Flags}
 
 pub expr_fits : (slots rd : ℕ) (e : PlainSp) → slots ≤ 128 → rd ≤ 9 → expr_formed slots e ≡ true → ExprFits e rd
 expr_fits slots rd e most low h =
@@ -231,15 +234,15 @@ mask_fits h = omega (arith, (sizes h).mask, (sizes h).frame)
 pub result_fits : {f : PlainFunction} → FunctionFits f → f.result < 128
 result_fits h = omega (arith, (sizes h).result, (sizes h).frame)
 
-pub body_fits : {f : PlainFunction} → FunctionFits f → StmtsFit f.frame (first_counter f) f.body
-body_fits {f} h = record {
+pub body_fits : {f : PlainFunction} (flags : Flags) → FunctionFits f → StmtsFit f.frame (first_counter f) (begun_body flags f)
+body_fits {f} flags h = record {
   functions = h.functions;
   number = h.number;
   earlier = h.earlier;
   slots = slots_of f;
   some = omega (arith, (sizes h).mask);
-  formed = formed;
-  counters = omega (arith, (sizes h).mask);
+  formed = begun_formed flags h.functions h.number (slots_of f) f formed;
+  counters = omega (arith, (sizes h).mask, begun_levels flags f);
   within = omega (arith, (sizes h).mask);
   most = (sizes h).frame;
 }

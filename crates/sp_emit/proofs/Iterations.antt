@@ -13,21 +13,23 @@ use Rattle.sp_shape.proofs.Whole.{run_append}
 use Rattle.sp_shape.specs.Parts.{straight, repeats, PlainParts, one, joined}
 use Rattle.sp_shape.specs.Run.{Run, by_words, once, run, IsWhole}
 use Rattle.sp_shape.specs.Trail.{Step, all_done, copies, parts_trail}
-use Rattle.sp_emit.specs.Holding.{held, Keeps}
-use Rattle.sp_emit.specs.Instructions.{always, under, idle, set_long, with_short, compare_short, branch}
+use Rattle.sp_emit.specs.Holding.{held, Keeps, KeepsFlags}
+use Rattle.sp_emit.specs.Instructions.{always, under, idle, set_number, with_short, compare_short, branch}
 use Rattle.sp_emit.specs.Means.{Follows, HasWords, KeepsBehind}
 use Rattle.sp_emit.specs.Places.{in_register, word_of, fetch_word, fetched_at, keep_op, keep_word}
 use Rattle.sp_emit.specs.Statements.{iterations_begin, iterations_tail}
 use Rattle.sp_emit.specs.declared.registers.TheConstants.{SPARE, OVERRUN, MORE}
 use Rattle.sp_emit.proofs.Calm.{is_calm_trail, calm_run, keeps_register}
 use Rattle.sp_emit.proofs.CalmCode.{spare_free}
-use Rattle.sp_emit.proofs.Leaving.{did_with_short, did_set_long}
+use Rattle.sp_emit.proofs.Leaving.{did_with_short, did_set_number}
 use Rattle.sp_emit.proofs.Masks.{Done, behind_still, keeps_set}
 use Rattle.sp_emit.proofs.Once.{with_written}
 use Rattle.sp_emit.proofs.Passing.{kept_all, keeps_then}
 use Rattle.sp_emit.proofs.Storing.{did_store_slot}
 use Rattle.sp_emit.proofs.Values.{run_joined}
+use Rattle.sp_emit.proofs.FlagWords.{shown_by}
 use Rattle.sp_emit.proofs.WordPlaces.{Sets, fetch_is, fetched_is, word_still, sets_register, sets_stack}
+use Rattle.sp_emit.specs.declared.stands.Homes.{Homes}
 
 -- ---- what is done about a counter
 
@@ -35,6 +37,7 @@ use Rattle.sp_emit.proofs.WordPlaces.{Sets, fetch_is, fetched_is, word_still, se
 record Beside (homes counter : ℕ) (m t : Run) : Type 0 where
   whole : IsWhole t
   memory : t.memory ≡ m.memory
+  flags : KeepsFlags m t
   flag : held OVERRUN t ≡ held OVERRUN m
   words : (u : ℕ) → u < counter → word_of homes u t ≡ word_of homes u m
   keeps : KeepsBehind (homes + (counter + 1)) (counter + 1) m t
@@ -43,6 +46,7 @@ beside_then : {homes counter : ℕ} {m n t : Run} → Beside homes counter m n �
 beside_then a b = record {
   whole = b.whole;
   memory = b.memory ∙ a.memory;
+  flags = λ p from lt. b.flags p from lt ∙ a.flags p from lt;
   flag = b.flag ∙ a.flag;
   words = λ u lt. b.words u lt ∙ a.words u lt;
   keeps = keeps_then a.keeps b.keeps;
@@ -52,6 +56,7 @@ beside_kept : {homes counter : ℕ} {m t : Run} → Keeps SPARE homes m t → Be
 beside_kept {homes} {counter} {m} {t} keeps = record {
   whole = keeps.whole;
   memory = keeps.memory;
+  flags = keeps.flags;
   flag = keeps.flag;
   words = λ u lt. word_still homes u m t keeps.high keeps.stack keeps.st;
   keeps = behind_still (counter + 1) keeps;
@@ -61,6 +66,7 @@ beside_set : {most homes counter v : ℕ} {m t : Run} → 1 ≤ homes → OVERRU
 beside_set {most} {homes} {counter} some least set = record {
   whole = set.whole;
   memory = set.memory;
+  flags = set.flags;
   flag = set.flag;
   words = λ u lt. set.others u (λ is. absurd (omega (arith, is, lt)));
   keeps = keeps_set homes (counter + 1) some least (omega arith) set;
@@ -80,11 +86,11 @@ beside_back homes counter m some few whole = by (in_register homes counter) refl
     by true is = beside_kept (calm_run by_words SPARE homes (all_done (idle ∷ [])) m (omega arith) whole refl)
     by false is = subst (Beside homes counter m) (sym (did_store_slot by_words always counter SPARE m whole whole.fits.always few)) (beside_set some (omega arith) (sets_stack homes counter (held SPARE m) m whole is))
 
-beside_done : (homes slots counter : ℕ) (s : State) (m t : Run) → slots ≤ counter → Beside homes counter m t → Follows homes slots s m → Done homes slots (counter + 1) s m t
+beside_done : (homes : Homes) (slots counter : ℕ) (s : State) (m t : Run) → slots ≤ counter → Beside homes.first counter m t → Follows homes slots s m → Done homes slots (counter + 1) s m t
 beside_done homes slots counter s m t le b x = record {
   follows = record {
     whole = b.whole;
-    shows = record { frame = λ u lt. b.words u (omega (arith, lt, le)) ∙ x.shows.frame u lt; world = subst (HasWords s.world) (sym b.memory) x.shows.world };
+    shows = record { frame = λ u lt. shown_by homes u m t (b.words u (omega (arith, lt, le))) b.flags ∙ x.shows.frame u lt; world = subst (HasWords s.world) (sym b.memory) x.shows.world };
     words = x.words;
     flag = b.flag ∙ x.flag;
   };
@@ -93,8 +99,8 @@ beside_done homes slots counter s m t le b x = record {
 
 begin_beside : (homes counter count : ℕ) (m : Run) → 1 ≤ homes → counter < 128 → IsWhole m → Beside homes counter m (run by_words (all_done (iterations_begin homes counter count)) m)
 begin_beside homes counter count m some few whole =
-    let first = subst (Beside homes counter m) (sym (did_set_long by_words (fetched_at homes counter) count m whole)) (beside_written homes counter ((0 + count) % 2 ^ 32) m some whole) in
-    beside_then first (beside_back homes counter (once by_words (set_long (fetched_at homes counter) count) m) some few first.whole)
+    let first = subst (Beside homes counter m) (sym (did_set_number by_words (fetched_at homes counter) count m whole)) (beside_written homes counter ((0 + count) % 2 ^ 32) m some whole) in
+    beside_then first (beside_back homes counter (once by_words (set_number (fetched_at homes counter) count) m) some few first.whole)
 
 tail_beside : (homes counter : ℕ) (m : Run) → 1 ≤ homes → counter < 128 → IsWhole m → Beside homes counter m (run by_words (all_done (iterations_tail homes counter)) m)
 tail_beside homes counter m some few whole =
@@ -110,34 +116,34 @@ tail_beside homes counter m some few whole =
 
 -- ---- loops
 
-pub done_then : {homes : ℕ} {slots count : ℕ} {z : State} {m n t : Run} → KeepsBehind (homes + count) count m n → Done homes slots count z n t → Done homes slots count z m t
+pub done_then : {homes : Homes} {slots count : ℕ} {z : State} {m n t : Run} → KeepsBehind (homes.first + count) count m n → Done homes slots count z n t → Done homes slots count z m t
 done_then keeps d = record { follows = d.follows; keeps = keeps_then keeps d.keeps }
 
 -- so many iterations of a body
-iterations_run : (homes : ℕ) (f : ℕ → List Step) (slots counter low : ℕ) (body : PlainParts) (change : State → State) → 1 ≤ homes → slots ≤ counter → counter < 128
+iterations_run : (homes : Homes) (f : ℕ → List Step) (slots counter low : ℕ) (body : PlainParts) (change : State → State) → 1 ≤ homes.first → slots ≤ counter → counter < 128
     → ((s : State) (m : Run) → low ≤ m.st → Follows homes slots s m → Done homes slots (counter + 1) (change s) m (run by_words (parts_trail f body) m))
-    → (count : ℕ) (s : State) (m : Run) → low ≤ m.st → Follows homes slots s m → Done homes slots (counter + 1) (times count change s) m (run by_words (copies count (parts_trail f body ++ all_done (iterations_tail homes counter))) m)
-iterations_run homes f slots counter low body change some beside few iteration zero s m enough x = record { follows = x; keeps = kept_all (homes + (counter + 1)) (counter + 1) m }
+    → (count : ℕ) (s : State) (m : Run) → low ≤ m.st → Follows homes slots s m → Done homes slots (counter + 1) (times count change s) m (run by_words (copies count (parts_trail f body ++ all_done (iterations_tail homes.first counter))) m)
+iterations_run homes f slots counter low body change some beside few iteration zero s m enough x = record { follows = x; keeps = kept_all (homes.first + (counter + 1)) (counter + 1) m }
 iterations_run homes f slots counter low body change some beside few iteration (suc count) s m enough x =
-    let one_iteration = parts_trail f body ++ all_done (iterations_tail homes counter) in
+    let one_iteration = parts_trail f body ++ all_done (iterations_tail homes.first counter) in
     let n = run by_words (parts_trail f body) m in
     let d = iteration s m enough x in
-    let t = run by_words (all_done (iterations_tail homes counter)) n in
-    let tail = beside_done homes slots counter (change s) n t beside (tail_beside homes counter n some few d.follows.whole) d.follows in
+    let t = run by_words (all_done (iterations_tail homes.first counter)) n in
+    let tail = beside_done homes slots counter (change s) n t beside (tail_beside homes.first counter n some few d.follows.whole) d.follows in
     let rest = iterations_run homes f slots counter low body change some beside few iteration count (change s) t (subst (λ st. low ≤ st) (sym (keeps_then d.keeps tail.keeps).st) enough) tail.follows in
     subst (Done homes slots (counter + 1) (times (suc count) change s) m)
-    (sym (run_append by_words one_iteration (copies count one_iteration) m ∙ ap (run by_words (copies count one_iteration)) (run_append by_words (parts_trail f body) (all_done (iterations_tail homes counter)) m)))
+    (sym (run_append by_words one_iteration (copies count one_iteration) m ∙ ap (run by_words (copies count one_iteration)) (run_append by_words (parts_trail f body) (all_done (iterations_tail homes.first counter)) m)))
     (done_then (keeps_then d.keeps tail.keeps) rest)
 
 -- a loop
-pub iterations_done : (homes : ℕ) (f : ℕ → List Step) (slots counter low count : ℕ) (body : PlainParts) (change : State → State) (s : State) (m : Run) → 1 ≤ homes → slots ≤ counter → counter < 128
+pub iterations_done : (homes : Homes) (f : ℕ → List Step) (slots counter low count : ℕ) (body : PlainParts) (change : State → State) (s : State) (m : Run) → 1 ≤ homes.first → slots ≤ counter → counter < 128
     → ((s : State) (m : Run) → low ≤ m.st → Follows homes slots s m → Done homes slots (counter + 1) (change s) m (run by_words (parts_trail f body) m)) → low ≤ m.st → Follows homes slots s m
-    → Done homes slots (counter + 1) (times count change s) m (run by_words (parts_trail f (joined (one (straight (iterations_begin homes counter count))) (one (repeats count body (iterations_tail homes counter))))) m)
+    → Done homes slots (counter + 1) (times count change s) m (run by_words (parts_trail f (joined (one (straight (iterations_begin homes.first counter count))) (one (repeats count body (iterations_tail homes.first counter))))) m)
 iterations_done homes f slots counter low count body change s m some beside few iteration enough x =
-    let n = run by_words (all_done (iterations_begin homes counter count)) m in
-    let begin = beside_done homes slots counter s m n beside (begin_beside homes counter count m some few x.whole) x in
+    let n = run by_words (all_done (iterations_begin homes.first counter count)) m in
+    let begin = beside_done homes slots counter s m n beside (begin_beside homes.first counter count m some few x.whole) x in
     let rest = iterations_run homes f slots counter low body change some beside few iteration count s n (subst (λ st. low ≤ st) (sym begin.keeps.st) enough) begin.follows in
     subst (Done homes slots (counter + 1) (times count change s) m)
-    (sym (run_joined by_words f (one (straight (iterations_begin homes counter count))) (one (repeats count body (iterations_tail homes counter))) m
-    ∙ ap (λ steps. run by_words steps n) (append-nil (copies count (parts_trail f body ++ all_done (iterations_tail homes counter))))))
+    (sym (run_joined by_words f (one (straight (iterations_begin homes.first counter count))) (one (repeats count body (iterations_tail homes.first counter))) m
+    ∙ ap (λ steps. run by_words steps n) (append-nil (copies count (parts_trail f body ++ all_done (iterations_tail homes.first counter))))))
     (done_then begin.keeps rest)

@@ -10,8 +10,7 @@ use Rattle.sp_shape.specs.Bundles.{is_steady, parts_all, parts_idle}
 use Rattle.sp_shape.specs.Parts.{no_part, PlainShape}
 use Rattle.sp_shape.specs.Words.{parts_room}
 use Rattle.sp_emit.specs.Chains.{takes_at_most}
-use Rattle.sp_emit.specs.Functions.{function_code, emitted}
-use Rattle.sp_emit.specs.Places.{homes_of}
+use Rattle.sp_emit.specs.Functions.{function_code, places_of, emitted}
 use Rattle.sp_emit.proofs.Codes.{codes_at}
 use Rattle.sp_emit.proofs.Alone.{function_alone}
 use Rattle.sp_emit.proofs.Idle.{function_idle}
@@ -20,23 +19,23 @@ use Rattle.sp_emit.proofs.Steady.{function_steady}
 use Rattle.sp_emit.proofs.Taking.{function_takes}
 
 code_at : (s : PlainShape) (u : PlainUnit) → s ≡ emitted u → (k : ℕ) → k < length u.functions
-    → slice_index_or s.functions k no_part ≡ function_code (homes_of u.functions k) (slice_index_or u.functions k no_function)
+    → slice_index_or s.functions k no_part ≡ function_code (places_of u.functions k) (slice_index_or u.functions k no_function)
 code_at s u told k below = ap (λ x. slice_index_or x.functions k no_part) told ∙ codes_at u.functions k below
 
 pub idle_as : (s : PlainShape) (u : PlainUnit) → s ≡ emitted u → (k : ℕ) → k < length u.functions → parts_idle (slice_index_or s.functions k no_part) ≡ true
-idle_as s u told k below = ap parts_idle (code_at s u told k below) ∙ function_idle (homes_of u.functions k) (slice_index_or u.functions k no_function)
+idle_as s u told k below = ap parts_idle (code_at s u told k below) ∙ function_idle (places_of u.functions k) (slice_index_or u.functions k no_function)
 
 pub alone_as : (s : PlainShape) (u : PlainUnit) → s ≡ emitted u → (k : ℕ) → k < length u.functions → parts_all (λ b. is_none b.second) (slice_index_or s.functions k no_part) ≡ true
-alone_as s u told k below = ap (parts_all (λ b. is_none b.second)) (code_at s u told k below) ∙ function_alone (homes_of u.functions k) (slice_index_or u.functions k no_function)
+alone_as s u told k below = ap (parts_all (λ b. is_none b.second)) (code_at s u told k below) ∙ function_alone (places_of u.functions k) (slice_index_or u.functions k no_function)
 
 pub steady_as : (s : PlainShape) (u : PlainUnit) → s ≡ emitted u → (k : ℕ) → k < length u.functions → parts_all is_steady (slice_index_or s.functions k no_part) ≡ true
-steady_as s u told k below = ap (parts_all is_steady) (code_at s u told k below) ∙ function_steady (homes_of u.functions k) (slice_index_or u.functions k no_function)
+steady_as s u told k below = ap (parts_all is_steady) (code_at s u told k below) ∙ function_steady (places_of u.functions k) (slice_index_or u.functions k no_function)
 
 pub frames_as : (s : PlainShape) (u : PlainUnit) → s ≡ emitted u → (k : ℕ) → k < length u.functions
     → parts_all (takes_at_most (slice_index_or u.functions k no_function).frame) (slice_index_or s.functions k no_part) ≡ true
 frames_as s u told k below =
     let f = slice_index_or u.functions k no_function in
-    ap (parts_all (takes_at_most f.frame)) (code_at s u told k below) ∙ function_takes (homes_of u.functions k) f
+    ap (parts_all (takes_at_most f.frame)) (code_at s u told k below) ∙ function_takes (places_of u.functions k) f
 
 pub room_as : (s : PlainShape) (u : PlainUnit) → s ≡ emitted u → tree.is_formed u ≡ true → (k : ℕ) → k < length u.functions
     → 1 + parts_room (slice_index_or s.functions k no_part) ≤ cost (slice_index_or u.functions k no_function)
@@ -44,4 +43,4 @@ room_as s u told h k below =
     let f = slice_index_or u.functions k no_function in
     let a = and_parts (nat_le (length u.functions) 512) _ h in
     let b = and_parts (tree.functions_formed u.functions (length u.functions)) _ a.1 in
-    subst (λ ps. 1 + parts_room ps ≤ cost f) (sym (code_at s u told k below)) (function_room (homes_of u.functions k) u.functions k f (earlier_one u.functions k (length u.functions) below b.0) (omega arith))
+    subst (λ ps. 1 + parts_room ps ≤ cost f) (sym (code_at s u told k below)) (function_room (places_of u.functions k) u.functions k f (earlier_one u.functions k (length u.functions) below b.0) (omega arith))

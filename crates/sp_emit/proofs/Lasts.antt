@@ -3,7 +3,6 @@ use Rattle.std.proofs.Common.{◌≡◌, ℕ, ◌+◌, ◌<◌, Bool, true, fals
 use Rattle.std.proofs.lemmas.Bool.{and_from, ltb-true}
 use Rattle.patmos_instr.specs.Bundles.{Slots}
 use Rattle.patmos_instr.specs.declared.guards.Guard.{Guard}
-use Rattle.patmos_instr.specs.declared.functions.CmpFunc.TheVariants as cmp
 use Rattle.patmos_instr.specs.declared.functions.ImmFunc.{ImmFunc}
 use Rattle.patmos_instr.specs.declared.functions.ImmFunc.TheVariants as imm
 use Rattle.patmos_instr.specs.declared.instructions.Op.{Op}
@@ -22,14 +21,15 @@ use Rattle.sp_shape.specs.Bundles.{parts_all}
 use Rattle.sp_shape.specs.Run.{Run, Sources, once, IsWhole}
 use Rattle.sp_shape.specs.Parts.{straight, PlainParts, one, joined}
 use Rattle.sp_emit.specs.Endings.{imm_of, unary_op, binary_op, held_op, home_op, last_op}
-use Rattle.sp_emit.specs.Expressions.{immediate_below, unary_code, binary_code, held_code, number_of, value_at, is_immediate, value_code, operands_code, expr_code}
-use Rattle.sp_emit.specs.Instructions.{always, where_so, under, set_number, number_op, compare_short}
-use Rattle.sp_emit.specs.Places.{in_register, read_op, read_word, fetch_word, fetched_at}
-use Rattle.sp_emit.specs.Statements.{mask_test, target_write, guarded_code, write_by, write_code}
-use Rattle.sp_emit.specs.declared.registers.TheConstants.{FIRST, OVERRUN, TEST}
+use Rattle.sp_emit.specs.Expressions.{immediate_below, unary_code, binary_code, held_code, number_of, word_code, value_at, is_immediate, value_code, operands_code, expr_code}
+use Rattle.sp_emit.specs.Instructions.{always, where_so, under, set_number, number_op}
+use Rattle.sp_emit.specs.Places.{flag_of, in_register, read_op, seek_word, match_word, mask_test, told_at}
+use Rattle.sp_emit.specs.Statements.{target_write, guarded_code, write_by, write_code}
+use Rattle.sp_emit.specs.declared.registers.TheConstants.{FIRST, OVERRUN}
 use Rattle.sp_emit.proofs.Numbers.{number_op_is}
 use Rattle.sp_emit.proofs.Once.{did_write}
 use Rattle.sp_emit.proofs.Quiet.{each_joined, each_lone, is_quiet}
+use Rattle.sp_emit.specs.declared.stands.Homes.{Homes}
 
 -- an instruction that gives a register a value of others and of a number
 abbrev pub is_alu : Op → Bool
@@ -53,13 +53,17 @@ Ends code (Some op) = Gives code op
 number_ends : (rd n : ℕ) → Gives (one (straight (set_number rd n ∷ []))) (number_op rd n)
 number_ends rd n = record { alu = number_op_is (λ op. is_alu op ≡ true) rd n refl refl; is = refl }
 
-home_ends : (homes slot to : ℕ) → Ends (one (straight (read_word homes to slot ∷ []))) (home_op homes slot to)
+home_ends : (homes : Homes) (slot to : ℕ) → Ends (one (straight (word_code (flag_of homes.flags slot) homes.first to slot))) (home_op (flag_of homes.flags slot) homes.first slot to)
 unfolding read_op
-home_ends homes slot to = by (in_register homes slot)
+home_ends homes slot to = by (flag_of homes.flags slot) (in_register homes.first slot) refl
   where
-    by : (b : Bool) → Ends (one (straight (under always (if b then AluImm imm.Add to (homes + slot) 0 else Load mem.S load.Word to 0 slot) ∷ []))) (if b then Some (AluImm imm.Add to (homes + slot) 0) else None)
-    by true = record { alu = refl; is = refl }
-    by false = tt
+    plain : (b : Bool) → Ends (one (straight (under always (if b then AluImm imm.Add to (homes.first + slot) 0 else Load mem.S load.Word to 0 slot) ∷ []))) (if b then Some (AluImm imm.Add to (homes.first + slot) 0) else None)
+    plain true = record { alu = refl; is = refl }
+    plain false = tt
+
+    by : (o : Option ℕ) (b : Bool) → in_register homes.first slot ≡ b → Ends (one (straight (word_code o homes.first to slot))) (home_op o homes.first slot to)
+    by None b is = plain (in_register homes.first slot)
+    by (Some p) b is = tt
 
 unary_ends : (op : SpUnary) (to ra : ℕ) → Ends (one (straight (unary_code op to ra))) (unary_op op to ra)
 unary_ends unary.Minus to ra = record { alu = refl; is = refl }
@@ -88,7 +92,7 @@ held_ends binary.Plus to ra n = record { alu = refl; is = refl }
 held_ends binary.Minus to ra n = record { alu = refl; is = refl }
 held_ends _ to ra n = tt
 
-last_ends : (homes : ℕ) (e : PlainSp) (rd to : ℕ) → Ends (value_code homes e rd to) (last_op homes e rd to)
+last_ends : (homes : Homes) (e : PlainSp) (rd to : ℕ) → Ends (value_code homes e rd to) (last_op homes e rd to)
 last_ends homes (constant n) rd to = number_ends to n
 last_ends homes (frame_word slot) rd to = home_ends homes slot to
 last_ends homes (cell_word cell) rd to = tt
@@ -115,28 +119,28 @@ alu_on from g _ m alu whole on = absurd (true≢false (sym alu))
 
 -- ---- what is set under a mask: by that instruction, or from the first register
 
-pub slot_write_is : (P : PlainParts → Type 0) (homes mask slot : ℕ) (e : PlainSp) → P (joined (expr_code homes e FIRST) (target_write homes mask (to_slot slot)))
-    → ((op : Op) → homes + slot < OVERRUN → Gives (value_code homes e FIRST (homes + slot)) op → P (guarded_code homes mask e op)) → P (write_code homes mask (to_slot slot) e)
-slot_write_is P homes mask slot e other guarded = by (in_register homes slot) refl
+pub slot_write_is : (P : PlainParts → Type 0) (homes : Homes) (mask slot : ℕ) (e : PlainSp) → P (joined (expr_code homes e FIRST) (target_write homes mask (to_slot slot)))
+    → ((op : Op) → homes.first + slot < OVERRUN → Gives (value_code homes e FIRST (homes.first + slot)) op → P (guarded_code homes mask e op)) → P (write_code homes mask (to_slot slot) e)
+slot_write_is P homes mask slot e other guarded = by (in_register homes.first slot) refl
   where
-    ended : homes + slot < OVERRUN → (o : Option Op) → Ends (value_code homes e FIRST (homes + slot)) o → P (write_by homes mask (to_slot slot) e o)
+    ended : homes.first + slot < OVERRUN → (o : Option Op) → Ends (value_code homes e FIRST (homes.first + slot)) o → P (write_by homes mask (to_slot slot) e o)
     ended lt None ends = other
     ended lt (Some op) ends = guarded op lt ends
 
-    by : (b : Bool) → in_register homes slot ≡ b → P (write_by homes mask (to_slot slot) e (if b then last_op homes e FIRST (homes + slot) else None))
+    by : (b : Bool) → in_register homes.first slot ≡ b → P (write_by homes mask (to_slot slot) e (if b then last_op homes e FIRST (homes.first + slot) else None))
     by false is = other
-    by true is = ended (ltb-true (homes + slot) OVERRUN is) (last_op homes e FIRST (homes + slot)) (last_ends homes e FIRST (homes + slot))
+    by true is = ended (ltb-true (homes.first + slot) OVERRUN is) (last_op homes e FIRST (homes.first + slot)) (last_ends homes e FIRST (homes.first + slot))
 
-pub write_is : (P : PlainParts → Type 0) (homes mask : ℕ) (target : PlainSpTarget) (e : PlainSp) → P (joined (expr_code homes e FIRST) (target_write homes mask target))
-    → ((slot : ℕ) (op : Op) → target ≡ to_slot slot → Gives (value_code homes e FIRST (homes + slot)) op → P (guarded_code homes mask e op)) → P (write_code homes mask target e)
+pub write_is : (P : PlainParts → Type 0) (homes : Homes) (mask : ℕ) (target : PlainSpTarget) (e : PlainSp) → P (joined (expr_code homes e FIRST) (target_write homes mask target))
+    → ((slot : ℕ) (op : Op) → target ≡ to_slot slot → Gives (value_code homes e FIRST (homes.first + slot)) op → P (guarded_code homes mask e op)) → P (write_code homes mask target e)
 write_is P homes mask (to_cell cell) e other guarded = other
 write_is P homes mask (to_array array index) e other guarded = other
 write_is P homes mask (to_slot slot) e other guarded = slot_write_is P homes mask slot e other (λ op here gives. guarded slot op refl gives)
 
 -- what holds of each bundle
-pub guarded_each : (holds : Slots → Bool) (homes mask : ℕ) (e : PlainSp) (op : Op) → parts_all holds (operands_code homes e FIRST) ≡ true → holds (fetch_word homes mask) ≡ true → holds (compare_short cmp.Eq TEST (fetched_at homes mask) 1) ≡ true
-    → holds (under (where_so TEST) op) ≡ true → parts_all holds (guarded_code homes mask e op) ≡ true
+pub guarded_each : (holds : Slots → Bool) (homes : Homes) (mask : ℕ) (e : PlainSp) (op : Op) → parts_all holds (operands_code homes e FIRST) ≡ true → holds (seek_word homes mask) ≡ true → holds (match_word homes mask) ≡ true
+    → holds (under (where_so (told_at homes mask)) op) ≡ true → parts_all holds (guarded_code homes mask e op) ≡ true
 guarded_each holds homes mask e op before fetch test last =
-    let bundles = mask_test homes mask ++ under (where_so TEST) op ∷ [] in
+    let bundles = mask_test homes mask ++ under (where_so (told_at homes mask)) op ∷ [] in
     each_joined holds (operands_code homes e FIRST) (one (straight bundles)) before
-    (each_lone holds bundles (and_from (holds (fetch_word homes mask)) _ fetch (and_from (holds (compare_short cmp.Eq TEST (fetched_at homes mask) 1)) _ test (and_from (holds (under (where_so TEST) op)) true last refl))))
+    (each_lone holds bundles (and_from (holds (seek_word homes mask)) _ fetch (and_from (holds (match_word homes mask)) _ test (and_from (holds (under (where_so (told_at homes mask)) op)) true last refl))))

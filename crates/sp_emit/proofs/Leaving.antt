@@ -32,13 +32,13 @@ use Rattle.sp_tree.specs.declared.operators.SpUnary.{SpUnary}
 use Rattle.sp_tree.specs.declared.operators.SpUnary.TheVariants as unary
 use Rattle.sp_shape.specs.Run.{Run, Sources, by_words, word_given, first_load, once, run, IsWhole}
 use Rattle.sp_shape.specs.Trail.{Step, all_done, parts_trail}
-use Rattle.sp_emit.specs.Expressions.{truth_to, unary_code, binary_code, computed, both_code, compared_code, held_compared, address_of, cell_space, cell_code, held_computed}
-use Rattle.sp_emit.specs.Holding.{held}
+use Rattle.sp_emit.specs.Expressions.{truth_of, truth_to, unary_code, binary_code, computed, both_code, compared_code, held_compared, address_of, cell_space, cell_code, held_computed}
+use Rattle.sp_emit.specs.Holding.{held, so}
 use Rattle.sp_emit.specs.Instructions.{always, where_so, set_long, set_short, with_short, compute, compare, compare_short, combine, from_special, load_from, load_slot, set_number, under}
 use Rattle.sp_emit.specs.Means.{HasWords}
 use Rattle.sp_emit.specs.declared.registers.TheConstants.{TEST, SECOND}
 use Rattle.sp_emit.proofs.Cells.{cell_given, first_small}
-use Rattle.sp_emit.proofs.Once.{so, with_written, loaded, did_write, did_nothing, did_multiply, did_load, whole_written, got, kept_by_pred, so_got, so_kept, so_by_register}
+use Rattle.sp_emit.proofs.Once.{with_written, loaded, did_write, did_nothing, did_multiply, did_load, whole_written, got, kept_by_pred, so_got, so_kept, so_by_register}
 use Rattle.sp_emit.proofs.Numbers.{number_op_is}
 
 -- ---- one bundle
@@ -72,21 +72,20 @@ did_set_number from rd n m whole =
 
 -- ---- truths
 
--- after a test its truth stands in the register
-truth_leaves : (from : Sources) (rd : ℕ) (b : Bool) (m : Run) → IsWhole m → 1 ≤ rd → rd < 32 → so TEST m ≡ b → held rd (run from (all_done (truth_to rd)) m) ≡ flag b
-truth_leaves from rd b m whole some few test =
+-- the truth of a predicate stands in the register then
+pub truth_leaves : (from : Sources) (p rd : ℕ) (b : Bool) (m : Run) → IsWhole m → 1 ≤ rd → rd < 32 → p < 8 → so p m ≡ b → held rd (run from (all_done (truth_of p rd)) m) ≡ flag b
+truth_leaves from p rd b m whole some few pred test =
     let zero = with_written (write.Register rd 0) m in
-    let zeroed = whole_written (write.Register rd 0) m whole in
-    ap (λ t. held rd (once from (set_short (where_so TEST) rd 1) t)) (did_set_short from always rd 0 m whole whole.fits.always)
-    ∙ by b (so_by_register rd 0 TEST m whole (omega arith) ∙ test)
+    ap (λ t. held rd (once from (set_short (where_so p) rd 1) t)) (did_set_short from always rd 0 m whole whole.fits.always)
+    ∙ by b (so_by_register rd 0 p m whole pred ∙ test)
   where
-    by : (b : Bool) → so TEST (with_written (write.Register rd 0) m) ≡ b → held rd (once from (set_short (where_so TEST) rd 1) (with_written (write.Register rd 0) m)) ≡ flag b
+    by : (b : Bool) → so p (with_written (write.Register rd 0) m) ≡ b → held rd (once from (set_short (where_so p) rd 1) (with_written (write.Register rd 0) m)) ≡ flag b
     by true on =
         let zeroed = whole_written (write.Register rd 0) m whole in
-        ap (held rd) (did_set_short from (where_so TEST) rd 1 (with_written (write.Register rd 0) m) zeroed on) ∙ got rd 1 (with_written (write.Register rd 0) m) zeroed some few
+        ap (held rd) (did_set_short from (where_so p) rd 1 (with_written (write.Register rd 0) m) zeroed on) ∙ got rd 1 (with_written (write.Register rd 0) m) zeroed some few
     by false off =
         let zeroed = whole_written (write.Register rd 0) m whole in
-        ap (held rd) (did_nothing from (where_so TEST) (AluImm imm.Add rd 0 1) (with_written (write.Register rd 0) m) zeroed off) ∙ got rd 0 m whole some few
+        ap (held rd) (did_nothing from (where_so p) (AluImm imm.Add rd 0 1) (with_written (write.Register rd 0) m) zeroed off) ∙ got rd 0 m whole some few
 
 -- a test, and its truth
 pub compared_leaves : (from : Sources) (func : CmpFunc) (rd ra rb : ℕ) (m : Run) → IsWhole m → 1 ≤ rd → rd < 32
@@ -94,14 +93,14 @@ pub compared_leaves : (from : Sources) (func : CmpFunc) (rd ra rb : ℕ) (m : Ru
 compared_leaves from func rd ra rb m whole some few =
     let b = compare_value func (held ra m) (held rb m) in
     ap (λ t. held rd (run from (all_done (truth_to rd)) t)) (did_compare from func TEST ra rb m whole)
-    ∙ truth_leaves from rd b (with_written (write.Predicate TEST b) m) (whole_written (write.Predicate TEST b) m whole) some few (so_got TEST b m whole (omega arith) (omega arith))
+    ∙ truth_leaves from TEST rd b (with_written (write.Predicate TEST b) m) (whole_written (write.Predicate TEST b) m whole) some few (omega arith) (so_got TEST b m whole (omega arith) (omega arith))
 
 pub held_compared_leaves : (from : Sources) (func : CmpFunc) (rd ra n : ℕ) (m : Run) → IsWhole m → 1 ≤ rd → rd < 32
     → held rd (run from (all_done (held_compared func rd ra n)) m) ≡ flag (compare_value func (held ra m) n)
 held_compared_leaves from func rd ra n m whole some few =
     let b = compare_value func (held ra m) n in
     ap (λ t. held rd (run from (all_done (truth_to rd)) t)) (did_compare_short from func TEST ra n m whole)
-    ∙ truth_leaves from rd b (with_written (write.Predicate TEST b) m) (whole_written (write.Predicate TEST b) m whole) some few (so_got TEST b m whole (omega arith) (omega arith))
+    ∙ truth_leaves from TEST rd b (with_written (write.Predicate TEST b) m) (whole_written (write.Predicate TEST b) m whole) some few (omega arith) (so_got TEST b m whole (omega arith) (omega arith))
 
 -- two tests, and the truth of what they come to
 pub both_leaves : (from : Sources) (func : PredFunc) (rd ra rb : ℕ) (m : Run) → IsWhole m → 1 ≤ rd → rd < 32 → rb < 32
@@ -120,7 +119,7 @@ both_leaves from func rd ra rb m whole some few second =
     ∙ ap (λ t. held rd (run from (all_done (truth_to rd)) (once from (combine func TEST TEST SECOND) t)))
     (did_compare_short from cmp.Neq SECOND rb 0 one whole_one ∙ ap (λ x. with_written (write.Predicate SECOND (is_true x)) one) (kept_by_pred TEST a rb m whole second))
     ∙ ap (λ t. held rd (run from (all_done (truth_to rd)) t)) (did_combine from func TEST TEST SECOND two whole_two)
-    ∙ truth_leaves from rd c (with_written (write.Predicate TEST c) two) (whole_written (write.Predicate TEST c) two whole_two) some few (so_got TEST c two whole_two (omega arith) (omega arith))
+    ∙ truth_leaves from TEST rd c (with_written (write.Predicate TEST c) two) (whole_written (write.Predicate TEST c) two whole_two) some few (omega arith) (so_got TEST c two whole_two (omega arith) (omega arith))
     ∙ ap (λ x. flag (pred_value func x (so SECOND two))) test ∙ ap (λ y. flag (pred_value func a y)) other
 
 -- ---- operators on one word
@@ -186,7 +185,7 @@ slot_leaves from rd slot m told whole some few named =
 
 -- a load at the address that the register holds
 pub at_address : (from : Sources) (space : Mem) (rd address : ℕ) (m : Run) → IsWhole m → 1 ≤ rd → rd < 32 → address < 2 ^ 32 → held rd m ≡ address
-    → held rd (once from (load_from space rd rd) m) ≡ word_given from space address m
+    → held rd (once from (load_from space rd rd 0) m) ≡ word_given from space address m
 at_address from space rd address m whole some few small holds_it =
     ap (held rd) (did_load from always space rd rd 0 m whole whole.fits.always)
     ∙ loaded_got from space rd (address_by (held rd m) 0 4) m whole some few
@@ -203,6 +202,6 @@ cell_leaves c rd w m whole some few formed shows =
     let small = first_small c.region c.word (omega (arith, lies)) in
     let v = (0 + at) % 2 ^ 32 in
     let n = with_written (write.Register rd v) m in
-    ap (λ t. held rd (once by_words (load_from (cell_space c.region) rd rd) t)) (did_set_number by_words rd at m whole)
+    ap (λ t. held rd (once by_words (load_from (cell_space c.region) rd rd 0) t)) (did_set_number by_words rd at m whole)
     ∙ at_address by_words (cell_space c.region) rd at n (whole_written (write.Register rd v) m whole) some few small (got rd v m whole some few ∙ omega (arith, small))
     ∙ cell_given c.region c.word w n shows (leb-true (first_of c.region) c.word parts.0) lies

@@ -6,6 +6,7 @@ pub mod Around
 pub mod Asking
 pub mod Bare
 pub mod Beginning
+pub mod BegunBody
 pub mod Binary
 pub mod Calling
 pub mod Calm
@@ -23,6 +24,9 @@ pub mod Elements
 pub mod Entering
 pub mod Factors
 pub mod Fitting
+pub mod FlagCode
+pub mod FlagWords
+pub mod FlagsStand
 pub mod Formed
 pub mod Frames
 pub mod FunctionAdded
@@ -49,11 +53,13 @@ pub mod Taking
 pub mod TargetWrites
 pub mod WordPlaces
 pub mod Numbers
+pub mod Offsets
 pub mod Pointing
 pub mod Products
 pub mod Pushed
 pub mod Quiet
 pub mod Quotients
+pub mod Reaching
 pub mod Returning
 pub mod Room
 pub mod Runs
@@ -67,6 +73,7 @@ pub mod Storing
 pub mod TaskAsks
 pub mod Tasks
 pub mod Iterations
+pub mod TruthCode
 pub mod Uncalled
 pub mod Untouched
 pub mod ValueAsks

@@ -23,17 +23,22 @@ use Rattle.sp_shape.proofs.Lists.{all_weaker}
 use Rattle.sp_emit.specs.Expressions.{value_code, operands_code, expr_to, expr_code, address_of}
 use Rattle.sp_emit.specs.Fits.{ExprFits}
 use Rattle.sp_emit.specs.Instructions.{always, where_so, under, set_number}
-use Rattle.sp_emit.specs.Places.{in_register, fetched_at, read_word, fetch_word, keep_word, set_op, set_word, args_least, target_least, stmt_least, stmts_least}
-use Rattle.sp_emit.specs.Statements.{mask_test, slot_write, cell_write, element_write, target_write, write_code, guarded_code, args_code, mask_handed, call_tail, behind_call, call_code, way_to, send_code, overrun_code, slot_set, iterations_begin, iterations_tail, stmt_code, stmts_code}
-use Rattle.sp_emit.specs.declared.registers.TheConstants.{RESULT, MASK, FIRST, TEST, SPARE, OVERRUN}
+use Rattle.sp_emit.specs.Places.{told_at, mask_test, seek_word, match_word, in_register, fetched_at, read_word, fetch_word, keep_word, set_op, set_word, args_least, target_least, stmt_least, stmts_least}
+use Rattle.sp_emit.specs.Statements.{slot_write, cell_write, element_write, target_write, write_code, guarded_code, args_code, mask_handed, call_tail, behind_call, call_code, way_to, send_code, overrun_code, slot_set, iterations_begin, iterations_tail, stmt_code, stmts_code}
+use Rattle.sp_emit.specs.declared.registers.TheConstants.{RESULT, MASK, FIRST, SECOND, SPARE, OVERRUN}
 use Rattle.sp_emit.proofs.Calm.{IsApart, free_cases, is_free, is_calm_op, is_calm, part_calm, parts_calm}
 use Rattle.sp_tree.proofs.Forms.{few_arguments}
 use Rattle.sp_emit.proofs.Lasts.{Gives, slot_write_is}
 use Rattle.sp_emit.proofs.Numbers.{number_op_is}
+use Rattle.sp_emit.proofs.Offsets.{address_are}
 use Rattle.sp_emit.proofs.Operands.{mask_is}
+use Rattle.sp_emit.proofs.FlagWords.{seek_is, match_is}
+use Rattle.sp_emit.proofs.Needs.{covers, second_fits}
+use Rattle.sp_emit.proofs.TruthCode.{is_test_bundle, AreTests, TruthParts, flag_is}
 use Rattle.sp_emit.proofs.Passing.{is_outside, outside_low, is_low, passes, part_passes, parts_pass}
 use Rattle.sp_emit.proofs.Values.{before, operands_calm, value_calm}
 use Rattle.sp_emit.proofs.WordPlaces.{read_is, fetch_is, fetched_is, keep_is, set_op_is}
+use Rattle.sp_emit.specs.declared.stands.Homes.{Homes}
 
 abbrev pub Low : List ℕ → ℕ → ℕ → PlainParts → Type 0
 Low tops top count parts = parts_pass tops top count parts ≡ true
@@ -99,10 +104,10 @@ mutual
 
 -- ---- values
 
-pub expr_low : (tops : List ℕ) (homes top count : ℕ) (e : PlainSp) (rd to : ℕ) → ExprFits e rd → rd + need e ≤ homes → homes ≤ top → to < OVERRUN → to < top → Low tops top count (expr_to homes e rd to)
+pub expr_low : (tops : List ℕ) (homes : Homes) (top count : ℕ) (e : PlainSp) (rd to : ℕ) → ExprFits e rd → rd + need e ≤ homes.first → homes.first ≤ top → to < OVERRUN → to < top → Low tops top count (expr_to homes e rd to)
 expr_low tops homes top count e rd to fits free le few within =
     let some : 1 ≤ top = omega (arith, within) in
-    low_joined tops top count (operands_code homes e rd) (value_code homes e rd to) (calm_parts_low tops rd homes top count some le (operands_code homes e rd) (operands_calm homes rd e rd (omega arith) fits free))
+    low_joined tops top count (operands_code homes e rd) (value_code homes e rd to) (calm_parts_low tops rd homes.first top count some le (operands_code homes e rd) (operands_calm homes rd e rd (omega arith) fits free))
     (calm_parts_low tops 0 top top count some (omega arith) (value_code homes e rd to) (value_calm homes 0 top e rd to (omega arith) few within))
 
 pub formed_fits : (slots : ℕ) (e : PlainSp) (rd : ℕ) → slots ≤ 128 → rd ≤ 9 → expr_formed slots e ≡ true → ExprFits e rd
@@ -111,15 +116,33 @@ formed_fits slots e rd most few formed =
     record { slots = slots; most = most; names = parts.0; registers = omega (arith, few, leb-true (need e) 12 parts.1) }
 
 -- where an expression is formed, and the first register suffices
-own_low : (tops : List ℕ) (homes slots top count : ℕ) (e : PlainSp) (rd : ℕ) → slots ≤ 128 → rd ≤ 9 → expr_formed slots e ≡ true → rd + need e ≤ homes → homes ≤ top → Low tops top count (expr_code homes e rd)
+own_low : (tops : List ℕ) (homes : Homes) (slots top count : ℕ) (e : PlainSp) (rd : ℕ) → slots ≤ 128 → rd ≤ 9 → expr_formed slots e ≡ true → rd + need e ≤ homes.first → homes.first ≤ top → Low tops top count (expr_code homes e rd)
 own_low tops homes slots top count e rd most few formed free le = expr_low tops homes top count e rd rd (formed_fits slots e rd most few formed) free le (omega (arith, few)) (omega (arith, before homes e free, le))
 
-pub args_low : (tops : List ℕ) (homes slots top count : ℕ) (args : List PlainSp) (rd : ℕ) → slots ≤ 128 → rd + length args ≤ 10 → args_formed slots args ≡ true → args_least args rd ≤ homes → homes ≤ top → Low tops top count (args_code homes args rd)
+pub args_low : (tops : List ℕ) (homes : Homes) (slots top count : ℕ) (args : List PlainSp) (rd : ℕ) → slots ≤ 128 → rd + length args ≤ 10 → args_formed slots args ≡ true → args_least args rd ≤ homes.first → homes.first ≤ top → Low tops top count (args_code homes args rd)
 args_low tops homes slots top count [] rd most few formed free le = refl
 args_low tops homes slots top count (e ∷ args) rd most few formed free le =
     let parts = and_parts (expr_formed slots e) (args_formed slots args) formed in
     low_joined tops top count (expr_code homes e rd) (args_code homes args (rd + 1)) (own_low tops homes slots top count e rd most (omega (arith, few)) parts.0 (omega (arith, free)) le)
     (args_low tops homes slots top count args (rd + 1) most (omega (arith, few)) parts.1 (omega (arith, free)) le)
+
+-- ---- truths
+
+tests_low : (tops : List ℕ) (top count : ℕ) (bs : List Slots) → AreTests bs → Low tops top count (one (straight bs))
+tests_low tops top count bs tests = low_lone tops top count bs (all_weaker is_test_bundle (passes top count) (λ b is. grind (arith, is)) bs tests)
+
+-- what suffices for operands
+abbrev Fitting : Homes → PlainSp → Type 0
+Fitting homes e = ExprFits e FIRST × (FIRST + need e ≤ homes.first)
+
+truths_low : (tops : List ℕ) (homes : Homes) (top count : ℕ) → 1 ≤ top → homes.first ≤ top → TruthParts (Low tops top count) homes (Fitting homes)
+truths_low tops homes top count some le = record {
+  none = refl;
+  both = low_joined tops top count;
+  second = λ op a b h. (second_fits op a b h.0, omega (arith, h.1, (covers (nat_lt (need a) (need b)) (need a) (need b)).1));
+  operands = λ e h. calm_parts_low tops FIRST homes.first top count some le (operands_code homes e FIRST) (operands_calm homes FIRST e FIRST (omega arith) h.0 h.1);
+  tests = tests_low tops top count;
+}
 
 -- ---- words of a frame
 
@@ -158,29 +181,34 @@ number_low top count rd n out = number_op_is (λ op. passes top count (under alw
 
 -- ---- statements
 
-test_low : (top count homes mask : ℕ) → 1 ≤ top → AreLow top count (mask_test homes mask)
-test_low top count homes mask some = rw (fetch_low top count homes mask some) refl
+seek_low : (top count : ℕ) (homes : Homes) (mask : ℕ) → 1 ≤ top → passes top count (seek_word homes mask) ≡ true
+seek_low top count homes mask some = seek_is (λ b. passes top count b ≡ true) homes mask (rw (outside_low top 0 some) refl) (fetch_low top count homes.first mask some)
 
-slot_write_low : (top count homes mask slot : ℕ) → homes + slot < top → slot < count → AreLow top count (slot_write homes mask slot)
-slot_write_low top count homes mask slot within lt = rw (fetch_low top count homes mask (omega (arith, within)), set_low top count homes (where_so TEST) slot FIRST within lt) refl
+match_low : (top count : ℕ) (homes : Homes) (mask : ℕ) → 1 ≤ top → passes top count (match_word homes mask) ≡ true
+match_low top count homes mask some = match_is (λ b. passes top count b ≡ true) homes mask (rw (outside_low top 0 some) refl) refl
 
-cell_write_low : (top count homes mask : ℕ) (r : Region) (word : ℕ) → 1 ≤ top → AreLow top count (cell_write homes mask (record { region = r; word = word }))
+slot_write_low : (top count : ℕ) (homes : Homes) (mask slot : ℕ) → homes.first + slot < top → slot < count → AreLow top count (slot_write homes mask slot)
+slot_write_low top count homes mask slot within lt = rw (seek_low top count homes mask (omega (arith, within)), match_low top count homes mask (omega (arith, within)), set_low top count homes.first (where_so (told_at homes mask)) slot FIRST within lt) refl
+
+cell_write_low : (top count : ℕ) (homes : Homes) (mask : ℕ) (r : Region) (word : ℕ) → 1 ≤ top → AreLow top count (cell_write homes mask (record { region = r; word = word }))
 cell_write_low top count homes mask r word some =
-    let read = fetch_low top count homes mask some in
+    let read = seek_low top count homes mask some in
+    let match = match_low top count homes mask some in
     let spare = spare_low top in
     let address = number_low top count SPARE (address_of r word) spare in
-    grind (arith, read, spare, address)
+    grind (arith, read, match, spare, address)
 
-element_write_low : (top count homes mask : ℕ) (r : Region) (first length : ℕ) → FIRST + 1 < top → AreLow top count (element_write homes mask (record { region = r; first = first; length = length }))
+element_write_low : (top count : ℕ) (homes : Homes) (mask : ℕ) (r : Region) (first length : ℕ) → FIRST + 1 < top → AreLow top count (element_write homes mask (record { region = r; first = first; length = length }))
 element_write_low top count homes mask r first length within =
-    let read = fetch_low top count homes mask (omega (arith, within)) in
+    let read = seek_low top count homes mask (omega (arith, within)) in
+    let match = match_low top count homes mask (omega (arith, within)) in
     let spare = spare_low top in
     let index = outside_low top (FIRST + 1) within in
-    let size = number_low top count SPARE length spare in
-    let address = number_low top count SPARE (address_of r first) spare in
-    grind (arith, read, index, size, address)
+    let address = address_are (λ b. passes top count b ≡ true) (record { region = r; first = first; length = length }) SECOND (FIRST + 1) (FIRST + 1)
+    (rw (outside_low top 0 (omega (arith, within))) refl) (λ n. number_low top count SPARE n spare) refl refl (rw (index) refl) (rw (index) refl) in
+    grind (arith, read, match, index, address.length, address.below, address.base, address.scaled)
 
-target_low : (tops : List ℕ) (homes slots top count mask : ℕ) (target : PlainSpTarget) → slots ≤ 128 → slots ≤ count → homes + slots ≤ top → 1 ≤ homes → target_formed slots target ≡ true → target_least target ≤ homes → Low tops top count (target_write homes mask target)
+target_low : (tops : List ℕ) (homes : Homes) (slots top count mask : ℕ) (target : PlainSpTarget) → slots ≤ 128 → slots ≤ count → homes.first + slots ≤ top → 1 ≤ homes.first → target_formed slots target ≡ true → target_least target ≤ homes.first → Low tops top count (target_write homes mask target)
 target_low tops homes slots top count mask (to_slot slot) most le within own formed free =
     let named = ltb-true slot slots formed in
     low_lone tops top count (slot_write homes mask slot) (slot_write_low top count homes mask slot (omega (arith, within, named)) (omega (arith, le, named)))
@@ -197,62 +225,64 @@ handed_low top count homes mask own = rw (read_low top count homes MASK mask own
 pub call_tail_low : (top count : ℕ) → 1 ≤ top → AreLow top count call_tail
 call_tail_low top count some = rw (outside_low top 0 some) refl
 
-behind_low : (top count homes slots frame mask : ℕ) (result : Option ℕ) → 1 ≤ top → slots ≤ count → homes + slots ≤ top → result_formed slots result ≡ true → AreLow top count (behind_call homes frame mask result)
+behind_low : (top count : ℕ) (homes : Homes) (slots frame mask : ℕ) (result : Option ℕ) → 1 ≤ top → slots ≤ count → homes.first + slots ≤ top → result_formed slots result ≡ true → AreLow top count (behind_call homes frame mask result)
 behind_low top count homes slots frame mask None own le within formed = refl
 behind_low top count homes slots frame mask (Some slot) own le within formed =
     let named = ltb-true slot slots formed in
-    rw (fetch_low top count homes mask own, set_low top count homes (where_so TEST) slot RESULT (omega (arith, within, named)) (omega (arith, le, named))) refl
+    rw (seek_low top count homes mask own, match_low top count homes mask own, set_low top count homes.first (where_so (told_at homes mask)) slot RESULT (omega (arith, within, named)) (omega (arith, le, named))) refl
 
-call_low : (tops : List ℕ) (homes slots top count frame mask k : ℕ) (result : Option ℕ) → slots ≤ count → homes + slots ≤ top → FIRST ≤ homes → slice_index_or tops k 0 ≤ homes → result_formed slots result ≡ true → Low tops top count (call_code homes frame mask k result)
+call_low : (tops : List ℕ) (homes : Homes) (slots top count frame mask k : ℕ) (result : Option ℕ) → slots ≤ count → homes.first + slots ≤ top → FIRST ≤ homes.first → slice_index_or tops k 0 ≤ homes.first → result_formed slots result ≡ true → Low tops top count (call_code homes frame mask k result)
 call_low tops homes slots top count frame mask k result le within own window formed =
-    low_joined tops top count (one (straight (mask_handed homes mask))) (joined (one (way_to k)) (one (straight (behind_call homes frame mask result))))
-    (low_lone tops top count (mask_handed homes mask) (handed_low top count homes mask (omega (arith, own, within))))
+    low_joined tops top count (one (straight (mask_handed homes.first mask))) (joined (one (way_to k)) (one (straight (behind_call homes frame mask result))))
+    (low_lone tops top count (mask_handed homes.first mask) (handed_low top count homes.first mask (omega (arith, own, within))))
     (low_joined tops top count (one (way_to k)) (one (straight (behind_call homes frame mask result)))
     (and_from (nat_le (slice_index_or tops k 0) top && list_all (passes top count) call_tail) true
     (and_from (nat_le (slice_index_or tops k 0) top) (list_all (passes top count) call_tail) (le-leb (slice_index_or tops k 0) top (omega (arith, window, within))) (call_tail_low top count (omega (arith, own, within)))) refl)
     (low_lone tops top count (behind_call homes frame mask result) (behind_low top count homes slots frame mask result (omega (arith, own, within)) le within formed)))
 
-send_low : (top count homes mask core : ℕ) → FIRST + 3 < top → AreLow top count (send_code homes mask core)
+send_low : (top count : ℕ) (homes : Homes) (mask core : ℕ) → FIRST + 3 < top → AreLow top count (send_code homes mask core)
 send_low top count homes mask core within =
-    let read = fetch_low top count homes mask (omega (arith, within)) in
+    let read = seek_low top count homes mask (omega (arith, within)) in
+    let match = match_low top count homes mask (omega (arith, within)) in
     let spare = spare_low top in
     let third = outside_low top (FIRST + 3) within in
-    grind (arith, read, spare, third)
+    grind (arith, read, match, spare, third)
 
-overrun_low : (top count homes mask : ℕ) → 1 ≤ top → AreLow top count (overrun_code homes mask)
+overrun_low : (top count : ℕ) (homes : Homes) (mask : ℕ) → 1 ≤ top → AreLow top count (overrun_code homes mask)
 overrun_low top count homes mask some =
-    let read = fetch_low top count homes mask some in
+    let read = seek_low top count homes mask some in
+    let match = match_low top count homes mask some in
     let flag = flag_low top in
-    grind (arith, read, flag)
+    grind (arith, read, match, flag)
 
 pub iterations_begin_low : (top count homes counter n : ℕ) → 1 ≤ top → homes + counter < top → counter < count → AreLow top count (iterations_begin homes counter n)
-iterations_begin_low top count homes counter n some within lt = rw (fetched_low top homes counter within, keep_low top count homes counter some lt) refl
+iterations_begin_low top count homes counter n some within lt = rw (number_low top count (fetched_at homes counter) n (fetched_low top homes counter within), keep_low top count homes counter some lt) refl
 
 pub iterations_tail_low : (top count homes counter : ℕ) → 1 ≤ top → homes + counter < top → counter < count → AreLow top count (iterations_tail homes counter)
 iterations_tail_low top count homes counter some within lt = rw (fetch_low top count homes counter some, fetched_low top homes counter within, keep_low top count homes counter some lt, outside_low top 0 some) refl
 
 -- a value that is worked out, and its last instruction under a mask
-guarded_low : (tops : List ℕ) (homes slots top count mask slot : ℕ) (e : PlainSp) (op : Op) → slots ≤ 128 → homes ≤ top → homes + slot < OVERRUN → homes + slot < top → expr_formed slots e ≡ true → FIRST + need e ≤ homes → Gives (value_code homes e FIRST (homes + slot)) op
+guarded_low : (tops : List ℕ) (homes : Homes) (slots top count mask slot : ℕ) (e : PlainSp) (op : Op) → slots ≤ 128 → homes.first ≤ top → homes.first + slot < OVERRUN → homes.first + slot < top → expr_formed slots e ≡ true → FIRST + need e ≤ homes.first → Gives (value_code homes e FIRST (homes.first + slot)) op
     → Low tops top count (guarded_code homes mask e op)
 guarded_low tops homes slots top count mask slot e op most le lt within formed free gives =
     let some : 1 ≤ top = omega (arith, within) in
-    let value = calm_parts_low tops 0 top top count some (omega arith) (value_code homes e FIRST (homes + slot)) (value_calm homes 0 top e FIRST (homes + slot) (omega arith) lt within) in
+    let value = calm_parts_low tops 0 top top count some (omega arith) (value_code homes e FIRST (homes.first + slot)) (value_calm homes 0 top e FIRST (homes.first + slot) (omega arith) lt within) in
     let last : Low tops top count (one (straight (under always op ∷ []))) = subst (Low tops top count) gives.is value in
     let own = (and_parts (is_low top count op) true (and_parts (passes top count (under always op)) true (and_parts (list_all (passes top count) (under always op ∷ [])) true last).0).0).0 in
-    low_joined tops top count (operands_code homes e FIRST) (one (straight (mask_test homes mask ++ under (where_so TEST) op ∷ [])))
-    (calm_parts_low tops FIRST homes top count some le (operands_code homes e FIRST) (operands_calm homes FIRST e FIRST (omega arith) (formed_fits slots e FIRST most (omega arith) formed) free))
-    (low_lone tops top count (mask_test homes mask ++ under (where_so TEST) op ∷ []) (rw (fetch_low top count homes mask some, own) refl))
+    low_joined tops top count (operands_code homes e FIRST) (one (straight (mask_test homes mask ++ under (where_so (told_at homes mask)) op ∷ [])))
+    (calm_parts_low tops FIRST homes.first top count some le (operands_code homes e FIRST) (operands_calm homes FIRST e FIRST (omega arith) (formed_fits slots e FIRST most (omega arith) formed) free))
+    (low_lone tops top count (mask_test homes mask ++ under (where_so (told_at homes mask)) op ∷ []) (rw (seek_low top count homes mask some, match_low top count homes mask some, own) refl))
 
-write_low : (tops : List ℕ) (homes slots top count mask : ℕ) (target : PlainSpTarget) (e : PlainSp) → slots ≤ 128 → slots ≤ count → homes + slots ≤ top → 1 ≤ homes → target_formed slots target ≡ true → expr_formed slots e ≡ true → FIRST + need e ≤ homes → target_least target ≤ homes
+write_low : (tops : List ℕ) (homes : Homes) (slots top count mask : ℕ) (target : PlainSpTarget) (e : PlainSp) → slots ≤ 128 → slots ≤ count → homes.first + slots ≤ top → 1 ≤ homes.first → target_formed slots target ≡ true → expr_formed slots e ≡ true → FIRST + need e ≤ homes.first → target_least target ≤ homes.first
     → Low tops top count (write_code homes mask target e)
 write_low tops homes slots top count mask target e most le within some formed value free least = by target formed least
   where
-    stored : (target : PlainSpTarget) → target_formed slots target ≡ true → target_least target ≤ homes → Low tops top count (joined (expr_code homes e FIRST) (target_write homes mask target))
+    stored : (target : PlainSpTarget) → target_formed slots target ≡ true → target_least target ≤ homes.first → Low tops top count (joined (expr_code homes e FIRST) (target_write homes mask target))
     stored target formed least =
         low_joined tops top count (expr_code homes e FIRST) (target_write homes mask target) (own_low tops homes slots top count e FIRST most (omega arith) value free (omega (arith, within)))
         (target_low tops homes slots top count mask target most le within some formed least)
 
-    by : (target : PlainSpTarget) → target_formed slots target ≡ true → target_least target ≤ homes → Low tops top count (write_code homes mask target e)
+    by : (target : PlainSpTarget) → target_formed slots target ≡ true → target_least target ≤ homes.first → Low tops top count (write_code homes mask target e)
     by (to_slot slot) formed least =
         slot_write_is (Low tops top count) homes mask slot e (stored (to_slot slot) formed least)
         (λ op lt gives. guarded_low tops homes slots top count mask slot e op most (omega (arith, within)) lt (omega (arith, within, ltb-true slot slots formed)) value free gives)
@@ -316,11 +346,11 @@ mutual
 
 -- ---- statements of a function whose window begins after all registers that its code uses
 
-pub record IsHomed (homes : ℕ) (fs : List PlainFunction) (number slots : ℕ) : Type 0 where
+pub record IsHomed (homes : Homes) (fs : List PlainFunction) (number slots : ℕ) : Type 0 where
   pub earlier : functions_formed fs number ≡ true
   pub some : 1 ≤ slots
   pub most : slots ≤ 128
-  pub own : FIRST ≤ homes
+  pub own : FIRST ≤ homes.first
 
 pub few_args : (fs : List PlainFunction) (number k count : ℕ) → functions_formed fs number ≡ true → callee_formed fs number k count ≡ true → FIRST + count ≤ 10
 few_args fs number k count earlier formed =
@@ -329,28 +359,29 @@ few_args fs number k count earlier formed =
     omega (arith, few_arguments fs k number (ltb-true k number c.0) earlier, eqb-true count callee.parameters c.1)
 
 mutual
-  pub stmt_low : (tops : List ℕ) (homes : ℕ) (fs : List PlainFunction) (number slots frame counter : ℕ) (t : PlainStmt) → IsHomed homes fs number slots → slots + stmt_levels t ≤ counter + 1 → stmt_formed fs number slots t ≡ true → stmt_least tops t ≤ homes
-      → Low tops (homes + (counter + 1)) (counter + 1) (stmt_code homes frame counter t)
+  pub stmt_low : (tops : List ℕ) (homes : Homes) (fs : List PlainFunction) (number slots frame counter : ℕ) (t : PlainStmt) → IsHomed homes fs number slots → slots + stmt_levels t ≤ counter + 1 → stmt_formed fs number slots t ≡ true → stmt_least tops t ≤ homes.first
+      → Low tops (homes.first + (counter + 1)) (counter + 1) (stmt_code homes frame counter t)
   stmt_low tops homes fs number slots frame counter (masks slot e) h levels formed free =
       let parts = and_parts (nat_lt slot slots) (expr_formed slots e) formed in
       let named = ltb-true slot slots parts.0 in
-      let top = homes + (counter + 1) in
+      let top = homes.first + (counter + 1) in
       let low = counter + 1 in
       mask_is (Low tops top low) homes slot e
-      (λ here. expr_low tops homes top low e FIRST (homes + slot) (formed_fits slots e FIRST h.most (omega arith) parts.1) free (omega arith) (ltb-true (homes + slot) OVERRUN here) (omega (arith, named, levels)))
-      (λ there. low_joined tops top low (expr_code homes e FIRST) (slot_set homes slot) (own_low tops homes slots top low e FIRST h.most (omega arith) parts.1 free (omega arith))
-      (low_lone tops top low (set_word homes always slot FIRST ∷ []) (rw (set_low top low homes always slot FIRST (omega (arith, named, levels)) (omega (arith, named, levels))) refl)))
+      (λ p is. flag_is (truths_low tops homes top low (omega (arith, h.own)) (omega arith)) p (λ func a b. refl) e (formed_fits slots e FIRST h.most (omega arith) parts.1, free))
+      (λ plain here. expr_low tops homes top low e FIRST (homes.first + slot) (formed_fits slots e FIRST h.most (omega arith) parts.1) free (omega arith) (ltb-true (homes.first + slot) OVERRUN here) (omega (arith, named, levels)))
+      (λ plain there. low_joined tops top low (expr_code homes e FIRST) (slot_set homes.first slot) (own_low tops homes slots top low e FIRST h.most (omega arith) parts.1 free (omega arith))
+      (low_lone tops top low (set_word homes.first always slot FIRST ∷ []) (rw (set_low top low homes.first always slot FIRST (omega (arith, named, levels)) (omega (arith, named, levels))) refl)))
   stmt_low tops homes fs number slots frame counter (writes mask target e) h levels formed free =
       let parts = and_parts (nat_lt mask slots) (target_formed slots target && expr_formed slots e) formed in
       let targets = and_parts (target_formed slots target) (expr_formed slots e) parts.1 in
-      let top = homes + (counter + 1) in
+      let top = homes.first + (counter + 1) in
       let low = counter + 1 in
       write_low tops homes slots top low mask target e h.most (omega (arith, levels)) (omega (arith, levels)) (omega (arith, h.own)) targets.0 targets.1 (omega (arith, free)) (omega (arith, free))
   stmt_low tops homes fs number slots frame counter (calls mask k args result) h levels formed free =
       let a = and_parts (nat_lt mask slots) (callee_formed fs number k (length args) && (args_formed slots args && result_formed slots result)) formed in
       let b = and_parts (callee_formed fs number k (length args)) (args_formed slots args && result_formed slots result) a.1 in
       let c = and_parts (args_formed slots args) (result_formed slots result) b.1 in
-      let top = homes + (counter + 1) in
+      let top = homes.first + (counter + 1) in
       low_joined tops top (counter + 1) (args_code homes args FIRST) (call_code homes frame mask k result)
       (args_low tops homes slots top (counter + 1) args FIRST h.most (few_args fs number k (length args) h.earlier b.0) c.0 (omega (arith, free)) (omega arith))
       (call_low tops homes slots top (counter + 1) frame mask k result (omega (arith, levels)) (omega (arith, levels)) h.own (omega (arith, free)) c.1)
@@ -359,7 +390,7 @@ mutual
       let send = and_parts (nat_lt core 16) (expr_formed slots source && (expr_formed slots target && expr_formed slots count)) parts.1 in
       let first = and_parts (expr_formed slots source) (expr_formed slots target && expr_formed slots count) send.1 in
       let rest = and_parts (expr_formed slots target) (expr_formed slots count) first.1 in
-      let top = homes + (counter + 1) in
+      let top = homes.first + (counter + 1) in
       let low = counter + 1 in
       let sent = one (straight (send_code homes mask core)) in
       low_joined tops top low (expr_code homes source FIRST) (joined (expr_code homes target (FIRST + 1)) (joined (expr_code homes count (FIRST + 2)) sent)) (own_low tops homes slots top low source FIRST h.most (omega arith) first.0 (omega (arith, free)) (omega arith))
@@ -368,24 +399,24 @@ mutual
       (low_lone tops top low (send_code homes mask core) (send_low top low homes mask core (omega (arith, free))))))
   stmt_low tops homes fs number slots frame counter (overruns mask e) h levels formed free =
       let parts = and_parts (nat_lt mask slots) (expr_formed slots e) formed in
-      let top = homes + (counter + 1) in
+      let top = homes.first + (counter + 1) in
       low_joined tops top (counter + 1) (expr_code homes e FIRST) (one (straight (overrun_code homes mask))) (own_low tops homes slots top (counter + 1) e FIRST h.most (omega arith) parts.1 free (omega arith))
       (low_lone tops top (counter + 1) (overrun_code homes mask) (overrun_low top (counter + 1) homes mask (omega arith)))
   stmt_low tops homes fs number slots frame counter (iterations count body) h levels formed free =
       let parts = and_parts (nat_lt 0 count) (stmts_formed fs number slots body) formed in
       let code = stmts_code homes frame (counter - 1) body in
-      let top = homes + (counter + 1) in
+      let top = homes.first + (counter + 1) in
       let low = counter + 1 in
       let inner = stmts_low tops homes fs number slots frame (counter - 1) body h (omega (arith, levels, h.some)) parts.1 (omega (arith, free)) in
-      let within : Low tops top low code = low_more tops (homes + (counter - 1 + 1)) top (counter - 1 + 1) low code (omega arith) (omega (arith, levels, h.some)) inner in
-      low_joined tops top low (one (straight (iterations_begin homes counter count))) (one (repeats count code (iterations_tail homes counter)))
-      (low_lone tops top low (iterations_begin homes counter count) (iterations_begin_low top low homes counter count (omega arith) (omega arith) (omega arith)))
-      (and_from _ true (and_from (parts_pass tops top low code) (list_all (passes top low) (iterations_tail homes counter)) within (iterations_tail_low top low homes counter (omega arith) (omega arith) (omega arith))) refl)
+      let within : Low tops top low code = low_more tops (homes.first + (counter - 1 + 1)) top (counter - 1 + 1) low code (omega arith) (omega (arith, levels, h.some)) inner in
+      low_joined tops top low (one (straight (iterations_begin homes.first counter count))) (one (repeats count code (iterations_tail homes.first counter)))
+      (low_lone tops top low (iterations_begin homes.first counter count) (iterations_begin_low top low homes.first counter count (omega arith) (omega arith) (omega arith)))
+      (and_from _ true (and_from (parts_pass tops top low code) (list_all (passes top low) (iterations_tail homes.first counter)) within (iterations_tail_low top low homes.first counter (omega arith) (omega arith) (omega arith))) refl)
 
-  pub stmts_low : (tops : List ℕ) (homes : ℕ) (fs : List PlainFunction) (number slots frame counter : ℕ) (ts : PlainStmts) → IsHomed homes fs number slots → slots + stmts_levels ts ≤ counter + 1 → stmts_formed fs number slots ts ≡ true → stmts_least tops ts ≤ homes
-      → Low tops (homes + (counter + 1)) (counter + 1) (stmts_code homes frame counter ts)
+  pub stmts_low : (tops : List ℕ) (homes : Homes) (fs : List PlainFunction) (number slots frame counter : ℕ) (ts : PlainStmts) → IsHomed homes fs number slots → slots + stmts_levels ts ≤ counter + 1 → stmts_formed fs number slots ts ≡ true → stmts_least tops ts ≤ homes.first
+      → Low tops (homes.first + (counter + 1)) (counter + 1) (stmts_code homes frame counter ts)
   stmts_low tops homes fs number slots frame counter no_stmt h levels formed free = refl
   stmts_low tops homes fs number slots frame counter (stmt t rest) h levels formed free =
       let parts = and_parts (stmt_formed fs number slots t) (stmts_formed fs number slots rest) formed in
-      low_joined tops (homes + (counter + 1)) (counter + 1) (stmt_code homes frame counter t) (stmts_code homes frame counter rest) (stmt_low tops homes fs number slots frame counter t h (omega (arith, levels)) parts.0 (omega (arith, free)))
+      low_joined tops (homes.first + (counter + 1)) (counter + 1) (stmt_code homes frame counter t) (stmts_code homes frame counter rest) (stmt_low tops homes fs number slots frame counter t h (omega (arith, levels)) parts.0 (omega (arith, free)))
       (stmts_low tops homes fs number slots frame counter rest h (omega (arith, levels)) parts.1 (omega (arith, free)))

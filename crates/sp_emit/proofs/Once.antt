@@ -9,7 +9,7 @@ use Rattle.patmos_instr.specs.declared.memories.Mem.TheVariants as mem
 use Rattle.patmos_instr.specs.declared.memories.Width.TheVariants as load
 use Rattle.patmos_sem.specs.Bundles.{arrived}
 use Rattle.patmos_sem.specs.Effects.{address_of, write_of, begun, asked}
-use Rattle.patmos_sem.specs.Registers.{Registers, FitsRegisters, pred_in, holds}
+use Rattle.patmos_sem.specs.Registers.{Registers, FitsRegisters, holds}
 use Rattle.patmos_sem.specs.Writes.{after_writes, came, register_after, pred_after}
 use Rattle.patmos_instr.specs.declared.specials.WritableSpecial.{WritableSpecial}
 use Rattle.patmos_sem.specs.declared.effects.Effect.{Effect}
@@ -20,14 +20,10 @@ use Rattle.patmos_sem.specs.declared.writes.Write.{Write}
 use Rattle.patmos_sem.specs.declared.writes.Write.TheVariants as write
 use Rattle.patmos_sem.proofs.Told.{after_writes-append, kept_registers, kept_preds, get_or-renewed, length-renewed_from}
 use Rattle.sp_shape.specs.Run.{Run, Sources, branches, word_given, other_loads, settled, once, effected, with_settled, IsWhole}
-use Rattle.sp_emit.specs.Holding.{held}
+use Rattle.sp_emit.specs.Holding.{held, so}
 use Rattle.sp_emit.specs.Instructions.{under}
 
 -- ---- what a bundle leaves
-
--- a predicate
-abbrev pub so : ℕ → Run → Bool
-so p m = pred_in m.regs p
 
 -- the registers with nothing pending; with a write made
 abbrev at_rest : Registers → Registers

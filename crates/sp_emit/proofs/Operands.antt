@@ -1,7 +1,9 @@
 -- What holds of the code of values and of parts after one another holds of that of operands: where an operand is a word of
 -- the frame in a register, it has none.
-use Rattle.std.proofs.Common.{◌≡◌, ℕ, ◌+◌, ◌<◌, Bool, true, false, if◌then◌else◌, nat_lt, true≢false, refl, sym, ap, ◌∙◌}
+use Rattle.std.proofs.Common.{◌≡◌, ℕ, ◌+◌, ◌<◌, Bool, true, false, if◌then◌else◌, nat_lt, true≢false, List, [], ◌∷◌, Option, None, Some, refl, sym, ap, ◌∙◌, subst}
+use Rattle.std.specs.Prelude.{is_none}
 use Rattle.std.proofs.lemmas.Bool.{and_parts, ltb-true}
+use Rattle.patmos_instr.specs.Bundles.{Slots}
 use Rattle.sp_tree.specs.Formed.{names_words, array_formed}
 use Rattle.sp_tree.specs.Need.{need}
 use Rattle.sp_tree.specs.Plain.{PlainSp, constant, frame_word, cell_word, array_word, before_one, between_two}
@@ -10,26 +12,45 @@ use Rattle.sp_tree.specs.declared.operators.SpBinary.{SpBinary}
 use Rattle.sp_tree.specs.declared.operators.SpUnary.{SpUnary}
 use Rattle.sp_shape.specs.Parts.{PlainParts, no_part, joined}
 use Rattle.sp_shape.proofs.Joins.{joined-nothing}
-use Rattle.sp_emit.specs.Expressions.{is_home, slot_number, is_immediate, unless, value_code, operands_code, expr_to, expr_code, operand_code}
+use Rattle.sp_emit.specs.Expressions.{is_home, slot_number, is_immediate, unless, truth_of, word_code, value_code, operands_code, expr_to, expr_code, operand_code}
 use Rattle.sp_emit.specs.Fits.{ExprFits}
-use Rattle.sp_emit.specs.Places.{in_register}
-use Rattle.sp_emit.specs.Statements.{slot_set, mask_code}
+use Rattle.sp_emit.specs.Places.{flag_of, in_register, read_word}
+use Rattle.sp_emit.specs.Statements.{slot_set, mask_by, mask_code}
+use Rattle.sp_emit.specs.Truths.{flag_code}
 use Rattle.sp_emit.specs.declared.registers.TheConstants.{FIRST, OVERRUN}
+use Rattle.sp_emit.proofs.FlagWords.{is_none_of}
 use Rattle.sp_emit.proofs.Needs.{index_named, operand_fits, first_fits, second_fits, first_fits_behind, second_fits_behind}
+use Rattle.sp_emit.specs.declared.stands.Homes.{Homes}
 
-pub home_below : (homes : ℕ) (e : PlainSp) → is_home homes e ≡ true → homes + slot_number e < OVERRUN
-home_below homes (frame_word slot) is = ltb-true (homes + slot) OVERRUN is
+pub home_below : (homes : Homes) (e : PlainSp) → is_home homes e ≡ true → homes.first + slot_number e < OVERRUN
+home_below homes (frame_word slot) is = ltb-true (homes.first + slot) OVERRUN (and_parts (is_none (flag_of homes.flags slot)) (in_register homes.first slot) is).1
 home_below homes (constant n) is = absurd (true≢false (sym is))
 home_below homes (cell_word cell) is = absurd (true≢false (sym is))
 home_below homes (array_word array index) is = absurd (true≢false (sym is))
 home_below homes (before_one op of) is = absurd (true≢false (sym is))
 home_below homes (between_two op a b) is = absurd (true≢false (sym is))
 
+pub home_plain : (homes : Homes) (e : PlainSp) → is_home homes e ≡ true → flag_of homes.flags (slot_number e) ≡ None
+home_plain homes (frame_word slot) is = is_none_of (flag_of homes.flags slot) (and_parts (is_none (flag_of homes.flags slot)) (in_register homes.first slot) is).0
+home_plain homes (constant n) is = absurd (true≢false (sym is))
+home_plain homes (cell_word cell) is = absurd (true≢false (sym is))
+home_plain homes (array_word array index) is = absurd (true≢false (sym is))
+home_plain homes (before_one op of) is = absurd (true≢false (sym is))
+home_plain homes (between_two op a b) is = absurd (true≢false (sym is))
+
+-- one of two, as a word of the frame stands in a predicate or not
+pub word_code_is : (P : List Slots → Type 0) (homes : Homes) (to slot : ℕ) → ((p : ℕ) → P (truth_of p to)) → P (read_word homes.first to slot ∷ []) → P (word_code (flag_of homes.flags slot) homes.first to slot)
+word_code_is P homes to slot flagged plain = by (flag_of homes.flags slot)
+  where
+    by : (o : Option ℕ) → P (word_code o homes.first to slot)
+    by None = plain
+    by (Some p) = flagged p
+
 pub unless_is : (P : PlainParts → Type 0) (there : Bool) (code : PlainParts) → P no_part → P code → P (unless there code)
 unless_is P true code none some = none
 unless_is P false code none some = some
 
-pub operand_is : (P : PlainParts → Type 0) (homes : ℕ) (e : PlainSp) (rd : ℕ) → P no_part → P (expr_code homes e rd) → P (operand_code homes e rd)
+pub operand_is : (P : PlainParts → Type 0) (homes : Homes) (e : PlainSp) (rd : ℕ) → P no_part → P (expr_code homes e rd) → P (operand_code homes e rd)
 operand_is P homes e rd none code = unless_is P (is_home homes e) (expr_code homes e rd) none code
 
 -- one of three, as an operator's second operand and the needs of both are
@@ -39,7 +60,7 @@ one_of P false true x y z px py pz = py refl
 one_of P false false x y z px py pz = pz refl
 
 -- no code for one that stands in a register
-pub operand_none : (old : PlainParts) (homes : ℕ) (e : PlainSp) (rd : ℕ) → is_home homes e ≡ true → old ≡ joined old (operand_code homes e rd)
+pub operand_none : (old : PlainParts) (homes : Homes) (e : PlainSp) (rd : ℕ) → is_home homes e ≡ true → old ≡ joined old (operand_code homes e rd)
 operand_none old homes e rd is = sym (joined-nothing old) ∙ ap (λ b. joined old (unless b (expr_code homes e rd))) (sym is)
 
 -- ---- what holds of an expression and a register holds of its operands, and of those to which their values go
@@ -94,7 +115,7 @@ both_handed {A} {B} x y = record {
 
 -- ---- operands
 
-pub operands_are : (P : PlainParts → Type 0) (homes : ℕ) (Holds : PlainSp → ℕ → Type 0) → P no_part → ((x y : PlainParts) → P x → P y → P (joined x y)) → Handed Holds → ((e : PlainSp) (rd : ℕ) → Holds e rd → P (value_code homes e rd rd))
+pub operands_are : (P : PlainParts → Type 0) (homes : Homes) (Holds : PlainSp → ℕ → Type 0) → P no_part → ((x y : PlainParts) → P x → P y → P (joined x y)) → Handed Holds → ((e : PlainSp) (rd : ℕ) → Holds e rd → P (value_code homes e rd rd))
     → (e : PlainSp) (rd : ℕ) → Holds e rd → P (operands_code homes e rd)
 operands_are P homes Holds none both handed value (constant n) rd h = none
 operands_are P homes Holds none both handed value (frame_word slot) rd h = none
@@ -117,18 +138,19 @@ operands_are P homes Holds none both handed value (between_two op a b) rd h =
     (λ more. let x = handed.second_behind op a b rd more h in both (operand_code homes a rd) (operand_code homes b (rd + 1)) first_out (out b (rd + 1) x (operands_are P homes Holds none both handed value b (rd + 1) x)))
 
 -- what holds of the code of all values
-pub each_operands_are : (P : PlainParts → Type 0) (homes : ℕ) → P no_part → ((x y : PlainParts) → P x → P y → P (joined x y)) → ((e : PlainSp) (rd to : ℕ) → P (value_code homes e rd to)) → (e : PlainSp) (rd : ℕ) → P (operands_code homes e rd)
+pub each_operands_are : (P : PlainParts → Type 0) (homes : Homes) → P no_part → ((x y : PlainParts) → P x → P y → P (joined x y)) → ((e : PlainSp) (rd to : ℕ) → P (value_code homes e rd to)) → (e : PlainSp) (rd : ℕ) → P (operands_code homes e rd)
 each_operands_are P homes none both value e rd = operands_are P homes (λ e rd. Unit {0}) none both nothing_handed (λ e rd h. value e rd rd) e rd tt
 
-pub each_expr_is : (P : PlainParts → Type 0) (homes : ℕ) → P no_part → ((x y : PlainParts) → P x → P y → P (joined x y)) → ((e : PlainSp) (rd to : ℕ) → P (value_code homes e rd to)) → (e : PlainSp) (rd to : ℕ) → P (expr_to homes e rd to)
+pub each_expr_is : (P : PlainParts → Type 0) (homes : Homes) → P no_part → ((x y : PlainParts) → P x → P y → P (joined x y)) → ((e : PlainSp) (rd to : ℕ) → P (value_code homes e rd to)) → (e : PlainSp) (rd to : ℕ) → P (expr_to homes e rd to)
 each_expr_is P homes none both value e rd to = both (operands_code homes e rd) (value_code homes e rd to) (each_operands_are P homes none both value e rd) (value e rd to)
 
--- ---- a word that is set in any case, in a register and in the stack
+-- ---- a word that is set in any case, in a predicate, in a register and in the stack
 
-pub mask_is : (P : PlainParts → Type 0) (homes slot : ℕ) (e : PlainSp) → (in_register homes slot ≡ true → P (expr_to homes e FIRST (homes + slot))) → (in_register homes slot ≡ false → P (joined (expr_code homes e FIRST) (slot_set homes slot)))
+pub mask_is : (P : PlainParts → Type 0) (homes : Homes) (slot : ℕ) (e : PlainSp) → ((p : ℕ) → flag_of homes.flags slot ≡ Some p → P (flag_code homes p e)) → (flag_of homes.flags slot ≡ None → in_register homes.first slot ≡ true → P (expr_to homes e FIRST (homes.first + slot))) → (flag_of homes.flags slot ≡ None → in_register homes.first slot ≡ false → P (joined (expr_code homes e FIRST) (slot_set homes.first slot)))
     → P (mask_code homes slot e)
-mask_is P homes slot e here there = by (in_register homes slot) refl
+mask_is P homes slot e flagged here there = by (flag_of homes.flags slot) refl (in_register homes.first slot) refl
   where
-    by : (b : Bool) → in_register homes slot ≡ b → P (if b then expr_to homes e FIRST (homes + slot) else joined (expr_code homes e FIRST) (slot_set homes slot))
-    by true is = here is
-    by false is = there is
+    by : (o : Option ℕ) → flag_of homes.flags slot ≡ o → (b : Bool) → in_register homes.first slot ≡ b → P (mask_by o homes slot e)
+    by (Some p) of_slot b is = flagged p of_slot
+    by None of_slot true is = subst P (sym (ap (λ c. if c then expr_to homes e FIRST (homes.first + slot) else joined (expr_code homes e FIRST) (slot_set homes.first slot)) is)) (here of_slot is)
+    by None of_slot false is = subst P (sym (ap (λ c. if c then expr_to homes e FIRST (homes.first + slot) else joined (expr_code homes e FIRST) (slot_set homes.first slot)) is)) (there of_slot is)

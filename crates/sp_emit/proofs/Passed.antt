@@ -1,6 +1,6 @@
 -- Functions leave the whole stack as it was, and the registers after their windows, whatever their loads give.
 use Rattle.std.specs.Prelude.{min}
-use Rattle.std.proofs.Common.{◌≡◌, ℕ, zero, suc, ◌+◌, ◌-◌, ◌*◌, ◌<◌, ◌≤◌, ◌==◌, ◌⊎◌, inl, inr, Bool, true, false, if◌then◌else◌, List, [], ◌∷◌, ◌++◌, length, slice_index_or, refl, sym, ap, ◌∙◌, subst, arith}
+use Rattle.std.proofs.Common.{◌≡◌, ℕ, zero, suc, ◌+◌, ◌-◌, ◌*◌, ◌<◌, ◌≤◌, ◌==◌, ◌⊎◌, inl, inr, Bool, true, false, if◌then◌else◌, Option, None, Some, List, [], ◌∷◌, ◌++◌, length, slice_index_or, refl, sym, ap, ◌∙◌, subst, arith}
 use Rattle.std.proofs.lemmas.Bool.{cases_lt, and_parts, lt-ltb, eqb-true, eqb-false}
 use Rattle.patmos_instr.specs.Bundles.{Slots}
 use Rattle.patmos_instr.specs.declared.functions.StackFunc.TheVariants.{Sres, Sfree}
@@ -10,9 +10,8 @@ use Rattle.sp_shape.specs.Parts.{PlainParts, no_part}
 use Rattle.sp_shape.specs.Run.{Run, Sources, run, IsWhole}
 use Rattle.sp_shape.specs.Trail.{Step, all_done, parts_trail}
 use Rattle.sp_shape.proofs.Lists.{all_append}
-use Rattle.sp_emit.specs.Functions.{argument_kept, arguments_kept, mask_kept, state_kept, place_brought, result_given, needs_none, frame_taken, frame_freed, base_slot, offset_slot, first_counter, function_end, function_code, return_tail}
+use Rattle.sp_emit.specs.Functions.{argument_kept, arguments_kept, mask_in, mask_kept, place_kept, state_kept, place_brought, result_given, needs_none, frame_taken, frame_freed, base_slot, offset_slot, first_counter, function_end, body_code, function_code, places_of, return_tail}
 use Rattle.sp_emit.specs.Instructions.{copy, stack_op}
-use Rattle.sp_emit.specs.Statements.{stmts_code}
 use Rattle.sp_emit.specs.declared.registers.TheConstants.{RESULT, MASK, FIRST, OVERRUN}
 use Rattle.sp_emit.proofs.Arguments.{did_stack}
 use Rattle.sp_emit.specs.Chains.{stmts_call}
@@ -20,27 +19,32 @@ use Rattle.sp_emit.proofs.Bare.{needs_parts, bare_body, outside}
 use Rattle.sp_emit.proofs.Beginning.{Outside, words_taken, taken_few, reserved_behind}
 use Rattle.sp_emit.specs.Functions.{codes}
 use Rattle.sp_emit.specs.Holding.{KeepsFrom}
-use Rattle.sp_emit.specs.Places.{read_word, words_cleared, stmts_least, tops, homes_of, top_of}
+use Rattle.sp_emit.specs.Flags.{begun_body}
+use Rattle.sp_emit.specs.Places.{flag_of, read_word, words_cleared, stmts_least, tops, top_of}
 use Rattle.sp_emit.proofs.Codes.{codes_at, tops_at, kept_is, brought_is}
-use Rattle.sp_emit.proofs.WordPlaces.{cleared_within}
+use Rattle.sp_emit.proofs.BegunBody.{begun_formed, begun_levels, begun_least}
+use Rattle.sp_emit.proofs.FlagWords.{cleared_within}
 use Rattle.sp_emit.proofs.Formed as formed
 use Rattle.sp_emit.proofs.Low.{AreLow, IsHomed, spare_low, read_low, set_beside, stmts_low}
 use Rattle.sp_emit.proofs.Passing.{outside_low, AllPass, Passes, passes, passes_then, passes_more, passes_done, passes_parts}
 use Rattle.sp_emit.proofs.Serves.{Parts, parts_of_function, whole_frame, function_run, code_of}
+use Rattle.sp_emit.specs.declared.stands.Homes.{Homes}
 
 -- ---- before and after the body
 
-arguments_low : (homes slots top count n : ℕ) → n ≤ slots → homes + slots ≤ top → Outside homes slots count → AreLow top count (arguments_kept homes n)
+arguments_low : (homes : Homes) (slots top count n : ℕ) → n ≤ slots → homes.first + slots ≤ top → Outside homes.first slots count → AreLow top count (arguments_kept homes.first n)
 arguments_low homes slots top count zero le within out = refl
 arguments_low homes slots top count (suc n) le within out =
-    all_append (passes top count) (arguments_kept homes n) (argument_kept homes n) (arguments_low homes slots top count n (omega (arith, le)) within out) (rw (set_beside top count homes n (FIRST + n) (omega (arith, le, within)) (out n le)) refl)
+    all_append (passes top count) (arguments_kept homes.first n) (argument_kept homes.first n) (arguments_low homes slots top count n (omega (arith, le)) within out) (rw (set_beside top count homes.first n (FIRST + n) (omega (arith, le, within)) (out n le)) refl)
 
-state_low : (homes top count : ℕ) (f : PlainFunction) → f.mask < slots_of f → homes + slots_of f ≤ top → MASK < top → Outside homes (slots_of f) count → (stmts_call f.body ≡ true → f.frame ≤ count) → 2 ≤ f.frame → AreLow top count (state_kept homes f)
+state_low : (homes : Homes) (top count : ℕ) (f : PlainFunction) → f.mask < slots_of f → homes.first + slots_of f ≤ top → MASK < top → Outside homes.first (slots_of f) count → (stmts_call f.body ≡ true → f.frame ≤ count) → 2 ≤ f.frame → AreLow top count (state_kept homes f)
 state_low homes top count f mask within own out whole some =
-    let set = set_beside top count homes f.mask MASK (omega (arith, mask, within)) (out f.mask mask) in
-    let inverted = outside_low top MASK own in
-    kept_is (λ bs. AreLow top count (mask_kept homes f ++ bs)) f
-    (λ has. rw (inverted, set, spare_low top, lt-ltb (base_slot f) count (omega (arith, whole has, some)), lt-ltb (offset_slot f) count (omega (arith, whole has, some))) refl) (rw (inverted, set) refl)
+    all_append (passes top count) (mask_kept homes f) (place_kept f) (by (flag_of homes.flags f.mask))
+    (kept_is (AreLow top count) f (λ has. rw (spare_low top, lt-ltb (base_slot f) count (omega (arith, whole has, some)), lt-ltb (offset_slot f) count (omega (arith, whole has, some))) refl) refl)
+  where
+    by : (o : Option ℕ) → AreLow top count (mask_in o homes.first f.mask)
+    by None = rw (outside_low top MASK own, set_beside top count homes.first f.mask MASK (omega (arith, mask, within)) (out f.mask mask)) refl
+    by (Some p) = refl
 
 -- the end of a function, before its frame is freed
 abbrev pub result_read : ℕ → PlainFunction → List Slots
@@ -75,17 +79,17 @@ abbrev pub window_end : ℕ → PlainFunction → ℕ
 window_end homes f = homes + (f.frame - 2)
 
 -- the states of a function's run
-unfoldable pub taken : ℕ → Sources → PlainFunction → Run → Run
-taken homes from f m = run from (all_done (frame_taken homes f)) m
+unfoldable pub taken : Homes → Sources → PlainFunction → Run → Run
+taken homes from f m = run from (all_done (frame_taken homes.first f)) m
 
-unfoldable pub cleared : ℕ → Sources → PlainFunction → Run → Run
+unfoldable pub cleared : Homes → Sources → PlainFunction → Run → Run
 cleared homes from f m = run from (all_done (words_cleared homes (slots_of f))) (taken homes from f m)
 
-unfoldable pub entered : ℕ → Sources → PlainFunction → Run → Run
-entered homes from f m = run from (all_done (state_kept homes f)) (run from (all_done (arguments_kept homes f.parameters)) (cleared homes from f m))
+unfoldable pub entered : Homes → Sources → PlainFunction → Run → Run
+entered homes from f m = run from (all_done (state_kept homes f)) (run from (all_done (arguments_kept homes.first f.parameters)) (cleared homes from f m))
 
-unfoldable pub worked : ℕ → Sources → (ℕ → List Step) → PlainFunction → Run → Run
-worked homes from code f m = run from (parts_trail code (stmts_code homes f.frame (first_counter f) f.body)) (entered homes from f m)
+unfoldable pub worked : Homes → Sources → (ℕ → List Step) → PlainFunction → Run → Run
+worked homes from code f m = run from (parts_trail code (body_code homes f)) (entered homes from f m)
 
 takes_room : (from : Sources) (top frame : ℕ) (none : Bool) (m : Run) → IsWhole m → frame ≤ m.st → InFrame top (words_taken none frame) m (run from (all_done (if none then [] else stack_op Sres frame ∷ [])) m)
 takes_room from top frame true m whole enough = record { whole = whole; st = omega arith; behind = λ a above. refl; high = λ r at lt. refl }
@@ -96,52 +100,55 @@ takes_room from top frame false m whole enough = subst (InFrame top frame m) (sy
   high = λ r at lt. refl;
 })
 
-pub enters_frame : (homes : ℕ) (from : Sources) (fs : List PlainFunction) (number : ℕ) (f : PlainFunction) (m : Run) → FIRST ≤ homes → Parts fs number f → IsWhole m → f.frame ≤ m.st → InFrame (window_end homes f) (words_taken (needs_none homes f) f.frame) m (entered homes from f m)
+pub enters_frame : (homes : Homes) (from : Sources) (fs : List PlainFunction) (number : ℕ) (f : PlainFunction) (m : Run) → FIRST ≤ homes.first → Parts fs number f → IsWhole m → f.frame ≤ m.st → InFrame (window_end homes.first f) (words_taken (needs_none homes.first f) f.frame) m (entered homes from f m)
 unfolding entered cleared taken
 enters_frame homes from fs number f m own p whole enough =
-    let n = words_taken (needs_none homes f) f.frame in
-    let top = window_end homes f in
-    let few = taken_few (needs_none homes f) f.frame in
+    let n = words_taken (needs_none homes.first f) f.frame in
+    let top = window_end homes.first f in
+    let few = taken_few (needs_none homes.first f) f.frame in
     let most : n ≤ 128 = omega (arith, few, p.frame) in
     let room : n ≤ m.st = omega (arith, few, enough) in
-    let out = outside homes f (omega (arith, p.room)) (needs_none homes f) refl in
-    let first = takes_room from top f.frame (needs_none homes f) m whole enough in
+    let out = outside homes.first f (omega (arith, p.room)) (needs_none homes.first f) refl in
+    let first = takes_room from top f.frame (needs_none homes.first f) m whole enough in
     let c = passes_done from top n (words_cleared homes (slots_of f)) (taken homes from f m) most first.whole
-    (cleared_within (passes top n) homes (slots_of f) (λ slot lt. rw (outside_low top (homes + slot) (omega (arith, lt, p.room))) refl)) in
+    (cleared_within (passes top n) homes (slots_of f) (λ p. refl) (λ slot lt. rw (outside_low top (homes.first + slot) (omega (arith, lt, p.room))) refl)) in
     let second = in_frame_still (omega arith) room first c in
-    let a = passes_done from top n (arguments_kept homes f.parameters) (cleared homes from f m) most c.whole (arguments_low homes (slots_of f) top n f.parameters (omega (arith, p.before_mask, p.mask)) (omega (arith, p.room)) out) in
+    let a = passes_done from top n (arguments_kept homes.first f.parameters) (cleared homes from f m) most c.whole (arguments_low homes (slots_of f) top n f.parameters (omega (arith, p.before_mask, p.mask)) (omega (arith, p.room)) out) in
     let third = in_frame_still (omega arith) room second a in
-    let b = passes_done from top n (state_kept homes f) (run from (all_done (arguments_kept homes f.parameters)) (cleared homes from f m)) most a.whole
-    (state_low homes top n f p.mask (omega (arith, p.room)) (omega (arith, own)) out (whole_frame homes f) (omega (arith, p.room))) in
+    let b = passes_done from top n (state_kept homes f) (run from (all_done (arguments_kept homes.first f.parameters)) (cleared homes from f m)) most a.whole
+    (state_low homes top n f p.mask (omega (arith, p.room)) (omega (arith, own)) out (whole_frame homes.first f) (omega (arith, p.room))) in
     in_frame_still (omega arith) room third b
 
 -- a function whose window begins after all that its code and what it calls use
-pub record InWindow (homes : ℕ) (tops : List ℕ) (fs : List PlainFunction) (number : ℕ) (f : PlainFunction) : Type 0 where
+pub record InWindow (homes : Homes) (tops : List ℕ) (fs : List PlainFunction) (number : ℕ) (f : PlainFunction) : Type 0 where
   pub parts : Parts fs number f
   pub homed : IsHomed homes fs number (slots_of f)
-  pub least : stmts_least tops f.body ≤ homes
+  pub least : stmts_least tops f.body ≤ homes.first
 
-pub works_in_frame : (homes : ℕ) (from : Sources) (code : ℕ → List Step) (tops : List ℕ) (fs : List PlainFunction) (number low : ℕ) (f : PlainFunction) (m : Run) → InWindow homes tops fs number f → AllPass from code tops number low → IsWhole m → low + 128 ≤ m.st
-    → Passes (window_end homes f) (words_taken (needs_none homes f) (first_counter f + 1)) (entered homes from f m) (worked homes from code f m)
+pub works_in_frame : (homes : Homes) (from : Sources) (code : ℕ → List Step) (tops : List ℕ) (fs : List PlainFunction) (number low : ℕ) (f : PlainFunction) (m : Run) → InWindow homes tops fs number f → AllPass from code tops number low → IsWhole m → low + 128 ≤ m.st
+    → Passes (window_end homes.first f) (words_taken (needs_none homes.first f) (first_counter f + 1)) (entered homes from f m) (worked homes from code f m)
 unfolding worked
 works_in_frame homes from code tops fs number low f m w others whole enough =
     let p = w.parts in
     let x = enters_frame homes from fs number f m w.homed.own p whole (omega (arith, enough, p.frame)) in
-    by (needs_none homes f) refl x.whole (omega (arith, x.st, taken_few (needs_none homes f) f.frame, enough, p.frame))
+    by (needs_none homes.first f) refl x.whole (omega (arith, x.st, taken_few (needs_none homes.first f) f.frame, enough, p.frame))
   where
     body : PlainParts
-    body = stmts_code homes f.frame (first_counter f) f.body
+    body = body_code homes f
 
-    counted : homes + (first_counter f + 1) ≤ window_end homes f
+    counted : homes.first + (first_counter f + 1) ≤ window_end homes.first f
     counted = omega (arith, w.parts.room, w.parts.mask)
 
-    by : (b : Bool) → needs_none homes f ≡ b → IsWhole (entered homes from f m) → low ≤ (entered homes from f m).st
-        → Passes (window_end homes f) (words_taken b (first_counter f + 1)) (entered homes from f m) (run from (parts_trail code body) (entered homes from f m))
-    by true none here room = passes_more counted (omega arith) (bare_body homes from code fs number f tops w.homed w.parts.body w.parts.room w.least (needs_parts homes f none) (entered homes from f m) here)
+    by : (b : Bool) → needs_none homes.first f ≡ b → IsWhole (entered homes from f m) → low ≤ (entered homes from f m).st
+        → Passes (window_end homes.first f) (words_taken b (first_counter f + 1)) (entered homes from f m) (run from (parts_trail code body) (entered homes from f m))
+    by true none here room = passes_more counted (omega arith) (bare_body homes from code fs number f tops w.homed w.parts.body w.parts.room w.least (needs_parts homes.first f none) (entered homes from f m) here)
     by false some here room =
         let p = w.parts in
-        passes_more counted (omega arith) (passes_parts from code tops number low (homes + (first_counter f + 1)) (first_counter f + 1) (omega (arith, p.frame)) others body (formed.stmts_formed homes fs number (slots_of f) f.frame (first_counter f) f.body p.body)
-        (stmts_low tops homes fs number (slots_of f) f.frame (first_counter f) f.body w.homed (omega (arith, p.room, p.mask)) p.body w.least) (entered homes from f m) here room)
+        let levels = begun_levels homes.flags f in
+        let fewer = begun_least homes.flags tops f in
+        let begun = begun_formed homes.flags fs number (slots_of f) f p.body in
+        passes_more counted (omega arith) (passes_parts from code tops number low (homes.first + (first_counter f + 1)) (first_counter f + 1) (omega (arith, p.frame)) others body (formed.stmts_formed homes fs number (slots_of f) f.frame (first_counter f) (begun_body homes.flags f) begun)
+        (stmts_low tops homes fs number (slots_of f) f.frame (first_counter f) (begun_body homes.flags f) w.homed (omega (arith, p.room, p.mask, levels)) begun (omega (arith, fewer, w.least))) (entered homes from f m) here room)
 
 frees_frame : (from : Sources) (top frame : ℕ) (none : Bool) (m n : Run) → frame ≤ m.st → InFrame top (words_taken none frame) m n → Passes top 0 m (run from (all_done (if none then [] else stack_op Sfree frame ∷ [])) n)
 frees_frame from top frame true m n enough x = record { whole = x.whole; keeps = record { st = omega (arith, x.st); stack = λ a above. x.behind a (omega (arith, above)); high = x.high } }
@@ -156,32 +163,32 @@ used_few true used frame le = omega arith
 used_few false used frame le = le
 
 -- the end of a function changes no word of the stack
-given_low : (homes top : ℕ) (f : PlainFunction) → MASK < top → AreLow top 0 (given_back homes f)
+given_low : (homes : Homes) (top : ℕ) (f : PlainFunction) → MASK < top → AreLow top 0 (given_back homes.first f)
 given_low homes top f own =
-    let read = read_low top 0 homes RESULT f.result (omega (arith, own)) in
+    let read = read_low top 0 homes.first RESULT f.result (omega (arith, own)) in
     let flag = outside_low top MASK own in
-    brought_is (λ bs. AreLow top 0 (bs ++ result_read homes f)) f (λ has. rw (spare_low top, read, flag) refl) (rw (read, flag) refl)
+    brought_is (λ bs. AreLow top 0 (bs ++ result_read homes.first f)) f (λ has. rw (spare_low top, read, flag) refl) (rw (read, flag) refl)
 
 return_low : (top : ℕ) → 1 ≤ top → AreLow top 0 return_tail
 return_low top some = rw (outside_low top 0 some) refl
 
-pub passes_function : (homes : ℕ) (from : Sources) (code : ℕ → List Step) (tops : List ℕ) (fs : List PlainFunction) (number low : ℕ) (f : PlainFunction) → InWindow homes tops fs number f → AllPass from code tops number low
-    → (m : Run) → IsWhole m → low + 128 ≤ m.st → Passes (window_end homes f) 0 m (run from (parts_trail code (function_code homes f)) m)
+pub passes_function : (homes : Homes) (from : Sources) (code : ℕ → List Step) (tops : List ℕ) (fs : List PlainFunction) (number low : ℕ) (f : PlainFunction) → InWindow homes tops fs number f → AllPass from code tops number low
+    → (m : Run) → IsWhole m → low + 128 ≤ m.st → Passes (window_end homes.first f) 0 m (run from (parts_trail code (function_code homes f)) m)
 unfolding worked entered cleared taken
 passes_function homes from code tops fs number low f window others m whole enough =
     let p = window.parts in
     let own = window.homed.own in
-    let top = window_end homes f in
+    let top = window_end homes.first f in
     let room = (let e : f.frame ≤ m.st = omega (arith, enough, p.frame) in e) in
     let x = enters_frame homes from fs number f m own p whole room in
-    let none = needs_none homes f in
+    let none = needs_none homes.first f in
     let fits : words_taken none f.frame ≤ m.st = omega (arith, taken_few none f.frame, room) in
     let y = in_frame_still (used_few none (first_counter f + 1) f.frame (omega (arith, p.room, p.mask))) fits x (works_in_frame homes from code tops fs number low f m window others whole enough) in
-    let z = in_frame_still (omega arith) fits y (passes_done from top 0 (given_back homes f) (worked homes from code f m) (omega arith) y.whole (given_low homes top f (omega (arith, own)))) in
-    let n = run from (all_done (given_back homes f)) (worked homes from code f m) in
+    let z = in_frame_still (omega arith) fits y (passes_done from top 0 (given_back homes.first f) (worked homes from code f m) (omega arith) y.whole (given_low homes top f (omega (arith, own)))) in
+    let n = run from (all_done (given_back homes.first f)) (worked homes from code f m) in
     let w = frees_frame from top f.frame none m n room z in
-    let r = passes_done from top 0 return_tail (run from (all_done (frame_freed homes f)) n) (omega arith) w.whole (return_low top (omega (arith, own))) in
-    subst (Passes top 0 m) (sym (function_run homes from code f m ∙ ap (run from (all_done return_tail)) (end_run homes from f (worked homes from code f m)))) (passes_then w r)
+    let r = passes_done from top 0 return_tail (run from (all_done (frame_freed homes.first f)) n) (omega arith) w.whole (return_low top (omega (arith, own))) in
+    subst (Passes top 0 m) (sym (function_run homes from code f m ∙ ap (run from (all_done return_tail)) (end_run homes.first from f (worked homes from code f m)))) (passes_then w r)
 
 -- ---- all of them, in order
 
@@ -190,7 +197,7 @@ capped_passes : {top : ℕ} {m t : Run} → Passes top 0 m t → Passes (min OVE
 capped_passes p = record { whole = p.whole; keeps = record { st = p.keeps.st; stack = p.keeps.stack; high = λ r from lt. p.keeps.high r (omega (arith, from, lt)) lt } }
 
 -- each in its window, over the earlier ones
-pub own_window : (fs : List PlainFunction) (n : ℕ) → functions_formed fs n ≡ true → function_formed fs n (slice_index_or fs n no_function) ≡ true → InWindow (homes_of fs n) (tops fs n) fs n (slice_index_or fs n no_function)
+pub own_window : (fs : List PlainFunction) (n : ℕ) → functions_formed fs n ≡ true → function_formed fs n (slice_index_or fs n no_function) ≡ true → InWindow (places_of fs n) (tops fs n) fs n (slice_index_or fs n no_function)
 own_window fs n earlier formed =
     let p = parts_of_function fs n (slice_index_or fs n no_function) formed in
     record {
@@ -217,7 +224,7 @@ all_pass from fs (suc n) within formed =
     by earlier own before k less m whole enough true is =
         subst (λ i. Passes (top_of fs i) 0 m (run from (parts_trail (code_of fs n) (slice_index_or (codes fs) n no_part)) m)) (sym (eqb-true k n is))
         (subst (λ c. Passes (top_of fs n) 0 m (run from (parts_trail (code_of fs n) c) m)) (sym (codes_at fs n (omega (arith, within))))
-        (capped_passes (passes_function (homes_of fs n) from (code_of fs n) (tops fs n) fs n (n * 128) f (own_window fs n earlier own) before m whole enough)))
+        (capped_passes (passes_function (places_of fs n) from (code_of fs n) (tops fs n) fs n (n * 128) f (own_window fs n earlier own) before m whole enough)))
     by earlier own before k less m whole enough false other =
         let lt = before_last (cases_lt k n) in
         subst (λ top. Passes top 0 m (run from (code_of fs n k) m)) (tops_at fs n k lt) (before.called k lt m whole (omega (arith, enough)))

@@ -26,7 +26,7 @@ use Rattle.sp_shape.specs.Run.{Run, Sources, word_given, once, effected, run, be
 use Rattle.sp_shape.specs.Trail.{Step, begins, all_done, copies, part_trail, parts_trail}
 use Rattle.sp_emit.specs.Holding.{held, KeepsFrom}
 use Rattle.sp_emit.specs.Instructions.{under}
-use Rattle.sp_emit.specs.Means.{KeepsStack, KeepsBehind}
+use Rattle.sp_emit.specs.Means.{KeepsBehind}
 use Rattle.sp_emit.specs.declared.registers.TheConstants.{OVERRUN}
 use Rattle.sp_emit.proofs.Frames.{put_other}
 use Rattle.sp_emit.proofs.Once.{with_written, did_write, did_nothing, did_multiply, did_load, regs_stay, kept, kept_by_pred, kept_by_product, kept_by_special}
@@ -126,6 +126,11 @@ high_once from top count b m whole low =
     by (Some i) none h = absurd (true≢false (sym none))
 
 -- ---- the stack
+
+-- a later state has the words of the stack after so many of the frame as they were
+record KeepsStack (count : ℕ) (m t : Run) : Type 0 where
+  st : t.st ≡ m.st
+  stack : (a : ℕ) → m.st + count ≤ a → t.stack a ≡ m.stack a
 
 stays : (count : ℕ) (m t : Run) → t.st ≡ m.st → t.stack ≡ m.stack → KeepsStack count m t
 stays count m t st stack = record { st = st; stack = λ a above. ap (λ words. words a) stack }

@@ -12,11 +12,17 @@ use Rattle.patmos_sem.specs.declared.effects.Effect.TheVariants as effect
 use Rattle.sp_shape.specs.Memory.{Memory}
 use Rattle.sp_shape.specs.Run.{Run, Sources, once, run, begun}
 use Rattle.sp_shape.specs.Trail.{Step, does, begins, all_done}
-use Rattle.sp_emit.specs.Places.{fetch_word}
+use Rattle.patmos_instr.specs.declared.functions.CmpFunc.TheVariants as cmp
+use Rattle.sp_emit.specs.Places.{fetched_at, mask_test}
+use Rattle.sp_emit.proofs.FlagWords.{test_is}
 use Rattle.sp_emit.proofs.WordPlaces.{fetch_is}
 use Rattle.sp_emit.specs.Starting.{StartsWell, AllStart, AllWords}
-use Rattle.sp_emit.specs.Instructions.{always, under, set_number}
+use Rattle.sp_emit.specs.Instructions.{always, under, set_number, compare_short}
 use Rattle.sp_emit.proofs.Numbers.{number_op_is}
+use Rattle.sp_emit.proofs.Offsets.{AddressAre, address_are}
+use Rattle.sp_tree.specs.declared.expressions.SpArray.{SpArray}
+use Rattle.sp_emit.specs.declared.registers.TheConstants.{SPARE, TEST}
+use Rattle.sp_emit.specs.declared.stands.Homes.{Homes}
 
 -- ---- code that stores in no register of the interface
 
@@ -57,9 +63,14 @@ words_right from [] ys m words = words
 words_right from (does x ∷ xs) ys m words = words_right from xs ys (once from x m) words.1
 words_right from (begins ∷ xs) ys m words = words_right from xs ys (begun m) words
 
--- a word of the frame
-pub portless_fetch : (homes slot : ℕ) → is_portless (fetch_word homes slot) ≡ true
-portless_fetch homes slot = fetch_is (λ b. is_portless b ≡ true) homes slot refl refl
+-- the test of a mask
+pub portless_test : (homes : Homes) (mask : ℕ) → list_all is_portless (mask_test homes mask) ≡ true
+portless_test homes mask =
+    test_is (λ bs. list_all is_portless bs ≡ true) homes mask (λ p is. refl)
+    (λ is. fetch_is (λ b. list_all is_portless (b ∷ compare_short cmp.Eq TEST (fetched_at homes.first mask) 1 ∷ []) ≡ true) homes.first mask refl refl)
 
 pub portless_number : (rd n : ℕ) → is_portless (set_number rd n) ≡ true
 portless_number rd n = number_op_is (λ op. is_portless (under always op) ≡ true) rd n refl refl
+
+pub portless_address : (a : SpArray) (pd rd ra : ℕ) → AddressAre (λ b. is_portless b ≡ true) a pd rd ra
+portless_address a pd rd ra = address_are (λ b. is_portless b ≡ true) a pd rd ra refl (portless_number SPARE) refl refl refl refl

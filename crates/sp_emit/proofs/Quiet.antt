@@ -16,17 +16,19 @@ use Rattle.sp_shape.specs.Bundles.{part_all, parts_all}
 use Rattle.sp_shape.specs.Formed.{is_always}
 use Rattle.sp_shape.specs.Parts.{PlainPart, straight, repeats, calls_to, leaves, PlainParts, no_part, part, one, joined}
 use Rattle.sp_shape.proofs.Lists.{all_weaker}
-use Rattle.sp_emit.proofs.Operands.{one_of, each_operands_are, each_expr_is}
+use Rattle.sp_emit.proofs.Operands.{one_of, word_code_is, each_operands_are, each_expr_is}
 use Rattle.sp_emit.proofs.Held.{held_is}
 use Rattle.sp_emit.specs.Division.{unsigned_quotient_to}
 use Rattle.sp_emit.specs.Divisors.{factor_rest_to}
-use Rattle.sp_emit.specs.Expressions.{unary_code, binary_code, held_code, number_of, value_code, operands_code, expr_to, expr_code, value_at, is_immediate, address_of}
+use Rattle.sp_emit.specs.Expressions.{unary_code, binary_code, held_code, number_of, word_code, value_code, operands_code, expr_to, expr_code, value_at, is_immediate, address_of}
 use Rattle.sp_emit.specs.Statements.{args_code}
 use Rattle.sp_emit.specs.Instructions.{always, number_op}
-use Rattle.sp_emit.specs.Places.{read_op}
+use Rattle.sp_emit.specs.Places.{flag_of, read_op}
 use Rattle.sp_emit.proofs.WordPlaces.{read_op_is}
 use Rattle.sp_emit.proofs.Numbers.{number_op_is}
-use Rattle.sp_emit.specs.declared.registers.TheConstants.{SPARE}
+use Rattle.sp_emit.proofs.Offsets.{address_are}
+use Rattle.sp_emit.specs.declared.registers.TheConstants.{SPARE, TEST}
+use Rattle.sp_emit.specs.declared.stands.Homes.{Homes}
 
 -- ---- each bundle
 
@@ -89,23 +91,26 @@ read_quiet homes rd slot = read_op_is (λ op. is_quiet_op always op ≡ true) ho
 number_quiet : (rd n : ℕ) → is_quiet_op always (number_op rd n) ≡ true
 number_quiet rd n = number_op_is (λ op. is_quiet_op always op ≡ true) rd n refl refl
 
-value_quiet : (homes : ℕ) (e : PlainSp) (rd to : ℕ) → Quiet (value_code homes e rd to)
+value_quiet : (homes : Homes) (e : PlainSp) (rd to : ℕ) → Quiet (value_code homes e rd to)
 value_quiet homes (constant v) rd to = rw (number_quiet to v) refl
-value_quiet homes (frame_word slot) rd to = rw (read_quiet homes to slot) refl
+value_quiet homes (frame_word slot) rd to =
+    each_lone is_quiet (word_code (flag_of homes.flags slot) homes.first to slot) (word_code_is AreQuiet homes to slot (λ p. refl) (rw (read_quiet homes.first to slot) refl))
 value_quiet homes (cell_word cell) rd to = rw (number_quiet to (address_of cell.region cell.word)) refl
-value_quiet homes (array_word array index) rd to = rw (number_quiet SPARE array.length, number_quiet SPARE (address_of array.region array.first)) refl
+value_quiet homes (array_word array index) rd to =
+    let a = address_are (λ b. is_quiet b ≡ true) array TEST to (value_at homes index rd) refl (λ n. rw (number_quiet SPARE n) refl) refl refl refl refl in
+    rw (a.length, a.below, a.base, a.scaled) refl
 value_quiet homes (before_one op of) rd to = each_lone is_quiet (unary_code op to (value_at homes of rd)) (unary_quiet op to (value_at homes of rd))
 value_quiet homes (between_two op a b) rd to =
     one_of Quiet (is_immediate op b) (nat_lt (need a) (need b)) (one (straight (held_code op to (value_at homes a rd) (number_of b)))) (binary_code op to (value_at homes a (rd + 1)) (value_at homes b rd)) (binary_code op to (value_at homes a rd) (value_at homes b (rd + 1)))
     (each_lone is_quiet (held_code op to (value_at homes a rd) (number_of b)) (held_quiet op to (value_at homes a rd) (number_of b)))
     (λ less. binary_quiet op to (value_at homes a (rd + 1)) (value_at homes b rd)) (λ more. binary_quiet op to (value_at homes a rd) (value_at homes b (rd + 1)))
 
-pub operands_quiet : (homes : ℕ) (e : PlainSp) (rd : ℕ) → Quiet (operands_code homes e rd)
+pub operands_quiet : (homes : Homes) (e : PlainSp) (rd : ℕ) → Quiet (operands_code homes e rd)
 operands_quiet homes e rd = each_operands_are Quiet homes refl (each_joined is_quiet) (value_quiet homes) e rd
 
-pub expr_quiet : (homes : ℕ) (e : PlainSp) (rd to : ℕ) → Quiet (expr_to homes e rd to)
+pub expr_quiet : (homes : Homes) (e : PlainSp) (rd to : ℕ) → Quiet (expr_to homes e rd to)
 expr_quiet homes e rd to = each_expr_is Quiet homes refl (each_joined is_quiet) (value_quiet homes) e rd to
 
-pub args_quiet : (homes : ℕ) (args : List PlainSp) (rd : ℕ) → Quiet (args_code homes args rd)
+pub args_quiet : (homes : Homes) (args : List PlainSp) (rd : ℕ) → Quiet (args_code homes args rd)
 args_quiet homes [] rd = refl
 args_quiet homes (e ∷ args) rd = each_joined is_quiet (expr_code homes e rd) (args_code homes args (rd + 1)) (expr_quiet homes e rd rd) (args_quiet homes args (rd + 1))

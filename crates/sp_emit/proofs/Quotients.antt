@@ -17,14 +17,14 @@ use Rattle.sp_shape.proofs.Whole.{once_whole, run_whole, run_append}
 use Rattle.sp_shape.specs.Run.{Run, Sources, once, run, IsWhole}
 use Rattle.sp_shape.specs.Trail.{Step, all_done, copies, parts_trail}
 use Rattle.sp_emit.specs.Division.{operands, without_signs, highest_bit, digit_tail, is_large, large_quotient, large_rest, quotient_to, rest_to, unsigned_quotient_to, unsigned_rest_to, signed_quotient_to, signed_rest_to, around, unsigned_division, signed_division}
-use Rattle.sp_emit.specs.Holding.{held}
+use Rattle.sp_emit.specs.Holding.{held, so}
 use Rattle.sp_emit.specs.Instructions.{always, where_so, set_short, copy, with_short, compute, compare, compare_short, combine}
-use Rattle.sp_emit.specs.declared.registers.TheConstants.{DIVIDEND, DIVISOR, REMAINDER, DIGITS, TEST, SECOND, REST_NEGATIVE, QUOTIENT_NEGATIVE}
+use Rattle.sp_emit.specs.declared.registers.TheConstants.{DIVIDEND, DIVISOR, REMAINDER, DIGITS, TEST, SECOND}
 use Rattle.sp_emit.proofs.Digits.{iterated, divides_words, divides_by_zero, quotient_word, rest_word}
 use Rattle.sp_emit.proofs.Calm.{calm_run}
-use Rattle.sp_emit.proofs.Dividing.{Signs, Divides, still_divides, written_where, run_before, digits_done}
+use Rattle.sp_emit.proofs.Dividing.{Divides, written_where, run_before, digits_done}
 use Rattle.sp_emit.proofs.Leaving.{did_compare, did_compare_short, did_combine, did_set_short}
-use Rattle.sp_emit.proofs.Once.{so, with_written, did_write, did_nothing, whole_written, held_written, so_written, got, kept, so_got, so_by_register}
+use Rattle.sp_emit.proofs.Once.{with_written, did_write, did_nothing, whole_written, held_written, so_written, got, kept, kept_by_pred, so_got, so_kept, so_by_register}
 use Rattle.sp_emit.proofs.Signs.{signed, size_of, differ, size_word, size_most, signed_quotient, signed_rest}
 use Rattle.sp_emit.proofs.Untouched.{register, predicate, left_once, left_run}
 
@@ -36,9 +36,9 @@ did_copy from rd ra m whole = did_write from always (AluImm imm.Add rd ra 0) m w
 pub word_copied : (a : ℕ) → a < 2 ^ 32 → (a + 0) % 2 ^ 32 ≡ a
 word_copied a word = omega (arith, word)
 
--- the operands stand in their registers, and nothing is left so far; the predicates of the signs are as they were
+-- the operands stand in their registers, and nothing is left so far; the predicate of a sign is as it was
 pub starts : (from : Sources) (ra rb a b : ℕ) (m : Run) → IsWhole m → rb < 27 → held ra m ≡ a → held rb m ≡ b → a < 2 ^ 32 → b < 2 ^ 32
-    → Divides (record { rest = so REST_NEGATIVE m; quotient = so QUOTIENT_NEGATIVE m }) a 0 b (run from (all_done (operands ra rb)) m)
+    → Divides (so SECOND m) a 0 b (run from (all_done (operands ra rb)) m)
 starts from ra rb a b m whole few is_a is_b word_a word_b =
     let v = (held ra m + 0) % 2 ^ 32 in
     let w1 = write.Register DIVIDEND v in
@@ -60,8 +60,7 @@ starts from ra rb a b m whole few is_a is_b word_a word_b =
     let d2 = held_written w2 DIVISOR m1 h1 (omega arith) ∙ ap (λ n. (n + 0) % 2 ^ 32) b1 ∙ word_copied b word_b in
     subst (Divides _ a 0 b) (sym steps) (record {
       whole = whole_written w4 m3 h3;
-      rest_negative = so_written w4 REST_NEGATIVE m3 h3 (omega arith) ∙ so_written w3 REST_NEGATIVE m2 h2 (omega arith) ∙ so_written w2 REST_NEGATIVE m1 h1 (omega arith) ∙ so_written w1 REST_NEGATIVE m whole (omega arith);
-      quotient_negative = so_written w4 QUOTIENT_NEGATIVE m3 h3 (omega arith) ∙ so_written w3 QUOTIENT_NEGATIVE m2 h2 (omega arith) ∙ so_written w2 QUOTIENT_NEGATIVE m1 h1 (omega arith) ∙ so_written w1 QUOTIENT_NEGATIVE m whole (omega arith);
+      sign = so_written w4 SECOND m3 h3 (omega arith) ∙ so_written w3 SECOND m2 h2 (omega arith) ∙ so_written w2 SECOND m1 h1 (omega arith) ∙ so_written w1 SECOND m whole (omega arith);
       dividend_is = held_written w4 DIVIDEND m3 h3 (omega arith) ∙ held_written w3 DIVIDEND m2 h2 (omega arith) ∙ held_written w2 DIVIDEND m1 h1 (omega arith) ∙ d1;
       rest_is = held_written w4 REMAINDER m3 h3 (omega arith) ∙ held_written w3 REMAINDER m2 h2 (omega arith);
       divisor_is = held_written w4 DIVISOR m3 h3 (omega arith) ∙ held_written w3 DIVISOR m2 h2 (omega arith) ∙ d2;
@@ -89,66 +88,75 @@ negates from p r false m whole some few off =
     subst (Negated r false m) (sym (did_nothing from (where_so p) (AluReg alu.Sub r 0 r) m whole off))
     (record { whole = whole; value = refl; others = λ x lt other. refl; preds = λ q lt. refl })
 
--- both operands lose their signs, of which two predicates tell which results are negative
-pub signs_go : (from : Sources) (signs : Signs) (a b : ℕ) (m : Run) → Divides signs a 0 b m
-    → Divides (record { rest = has_bit a 31; quotient = differ (has_bit a 31) (has_bit b 31) }) (size_of a) 0 (size_of b) (run from (all_done without_signs) m)
-signs_go from signs a b m d =
-    let w1 = write.Predicate REST_NEGATIVE (has_bit (held DIVIDEND m) 31) in
+-- both operands have lost their signs, and two predicates say which results are negative
+record Signless (p q a b : ℕ) (t : Run) : Type 0 where
+  divides : Divides (so SECOND t) (size_of a) 0 (size_of b) t
+  rest_negative : so p t ≡ has_bit a 31
+  quotient_negative : so q t ≡ differ (has_bit a 31) (has_bit b 31)
+
+signs_go : (from : Sources) (p q : ℕ) (negative : Bool) (a b : ℕ) (m : Run) → 1 ≤ p → p < 8 → 1 ≤ q → q < 8 → (q ≡ p → ⊥) → Divides negative a 0 b m → Signless p q a b (run from (all_done (without_signs p q)) m)
+signs_go from p q negative a b m some_p few_p some_q few_q other d =
+    let b1 = compare_short cmp.Btest p DIVIDEND 31 in
+    let b2 = compare_short cmp.Btest q DIVISOR 31 in
+    let b3 = compute (where_so p) alu.Sub DIVIDEND 0 DIVIDEND in
+    let b4 = compute (where_so q) alu.Sub DIVISOR 0 DIVISOR in
+    let b5 = combine comb.Pxor q p q in
+    let w1 = write.Predicate p (has_bit (held DIVIDEND m) 31) in
     let m1 = with_written w1 m in
     let h1 = whole_written w1 m d.whole in
-    let w2 = write.Predicate QUOTIENT_NEGATIVE (has_bit (held DIVISOR m1) 31) in
+    let w2 = write.Predicate q (has_bit (held DIVISOR m1) 31) in
     let m2 = with_written w2 m1 in
     let h2 = whole_written w2 m1 h1 in
-    let p2 : so REST_NEGATIVE m2 ≡ has_bit a 31 = so_written w2 REST_NEGATIVE m1 h1 (omega arith) ∙ so_written w1 REST_NEGATIVE m d.whole (omega arith) ∙ ap (λ n. has_bit n 31) d.dividend_is in
-    let q2 : so QUOTIENT_NEGATIVE m2 ≡ has_bit b 31 = so_written w2 QUOTIENT_NEGATIVE m1 h1 (omega arith) ∙ ap (λ n. has_bit n 31) (held_written w1 DIVISOR m d.whole (omega arith) ∙ d.divisor_is) in
-    let m3 = once from (compute (where_so REST_NEGATIVE) alu.Sub DIVIDEND 0 DIVIDEND) m2 in
-    let n3 = negates from REST_NEGATIVE DIVIDEND (has_bit a 31) m2 h2 (omega arith) (omega arith) p2 in
-    let m4 = once from (compute (where_so QUOTIENT_NEGATIVE) alu.Sub DIVISOR 0 DIVISOR) m3 in
-    let n4 = negates from QUOTIENT_NEGATIVE DIVISOR (has_bit b 31) m3 n3.whole (omega arith) (omega arith) (n3.preds QUOTIENT_NEGATIVE (omega arith) ∙ q2) in
-    let w5 = write.Predicate QUOTIENT_NEGATIVE (differ (so REST_NEGATIVE m4) (so QUOTIENT_NEGATIVE m4)) in
-    let steps : run from (all_done without_signs) m ≡ with_written w5 m4 =
-    ap (λ t. once from (combine comb.Pxor QUOTIENT_NEGATIVE REST_NEGATIVE QUOTIENT_NEGATIVE) (once from (compute (where_so QUOTIENT_NEGATIVE) alu.Sub DIVISOR 0 DIVISOR)
-    (once from (compute (where_so REST_NEGATIVE) alu.Sub DIVIDEND 0 DIVIDEND) (once from (compare_short cmp.Btest QUOTIENT_NEGATIVE DIVISOR 31) t)))) (did_compare_short from cmp.Btest REST_NEGATIVE DIVIDEND 31 m d.whole)
-    ∙ ap (λ t. once from (combine comb.Pxor QUOTIENT_NEGATIVE REST_NEGATIVE QUOTIENT_NEGATIVE) (once from (compute (where_so QUOTIENT_NEGATIVE) alu.Sub DIVISOR 0 DIVISOR)
-    (once from (compute (where_so REST_NEGATIVE) alu.Sub DIVIDEND 0 DIVIDEND) t))) (did_compare_short from cmp.Btest QUOTIENT_NEGATIVE DIVISOR 31 m1 h1)
-    ∙ did_combine from comb.Pxor QUOTIENT_NEGATIVE REST_NEGATIVE QUOTIENT_NEGATIVE m4 n4.whole in
-    let p4 = n4.preds REST_NEGATIVE (omega arith) ∙ n3.preds REST_NEGATIVE (omega arith) ∙ p2 in
-    let q4 = n4.preds QUOTIENT_NEGATIVE (omega arith) ∙ n3.preds QUOTIENT_NEGATIVE (omega arith) ∙ q2 in
-    let a2 = held_written w2 DIVIDEND m1 h1 (omega arith) ∙ held_written w1 DIVIDEND m d.whole (omega arith) ∙ d.dividend_is in
-    let b2 = held_written w2 DIVISOR m1 h1 (omega arith) ∙ held_written w1 DIVISOR m d.whole (omega arith) ∙ d.divisor_is in
-    let r2 = held_written w2 REMAINDER m1 h1 (omega arith) ∙ held_written w1 REMAINDER m d.whole (omega arith) ∙ d.rest_is in
-    subst (Divides _ (size_of a) 0 (size_of b)) (sym steps) (record {
-      whole = whole_written w5 m4 n4.whole;
-      rest_negative = so_written w5 REST_NEGATIVE m4 n4.whole (omega arith) ∙ p4;
-      quotient_negative = so_written w5 QUOTIENT_NEGATIVE m4 n4.whole (omega arith) ∙ ap (λ x. differ x (so QUOTIENT_NEGATIVE m4)) p4 ∙ ap (differ (has_bit a 31)) q4;
-      dividend_is = held_written w5 DIVIDEND m4 n4.whole (omega arith) ∙ n4.others DIVIDEND (omega arith) (λ same. absurd (omega (arith, same))) ∙ n3.value ∙ ap (signed (has_bit a 31)) a2;
-      rest_is = held_written w5 REMAINDER m4 n4.whole (omega arith) ∙ n4.others REMAINDER (omega arith) (λ same. absurd (omega (arith, same)))
-          ∙ n3.others REMAINDER (omega arith) (λ same. absurd (omega (arith, same))) ∙ r2;
-      divisor_is = held_written w5 DIVISOR m4 n4.whole (omega arith) ∙ n4.value ∙ ap (signed (has_bit b 31)) (n3.others DIVISOR (omega arith) (λ same. absurd (omega (arith, same))) ∙ b2);
+    let still_2 : (r : ℕ) → r < 32 → held r m2 ≡ held r m = λ r few. kept_by_pred q (has_bit (held DIVISOR m1) 31) r m1 h1 few ∙ kept_by_pred p (has_bit (held DIVIDEND m) 31) r m d.whole few in
+    let p2 : so p m2 ≡ has_bit a 31 = so_kept q (has_bit (held DIVISOR m1) 31) p m1 h1 few_p other ∙ so_got p (has_bit (held DIVIDEND m) 31) m d.whole some_p few_p ∙ ap (λ n. has_bit n 31) d.dividend_is in
+    let q2 : so q m2 ≡ has_bit b 31 = so_got q (has_bit (held DIVISOR m1) 31) m1 h1 some_q few_q ∙ ap (λ n. has_bit n 31) (kept_by_pred p (has_bit (held DIVIDEND m) 31) DIVISOR m d.whole (omega arith) ∙ d.divisor_is) in
+    let m3 = once from b3 m2 in
+    let n3 = negates from p DIVIDEND (has_bit a 31) m2 h2 (omega arith) (omega arith) p2 in
+    let m4 = once from b4 m3 in
+    let n4 = negates from q DIVISOR (has_bit b 31) m3 n3.whole (omega arith) (omega arith) (n3.preds q few_q ∙ q2) in
+    let p4 = n4.preds p few_p ∙ n3.preds p few_p ∙ p2 in
+    let q4 = n4.preds q few_q ∙ n3.preds q few_q ∙ q2 in
+    let v = differ (so p m4) (so q m4) in
+    let w5 = write.Predicate q v in
+    let steps : run from (all_done (without_signs p q)) m ≡ with_written w5 m4 =
+    ap (λ t. once from b5 (once from b4 (once from b3 (once from b2 t)))) (did_compare_short from cmp.Btest p DIVIDEND 31 m d.whole)
+    ∙ ap (λ t. once from b5 (once from b4 (once from b3 t))) (did_compare_short from cmp.Btest q DIVISOR 31 m1 h1)
+    ∙ did_combine from comb.Pxor q p q m4 n4.whole in
+    subst (Signless p q a b) (sym steps) (record {
+      divides = record {
+        whole = whole_written w5 m4 n4.whole;
+        sign = refl;
+        dividend_is = kept_by_pred q v DIVIDEND m4 n4.whole (omega arith) ∙ n4.others DIVIDEND (omega arith) (λ same. absurd (omega (arith, same))) ∙ n3.value
+            ∙ ap (signed (has_bit a 31)) (still_2 DIVIDEND (omega arith) ∙ d.dividend_is);
+        rest_is = kept_by_pred q v REMAINDER m4 n4.whole (omega arith) ∙ n4.others REMAINDER (omega arith) (λ same. absurd (omega (arith, same)))
+            ∙ n3.others REMAINDER (omega arith) (λ same. absurd (omega (arith, same))) ∙ still_2 REMAINDER (omega arith) ∙ d.rest_is;
+        divisor_is = kept_by_pred q v DIVISOR m4 n4.whole (omega arith) ∙ n4.value
+            ∙ ap (signed (has_bit b 31)) (n3.others DIVISOR (omega arith) (λ same. absurd (omega (arith, same))) ∙ still_2 DIVISOR (omega arith) ∙ d.divisor_is);
+      };
+      rest_negative = so_kept q v p m4 n4.whole few_p other ∙ p4;
+      quotient_negative = so_got q v m4 n4.whole some_q few_q ∙ ap (λ x. differ x (so q m4)) p4 ∙ ap (differ (has_bit a 31)) q4;
     })
 
 -- ---- after the digits
 
--- a result stands in its register, and the predicates of the signs are as they were
-record Given (signs : Signs) (rd v : ℕ) (t : Run) : Type 0 where
+-- a result stands in its register, and the predicate of its sign is as it was
+record Given (negative : Bool) (rd v : ℕ) (t : Run) : Type 0 where
   whole : IsWhole t
   value : held rd t ≡ v
-  rest_negative : so REST_NEGATIVE t ≡ signs.rest
-  quotient_negative : so QUOTIENT_NEGATIVE t ≡ signs.quotient
+  sign : so SECOND t ≡ negative
 
-rest_given : (from : Sources) (signs : Signs) (q r b rd : ℕ) (m : Run) → Divides signs q r b m → 1 ≤ rd → rd < 32 → r < 2 ^ 32 → Given signs rd r (run from (all_done (rest_to rd)) m)
-rest_given from signs q r b rd m d some few word =
+rest_given : (from : Sources) (negative : Bool) (q r b rd : ℕ) (m : Run) → Divides negative q r b m → 1 ≤ rd → rd < 32 → r < 2 ^ 32 → Given negative rd r (run from (all_done (rest_to rd)) m)
+rest_given from negative q r b rd m d some few word =
     let v = (held REMAINDER m + 0) % 2 ^ 32 in
-    subst (Given signs rd r) (sym (did_copy from rd REMAINDER m d.whole)) (record {
+    subst (Given negative rd r) (sym (did_copy from rd REMAINDER m d.whole)) (record {
       whole = whole_written (write.Register rd v) m d.whole;
       value = got rd v m d.whole some few ∙ ap (λ n. (n + 0) % 2 ^ 32) d.rest_is ∙ word_copied r word;
-      rest_negative = so_by_register rd v REST_NEGATIVE m d.whole (omega arith) ∙ d.rest_negative;
-      quotient_negative = so_by_register rd v QUOTIENT_NEGATIVE m d.whole (omega arith) ∙ d.quotient_negative;
+      sign = so_by_register rd v SECOND m d.whole (omega arith) ∙ d.sign;
     })
 
-quotient_given : (from : Sources) (signs : Signs) (q r b rd : ℕ) (m : Run) → Divides signs q r b m → 1 ≤ rd → rd < 32 → q < 2 ^ 32
-    → Given signs rd (if b == 0 then 0 else q) (run from (all_done (quotient_to rd)) m)
-quotient_given from signs q r b rd m d some few word =
+quotient_given : (from : Sources) (negative : Bool) (q r b rd : ℕ) (m : Run) → Divides negative q r b m → 1 ≤ rd → rd < 32 → q < 2 ^ 32
+    → Given negative rd (if b == 0 then 0 else q) (run from (all_done (quotient_to rd)) m)
+quotient_given from negative q r b rd m d some few word =
     let w1 = write.Predicate TEST (held DIVISOR m == 0) in
     let m1 = with_written w1 m in
     let h1 = whole_written w1 m d.whole in
@@ -159,21 +167,19 @@ quotient_given from signs q r b rd m d some few word =
     ap (λ t. once from (set_short (where_so TEST) rd 0) (once from (copy rd DIVIDEND) t)) (did_compare_short from cmp.Eq TEST DIVISOR 0 m d.whole)
     ∙ ap (once from (set_short (where_so TEST) rd 0)) (did_copy from rd DIVIDEND m1 h1) in
     let test : so TEST m2 ≡ (b == 0) = so_by_register rd v TEST m1 h1 (omega arith) ∙ so_written w1 TEST m d.whole (omega arith) ∙ ap (λ n. n == 0) d.divisor_is in
-    subst (Given signs rd (if b == 0 then 0 else q)) (sym steps) (by m2 (b == 0) test (record {
+    subst (Given negative rd (if b == 0 then 0 else q)) (sym steps) (by m2 (b == 0) test (record {
       whole = h2;
       value = got rd v m1 h1 some few ∙ ap (λ n. (n + 0) % 2 ^ 32) (held_written w1 DIVIDEND m d.whole (omega arith) ∙ d.dividend_is) ∙ word_copied q word;
-      rest_negative = so_by_register rd v REST_NEGATIVE m1 h1 (omega arith) ∙ so_written w1 REST_NEGATIVE m d.whole (omega arith) ∙ d.rest_negative;
-      quotient_negative = so_by_register rd v QUOTIENT_NEGATIVE m1 h1 (omega arith) ∙ so_written w1 QUOTIENT_NEGATIVE m d.whole (omega arith) ∙ d.quotient_negative;
+      sign = so_by_register rd v SECOND m1 h1 (omega arith) ∙ so_written w1 SECOND m d.whole (omega arith) ∙ d.sign;
     }))
   where
-    by : (t : Run) → (on : Bool) → so TEST t ≡ on → Given signs rd q t → Given signs rd (if on then 0 else q) (once from (set_short (where_so TEST) rd 0) t)
-    by t true on g = subst (Given signs rd 0) (sym (did_set_short from (where_so TEST) rd 0 t g.whole on)) (record {
+    by : (t : Run) → (on : Bool) → so TEST t ≡ on → Given negative rd q t → Given negative rd (if on then 0 else q) (once from (set_short (where_so TEST) rd 0) t)
+    by t true on g = subst (Given negative rd 0) (sym (did_set_short from (where_so TEST) rd 0 t g.whole on)) (record {
       whole = whole_written (write.Register rd 0) t g.whole;
       value = got rd 0 t g.whole some few;
-      rest_negative = so_by_register rd 0 REST_NEGATIVE t g.whole (omega arith) ∙ g.rest_negative;
-      quotient_negative = so_by_register rd 0 QUOTIENT_NEGATIVE t g.whole (omega arith) ∙ g.quotient_negative;
+      sign = so_by_register rd 0 SECOND t g.whole (omega arith) ∙ g.sign;
     })
-    by t false off g = subst (Given signs rd q) (sym (did_nothing from (where_so TEST) (AluImm imm.Add rd 0 0) t g.whole off)) g
+    by t false off g = subst (Given negative rd q) (sym (did_nothing from (where_so TEST) (AluImm imm.Add rd 0 0) t g.whole off)) g
 
 -- ---- large divisors
 
@@ -181,14 +187,14 @@ quotient_given from signs q r b rd m d some few word =
 abbrev large_goes : ℕ → ℕ → Bool
 large_goes a b = nat_le b a && has_bit b 31
 
-record Large (signs : Signs) (q r a b ra : ℕ) (m : Run) : Type 0 where
-  divides : Divides signs q r b m
+-- the predicate of a sign says then that a divisor is large
+record Large (q r a b ra : ℕ) (m : Run) : Type 0 where
+  divides : Divides (has_bit b 31) q r b m
   dividend : held ra m ≡ a
-  large : so SECOND m ≡ has_bit b 31
   goes : so TEST m ≡ large_goes a b
 
-tests_large : (from : Sources) (signs : Signs) (q r a b ra : ℕ) (m : Run) → Divides signs q r b m → ra < 32 → held ra m ≡ a → Large signs q r a b ra (run from (all_done (is_large ra)) m)
-tests_large from signs q r a b ra m d few is_a =
+tests_large : (from : Sources) (negative : Bool) (q r a b ra : ℕ) (m : Run) → Divides negative q r b m → ra < 32 → held ra m ≡ a → Large q r a b ra (run from (all_done (is_large ra)) m)
+tests_large from negative q r a b ra m d few is_a =
     let b1 = compare_short cmp.Btest SECOND DIVISOR 31 in
     let b2 = compare cmp.Ule TEST DIVISOR ra in
     let b3 = combine comb.Pand TEST TEST SECOND in
@@ -204,9 +210,14 @@ tests_large from signs q r a b ra m d few is_a =
     ∙ ap (nat_le b) (left_once from (register ra) b1 m few d.whole refl ∙ is_a) in
     let large_2 = left_once from (predicate SECOND) b2 m1 (omega arith) h1 refl ∙ large_1 in
     record {
-      divides = still_divides from signs q r b (is_large ra) m refl d;
+      divides = record {
+        whole = run_whole from (all_done (is_large ra)) m d.whole;
+        sign = left_once from (predicate SECOND) b3 m2 (omega arith) h2 refl ∙ large_2;
+        dividend_is = left_run from (register DIVIDEND) (is_large ra) m (omega arith) d.whole refl ∙ d.dividend_is;
+        rest_is = left_run from (register REMAINDER) (is_large ra) m (omega arith) d.whole refl ∙ d.rest_is;
+        divisor_is = left_run from (register DIVISOR) (is_large ra) m (omega arith) d.whole refl ∙ d.divisor_is;
+      };
       dividend = left_run from (register ra) (is_large ra) m few d.whole refl ∙ is_a;
-      large = left_once from (predicate SECOND) b3 m2 (omega arith) h2 refl ∙ large_2;
       goes = ap (so TEST) (did_combine from comb.Pand TEST TEST SECOND m2 h2) ∙ so_got TEST _ m2 h2 (omega arith) (omega arith)
           ∙ ap (λ x. x && so SECOND m2) goes_2 ∙ ap (λ x. nat_le b a && x) large_2;
     }
@@ -215,10 +226,10 @@ tests_large from signs q r a b ra m d few is_a =
 abbrev with_large : ℕ → ℕ → ℕ → ℕ
 with_large a b q = if large_goes a b then 1 else (if has_bit b 31 then 0 else q)
 
-sets_quotient : (from : Sources) (signs : Signs) (q r a b ra : ℕ) (m : Run) → Divides signs q r b m → ra < 32 → held ra m ≡ a → Divides signs (with_large a b q) r b (run from (all_done (large_quotient ra)) m)
-sets_quotient from signs q r a b ra m d few is_a =
+sets_quotient : (from : Sources) (negative : Bool) (q r a b ra : ℕ) (m : Run) → Divides negative q r b m → ra < 32 → held ra m ≡ a → Divides (has_bit b 31) (with_large a b q) r b (run from (all_done (large_quotient ra)) m)
+sets_quotient from negative q r a b ra m d few is_a =
     let t = run from (all_done (is_large ra)) m in
-    let x = tests_large from signs q r a b ra m d few is_a in
+    let x = tests_large from negative q r a b ra m d few is_a in
     let e = x.divides in
     let zero = set_short (where_so SECOND) DIVIDEND 0 in
     let one = set_short (where_so TEST) DIVIDEND 1 in
@@ -226,15 +237,14 @@ sets_quotient from signs q r a b ra m d few is_a =
     let h1 = once_whole from zero t e.whole in
     let zeroed : held DIVIDEND t1 ≡ (if has_bit b 31 then 0 else q) =
     written_where from SECOND DIVIDEND _ (AluImm imm.Add DIVIDEND 0 0) t e.whole (omega arith) (omega arith) refl refl refl
-    ∙ ap (λ on. if on then (held 0 t + 0) % 2 ^ 32 else held DIVIDEND t) x.large
+    ∙ ap (λ on. if on then (held 0 t + 0) % 2 ^ 32 else held DIVIDEND t) e.sign
     ∙ ap (λ z. if has_bit b 31 then (z + 0) % 2 ^ 32 else held DIVIDEND t) e.whole.fits.zero
     ∙ ap (λ n. if has_bit b 31 then 0 else n) e.dividend_is in
     let goes_1 = left_once from (predicate TEST) zero t (omega arith) e.whole refl ∙ x.goes in
     let both = zero ∷ one ∷ [] in
     record {
       whole = run_whole from (all_done both) t e.whole;
-      rest_negative = left_run from (predicate REST_NEGATIVE) both t (omega arith) e.whole refl ∙ e.rest_negative;
-      quotient_negative = left_run from (predicate QUOTIENT_NEGATIVE) both t (omega arith) e.whole refl ∙ e.quotient_negative;
+      sign = left_run from (predicate SECOND) both t (omega arith) e.whole refl ∙ e.sign;
       dividend_is = written_where from TEST DIVIDEND _ (AluImm imm.Add DIVIDEND 0 1) t1 h1 (omega arith) (omega arith) refl refl refl
           ∙ ap (λ on. if on then (held 0 t1 + 1) % 2 ^ 32 else held DIVIDEND t1) goes_1
           ∙ ap (λ z. if large_goes a b then (z + 1) % 2 ^ 32 else held DIVIDEND t1) h1.fits.zero
@@ -246,10 +256,10 @@ sets_quotient from signs q r a b ra m d few is_a =
 abbrev left_by_large : ℕ → ℕ → ℕ → ℕ
 left_by_large a b r = if large_goes a b then ((if has_bit b 31 then a else r) + (2 ^ 32 - b)) % 2 ^ 32 else (if has_bit b 31 then a else r)
 
-sets_rest : (from : Sources) (signs : Signs) (q r a b ra : ℕ) (m : Run) → Divides signs q r b m → ra < 32 → held ra m ≡ a → a < 2 ^ 32 → Divides signs q (left_by_large a b r) b (run from (all_done (large_rest ra)) m)
-sets_rest from signs q r a b ra m d few is_a word =
+sets_rest : (from : Sources) (negative : Bool) (q r a b ra : ℕ) (m : Run) → Divides negative q r b m → ra < 32 → held ra m ≡ a → a < 2 ^ 32 → Divides (has_bit b 31) q (left_by_large a b r) b (run from (all_done (large_rest ra)) m)
+sets_rest from negative q r a b ra m d few is_a word =
     let t = run from (all_done (is_large ra)) m in
-    let x = tests_large from signs q r a b ra m d few is_a in
+    let x = tests_large from negative q r a b ra m d few is_a in
     let e = x.divides in
     let all = with_short (where_so SECOND) imm.Add REMAINDER ra 0 in
     let off = compute (where_so TEST) alu.Sub REMAINDER REMAINDER DIVISOR in
@@ -258,7 +268,7 @@ sets_rest from signs q r a b ra m d few is_a word =
     let big = has_bit b 31 in
     let taken : held REMAINDER t1 ≡ (if big then a else r) =
     written_where from SECOND REMAINDER _ (AluImm imm.Add REMAINDER ra 0) t e.whole (omega arith) (omega arith) refl refl refl
-    ∙ ap (λ on. if on then (held ra t + 0) % 2 ^ 32 else held REMAINDER t) x.large
+    ∙ ap (λ on. if on then (held ra t + 0) % 2 ^ 32 else held REMAINDER t) e.sign
     ∙ ap (λ n. if big then n else held REMAINDER t) (ap (λ n. (n + 0) % 2 ^ 32) x.dividend ∙ word_copied a word)
     ∙ ap (λ n. if big then a else n) e.rest_is in
     let goes_1 = left_once from (predicate TEST) all t (omega arith) e.whole refl ∙ x.goes in
@@ -266,8 +276,7 @@ sets_rest from signs q r a b ra m d few is_a word =
     let both = all ∷ off ∷ [] in
     record {
       whole = run_whole from (all_done both) t e.whole;
-      rest_negative = left_run from (predicate REST_NEGATIVE) both t (omega arith) e.whole refl ∙ e.rest_negative;
-      quotient_negative = left_run from (predicate QUOTIENT_NEGATIVE) both t (omega arith) e.whole refl ∙ e.quotient_negative;
+      sign = left_run from (predicate SECOND) both t (omega arith) e.whole refl ∙ e.sign;
       dividend_is = left_run from (register DIVIDEND) both t (omega arith) e.whole refl ∙ e.dividend_is;
       rest_is = written_where from TEST REMAINDER _ (AluReg alu.Sub REMAINDER REMAINDER DIVISOR) t1 h1 (omega arith) (omega arith) refl refl refl
           ∙ ap (λ on. if on then (held REMAINDER t1 + (2 ^ 32 - held DIVISOR t1)) % 2 ^ 32 else held REMAINDER t1) goes_1
@@ -340,7 +349,7 @@ run_around from f before behind m =
 
 -- after the digits of unsigned words: the dividend still stands in its register
 record UnsignedDivided (a b ra : ℕ) (m t : Run) : Type 0 where
-  divides : Divides (record { rest = so REST_NEGATIVE m; quotient = so QUOTIENT_NEGATIVE m }) (iterated 32 b (a, 0)).0 (iterated 32 b (a, 0)).1 b t
+  divides : Divides (so SECOND m) (iterated 32 b (a, 0)).0 (iterated 32 b (a, 0)).1 b t
   dividend : held ra t ≡ a
 
 unsigned_divided : (from : Sources) (ra rb a b : ℕ) (m : Run) → IsWhole m → ra < 27 → rb < 27 → held ra m ≡ a → held rb m ≡ b → a < 2 ^ 32 → b < 2 ^ 32
@@ -398,29 +407,35 @@ rest_is : (a b : ℕ) → a < 2 ^ 32 → b ≤ 2 ^ 31 → (iterated 32 b (a, 0))
 rest_is a zero word_a low_b = divides_by_zero a word_a
 rest_is a (suc b) word_a low_b = (divides_words a (suc b) word_a low_b (omega arith)).1 ∙ ap (λ on. if on then a else a % suc b) (sym (ne_eqb (suc b) 0 (omega arith)))
 
-signed_divided : (from : Sources) (ra rb a b : ℕ) (m : Run) → IsWhole m → rb < 27 → held ra m ≡ a → held rb m ≡ b → a < 2 ^ 32 → b < 2 ^ 32
-    → Divides (record { rest = has_bit a 31; quotient = differ (has_bit a 31) (has_bit b 31) }) (iterated 32 (size_of b) (size_of a, 0)).0 (iterated 32 (size_of b) (size_of a, 0)).1 (size_of b)
-    (run from (copies 16 (all_done digit_tail)) (once from highest_bit (run from (all_done (operands ra rb ++ without_signs)) m)))
-signed_divided from ra rb a b m whole few is_a is_b word_a word_b =
-    digits_done from _ (size_of a) (size_of b) (run from (all_done (operands ra rb ++ without_signs)) m)
-    (signs_go from _ a b (run from (all_done (operands ra rb)) m) (starts from ra rb a b m whole few is_a is_b word_a word_b))
+-- both operands lose their signs
+signless : (from : Sources) (p q ra rb a b : ℕ) (m : Run) → 1 ≤ p → p < 8 → 1 ≤ q → q < 8 → (q ≡ p → ⊥) → IsWhole m → rb < 27 → held ra m ≡ a → held rb m ≡ b → a < 2 ^ 32 → b < 2 ^ 32
+    → Signless p q a b (run from (all_done (operands ra rb ++ without_signs p q)) m)
+signless from p q ra rb a b m some_p few_p some_q few_q other whole few is_a is_b word_a word_b =
+    signs_go from p q _ a b (run from (all_done (operands ra rb)) m) some_p few_p some_q few_q other (starts from ra rb a b m whole few is_a is_b word_a word_b)
+
+-- the sign that is asked for stays through the digits
+signed_divided : (from : Sources) (p q a b : ℕ) (on : Bool) (t : Run) → Signless p q a b t → so SECOND t ≡ on
+    → Divides on (iterated 32 (size_of b) (size_of a, 0)).0 (iterated 32 (size_of b) (size_of a, 0)).1 (size_of b) (run from (copies 16 (all_done digit_tail)) (once from highest_bit t))
+signed_divided from p q a b on t x is = digits_done from on (size_of a) (size_of b) t (subst (λ s. Divides s (size_of a) 0 (size_of b) t) is x.divides)
 
 pub signed_quotient_left : (from : Sources) (f : ℕ → List Step) (rd ra rb a b : ℕ) (m : Run) → IsWhole m → 1 ≤ rd → rd < 32 → rb < 27 → held ra m ≡ a → held rb m ≡ b → a < 2 ^ 32 → b < 2 ^ 32
-    → held rd (run from (parts_trail f (signed_division (signed_quotient_to rd) ra rb)) m) ≡ quotient a b
+    → held rd (run from (parts_trail f (signed_division TEST SECOND (signed_quotient_to rd) ra rb)) m) ≡ quotient a b
 signed_quotient_left from f rd ra rb a b m whole some few low is_a is_b word_a word_b =
     let on = differ (has_bit a 31) (has_bit b 31) in
-    let g = quotient_given from _ _ _ (size_of b) rd _ (signed_divided from ra rb a b m whole low is_a is_b word_a word_b) some few
+    let x = signless from TEST SECOND ra rb a b m (omega arith) (omega arith) (omega arith) (omega arith) (λ same. absurd (omega (arith, same))) whole low is_a is_b word_a word_b in
+    let g = quotient_given from _ _ _ (size_of b) rd _ (signed_divided from TEST SECOND a b on _ x x.quotient_negative) some few
     (quotient_word (size_of a) (size_of b) (size_word a word_a) (size_most b word_b)) in
-    ap (held rd) (run_around from f (operands ra rb ++ without_signs) (signed_quotient_to rd) m)
-    ∙ (negates from QUOTIENT_NEGATIVE rd on _ g.whole some few g.quotient_negative).value ∙ ap (signed on) g.value
+    ap (held rd) (run_around from f (operands ra rb ++ without_signs TEST SECOND) (signed_quotient_to rd) m)
+    ∙ (negates from SECOND rd on _ g.whole some few g.sign).value ∙ ap (signed on) g.value
     ∙ ap (signed on) (quotient_is (size_of a) (size_of b) (size_word a word_a) (size_most b word_b)) ∙ sym (signed_quotient a b word_a word_b)
 
 pub signed_rest_left : (from : Sources) (f : ℕ → List Step) (rd ra rb a b : ℕ) (m : Run) → IsWhole m → 1 ≤ rd → rd < 32 → rb < 27 → held ra m ≡ a → held rb m ≡ b → a < 2 ^ 32 → b < 2 ^ 32
-    → held rd (run from (parts_trail f (signed_division (signed_rest_to rd) ra rb)) m) ≡ rest a b
+    → held rd (run from (parts_trail f (signed_division SECOND TEST (signed_rest_to rd) ra rb)) m) ≡ rest a b
 signed_rest_left from f rd ra rb a b m whole some few low is_a is_b word_a word_b =
     let on = has_bit a 31 in
-    let g = rest_given from _ _ _ (size_of b) rd _ (signed_divided from ra rb a b m whole low is_a is_b word_a word_b) some few
+    let x = signless from SECOND TEST ra rb a b m (omega arith) (omega arith) (omega arith) (omega arith) (λ same. absurd (omega (arith, same))) whole low is_a is_b word_a word_b in
+    let g = rest_given from _ _ _ (size_of b) rd _ (signed_divided from SECOND TEST a b on _ x x.rest_negative) some few
     (rest_word (size_of a) (size_of b) (size_word a word_a) (size_most b word_b)) in
-    ap (held rd) (run_around from f (operands ra rb ++ without_signs) (signed_rest_to rd) m)
-    ∙ (negates from REST_NEGATIVE rd on _ g.whole some few g.rest_negative).value ∙ ap (signed on) g.value
+    ap (held rd) (run_around from f (operands ra rb ++ without_signs SECOND TEST) (signed_rest_to rd) m)
+    ∙ (negates from SECOND rd on _ g.whole some few g.sign).value ∙ ap (signed on) g.value
     ∙ ap (signed on) (rest_is (size_of a) (size_of b) (size_word a word_a) (size_most b word_b)) ∙ sym (signed_rest a b word_a word_b)

@@ -1,11 +1,13 @@
 -- The code of a function takes at most as many words as its trees cost.
-use Rattle.std.proofs.Common.{◌≡◌, ℕ, zero, suc, ◌+◌, ◌-◌, ◌≤◌, Bool, true, false, List, [], ◌∷◌, refl, sym, ap, subst, arith, if◌then◌else◌, Option, None, Some, ◌++◌}
-use Rattle.std.specs.Prelude.{nat_lt, nat_le}
+use Rattle.std.proofs.Common.{◌≡◌, ℕ, zero, suc, ◌+◌, ◌-◌, ◌≤◌, Bool, true, false, List, [], ◌∷◌, length, refl, sym, ap, subst, arith, if◌then◌else◌, Option, None, Some, ◌++◌, min}
+use Rattle.std.specs.Prelude.{nat_lt, nat_le, is_some}
 use Rattle.std.proofs.lemmas.Bool.{and_parts, leb-true, ltb-true}
 use Rattle.std.proofs.lemmas.Bool.Decides.{nat_tests}
 use Rattle.c_world.specs.declared.region.Region.{Region}
 use Rattle.patmos_instr.specs.declared.functions.AluFunc.TheVariants as alu
+use Rattle.patmos_instr.specs.declared.functions.CmpFunc.{CmpFunc}
 use Rattle.patmos_instr.specs.declared.functions.ImmFunc.TheVariants as imm
+use Rattle.patmos_instr.specs.declared.functions.PredFunc.TheVariants as comb
 use Rattle.patmos_instr.specs.declared.instructions.Op.TheVariants.{AluImm, AluLong}
 use Rattle.sp_tree.specs.Cost.{constant_cost, unary_cost, binary_cost, held_below, is_held, expr_cost, args_cost, target_cost, stmt_cost, stmts_cost, cost}
 use Rattle.sp_tree.specs.Formed as tree
@@ -17,24 +19,32 @@ use Rattle.sp_tree.specs.declared.operators.SpUnary.{SpUnary}
 use Rattle.sp_shape.specs.Words.{bundles_room, parts_room, bundle_room}
 use Rattle.sp_shape.specs.Parts.{straight, PlainParts, no_part, part, one, joined}
 use Rattle.sp_shape.proofs.Lists.{room_append}
-use Rattle.sp_emit.proofs.Operands.{operand_is, mask_is}
+use Rattle.sp_emit.proofs.Operands.{word_code_is, operand_is, mask_is}
 use Rattle.sp_emit.proofs.Held.{held_is}
 use Rattle.sp_emit.specs.Division.{unsigned_quotient_to}
 use Rattle.sp_emit.specs.Divisors.{factor_rest_to}
-use Rattle.sp_emit.specs.Expressions.{unary_code, binary_code, held_code, number_of, value_code, operands_code, expr_to, expr_code, operand_code, value_at, is_immediate, address_of}
+use Rattle.sp_emit.specs.Expressions.{unary_code, binary_code, held_code, number_of, value_code, operands_code, expr_to, expr_code, operand_code, value_at, is_immediate, address_of, spare_op, length_op, below_op, has_offset, base_op, scaled_op}
 use Rattle.sp_emit.proofs.Codes.{kept_is, brought_is, taken_is, freed_is}
-use Rattle.sp_emit.specs.Functions.{argument_kept, first_counter, arguments_kept, mask_kept, state_kept, frame_taken, result_given, function_rest, function_code}
+use Rattle.sp_emit.specs.Functions.{argument_kept, first_counter, arguments_kept, mask_in, mask_kept, place_kept, state_kept, frame_taken, result_given, function_rest, body_code, function_code}
 use Rattle.std.specs.Prelude.{◌-◌}
 use Rattle.patmos_instr.specs.declared.guards.Guard.{Guard}
 use Rattle.patmos_instr.specs.declared.instructions.Op.{Op}
 use Rattle.c_world.specs.declared.region.Region.TheVariants as region
-use Rattle.sp_emit.specs.Instructions.{always, where_so, under, set_short, set_number, number_op}
-use Rattle.sp_emit.specs.Places.{in_register, read_word, set_word, word_cleared, words_cleared, fetch_word, keep_word}
-use Rattle.sp_emit.specs.declared.registers.TheConstants.{RESULT, MASK, FIRST, OVERRUN, TEST, SPARE}
+use Rattle.sp_emit.specs.Instructions.{always, where_so, under, set_short, set_number, number_op, combine}
+use Rattle.sp_emit.specs.Places.{flag_of, in_register, read_word, set_word, cleared_in, word_cleared, words_cleared, fetch_word, keep_word, fetched_at, seek_word, match_word, mask_test, told_at}
+use Rattle.sp_emit.specs.declared.registers.TheConstants.{RESULT, MASK, FIRST, OVERRUN, TEST, SECOND, SPARE}
 use Rattle.sp_emit.proofs.WordPlaces.{read_is, set_op_is, fetch_is, keep_is}
-use Rattle.sp_emit.specs.Statements.{mask_test, cell_write, element_write, target_write, guarded_code, args_code, call_code, send_code, overrun_code, slot_set, stmt_code, stmts_code}
+use Rattle.sp_emit.specs.Statements.{cell_write, element_write, target_write, guarded_code, args_code, call_code, send_code, overrun_code, slot_set, stmt_code, stmts_code}
+use Rattle.sp_emit.specs.Flags.{begun_body}
+use Rattle.sp_emit.specs.Truths.{cmp_of, by_two, by_number, test_of, tested_code, flag_at, joins, unless_stands, join, truth_code, before_flag, flag_set, flag_by, flag_code}
+use Rattle.sp_emit.proofs.BegunBody.{begun_costs}
+use Rattle.sp_emit.proofs.FlagWords.{stands_in, seek_is, match_is}
 use Rattle.sp_emit.proofs.Lasts.{Gives, write_is}
 use Rattle.sp_emit.proofs.Numbers.{number_op_is}
+use Rattle.sp_emit.proofs.Offsets.{spare_op_is, below_op_is, scaled_op_is}
+use Rattle.sp_tree.specs.declared.expressions.SpArray.{SpArray}
+use Rattle.sp_emit.specs.declared.stands.Homes.{Homes}
+use Rattle.sp_emit.specs.declared.stands.Flags.{Flags}
 
 room_both : (a b : PlainParts) → parts_room (joined a b) ≡ parts_room a + parts_room b
 room_both no_part b = omega arith
@@ -62,6 +72,12 @@ keep_words homes slot = keep_is (λ b. bundle_room b ≤ 1) homes slot (omega ar
 fetch_words : (homes slot : ℕ) → bundle_room (fetch_word homes slot) ≤ 2
 fetch_words homes slot = fetch_is (λ b. bundle_room b ≤ 2) homes slot (omega arith) (omega arith)
 
+seek_words : (homes : Homes) (mask : ℕ) → bundle_room (seek_word homes mask) ≤ 2
+seek_words homes mask = seek_is (λ b. bundle_room b ≤ 2) homes mask (omega arith) (fetch_words homes.first mask)
+
+match_words : (homes : Homes) (mask : ℕ) → bundle_room (match_word homes mask) ≤ 1
+match_words homes mask = match_is (λ b. bundle_room b ≤ 1) homes mask (omega arith) (omega arith)
+
 -- a constant takes its second word only where it has to
 number_room : (rd n : ℕ) → bundle_room (set_number rd n) ≤ constant_cost n
 unfolding number_op
@@ -74,8 +90,39 @@ number_room rd n = by (nat_lt n 4096)
 number_words : (rd n : ℕ) → bundle_room (set_number rd n) ≤ 2
 number_words rd n = number_op_is (λ op. bundle_room (under always op) ≤ 2) rd n (omega arith) (omega arith)
 
+spare_words : (is_held : Bool) (n : ℕ) → bundle_room (under always (spare_op is_held n)) ≤ 2
+spare_words is_held n = spare_op_is (λ op. bundle_room (under always op) ≤ 2) is_held n (omega arith) (number_words SPARE n)
+
+below_words : (pd ra length : ℕ) → bundle_room (under always (below_op pd ra length)) ≤ 1
+below_words pd ra length = below_op_is (λ op. bundle_room (under always op) ≤ 1) pd ra length (omega arith) (omega arith)
+
+scaled_words : (a : SpArray) (rd ra : ℕ) → bundle_room (under always (scaled_op a rd ra)) ≤ 1
+scaled_words a rd ra = scaled_op_is (λ op. bundle_room (under always op) ≤ 1) a rd ra (omega arith) (omega arith)
+
 set_words : (homes : ℕ) (g : Guard) (slot rs : ℕ) → bundle_room (set_word homes g slot rs) ≤ 1
 set_words homes g slot rs = set_op_is (λ op. bundle_room (under g op) ≤ 1) homes slot rs (omega arith) (omega arith)
+
+-- each costs a word
+some_unary : (op : SpUnary) → 1 ≤ unary_cost op
+some_unary op = grind arith
+
+some_binary : (op : SpBinary) → 1 ≤ binary_cost op
+some_binary op = grind arith
+
+some_constant : (n : ℕ) → 1 ≤ constant_cost n
+some_constant n = by (nat_lt n 4096)
+  where
+    by : (b : Bool) → 1 ≤ (if b then 1 else 2)
+    by true = omega arith
+    by false = omega arith
+
+some_cost : (e : PlainSp) → 1 ≤ expr_cost e
+some_cost (constant n) = some_constant n
+some_cost (frame_word slot) = omega arith
+some_cost (cell_word cell) = omega arith
+some_cost (array_word array index) = omega arith
+some_cost (before_one op of) = omega (arith, some_unary op)
+some_cost (between_two op a b) = omega (arith, some_binary op)
 
 -- what the cost counts as held by an instruction is
 held_counted : (op : SpBinary) (n words : ℕ) → (if is_immediate op (constant n) then 0 else words) ≤ (if nat_lt n (held_below op) then 0 else words)
@@ -85,84 +132,197 @@ operand_counted : (op : SpBinary) (b : PlainSp) (words : ℕ) → (if is_immedia
 operand_counted op (constant n) words = held_counted op n words
 operand_counted op _ words = omega arith
 
--- of two operands, those that are worked out and the operator
-two_room : (homes : ℕ) (op : SpBinary) (a b : PlainSp) (rd to : ℕ) (held less : Bool) → parts_room (operand_code homes a rd) ≤ expr_cost a → parts_room (operand_code homes b rd) ≤ expr_cost b
+-- of two operands, those that are worked out
+two_operands : (homes : Homes) (a b : PlainSp) (rd : ℕ) (held less : Bool) → parts_room (operand_code homes a rd) ≤ expr_cost a → parts_room (operand_code homes b rd) ≤ expr_cost b
     → parts_room (operand_code homes a (rd + 1)) ≤ expr_cost a → parts_room (operand_code homes b (rd + 1)) ≤ expr_cost b
     → parts_room (if held then operand_code homes a rd else if less then joined (operand_code homes b rd) (operand_code homes a (rd + 1)) else joined (operand_code homes a rd) (operand_code homes b (rd + 1)))
-    + parts_room (if held then one (straight (held_code op to (value_at homes a rd) (number_of b))) else if less then binary_code op to (value_at homes a (rd + 1)) (value_at homes b rd) else binary_code op to (value_at homes a rd) (value_at homes b (rd + 1)))
-    ≤ binary_cost op + expr_cost a + (if held then 0 else expr_cost b)
-two_room homes op a b rd to true less ha hb na nb = omega (arith, ha, held_room op to (value_at homes a rd) (number_of b))
-two_room homes op a b rd to false true ha hb na nb = omega (arith, hb, na, room_both (operand_code homes b rd) (operand_code homes a (rd + 1)), binary_room op to (value_at homes a (rd + 1)) (value_at homes b rd))
-two_room homes op a b rd to false false ha hb na nb = omega (arith, ha, nb, room_both (operand_code homes a rd) (operand_code homes b (rd + 1)), binary_room op to (value_at homes a rd) (value_at homes b (rd + 1)))
+    ≤ expr_cost a + (if held then 0 else expr_cost b)
+two_operands homes a b rd true less ha hb na nb = omega (arith, ha)
+two_operands homes a b rd false true ha hb na nb = omega (arith, hb, na, room_both (operand_code homes b rd) (operand_code homes a (rd + 1)))
+two_operands homes a b rd false false ha hb na nb = omega (arith, ha, nb, room_both (operand_code homes a rd) (operand_code homes b (rd + 1)))
 
-operand_room : (homes : ℕ) (e : PlainSp) (rd : ℕ) → parts_room (operands_code homes e rd) + parts_room (value_code homes e rd rd) ≤ expr_cost e → parts_room (operand_code homes e rd) ≤ expr_cost e
+-- and the operator
+two_room : (homes : Homes) (op : SpBinary) (a b : PlainSp) (rd to : ℕ) (held less : Bool)
+    → parts_room (if held then one (straight (held_code op to (value_at homes a rd) (number_of b))) else if less then binary_code op to (value_at homes a (rd + 1)) (value_at homes b rd) else binary_code op to (value_at homes a rd) (value_at homes b (rd + 1)))
+    ≤ binary_cost op
+two_room homes op a b rd to true less = omega (arith, held_room op to (value_at homes a rd) (number_of b))
+two_room homes op a b rd to false true = binary_room op to (value_at homes a (rd + 1)) (value_at homes b rd)
+two_room homes op a b rd to false false = binary_room op to (value_at homes a rd) (value_at homes b (rd + 1))
+
+operand_room : (homes : Homes) (e : PlainSp) (rd : ℕ) → parts_room (operands_code homes e rd) + parts_room (value_code homes e rd rd) ≤ expr_cost e → parts_room (operand_code homes e rd) ≤ expr_cost e
 operand_room homes e rd both = operand_is (λ ps. parts_room ps ≤ expr_cost e) homes e rd (omega arith) (omega (arith, both, room_both (operands_code homes e rd) (value_code homes e rd rd)))
 
-value_room : (homes : ℕ) (e : PlainSp) (rd to : ℕ) → parts_room (operands_code homes e rd) + parts_room (value_code homes e rd to) ≤ expr_cost e
+value_room : (homes : Homes) (e : PlainSp) (rd to : ℕ) → parts_room (operands_code homes e rd) + parts_room (value_code homes e rd to) ≤ expr_cost e
 value_room homes (constant v) rd to = omega (arith, number_room to v)
-value_room homes (frame_word slot) rd to = omega (arith, read_words homes to slot)
+value_room homes (frame_word slot) rd to = omega (arith, word_code_is (λ bs. bundles_room bs ≤ 2) homes to slot (λ p. omega arith) (omega (arith, read_words homes.first to slot)))
 value_room homes (cell_word cell) rd to = omega (arith, number_words to (address_of cell.region cell.word))
-value_room homes (array_word array index) rd to = omega (arith, number_words SPARE array.length, number_words SPARE (address_of array.region array.first), operand_room homes index rd (value_room homes index rd rd))
+value_room homes (array_word array index) rd to =
+    omega (
+      arith,
+      spare_words (nat_lt array.length 32) array.length,
+      below_words TEST (value_at homes index rd) array.length,
+      spare_words (has_offset array) (address_of array.region array.first),
+      scaled_words array to (value_at homes index rd),
+      operand_room homes index rd (value_room homes index rd rd),
+    )
 value_room homes (before_one op of) rd to = omega (arith, operand_room homes of rd (value_room homes of rd rd), unary_room op to (value_at homes of rd))
 value_room homes (between_two op a b) rd to =
     omega (
       arith,
       operand_counted op b (expr_cost b),
-      two_room homes op a b rd to (is_immediate op b) (nat_lt (need a) (need b)) (operand_room homes a rd (value_room homes a rd rd)) (operand_room homes b rd (value_room homes b rd rd)) (operand_room homes a (rd + 1) (value_room homes a (rd + 1) (rd + 1)))
+      two_operands homes a b rd (is_immediate op b) (nat_lt (need a) (need b)) (operand_room homes a rd (value_room homes a rd rd)) (operand_room homes b rd (value_room homes b rd rd)) (operand_room homes a (rd + 1) (value_room homes a (rd + 1) (rd + 1)))
           (operand_room homes b (rd + 1) (value_room homes b (rd + 1) (rd + 1))),
+      two_room homes op a b rd to (is_immediate op b) (nat_lt (need a) (need b)),
     )
 
-pub expr_room : (homes : ℕ) (e : PlainSp) (rd to : ℕ) → parts_room (expr_to homes e rd to) ≤ expr_cost e
+pub expr_room : (homes : Homes) (e : PlainSp) (rd to : ℕ) → parts_room (expr_to homes e rd to) ≤ expr_cost e
 expr_room homes e rd to = omega (arith, room_both (operands_code homes e rd) (value_code homes e rd to), value_room homes e rd to)
 
-args_room : (homes : ℕ) (args : List PlainSp) (rd : ℕ) → parts_room (args_code homes args rd) ≤ args_cost args
+args_room : (homes : Homes) (args : List PlainSp) (rd : ℕ) → parts_room (args_code homes args rd) ≤ args_cost args
 args_room homes [] rd = omega arith
 args_room homes (e ∷ args) rd = omega (arith, room_both (expr_code homes e rd) (args_code homes args (rd + 1)), expr_room homes e rd rd, args_room homes args (rd + 1))
 
+-- ---- truths
+
+-- a test takes no more than the value of its operator
+test_room : (op : SpBinary) (ra rb : ℕ) → bundles_room (by_two (cmp_of op) op ra rb) ≤ binary_cost op
+test_room op ra rb = grind arith
+
+number_test : (o : Option CmpFunc) (op : SpBinary) (ra n : ℕ) → bundles_room (by_number o ra n) ≤ binary_cost op
+number_test None op ra n = omega arith
+number_test (Some func) op ra n = some_binary op
+
+two_tests : (homes : Homes) (op : SpBinary) (a b : PlainSp) (held less : Bool)
+    → bundles_room (if held then by_number (cmp_of op) (value_at homes a FIRST) (number_of b) else if less then by_two (cmp_of op) op (value_at homes a (FIRST + 1)) (value_at homes b FIRST) else by_two (cmp_of op) op (value_at homes a FIRST) (value_at homes b (FIRST + 1)))
+    ≤ binary_cost op
+two_tests homes op a b true less = number_test (cmp_of op) op (value_at homes a FIRST) (number_of b)
+two_tests homes op a b false true = test_room op (value_at homes a (FIRST + 1)) (value_at homes b FIRST)
+two_tests homes op a b false false = test_room op (value_at homes a FIRST) (value_at homes b (FIRST + 1))
+
+operand_most : (homes : Homes) (e : PlainSp) (rd : ℕ) → parts_room (operand_code homes e rd) ≤ expr_cost e
+operand_most homes e rd = operand_room homes e rd (value_room homes e rd rd)
+
+tested_room : (homes : Homes) (e : PlainSp) → parts_room (tested_code homes e) ≤ expr_cost e
+tested_room homes (constant n) = some_cost (constant n)
+tested_room homes (frame_word slot) = omega arith
+tested_room homes (cell_word cell) = omega arith
+tested_room homes (array_word array index) = omega (arith, room_both (operand_code homes index FIRST) (one (straight [])), operand_most homes index FIRST)
+tested_room homes (before_one op of) = omega (arith, room_both (operand_code homes of FIRST) (one (straight (test_of homes (before_one op of)))), operand_most homes of FIRST, some_unary op)
+tested_room homes (between_two op a b) =
+    omega (
+      arith,
+      room_both (operands_code homes (between_two op a b) FIRST) (one (straight (test_of homes (between_two op a b)))),
+      operand_counted op b (expr_cost b),
+      two_operands homes a b FIRST (is_immediate op b) (nat_lt (need a) (need b)) (operand_most homes a FIRST) (operand_most homes b FIRST) (operand_most homes a (FIRST + 1)) (operand_most homes b (FIRST + 1)),
+      two_tests homes op a b (is_immediate op b) (nat_lt (need a) (need b)),
+    )
+
+unless_room : (most : ℕ) (o : Option ℕ) (code : PlainParts) → parts_room code ≤ most → parts_room (unless_stands o code) ≤ most
+unless_room most None code few = few
+unless_room most (Some p) code few = omega arith
+
+-- the second of two truths that are joined, which the cost may count as held
+second_room : (homes : Homes) (op : SpBinary) (b : PlainSp) → parts_room (truth_code homes b) ≤ expr_cost b
+    → parts_room (unless_stands (flag_at homes.flags b) (truth_code homes b)) ≤ 1 + (if is_held op b then 0 else expr_cost b)
+second_room homes op (constant n) few = omega (arith, unless_room 1 (flag_at homes.flags (constant n)) (truth_code homes (constant n)) (omega arith))
+second_room homes op (frame_word slot) few = omega (arith, unless_room _ (flag_at homes.flags (frame_word slot)) (truth_code homes (frame_word slot)) few)
+second_room homes op (cell_word cell) few = omega (arith, few)
+second_room homes op (array_word array index) few = omega (arith, few)
+second_room homes op (before_one f of) few = omega (arith, few)
+second_room homes op (between_two f c d) few = omega (arith, unless_room _ (flag_at homes.flags (between_two f c d)) (truth_code homes (between_two f c d)) few)
+
+truth_room : (homes : Homes) (e : PlainSp) → parts_room (truth_code homes e) ≤ expr_cost e
+truth_room homes (constant n) = tested_room homes (constant n)
+truth_room homes (frame_word slot) = tested_room homes (frame_word slot)
+truth_room homes (cell_word cell) = tested_room homes (cell_word cell)
+truth_room homes (array_word array index) = tested_room homes (array_word array index)
+truth_room homes (before_one op of) = tested_room homes (before_one op of)
+truth_room homes (between_two op a b) = by (joins homes.flags op a) (second_room homes op b (truth_room homes b)) (tested_room homes (between_two op a b))
+  where
+    second : PlainParts
+    second = unless_stands (flag_at homes.flags b) (truth_code homes b)
+
+    by : (c : Bool) → parts_room second ≤ 1 + (if is_held op b then 0 else expr_cost b) → parts_room (tested_code homes (between_two op a b)) ≤ expr_cost (between_two op a b)
+        → parts_room (if c then joined second (one (straight (join homes.flags TEST op a b ∷ []))) else tested_code homes (between_two op a b)) ≤ expr_cost (between_two op a b)
+    by true few tested = omega (arith, few, room_both second (one (straight (join homes.flags TEST op a b ∷ []))), some_cost a, some_binary op)
+    by false few tested = tested
+
+before_room : (homes : Homes) (e : PlainSp) → parts_room (before_flag homes e) ≤ expr_cost e
+before_room homes (constant n) = tested_room homes (constant n)
+before_room homes (frame_word slot) = tested_room homes (frame_word slot)
+before_room homes (cell_word cell) = tested_room homes (cell_word cell)
+before_room homes (array_word array index) = tested_room homes (array_word array index)
+before_room homes (before_one op of) = tested_room homes (before_one op of)
+before_room homes (between_two op a b) = by (joins homes.flags op a)
+  where
+    by : (c : Bool) → parts_room (if c then unless_stands (flag_at homes.flags b) (truth_code homes b) else tested_code homes (between_two op a b)) ≤ expr_cost (between_two op a b)
+    by true = omega (arith, second_room homes op b (truth_room homes b), some_binary op)
+    by false = tested_room homes (between_two op a b)
+
+set_room : (flags : Flags) (to : ℕ) (e : PlainSp) → bundle_room (flag_set flags to e) ≤ 1
+set_room flags to (between_two op a b) = by (joins flags op a)
+  where
+    by : (c : Bool) → bundle_room (if c then join flags to op a b else combine comb.Por to TEST TEST) ≤ 1
+    by true = omega arith
+    by false = omega arith
+set_room flags to _ = omega arith
+
+flag_room : (homes : Homes) (to : ℕ) (e : PlainSp) → parts_room (flag_code homes to e) ≤ 1 + expr_cost e
+flag_room homes to e = by (flag_at homes.flags e)
+  where
+    by : (o : Option ℕ) → parts_room (flag_by o homes to e) ≤ 1 + expr_cost e
+    by None = omega (arith, room_both (before_flag homes e) (one (straight (flag_set homes.flags to e ∷ []))), before_room homes e, set_room homes.flags to e)
+    by (Some p) = omega arith
+
 -- ---- statements
 
-cell_room : (homes : ℕ) (mask : ℕ) (r : Region) (word : ℕ) → bundles_room (cell_write homes mask (record { region = r; word = word })) ≤ 7
-cell_room homes mask r word = by r (fetch_words homes mask) (number_words SPARE (address_of r word))
+cell_room : (homes : Homes) (mask : ℕ) (r : Region) (word : ℕ) → bundles_room (cell_write homes mask (record { region = r; word = word })) ≤ 7
+cell_room homes mask r word = by r (seek_words homes mask) (match_words homes mask) (number_words SPARE (address_of r word))
   where
-    by : (r : Region) → bundle_room (fetch_word homes mask) ≤ 2 → bundle_room (set_number SPARE (address_of r word)) ≤ 2 → bundles_room (cell_write homes mask (record { region = r; word = word })) ≤ 7
-    by region.Scratch read address = omega (arith, read, address)
-    by region.Comm read address = omega (arith, read, address)
-    by region.Private read address = omega (arith, read, address)
-    by region.Shared read address = omega (arith, read, address)
+    by : (r : Region) → bundle_room (seek_word homes mask) ≤ 2 → bundle_room (match_word homes mask) ≤ 1 → bundle_room (set_number SPARE (address_of r word)) ≤ 2 → bundles_room (cell_write homes mask (record { region = r; word = word })) ≤ 7
+    by region.Scratch read test address = omega (arith, read, test, address)
+    by region.Comm read test address = omega (arith, read, test, address)
+    by region.Private read test address = omega (arith, read, test, address)
+    by region.Shared read test address = omega (arith, read, test, address)
 
-element_room : (homes : ℕ) (mask : ℕ) (r : Region) (first length : ℕ) → bundles_room (element_write homes mask (record { region = r; first = first; length = length })) ≤ 12
-element_room homes mask r first length = by r (fetch_words homes mask) (number_words SPARE length) (number_words SPARE (address_of r first))
+element_room : (homes : Homes) (mask : ℕ) (r : Region) (first length : ℕ) → bundles_room (element_write homes mask (record { region = r; first = first; length = length })) ≤ 12
+element_room homes mask r first length =
+    let a : SpArray = record { region = r; first = first; length = length } in
+    by r (seek_words homes mask) (match_words homes mask) (spare_words (nat_lt length 32) length) (below_words SECOND (FIRST + 1) length) (spare_words (has_offset a) (address_of r first)) (scaled_words a (FIRST + 1) (FIRST + 1))
   where
-    by : (r : Region) → bundle_room (fetch_word homes mask) ≤ 2 → bundle_room (set_number SPARE length) ≤ 2 → bundle_room (set_number SPARE (address_of r first)) ≤ 2 → bundles_room (element_write homes mask (record { region = r; first = first; length = length })) ≤ 12
-    by region.Scratch read size address = omega (arith, read, size, address)
-    by region.Comm read size address = omega (arith, read, size, address)
-    by region.Private read size address = omega (arith, read, size, address)
-    by region.Shared read size address = omega (arith, read, size, address)
+    by : (r : Region) → bundle_room (seek_word homes mask) ≤ 2 → bundle_room (match_word homes mask) ≤ 1 → bundle_room (under always (length_op length)) ≤ 2 → bundle_room (under always (below_op SECOND (FIRST + 1) length)) ≤ 1
+        → bundle_room (under always (base_op (record { region = r; first = first; length = length }))) ≤ 2 → bundle_room (under always (scaled_op (record { region = r; first = first; length = length }) (FIRST + 1) (FIRST + 1))) ≤ 1
+        → bundles_room (element_write homes mask (record { region = r; first = first; length = length })) ≤ 12
+    by region.Scratch read test size below base scaled = omega (arith, read, test, size, below, base, scaled)
+    by region.Comm read test size below base scaled = omega (arith, read, test, size, below, base, scaled)
+    by region.Private read test size below base scaled = omega (arith, read, test, size, below, base, scaled)
+    by region.Shared read test size below base scaled = omega (arith, read, test, size, below, base, scaled)
 
-target_room : (homes : ℕ) (mask : ℕ) (target : PlainSpTarget) → parts_room (target_write homes mask target) ≤ target_cost target
-target_room homes mask (to_slot slot) = omega (arith, fetch_words homes mask, set_words homes (where_so TEST) slot FIRST)
+target_room : (homes : Homes) (mask : ℕ) (target : PlainSpTarget) → parts_room (target_write homes mask target) ≤ target_cost target
+target_room homes mask (to_slot slot) = omega (arith, seek_words homes mask, match_words homes mask, set_words homes.first (where_so (told_at homes mask)) slot FIRST)
 target_room homes mask (to_cell cell) = omega (arith, cell_room homes mask cell.region cell.word)
 target_room homes mask (to_array array index) =
     omega (arith, room_both (expr_code homes index 4) (one (straight (element_write homes mask array))), expr_room homes index 4 4, element_room homes mask array.region array.first array.length)
 
 -- an instruction takes as many words under a mask as under none
-guarded_room : (homes mask : ℕ) (e : PlainSp) (to : ℕ) (op : Op) → Gives (value_code homes e FIRST to) op → parts_room (guarded_code homes mask e op) ≤ 4 + expr_cost e
+guarded_room : (homes : Homes) (mask : ℕ) (e : PlainSp) (to : ℕ) (op : Op) → Gives (value_code homes e FIRST to) op → parts_room (guarded_code homes mask e op) ≤ 4 + expr_cost e
 guarded_room homes mask e to op gives =
-    let bundles = mask_test homes mask ++ under (where_so TEST) op ∷ [] in
+    let bundles = mask_test homes mask ++ under (where_so (told_at homes mask)) op ∷ [] in
     let value = ap parts_room gives.is in
-    omega (arith, room_both (operands_code homes e FIRST) (one (straight bundles)), value_room homes e FIRST to, value, fetch_words homes mask)
+    omega (arith, room_both (operands_code homes e FIRST) (one (straight bundles)), value_room homes e FIRST to, value, seek_words homes mask, match_words homes mask)
 
-call_room : (homes : ℕ) (frame mask k : ℕ) (result : Option ℕ) → parts_room (call_code homes frame mask k result) ≤ 12
-call_room homes frame mask k None = omega (arith, read_words homes MASK mask)
-call_room homes frame mask k (Some slot) = omega (arith, read_words homes MASK mask, fetch_words homes mask, set_words homes (where_so TEST) slot RESULT)
+call_room : (homes : Homes) (frame mask k : ℕ) (result : Option ℕ) → parts_room (call_code homes frame mask k result) ≤ 12
+call_room homes frame mask k None = omega (arith, read_words homes.first MASK mask)
+call_room homes frame mask k (Some slot) = omega (arith, read_words homes.first MASK mask, seek_words homes mask, match_words homes mask, set_words homes.first (where_so (told_at homes mask)) slot RESULT)
 
 mutual
-  stmt_room : (homes : ℕ) (frame counter : ℕ) (t : PlainStmt) → parts_room (stmt_code homes frame counter t) ≤ stmt_cost t
+  stmt_room : (homes : Homes) (frame counter : ℕ) (t : PlainStmt) → parts_room (stmt_code homes frame counter t) ≤ stmt_cost t
   stmt_room homes frame counter (masks slot e) =
-      mask_is (λ ps. parts_room ps ≤ 1 + expr_cost e) homes slot e (λ here. omega (arith, expr_room homes e 3 (homes + slot))) (λ there. omega (arith, room_both (expr_code homes e 3) (slot_set homes slot), expr_room homes e 3 3, set_words homes always slot FIRST))
+      mask_is (λ ps. parts_room ps ≤ 1 + expr_cost e) homes slot e (λ p is. flag_room homes p e) (λ plain here. omega (arith, expr_room homes e 3 (homes.first + slot)))
+      (λ plain there. omega (arith, room_both (expr_code homes e 3) (slot_set homes.first slot), expr_room homes e 3 3, set_words homes.first always slot FIRST))
   stmt_room homes frame counter (writes mask target e) =
       write_is (λ ps. parts_room ps ≤ target_cost target + expr_cost e) homes mask target e (omega (arith, room_both (expr_code homes e 3) (target_write homes mask target), expr_room homes e 3 3, target_room homes mask target))
-      (λ slot op is gives. subst (λ t. parts_room (guarded_code homes mask e op) ≤ target_cost t + expr_cost e) (sym is) (guarded_room homes mask e (homes + slot) op gives))
+      (λ slot op is gives. subst (λ t. parts_room (guarded_code homes mask e op) ≤ target_cost t + expr_cost e) (sym is) (guarded_room homes mask e (homes.first + slot) op gives))
   stmt_room homes frame counter (calls mask k args result) =
       omega (arith, room_both (args_code homes args 3) (call_code homes frame mask k result), args_room homes args 3, call_room homes frame mask k result)
   stmt_room homes frame counter (transfers mask core source target count) =
@@ -175,66 +335,101 @@ mutual
         expr_room homes source 3 3,
         expr_room homes target 4 4,
         expr_room homes count 5 5,
-        fetch_words homes mask,
+        seek_words homes mask,
+        match_words homes mask,
       )
-  stmt_room homes frame counter (overruns mask e) = omega (arith, room_both (expr_code homes e 3) (one (straight (overrun_code homes mask))), expr_room homes e 3 3, fetch_words homes mask)
-  stmt_room homes frame counter (iterations count body) = omega (arith, stmts_room homes frame (counter - 1) body, fetch_words homes counter, keep_words homes counter)
+  stmt_room homes frame counter (overruns mask e) = omega (arith, room_both (expr_code homes e 3) (one (straight (overrun_code homes mask))), expr_room homes e 3 3, seek_words homes mask, match_words homes mask)
+  stmt_room homes frame counter (iterations count body) = omega (arith, stmts_room homes frame (counter - 1) body, number_words (fetched_at homes.first counter) count, fetch_words homes.first counter, keep_words homes.first counter)
 
-  stmts_room : (homes : ℕ) (frame counter : ℕ) (ts : PlainStmts) → parts_room (stmts_code homes frame counter ts) ≤ stmts_cost ts
+  stmts_room : (homes : Homes) (frame counter : ℕ) (ts : PlainStmts) → parts_room (stmts_code homes frame counter ts) ≤ stmts_cost ts
   stmts_room homes frame counter no_stmt = omega arith
   stmts_room homes frame counter (stmt t rest) =
       omega (arith, room_both (stmt_code homes frame counter t) (stmts_code homes frame counter rest), stmt_room homes frame counter t, stmts_room homes frame counter rest)
 
 -- ---- functions
 
-kept_room : (homes : ℕ) (n : ℕ) → bundles_room (arguments_kept homes n) ≤ n
+kept_room : (homes n : ℕ) → bundles_room (arguments_kept homes n) ≤ n
 kept_room homes zero = omega arith
 kept_room homes (suc n) = omega (arith, room_append (arguments_kept homes n) (argument_kept homes n), kept_room homes n, set_words homes always n (FIRST + n))
 
--- a word is cleared by a bundle where it stands in a register, and none do from the flag on
-cleared_one : (homes n : ℕ) → bundles_room (word_cleared homes n) ≤ (if in_register homes n then 1 else 0)
-unfolding word_cleared
-cleared_one homes n = by (in_register homes n)
+mask_room : (homes : Homes) (f : PlainFunction) → bundles_room (mask_kept homes f) ≤ 2
+mask_room homes f = by (flag_of homes.flags f.mask)
   where
-    by : (b : Bool) → bundles_room (if b then set_short always (homes + n) 0 ∷ [] else []) ≤ (if b then 1 else 0)
-    by true = omega arith
-    by false = omega arith
+    by : (o : Option ℕ) → bundles_room (mask_in o homes.first f.mask) ≤ 2
+    by None = omega (arith, set_words homes.first always f.mask MASK)
+    by (Some p) = omega arith
 
-record Cleared (homes n : ℕ) : Type 0 where
+-- how many of the first words have something: at most as many stand in predicates as there are of these
+abbrev counted : (ℕ → Option ℕ) → ℕ → ℕ
+counted g zero = 0
+counted g (suc n) = counted g n + (if is_some (g n) then 1 else 0)
+
+counted_within : (flags : Flags) (n : ℕ) → counted (flag_of flags) n ≤ min 4 (n - flags.word)
+counted_within flags zero = omega arith
+counted_within flags (suc n) = by (flag_of flags n) refl (counted_within flags n)
+  where
+    by : (o : Option ℕ) → flag_of flags n ≡ o → counted (flag_of flags) n ≤ min 4 (n - flags.word) → counted (flag_of flags) n + (if is_some o then 1 else 0) ≤ min 4 (suc n - flags.word)
+    by None is few = omega (arith, few)
+    by (Some p) is few = let x = stands_in flags n p is in omega (arith, few, x.from, x.few)
+
+few_flags : (flags : Flags) (n : ℕ) → counted (flag_of flags) n ≤ 4
+few_flags flags n = omega (arith, counted_within flags n)
+
+-- a word is cleared by a bundle where it stands in a predicate or in a register, and none do from the flag on
+cleared_one : (homes : Homes) (n : ℕ) → bundles_room (word_cleared homes n) ≤ (if is_some (flag_of homes.flags n) then 1 else if in_register homes.first n then 1 else 0)
+unfolding cleared_in
+cleared_one homes n = by (flag_of homes.flags n)
+  where
+    plain : (b : Bool) → bundles_room (if b then set_short always (homes.first + n) 0 ∷ [] else []) ≤ (if b then 1 else 0)
+    plain true = omega arith
+    plain false = omega arith
+
+    by : (o : Option ℕ) → bundles_room (cleared_in o homes.first n) ≤ (if is_some o then 1 else if in_register homes.first n then 1 else 0)
+    by None = plain (in_register homes.first n)
+    by (Some p) = omega arith
+
+record Cleared (homes : Homes) (n : ℕ) : Type 0 where
   few : bundles_room (words_cleared homes n) ≤ n
-  least : bundles_room (words_cleared homes n) ≤ OVERRUN - homes
+  least : bundles_room (words_cleared homes n) ≤ (OVERRUN - homes.first) + counted (flag_of homes.flags) n
 
-cleared_room : (homes n : ℕ) → Cleared homes n
+cleared_room : (homes : Homes) (n : ℕ) → Cleared homes n
 cleared_room homes zero = record { few = omega arith; least = omega arith }
 cleared_room homes (suc n) =
     let x = cleared_room homes n in
     let more = room_append (words_cleared homes n) (word_cleared homes n) in
-    by (in_register homes n) refl x.few x.least more (cleared_one homes n)
+    by (is_some (flag_of homes.flags n)) refl (in_register homes.first n) refl x.few x.least more (cleared_one homes n)
   where
-    by : (b : Bool) → in_register homes n ≡ b → bundles_room (words_cleared homes n) ≤ n → bundles_room (words_cleared homes n) ≤ OVERRUN - homes
+    by : (c : Bool) → is_some (flag_of homes.flags n) ≡ c → (b : Bool) → in_register homes.first n ≡ b → bundles_room (words_cleared homes n) ≤ n
+        → bundles_room (words_cleared homes n) ≤ (OVERRUN - homes.first) + counted (flag_of homes.flags) n
         → bundles_room (words_cleared homes n ++ word_cleared homes n) ≡ bundles_room (words_cleared homes n) + bundles_room (word_cleared homes n)
-        → bundles_room (word_cleared homes n) ≤ (if b then 1 else 0) → Cleared homes (suc n)
-    by true is few least more single = let lt = ltb-true (homes + n) OVERRUN is in record { few = omega (arith, few, more, single); least = omega (arith, few, more, single, lt) }
-    by false is few least more single = record { few = omega (arith, few, more, single); least = omega (arith, least, more, single) }
+        → bundles_room (word_cleared homes n) ≤ (if c then 1 else if b then 1 else 0) → Cleared homes (suc n)
+    by true flagged b is few least more single = let one_more : counted (flag_of homes.flags) (suc n) ≡ counted (flag_of homes.flags) n + 1 = ap (λ x. counted (flag_of homes.flags) n + (if x then 1 else 0)) flagged in
+        record { few = omega (arith, few, more, single); least = omega (arith, least, more, single, one_more) }
+    by false plain true is few least more single = let lt = ltb-true (homes.first + n) OVERRUN is in record { few = omega (arith, few, more, single); least = omega (arith, few, more, single, lt) }
+    by false plain false is few least more single = record { few = omega (arith, few, more, single); least = omega (arith, least, more, single) }
 
 -- with its size word
-pub function_room : (homes : ℕ) (fs : List PlainFunction) (n : ℕ) (f : PlainFunction) → tree.function_formed fs n f ≡ true → FIRST ≤ homes → 1 + parts_room (function_code homes f) ≤ cost f
+pub function_room : (homes : Homes) (fs : List PlainFunction) (n : ℕ) (f : PlainFunction) → tree.function_formed fs n f ≡ true → FIRST ≤ homes.first → 1 + parts_room (function_code homes f) ≤ cost f
 function_room homes fs n f h before =
     let a = and_parts (nat_le f.frame 128) _ h in
     let few = and_parts (nat_le f.parameters 6) _ a.1 in
     omega (
       arith,
-      taken_is (λ bs. bundles_room bs ≤ 1) homes f (omega arith) (omega arith),
-      kept_is (λ bs. bundles_room (mask_kept homes f ++ bs) ≤ 6) f (λ has. omega (arith, set_words homes always f.mask MASK)) (omega (arith, set_words homes always f.mask MASK)),
-      brought_is (λ bs. bundles_room (bs ++ result_given homes f) ≤ 10) f (λ has. omega (arith, freed_is (λ bs. bundles_room bs ≤ 1) homes f (omega arith) (omega arith), read_words homes RESULT f.result))
-          (omega (arith, freed_is (λ bs. bundles_room bs ≤ 1) homes f (omega arith) (omega arith), read_words homes RESULT f.result)),
-      room_append (frame_taken homes f) (words_cleared homes (tree.slots_of f) ++ (arguments_kept homes f.parameters ++ state_kept homes f)),
+      taken_is (λ bs. bundles_room bs ≤ 1) homes.first f (omega arith) (omega arith),
+      kept_is (λ bs. bundles_room bs ≤ 4) f (λ has. omega arith) (omega arith),
+      mask_room homes f,
+      room_append (mask_kept homes f) (place_kept f),
+      brought_is (λ bs. bundles_room (bs ++ result_given homes.first f) ≤ 10) f (λ has. omega (arith, freed_is (λ bs. bundles_room bs ≤ 1) homes.first f (omega arith) (omega arith), read_words homes.first RESULT f.result))
+          (omega (arith, freed_is (λ bs. bundles_room bs ≤ 1) homes.first f (omega arith) (omega arith), read_words homes.first RESULT f.result)),
+      room_append (frame_taken homes.first f) (words_cleared homes (tree.slots_of f) ++ (arguments_kept homes.first f.parameters ++ state_kept homes f)),
       leb-true f.parameters 6 few.0,
       before,
-      kept_room homes f.parameters,
+      kept_room homes.first f.parameters,
       (cleared_room homes (tree.slots_of f)).least,
-      room_append (words_cleared homes (tree.slots_of f)) (arguments_kept homes f.parameters ++ state_kept homes f),
-      room_append (arguments_kept homes f.parameters) (state_kept homes f),
-      room_both (stmts_code homes f.frame (first_counter f) f.body) (function_rest homes f),
-      stmts_room homes f.frame (first_counter f) f.body,
+      few_flags homes.flags (tree.slots_of f),
+      room_append (words_cleared homes (tree.slots_of f)) (arguments_kept homes.first f.parameters ++ state_kept homes f),
+      room_append (arguments_kept homes.first f.parameters) (state_kept homes f),
+      room_both (body_code homes f) (function_rest homes.first f),
+      stmts_room homes f.frame (first_counter f) (begun_body homes.flags f),
+      begun_costs homes.flags f,
     )

@@ -20,10 +20,10 @@ use Rattle.patmos_sem.specs.declared.writes.Write.TheVariants as write
 use Rattle.sp_shape.specs.Memory.{Memory, cell_of, with_port, with_word as cell_set}
 use Rattle.sp_shape.specs.Run.{Run, Sources, by_words, once, run, IsWhole}
 use Rattle.sp_shape.specs.Trail.{Step, all_done, parts_trail}
-use Rattle.sp_emit.specs.Holding.{held, Keeps}
+use Rattle.sp_emit.specs.Holding.{held, Keeps, so}
 use Rattle.sp_emit.specs.Instructions.{always, where_so, set_long, compute, with_short, compare, combine, store_to}
 use Rattle.sp_emit.specs.Means.{start_of, HasWordConstants, HasWords, Follows}
-use Rattle.sp_emit.specs.Statements.{mask_test, send_test, send_code, stmt_code}
+use Rattle.sp_emit.specs.Statements.{send_test, send_code, stmt_code}
 use Rattle.sp_tree.specs.Straight.{State, worth, in_world, where_on, transfer_done}
 use Rattle.sp_tree.specs.Formed.{expr_formed}
 use Rattle.sp_tree.specs.Plain.{PlainSp}
@@ -37,11 +37,14 @@ use Rattle.sp_emit.proofs.Calm.{calm_run}
 use Rattle.sp_emit.proofs.CellWrites.{follows_world}
 use Rattle.sp_emit.proofs.Frames.{put_same}
 use Rattle.sp_emit.proofs.Passing.{keeps_then}
+use Rattle.sp_emit.specs.Places.{mask_test, told_at}
+use Rattle.sp_emit.proofs.FlagWords.{told_few, told_other}
 use Rattle.sp_emit.proofs.Masks.{Done, ready, follows_still, behind_still, tested}
 use Rattle.sp_emit.proofs.Storing.{with_store, did_store}
 use Rattle.sp_emit.proofs.Leaving.{did_set_long, did_with_short, did_compare, did_combine, did_compute}
-use Rattle.sp_emit.proofs.Once.{so, with_written, did_nothing, whole_written, held_written, so_written, got, so_by_register}
+use Rattle.sp_emit.proofs.Once.{with_written, did_nothing, whole_written, held_written, so_written, got, so_by_register, so_kept}
 use Rattle.sp_emit.proofs.Values.{behind, fits_of, expr_keeps, run_joined, run_lone, value_left, value_small}
+use Rattle.sp_emit.specs.declared.stands.Homes.{Homes}
 
 -- the test of code: a count of 0 less 1 is past all counts, and what a memory has less the count is 2^32 less what it lacks
 abbrev pub code_starts : ℕ → ℕ → ℕ → Bool
@@ -85,13 +88,13 @@ port_found core imm few low = port_at core (4 * imm) (address_by (0x20000 + 16 *
 
 -- ---- the test
 
-pub record Allowed (homes : ℕ) (core : ℕ) (on : Bool) (m t : Run) : Type 0 where
-  pub keeps : Keeps (FIRST + 3) homes m t
+pub record Allowed (homes : Homes) (core : ℕ) (on : Bool) (m t : Run) : Type 0 where
+  pub keeps : Keeps (FIRST + 3) homes.first m t
   pub test : so TEST t ≡ on
 
-pub tests_send : (homes : ℕ) (from : Sources) (core : ℕ) (within : FIRST + 3 < homes) (b : Bool) (source target count : ℕ) (m : Run) → IsWhole m → so TEST m ≡ b → held FIRST m ≡ source → held (FIRST + 1) m ≡ target → held (FIRST + 2) m ≡ count
-    → Allowed homes core (b && code_starts source target count) m (run from (all_done send_test) m)
-tests_send homes from core within b source target count m whole test is_source is_target is_count =
+pub tests_send : (homes : Homes) (from : Sources) (core told : ℕ) (few : told < 8) (other : SECOND ≡ told → ⊥) (within : FIRST + 3 < homes.first) (b : Bool) (source target count : ℕ) (m : Run) → IsWhole m → so told m ≡ b → held FIRST m ≡ source → held (FIRST + 1) m ≡ target → held (FIRST + 2) m ≡ count
+    → Allowed homes core (b && code_starts source target count) m (run from (all_done (send_test told)) m)
+tests_send homes from core told few other within b source target count m whole test is_source is_target is_count =
     let w1 = write.Register SPARE 512 in
     let m1 = with_written w1 m in
     let h1 = whole_written w1 m whole in
@@ -101,7 +104,7 @@ tests_send homes from core within b source target count m whole test is_source i
     let w3 = write.Predicate SECOND (nat_lt (held (FIRST + 3) m2) (held SPARE m2)) in
     let m3 = with_written w3 m2 in
     let h3 = whole_written w3 m2 h2 in
-    let w4 = write.Predicate TEST (so TEST m3 && so SECOND m3) in
+    let w4 = write.Predicate TEST (so told m3 && so SECOND m3) in
     let m4 = with_written w4 m3 in
     let h4 = whole_written w4 m3 h3 in
     let w5 = write.Register SPARE ((held SPARE m4 + (2 ^ 32 - held (FIRST + 2) m4)) % 2 ^ 32) in
@@ -118,13 +121,14 @@ tests_send homes from core within b source target count m whole test is_source i
     let h8 = whole_written w8 m7 h7 in
     let w9 = write.Predicate TEST (so TEST m8 && so SECOND m8) in
     let pand = combine comb.Pand TEST TEST SECOND in
-    let steps : run from (all_done send_test) m ≡ with_written w9 m8 =
-    ap (λ t. run from (all_done (with_short always imm.Sub (FIRST + 3) (FIRST + 2) 1 ∷ compare cmp.Ult SECOND (FIRST + 3) SPARE ∷ pand ∷ compute always alu.Sub SPARE SPARE (FIRST + 2)
+    let first = combine comb.Pand TEST told SECOND in
+    let steps : run from (all_done (send_test told)) m ≡ with_written w9 m8 =
+    ap (λ t. run from (all_done (with_short always imm.Sub (FIRST + 3) (FIRST + 2) 1 ∷ compare cmp.Ult SECOND (FIRST + 3) SPARE ∷ first ∷ compute always alu.Sub SPARE SPARE (FIRST + 2)
     ∷ compare cmp.Ule SECOND FIRST SPARE ∷ pand ∷ compare cmp.Ule SECOND (FIRST + 1) SPARE ∷ pand ∷ [])) t) (did_set_long from SPARE 512 m whole)
-    ∙ ap (λ t. run from (all_done (compare cmp.Ult SECOND (FIRST + 3) SPARE ∷ pand ∷ compute always alu.Sub SPARE SPARE (FIRST + 2) ∷ compare cmp.Ule SECOND FIRST SPARE ∷ pand ∷ compare cmp.Ule SECOND (FIRST + 1) SPARE ∷ pand ∷ [])) t)
+    ∙ ap (λ t. run from (all_done (compare cmp.Ult SECOND (FIRST + 3) SPARE ∷ first ∷ compute always alu.Sub SPARE SPARE (FIRST + 2) ∷ compare cmp.Ule SECOND FIRST SPARE ∷ pand ∷ compare cmp.Ule SECOND (FIRST + 1) SPARE ∷ pand ∷ [])) t)
     (did_with_short from imm.Sub (FIRST + 3) (FIRST + 2) 1 m1 h1)
-    ∙ ap (λ t. run from (all_done (pand ∷ compute always alu.Sub SPARE SPARE (FIRST + 2) ∷ compare cmp.Ule SECOND FIRST SPARE ∷ pand ∷ compare cmp.Ule SECOND (FIRST + 1) SPARE ∷ pand ∷ [])) t) (did_compare from cmp.Ult SECOND (FIRST + 3) SPARE m2 h2)
-    ∙ ap (λ t. run from (all_done (compute always alu.Sub SPARE SPARE (FIRST + 2) ∷ compare cmp.Ule SECOND FIRST SPARE ∷ pand ∷ compare cmp.Ule SECOND (FIRST + 1) SPARE ∷ pand ∷ [])) t) (did_combine from comb.Pand TEST TEST SECOND m3 h3)
+    ∙ ap (λ t. run from (all_done (first ∷ compute always alu.Sub SPARE SPARE (FIRST + 2) ∷ compare cmp.Ule SECOND FIRST SPARE ∷ pand ∷ compare cmp.Ule SECOND (FIRST + 1) SPARE ∷ pand ∷ [])) t) (did_compare from cmp.Ult SECOND (FIRST + 3) SPARE m2 h2)
+    ∙ ap (λ t. run from (all_done (compute always alu.Sub SPARE SPARE (FIRST + 2) ∷ compare cmp.Ule SECOND FIRST SPARE ∷ pand ∷ compare cmp.Ule SECOND (FIRST + 1) SPARE ∷ pand ∷ [])) t) (did_combine from comb.Pand TEST told SECOND m3 h3)
     ∙ ap (λ t. run from (all_done (compare cmp.Ule SECOND FIRST SPARE ∷ pand ∷ compare cmp.Ule SECOND (FIRST + 1) SPARE ∷ pand ∷ [])) t) (did_compute from alu.Sub SPARE SPARE (FIRST + 2) m4 h4)
     ∙ ap (λ t. run from (all_done (pand ∷ compare cmp.Ule SECOND (FIRST + 1) SPARE ∷ pand ∷ [])) t) (did_compare from cmp.Ule SECOND FIRST SPARE m5 h5)
     ∙ ap (λ t. run from (all_done (compare cmp.Ule SECOND (FIRST + 1) SPARE ∷ pand ∷ [])) t) (did_combine from comb.Pand TEST TEST SECOND m6 h6)
@@ -132,9 +136,9 @@ tests_send homes from core within b source target count m whole test is_source i
     let c1 = held_written w1 (FIRST + 2) m whole (omega arith) ∙ is_count in
     let less2 = held_written w2 (FIRST + 3) m1 h1 (omega arith) ∙ ap (λ n. (n + (2 ^ 32 - 1)) % 2 ^ 32) c1 in
     let room2 = held_written w2 SPARE m1 h1 (omega arith) ∙ held_written w1 SPARE m whole (omega arith) in
-    let t2 = so_written w2 TEST m1 h1 (omega arith) ∙ so_written w1 TEST m whole (omega arith) ∙ test in
+    let t2 = so_by_register (FIRST + 3) ((held (FIRST + 2) m1 + (2 ^ 32 - 1)) % 2 ^ 32) told m1 h1 few ∙ so_by_register SPARE 512 told m whole few ∙ test in
     let s3 = so_written w3 SECOND m2 h2 (omega arith) ∙ ap (λ n. nat_lt n (held SPARE m2)) less2 ∙ ap (nat_lt ((count + (2 ^ 32 - 1)) % 2 ^ 32)) room2 in
-    let t3 = so_written w3 TEST m2 h2 (omega arith) ∙ t2 in
+    let t3 = so_kept SECOND (nat_lt (held (FIRST + 3) m2) (held SPARE m2)) told m2 h2 few other ∙ t2 in
     let t4 = so_written w4 TEST m3 h3 (omega arith) ∙ ap (λ x. x && so SECOND m3) t3 ∙ ap (λ x. b && x) s3 in
     let c4 = held_written w4 (FIRST + 2) m3 h3 (omega arith) ∙ held_written w3 (FIRST + 2) m2 h2 (omega arith) ∙ held_written w2 (FIRST + 2) m1 h1 (omega arith) ∙ c1 in
     let room4 = held_written w4 SPARE m3 h3 (omega arith) ∙ held_written w3 SPARE m2 h2 (omega arith) ∙ room2 in
@@ -150,7 +154,7 @@ tests_send homes from core within b source target count m whole test is_source i
     let t8 = so_written w8 TEST m7 h7 (omega arith) ∙ t7 in
     let s8 = so_written w8 SECOND m7 h7 (omega arith) ∙ ap (λ n. nat_le n (held SPARE m7)) target7 ∙ ap (nat_le target) left7 in
     record {
-      keeps = calm_run from (FIRST + 3) homes (all_done send_test) m (omega arith) whole (let free = own_free (FIRST + 3) homes (FIRST + 3) (omega arith) (omega arith) within in grind (arith, free));
+      keeps = calm_run from (FIRST + 3) homes.first (all_done (send_test told)) m (omega arith) whole (let free = own_free (FIRST + 3) homes.first (FIRST + 3) (omega arith) (omega arith) within in grind (arith, free));
       test = ap (so TEST) steps ∙ so_written w9 TEST m8 h8 (omega arith) ∙ ap (λ x. x && so SECOND m8) t8 ∙ ap (λ x. ((b && nat_lt ((count + (2 ^ 32 - 1)) % 2 ^ 32) 512) && nat_le source ((512 + (2 ^ 32 - count)) % 2 ^ 32)) && x) s8 ∙ joined_tests b;
     }
   where
@@ -188,7 +192,7 @@ has_started core source target count w m x = record {
 pub start_stores : List Slots
 start_stores = store_to (where_so TEST) mem.L SPARE FIRST 0 ∷ store_to (where_so TEST) mem.L SPARE (FIRST + 1) 1 ∷ store_to (where_so TEST) mem.L SPARE (FIRST + 2) 2 ∷ []
 
-pub starts_where : (homes : ℕ) (slots count core source target words : ℕ) (on : Bool) (s : State) (m : Run) → core < 16 → Follows homes slots s m → so TEST m ≡ on → held SPARE m ≡ 0x20000 + 16 * core → held FIRST m ≡ source → held (FIRST + 1) m ≡ target → held (FIRST + 2) m ≡ words
+pub starts_where : (homes : Homes) (slots count core source target words : ℕ) (on : Bool) (s : State) (m : Run) → core < 16 → Follows homes slots s m → so TEST m ≡ on → held SPARE m ≡ 0x20000 + 16 * core → held FIRST m ≡ source → held (FIRST + 1) m ≡ target → held (FIRST + 2) m ≡ words
     → Done homes slots count (if on then in_world s (with_sent core source target words s.world) else s) m (run by_words (all_done start_stores) m)
 unfolding start_stores with_sent started_memory
 starts_where homes slots count core source target words false s m few x off at is_source is_target is_words =
@@ -217,7 +221,7 @@ starts_where homes slots count core source target words true s m few x on at is_
     ∙ ap (once by_words (store_to (where_so TEST) mem.L SPARE (FIRST + 2) 2)) (did_store by_words (where_so TEST) mem.L SPARE (FIRST + 1) 1 m1 h1 on)
     ∙ did_store by_words (where_so TEST) mem.L SPARE (FIRST + 2) 2 m2 h2 on))
     (record {
-      follows = follows_world homes slots s (with_sent core source target words s.world) m m3 x h3 refl (λ q from lt. refl) refl refl
+      follows = follows_world homes slots s (with_sent core source target words s.world) m m3 x h3 refl (λ q from lt. refl) (λ q from lt. refl) refl refl
           (subst (HasWords (with_sent core source target words s.world)) (sym memory) (has_started core source target words s.world m.memory x.shows.world))
           (record { scratch = x.words.world.scratch; comm = x.words.world.comm; private = x.words.world.private; shared = x.words.world.shared }) refl;
       keeps = record { st = refl; stack = λ a above. refl; high = λ r at lt. refl };
@@ -235,9 +239,9 @@ same_send true core source target count s = by (may_start source target count)
     by true = refl
     by false = refl
 
-pub send_done : (homes : ℕ) (f : ℕ → List Step) (frame counter slots mask core : ℕ) (source target count : PlainSp) (s : State) (m : Run) → slots ≤ 128 → mask < slots → core < 16
+pub send_done : (homes : Homes) (f : ℕ → List Step) (frame counter slots mask core : ℕ) (source target count : PlainSp) (s : State) (m : Run) → slots ≤ 128 → mask < slots → core < 16
     → expr_formed slots source ≡ true → expr_formed slots target ≡ true → expr_formed slots count ≡ true → HasWordConstants source → HasWordConstants target → HasWordConstants count
-    → FIRST + 4 ≤ homes → FIRST + need source ≤ homes → FIRST + 1 + need target ≤ homes → FIRST + 2 + need count ≤ homes
+    → FIRST + 4 ≤ homes.first → FIRST + need source ≤ homes.first → FIRST + 1 + need target ≤ homes.first → FIRST + 2 + need count ≤ homes.first
     → Follows homes slots s m → Done homes slots (counter + 1) (where_on mask (transfer_done core source target count) s) m (run by_words (parts_trail f (stmt_code homes frame counter (transfers mask core source target count))) m)
 unfolding start_stores
 send_done homes f frame counter slots mask core source target count s m most masked few formed_a formed_b formed_c words_a words_b words_c room free free_b free_c x =
@@ -259,13 +263,14 @@ send_done homes f frame counter slots mask core source target count s m most mas
     let a_is = t.keeps.low FIRST (omega arith) ∙ kc.low FIRST (omega arith) ∙ kb.low FIRST (omega arith) ∙ value_left f source ra in
     let b_is = t.keeps.low (FIRST + 1) (omega arith) ∙ kc.low (FIRST + 1) (omega arith) ∙ value_left f target rb in
     let c_is = t.keeps.low (FIRST + 2) (omega arith) ∙ value_left f count rc in
-    let allowed = tests_send homes by_words core (omega (arith, room)) b (worth source s) (worth target s) (worth count s) u t.keeps.whole t.test a_is b_is c_is in
-    let v = run by_words (all_done send_test) u in
+    let told = told_at homes mask in
+    let allowed = tests_send homes by_words core told (told_few homes mask).1 (told_other homes mask) (omega (arith, room)) b (worth source s) (worth target s) (worth count s) u t.keeps.whole t.test a_is b_is c_is in
+    let v = run by_words (all_done (send_test told)) u in
     let address = 0x20000 + 16 * core in
     let w = once by_words (set_long SPARE address) v in
     let set = did_set_long by_words SPARE address v allowed.keeps.whole in
     let number = (0 + address) % 2 ^ 32 in
-    let kw = calm_run by_words SPARE homes (all_done (set_long SPARE address ∷ [])) v (omega arith) allowed.keeps.whole refl in
+    let kw = calm_run by_words SPARE homes.first (all_done (set_long SPARE address ∷ [])) v (omega arith) allowed.keeps.whole refl in
     let test = ap (so TEST) set ∙ so_by_register SPARE number TEST v allowed.keeps.whole (omega arith) ∙ allowed.test
     ∙ ap (λ on. b && on) (starts_alike (worth source s) (worth target s) (worth count s) (value_small source ra) (value_small target rb) (value_small count rc)) in
     let done = starts_where homes slots (counter + 1) core (worth source s) (worth target s) (worth count s) (b && may_start (worth source s) (worth target s) (worth count s)) s w few

@@ -1,8 +1,10 @@
 -- The code of functions does what they give, each over the earlier ones.
-use Rattle.std.proofs.Common.{◌≡◌, ℕ, zero, suc, ◌+◌, ◌-◌, ◌*◌, ◌<◌, ◌≤◌, ◌^◌, ◌==◌, ◌⊎◌, inl, inr, Bool, true, false, ◌&&◌, if◌then◌else◌, Option, List, ◌++◌, length, slice_index, slice_index_or, nat_lt, refl, sym, ap, ◌∙◌, subst, arith}
+use Rattle.std.proofs.Common.{◌≡◌, ℕ, zero, suc, ◌+◌, ◌-◌, ◌*◌, ◌<◌, ◌≤◌, ◌^◌, ◌==◌, ◌⊎◌, inl, inr, Bool, true, false, true≢false, not, ◌&&◌, if◌then◌else◌, Option, None, Some, List, ◌++◌, length, slice_index, slice_index_or, nat_lt, refl, sym, ap, ◌∙◌, subst, arith}
 use Rattle.std.specs.Prelude.{nat_le, min}
 use Rattle.std.proofs.lemmas.Bool.{cases_lt, and_parts, leb-true, ltb-true, eqb-true, eqb-false}
+use Rattle.c_world.specs.Numbers.{flag}
 use Rattle.c_world.specs.World.{World}
+use Rattle.shared_order.specs.Words.{put}
 use Rattle.sp_tree.proofs.Forms.{earlier_one}
 use Rattle.sp_tree.specs.Formed.{args_formed, result_formed, callee_formed, stmt_formed, stmts_formed, stmts_levels, slots_of, function_formed, functions_formed}
 use Rattle.sp_tree.specs.Plain.{PlainSp}
@@ -13,23 +15,27 @@ use Rattle.sp_shape.specs.Parts.{no_part, joined}
 use Rattle.sp_shape.specs.Run.{Run, Sources, by_words, run, IsWhole}
 use Rattle.sp_shape.specs.Trail.{Step, all_done, parts_trail, trails}
 use Rattle.sp_shape.proofs.Lists.{done_append}
-use Rattle.sp_emit.specs.Functions.{arguments_kept, state_kept, needs_none, frame_taken, function_begin, function_end, function_rest, function_code, first_counter, return_tail}
+use Rattle.sp_emit.specs.Functions.{arguments_kept, state_kept, needs_none, frame_taken, function_begin, function_end, function_rest, body_code, function_code, places_of, first_counter, return_tail}
 use Rattle.sp_emit.specs.Means.{Follows, KeepsBehind, HasStmtConstants, HasStmtsConstants, HasConstants}
 use Rattle.sp_emit.specs.declared.registers.TheConstants.{OVERRUN}
-use Rattle.sp_emit.specs.Serving.{CalledWith}
+use Rattle.sp_emit.specs.Serving.{Carries, CalledWith}
 use Rattle.sp_emit.specs.Functions.{codes}
 use Rattle.sp_emit.specs.Chains.{stmts_call}
-use Rattle.sp_emit.specs.Places.{words_cleared, homes_over, homes_of, tops, top_of, stmt_least}
+use Rattle.sp_emit.specs.Flags.{stmt_hinders, begun_body, function_stands}
+use Rattle.sp_emit.specs.Places.{flag_of, shown_word, words_cleared, homes_over, tops, top_of, stmt_least}
 use Rattle.sp_emit.proofs.Codes.{codes_at, tops_at}
-use Rattle.sp_emit.specs.Statements.{stmts_code}
 use Rattle.sp_emit.proofs.Bare.{needs_parts, calls_need, bare_body, outside}
 use Rattle.sp_emit.proofs.Beginning.{words_taken, taken_few, begins_frame}
 use Rattle.sp_emit.proofs.Calling.{Returns, ServedBy, call_is_done}
-use Rattle.sp_emit.proofs.Entering.{enters}
-use Rattle.sp_emit.proofs.Frames.{put_word}
+use Rattle.sp_emit.proofs.BegunBody.{begun_formed, begun_levels, begun_least, begun_constants}
+use Rattle.sp_emit.proofs.Entering.{begun_words, enters}
+use Rattle.sp_emit.proofs.FlagsStand.{stands_of, all_stand, begun_state, begun_done}
+use Rattle.sp_emit.proofs.FlagWords.{shown_plain}
+use Rattle.sp_emit.proofs.Frames.{put_same, put_word}
 use Rattle.sp_emit.proofs.Returning.{returns_value}
 use Rattle.sp_emit.proofs.Runs.{Runs, CallsRun, stmts_run}
 use Rattle.sp_emit.proofs.Values.{run_joined}
+use Rattle.sp_emit.specs.declared.stands.Homes.{Homes}
 
 -- what is well formed of a function, part by part
 pub record Parts (fs : List PlainFunction) (number : ℕ) (f : PlainFunction) : Type 0 where
@@ -65,63 +71,89 @@ pub whole_frame : (homes : ℕ) (f : PlainFunction) → stmts_call f.body ≡ tr
 whole_frame homes f has = let same = ap (λ b. words_taken b f.frame) (calls_need homes f has) in omega (arith, same)
 
 -- what a function begins with, piece by piece
-pub begin_run : (homes : ℕ) (from : Sources) (f : PlainFunction) (m : Run) → run from (all_done (function_begin homes f)) m
-    ≡ run from (all_done (state_kept homes f)) (run from (all_done (arguments_kept homes f.parameters)) (run from (all_done (words_cleared homes (slots_of f))) (run from (all_done (frame_taken homes f)) m)))
+pub begin_run : (homes : Homes) (from : Sources) (f : PlainFunction) (m : Run) → run from (all_done (function_begin homes f)) m
+    ≡ run from (all_done (state_kept homes f)) (run from (all_done (arguments_kept homes.first f.parameters)) (run from (all_done (words_cleared homes (slots_of f))) (run from (all_done (frame_taken homes.first f)) m)))
 begin_run homes from f m =
-    let t0 = run from (all_done (frame_taken homes f)) m in
+    let t0 = run from (all_done (frame_taken homes.first f)) m in
     let c = run from (all_done (words_cleared homes (slots_of f))) t0 in
-    let rest = arguments_kept homes f.parameters ++ state_kept homes f in
-    ap (λ steps. run from steps m) (done_append (frame_taken homes f) (words_cleared homes (slots_of f) ++ rest))
-    ∙ run_append from (all_done (frame_taken homes f)) (all_done (words_cleared homes (slots_of f) ++ rest)) m
+    let rest = arguments_kept homes.first f.parameters ++ state_kept homes f in
+    ap (λ steps. run from steps m) (done_append (frame_taken homes.first f) (words_cleared homes (slots_of f) ++ rest))
+    ∙ run_append from (all_done (frame_taken homes.first f)) (all_done (words_cleared homes (slots_of f) ++ rest)) m
     ∙ ap (λ steps. run from steps t0) (done_append (words_cleared homes (slots_of f)) rest)
     ∙ run_append from (all_done (words_cleared homes (slots_of f))) (all_done rest) t0
-    ∙ ap (λ steps. run from steps c) (done_append (arguments_kept homes f.parameters) (state_kept homes f))
-    ∙ run_append from (all_done (arguments_kept homes f.parameters)) (all_done (state_kept homes f)) c
+    ∙ ap (λ steps. run from steps c) (done_append (arguments_kept homes.first f.parameters) (state_kept homes f))
+    ∙ run_append from (all_done (arguments_kept homes.first f.parameters)) (all_done (state_kept homes f)) c
 
 -- the run of a function's code, piece by piece
-pub function_run : (homes : ℕ) (from : Sources) (code : ℕ → List Step) (f : PlainFunction) (m : Run)
+pub function_run : (homes : Homes) (from : Sources) (code : ℕ → List Step) (f : PlainFunction) (m : Run)
     → run from (parts_trail code (function_code homes f)) m
-    ≡ run from (all_done return_tail) (run from (all_done (function_end homes f)) (run from (parts_trail code (stmts_code homes f.frame (first_counter f) f.body))
-    (run from (all_done (state_kept homes f)) (run from (all_done (arguments_kept homes f.parameters)) (run from (all_done (words_cleared homes (slots_of f))) (run from (all_done (frame_taken homes f)) m))))))
+    ≡ run from (all_done return_tail) (run from (all_done (function_end homes.first f)) (run from (parts_trail code (body_code homes f))
+    (run from (all_done (state_kept homes f)) (run from (all_done (arguments_kept homes.first f.parameters)) (run from (all_done (words_cleared homes (slots_of f))) (run from (all_done (frame_taken homes.first f)) m))))))
 function_run homes from code f m =
-    let t0 = run from (all_done (frame_taken homes f)) m in
-    let body = stmts_code homes f.frame (first_counter f) f.body in
-    let rest = parts_trail code (joined body (function_rest homes f)) in
+    let t0 = run from (all_done (frame_taken homes.first f)) m in
+    let body = body_code homes f in
+    let rest = parts_trail code (joined body (function_rest homes.first f)) in
     let c = run from (all_done (words_cleared homes (slots_of f))) t0 in
     run_append from (all_done (function_begin homes f)) rest m
     ∙ ap (run from rest) (begin_run homes from f m)
-    ∙ run_joined from code body (function_rest homes f) (run from (all_done (state_kept homes f)) (run from (all_done (arguments_kept homes f.parameters)) c))
-    ∙ run_append from (all_done (function_end homes f)) (all_done return_tail) (run from (parts_trail code body) (run from (all_done (state_kept homes f)) (run from (all_done (arguments_kept homes f.parameters)) c)))
+    ∙ run_joined from code body (function_rest homes.first f) (run from (all_done (state_kept homes f)) (run from (all_done (arguments_kept homes.first f.parameters)) c))
+    ∙ run_append from (all_done (function_end homes.first f)) (all_done return_tail) (run from (parts_trail code body) (run from (all_done (state_kept homes f)) (run from (all_done (arguments_kept homes.first f.parameters)) c)))
+
+flag_word : (b : Bool) → flag b < 2 ^ 32
+flag_word true = omega arith
+flag_word false = omega arith
+
+-- where its body begins, the run is where the tree's state is
+follows_begun : (homes : Homes) (slots : ℕ) (f : PlainFunction) (mask : ℕ) (args : List ℕ) (w : World) {m : Run} (t : Run) → CalledWith mask args w m → Carries w t → ((u : ℕ) → u < slots → shown_word homes u t ≡ begun_words (flag_of homes.flags f.mask) f.mask mask (slice_index args) u)
+    → Follows homes slots (begun_state (flag_of homes.flags f.mask) f.mask (record { frame = begun_frame f mask args; world = w })) t
+follows_begun homes slots f mask args w t x carries shows = by (flag_of homes.flags f.mask) shows
+  where
+    words : (u : ℕ) → begun_frame f mask args u < 2 ^ 32
+    words u = put_word f.mask mask u (slice_index args) (2 ^ 32) x.mask_word (x.arg_words u)
+
+    by : (o : Option ℕ) → ((u : ℕ) → u < slots → shown_word homes u t ≡ begun_words o f.mask mask (slice_index args) u) → Follows homes slots (begun_state o f.mask (record { frame = begun_frame f mask args; world = w })) t
+    by None shows = record {
+      whole = carries.whole;
+      shows = record { frame = shows; world = carries.has };
+      words = record { frame = λ u lt. words u; world = carries.words };
+      flag = carries.flag;
+    }
+    by (Some p) shows =
+        let own = put_same f.mask mask (slice_index args) in record {
+          whole = carries.whole;
+          shows = record { frame = λ u lt. shows u lt ∙ ap (λ v. put f.mask (flag (v == 1)) (begun_frame f mask args) u) (sym own); world = carries.has };
+          words = record { frame = λ u lt. put_word f.mask (flag (begun_frame f mask args f.mask == 1)) u (begun_frame f mask args) (2 ^ 32) (flag_word (begun_frame f mask args f.mask == 1)) (words u); world = carries.words };
+          flag = carries.flag;
+        }
 
 -- a function over what the earlier ones do
-pub function_serves : (homes : ℕ) (tops : List ℕ) (code : ℕ → List Step) (g : Serves) (fs : List PlainFunction) (number low : ℕ) (f : PlainFunction) → functions_formed fs number ≡ true → function_formed fs number f ≡ true → HasStmtsConstants f.body → homes_over tops f ≤ homes
+pub function_serves : (homes : Homes) (tops : List ℕ) (code : ℕ → List Step) (g : Serves) (fs : List PlainFunction) (number low : ℕ) (f : PlainFunction) → functions_formed fs number ≡ true → function_formed fs number f ≡ true → HasStmtsConstants f.body → homes_over tops f ≤ homes.first → function_stands homes.flags f ≡ true
     → CallsRun homes tops code g fs number f.frame (slots_of f) low
-    → (mask : ℕ) (args : List ℕ) (w : World) (m : Run) → length args ≡ f.parameters → low + 128 ≤ m.st → CalledWith mask args w m → Returns (homes + (f.frame - 2)) (function_outcome g f mask args w) m (run by_words (parts_trail code (function_code homes f)) m)
-function_serves homes tops code g fs number low f earlier formed constants least others mask args w m count enough x =
+    → (mask : ℕ) (args : List ℕ) (w : World) (m : Run) → length args ≡ f.parameters → low + 128 ≤ m.st → CalledWith mask args w m → Returns (homes.first + (f.frame - 2)) (function_outcome g f mask args w) m (run by_words (parts_trail code (function_code homes f)) m)
+function_serves homes tops code g fs number low f earlier formed constants least placed others mask args w m count enough x =
     let p = parts_of_function fs number f formed in
     let slots = slots_of f in
-    let t1 = run by_words (all_done (arguments_kept homes f.parameters)) (run by_words (all_done (words_cleared homes slots)) (run by_words (all_done (frame_taken homes f)) m)) in
-    let none = needs_none homes f in
+    let t1 = run by_words (all_done (arguments_kept homes.first f.parameters)) (run by_words (all_done (words_cleared homes slots)) (run by_words (all_done (frame_taken homes.first f)) m)) in
+    let none = needs_none homes.first f in
     let n = words_taken none f.frame in
     let few = taken_few none f.frame in
-    let out = outside homes f (omega (arith, p.room)) none refl in
-    let taken = begins_frame homes f.frame slots f.parameters none args m x.carries.whole count (omega (arith, least)) (omega (arith, p.before_mask, p.mask)) p.parameters out (omega (arith, p.room, p.frame)) (omega (arith, p.frame, enough)) x.given x.arg_words in
+    let out = outside homes.first f (omega (arith, p.room)) none refl in
+    let stand = stands_of homes.flags f placed in
+    let taken = begins_frame homes f.frame slots f.parameters none args m (λ i lt. stand.parameters i (omega (arith, lt, count))) x.carries.whole count (omega (arith, least)) (omega (arith, p.before_mask, p.mask)) p.parameters out (omega (arith, p.room, p.frame)) (omega (arith, p.frame, enough)) x.given x.arg_words in
     let t2 = run by_words (all_done (state_kept homes f)) t1 in
-    let e = enters homes slots n f.frame f.mask mask (stmts_call f.body) (slice_index args) w m t1 (omega (arith, least)) (omega (arith, p.room)) p.frame (omega (arith, few, p.frame, enough)) (λ has. whole_frame homes f has) out p.mask x.masked x.mask_word x.carries taken in
+    let e = enters homes slots n f.frame f.mask mask (stmts_call f.body) (slice_index args) w m t1 (omega (arith, least)) (omega (arith, p.room)) p.frame (omega (arith, few, p.frame, enough)) (λ has. whole_frame homes.first f has) out p.mask x.masked x.mask_word x.carries taken in
     let s : State = record { frame = begun_frame f mask args; world = w } in
-    let y : Follows homes slots s t2 = record {
-      whole = e.carries.whole;
-      shows = record { frame = e.frame_is; world = e.carries.has };
-      words = record { frame = λ u lt. put_word f.mask mask u (slice_index args) (2 ^ 32) x.mask_word (x.arg_words u); world = e.carries.words };
-      flag = e.carries.flag;
-    } in
-    let d = stmts_run homes tops code g fs number f.frame slots (first_counter f) low others (omega (arith, p.room, p.frame)) (omega (arith, p.room, p.frame, p.mask)) (omega (arith, p.room, p.mask)) f.body (omega (arith, p.room, p.mask)) p.body constants (omega (arith, least)) s t2
-    (omega (arith, e.st, few, enough, p.frame)) y in
-    let t3 = run by_words (parts_trail code (stmts_code homes f.frame (first_counter f) f.body)) t2 in
-    let z = stmts_done g f.body s in
-    let r = returns_value homes z.world f.frame (f.frame - 2) (f.frame - 1) none f.result (z.frame f.result) (stmts_call f.body) t3 (record { whole = d.follows.whole; has = d.follows.shows.world; words = d.follows.words.world; flag = d.follows.flag })
-    (omega (arith, least)) (omega (arith, p.result, p.room, p.frame)) (d.follows.shows.frame f.result p.result) (d.follows.words.frame f.result p.result) in
-    subst (Returns (homes + (f.frame - 2)) (function_outcome g f mask args w) m) (sym (function_run homes by_words code f m)) (record {
+    let y = follows_begun homes slots f mask args w t2 x e.carries e.frame_is in
+    let z = stmts_done g (begun_body homes.flags f) (begun_state (flag_of homes.flags f.mask) f.mask s) in
+    let levels = begun_levels homes.flags f in
+    let fewer = begun_least homes.flags tops f in
+    let d = stmts_run homes tops code g fs number f.frame slots (first_counter f) low others (omega (arith, p.room, p.frame)) (omega (arith, p.room, p.frame, p.mask)) (omega (arith, p.room, p.mask)) (begun_body homes.flags f) (omega (arith, p.room, p.mask, levels))
+    (begun_formed homes.flags fs number slots f p.body) (begun_constants homes.flags f constants) (omega (arith, least, fewer)) stand.body (begun_state (flag_of homes.flags f.mask) f.mask s) t2 (omega (arith, e.st, few, enough, p.frame)) y in
+    let t3 = run by_words (parts_trail code (body_code homes f)) t2 in
+    let r = returns_value homes.first z.world f.frame (f.frame - 2) (f.frame - 1) none f.result (z.frame f.result) (stmts_call f.body) t3 (record { whole = d.follows.whole; has = d.follows.shows.world; words = d.follows.words.world; flag = d.follows.flag })
+    (omega (arith, least)) (omega (arith, p.result, p.room, p.frame)) (sym (shown_plain homes f.result t3 stand.result) ∙ d.follows.shows.frame f.result p.result) (d.follows.words.frame f.result p.result) in
+    subst (λ z. Returns (homes.first + (f.frame - 2)) (record { value = z.frame f.result; world = z.world }) m (run by_words (parts_trail code (function_code homes f)) m)) (sym (begun_done g homes.flags f s stand.mask))
+    (subst (Returns (homes.first + (f.frame - 2)) (record { value = z.frame f.result; world = z.world }) m) (sym (function_run homes by_words code f m)) (record {
       answers = record {
         carries = r.carries;
         value = r.value;
@@ -131,14 +163,14 @@ function_serves homes tops code g fs number low f earlier formed constants least
         stack = λ a above. ap (λ words. words a) r.stack ∙ stands none refl e.carries.whole e.st d.keeps a above ∙ e.behind a above;
       };
       high = λ q from lt. r.high q (omega (arith, from)) lt ∙ d.keeps.high q (omega (arith, from, p.room, p.mask)) lt ∙ e.high q (omega (arith, from, p.room)) lt;
-    })
+    }))
   where
     -- its body leaves the stack of its callers
-    stands : {t : Run} (b : Bool) → needs_none homes f ≡ b → IsWhole t → t.st ≡ m.st - words_taken (needs_none homes f) f.frame → KeepsBehind (homes + (first_counter f + 1)) (first_counter f + 1) t (run by_words (parts_trail code (stmts_code homes f.frame (first_counter f) f.body)) t)
-        → (a : ℕ) → m.st ≤ a → (run by_words (parts_trail code (stmts_code homes f.frame (first_counter f) f.body)) t).stack a ≡ t.stack a
+    stands : {t : Run} (b : Bool) → needs_none homes.first f ≡ b → IsWhole t → t.st ≡ m.st - words_taken (needs_none homes.first f) f.frame → KeepsBehind (homes.first + (first_counter f + 1)) (first_counter f + 1) t (run by_words (parts_trail code (body_code homes f)) t)
+        → (a : ℕ) → m.st ≤ a → (run by_words (parts_trail code (body_code homes f)) t).stack a ≡ t.stack a
     stands {t} true none whole st keeps a above =
         let p = parts_of_function fs number f formed in
-        let stays = bare_body homes by_words code fs number f tops (record { earlier = earlier; some = omega (arith, p.mask); most = omega (arith, p.room, p.frame); own = omega (arith, least) }) p.body p.room (omega (arith, least)) (needs_parts homes f none) t whole in
+        let stays = bare_body homes by_words code fs number f tops (record { earlier = earlier; some = omega (arith, p.mask); most = omega (arith, p.room, p.frame); own = omega (arith, least) }) p.body p.room (omega (arith, least)) (needs_parts homes.first f none) t whole in
         stays.keeps.stack a (omega (arith, st, above))
     stands {t} false some whole st keeps a above =
         let p = parts_of_function fs number f formed in
@@ -152,14 +184,18 @@ code_of fs n = trails (codes fs) n
 unfoldable pub AllServe : List PlainFunction → ℕ → Type 0
 AllServe fs n = (k : ℕ) → k < n → ServedBy (code_of fs n) (serves fs n) k (slice_index_or fs k no_function).parameters ((k + 1) * 128) (top_of fs k)
 
+off_false : (b : Bool) → not b ≡ false → b ≡ true
+off_false true is = refl
+off_false false is = absurd (true≢false is)
+
 -- over the earlier ones, calls do what they mean
-pub calls_run : (homes : ℕ) (fs : List PlainFunction) (n frame slots : ℕ) → functions_formed fs n ≡ true → slots ≤ 128 → AllServe fs n → CallsRun homes (tops fs n) (code_of fs n) (serves fs n) fs n frame slots (n * 128)
+pub calls_run : (homes : Homes) (fs : List PlainFunction) (n frame slots : ℕ) → functions_formed fs n ≡ true → slots ≤ 128 → AllServe fs n → CallsRun homes (tops fs n) (code_of fs n) (serves fs n) fs n frame slots (n * 128)
 unfolding AllServe ServedBy
 calls_run homes fs n frame slots formed most earlier = record { calls = each }
   where
-    each : (counter mask k : ℕ) (args : List PlainSp) (result : Option ℕ) → slots ≤ counter + 1 → counter + 3 ≤ frame → stmt_formed fs n slots (calls mask k args result) ≡ true → HasStmtConstants (calls mask k args result) → stmt_least (tops fs n) (calls mask k args result) ≤ homes
+    each : (counter mask k : ℕ) (args : List PlainSp) (result : Option ℕ) → slots ≤ counter + 1 → counter + 3 ≤ frame → stmt_formed fs n slots (calls mask k args result) ≡ true → HasStmtConstants (calls mask k args result) → stmt_least (tops fs n) (calls mask k args result) ≤ homes.first → stmt_hinders homes.flags (calls mask k args result) ≡ false
         → Runs homes (code_of fs n) (serves fs n) frame counter slots (n * 128) (calls mask k args result)
-    each counter mask k args result fits within named constants least s m enough x =
+    each counter mask k args result fits within named constants least stand s m enough x =
         let a = and_parts (nat_lt mask slots) (callee_formed fs n k (length args) && (args_formed slots args && result_formed slots result)) named in
         let b = and_parts (callee_formed fs n k (length args)) (args_formed slots args && result_formed slots result) a.1 in
         let callee = and_parts (nat_lt k n) (length args == (slice_index_or fs k no_function).parameters) b.0 in
@@ -167,7 +203,7 @@ calls_run homes fs n frame slots formed most earlier = record { calls = each }
         let less = ltb-true k n callee.0 in
         let count = eqb-true (length args) (slice_index_or fs k no_function).parameters callee.1 in
         let few = (parts_of_function fs k (slice_index_or fs k no_function) (earlier_one fs k n less formed)).parameters in
-        call_is_done homes (code_of fs n) (serves fs n) frame counter slots ((k + 1) * 128) (top_of fs k) mask k args result s m most fits (ltb-true mask slots a.0) (omega (arith, count, few)) c.0 constants c.1
+        call_is_done homes (code_of fs n) (serves fs n) frame counter slots ((k + 1) * 128) (top_of fs k) mask k args result s m (off_false (homes.flags.count == 0) stand) most fits (ltb-true mask slots a.0) (omega (arith, count, few)) c.0 constants c.1
         (λ word given w t same room called. earlier k less word given w t (same ∙ count) room called)
         (let top = tops_at fs n k less in omega (arith, least, top)) (omega (arith, least)) (omega (arith, less, enough)) x
 
@@ -187,10 +223,10 @@ all_serve fs constants (suc n) within formed k less mask args w m count room cal
     f : PlainFunction
     f = slice_index_or fs n no_function
 
-    last : AllServe fs n → k ≡ n → Returns (top_of fs n) (function_outcome (serves fs n) f mask args w) m (run by_words (parts_trail (code_of fs n) (function_code (homes_of fs n) f)) m)
+    last : AllServe fs n → k ≡ n → Returns (top_of fs n) (function_outcome (serves fs n) f mask args w) m (run by_words (parts_trail (code_of fs n) (function_code (places_of fs n) f)) m)
     last before is =
         let p = parts_of_function fs n f parts.1 in
-        ends_at (function_serves (homes_of fs n) (tops fs n) (code_of fs n) (serves fs n) fs n (n * 128) f parts.0 parts.1 (constants n) (omega arith) (calls_run (homes_of fs n) fs n f.frame (slots_of f) parts.0 (omega (arith, p.room, p.frame)) before)
+        ends_at (function_serves (places_of fs n) (tops fs n) (code_of fs n) (serves fs n) fs n (n * 128) f parts.0 parts.1 (constants n) (omega arith) (all_stand f) (calls_run (places_of fs n) fs n f.frame (slots_of f) parts.0 (omega (arith, p.room, p.frame)) before)
         mask args w m (count ∙ ap (λ j. (slice_index_or fs j no_function).parameters) is) (omega (arith, room, is)) called)
 
     by : AllServe fs n → (b : Bool) → (k == n) ≡ b

@@ -12,21 +12,23 @@ use Rattle.patmos_sem.specs.declared.effects.Effect.TheVariants as effect
 use Rattle.sp_shape.specs.Memory.{Memory, cell_of, with_port, with_word as cell_set}
 use Rattle.sp_shape.specs.Run.{Run, Sources, once, run, IsWhole}
 use Rattle.sp_shape.specs.Trail.{does, all_done}
-use Rattle.sp_emit.specs.Holding.{held}
+use Rattle.sp_emit.specs.Holding.{held, so}
 use Rattle.sp_emit.specs.Instructions.{where_so, store_to, set_long, compare_short}
 use Rattle.patmos_instr.specs.declared.functions.CmpFunc.TheVariants as cmp
 use Rattle.sp_emit.specs.Starting.{StartsAt, StartsWell, AllStart}
-use Rattle.sp_emit.specs.Statements.{mask_test, send_test, send_start, send_code}
+use Rattle.sp_emit.specs.Statements.{send_test, send_start, send_code}
 use Rattle.sp_emit.specs.declared.registers.TheConstants.{FIRST, SPARE, OVERRUN, TEST}
 use Rattle.sp_emit.proofs.Frames.{put_same}
-use Rattle.sp_emit.proofs.Once.{so, did_nothing, so_by_register}
+use Rattle.sp_emit.proofs.Once.{did_nothing, so_by_register}
 use Rattle.sp_emit.proofs.Calm.{is_calm_trail, calm_run}
 use Rattle.sp_emit.proofs.Leaving.{constant_leaves, did_set_long}
-use Rattle.sp_emit.proofs.Portless.{portless_start, start_append, portless_fetch}
+use Rattle.sp_emit.proofs.Portless.{portless_start, start_append, portless_test}
 use Rattle.sp_emit.proofs.WordPlaces.{fetch_is}
-use Rattle.sp_emit.specs.Places.{fetched_at}
+use Rattle.sp_emit.specs.Places.{fetched_at, mask_test, told_at}
+use Rattle.sp_emit.proofs.FlagWords.{test_is, told_few, told_other}
 use Rattle.sp_emit.proofs.Sends.{port_found, code_starts, starts_alike, tests_send}
 use Rattle.sp_emit.proofs.Storing.{with_store, did_store}
+use Rattle.sp_emit.specs.declared.stands.Homes.{Homes}
 
 module _ (from : Sources) (core : ℕ) (few : core < 16) where
   -- a store that is made, or not
@@ -73,14 +75,16 @@ module _ (from : Sources) (core : ℕ) (few : core < 16) where
 
 -- ---- the code of a send
 
-pub send_starts : (homes : ℕ) (from : Sources) (mask core : ℕ) (m : Run) → core < 16 → IsWhole m → held FIRST m < 2 ^ 32 → held (FIRST + 1) m < 2 ^ 32 → held (FIRST + 2) m < 2 ^ 32 → AllStart from (all_done (send_code homes mask core)) m
+pub send_starts : (homes : Homes) (from : Sources) (mask core : ℕ) (m : Run) → core < 16 → IsWhole m → held FIRST m < 2 ^ 32 → held (FIRST + 1) m < 2 ^ 32 → held (FIRST + 2) m < 2 ^ 32 → AllStart from (all_done (send_code homes mask core)) m
 send_starts homes from mask core m few whole word_a word_b word_c =
     let address = 0x20000 + 16 * core in
     let u = run from (all_done (mask_test homes mask)) m in
-    let k = calm_run from (FIRST + 3) OVERRUN (all_done (mask_test homes mask)) m (omega arith) whole (fetch_is (λ b. is_calm_trail (FIRST + 3) OVERRUN (all_done (b ∷ compare_short cmp.Eq TEST (fetched_at homes mask) 1 ∷ [])) ≡ true) homes mask refl refl) in
-    let b = so TEST u in
-    let allowed = tests_send OVERRUN from core (omega arith) b (held FIRST u) (held (FIRST + 1) u) (held (FIRST + 2) u) u k.whole refl refl refl refl in
-    let v = run from (all_done send_test) u in
+    let k = calm_run from (FIRST + 3) OVERRUN (all_done (mask_test homes mask)) m (omega arith) whole (test_is (λ bs. is_calm_trail (FIRST + 3) OVERRUN (all_done bs) ≡ true) homes mask (λ p is. refl)
+    (λ is. fetch_is (λ b. is_calm_trail (FIRST + 3) OVERRUN (all_done (b ∷ compare_short cmp.Eq TEST (fetched_at homes.first mask) 1 ∷ [])) ≡ true) homes.first mask refl refl)) in
+    let told = told_at homes mask in
+    let b = so told u in
+    let allowed = tests_send (record { first = OVERRUN; flags = homes.flags }) from core told (told_few homes mask).1 (told_other homes mask) (omega arith) b (held FIRST u) (held (FIRST + 1) u) (held (FIRST + 2) u) u k.whole refl refl refl refl in
+    let v = run from (all_done (send_test told)) u in
     let w = once from (set_long SPARE address) v in
     let set = did_set_long from SPARE address v allowed.keeps.whole in
     let kw = calm_run from SPARE OVERRUN (all_done (set_long SPARE address ∷ [])) v (omega arith) allowed.keeps.whole refl in
@@ -93,5 +97,5 @@ send_starts homes from mask core m few whole word_a word_b word_c =
     (λ i. may_start (low FIRST (omega arith) i) (low (FIRST + 1) (omega arith) i) (low (FIRST + 2) (omega arith) i))
     ∙ sym same ∙ (and_parts b (code_starts (held FIRST u) (held (FIRST + 1) u) (held (FIRST + 2) u)) (sym test ∙ on)).1 in
     let stores = starts_well from core few (so TEST w) w kw.whole refl (constant_leaves from SPARE address v allowed.keeps.whole (omega arith) (omega arith) (omega (arith, few))) ok in
-    start_append from (all_done (mask_test homes mask)) (all_done (send_test ++ send_start core)) m (portless_start from (mask_test homes mask) m (rw (portless_fetch homes mask) refl))
-    (start_append from (all_done send_test) (all_done (send_start core)) u (portless_start from send_test u refl) ((portless_start from (set_long SPARE address ∷ []) v refl).0, stores))
+    start_append from (all_done (mask_test homes mask)) (all_done (send_test told ++ send_start core)) m (portless_start from (mask_test homes mask) m (portless_test homes mask))
+    (start_append from (all_done (send_test told)) (all_done (send_start core)) u (portless_start from (send_test told) u refl) ((portless_start from (set_long SPARE address ∷ []) v refl).0, stores))

@@ -14,20 +14,26 @@ use Rattle.sp_tree.specs.Plain.{PlainSp}
 use Rattle.sp_tree.specs.Statements.{PlainSpTarget, to_slot, to_cell, to_array, PlainStmt, masks, writes, calls, transfers, overruns, iterations, PlainStmts, no_stmt, stmt, PlainFunction}
 use Rattle.sp_shape.specs.Bundles.{is_steady, parts_all}
 use Rattle.sp_shape.specs.Parts.{straight, PlainParts, one, joined, repeats}
+use Rattle.sp_shape.proofs.Lists.{all_weaker}
+use Rattle.sp_emit.specs.Flags.{begun_body}
 use Rattle.sp_emit.specs.Expressions.{operands_code, expr_to, expr_code, address_of}
-use Rattle.sp_emit.specs.Functions.{first_counter, function_begin, function_end, function_rest, function_code}
+use Rattle.sp_emit.specs.Functions.{first_counter, function_begin, function_end, function_rest, body_code, function_code}
 use Rattle.patmos_instr.specs.declared.guards.Guard.{Guard}
 use Rattle.sp_emit.specs.Instructions.{always, where_so, under, set_number}
-use Rattle.sp_emit.specs.Places.{read_word, set_word, fetch_word, keep_word}
-use Rattle.sp_emit.specs.declared.registers.TheConstants.{RESULT, MASK, FIRST, TEST, SPARE}
+use Rattle.sp_emit.specs.Places.{read_word, set_word, fetch_word, keep_word, fetched_at, seek_word, match_word, told_at}
+use Rattle.sp_emit.specs.declared.registers.TheConstants.{RESULT, MASK, FIRST, SECOND, SPARE}
 use Rattle.sp_emit.proofs.WordPlaces.{read_is, set_op_is, fetch_is, keep_is}
 use Rattle.sp_emit.specs.Statements.{cell_write, element_write, target_write, args_code, call_code, send_code, overrun_code, slot_set, stmt_code, stmts_code, iterations_begin, iterations_tail}
 use Rattle.sp_emit.proofs.Quiet.{each_joined, each_lone, each_so, is_quiet, operands_quiet, expr_quiet, args_quiet}
 use Rattle.sp_emit.proofs.Lasts.{alu_quiet, write_is, guarded_each}
+use Rattle.sp_emit.proofs.FlagWords.{seek_is, match_is}
 use Rattle.sp_emit.proofs.Operands.{mask_is}
+use Rattle.sp_emit.proofs.TruthCode.{is_test_bundle, AreTests, TruthParts, flag_is}
 use Rattle.sp_emit.proofs.Around.{begin_all, end_all}
 use Rattle.sp_emit.proofs.Homing.{keeps_place}
 use Rattle.sp_emit.proofs.Numbers.{number_op_is}
+use Rattle.sp_emit.proofs.Offsets.{address_are}
+use Rattle.sp_emit.specs.declared.stands.Homes.{Homes}
 
 -- an instruction that takes no words of the stack
 abbrev takes_none : Op → Bool
@@ -52,13 +58,25 @@ both = each_joined is_firm
 firm_quiet : (b : Slots) → is_quiet b ≡ true → is_firm b ≡ true
 firm_quiet b quiet = grind (arith, quiet)
 
-expr_firm : (homes : ℕ) (e : PlainSp) (rd to : ℕ) → Firm (expr_to homes e rd to)
+expr_firm : (homes : Homes) (e : PlainSp) (rd to : ℕ) → Firm (expr_to homes e rd to)
 expr_firm homes e rd to = each_so is_quiet is_firm firm_quiet (expr_to homes e rd to) (expr_quiet homes e rd to)
 
-args_firm : (homes : ℕ) (args : List PlainSp) (rd : ℕ) → Firm (args_code homes args rd)
+args_firm : (homes : Homes) (args : List PlainSp) (rd : ℕ) → Firm (args_code homes args rd)
 args_firm homes args rd = each_so is_quiet is_firm firm_quiet (args_code homes args rd) (args_quiet homes args rd)
 
 -- ---- statements
+
+tests_firm : (bs : List Slots) → AreTests bs → Firm (one (straight bs))
+tests_firm bs tests = each_lone is_firm bs (all_weaker is_test_bundle is_firm (λ b is. grind (arith, is)) bs tests)
+
+truths_firm : (homes : Homes) → TruthParts Firm homes (λ e. Unit {0})
+truths_firm homes = record {
+  none = refl;
+  both = both;
+  second = λ op a b h. h;
+  operands = λ e h. each_so is_quiet is_firm firm_quiet (operands_code homes e FIRST) (operands_quiet homes e FIRST);
+  tests = tests_firm;
+}
 
 read_firm : (homes rd slot : ℕ) → is_firm (read_word homes rd slot) ≡ true
 read_firm homes rd slot = read_is (λ b. is_firm b ≡ true) homes rd slot refl refl
@@ -72,56 +90,67 @@ fetch_firm homes slot = fetch_is (λ b. is_firm b ≡ true) homes slot refl refl
 number_firm : (rd n : ℕ) → is_firm (set_number rd n) ≡ true
 number_firm rd n = number_op_is (λ op. is_firm (under always op) ≡ true) rd n refl refl
 
+seek_firm : (homes : Homes) (mask : ℕ) → is_firm (seek_word homes mask) ≡ true
+seek_firm homes mask = seek_is (λ b. is_firm b ≡ true) homes mask refl (fetch_firm homes.first mask)
+
+match_firm : (homes : Homes) (mask : ℕ) → is_firm (match_word homes mask) ≡ true
+match_firm homes mask = match_is (λ b. is_firm b ≡ true) homes mask refl refl
+
 -- a word of the stack or a register, under a guard
 set_firm : (homes : ℕ) (g : Guard) (slot rs : ℕ) → is_firm (set_word homes g slot rs) ≡ true
 set_firm homes g slot rs = set_op_is (λ op. is_firm (under g op) ≡ true) homes slot rs refl refl
 
-cell_write_firm : (homes : ℕ) (mask : ℕ) (r : Region) (word : ℕ) → AreFirm (cell_write homes mask (record { region = r; word = word }))
+cell_write_firm : (homes : Homes) (mask : ℕ) (r : Region) (word : ℕ) → AreFirm (cell_write homes mask (record { region = r; word = word }))
 cell_write_firm homes mask r word =
-    let read = fetch_firm homes mask in
+    let read = seek_firm homes mask in
+    let test = match_firm homes mask in
     let address = number_firm SPARE (address_of r word) in
-    grind (arith, read, address)
+    grind (arith, read, test, address)
 
-element_write_firm : (homes : ℕ) (mask : ℕ) (r : Region) (first length : ℕ) → AreFirm (element_write homes mask (record { region = r; first = first; length = length }))
+element_write_firm : (homes : Homes) (mask : ℕ) (r : Region) (first length : ℕ) → AreFirm (element_write homes mask (record { region = r; first = first; length = length }))
 element_write_firm homes mask r first length =
-    let read = fetch_firm homes mask in
-    let size = number_firm SPARE length in
-    let address = number_firm SPARE (address_of r first) in
-    grind (arith, read, size, address)
+    let read = seek_firm homes mask in
+    let test = match_firm homes mask in
+    let address = address_are (λ b. is_firm b ≡ true) (record { region = r; first = first; length = length }) SECOND (FIRST + 1) (FIRST + 1) refl (number_firm SPARE) refl refl refl refl in
+    grind (arith, read, test, address.length, address.below, address.base, address.scaled)
 
-target_firm : (homes : ℕ) (mask : ℕ) (target : PlainSpTarget) → Firm (target_write homes mask target)
-target_firm homes mask (to_slot slot) = rw (fetch_firm homes mask, set_firm homes (where_so TEST) slot FIRST) refl
+target_firm : (homes : Homes) (mask : ℕ) (target : PlainSpTarget) → Firm (target_write homes mask target)
+target_firm homes mask (to_slot slot) = rw (seek_firm homes mask, match_firm homes mask, set_firm homes.first (where_so (told_at homes mask)) slot FIRST) refl
 target_firm homes mask (to_cell cell) = each_lone is_firm (cell_write homes mask cell) (cell_write_firm homes mask cell.region cell.word)
 target_firm homes mask (to_array array index) = both (expr_code homes index 4) (one (straight (element_write homes mask array))) (expr_firm homes index 4 4)
     (each_lone is_firm (element_write homes mask array) (element_write_firm homes mask array.region array.first array.length))
 
-call_firm : (homes : ℕ) (frame mask k : ℕ) (result : Option ℕ) → Firm (call_code homes frame mask k result)
-call_firm homes frame mask k None = rw (read_firm homes MASK mask) refl
-call_firm homes frame mask k (Some slot) = rw (read_firm homes MASK mask, fetch_firm homes mask, set_firm homes (where_so TEST) slot RESULT) refl
+call_firm : (homes : Homes) (frame mask k : ℕ) (result : Option ℕ) → Firm (call_code homes frame mask k result)
+call_firm homes frame mask k None = rw (read_firm homes.first MASK mask) refl
+call_firm homes frame mask k (Some slot) = rw (read_firm homes.first MASK mask, seek_firm homes mask, match_firm homes mask, set_firm homes.first (where_so (told_at homes mask)) slot RESULT) refl
 
 mutual
-  stmt_firm : (homes : ℕ) (frame counter : ℕ) (t : PlainStmt) → Firm (stmt_code homes frame counter t)
+  stmt_firm : (homes : Homes) (frame counter : ℕ) (t : PlainStmt) → Firm (stmt_code homes frame counter t)
   stmt_firm homes frame counter (masks slot e) =
-      mask_is Firm homes slot e (λ here. expr_firm homes e 3 (homes + slot)) (λ there. both (expr_code homes e 3) (slot_set homes slot) (expr_firm homes e 3 3) (rw (set_firm homes always slot FIRST) refl))
+      mask_is Firm homes slot e (λ p is. flag_is (truths_firm homes) p (λ func a b. refl) e tt) (λ plain here. expr_firm homes e 3 (homes.first + slot))
+      (λ plain there. both (expr_code homes e 3) (slot_set homes.first slot) (expr_firm homes e 3 3) (rw (set_firm homes.first always slot FIRST) refl))
   stmt_firm homes frame counter (writes mask target e) =
       write_is Firm homes mask target e (both (expr_code homes e 3) (target_write homes mask target) (expr_firm homes e 3 3) (target_firm homes mask target))
-      (λ slot op is gives. guarded_each is_firm homes mask e op (each_so is_quiet is_firm firm_quiet (operands_code homes e 3) (operands_quiet homes e 3)) (fetch_firm homes mask) refl (firm_quiet (under (where_so TEST) op) (alu_quiet (where_so TEST) op gives.alu)))
+      (λ slot op is gives. guarded_each is_firm homes mask e op (each_so is_quiet is_firm firm_quiet (operands_code homes e 3) (operands_quiet homes e 3)) (seek_firm homes mask) (match_firm homes mask) (firm_quiet (under (where_so (told_at homes mask)) op) (alu_quiet (where_so (told_at homes mask)) op gives.alu)))
   stmt_firm homes frame counter (calls mask k args result) = both (args_code homes args 3) (call_code homes frame mask k result) (args_firm homes args 3) (call_firm homes frame mask k result)
   stmt_firm homes frame counter (transfers mask core source target count) =
       let sent = one (straight (send_code homes mask core)) in
       both (expr_code homes source 3) (joined (expr_code homes target 4) (joined (expr_code homes count 5) sent)) (expr_firm homes source 3 3)
-      (both (expr_code homes target 4) (joined (expr_code homes count 5) sent) (expr_firm homes target 4 4) (both (expr_code homes count 5) sent (expr_firm homes count 5 5) (rw (fetch_firm homes mask) refl)))
-  stmt_firm homes frame counter (overruns mask e) = both (expr_code homes e 3) (one (straight (overrun_code homes mask))) (expr_firm homes e 3 3) (rw (fetch_firm homes mask) refl)
+      (both (expr_code homes target 4) (joined (expr_code homes count 5) sent) (expr_firm homes target 4 4) (both (expr_code homes count 5) sent (expr_firm homes count 5 5) (rw (seek_firm homes mask, match_firm homes mask) refl)))
+  stmt_firm homes frame counter (overruns mask e) = both (expr_code homes e 3) (one (straight (overrun_code homes mask))) (expr_firm homes e 3 3) (rw (seek_firm homes mask, match_firm homes mask) refl)
   stmt_firm homes frame counter (iterations count body) =
       let code = stmts_code homes frame (counter - 1) body in
-      let kept = keep_firm homes counter in
-      both (one (straight (iterations_begin homes counter count))) (one (repeats count code (iterations_tail homes counter))) (rw (kept) refl)
-      (and_from _ true (and_from (parts_all is_firm code) (list_all is_firm (iterations_tail homes counter)) (stmts_firm homes frame (counter - 1) body) (rw (fetch_firm homes counter, kept) refl)) refl)
+      let kept = keep_firm homes.first counter in
+      both (one (straight (iterations_begin homes.first counter count))) (one (repeats count code (iterations_tail homes.first counter))) (rw (number_firm (fetched_at homes.first counter) count, kept) refl)
+      (and_from _ true (and_from (parts_all is_firm code) (list_all is_firm (iterations_tail homes.first counter)) (stmts_firm homes frame (counter - 1) body) (rw (fetch_firm homes.first counter, kept) refl)) refl)
 
-  pub stmts_firm : (homes : ℕ) (frame counter : ℕ) (ts : PlainStmts) → Firm (stmts_code homes frame counter ts)
+  pub stmts_firm : (homes : Homes) (frame counter : ℕ) (ts : PlainStmts) → Firm (stmts_code homes frame counter ts)
   stmts_firm homes frame counter no_stmt = refl
   stmts_firm homes frame counter (stmt t rest) =
       both (stmt_code homes frame counter t) (stmts_code homes frame counter rest) (stmt_firm homes frame counter t) (stmts_firm homes frame counter rest)
+
+pub body_firm : (homes : Homes) (f : PlainFunction) → Firm (body_code homes f)
+body_firm homes f = stmts_firm homes f.frame (first_counter f) (begun_body homes.flags f)
 
 pub place_firm : (b : Slots) → is_firm b ≡ true → keeps_place b ≡ true
 place_firm b firm = (and_parts (keeps_place b) (takes_none b.first.op) (and_parts (is_steady b) (keeps_place b && takes_none b.first.op) firm).1).0
@@ -137,9 +166,9 @@ takes_firm most b firm = none b.first.op (and_parts (keeps_place b) (takes_none 
 steady_firm : (b : Slots) → is_firm b ≡ true → is_steady b ≡ true
 steady_firm b firm = (and_parts (is_steady b) (keeps_place b && takes_none b.first.op) firm).0
 
-pub function_steady : (homes : ℕ) (f : PlainFunction) → parts_all is_steady (function_code homes f) ≡ true
+pub function_steady : (homes : Homes) (f : PlainFunction) → parts_all is_steady (function_code homes f) ≡ true
 function_steady homes f =
-    let body = stmts_code homes f.frame (first_counter f) f.body in
-    and_from (list_all is_steady (function_begin homes f)) (parts_all is_steady (joined body (function_rest homes f))) (begin_all is_steady homes f refl (λ r. refl) (λ slot rs. steady_firm (set_word homes always slot rs) (set_firm homes always slot rs)) refl refl)
-    (each_joined is_steady body (function_rest homes f) (each_so is_firm is_steady steady_firm body (stmts_firm homes f.frame (first_counter f) f.body))
-    (and_from (list_all is_steady (function_end homes f)) true (end_all is_steady homes f refl (steady_firm (read_word homes RESULT f.result) (read_firm homes RESULT f.result)) refl refl) refl))
+    let body = body_code homes f in
+    and_from (list_all is_steady (function_begin homes f)) (parts_all is_steady (joined body (function_rest homes.first f))) (begin_all is_steady homes f refl (λ r. refl) (λ slot rs. steady_firm (set_word homes.first always slot rs) (set_firm homes.first always slot rs)) refl (λ p. refl) (λ p. refl) refl)
+    (each_joined is_steady body (function_rest homes.first f) (each_so is_firm is_steady steady_firm body (body_firm homes f))
+    (and_from (list_all is_steady (function_end homes.first f)) true (end_all is_steady homes.first f refl (steady_firm (read_word homes.first RESULT f.result) (read_firm homes.first RESULT f.result)) refl refl) refl))

@@ -1,11 +1,10 @@
 -- What the code of writes and sends asks for: the variables and elements that it stores, word 0 of main memory, and the
 -- registers of the interface.
-use Rattle.std.proofs.Common.{◌≡◌, ℕ, ◌+◌, ◌*◌, ◌%◌, ◌^◌, ◌<◌, ◌≤◌, ◌⊎◌, inl, inr, Bool, true, false, not, ◌&&◌, if◌then◌else◌, Option, None, Some, [], ◌∷◌, ◌++◌, nat_lt, refl, sym, ap, ◌∙◌, subst, arith}
+use Rattle.std.proofs.Common.{◌≡◌, ℕ, ◌+◌, ◌*◌, ◌^◌, ◌<◌, ◌≤◌, ◌⊎◌, inl, inr, Bool, true, false, ◌&&◌, if◌then◌else◌, Option, None, Some, [], ◌∷◌, ◌++◌, nat_lt, refl, sym, ap, ◌∙◌, subst, arith}
 use Rattle.std.specs.Prelude.{nat_le}
 use Rattle.std.proofs.lemmas.Bool.{and_parts, leb-true, ltb-true}
 use Rattle.std.proofs.lemmas.List.Elements.{All-nil, All-cons}
-use Rattle.patmos_instr.specs.declared.functions.ImmFunc.TheVariants as imm
-use Rattle.patmos_instr.specs.declared.instructions.Op.TheVariants.{AluImm, Store}
+use Rattle.patmos_instr.specs.declared.instructions.Op.TheVariants.{Store}
 use Rattle.patmos_instr.specs.declared.memories.Mem.{Mem}
 use Rattle.patmos_instr.specs.declared.memories.Mem.TheVariants as mem
 use Rattle.patmos_instr.specs.declared.memories.StoreWidth.TheVariants as store
@@ -28,20 +27,25 @@ use Rattle.sp_shape.proofs.Whole.{run_whole}
 use Rattle.sp_shape.specs.Run.{Run, Sources, once, run, IsWhole}
 use Rattle.sp_shape.specs.Trail.{all_done}
 use Rattle.sp_emit.specs.Accesses.{IsStoredPlace, MayAsk, Asks, AsksOnly}
-use Rattle.sp_emit.specs.Expressions.{address_of, cell_space, array_space}
-use Rattle.sp_emit.specs.Holding.{held}
-use Rattle.sp_emit.specs.Instructions.{always, where_so, where_not, set_long, set_short, store_to, set_number}
-use Rattle.sp_emit.specs.Statements.{mask_test, masked_store, cell_write, element_write, send_test, send_code}
-use Rattle.sp_emit.specs.declared.registers.TheConstants.{FIRST, SPARE, OVERRUN, TEST}
-use Rattle.sp_emit.proofs.Accessing.{asks_none, asks_then, near_run, near_fetch, near_number}
+use Rattle.sp_emit.specs.Expressions.{address_of, cell_space, array_space, offset_of, at_word_0}
+use Rattle.sp_emit.specs.Holding.{held, so}
+use Rattle.sp_emit.specs.Instructions.{always, where_so, set_long, store_to, set_number}
+use Rattle.sp_emit.specs.Statements.{masked_store, cell_write, element_write, send_test, send_code}
+use Rattle.sp_emit.specs.declared.registers.TheConstants.{FIRST, SPARE, OVERRUN, TEST, SECOND}
+use Rattle.sp_emit.proofs.Accessing.{asks_none, asks_then, near_run, near_seek, near_match, near_number, near_address}
 use Rattle.sp_emit.proofs.Aligned.{stored_aligned}
-use Rattle.sp_emit.proofs.Cells.{cell_in, cell_found, element_found, element_address, few_words, first_small}
-use Rattle.sp_emit.proofs.Leaving.{did_set_short, constant_leaves, number_leaves}
-use Rattle.sp_emit.proofs.Once.{so, with_written, did_nothing, whole_written, got}
+use Rattle.sp_emit.proofs.Cells.{cell_in, cell_found, element_found, few_words, first_small}
+use Rattle.sp_emit.proofs.Leaving.{constant_leaves, number_leaves}
+use Rattle.sp_emit.proofs.Offsets.{offset_small}
+use Rattle.sp_emit.proofs.Reaching.{before_0, word_0, did_at_word_0, not_at_word_0}
+use Rattle.sp_emit.proofs.Once.{with_written, did_nothing, whole_written, got}
 use Rattle.sp_emit.proofs.TargetWrites.{element_address_made, reaches}
-use Rattle.sp_emit.proofs.Portless.{portless_start, start_append, portless_fetch, portless_number}
+use Rattle.sp_emit.proofs.Portless.{portless_start, start_append, portless_test, portless_number, portless_address}
 use Rattle.sp_emit.proofs.Starts.{send_starts}
 use Rattle.sp_emit.proofs.Storing.{with_store, did_store}
+use Rattle.sp_emit.specs.Places.{mask_test, told_at}
+use Rattle.sp_emit.proofs.FlagWords.{told_few, told_other}
+use Rattle.sp_emit.specs.declared.stands.Homes.{Homes}
 
 -- ---- stores
 
@@ -63,43 +67,42 @@ asked_by_store mem.C address value m = refl
 asked_by_store mem.M address value m = refl
 
 -- a store that is always made, at an address
-store_asks : (Named : Use → Type 0) (from : Sources) (space : Mem) (at address : ℕ) (m : Run) → IsWhole m → address_by (held at m) 0 4 ≡ address → IsStoredPlace Named space address → Asks Named [] m (once from (store_to always space at FIRST 0) m)
-store_asks Named from space at address m whole is place =
-    asks_store Named space address (held FIRST m) m (once from (store_to always space at FIRST 0) m)
-    (ap (λ t. t.asked) (did_store from always space at FIRST 0 m whole whole.fits.always) ∙ asked_by_store space (address_by (held at m) 0 4) (held FIRST m) m
+store_asks : (Named : Use → Type 0) (from : Sources) (space : Mem) (at words address : ℕ) (m : Run) → IsWhole m → address_by (held at m) words 4 ≡ address → IsStoredPlace Named space address → Asks Named [] m (once from (store_to always space at FIRST words) m)
+store_asks Named from space at words address m whole is place =
+    asks_store Named space address (held FIRST m) m (once from (store_to always space at FIRST words) m)
+    (ap (λ t. t.asked) (did_store from always space at FIRST words m whole whole.fits.always) ∙ asked_by_store space (address_by (held at m) words 4) (held FIRST m) m
     ∙ ap (λ a. m.asked ++ effect.Store space store.Word a (held FIRST m) ∷ []) is)
     (may_store Named space address (held FIRST m) place)
 
 -- one that is made where the predicate is true
-store_where : (Named : Use → Type 0) (from : Sources) (at rs imm address : ℕ) (b : Bool) (m : Run) → IsWhole m → so TEST m ≡ b → (b ≡ true → address_by (held at m) imm 4 ≡ address) → (b ≡ true → IsStoredPlace Named mem.L address)
-    → Asks Named [] m (once from (store_to (where_so TEST) mem.L at rs imm) m)
-store_where Named from at rs imm address false m whole off is place = asks_none Named m _ (ap (λ t. t.asked) (did_nothing from (where_so TEST) (Store mem.L store.Word at rs imm) m whole off))
-store_where Named from at rs imm address true m whole on is place =
-    asks_store Named mem.L address (held rs m) m (once from (store_to (where_so TEST) mem.L at rs imm) m)
-    (ap (λ t. t.asked) (did_store from (where_so TEST) mem.L at rs imm m whole on) ∙ ap (λ a. m.asked ++ effect.Store mem.L store.Word a (held rs m) ∷ []) (is refl))
+store_where : (Named : Use → Type 0) (from : Sources) (told at rs imm address : ℕ) (b : Bool) (m : Run) → IsWhole m → so told m ≡ b → (b ≡ true → address_by (held at m) imm 4 ≡ address) → (b ≡ true → IsStoredPlace Named mem.L address)
+    → Asks Named [] m (once from (store_to (where_so told) mem.L at rs imm) m)
+store_where Named from told at rs imm address false m whole off is place = asks_none Named m _ (ap (λ t. t.asked) (did_nothing from (where_so told) (Store mem.L store.Word at rs imm) m whole off))
+store_where Named from told at rs imm address true m whole on is place =
+    asks_store Named mem.L address (held rs m) m (once from (store_to (where_so told) mem.L at rs imm) m)
+    (ap (λ t. t.asked) (did_store from (where_so told) mem.L at rs imm m whole on) ∙ ap (λ a. m.asked ++ effect.Store mem.L store.Word a (held rs m) ∷ []) (is refl))
     (refl, place refl)
 
--- one that is made at address 0 where it is false
-store_or_0 : (Named : Use → Type 0) (from : Sources) (space : Mem) (at address : ℕ) (b : Bool) (m : Run) → (space ≡ mem.C) ⊎ (space ≡ mem.M) → 1 ≤ at → at < 32 → IsWhole m → so TEST m ≡ b → (b ≡ true → address_by (held at m) 0 4 ≡ address)
-    → (b ≡ true → IsStoredPlace Named space address) → Asks Named [] m (once from (store_to always space at FIRST 0) (once from (set_short (where_not TEST) at 0) m))
-store_or_0 Named from space at address true m main some few whole on is place =
-    subst (λ n. Asks Named [] m (once from (store_to always space at FIRST 0) n)) (sym (did_nothing from (where_not TEST) (AluImm imm.Add at 0 0) m whole (ap not on))) (store_asks Named from space at address m whole (is refl) (place refl))
-store_or_0 Named from space at address false m main some few whole off is place =
-    let w = write.Register at ((0 + 0) % 2 ^ 32) in
+-- one that is made at word 0 where it is false
+store_or_0 : (Named : Use → Type 0) (from : Sources) (space : Mem) (told at words address : ℕ) (b : Bool) (m : Run) → (space ≡ mem.C) ⊎ (space ≡ mem.M) → 1 ≤ at → at < 32 → words < 128 → IsWhole m → so told m ≡ b → (b ≡ true → address_by (held at m) words 4 ≡ address)
+    → (b ≡ true → IsStoredPlace Named space address) → Asks Named [] m (once from (store_to always space at FIRST words) (once from (at_word_0 told at words) m))
+store_or_0 Named from space told at words address true m main some few near whole on is place =
+    subst (λ n. Asks Named [] m (once from (store_to always space at FIRST words) n)) (sym (not_at_word_0 from told at words m whole on)) (store_asks Named from space at words address m whole (is refl) (place refl))
+store_or_0 Named from space told at words address false m main some few near whole off is place =
+    let w = write.Register at (before_0 words) in
     let n = with_written w m in
     let h = whole_written w m whole in
-    let set = did_set_short from (where_not TEST) at 0 m whole (ap not off) in
-    let zero_is : address_by (held at n) 0 4 ≡ 0 = ap (λ a. address_by a 0 4) (got at ((0 + 0) % 2 ^ 32) m whole some few) in
-    let a = store_asks Named from space at 0 n h zero_is (inr (inr (inl (record { space_is = main; address_is = refl })))) in
-    subst (λ n. Asks Named [] m (once from (store_to always space at FIRST 0) n)) (sym set) (record { news = a.news; is = a.is; may = a.may; loads = a.loads })
+    let zero_is : address_by (held at n) words 4 ≡ 0 = ap (λ a. address_by a words 4) (got at (before_0 words) m whole some few) ∙ word_0 words near in
+    let a = store_asks Named from space at words 0 n h zero_is (inr (inr (inl (record { space_is = main; address_is = refl })))) in
+    subst (λ n. Asks Named [] m (once from (store_to always space at FIRST words) n)) (sym (did_at_word_0 from told at words m whole off)) (record { news = a.news; is = a.is; may = a.may; loads = a.loads })
 
 -- a masked store, at an address that is made where the predicate is true
-masked_asks : (Named : Use → Type 0) (from : Sources) (space : Mem) (at address : ℕ) (b : Bool) (m : Run) → 1 ≤ at → at < 32 → IsWhole m → so TEST m ≡ b → (b ≡ true → address_by (held at m) 0 4 ≡ address)
-    → (b ≡ true → IsStoredPlace Named space address) → Asks Named [] m (run from (all_done (masked_store space at)) m)
-masked_asks Named from mem.S at address b m some few whole test is place = asks_none Named m m refl
-masked_asks Named from mem.L at address b m some few whole test is place = store_where Named from at FIRST 0 address b m whole test is place
-masked_asks Named from mem.C at address b m some few whole test is place = store_or_0 Named from mem.C at address b m (inl refl) some few whole test is place
-masked_asks Named from mem.M at address b m some few whole test is place = store_or_0 Named from mem.M at address b m (inr refl) some few whole test is place
+masked_asks : (Named : Use → Type 0) (from : Sources) (space : Mem) (told at words address : ℕ) (b : Bool) (m : Run) → 1 ≤ at → at < 32 → words < 128 → IsWhole m → so told m ≡ b → (b ≡ true → address_by (held at m) words 4 ≡ address)
+    → (b ≡ true → IsStoredPlace Named space address) → Asks Named [] m (run from (all_done (masked_store told space at words)) m)
+masked_asks Named from mem.S told at words address b m some few near whole test is place = asks_none Named m m refl
+masked_asks Named from mem.L told at words address b m some few near whole test is place = store_where Named from told at FIRST words address b m whole test is place
+masked_asks Named from mem.C told at words address b m some few near whole test is place = store_or_0 Named from mem.C told at words address b m (inl refl) some few near whole test is place
+masked_asks Named from mem.M told at words address b m some few near whole test is place = store_or_0 Named from mem.M told at words address b m (inr refl) some few near whole test is place
 
 -- ---- no store of them is in a register of the interface
 
@@ -121,27 +124,30 @@ no_start k value (Some (cell.Private word)) none = tt
 no_start k value (Some (cell.Shared word)) none = tt
 no_start k value None none = tt
 
-store_starts : (at address : ℕ) (b : Bool) (m : Run) → so TEST m ≡ b → (b ≡ true → address_by (held at m) 0 4 ≡ address) → (b ≡ true → NoPort (cell_of mem.L address))
-    → StartsWell (effect_of (store_to (where_so TEST) mem.L at FIRST 0) m.regs) m.memory
-store_starts at address false m off is none = subst (λ (b : Bool). StartsWell (if b then effect.Store mem.L store.Word (address_by (held at m) 0 4) (held FIRST m) else effect.Nothing) m.memory) (sym off) tt
-store_starts at address true m on is none =
-    subst (λ (b : Bool). StartsWell (if b then effect.Store mem.L store.Word (address_by (held at m) 0 4) (held FIRST m) else effect.Nothing) m.memory) (sym on)
+store_starts : (told at words address : ℕ) (b : Bool) (m : Run) → so told m ≡ b → (b ≡ true → address_by (held at m) words 4 ≡ address) → (b ≡ true → NoPort (cell_of mem.L address))
+    → StartsWell (effect_of (store_to (where_so told) mem.L at FIRST words) m.regs) m.memory
+store_starts told at words address false m off is none = subst (λ (b : Bool). StartsWell (if b then effect.Store mem.L store.Word (address_by (held at m) words 4) (held FIRST m) else effect.Nothing) m.memory) (sym off) tt
+store_starts told at words address true m on is none =
+    subst (λ (b : Bool). StartsWell (if b then effect.Store mem.L store.Word (address_by (held at m) words 4) (held FIRST m) else effect.Nothing) m.memory) (sym on)
     (subst (λ a. StartsAt m.memory (held FIRST m) (cell_of mem.L a)) (sym (is refl)) (no_start m.memory (held FIRST m) (cell_of mem.L address) (none refl)))
 
-masked_starts : (from : Sources) (space : Mem) (at address : ℕ) (b : Bool) (m : Run) → so TEST m ≡ b → (b ≡ true → address_by (held at m) 0 4 ≡ address) → (b ≡ true → NoPort (cell_of space address))
-    → AllStart from (all_done (masked_store space at)) m
-masked_starts from mem.S at address b m test is none = tt
-masked_starts from mem.L at address b m test is none = (store_starts at address b m test is none, tt)
-masked_starts from mem.C at address b m test is none = portless_start from (masked_store mem.C at) m refl
-masked_starts from mem.M at address b m test is none = portless_start from (masked_store mem.M at) m refl
+masked_starts : (from : Sources) (space : Mem) (told at words address : ℕ) (b : Bool) (m : Run) → so told m ≡ b → (b ≡ true → address_by (held at m) words 4 ≡ address) → (b ≡ true → NoPort (cell_of space address))
+    → AllStart from (all_done (masked_store told space at words)) m
+masked_starts from mem.S told at words address b m test is none = tt
+masked_starts from mem.L told at words address b m test is none = (store_starts told at words address b m test is none, tt)
+masked_starts from mem.C told at words address b m test is none = portless_start from (masked_store told mem.C at words) m refl
+masked_starts from mem.M told at words address b m test is none = portless_start from (masked_store told mem.M at words) m refl
 
 -- ---- variables
 
-pub cell_write_asks : (homes : ℕ) (Named : Use → Type 0) (mask : ℕ) (c : SpCell) → cell_formed c ≡ true → Named (writes_cell c) → AsksOnly Named (all_done (cell_write homes mask c))
+pub cell_write_asks : (homes : Homes) (Named : Use → Type 0) (mask : ℕ) (c : SpCell) → cell_formed c ≡ true → Named (writes_cell c) → AsksOnly Named (all_done (cell_write homes mask c))
 cell_write_asks homes Named mask c formed named = record { cached = []; asks = asks; starts = λ from m whole words. starts from m whole }
   where
     at : ℕ
     at = address_of c.region c.word
+
+    told : ℕ
+    told = told_at homes mask
 
     small : address_of c.region c.word < 2 ^ 32
     small = first_small c.region c.word (omega (arith, ltb-true c.word (room_in c.region all_rooms) (and_parts (nat_le (first_of c.region) c.word) (nat_lt c.word (room_in c.region all_rooms)) formed).1))
@@ -152,8 +158,8 @@ cell_write_asks homes Named mask c formed named = record { cached = []; asks = a
         let h = run_whole from (all_done (mask_test homes mask)) m whole in
         let u = once from (set_number SPARE at) n in
         let hu = run_whole from (all_done (set_number SPARE at ∷ [])) n h in
-        asks_then (near_run Named from (mask_test homes mask) m whole (rw (near_fetch homes mask) refl)) (asks_then (near_run Named from (set_number SPARE at ∷ []) n h (rw (near_number SPARE at) refl))
-        (masked_asks Named from (cell_space c.region) SPARE at (so TEST u) u (omega arith) (omega arith) hu refl
+        asks_then (near_run Named from (mask_test homes mask) m whole (rw (near_seek homes mask, near_match homes mask) refl)) (asks_then (near_run Named from (set_number SPARE at ∷ []) n h (rw (near_number SPARE at) refl))
+        (masked_asks Named from (cell_space c.region) told SPARE 0 at (so told u) u (omega arith) (omega arith) (omega arith) hu refl
         (λ on. ap (λ a. address_by a 0 4) (number_leaves from SPARE at n h (omega arith) (omega arith) small) ∙ omega (arith, small))
         (λ on. inl (c, named, record { formed = formed; space_is = refl; address_is = refl }))))
 
@@ -162,19 +168,22 @@ cell_write_asks homes Named mask c formed named = record { cached = []; asks = a
         let n = run from (all_done (mask_test homes mask)) m in
         let h = run_whole from (all_done (mask_test homes mask)) m whole in
         let u = once from (set_number SPARE at) n in
-        start_append from (all_done (mask_test homes mask)) (all_done (set_number SPARE at ∷ masked_store (cell_space c.region) SPARE)) m (portless_start from (mask_test homes mask) m (rw (portless_fetch homes mask) refl)) (
+        start_append from (all_done (mask_test homes mask)) (all_done (set_number SPARE at ∷ masked_store told (cell_space c.region) SPARE 0)) m (portless_start from (mask_test homes mask) m (portless_test homes mask)) (
           (portless_start from (set_number SPARE at ∷ []) n (rw (portless_number SPARE at) refl)).0,
-          masked_starts from (cell_space c.region) SPARE at (so TEST u) u refl
+          masked_starts from (cell_space c.region) told SPARE 0 at (so told u) u refl
               (λ on. ap (λ a. address_by a 0 4) (number_leaves from SPARE at n h (omega arith) (omega arith) small) ∙ omega (arith, small))
               (λ on. subst NoPort (sym (cell_found c.region c.word (ltb-true c.word (room_in c.region all_rooms) (and_parts (nat_le (first_of c.region) c.word) (nat_lt c.word (room_in c.region all_rooms)) formed).1))) (no_port c.region c.word)),
         )
 
 -- ---- elements
 
-pub element_write_asks : (homes : ℕ) (Named : Use → Type 0) (mask : ℕ) (a : SpArray) → array_formed a ≡ true → Named (writes_array a) → AsksOnly Named (all_done (element_write homes mask a))
+pub element_write_asks : (homes : Homes) (Named : Use → Type 0) (mask : ℕ) (a : SpArray) → array_formed a ≡ true → Named (writes_array a) → AsksOnly Named (all_done (element_write homes mask a))
 unfolding element_address_made
 element_write_asks homes Named mask a formed named = record { cached = []; asks = asks; starts = λ from m whole words. starts from m whole }
   where
+    told : ℕ
+    told = told_at homes mask
+
     within : a.first + a.length ≤ room_in a.region all_rooms
     within = leb-true (a.first + a.length) (room_in a.region all_rooms) (and_parts (nat_le (first_of a.region) a.first) (nat_le (a.first + a.length) (room_in a.region all_rooms)) formed).1
 
@@ -182,36 +191,36 @@ element_write_asks homes Named mask a formed named = record { cached = []; asks 
     asks from m whole =
         let n = run from (all_done (mask_test homes mask)) m in
         let h = run_whole from (all_done (mask_test homes mask)) m whole in
-        let made = element_address_made [] a.length (address_of a.region a.first) in
+        let made = element_address_made [] told a in
         let u = run from (all_done made) n in
         let i = held (FIRST + 1) n in
-        let b = so TEST n in
-        let r = reaches OVERRUN from b 0 i a.length (address_of a.region a.first) n (omega arith) h refl refl (omega (arith, within, few_words a.region)) (first_small a.region a.first (omega (arith, within))) in
+        let b = so told n in
+        let r = reaches (record { first = OVERRUN; flags = homes.flags }) from told b 0 i a n (told_few homes mask).1 (told_other homes mask) (omega arith) h refl refl (omega (arith, within, few_words a.region)) (first_small a.region a.first (omega (arith, within))) in
         let less : (b && nat_lt i a.length) ≡ true → i < a.length = λ on. ltb-true i a.length (and_parts b (nat_lt i a.length) on).1 in
-        asks_then (near_run Named from (mask_test homes mask) m whole (rw (near_fetch homes mask) refl)) (asks_then (near_run Named from made n h (rw (near_number SPARE a.length, near_number SPARE (address_of a.region a.first)) refl))
-        (masked_asks Named from (array_space a.region) (FIRST + 1) (address_of a.region (a.first + i)) (b && nat_lt i a.length) u (omega arith) (omega arith) r.keeps.whole r.test
-        (λ on. ap (λ x. address_by x 0 4) r.at ∙ element_address a.region a.first i (omega (arith, within, less on)))
+        asks_then (near_run Named from (mask_test homes mask) m whole (rw (near_seek homes mask, near_match homes mask) refl)) (asks_then (near_run Named from made n h (let p = near_address a SECOND (FIRST + 1) (FIRST + 1) in rw (p.length, p.below, p.base, p.scaled) refl))
+        (masked_asks Named from (array_space a.region) TEST (FIRST + 1) (offset_of a) (address_of a.region (a.first + i)) (b && nat_lt i a.length) u (omega arith) (omega arith) (offset_small a) r.keeps.whole r.test
+        (λ on. r.address (omega (arith, within, less on)))
         (λ on. inr (inl (a, named, record { formed = formed; index = i; within = less on; space_is = refl; address_is = refl })))))
 
     starts : (from : Sources) (m : Run) → IsWhole m → AllStart from (all_done (element_write homes mask a)) m
     starts from m whole =
         let n = run from (all_done (mask_test homes mask)) m in
         let h = run_whole from (all_done (mask_test homes mask)) m whole in
-        let made = element_address_made [] a.length (address_of a.region a.first) in
+        let made = element_address_made [] told a in
         let u = run from (all_done made) n in
         let i = held (FIRST + 1) n in
-        let b = so TEST n in
-        let r = reaches OVERRUN from b 0 i a.length (address_of a.region a.first) n (omega arith) h refl refl (omega (arith, within, few_words a.region)) (first_small a.region a.first (omega (arith, within))) in
+        let b = so told n in
+        let r = reaches (record { first = OVERRUN; flags = homes.flags }) from told b 0 i a n (told_few homes mask).1 (told_other homes mask) (omega arith) h refl refl (omega (arith, within, few_words a.region)) (first_small a.region a.first (omega (arith, within))) in
         let less : (b && nat_lt i a.length) ≡ true → i < a.length = λ on. ltb-true i a.length (and_parts b (nat_lt i a.length) on).1 in
-        start_append from (all_done (mask_test homes mask)) (all_done (made ++ masked_store (array_space a.region) (FIRST + 1))) m (portless_start from (mask_test homes mask) m (rw (portless_fetch homes mask) refl))
-        (start_append from (all_done made) (all_done (masked_store (array_space a.region) (FIRST + 1))) n (portless_start from made n (rw (portless_number SPARE a.length, portless_number SPARE (address_of a.region a.first)) refl))
-        (masked_starts from (array_space a.region) (FIRST + 1) (address_of a.region (a.first + i)) (b && nat_lt i a.length) u r.test
-        (λ on. ap (λ x. address_by x 0 4) r.at ∙ element_address a.region a.first i (omega (arith, within, less on)))
+        start_append from (all_done (mask_test homes mask)) (all_done (made ++ masked_store TEST (array_space a.region) (FIRST + 1) (offset_of a))) m (portless_start from (mask_test homes mask) m (portless_test homes mask))
+        (start_append from (all_done made) (all_done (masked_store TEST (array_space a.region) (FIRST + 1) (offset_of a))) n (portless_start from made n (let p = portless_address a SECOND (FIRST + 1) (FIRST + 1) in rw (p.length, p.below, p.base, p.scaled) refl))
+        (masked_starts from (array_space a.region) TEST (FIRST + 1) (offset_of a) (address_of a.region (a.first + i)) (b && nat_lt i a.length) u r.test
+        (λ on. r.address (omega (arith, within, less on)))
         (λ on. subst NoPort (sym (element_found a.region (a.first + i) (omega (arith, within, less on)))) (no_port a.region (a.first + i)))))
 
 -- ---- sends
 
-pub send_asks : (homes : ℕ) (Named : Use → Type 0) (mask core : ℕ) → core < 16 → Named (sends_to core) → AsksOnly Named (all_done (send_code homes mask core))
+pub send_asks : (homes : Homes) (Named : Use → Type 0) (mask core : ℕ) → core < 16 → Named (sends_to core) → AsksOnly Named (all_done (send_code homes mask core))
 send_asks homes Named mask core few named = record { cached = []; asks = asks; starts = λ from m whole words. send_starts homes from mask core m few whole (words.0 FIRST) (words.0 (FIRST + 1)) (words.0 (FIRST + 2)) }
   where
     address : ℕ
@@ -220,7 +229,7 @@ send_asks homes Named mask core few named = record { cached = []; asks = asks; s
     -- a register of the interface, where the spare register has the address of the core's registers
     port : (from : Sources) (rs i : ℕ) (n : Run) → i < 3 → IsWhole n → held SPARE n ≡ 0x20000 + 16 * core → Asks Named [] n (once from (store_to (where_so TEST) mem.L SPARE rs i) n)
     port from rs i n low h at =
-        store_where Named from SPARE rs i (0x20000 + 16 * core + 4 * i) (so TEST n) n h refl
+        store_where Named from TEST SPARE rs i (0x20000 + 16 * core + 4 * i) (so TEST n) n h refl
         (λ on. ap (λ a. address_by a i 4) at ∙ omega (arith, few, low))
         (λ on. inr (inr (inr (core, named, record { register = i; within = low; space_is = refl; address_is = refl }))))
 
@@ -233,9 +242,9 @@ send_asks homes Named mask core few named = record { cached = []; asks = asks; s
 
     asks : (from : Sources) (m : Run) → IsWhole m → Asks Named [] m (run from (all_done (send_code homes mask core)) m)
     asks from m whole =
-        let before = mask_test homes mask ++ (send_test ++ set_long SPARE (0x20000 + 16 * core) ∷ []) in
-        let n = run from (all_done (mask_test homes mask ++ send_test)) m in
-        let h = run_whole from (all_done (mask_test homes mask ++ send_test)) m whole in
+        let before = mask_test homes mask ++ (send_test (told_at homes mask) ++ set_long SPARE (0x20000 + 16 * core) ∷ []) in
+        let n = run from (all_done (mask_test homes mask ++ send_test (told_at homes mask))) m in
+        let h = run_whole from (all_done (mask_test homes mask ++ send_test (told_at homes mask))) m whole in
         let u = once from (set_long SPARE (0x20000 + 16 * core)) n in
         let hu = run_whole from (all_done (set_long SPARE (0x20000 + 16 * core) ∷ [])) n h in
         let at = constant_leaves from SPARE (0x20000 + 16 * core) n h (omega arith) (omega arith) (omega (arith, few)) in
@@ -245,5 +254,5 @@ send_asks homes Named mask core few named = record { cached = []; asks = asks; s
         let u2 = once from (store_to (where_so TEST) mem.L SPARE (FIRST + 1) 1) u1 in
         let h2 = run_whole from (all_done (store_to (where_so TEST) mem.L SPARE (FIRST + 1) 1 ∷ [])) u1 h1 in
         let at2 = same from (FIRST + 1) 1 u1 h1 ∙ at1 in
-        asks_then (near_run Named from before m whole (rw (near_fetch homes mask) refl))
+        asks_then (near_run Named from before m whole (rw (near_seek homes mask, near_match homes mask) refl))
         (asks_then (port from FIRST 0 u (omega arith) hu at) (asks_then (port from (FIRST + 1) 1 u1 (omega arith) h1 at1) (port from (FIRST + 2) 2 u2 (omega arith) h2 at2)))

@@ -6,15 +6,15 @@ use Rattle.sp_tree.specs.Statements.{PlainFunction}
 use Rattle.sp_shape.specs.Bundles.{parts_all}
 use Rattle.sp_shape.specs.Parts.{joined}
 use Rattle.sp_emit.specs.Chains.{takes_at_most}
-use Rattle.sp_emit.specs.Functions.{first_counter, function_begin, function_end, function_rest, function_code}
+use Rattle.sp_emit.specs.Functions.{function_begin, function_end, function_rest, body_code, function_code}
 use Rattle.sp_emit.specs.Instructions.{always, under}
 use Rattle.sp_emit.specs.Places.{read_word, set_word}
-use Rattle.sp_emit.specs.Statements.{stmts_code}
 use Rattle.sp_emit.specs.declared.registers.TheConstants.{RESULT}
 use Rattle.sp_emit.proofs.Around.{begin_all, end_all}
 use Rattle.sp_emit.proofs.Quiet.{each_joined, each_so}
-use Rattle.sp_emit.proofs.Steady.{is_firm, takes_firm, stmts_firm}
+use Rattle.sp_emit.proofs.Steady.{is_firm, takes_firm, body_firm}
 use Rattle.sp_emit.proofs.WordPlaces.{read_is, set_op_is}
+use Rattle.sp_emit.specs.declared.stands.Homes.{Homes}
 
 read_takes : (most homes rd slot : ℕ) → takes_at_most most (read_word homes rd slot) ≡ true
 read_takes most homes rd slot = read_is (λ b. takes_at_most most b ≡ true) homes rd slot refl refl
@@ -22,10 +22,10 @@ read_takes most homes rd slot = read_is (λ b. takes_at_most most b ≡ true) ho
 set_takes : (most homes slot rs : ℕ) → takes_at_most most (set_word homes always slot rs) ≡ true
 set_takes most homes slot rs = set_op_is (λ op. takes_at_most most (under always op) ≡ true) homes slot rs refl refl
 
-pub function_takes : (homes : ℕ) (f : PlainFunction) → parts_all (takes_at_most f.frame) (function_code homes f) ≡ true
+pub function_takes : (homes : Homes) (f : PlainFunction) → parts_all (takes_at_most f.frame) (function_code homes f) ≡ true
 function_takes homes f =
     let holds = takes_at_most f.frame in
-    let body = stmts_code homes f.frame (first_counter f) f.body in
-    and_from (list_all holds (function_begin homes f)) (parts_all holds (joined body (function_rest homes f))) (begin_all holds homes f (le-leb f.frame f.frame (omega arith)) (λ r. refl) (λ slot rs. set_takes f.frame homes slot rs) refl refl)
-    (each_joined holds body (function_rest homes f) (each_so is_firm holds (takes_firm f.frame) body (stmts_firm homes f.frame (first_counter f) f.body))
-    (and_from (list_all holds (function_end homes f)) true (end_all holds homes f refl (read_takes f.frame homes RESULT f.result) refl refl) refl))
+    let body = body_code homes f in
+    and_from (list_all holds (function_begin homes f)) (parts_all holds (joined body (function_rest homes.first f))) (begin_all holds homes f (le-leb f.frame f.frame (omega arith)) (λ r. refl) (λ slot rs. set_takes f.frame homes.first slot rs) refl (λ p. refl) (λ p. refl) refl)
+    (each_joined holds body (function_rest homes.first f) (each_so is_firm holds (takes_firm f.frame) body (body_firm homes f))
+    (and_from (list_all holds (function_end homes.first f)) true (end_all holds homes.first f refl (read_takes f.frame homes.first RESULT f.result) refl refl) refl))

@@ -16,29 +16,33 @@ use Rattle.sp_shape.specs.Parts.{straight, no_part, one, joined}
 use Rattle.sp_shape.specs.Trail.{Step, all_done, parts_trail, trails, trail}
 use Rattle.sp_emit.specs.Accesses.{AsksOnly}
 use Rattle.sp_emit.specs.Expressions.{operands_code, expr_code}
-use Rattle.sp_emit.specs.Functions.{first_counter, function_begin, function_end, function_rest, function_code, return_tail, emitted}
-use Rattle.sp_emit.specs.Statements.{mask_test, slot_write, cell_write, element_write, target_write, args_code, call_code, send_code, overrun_code, slot_set, iterations_begin, iterations_tail, stmt_code, stmts_code}
+use Rattle.sp_emit.specs.Functions.{first_counter, function_begin, function_end, function_rest, function_code, return_tail, places_of, emitted}
+use Rattle.sp_emit.specs.Statements.{slot_write, cell_write, element_write, target_write, args_code, call_code, send_code, overrun_code, slot_set, iterations_begin, iterations_tail, stmt_code, stmts_code}
 use Rattle.sp_emit.specs.Instructions.{always, where_so, under}
-use Rattle.sp_emit.specs.declared.registers.TheConstants.{RESULT, MASK, FIRST, OVERRUN, TEST}
-use Rattle.sp_emit.proofs.Accessing.{asks_append, asks_nothing, asks_copies, is_near, near_asks, near_parts, near_read, near_set, near_fetch, near_keep}
-use Rattle.sp_emit.specs.Places.{set_word, homes_of}
+use Rattle.sp_emit.specs.declared.registers.TheConstants.{RESULT, MASK, FIRST, OVERRUN}
+use Rattle.sp_emit.proofs.Accessing.{asks_append, asks_nothing, asks_copies, is_near, near_asks, near_parts, near_read, near_set, near_fetch, near_seek, near_match, near_keep, near_number}
+use Rattle.sp_emit.specs.Flags.{behind_first, begun_body}
+use Rattle.sp_emit.specs.Places.{set_word, fetched_at, mask_test, told_at}
 use Rattle.sp_emit.specs.Functions.{codes}
 use Rattle.sp_emit.proofs.Around.{begin_all, end_all}
+use Rattle.sp_emit.proofs.BegunBody.{begun_is, begun_formed}
 use Rattle.sp_emit.proofs.Codes.{codes_at, codes_length}
 use Rattle.sp_emit.proofs.Formed.{call_formed}
 use Rattle.sp_emit.proofs.Serves.{parts_of_function, code_of}
 use Rattle.sp_emit.proofs.StoreAsks.{cell_write_asks, element_write_asks, send_asks}
-use Rattle.sp_emit.proofs.ValueAsks.{AreNamed, are_named, named_left, named_right, asks_joined, asks_lone, operands_ask, expr_asks}
+use Rattle.sp_emit.proofs.ValueAsks.{AreNamed, are_named, named_left, named_right, asks_joined, asks_lone, operands_ask, expr_asks, flag_asks}
 use Rattle.sp_emit.proofs.Fitting.{expr_fits}
 use Rattle.sp_emit.proofs.Lasts.{is_alu, write_is}
 use Rattle.sp_emit.proofs.Operands.{mask_is}
+use Rattle.sp_emit.specs.declared.stands.Homes.{Homes}
+use Rattle.sp_emit.specs.declared.stands.Flags.{Flags}
 
 -- ---- values
 
-value_asks : (homes : ℕ) (Named : Use → Type 0) (f : ℕ → List Step) (slots rd : ℕ) (e : PlainSp) → slots ≤ 128 → 1 ≤ rd → rd ≤ 9 → expr_formed slots e ≡ true → AreNamed Named (expr_uses e) → AsksOnly Named (parts_trail f (expr_code homes e rd))
+value_asks : (homes : Homes) (Named : Use → Type 0) (f : ℕ → List Step) (slots rd : ℕ) (e : PlainSp) → slots ≤ 128 → 1 ≤ rd → rd ≤ 9 → expr_formed slots e ≡ true → AreNamed Named (expr_uses e) → AsksOnly Named (parts_trail f (expr_code homes e rd))
 value_asks homes Named f slots rd e most some few formed named = expr_asks homes Named f e rd rd some (omega (arith, few)) some (expr_fits slots rd e most few formed) named
 
-args_ask : (homes : ℕ) (Named : Use → Type 0) (f : ℕ → List Step) (slots : ℕ) (args : List PlainSp) (rd : ℕ) → slots ≤ 128 → 1 ≤ rd → rd + length args ≤ 10 → args_formed slots args ≡ true → AreNamed Named (args_uses args) → AsksOnly Named (parts_trail f (args_code homes args rd))
+args_ask : (homes : Homes) (Named : Use → Type 0) (f : ℕ → List Step) (slots : ℕ) (args : List PlainSp) (rd : ℕ) → slots ≤ 128 → 1 ≤ rd → rd + length args ≤ 10 → args_formed slots args ≡ true → AreNamed Named (args_uses args) → AsksOnly Named (parts_trail f (args_code homes args rd))
 args_ask homes Named f slots [] rd most some few formed named = asks_nothing Named
 args_ask homes Named f slots (e ∷ args) rd most some few formed named =
     let parts = and_parts (expr_formed slots e) (args_formed slots args) formed in
@@ -52,8 +56,8 @@ near_lone Named f bs near = asks_lone f bs (near_asks Named bs near)
 alu_near : (g : Guard) (op : Op) → is_alu op ≡ true → is_near (under g op) ≡ true
 alu_near g op alu = grind (arith, alu)
 
-target_asks : (homes : ℕ) (Named : Use → Type 0) (f : ℕ → List Step) (slots mask : ℕ) (target : PlainSpTarget) → slots ≤ 128 → target_formed slots target ≡ true → AreNamed Named (target_uses target) → AsksOnly Named (parts_trail f (target_write homes mask target))
-target_asks homes Named f slots mask (to_slot slot) most formed named = near_lone Named f (slot_write homes mask slot) (rw (near_fetch homes mask, near_set homes (where_so TEST) slot FIRST) refl)
+target_asks : (homes : Homes) (Named : Use → Type 0) (f : ℕ → List Step) (slots mask : ℕ) (target : PlainSpTarget) → slots ≤ 128 → target_formed slots target ≡ true → AreNamed Named (target_uses target) → AsksOnly Named (parts_trail f (target_write homes mask target))
+target_asks homes Named f slots mask (to_slot slot) most formed named = near_lone Named f (slot_write homes mask slot) (rw (near_seek homes mask, near_match homes mask, near_set homes.first (where_so (told_at homes mask)) slot FIRST) refl)
 target_asks homes Named f slots mask (to_cell cell) most formed named = asks_lone f (cell_write homes mask cell) (cell_write_asks homes Named mask cell formed named.0)
 target_asks homes Named f slots mask (to_array array index) most formed named =
     let parts = and_parts (array_formed array) (expr_formed slots index) formed in
@@ -62,26 +66,27 @@ target_asks homes Named f slots mask (to_array array index) most formed named =
 
 -- ---- statements, over what earlier functions ask for
 
-call_near : (homes : ℕ) (frame mask k : ℕ) (result : Option ℕ) → parts_all is_near (call_code homes frame mask k result) ≡ true
-call_near homes frame mask k None = rw (near_read homes MASK mask) refl
-call_near homes frame mask k (Some slot) = rw (near_read homes MASK mask, near_fetch homes mask, near_set homes (where_so TEST) slot RESULT) refl
+call_near : (homes : Homes) (frame mask k : ℕ) (result : Option ℕ) → parts_all is_near (call_code homes frame mask k result) ≡ true
+call_near homes frame mask k None = rw (near_read homes.first MASK mask) refl
+call_near homes frame mask k (Some slot) = rw (near_read homes.first MASK mask, near_seek homes mask, near_match homes mask, near_set homes.first (where_so (told_at homes mask)) slot RESULT) refl
 
 mutual
-  stmt_asks : (homes : ℕ) (Named : Use → Type 0) (f : ℕ → List Step) (fs : List PlainFunction) (number slots frame counter : ℕ) → ((k : ℕ) → k < number → AsksOnly Named (f k)) → functions_formed fs number ≡ true → slots ≤ 128 → 1 ≤ homes
+  stmt_asks : (homes : Homes) (Named : Use → Type 0) (f : ℕ → List Step) (fs : List PlainFunction) (number slots frame counter : ℕ) → ((k : ℕ) → k < number → AsksOnly Named (f k)) → functions_formed fs number ≡ true → slots ≤ 128 → 1 ≤ homes.first
       → (t : PlainStmt) → stmt_formed fs number slots t ≡ true → AreNamed Named (stmt_uses t) → AsksOnly Named (parts_trail f (stmt_code homes frame counter t))
   stmt_asks homes Named f fs number slots frame counter called earlier most some (masks slot e) formed named =
       let parts = and_parts (nat_lt slot slots) (expr_formed slots e) formed in
       mask_is (λ ps. AsksOnly Named (parts_trail f ps)) homes slot e
-      (λ here. expr_asks homes Named f e FIRST (homes + slot) (omega (arith, some)) (ltb-true (homes + slot) OVERRUN here) (omega arith) (expr_fits slots FIRST e most (omega arith) parts.1) named)
-      (λ there. asks_joined f (expr_code homes e FIRST) (slot_set homes slot) (value_asks homes Named f slots FIRST e most (omega arith) (omega arith) parts.1 named) (near_lone Named f (set_word homes always slot FIRST ∷ []) (rw (near_set homes always slot FIRST) refl)))
+      (λ p is. flag_asks homes Named f p e (expr_fits slots FIRST e most (omega arith) parts.1) named)
+      (λ plain here. expr_asks homes Named f e FIRST (homes.first + slot) (omega (arith, some)) (ltb-true (homes.first + slot) OVERRUN here) (omega arith) (expr_fits slots FIRST e most (omega arith) parts.1) named)
+      (λ plain there. asks_joined f (expr_code homes e FIRST) (slot_set homes.first slot) (value_asks homes Named f slots FIRST e most (omega arith) (omega arith) parts.1 named) (near_lone Named f (set_word homes.first always slot FIRST ∷ []) (rw (near_set homes.first always slot FIRST) refl)))
   stmt_asks homes Named f fs number slots frame counter called earlier most some (writes mask target e) formed named =
       let parts = and_parts (nat_lt mask slots) (target_formed slots target && expr_formed slots e) formed in
       let targets = and_parts (target_formed slots target) (expr_formed slots e) parts.1 in
       let uses = named_right Named (target_uses target) (expr_uses e) named in
       write_is (λ ps. AsksOnly Named (parts_trail f ps)) homes mask target e
       (asks_joined f (expr_code homes e FIRST) (target_write homes mask target) (value_asks homes Named f slots FIRST e most (omega arith) (omega arith) targets.1 uses) (target_asks homes Named f slots mask target most targets.0 (named_left Named (target_uses target) (expr_uses e) named)))
-      (λ slot op is gives. let last = mask_test homes mask ++ under (where_so TEST) op ∷ [] in asks_joined f (operands_code homes e FIRST) (one (straight last))
-      (operands_ask homes Named f e FIRST (omega arith) (expr_fits slots FIRST e most (omega arith) targets.1) uses) (near_lone Named f last (rw (near_fetch homes mask, alu_near (where_so TEST) op gives.alu) refl)))
+      (λ slot op is gives. let last = mask_test homes mask ++ under (where_so (told_at homes mask)) op ∷ [] in asks_joined f (operands_code homes e FIRST) (one (straight last))
+      (operands_ask homes Named f e FIRST (omega arith) (expr_fits slots FIRST e most (omega arith) targets.1) uses) (near_lone Named f last (rw (near_seek homes mask, near_match homes mask, alu_near (where_so (told_at homes mask)) op gives.alu) refl)))
   stmt_asks homes Named f fs number slots frame counter called earlier most some (calls mask k args result) formed named =
       let a = and_parts (nat_lt mask slots) (callee_formed fs number k (length args) && (args_formed slots args && result_formed slots result)) formed in
       let b = and_parts (callee_formed fs number k (length args)) (args_formed slots args && result_formed slots result) a.1 in
@@ -105,15 +110,15 @@ mutual
       (asks_lone f (send_code homes mask core) (send_asks homes Named mask core (ltb-true core 16 send.0) named.0))))
   stmt_asks homes Named f fs number slots frame counter called earlier most some (overruns mask e) formed named =
       let parts = and_parts (nat_lt mask slots) (expr_formed slots e) formed in
-      asks_joined f (expr_code homes e FIRST) (one (straight (overrun_code homes mask))) (value_asks homes Named f slots FIRST e most (omega arith) (omega arith) parts.1 named) (near_lone Named f (overrun_code homes mask) (rw (near_fetch homes mask) refl))
+      asks_joined f (expr_code homes e FIRST) (one (straight (overrun_code homes mask))) (value_asks homes Named f slots FIRST e most (omega arith) (omega arith) parts.1 named) (near_lone Named f (overrun_code homes mask) (rw (near_seek homes mask, near_match homes mask) refl))
   stmt_asks homes Named f fs number slots frame counter called earlier most some (iterations count body) formed named =
       let parts = and_parts (nat_lt 0 count) (stmts_formed fs number slots body) formed in
       let code = stmts_code homes frame (counter - 1) body in
-      let kept = near_keep homes counter in
-      asks_append (near_asks Named (iterations_begin homes counter count) (rw (kept) refl))
-      (asks_append (asks_copies count (parts_trail f code ++ all_done (iterations_tail homes counter)) (asks_append (stmts_ask homes Named f fs number slots frame (counter - 1) called earlier most some body parts.1 named) (near_asks Named (iterations_tail homes counter) (rw (near_fetch homes counter, kept) refl)))) (asks_nothing Named))
+      let kept = near_keep homes.first counter in
+      asks_append (near_asks Named (iterations_begin homes.first counter count) (rw (near_number (fetched_at homes.first counter) count, kept) refl))
+      (asks_append (asks_copies count (parts_trail f code ++ all_done (iterations_tail homes.first counter)) (asks_append (stmts_ask homes Named f fs number slots frame (counter - 1) called earlier most some body parts.1 named) (near_asks Named (iterations_tail homes.first counter) (rw (near_fetch homes.first counter, kept) refl)))) (asks_nothing Named))
 
-  stmts_ask : (homes : ℕ) (Named : Use → Type 0) (f : ℕ → List Step) (fs : List PlainFunction) (number slots frame counter : ℕ) → ((k : ℕ) → k < number → AsksOnly Named (f k)) → functions_formed fs number ≡ true → slots ≤ 128 → 1 ≤ homes
+  stmts_ask : (homes : Homes) (Named : Use → Type 0) (f : ℕ → List Step) (fs : List PlainFunction) (number slots frame counter : ℕ) → ((k : ℕ) → k < number → AsksOnly Named (f k)) → functions_formed fs number ≡ true → slots ≤ 128 → 1 ≤ homes.first
       → (ts : PlainStmts) → stmts_formed fs number slots ts ≡ true → AreNamed Named (stmts_uses ts) → AsksOnly Named (parts_trail f (stmts_code homes frame counter ts))
   stmts_ask homes Named f fs number slots frame counter called earlier most some no_stmt formed named = asks_nothing Named
   stmts_ask homes Named f fs number slots frame counter called earlier most some (stmt t rest) formed named =
@@ -123,13 +128,21 @@ mutual
 
 -- ---- functions
 
-function_asks : (homes : ℕ) (Named : Use → Type 0) (code : ℕ → List Step) (fs : List PlainFunction) (number : ℕ) (f : PlainFunction) → ((k : ℕ) → k < number → AsksOnly Named (code k)) → functions_formed fs number ≡ true → function_formed fs number f ≡ true → 1 ≤ homes
+begun_named : (Named : Use → Type 0) (flags : Flags) (f : PlainFunction) → AreNamed Named (stmts_uses f.body) → AreNamed Named (stmts_uses (begun_body flags f))
+begun_named Named flags f named = begun_is (λ ts. AreNamed Named (stmts_uses ts)) flags f named (behind f.body named)
+  where
+    behind : (ts : PlainStmts) → AreNamed Named (stmts_uses ts) → AreNamed Named (stmts_uses (behind_first ts))
+    behind no_stmt named = named
+    behind (stmt t rest) named = named_right Named (stmt_uses t) (stmts_uses rest) named
+
+function_asks : (homes : Homes) (Named : Use → Type 0) (code : ℕ → List Step) (fs : List PlainFunction) (number : ℕ) (f : PlainFunction) → ((k : ℕ) → k < number → AsksOnly Named (code k)) → functions_formed fs number ≡ true → function_formed fs number f ≡ true → 1 ≤ homes.first
     → AreNamed Named (stmts_uses f.body) → AsksOnly Named (parts_trail code (function_code homes f))
 function_asks homes Named code fs number f called earlier formed some named =
     let p = parts_of_function fs number f formed in
-    asks_append (near_asks Named (function_begin homes f) (begin_all is_near homes f refl (λ r. refl) (λ slot rs. near_set homes always slot rs) refl refl))
-    (asks_joined code (stmts_code homes f.frame (first_counter f) f.body) (function_rest homes f) (stmts_ask homes Named code fs number (slots_of f) f.frame (first_counter f) called earlier (omega (arith, p.room, p.frame)) some f.body p.body named)
-    (asks_append (near_asks Named (function_end homes f) (end_all is_near homes f refl (near_read homes RESULT f.result) refl refl)) (asks_append (near_asks Named return_tail refl) (asks_nothing Named))))
+    let body = begun_body homes.flags f in
+    asks_append (near_asks Named (function_begin homes f) (begin_all is_near homes f refl (λ r. refl) (λ slot rs. near_set homes.first always slot rs) refl (λ p. refl) (λ p. refl) refl))
+    (asks_joined code (stmts_code homes f.frame (first_counter f) body) (function_rest homes.first f) (stmts_ask homes Named code fs number (slots_of f) f.frame (first_counter f) called earlier (omega (arith, p.room, p.frame)) some body (begun_formed homes.flags fs number (slots_of f) f p.body) (begun_named Named homes.flags f named))
+    (asks_append (near_asks Named (function_end homes.first f) (end_all is_near homes.first f refl (near_read homes.first RESULT f.result) refl refl)) (asks_append (near_asks Named return_tail refl) (asks_nothing Named))))
 
 -- what is said of all uses is said of each function's
 function_named : (Named : Use → Type 0) (fs : List PlainFunction) (k : ℕ) → AreNamed Named (functions_uses fs) → k < length fs → AreNamed Named (stmts_uses (slice_index_or fs k no_function).body)
@@ -147,7 +160,7 @@ functions_ask Named fs named (suc n) within formed k less =
         → AsksOnly Named (if b then parts_trail (code_of fs n) (slice_index_or (codes fs) n no_part) else code_of fs n k)
     by earlier own before true is =
         subst (λ c. AsksOnly Named (parts_trail (code_of fs n) c)) (sym (codes_at fs n (omega (arith, within))))
-        (function_asks (homes_of fs n) Named (code_of fs n) fs n (slice_index_or fs n no_function) before earlier own (omega arith) (function_named Named fs n named (omega (arith, within))))
+        (function_asks (places_of fs n) Named (code_of fs n) fs n (slice_index_or fs n no_function) before earlier own (omega arith) (function_named Named fs n named (omega (arith, within))))
     by earlier own before false other = before k (less_still (cases_lt k n))
       where
         less_still : (k < n) ⊎ (n ≤ k) → k < n

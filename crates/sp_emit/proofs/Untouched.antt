@@ -12,9 +12,9 @@ use Rattle.patmos_sem.specs.declared.writes.Write.TheVariants as write
 use Rattle.sp_shape.proofs.Whole.{once_whole}
 use Rattle.sp_shape.specs.Run.{Run, Sources, once, run, IsWhole}
 use Rattle.sp_shape.specs.Trail.{all_done}
-use Rattle.sp_emit.specs.Holding.{held}
+use Rattle.sp_emit.specs.Holding.{held, so}
 use Rattle.sp_emit.specs.Instructions.{under}
-use Rattle.sp_emit.proofs.Once.{so, with_written, did_write, did_nothing, did_multiply, did_branch, kept, kept_by_pred, kept_by_product, so_kept, so_by_register, so_by_product}
+use Rattle.sp_emit.proofs.Once.{with_written, did_write, did_nothing, did_multiply, did_branch, kept, kept_by_pred, kept_by_product, so_kept, so_by_register, so_by_product}
 
 -- ---- what an instruction leaves
 

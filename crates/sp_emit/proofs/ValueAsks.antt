@@ -1,5 +1,5 @@
 -- What the code of values asks for: the variables and elements that it reads.
-use Rattle.std.proofs.Common.{◌≡◌, ℕ, suc, ◌+◌, ◌*◌, ◌%◌, ◌^◌, ◌<◌, ◌≤◌, inl, inr, Bool, true, false, not, List, [], ◌∷◌, ◌++◌, append-nil, nat_lt, refl, sym, ap, ◌∙◌, subst, arith}
+use Rattle.std.proofs.Common.{◌≡◌, ℕ, suc, ◌+◌, ◌*◌, ◌%◌, ◌^◌, ◌<◌, ◌≤◌, inl, inr, Bool, true, false, List, [], ◌∷◌, ◌++◌, append-nil, nat_lt, refl, sym, ap, ◌∙◌, subst, arith}
 use Rattle.std.specs.Prelude.{nat_le}
 use Rattle.std.specs.List.{All, list_all}
 use Rattle.std.proofs.lemmas.Bool.{and_parts, leb-true, ltb-true}
@@ -24,31 +24,34 @@ use Rattle.sp_tree.specs.declared.expressions.SpCell.{SpCell}
 use Rattle.sp_tree.specs.declared.operators.SpBinary.{SpBinary}
 use Rattle.sp_tree.specs.declared.operators.SpUnary.{SpUnary}
 use Rattle.sp_shape.proofs.Joins.{trail_joined}
+use Rattle.sp_shape.proofs.Lists.{all_weaker}
 use Rattle.sp_shape.specs.Bundles.{parts_all}
 use Rattle.sp_shape.specs.Parts.{straight, PlainParts, one, joined}
-use Rattle.sp_shape.specs.Run.{Run, Sources, word_given, once, run, IsWhole}
+use Rattle.sp_shape.specs.Run.{Run, Sources, once, run, IsWhole}
 use Rattle.sp_shape.specs.Trail.{Step, all_done, parts_trail}
 use Rattle.sp_emit.proofs.Values.{value_low}
-use Rattle.sp_emit.proofs.Operands.{one_of, Handed, fits_handed, both_handed, operands_are}
+use Rattle.sp_emit.proofs.Operands.{one_of, word_code_is, Handed, fits_handed, both_handed, operands_are}
 use Rattle.sp_emit.specs.Accesses.{IsReadPlace, MayLoad, MayAsk, cached_address, Asks, AsksOnly}
 use Rattle.sp_emit.proofs.Held.{held_is}
 use Rattle.sp_emit.specs.Division.{unsigned_quotient_to}
 use Rattle.sp_emit.specs.Divisors.{factor_rest_to}
-use Rattle.sp_emit.specs.Expressions.{address_of, cell_space, array_space, unary_code, binary_code, held_code, cell_code, element_code, number_of, value_code, operands_code, expr_to, value_at, is_immediate}
+use Rattle.sp_emit.specs.Expressions.{address_of, cell_space, array_space, offset_of, unary_code, binary_code, held_code, cell_code, element_code, number_of, word_code, value_code, operands_code, expr_to, value_at, is_immediate}
 use Rattle.sp_emit.specs.Fits.{ExprFits}
 use Rattle.sp_emit.specs.Holding.{held}
-use Rattle.sp_emit.specs.Instructions.{always, where_not, set_number, set_short, load_from}
-use Rattle.sp_emit.specs.Places.{read_word}
-use Rattle.sp_emit.proofs.WordPlaces.{read_is}
-use Rattle.sp_emit.specs.declared.registers.TheConstants.{OVERRUN, TEST, SPARE}
-use Rattle.sp_emit.proofs.Accessing.{asks_append, asks_nothing, is_near, near_asks, near_parts, near_number}
-use Rattle.sp_emit.proofs.Cells.{element_address, few_words, first_small}
-use Rattle.sp_emit.proofs.Elements.{Reached, looked_up, reaches, looks_up}
+use Rattle.sp_emit.specs.Instructions.{always, set_number, load_from, combine}
+use Rattle.sp_emit.specs.Places.{flag_of}
+use Rattle.sp_emit.specs.Truths.{flag_code}
+use Rattle.sp_emit.specs.declared.registers.TheConstants.{FIRST, OVERRUN, TEST, SPARE}
+use Rattle.sp_emit.proofs.Accessing.{asks_append, asks_nothing, is_near, near_asks, near_parts, near_read, near_number}
+use Rattle.sp_emit.proofs.Cells.{few_words, first_small}
+use Rattle.sp_emit.proofs.Elements.{Reached, looked_up, reaches, looks_up, looks_at_0}
 use Rattle.sp_emit.proofs.Formed.{binary_formed}
-use Rattle.sp_emit.proofs.Leaving.{did_set_number, did_set_short}
-use Rattle.sp_emit.proofs.Needs.{some_need, array_named, index_named}
-use Rattle.sp_emit.proofs.Portless.{portless_start, portless_number}
-use Rattle.sp_emit.proofs.Once.{so, with_written, loaded, did_load, whole_written, whole_loaded, got, so_by_register}
+use Rattle.sp_emit.proofs.Leaving.{did_set_number}
+use Rattle.sp_emit.proofs.Needs.{some_need, array_named, index_named, second_fits}
+use Rattle.sp_emit.proofs.Portless.{portless_start, portless_number, portless_address}
+use Rattle.sp_emit.proofs.Once.{with_written, did_load, whole_written, got}
+use Rattle.sp_emit.proofs.TruthCode.{is_test_bundle, TruthParts, flag_is}
+use Rattle.sp_emit.specs.declared.stands.Homes.{Homes}
 
 -- a load of a whole word
 abbrev word_load : Mem → ℕ → ℕ → Effect
@@ -74,7 +77,7 @@ cell_asks Named c rd some few formed named = record {
       let h = whole_written (write.Register rd ((0 + at) % 2 ^ 32)) m whole in
       let is : held rd n ≡ at = got rd ((0 + at) % 2 ^ 32) m whole some few ∙ omega (arith, small) in
       asks_load Named (cell_space c.region) rd at m (run from (all_done (cell_code c rd)) m)
-      (ap (λ t. (once from (load_from (cell_space c.region) rd rd) t).asked) (did_set_number from rd at m whole)
+      (ap (λ t. (once from (load_from (cell_space c.region) rd rd 0) t).asked) (did_set_number from rd at m whole)
       ∙ ap (λ t. t.asked) (did_load from always (cell_space c.region) rd rd 0 n h h.fits.always)
       ∙ ap (λ a. m.asked ++ word_load (cell_space c.region) rd (address_by a 0 4) ∷ []) is
       ∙ ap (λ a. m.asked ++ word_load (cell_space c.region) rd a ∷ []) (let e : (at + 0 * 4) % 2 ^ 32 ≡ at = omega (arith, small) in e))
@@ -124,22 +127,8 @@ not_cached region.Shared rd address = refl
 asks_element : (Named : Use → Type 0) (a : SpArray) (rd address : ℕ) (m t : Run) → t.asked ≡ m.asked ++ word_load (array_space a.region) rd address ∷ [] → MayAsk Named (word_load (array_space a.region) rd address) → Asks Named [] m t
 asks_element Named a rd address m t is may = subst (λ l. Asks Named l m t) (not_cached a.region rd address) (asks_load Named (array_space a.region) rd address m t is may)
 
--- where the test of the index fails the load is made at address 0
-looks_at_0 : (from : Sources) (a : SpArray) (rd : ℕ) (t : Run) → IsWhole t → 1 ≤ rd → rd < 32 → so TEST t ≡ false → (looked_up from a rd t).asked ≡ t.asked ++ word_load (array_space a.region) rd 0 ∷ []
-looks_at_0 from a rd t whole some few test =
-    let n = with_written (write.Register rd ((0 + 0) % 2 ^ 32)) t in
-    let h = whole_written (write.Register rd ((0 + 0) % 2 ^ 32)) t whole in
-    let at = address_by (held rd n) 0 4 in
-    let l = loaded from (array_space a.region) rd at n in
-    let whole_l = whole_loaded from (array_space a.region) rd at n h in
-    let off : so TEST l ≡ false = so_by_register rd (word_given from (array_space a.region) at n) TEST n h (omega arith) ∙ so_by_register rd ((0 + 0) % 2 ^ 32) TEST t whole (omega arith) ∙ test in
-    ap (λ x. (once from (set_short (where_not TEST) rd 0) (once from (load_from (array_space a.region) rd rd) x)).asked) (did_set_short from (where_not TEST) rd 0 t whole (ap not test))
-    ∙ ap (λ x. (once from (set_short (where_not TEST) rd 0) x).asked) (did_load from always (array_space a.region) rd rd 0 n h h.fits.always)
-    ∙ ap (λ x. x.asked) (did_set_short from (where_not TEST) rd 0 l whole_l (ap not off))
-    ∙ ap (λ v. t.asked ++ word_load (array_space a.region) rd (address_by v 0 4) ∷ []) (got rd ((0 + 0) % 2 ^ 32) t whole some few)
-
 pub element_asks : (Named : Use → Type 0) (a : SpArray) (rd ra : ℕ) → 1 ≤ rd → rd < OVERRUN → ra < SPARE → array_formed a ≡ true → Named (reads_array a) → AsksOnly Named (all_done (element_code a rd ra))
-element_asks Named a rd ra some few low formed named = record { cached = []; asks = asks; starts = λ from m whole words. portless_start from (element_code a rd ra) m (rw (portless_number SPARE a.length, portless_number SPARE (address_of a.region a.first)) refl) }
+element_asks Named a rd ra some few low formed named = record { cached = []; asks = asks; starts = λ from m whole words. portless_start from (element_code a rd ra) m (let p = portless_address a TEST rd ra in rw (p.length, p.below, p.base, p.scaled) refl) }
   where
     within : a.first + a.length ≤ room_in a.region all_rooms
     within = leb-true (a.first + a.length) (room_in a.region all_rooms) (and_parts (nat_le (first_of a.region) a.first) (nat_le (a.first + a.length) (room_in a.region all_rooms)) formed).1
@@ -150,13 +139,12 @@ element_asks Named a rd ra some few low formed named = record { cached = []; ask
         let lies : a.first + i < room_in a.region all_rooms = omega (arith, within, ltb-true i a.length less) in
         asks_element Named a rd (address_of a.region (a.first + i)) m (looked_up from a rd t)
         (ap (λ x. x.asked) (looks_up from a rd t r.whole (r.test ∙ less))
-        ∙ ap (λ l. l ++ word_load (array_space a.region) rd (address_by (held rd t) 0 4) ∷ []) r.asked
-        ∙ ap (λ x. m.asked ++ word_load (array_space a.region) rd (address_by x 0 4) ∷ []) r.address
-        ∙ ap (λ x. m.asked ++ word_load (array_space a.region) rd x ∷ []) (element_address a.region a.first i lies))
+        ∙ ap (λ l. l ++ word_load (array_space a.region) rd (address_by (held rd t) (offset_of a) 4) ∷ []) r.asked
+        ∙ ap (λ x. m.asked ++ word_load (array_space a.region) rd x ∷ []) (r.address lies))
         (element_read Named a i rd formed named (ltb-true i a.length less))
     by from m t r false more =
         asks_element Named a rd 0 m (looked_up from a rd t)
-        (looks_at_0 from a rd t r.whole some (omega (arith, few)) (r.test ∙ more) ∙ ap (λ l. l ++ word_load (array_space a.region) rd 0 ∷ []) r.asked)
+        ((looks_at_0 from a rd t r.whole some (omega (arith, few)) (r.test ∙ more)).asked ∙ ap (λ l. l ++ word_load (array_space a.region) rd 0 ∷ []) r.asked)
         (no_element_read Named a rd named)
 
     asks : (from : Sources) (m : Run) → IsWhole m → Asks Named [] m (run from (all_done (element_code a rd ra)) m)
@@ -203,12 +191,14 @@ asks_lone {Named} f bs a = subst (AsksOnly Named) (sym (append-nil (all_done bs)
 operator_asks : (Named : Use → Type 0) (f : ℕ → List Step) (op : SpBinary) (rd ra rb : ℕ) → AsksOnly Named (parts_trail f (binary_code op rd ra rb))
 operator_asks Named f op rd ra rb = near_parts Named f 0 (λ k less. absurd (omega (arith, less))) (binary_code op rd ra rb) (binary_formed 0 op rd ra rb) (binary_near op rd ra rb)
 
-read_near : (homes rd slot : ℕ) → list_all is_near (read_word homes rd slot ∷ []) ≡ true
-read_near homes rd slot = read_is (λ b. list_all is_near (b ∷ []) ≡ true) homes rd slot refl refl
+word_near : (homes : Homes) (to slot : ℕ) → list_all is_near (word_code (flag_of homes.flags slot) homes.first to slot) ≡ true
+word_near homes to slot = word_code_is (λ bs. list_all is_near bs ≡ true) homes to slot (λ p. refl) (rw (near_read homes.first to slot) refl)
 
-value_asks : (homes : ℕ) (Named : Use → Type 0) (f : ℕ → List Step) (e : PlainSp) (rd to : ℕ) → 1 ≤ to → to < OVERRUN → ExprFits e rd → AreNamed Named (expr_uses e) → AsksOnly Named (parts_trail f (value_code homes e rd to))
+value_asks : (homes : Homes) (Named : Use → Type 0) (f : ℕ → List Step) (e : PlainSp) (rd to : ℕ) → 1 ≤ to → to < OVERRUN → ExprFits e rd → AreNamed Named (expr_uses e) → AsksOnly Named (parts_trail f (value_code homes e rd to))
 value_asks homes Named f (constant n) rd to some few fits named = asks_lone f (set_number to n ∷ []) (near_asks Named (set_number to n ∷ []) (rw (near_number to n) refl))
-value_asks homes Named f (frame_word slot) rd to some few fits named = asks_lone f (read_word homes to slot ∷ []) (near_asks Named (read_word homes to slot ∷ []) (read_near homes to slot))
+value_asks homes Named f (frame_word slot) rd to some few fits named =
+    let bs = word_code (flag_of homes.flags slot) homes.first to slot in
+    asks_lone f bs (near_asks Named bs (word_near homes to slot))
 value_asks homes Named f (cell_word cell) rd to some few fits named = asks_lone f (cell_code cell to) (cell_asks Named cell to some (omega (arith, few)) fits.names named.0)
 value_asks homes Named f (array_word array index) rd to some few fits named =
     asks_lone f (element_code array to (value_at homes index rd)) (element_asks Named array to (value_at homes index rd) some few (value_low homes rd index (omega (arith, (index_named array index fits).registers, some_need index))) (array_named array index fits) named.0)
@@ -238,10 +228,30 @@ uses_handed Named = record {
   second_behind = λ op a b rd more h. named_right Named (expr_uses a) (expr_uses b) h;
 }
 
-pub operands_ask : (homes : ℕ) (Named : Use → Type 0) (f : ℕ → List Step) (e : PlainSp) (rd : ℕ) → 1 ≤ rd → ExprFits e rd → AreNamed Named (expr_uses e) → AsksOnly Named (parts_trail f (operands_code homes e rd))
+pub operands_ask : (homes : Homes) (Named : Use → Type 0) (f : ℕ → List Step) (e : PlainSp) (rd : ℕ) → 1 ≤ rd → ExprFits e rd → AreNamed Named (expr_uses e) → AsksOnly Named (parts_trail f (operands_code homes e rd))
 operands_ask homes Named f e rd some fits named =
     operands_are (λ ps. AsksOnly Named (parts_trail f ps)) homes (λ e rd. (1 ≤ rd) × (ExprFits e rd × AreNamed Named (expr_uses e))) (asks_nothing Named) (asks_joined f) (both_handed some_handed (both_handed fits_handed (uses_handed Named)))
     (λ e rd h. value_asks homes Named f e rd rd h.0 (omega (arith, h.1.0.registers, some_need e)) h.1.0 h.1.1) e rd (some, (fits, named))
 
-pub expr_asks : (homes : ℕ) (Named : Use → Type 0) (f : ℕ → List Step) (e : PlainSp) (rd to : ℕ) → 1 ≤ to → to < OVERRUN → 1 ≤ rd → ExprFits e rd → AreNamed Named (expr_uses e) → AsksOnly Named (parts_trail f (expr_to homes e rd to))
+pub expr_asks : (homes : Homes) (Named : Use → Type 0) (f : ℕ → List Step) (e : PlainSp) (rd to : ℕ) → 1 ≤ to → to < OVERRUN → 1 ≤ rd → ExprFits e rd → AreNamed Named (expr_uses e) → AsksOnly Named (parts_trail f (expr_to homes e rd to))
 expr_asks homes Named f e rd to some_to few some fits named = asks_joined f (operands_code homes e rd) (value_code homes e rd to) (operands_ask homes Named f e rd some fits named) (value_asks homes Named f e rd to some_to few fits named)
+
+-- a truth that goes to a predicate asks for what its operands do
+test_near : (b : Slots) → is_test_bundle b ≡ true → is_near b ≡ true
+test_near b is = grind (arith, is)
+
+pub flag_asks : (homes : Homes) (Named : Use → Type 0) (f : ℕ → List Step) (p : ℕ) (e : PlainSp) → ExprFits e FIRST → AreNamed Named (expr_uses e) → AsksOnly Named (parts_trail f (flag_code homes p e))
+flag_asks homes Named f p e fits named =
+    flag_is parts p (λ func a b. near (combine func p a b ∷ []) refl) e (fits, named)
+  where
+    near : (bs : List Slots) → list_all is_near bs ≡ true → AsksOnly Named (parts_trail f (one (straight bs)))
+    near bs all = asks_lone f bs (near_asks Named bs all)
+
+    parts : TruthParts (λ ps. AsksOnly Named (parts_trail f ps)) homes (λ e. ExprFits e FIRST × AreNamed Named (expr_uses e))
+    parts = record {
+      none = asks_nothing Named;
+      both = asks_joined f;
+      second = λ op a b h. (second_fits op a b h.0, named_right Named (expr_uses a) (expr_uses b) h.1);
+      operands = λ e h. operands_ask homes Named f e FIRST (omega arith) h.0 h.1;
+      tests = λ bs tests. near bs (all_weaker is_test_bundle is_near test_near bs tests);
+    }

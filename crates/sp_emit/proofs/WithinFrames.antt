@@ -20,31 +20,37 @@ use Rattle.sp_shape.specs.Parts.{PlainPart, straight, repeats, calls_to, leaves,
 use Rattle.sp_shape.specs.Run.{Run, IsWhole, Sources, once, run, begun}
 use Rattle.sp_shape.specs.Trail.{Step, all_done, copies, part_trail, parts_trail}
 use Rattle.patmos_instr.specs.declared.guards.Guard.{Guard}
-use Rattle.sp_emit.proofs.Operands.{one_of, names_handed, operands_are, mask_is}
+use Rattle.sp_emit.proofs.Operands.{one_of, word_code_is, names_handed, operands_are, mask_is}
 use Rattle.patmos_instr.specs.declared.functions.ImmFunc.TheVariants as imm
 use Rattle.patmos_instr.specs.declared.instructions.Op.{Op}
 use Rattle.patmos_instr.specs.declared.instructions.Op.TheVariants.{AluImm, Load, Store}
 use Rattle.patmos_instr.specs.declared.memories.Mem.TheVariants as mem
 use Rattle.patmos_instr.specs.declared.memories.StoreWidth.TheVariants as store
 use Rattle.patmos_instr.specs.declared.memories.Width.TheVariants as load
-use Rattle.sp_emit.specs.Places.{in_register, read_op, read_word, set_op, set_word, fetch_word, keep_word}
+use Rattle.sp_emit.specs.Places.{flag_of, in_register, read_op, read_word, set_op, set_word, fetch_word, keep_word, fetched_at, seek_word, match_word, told_at}
 use Rattle.sp_emit.proofs.WordPlaces.{read_is, set_op_is, fetch_is, keep_is}
 use Rattle.sp_emit.specs.Chains.{stmt_chain, stmts_chain}
 use Rattle.sp_emit.proofs.Held.{held_is}
 use Rattle.sp_emit.specs.Division.{unsigned_quotient_to}
 use Rattle.sp_emit.specs.Divisors.{factor_rest_to}
-use Rattle.sp_emit.specs.Expressions.{unary_code, binary_code, held_code, cell_code, element_code, number_of, value_code, operands_code, expr_to, expr_code, value_at, is_immediate, address_of}
+use Rattle.sp_emit.specs.Expressions.{unary_code, binary_code, held_code, cell_code, element_code, number_of, word_code, value_code, operands_code, expr_to, expr_code, value_at, is_immediate, address_of}
 use Rattle.sp_emit.specs.Instructions.{always, where_so, under, stack_op, set_number}
 use Rattle.sp_emit.specs.Statements.{slot_write, cell_write, element_write, target_write, guarded_code, args_code, mask_handed, call_tail, result_write, call_code, send_code, overrun_code, slot_set, iterations_begin, iterations_tail, stmt_code, stmts_code}
-use Rattle.sp_emit.specs.declared.registers.TheConstants.{RESULT, MASK, FIRST, TEST, SPARE}
+use Rattle.sp_emit.specs.declared.registers.TheConstants.{RESULT, MASK, FIRST, TEST, SECOND, SPARE}
 use Rattle.sp_emit.proofs.Arguments.{did_stack}
 use Rattle.sp_emit.proofs.Calling.{call_run}
 use Rattle.sp_emit.proofs.Formed as formed
 use Rattle.sp_emit.proofs.Pointing.{Points, points_then, points_none, points_one, is_inside, Framed, Stays, stays_then, stays_all, inside_done}
 use Rattle.sp_emit.proofs.Quiet.{each_joined, each_lone}
 use Rattle.sp_emit.proofs.Values.{run_joined, run_lone}
+use Rattle.sp_emit.specs.Truths.{flag_code}
+use Rattle.sp_emit.proofs.FlagWords.{seek_is, match_is}
+use Rattle.sp_emit.proofs.TruthCode.{is_test_bundle, AreTests, TruthParts, flag_is}
+use Rattle.sp_shape.proofs.Lists.{all_weaker}
 use Rattle.sp_emit.proofs.Lasts.{is_alu, write_is, guarded_each}
 use Rattle.sp_emit.proofs.Numbers.{number_op_is}
+use Rattle.sp_emit.proofs.Offsets.{address_are}
+use Rattle.sp_emit.specs.declared.stands.Homes.{Homes}
 
 -- ---- values
 
@@ -73,9 +79,8 @@ cell_inside frame r word rd = let address = number_inside frame rd (address_of r
 
 element_inside : (frame : ℕ) (r : Region) (first length rd ra : ℕ) → AreInside frame (element_code (record { region = r; first = first; length = length }) rd ra)
 element_inside frame r first length rd ra =
-    let size = number_inside frame SPARE length in
-    let address = number_inside frame SPARE (address_of r first) in
-    grind (arith, size, address)
+    let address = address_are (λ b. is_inside frame b ≡ true) (record { region = r; first = first; length = length }) TEST rd ra refl (number_inside frame SPARE) refl refl refl refl in
+    grind (arith, address.length, address.below, address.base, address.scaled)
 
 pub read_inside : (frame homes rd slot : ℕ) → slot < frame → is_inside frame (read_word homes rd slot) ≡ true
 read_inside frame homes rd slot lt = read_is (λ b. is_inside frame b ≡ true) homes rd slot refl (rw (lt-ltb slot frame lt) refl)
@@ -85,6 +90,12 @@ keep_inside frame homes slot lt = keep_is (λ b. is_inside frame b ≡ true) hom
 
 fetch_inside : (frame homes slot : ℕ) → slot < frame → is_inside frame (fetch_word homes slot) ≡ true
 fetch_inside frame homes slot lt = fetch_is (λ b. is_inside frame b ≡ true) homes slot refl (rw (lt-ltb slot frame lt) refl)
+
+seek_inside : (frame : ℕ) (homes : Homes) (mask : ℕ) → mask < frame → is_inside frame (seek_word homes mask) ≡ true
+seek_inside frame homes mask lt = seek_is (λ b. is_inside frame b ≡ true) homes mask refl (fetch_inside frame homes.first mask lt)
+
+match_inside : (frame : ℕ) (homes : Homes) (mask : ℕ) → is_inside frame (match_word homes mask) ≡ true
+match_inside frame homes mask = match_is (λ b. is_inside frame b ≡ true) homes mask refl refl
 
 pub set_inside : (frame homes : ℕ) (g : Guard) (slot rs : ℕ) → slot < frame → is_inside frame (set_word homes g slot rs) ≡ true
 set_inside frame homes g slot rs lt = set_op_is (λ op. is_inside frame (under g op) ≡ true) homes slot rs refl (rw (lt-ltb slot frame lt) refl)
@@ -106,9 +117,10 @@ set_within frame homes g slot rs out = by (in_register homes slot) refl
     by true is = refl
     by false is = rw (lt-ltb slot frame (out is)) refl
 
-value_inside : (homes frame slots : ℕ) (e : PlainSp) (rd to : ℕ) → slots ≤ frame → names_words slots e ≡ true → Inside frame (value_code homes e rd to)
+value_inside : (homes : Homes) (frame slots : ℕ) (e : PlainSp) (rd to : ℕ) → slots ≤ frame → names_words slots e ≡ true → Inside frame (value_code homes e rd to)
 value_inside homes frame slots (constant n) rd to le named = rw (number_inside frame to n) refl
-value_inside homes frame slots (frame_word slot) rd to le named = rw (read_inside frame homes to slot (omega (arith, le, ltb-true slot slots named))) refl
+value_inside homes frame slots (frame_word slot) rd to le named =
+    each_lone (is_inside frame) (word_code (flag_of homes.flags slot) homes.first to slot) (word_code_is (AreInside frame) homes to slot (λ p. refl) (rw (read_inside frame homes.first to slot (omega (arith, le, ltb-true slot slots named))) refl))
 value_inside homes frame slots (cell_word cell) rd to le named = each_lone (is_inside frame) (cell_code cell to) (cell_inside frame cell.region cell.word to)
 value_inside homes frame slots (array_word array index) rd to le named =
     each_lone (is_inside frame) (element_code array to (value_at homes index rd)) (element_inside frame array.region array.first array.length to (value_at homes index rd))
@@ -121,15 +133,30 @@ value_inside homes frame slots (between_two op a b) rd to le named =
 alu_inside : (frame : ℕ) (g : Guard) (op : Op) → is_alu op ≡ true → is_inside frame (under g op) ≡ true
 alu_inside frame g op alu = grind (arith, alu)
 
-operands_inside : (homes frame slots : ℕ) (e : PlainSp) (rd : ℕ) → slots ≤ frame → names_words slots e ≡ true → Inside frame (operands_code homes e rd)
+operands_inside : (homes : Homes) (frame slots : ℕ) (e : PlainSp) (rd : ℕ) → slots ≤ frame → names_words slots e ≡ true → Inside frame (operands_code homes e rd)
 operands_inside homes frame slots e rd le named =
     operands_are (Inside frame) homes (λ e rd. names_words slots e ≡ true) refl (each_joined (is_inside frame)) (names_handed slots) (λ e rd names. value_inside homes frame slots e rd rd le names) e rd named
 
-expr_inside : (homes frame slots : ℕ) (e : PlainSp) (rd to : ℕ) → slots ≤ frame → names_words slots e ≡ true → Inside frame (expr_to homes e rd to)
+expr_inside : (homes : Homes) (frame slots : ℕ) (e : PlainSp) (rd to : ℕ) → slots ≤ frame → names_words slots e ≡ true → Inside frame (expr_to homes e rd to)
 expr_inside homes frame slots e rd to le named =
     each_joined (is_inside frame) (operands_code homes e rd) (value_code homes e rd to) (operands_inside homes frame slots e rd le named) (value_inside homes frame slots e rd to le named)
 
-args_inside : (homes : ℕ) (frame slots : ℕ) (args : List PlainSp) (rd : ℕ) → slots ≤ frame → args_formed slots args ≡ true → Inside frame (args_code homes args rd)
+tests_inside : (frame : ℕ) (bs : List Slots) → AreTests bs → Inside frame (one (straight bs))
+tests_inside frame bs tests = each_lone (is_inside frame) bs (all_weaker is_test_bundle (is_inside frame) (λ b is. grind (arith, is)) bs tests)
+
+truths_inside : (homes : Homes) (frame slots : ℕ) → slots ≤ frame → TruthParts (Inside frame) homes (λ e. names_words slots e ≡ true)
+truths_inside homes frame slots le = record {
+  none = refl;
+  both = each_joined (is_inside frame);
+  second = λ op a b h. (and_parts (names_words slots a) (names_words slots b) h).1;
+  operands = λ e h. operands_inside homes frame slots e FIRST le h;
+  tests = tests_inside frame;
+}
+
+flag_inside : (homes : Homes) (frame slots to : ℕ) (e : PlainSp) → slots ≤ frame → names_words slots e ≡ true → Inside frame (flag_code homes to e)
+flag_inside homes frame slots to e le named = flag_is (truths_inside homes frame slots le) to (λ func a b. refl) e named
+
+args_inside : (homes : Homes) (frame slots : ℕ) (args : List PlainSp) (rd : ℕ) → slots ≤ frame → args_formed slots args ≡ true → Inside frame (args_code homes args rd)
 args_inside homes frame slots [] rd le named = refl
 args_inside homes frame slots (e ∷ args) rd le named =
     let parts = and_parts (expr_formed slots e) (args_formed slots args) named in
@@ -167,7 +194,7 @@ mutual
       let c = and_parts (part_all (is_inside frame) p) (parts_all (is_inside frame) rest) inside in
       stay_both from frame (part_trail f p) (parts_trail f rest) (stay_part from f frame p a.0 c.0) (stay_parts from f frame rest a.1 c.1) m framed
 
-expr_stays : (homes : ℕ) (from : Sources) (f : ℕ → List Step) (frame slots : ℕ) (e : PlainSp) (rd to : ℕ) → slots ≤ frame → expr_formed slots e ≡ true → StaysIn from frame (parts_trail f (expr_to homes e rd to))
+expr_stays : (homes : Homes) (from : Sources) (f : ℕ → List Step) (frame slots : ℕ) (e : PlainSp) (rd to : ℕ) → slots ≤ frame → expr_formed slots e ≡ true → StaysIn from frame (parts_trail f (expr_to homes e rd to))
 expr_stays homes from f frame slots e rd to le is = stay_parts from f frame (expr_to homes e rd to) (formed.expr_formed homes 0 e rd to) (expr_inside homes frame slots e rd to le (and_parts (names_words slots e) (nat_le (need e) 12) is).0)
 
 stay_joined : (from : Sources) (f : ℕ → List Step) (frame : ℕ) (xs ys : PlainParts) → StaysIn from frame (parts_trail f xs) → StaysIn from frame (parts_trail f ys) → StaysIn from frame (parts_trail f (joined xs ys))
@@ -180,22 +207,23 @@ bundles_stay from f frame bs inside m framed = subst (Stays frame m) (sym (run_l
 
 -- ---- places
 
-cell_write_inside : (homes : ℕ) (frame mask : ℕ) (r : Region) (word : ℕ) → nat_lt mask frame ≡ true → AreInside frame (cell_write homes mask (record { region = r; word = word }))
+cell_write_inside : (homes : Homes) (frame mask : ℕ) (r : Region) (word : ℕ) → nat_lt mask frame ≡ true → AreInside frame (cell_write homes mask (record { region = r; word = word }))
 cell_write_inside homes frame mask r word masked =
-    let read = fetch_inside frame homes mask (ltb-true mask frame masked) in
+    let read = seek_inside frame homes mask (ltb-true mask frame masked) in
+    let test = match_inside frame homes mask in
     let address = number_inside frame SPARE (address_of r word) in
-    grind (arith, read, address)
+    grind (arith, read, test, address)
 
-element_write_inside : (homes : ℕ) (frame mask : ℕ) (r : Region) (first length : ℕ) → nat_lt mask frame ≡ true → AreInside frame (element_write homes mask (record { region = r; first = first; length = length }))
+element_write_inside : (homes : Homes) (frame mask : ℕ) (r : Region) (first length : ℕ) → nat_lt mask frame ≡ true → AreInside frame (element_write homes mask (record { region = r; first = first; length = length }))
 element_write_inside homes frame mask r first length masked =
-    let read = fetch_inside frame homes mask (ltb-true mask frame masked) in
-    let size = number_inside frame SPARE length in
-    let address = number_inside frame SPARE (address_of r first) in
-    grind (arith, read, size, address)
+    let read = seek_inside frame homes mask (ltb-true mask frame masked) in
+    let test = match_inside frame homes mask in
+    let address = address_are (λ b. is_inside frame b ≡ true) (record { region = r; first = first; length = length }) SECOND (FIRST + 1) (FIRST + 1) refl (number_inside frame SPARE) refl refl refl refl in
+    grind (arith, read, test, address.length, address.below, address.base, address.scaled)
 
-target_stays : (homes : ℕ) (from : Sources) (f : ℕ → List Step) (frame slots mask : ℕ) (target : PlainSpTarget) → slots ≤ frame → mask < slots → target_formed slots target ≡ true → StaysIn from frame (parts_trail f (target_write homes mask target))
+target_stays : (homes : Homes) (from : Sources) (f : ℕ → List Step) (frame slots mask : ℕ) (target : PlainSpTarget) → slots ≤ frame → mask < slots → target_formed slots target ≡ true → StaysIn from frame (parts_trail f (target_write homes mask target))
 target_stays homes from f frame slots mask (to_slot slot) le masked is =
-    bundles_stay from f frame (slot_write homes mask slot) (rw (fetch_inside frame homes mask (omega (arith, le, masked)), set_inside frame homes (where_so TEST) slot FIRST (omega (arith, le, ltb-true slot slots is))) refl)
+    bundles_stay from f frame (slot_write homes mask slot) (rw (seek_inside frame homes mask (omega (arith, le, masked)), match_inside frame homes mask, set_inside frame homes.first (where_so (told_at homes mask)) slot FIRST (omega (arith, le, ltb-true slot slots is))) refl)
 target_stays homes from f frame slots mask (to_cell cell) le masked is =
     bundles_stay from f frame (cell_write homes mask cell) (cell_write_inside homes frame mask cell.region cell.word (lt-ltb mask frame (omega (arith, le, masked))))
 target_stays homes from f frame slots mask (to_array array index) le masked is =
@@ -223,12 +251,12 @@ framed_again from frame m t framed b = subst (Stays frame m) (sym (did_stack fro
   st = b.st;
 })
 
-call_stays : (homes : ℕ) (from : Sources) (f : ℕ → List Step) (number frame slots mask k : ℕ) (g : ℕ → ℕ) (result : Option ℕ) → CalleesStay from f number g → k < number → slots ≤ frame → mask < slots → result_formed slots result ≡ true
+call_stays : (homes : Homes) (from : Sources) (f : ℕ → List Step) (number frame slots mask k : ℕ) (g : ℕ → ℕ) (result : Option ℕ) → CalleesStay from f number g → k < number → slots ≤ frame → mask < slots → result_formed slots result ≡ true
     → (m : Run) → Framed frame m → 49152 + g k ≤ m.st → Stays frame m (run from (parts_trail f (call_code homes frame mask k result)) m)
 call_stays homes from f number frame slots mask k g result callees earlier le masked is m framed enough =
-    let in_frame = read_inside frame homes MASK mask (omega (arith, le, masked)) in
-    let handed = inside_done from frame (mask_handed homes mask) m framed (rw in_frame refl) in
-    let n = run from (all_done (mask_handed homes mask)) m in
+    let in_frame = read_inside frame homes.first MASK mask (omega (arith, le, masked)) in
+    let handed = inside_done from frame (mask_handed homes.first mask) m framed (rw in_frame refl) in
+    let n = run from (all_done (mask_handed homes.first mask)) m in
     let tail = inside_done from frame call_tail n handed.framed refl in
     let c = run from (all_done call_tail) n in
     let before = stays_then handed tail in
@@ -245,7 +273,7 @@ call_stays homes from f number frame slots mask k g result callees earlier le ma
   where
     written : (r : Option ℕ) → result_formed slots r ≡ true → AreInside frame (result_write homes mask r)
     written None is = refl
-    written (Some slot) is = rw (fetch_inside frame homes mask (omega (arith, le, masked)), set_inside frame homes (where_so TEST) slot RESULT (omega (arith, le, ltb-true slot slots is))) refl
+    written (Some slot) is = rw (seek_inside frame homes mask (omega (arith, le, masked)), match_inside frame homes mask, set_inside frame homes.first (where_so (told_at homes mask)) slot RESULT (omega (arith, le, ltb-true slot slots is))) refl
 
 -- ---- statements
 
@@ -257,13 +285,16 @@ loop_stays from frame (suc count) iteration low one m framed enough =
     subst (Stays frame m) (sym (run_append from iteration (copies count iteration) m)) (stays_then first (loop_stays from frame count iteration low one (run from iteration m) first.framed (omega (arith, first.st, enough))))
 
 mutual
-  stmt_stays : (homes : ℕ) (from : Sources) (f : ℕ → List Step) (g : ℕ → ℕ) (fs : List PlainFunction) (number slots frame counter : ℕ) → CalleesStay from f number g → 1 ≤ slots → counter + 3 ≤ frame
+  stmt_stays : (homes : Homes) (from : Sources) (f : ℕ → List Step) (g : ℕ → ℕ) (fs : List PlainFunction) (number slots frame counter : ℕ) → CalleesStay from f number g → 1 ≤ slots → counter + 3 ≤ frame
       → (t : PlainStmt) → slots + stmt_levels t ≤ counter + 1 → stmt_formed fs number slots t ≡ true → (m : Run) → Framed frame m → 49152 + stmt_chain g t ≤ m.st → Stays frame m (run from (parts_trail f (stmt_code homes frame counter t)) m)
   stmt_stays homes from f g fs number slots frame counter callees some within (masks slot e) levels is m framed enough =
       let parts = and_parts (nat_lt slot slots) (expr_formed slots e) is in
-      mask_is (λ ps. StaysIn from frame (parts_trail f ps)) homes slot e (λ here. expr_stays homes from f frame slots e FIRST (homes + slot) (omega (arith, levels, within)) parts.1)
-      (λ there. stay_joined from f frame (expr_code homes e FIRST) (slot_set homes slot) (expr_stays homes from f frame slots e FIRST FIRST (omega (arith, levels, within)) parts.1)
-      (bundles_stay from f frame (set_word homes always slot FIRST ∷ []) (rw (set_inside frame homes always slot FIRST (omega (arith, levels, within, ltb-true slot slots parts.0))) refl))) m framed
+      mask_is (λ ps. StaysIn from frame (parts_trail f ps)) homes slot e
+      (λ p of_slot. stay_parts from f frame (flag_code homes p e) (formed.flag_formed homes 0 p e)
+      (flag_inside homes frame slots p e (omega (arith, levels, within)) (and_parts (names_words slots e) (nat_le (need e) 12) parts.1).0))
+      (λ plain here. expr_stays homes from f frame slots e FIRST (homes.first + slot) (omega (arith, levels, within)) parts.1)
+      (λ plain there. stay_joined from f frame (expr_code homes e FIRST) (slot_set homes.first slot) (expr_stays homes from f frame slots e FIRST FIRST (omega (arith, levels, within)) parts.1)
+      (bundles_stay from f frame (set_word homes.first always slot FIRST ∷ []) (rw (set_inside frame homes.first always slot FIRST (omega (arith, levels, within, ltb-true slot slots parts.0))) refl))) m framed
   stmt_stays homes from f g fs number slots frame counter callees some within (writes mask target e) levels is m framed enough =
       let parts = and_parts (nat_lt mask slots) (target_formed slots target && expr_formed slots e) is in
       let targets = and_parts (target_formed slots target) (expr_formed slots e) parts.1 in
@@ -271,7 +302,7 @@ mutual
       write_is (λ ps. StaysIn from frame (parts_trail f ps)) homes mask target e
       (stay_joined from f frame (expr_code homes e FIRST) (target_write homes mask target) (expr_stays homes from f frame slots e FIRST FIRST le targets.1) (target_stays homes from f frame slots mask target le (ltb-true mask slots parts.0) targets.0))
       (λ slot op is gives. stay_parts from f frame (guarded_code homes mask e op) (formed.guarded_formed homes 0 mask e op gives.alu)
-      (guarded_each (is_inside frame) homes mask e op (operands_inside homes frame slots e FIRST le (and_parts (names_words slots e) (nat_le (need e) 12) targets.1).0) (fetch_inside frame homes mask (omega (arith, le, ltb-true mask slots parts.0))) refl (alu_inside frame (where_so TEST) op gives.alu))) m framed
+      (guarded_each (is_inside frame) homes mask e op (operands_inside homes frame slots e FIRST le (and_parts (names_words slots e) (nat_le (need e) 12) targets.1).0) (seek_inside frame homes mask (omega (arith, le, ltb-true mask slots parts.0))) (match_inside frame homes mask) (alu_inside frame (where_so (told_at homes mask)) op gives.alu))) m framed
   stmt_stays homes from f g fs number slots frame counter callees some within (calls mask k args result) levels is m framed enough =
       let a = and_parts (nat_lt mask slots) (callee_formed fs number k (length args) && (args_formed slots args && result_formed slots result)) is in
       let b = and_parts (callee_formed fs number k (length args)) (args_formed slots args && result_formed slots result) a.1 in
@@ -291,25 +322,25 @@ mutual
       stay_joined from f frame (expr_code homes source FIRST) (joined (expr_code homes target (FIRST + 1)) (joined (expr_code homes count (FIRST + 2)) sent)) (expr_stays homes from f frame slots source FIRST FIRST le first.0)
       (stay_joined from f frame (expr_code homes target (FIRST + 1)) (joined (expr_code homes count (FIRST + 2)) sent) (expr_stays homes from f frame slots target (FIRST + 1) (FIRST + 1) le rest.0)
       (stay_joined from f frame (expr_code homes count (FIRST + 2)) sent (expr_stays homes from f frame slots count (FIRST + 2) (FIRST + 2) le rest.1)
-      (bundles_stay from f frame (send_code homes mask core) (rw (fetch_inside frame homes mask (omega (arith, le, ltb-true mask slots parts.0))) refl)))) m framed
+      (bundles_stay from f frame (send_code homes mask core) (rw (seek_inside frame homes mask (omega (arith, le, ltb-true mask slots parts.0)), match_inside frame homes mask) refl)))) m framed
   stmt_stays homes from f g fs number slots frame counter callees some within (overruns mask e) levels is m framed enough =
       let parts = and_parts (nat_lt mask slots) (expr_formed slots e) is in
       stay_joined from f frame (expr_code homes e FIRST) (one (straight (overrun_code homes mask))) (expr_stays homes from f frame slots e FIRST FIRST (omega (arith, levels, within)) parts.1)
-      (bundles_stay from f frame (overrun_code homes mask) (rw (fetch_inside frame homes mask (omega (arith, levels, within, ltb-true mask slots parts.0))) refl)) m framed
+      (bundles_stay from f frame (overrun_code homes mask) (rw (seek_inside frame homes mask (omega (arith, levels, within, ltb-true mask slots parts.0)), match_inside frame homes mask) refl)) m framed
   stmt_stays homes from f g fs number slots frame counter callees some within (iterations count body) levels is m framed enough =
       let parts = and_parts (nat_lt 0 count) (stmts_formed fs number slots body) is in
       let code = stmts_code homes frame (counter - 1) body in
-      let kept = keep_inside frame homes counter (omega (arith, within)) in
-      let begin = inside_done from frame (iterations_begin homes counter count) m framed (rw (kept) refl) in
-      let n = run from (all_done (iterations_begin homes counter count)) m in
-      let iteration = parts_trail f code ++ all_done (iterations_tail homes counter) in
+      let kept = keep_inside frame homes.first counter (omega (arith, within)) in
+      let begin = inside_done from frame (iterations_begin homes.first counter count) m framed (rw (number_inside frame (fetched_at homes.first counter) count, kept) refl) in
+      let n = run from (all_done (iterations_begin homes.first counter count)) m in
+      let iteration = parts_trail f code ++ all_done (iterations_tail homes.first counter) in
       let rest = loop_stays from frame count iteration (49152 + stmts_chain g body) (λ t framed enough.
       let b = stmts_stay homes from f g fs number slots frame (counter - 1) callees some (omega (arith, within)) body (omega (arith, levels, some)) parts.1 t framed enough in
-      subst (Stays frame t) (sym (run_append from (parts_trail f code) (all_done (iterations_tail homes counter)) t))
-      (stays_then b (inside_done from frame (iterations_tail homes counter) (run from (parts_trail f code) t) b.framed (rw (fetch_inside frame homes counter (omega (arith, within)), kept) refl)))) n begin.framed (omega (arith, begin.st, enough)) in
+      subst (Stays frame t) (sym (run_append from (parts_trail f code) (all_done (iterations_tail homes.first counter)) t))
+      (stays_then b (inside_done from frame (iterations_tail homes.first counter) (run from (parts_trail f code) t) b.framed (rw (fetch_inside frame homes.first counter (omega (arith, within)), kept) refl)))) n begin.framed (omega (arith, begin.st, enough)) in
       subst (Stays frame m) (sym (run_append from (copies count iteration) [] n)) (stays_then begin rest)
 
-  pub stmts_stay : (homes : ℕ) (from : Sources) (f : ℕ → List Step) (g : ℕ → ℕ) (fs : List PlainFunction) (number slots frame counter : ℕ) → CalleesStay from f number g → 1 ≤ slots → counter + 3 ≤ frame
+  pub stmts_stay : (homes : Homes) (from : Sources) (f : ℕ → List Step) (g : ℕ → ℕ) (fs : List PlainFunction) (number slots frame counter : ℕ) → CalleesStay from f number g → 1 ≤ slots → counter + 3 ≤ frame
       → (ts : PlainStmts) → slots + stmts_levels ts ≤ counter + 1 → stmts_formed fs number slots ts ≡ true → (m : Run) → Framed frame m → 49152 + stmts_chain g ts ≤ m.st → Stays frame m (run from (parts_trail f (stmts_code homes frame counter ts)) m)
   stmts_stay homes from f g fs number slots frame counter callees some within no_stmt levels is m framed enough = stays_all frame m framed
   stmts_stay homes from f g fs number slots frame counter callees some within (stmt t rest) levels is m framed enough =

@@ -1,5 +1,5 @@
 -- Functions stay within the stack, where the frames on a chain of calls leave room for it.
-use Rattle.std.proofs.Common.{◌≡◌, ℕ, zero, suc, ◌+◌, ◌<◌, ◌≤◌, ◌==◌, ◌⊎◌, inl, inr, Bool, true, false, if◌then◌else◌, List, [], ◌∷◌, ◌++◌, length, slice_index_or, nat_lt, refl, sym, ap, ◌∙◌, subst, arith}
+use Rattle.std.proofs.Common.{◌≡◌, ℕ, zero, suc, ◌+◌, ◌<◌, ◌≤◌, ◌==◌, ◌⊎◌, inl, inr, Bool, true, false, if◌then◌else◌, Option, None, Some, List, [], ◌∷◌, ◌++◌, length, slice_index_or, nat_lt, refl, sym, ap, ◌∙◌, subst, arith}
 use Rattle.std.specs.Prelude.{nat_le}
 use Rattle.std.specs.List.{list_all}
 use Rattle.std.proofs.lemmas.Bool.{cases_lt, and_parts, lt-ltb, ltb-true, eqb-false}
@@ -14,14 +14,15 @@ use Rattle.sp_shape.specs.Run.{Run, IsWhole, Back, Sources, run, at_begin}
 use Rattle.sp_shape.specs.Trail.{Step, all_done, parts_trail, trails, trail}
 use Rattle.sp_shape.proofs.Lists.{all_append}
 use Rattle.sp_emit.specs.Functions.{codes}
-use Rattle.sp_emit.specs.Places.{words_cleared, homes_of}
+use Rattle.sp_emit.specs.Flags.{begun_body}
+use Rattle.sp_emit.specs.Places.{flag_of, words_cleared}
 use Rattle.sp_emit.proofs.Codes.{codes_at, codes_length, kept_is, brought_is}
-use Rattle.sp_emit.proofs.WordPlaces.{cleared_all}
+use Rattle.sp_emit.proofs.BegunBody.{begun_formed, begun_levels, begun_chain}
+use Rattle.sp_emit.proofs.FlagWords.{cleared_all}
 use Rattle.sp_emit.specs.Chains.{stmts_call, stmts_chain, chains}
-use Rattle.sp_emit.specs.Functions.{arguments_kept, argument_kept, mask_kept, state_kept, needs_none, frame_taken, frame_freed, base_slot, offset_slot, first_counter, function_code, return_tail, emitted}
+use Rattle.sp_emit.specs.Functions.{arguments_kept, argument_kept, mask_in, mask_kept, place_kept, state_kept, needs_none, frame_taken, frame_freed, base_slot, offset_slot, first_counter, body_code, function_code, places_of, return_tail, emitted}
 use Rattle.sp_emit.specs.Instructions.{always, stack_op}
 use Rattle.sp_emit.specs.declared.registers.TheConstants.{RESULT, MASK, FIRST}
-use Rattle.sp_emit.specs.Statements.{stmts_code}
 use Rattle.sp_emit.proofs.Arguments.{did_stack}
 use Rattle.sp_emit.proofs.Bare.{is_bare, bare_inside, needs_parts, body_bare, body_lone, outside}
 use Rattle.sp_emit.proofs.Beginning.{Outside, words_taken, taken_few}
@@ -30,17 +31,22 @@ use Rattle.sp_emit.proofs.Passed.{result_read, given_back, end_run}
 use Rattle.sp_emit.proofs.Pointing.{Points, points_then, points_none, points_one, is_inside, Framed, Stays, inside_done}
 use Rattle.sp_emit.proofs.Serves.{parts_of_function, whole_frame, function_run, code_of}
 use Rattle.sp_emit.proofs.WithinFrames.{GivesBack, CalleesStay, stmts_stay, stay_parts, read_beside, set_within}
+use Rattle.sp_emit.specs.declared.stands.Homes.{Homes}
 
 -- ---- before and after the body
 
-arguments_inside : (homes slots frame n : ℕ) → n ≤ slots → Outside homes slots frame → list_all (is_inside frame) (arguments_kept homes n) ≡ true
+arguments_inside : (homes : Homes) (slots frame n : ℕ) → n ≤ slots → Outside homes.first slots frame → list_all (is_inside frame) (arguments_kept homes.first n) ≡ true
 arguments_inside homes slots frame zero le out = refl
-arguments_inside homes slots frame (suc n) le out = all_append (is_inside frame) (arguments_kept homes n) (argument_kept homes n) (arguments_inside homes slots frame n (omega (arith, le)) out) (rw (set_within frame homes always n (FIRST + n) (out n le)) refl)
+arguments_inside homes slots frame (suc n) le out = all_append (is_inside frame) (arguments_kept homes.first n) (argument_kept homes.first n) (arguments_inside homes slots frame n (omega (arith, le)) out) (rw (set_within frame homes.first always n (FIRST + n) (out n le)) refl)
 
-state_inside : (homes frame : ℕ) (f : PlainFunction) → f.mask < slots_of f → Outside homes (slots_of f) frame → (stmts_call f.body ≡ true → f.frame ≤ frame) → 2 ≤ f.frame → list_all (is_inside frame) (state_kept homes f) ≡ true
+state_inside : (homes : Homes) (frame : ℕ) (f : PlainFunction) → f.mask < slots_of f → Outside homes.first (slots_of f) frame → (stmts_call f.body ≡ true → f.frame ≤ frame) → 2 ≤ f.frame → list_all (is_inside frame) (state_kept homes f) ≡ true
 state_inside homes frame f mask out whole some =
-    let set = set_within frame homes always f.mask MASK (out f.mask mask) in
-    kept_is (λ bs. list_all (is_inside frame) (mask_kept homes f ++ bs) ≡ true) f (λ has. rw (set, lt-ltb (base_slot f) frame (omega (arith, whole has, some)), lt-ltb (offset_slot f) frame (omega (arith, whole has, some))) refl) (rw (set) refl)
+    all_append (is_inside frame) (mask_kept homes f) (place_kept f) (by (flag_of homes.flags f.mask))
+    (kept_is (λ bs. list_all (is_inside frame) bs ≡ true) f (λ has. rw (lt-ltb (base_slot f) frame (omega (arith, whole has, some)), lt-ltb (offset_slot f) frame (omega (arith, whole has, some))) refl) refl)
+  where
+    by : (o : Option ℕ) → list_all (is_inside frame) (mask_in o homes.first f.mask) ≡ true
+    by None = rw (set_within frame homes.first always f.mask MASK (out f.mask mask)) refl
+    by (Some p) = refl
 
 end_inside : (homes frame : ℕ) (f : PlainFunction) → f.result < slots_of f → Outside homes (slots_of f) frame → (stmts_call f.body ≡ true → f.frame ≤ frame) → 2 ≤ f.frame → list_all (is_inside frame) (given_back homes f) ≡ true
 end_inside homes frame f result out whole some =
@@ -85,37 +91,39 @@ gives_then from m n b high =
     let s = inside_done from 0 return_tail n (record { whole = b.whole; few = omega arith; high = omega (arith, b.st, high); held = omega (arith, b.held) }) refl in
     record { points = points_then b.points s.points; whole = s.framed.whole; st = s.st ∙ b.st; held = omega (arith, s.framed.held) }
 
-function_stays : (homes : ℕ) (from : Sources) (code : ℕ → List Step) (g : ℕ → ℕ) (fs : List PlainFunction) (number : ℕ) (f : PlainFunction) → function_formed fs number f ≡ true → CalleesStay from code number g
+function_stays : (homes : Homes) (from : Sources) (code : ℕ → List Step) (g : ℕ → ℕ) (fs : List PlainFunction) (number : ℕ) (f : PlainFunction) → function_formed fs number f ≡ true → CalleesStay from code number g
     → (m : Run) → IsWhole m → m.st ≤ 65536 → m.st ≤ m.ss → 49152 + (f.frame + stmts_chain g f.body) ≤ m.st → GivesBack m (run from (parts_trail code (function_code homes f)) m)
 function_stays homes from code g fs number f formed callees m whole high held enough =
     let p = parts_of_function fs number f formed in
-    let none = needs_none homes f in
+    let none = needs_none homes.first f in
     let n = words_taken none f.frame in
-    let out = outside homes f (omega (arith, p.room)) none refl in
-    let t0 = run from (all_done (frame_taken homes f)) m in
+    let out = outside homes.first f (omega (arith, p.room)) none refl in
+    let t0 = run from (all_done (frame_taken homes.first f)) m in
     let x0 = takes from f.frame none m whole p.frame high held (omega (arith, enough)) in
-    let c = inside_done from n (words_cleared homes (slots_of f)) t0 x0.stays (cleared_all (is_inside n) homes (slots_of f) (λ r. refl)) in
+    let c = inside_done from n (words_cleared homes (slots_of f)) t0 x0.stays (cleared_all (is_inside n) homes (slots_of f) (λ p. refl) (λ r. refl)) in
     let xc = entered_then x0 c in
     let tc = run from (all_done (words_cleared homes (slots_of f))) t0 in
-    let x1 = entered_then xc (inside_done from n (arguments_kept homes f.parameters) tc xc.stays (arguments_inside homes (slots_of f) n f.parameters (omega (arith, p.before_mask, p.mask)) out)) in
-    let t1 = run from (all_done (arguments_kept homes f.parameters)) tc in
-    let x2 = entered_then x1 (inside_done from n (state_kept homes f) t1 x1.stays (state_inside homes n f p.mask out (whole_frame homes f) (omega (arith, p.room)))) in
+    let x1 = entered_then xc (inside_done from n (arguments_kept homes.first f.parameters) tc xc.stays (arguments_inside homes (slots_of f) n f.parameters (omega (arith, p.before_mask, p.mask)) out)) in
+    let t1 = run from (all_done (arguments_kept homes.first f.parameters)) tc in
+    let x2 = entered_then x1 (inside_done from n (state_kept homes f) t1 x1.stays (state_inside homes n f p.mask out (whole_frame homes.first f) (omega (arith, p.room)))) in
     let t2 = run from (all_done (state_kept homes f)) t1 in
     let x3 = entered_then x2 (by none refl t2 x2.stays (omega (arith, x2.st, taken_few none f.frame, enough))) in
-    let t3 = run from (parts_trail code (stmts_code homes f.frame (first_counter f) f.body)) t2 in
-    let x4 = entered_then x3 (inside_done from n (given_back homes f) t3 x3.stays (end_inside homes n f p.result out (whole_frame homes f) (omega (arith, p.room)))) in
-    let t4 = run from (all_done (given_back homes f)) t3 in
-    subst (GivesBack m) (sym (function_run homes from code f m ∙ ap (run from (all_done return_tail)) (end_run homes from f t3))) (gives_then from m (run from (all_done (frame_freed homes f)) t4) (frees from f.frame none m t4 x4) high)
+    let t3 = run from (parts_trail code (body_code homes f)) t2 in
+    let x4 = entered_then x3 (inside_done from n (given_back homes.first f) t3 x3.stays (end_inside homes.first n f p.result out (whole_frame homes.first f) (omega (arith, p.room)))) in
+    let t4 = run from (all_done (given_back homes.first f)) t3 in
+    subst (GivesBack m) (sym (function_run homes from code f m ∙ ap (run from (all_done return_tail)) (end_run homes.first from f t3))) (gives_then from m (run from (all_done (frame_freed homes.first f)) t4) (frees from f.frame none m t4 x4) high)
   where
-    by : (b : Bool) → needs_none homes f ≡ b → (t : Run) → Framed (words_taken b f.frame) t → 49152 + stmts_chain g f.body ≤ t.st → Stays (words_taken b f.frame) t (run from (parts_trail code (stmts_code homes f.frame (first_counter f) f.body)) t)
+    by : (b : Bool) → needs_none homes.first f ≡ b → (t : Run) → Framed (words_taken b f.frame) t → 49152 + stmts_chain g f.body ≤ t.st → Stays (words_taken b f.frame) t (run from (parts_trail code (body_code homes f)) t)
     by true none t framed room =
         let p = parts_of_function fs number f formed in
-        let facts = needs_parts homes f none in
-        let body = stmts_code homes f.frame (first_counter f) f.body in
+        let facts = needs_parts homes.first f none in
+        let body = body_code homes f in
         stay_parts from code 0 body (body_lone homes fs number f p.body facts) (each_so is_bare (is_inside 0) bare_inside body (body_bare homes fs number f p.body p.room (omega (arith, p.mask)) facts)) t framed
     by false some t framed room =
         let p = parts_of_function fs number f formed in
-        stmts_stay homes from code g fs number (slots_of f) f.frame (first_counter f) callees (omega (arith, p.mask)) (omega (arith, p.room, p.mask)) f.body (omega (arith, p.room, p.mask)) p.body t framed room
+        let levels = begun_levels homes.flags f in
+        let chain = begun_chain homes.flags g f in
+        stmts_stay homes from code g fs number (slots_of f) f.frame (first_counter f) callees (omega (arith, p.mask)) (omega (arith, p.room, p.mask)) (begun_body homes.flags f) (omega (arith, p.room, p.mask, levels)) (begun_formed homes.flags fs number (slots_of f) f p.body) t framed (omega (arith, chain, room))
 
 -- ---- all of them, in order
 
@@ -133,7 +141,7 @@ all_stay from fs (suc n) within formed =
         → GivesBack m (run from (if b then parts_trail (code_of fs n) (slice_index_or (codes fs) n no_part) else code_of fs n k) m)
     by own before k less m whole high held true is enough =
         subst (λ c. GivesBack m (run from (parts_trail (code_of fs n) c) m)) (sym (codes_at fs n (omega (arith, within))))
-        (function_stays (homes_of fs n) from (code_of fs n) (chains fs n) fs n f own before m whole high held enough)
+        (function_stays (places_of fs n) from (code_of fs n) (chains fs n) fs n f own before m whole high held enough)
     by own before k less m whole high held false other enough = before.called k (earlier (cases_lt k n)) m whole high held enough
       where
         earlier : (k < n) ⊎ (n ≤ k) → k < n

@@ -1,6 +1,6 @@
 -- Words of a frame, in registers and in the stack: what reading and setting one leaves.
-use Rattle.std.proofs.Common.{◌≡◌, ℕ, zero, suc, ◌+◌, ◌%◌, ◌^◌, ◌<◌, ◌≤◌, ◌⊎◌, inl, inr, Bool, true, false, if◌then◌else◌, [], ◌∷◌, refl, sym, ap, ◌∙◌, subst, arith}
-use Rattle.std.proofs.lemmas.Bool.{and_from, cases_lt, ltb-true, lt-ltb}
+use Rattle.std.proofs.Common.{◌≡◌, ℕ, zero, suc, ◌+◌, ◌%◌, ◌^◌, ◌<◌, ◌≤◌, ◌⊎◌, inl, inr, Bool, true, false, if◌then◌else◌, refl, ap, ◌∙◌, arith}
+use Rattle.std.proofs.lemmas.Bool.{cases_lt, ltb-true, lt-ltb}
 use Rattle.shared_order.specs.Words.{put}
 use Rattle.patmos_instr.specs.Bundles.{Slots}
 use Rattle.patmos_instr.specs.declared.guards.Guard.{Guard}
@@ -8,23 +8,20 @@ use Rattle.patmos_instr.specs.declared.functions.ImmFunc.TheVariants as imm
 use Rattle.patmos_instr.specs.declared.instructions.Op.TheVariants.{AluImm, Load, Store}
 use Rattle.patmos_instr.specs.declared.instructions.Op.{Op}
 use Rattle.patmos_instr.specs.declared.memories.Width.TheVariants as load
-use Rattle.std.specs.List.{list_all}
-use Rattle.sp_shape.proofs.Lists.{all_append}
 use Rattle.patmos_instr.specs.declared.memories.Mem.TheVariants as mem
 use Rattle.patmos_instr.specs.declared.memories.StoreWidth.TheVariants as store
 use Rattle.patmos_sem.specs.Registers.{holds}
 use Rattle.patmos_sem.specs.declared.writes.Write.TheVariants as write
 use Rattle.patmos_sem.specs.Effects.{address_of as address_by}
-use Rattle.sp_shape.specs.Trail.{all_done}
-use Rattle.sp_shape.specs.Run.{Run, Sources, word_given, once, run, IsWhole}
-use Rattle.sp_emit.specs.Holding.{held, Keeps, KeepsFrom}
-use Rattle.sp_emit.specs.Instructions.{always, under, idle, set_short, copy, load_slot, store_slot}
+use Rattle.sp_shape.specs.Run.{Run, Sources, word_given, once, IsWhole}
+use Rattle.sp_emit.specs.Holding.{held, Keeps, KeepsFrom, KeepsFlags}
+use Rattle.sp_emit.specs.Instructions.{always, under, idle, copy, load_slot, store_slot}
 use Rattle.sp_emit.specs.Means.{KeepsBehind}
-use Rattle.sp_emit.specs.Places.{in_register, word_of, read_op, read_word, fetch_op, fetch_word, fetched_at, keep_op, keep_word, set_op, set_word, word_cleared, words_cleared}
+use Rattle.sp_emit.specs.Places.{in_register, word_of, read_op, read_word, fetch_op, fetch_word, fetched_at, keep_op, keep_word, set_op, set_word}
 use Rattle.sp_emit.specs.declared.registers.TheConstants.{SPARE, OVERRUN}
 use Rattle.sp_emit.proofs.Frames.{put_same, put_other}
-use Rattle.sp_emit.proofs.Once.{with_written, stays_zero, did_write, did_nothing, did_load, got, kept, whole_written}
-use Rattle.sp_emit.proofs.Leaving.{did_set_short, slot_leaves}
+use Rattle.sp_emit.proofs.Once.{with_written, stays_zero, did_write, did_nothing, did_load, got, kept, so_by_register, whole_written}
+use Rattle.sp_emit.proofs.Leaving.{slot_leaves}
 use Rattle.sp_emit.proofs.Storing.{with_slot_word, did_store_slot}
 
 -- ---- what holds of both bundles holds of the one
@@ -81,23 +78,6 @@ set_op_is P homes slot rs here there = by (in_register homes slot)
     by true = here
     by false = there
 
--- what holds of each bundle that sets a register of the window to 0 holds of those that clear words
-cleared_one : (holds : Slots → Bool) (homes slot : ℕ) → holds (set_short always (homes + slot) 0) ≡ true → list_all holds (word_cleared homes slot) ≡ true
-unfolding word_cleared
-cleared_one holds homes slot one = by (in_register homes slot)
-  where
-    by : (b : Bool) → list_all holds (if b then set_short always (homes + slot) 0 ∷ [] else []) ≡ true
-    by true = and_from (holds (set_short always (homes + slot) 0)) true one refl
-    by false = refl
-
-pub cleared_within : (holds : Slots → Bool) (homes n : ℕ) → ((slot : ℕ) → slot < n → holds (set_short always (homes + slot) 0) ≡ true) → list_all holds (words_cleared homes n) ≡ true
-cleared_within holds homes zero each = refl
-cleared_within holds homes (suc n) each =
-    all_append holds (words_cleared homes n) (word_cleared homes n) (cleared_within holds homes n (λ slot lt. each slot (omega (arith, lt)))) (cleared_one holds homes n (each n (omega arith)))
-
-pub cleared_all : (holds : Slots → Bool) (homes n : ℕ) → ((r : ℕ) → holds (set_short always r 0) ≡ true) → list_all holds (words_cleared homes n) ≡ true
-cleared_all holds homes n each = cleared_within holds homes n (λ slot lt. each (homes + slot))
-
 -- ---- words
 
 pub word_still : (homes slot : ℕ) (m t : Run) → KeepsFrom homes m t → t.stack ≡ m.stack → t.st ≡ m.st → word_of homes slot t ≡ word_of homes slot m
@@ -139,7 +119,7 @@ read_leaves from homes rd slot m told whole some few near = by (in_register home
         ∙ got rd ((held (homes + slot) m + 0) % 2 ^ 32) m whole some few ∙ (let e : (held (homes + slot) m + 0) % 2 ^ 32 ≡ held (homes + slot) m = omega (arith, word) in e)
     by false word = slot_leaves from rd slot m told whole some few near
 
-nothing_written : (v r : ℕ) (m : Run) → IsWhole m → r < 32 → held r (with_written (write.Register 0 v) m) ≡ held r m
+pub nothing_written : (v r : ℕ) (m : Run) → IsWhole m → r < 32 → held r (with_written (write.Register 0 v) m) ≡ held r m
 nothing_written v zero m whole few = stays_zero (write.Register 0 v) m whole
 nothing_written v (suc r) m whole few = kept 0 v (suc r) m whole few (λ same. absurd (omega (arith, same)))
 
@@ -202,6 +182,7 @@ pub record Sets (most homes slot v : ℕ) (m t : Run) : Type 0 where
   pub own : word_of homes slot t ≡ v
   pub others : (u : ℕ) → (slot ≡ u → ⊥) → word_of homes u t ≡ word_of homes u m
   pub regs : (r : ℕ) → 1 ≤ r → r < most → (homes + slot ≡ r → ⊥) → held r t ≡ held r m
+  pub flags : KeepsFlags m t
   pub flag : held OVERRUN t ≡ held OVERRUN m
   pub stack : (a : ℕ) → (in_register homes slot ≡ false → m.st + slot ≡ a → ⊥) → t.stack a ≡ m.stack a
 
@@ -221,6 +202,7 @@ sets_register homes slot v m some whole lt = record {
   own = ap (λ c. if c then held (homes + slot) t else t.stack (t.st + slot)) (lt-ltb (homes + slot) OVERRUN lt) ∙ got (homes + slot) v m whole (omega (arith, some)) (omega (arith, lt));
   others = λ u apart. word u apart (in_register homes u) refl;
   regs = λ r least few apart. other r few apart;
+  flags = λ p from few. so_by_register (homes + slot) v p m whole few;
   flag = other OVERRUN (omega arith) (λ same. absurd (omega (arith, same, lt)));
   stack = λ a apart. refl;
 }
@@ -245,6 +227,7 @@ sets_straight homes slot v m t lt keeps is = record {
   own = ap (λ c. if c then held (homes + slot) t else t.stack (t.st + slot)) (lt-ltb (homes + slot) OVERRUN lt) ∙ is;
   others = λ u apart. word u apart (in_register homes u) refl;
   regs = λ r least few apart. other r few apart (cases_lt r (homes + slot));
+  flags = keeps.flags;
   flag = keeps.flag;
   stack = λ a apart. ap (λ words. words a) keeps.stack;
 }
@@ -266,6 +249,7 @@ sets_stack homes slot v m whole is = record {
   own = ap (λ c. if c then held (homes + slot) t else t.stack (t.st + slot)) is ∙ put_same (m.st + slot) v m.stack;
   others = λ u apart. word u apart (in_register homes u);
   regs = λ r least few apart. refl;
+  flags = λ p from few. refl;
   flag = refl;
   stack = λ a apart. put_other (m.st + slot) a v m.stack (apart is);
 }
@@ -284,16 +268,6 @@ sets_word homes slot v m some whole = by (in_register homes slot) refl
     by : (b : Bool) → in_register homes slot ≡ b → Sets 32 homes slot v m (if b then with_written (write.Register (homes + slot) v) m else with_slot_word slot v m)
     by true is = sets_register homes slot v m some whole (ltb-true (homes + slot) OVERRUN is)
     by false is = sets_stack homes slot v m whole is
-
--- a word in a register that is set to 0, or one in the stack that is left
-pub word_cleared_is : (P : Run → Type 0) (from : Sources) (homes slot : ℕ) (m : Run) → IsWhole m → (homes + slot < OVERRUN → P (with_written (write.Register (homes + slot) 0) m)) → (in_register homes slot ≡ false → P m)
-    → P (run from (all_done (word_cleared homes slot)) m)
-unfolding word_cleared
-word_cleared_is P from homes slot m whole here there = by (in_register homes slot) refl
-  where
-    by : (b : Bool) → in_register homes slot ≡ b → P (run from (all_done (if b then set_short always (homes + slot) 0 ∷ [] else [])) m)
-    by true is = subst P (sym (did_set_short from always (homes + slot) 0 m whole whole.fits.always)) (here (ltb-true (homes + slot) OVERRUN is))
-    by false is = there is
 
 pub in_stack : (homes slot : ℕ) (m : Run) → in_register homes slot ≡ false → word_of homes slot m ≡ m.stack (m.st + slot)
 unfolding word_of

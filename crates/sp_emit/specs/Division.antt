@@ -8,20 +8,21 @@ use Rattle.patmos_instr.specs.declared.functions.ImmFunc.TheVariants as imm
 use Rattle.patmos_instr.specs.declared.functions.PredFunc.TheVariants as comb
 use Rattle.sp_shape.specs.Parts.{PlainPart, straight, repeats, PlainParts, no_part, part}
 use Rattle.sp_emit.specs.Instructions.{always, where_so, idle, set_short, copy, with_short, compute, compare, compare_short, combine, branch}
-use Rattle.sp_emit.specs.declared.registers.TheConstants.{SPARE, DIVIDEND, DIVISOR, REMAINDER, DIGITS, TEST, SECOND, REST_NEGATIVE, QUOTIENT_NEGATIVE, MORE}
+use Rattle.sp_emit.specs.declared.registers.TheConstants.{SPARE, DIVIDEND, DIVISOR, REMAINDER, DIGITS, TEST, SECOND, MORE}
 
 -- the operands stand in two registers; nothing is left so far, and 16 iterations are to be made
 abbrev pub operands : ℕ → ℕ → List Slots
 operands ra rb = copy DIVIDEND ra ∷ copy DIVISOR rb ∷ set_short always REMAINDER 0 ∷ set_short always DIGITS 16 ∷ []
 
--- signed words are divided as what they are without their signs
-abbrev pub without_signs : List Slots
-without_signs =
-    compare_short cmp.Btest REST_NEGATIVE DIVIDEND 31
-    ∷ compare_short cmp.Btest QUOTIENT_NEGATIVE DIVISOR 31
-    ∷ compute (where_so REST_NEGATIVE) alu.Sub DIVIDEND 0 DIVIDEND
-    ∷ compute (where_so QUOTIENT_NEGATIVE) alu.Sub DIVISOR 0 DIVISOR
-    ∷ combine comb.Pxor QUOTIENT_NEGATIVE REST_NEGATIVE QUOTIENT_NEGATIVE
+-- signed words are divided as what they are without their signs; two predicates then say whether the rest and the
+-- quotient are negative
+abbrev pub without_signs : ℕ → ℕ → List Slots
+without_signs rest quotient =
+    compare_short cmp.Btest rest DIVIDEND 31
+    ∷ compare_short cmp.Btest quotient DIVISOR 31
+    ∷ compute (where_so rest) alu.Sub DIVIDEND 0 DIVIDEND
+    ∷ compute (where_so quotient) alu.Sub DIVISOR 0 DIVISOR
+    ∷ combine comb.Pxor quotient rest quotient
     ∷ []
 
 -- the highest bit of the dividend stands apart
@@ -80,11 +81,14 @@ abbrev pub unsigned_rest_to : ℕ → ℕ → List Slots
 unsigned_rest_to rd ra = large_rest ra ++ rest_to rd
 
 -- the quotient and the rest of signed words, each with its sign
+abbrev pub with_sign : ℕ → Slots
+with_sign rd = compute (where_so SECOND) alu.Sub rd 0 rd
+
 abbrev pub signed_quotient_to : ℕ → List Slots
-signed_quotient_to rd = quotient_to rd ++ compute (where_so QUOTIENT_NEGATIVE) alu.Sub rd 0 rd ∷ []
+signed_quotient_to rd = quotient_to rd ++ with_sign rd ∷ []
 
 abbrev pub signed_rest_to : ℕ → List Slots
-signed_rest_to rd = rest_to rd ++ compute (where_so REST_NEGATIVE) alu.Sub rd 0 rd ∷ []
+signed_rest_to rd = rest_to rd ++ with_sign rd ∷ []
 
 -- before and after the digits
 abbrev pub around : List Slots → List Slots → PlainParts
@@ -93,5 +97,6 @@ around before behind = part (straight (before ++ highest_bit ∷ [])) (part digi
 abbrev pub unsigned_division : List Slots → ℕ → ℕ → PlainParts
 unsigned_division behind ra rb = around (operands ra rb) behind
 
-abbrev pub signed_division : List Slots → ℕ → ℕ → PlainParts
-signed_division behind ra rb = around (operands ra rb ++ without_signs) behind
+-- the digits leave SECOND as it is, so the sign that is asked for stands there: the rest's or the quotient's
+abbrev pub signed_division : ℕ → ℕ → List Slots → ℕ → ℕ → PlainParts
+signed_division rest quotient behind ra rb = around (operands ra rb ++ without_signs rest quotient) behind

@@ -15,7 +15,8 @@ use Rattle.sp_tree.specs.declared.operators.SpUnary.{SpUnary}
 use Rattle.sp_tree.specs.declared.operators.SpUnary.TheVariants as unary
 use Rattle.sp_emit.specs.Expressions.{is_immediate, number_of, value_at}
 use Rattle.sp_emit.specs.Instructions.{number_op}
-use Rattle.sp_emit.specs.Places.{in_register}
+use Rattle.sp_emit.specs.Places.{flag_of, in_register}
+use Rattle.sp_emit.specs.declared.stands.Homes.{Homes}
 
 -- operators that are one instruction: on two registers, and on a register and a number
 abbrev pub alu_of : SpBinary → Option AluFunc
@@ -52,13 +53,14 @@ abbrev pub held_op : SpBinary → ℕ → ℕ → ℕ → Option Op
 held_op op to ra n = option_map (λ func. AluImm func to ra n) (imm_of op)
 
 -- and a word of the frame in a register
-abbrev pub home_op : ℕ → ℕ → ℕ → Option Op
-home_op homes slot to = if in_register homes slot then Some (AluImm imm.Add to (homes + slot) 0) else None
+abbrev pub home_op : Option ℕ → ℕ → ℕ → ℕ → Option Op
+home_op (Some p) homes slot to = None
+home_op None homes slot to = if in_register homes slot then Some (AluImm imm.Add to (homes + slot) 0) else None
 
 -- the instruction, where the operands stand as after their code and the value goes to a register
-abbrev pub last_op : ℕ → PlainSp → ℕ → ℕ → Option Op
+abbrev pub last_op : Homes → PlainSp → ℕ → ℕ → Option Op
 last_op homes (constant n) rd to = Some (number_op to n)
-last_op homes (frame_word slot) rd to = home_op homes slot to
+last_op homes (frame_word slot) rd to = home_op (flag_of homes.flags slot) homes.first slot to
 last_op homes (before_one op of) rd to = unary_op op to (value_at homes of rd)
 last_op homes (between_two op a b) rd to =
     if is_immediate op b then held_op op to (value_at homes a rd) (number_of b)

@@ -1,7 +1,7 @@
 -- To be believed. The code of expressions: it leaves a value in a register, and works its operands out in registers from
 -- one on, beside those that are spare. Of two operands the one of the greater need is worked out first, so that registers
 -- suffice.
-use Rattle.std.specs.Prelude.{ℕ, ◌+◌, ◌-◌, ◌*◌, ◌^◌, ◌&&◌, ◌||◌, nat_lt, nat_le, Bool, true, false, if◌then◌else◌, List, [], ◌∷◌}
+use Rattle.std.specs.Prelude.{ℕ, ◌+◌, ◌-◌, ◌*◌, ◌^◌, ◌==◌, ◌&&◌, ◌||◌, nat_lt, nat_le, Bool, true, false, if◌then◌else◌, List, [], ◌∷◌, Option, None, Some, is_none}
 use Rattle.patmos_instr.specs.Bundles.{Slots}
 use Rattle.patmos_instr.specs.declared.functions.AluFunc.{AluFunc}
 use Rattle.patmos_instr.specs.declared.functions.AluFunc.TheVariants as alu
@@ -11,6 +11,8 @@ use Rattle.patmos_instr.specs.declared.functions.ImmFunc.{ImmFunc}
 use Rattle.patmos_instr.specs.declared.functions.ImmFunc.TheVariants as imm
 use Rattle.patmos_instr.specs.declared.functions.PredFunc.{PredFunc}
 use Rattle.patmos_instr.specs.declared.functions.PredFunc.TheVariants as comb
+use Rattle.patmos_instr.specs.declared.instructions.Op.{Op}
+use Rattle.patmos_instr.specs.declared.instructions.Op.TheVariants.{AluImm, AluReg, Cmp, CmpImm}
 use Rattle.patmos_instr.specs.declared.memories.Mem.{Mem}
 use Rattle.patmos_instr.specs.declared.memories.Mem.TheVariants as mem
 use Rattle.patmos_instr.specs.declared.specials.Special.TheVariants as special
@@ -27,9 +29,10 @@ use Rattle.sp_tree.specs.declared.operators.SpUnary.TheVariants as unary
 use Rattle.sp_shape.specs.Parts.{straight, PlainParts, no_part, one, joined}
 use Rattle.sp_emit.specs.Divisors.{is_power, is_exact, power_quotient_to, power_rest_to, factor_quotient_to, factor_rest_to, signed_to}
 use Rattle.sp_emit.specs.Division.{unsigned_quotient_to, unsigned_rest_to, signed_quotient_to, signed_rest_to, unsigned_division, signed_division}
-use Rattle.sp_emit.specs.Instructions.{always, where_so, where_not, set_number, set_short, compute, with_short, compare, compare_short, combine, multiply, from_special, load_from}
-use Rattle.sp_emit.specs.Places.{in_register, read_word}
+use Rattle.sp_emit.specs.Instructions.{always, where_so, where_not, under, number_op, set_number, set_short, compute, with_short, compare, compare_short, combine, multiply, from_special, load_from}
+use Rattle.sp_emit.specs.Places.{flag_of, in_register, read_word}
 use Rattle.sp_emit.specs.declared.registers.TheConstants.{SPARE, DIVIDEND, TEST, SECOND}
+use Rattle.sp_emit.specs.declared.stands.Homes.{Homes}
 
 -- ---- addresses
 
@@ -59,8 +62,11 @@ array_space region.Shared = mem.M
 -- ---- operators
 
 -- 1 where a predicate is true, else 0
+abbrev pub truth_of : ℕ → ℕ → List Slots
+truth_of p rd = set_short always rd 0 ∷ set_short (where_so p) rd 1 ∷ []
+
 abbrev pub truth_to : ℕ → List Slots
-truth_to rd = set_short always rd 0 ∷ set_short (where_so TEST) rd 1 ∷ []
+truth_to rd = truth_of TEST rd
 
 -- of the word of one register, in another
 abbrev pub unary_code : SpUnary → ℕ → ℕ → List Slots
@@ -97,9 +103,9 @@ binary_code binary.ShiftRightUnsigned rd ra rb = computed alu.Sr rd ra rb
 binary_code binary.Plus rd ra rb = computed alu.Add rd ra rb
 binary_code binary.Minus rd ra rb = computed alu.Sub rd ra rb
 binary_code binary.Times rd ra rb = one (straight (multiply ra rb ∷ from_special rd special.Sl ∷ []))
-binary_code binary.Divide rd ra rb = signed_division (signed_quotient_to rd) ra rb
+binary_code binary.Divide rd ra rb = signed_division TEST SECOND (signed_quotient_to rd) ra rb
 binary_code binary.DivideUnsigned rd ra rb = unsigned_division (unsigned_quotient_to rd ra) ra rb
-binary_code binary.Remainder rd ra rb = signed_division (signed_rest_to rd) ra rb
+binary_code binary.Remainder rd ra rb = signed_division SECOND TEST (signed_rest_to rd) ra rb
 binary_code binary.RemainderUnsigned rd ra rb = unsigned_division (unsigned_rest_to rd ra) ra rb
 
 -- the constants of which an operator has code of its own as its second operand are below this number: arithmetic and
@@ -183,21 +189,55 @@ factor_code _ rd ra n = []
 abbrev pub held_code : SpBinary → ℕ → ℕ → ℕ → List Slots
 held_code op rd ra n = if is_short op n then short_code op rd ra n else factor_code op rd ra n
 
+-- ---- addresses of elements
+
+-- the spare register gets a number, unless another instruction holds it: then the bundle does nothing
+unfoldable pub spare_op : Bool → ℕ → Op
+spare_op is_held n = if is_held then AluImm imm.Add 0 0 0 else number_op SPARE n
+
+-- a comparison holds a short length, and others stand in the spare register
+abbrev pub length_op : ℕ → Op
+length_op length = spare_op (nat_lt length 32) length
+
+-- whether an index is below the length
+unfoldable pub below_op : ℕ → ℕ → ℕ → Op
+below_op pd ra length = if nat_lt length 32 then CmpImm cmp.Ult pd ra length else Cmp cmp.Ult pd ra SPARE
+
+-- whether loads and stores hold the first word of an array: it stands low in a memory that begins at byte 0
+abbrev pub has_offset : SpArray → Bool
+has_offset a = (base_of a.region == 0) && nat_lt a.first 128
+
+-- how many words they add to the address in their register
+abbrev pub offset_of : SpArray → ℕ
+offset_of a = if has_offset a then a.first else 0
+
+-- else the spare register gets the address of the first word
+abbrev pub base_op : SpArray → Op
+base_op a = spare_op (has_offset a) (address_of a.region a.first)
+
+-- four times the index, with that address where there is one
+unfoldable pub scaled_op : SpArray → ℕ → ℕ → Op
+scaled_op a rd ra = if has_offset a then AluImm imm.Sl rd ra 2 else AluReg alu.Shadd2 rd ra SPARE
+
+-- where the test fails, a load or a store that adds so many words is made at word 0
+abbrev pub at_word_0 : ℕ → ℕ → ℕ → Slots
+at_word_0 p rd words = with_short (where_not p) imm.Sub rd 0 (4 * words)
+
 -- ---- expressions
 
 abbrev pub cell_code : SpCell → ℕ → List Slots
-cell_code c rd = set_number rd (address_of c.region c.word) ∷ load_from (cell_space c.region) rd rd ∷ []
+cell_code c rd = set_number rd (address_of c.region c.word) ∷ load_from (cell_space c.region) rd rd 0 ∷ []
 
 -- of the index in one register, in another. Where it is at or past the length the load is made at word 0, and 0 is taken
 -- in its place
 abbrev pub element_code : SpArray → ℕ → ℕ → List Slots
 element_code a rd ra =
-    set_number SPARE a.length
-    ∷ compare cmp.Ult TEST ra SPARE
-    ∷ set_number SPARE (address_of a.region a.first)
-    ∷ compute always alu.Shadd2 rd ra SPARE
-    ∷ set_short (where_not TEST) rd 0
-    ∷ load_from (array_space a.region) rd rd
+    under always (length_op a.length)
+    ∷ under always (below_op TEST ra a.length)
+    ∷ under always (base_op a)
+    ∷ under always (scaled_op a rd ra)
+    ∷ at_word_0 TEST rd (offset_of a)
+    ∷ load_from (array_space a.region) rd rd (offset_of a)
     ∷ set_short (where_not TEST) rd 0
     ∷ []
 
@@ -207,25 +247,30 @@ number_of (constant n) = n
 number_of _ = 0
 
 -- an operand that is a word of the frame in a register is used where it stands
-abbrev pub is_home : ℕ → PlainSp → Bool
-is_home homes (frame_word slot) = in_register homes slot
+abbrev pub is_home : Homes → PlainSp → Bool
+is_home homes (frame_word slot) = is_none (flag_of homes.flags slot) && in_register homes.first slot
 is_home homes _ = false
 
 abbrev pub slot_number : PlainSp → ℕ
 slot_number (frame_word slot) = slot
 slot_number _ = 0
 
-abbrev pub value_at : ℕ → PlainSp → ℕ → ℕ
-value_at homes e rd = if is_home homes e then homes + slot_number e else rd
+abbrev pub value_at : Homes → PlainSp → ℕ → ℕ
+value_at homes e rd = if is_home homes e then homes.first + slot_number e else rd
 
 abbrev pub unless : Bool → PlainParts → PlainParts
 unless there code = if there then no_part else code
 
+-- the value of a word of the frame
+abbrev pub word_code : Option ℕ → ℕ → ℕ → ℕ → List Slots
+word_code (Some p) homes to slot = truth_of p to
+word_code None homes to slot = read_word homes to slot ∷ []
+
 -- what gives the value of an expression in a register, once its operands are worked out from another one on: of two the one
 -- of the greater need stands in that, and the other in the next
-abbrev pub value_code : ℕ → PlainSp → ℕ → ℕ → PlainParts
+abbrev pub value_code : Homes → PlainSp → ℕ → ℕ → PlainParts
 value_code homes (constant n) rd to = one (straight (set_number to n ∷ []))
-value_code homes (frame_word slot) rd to = one (straight (read_word homes to slot ∷ []))
+value_code homes (frame_word slot) rd to = one (straight (word_code (flag_of homes.flags slot) homes.first to slot))
 value_code homes (cell_word cell) rd to = one (straight (cell_code cell to))
 value_code homes (array_word array index) rd to = one (straight (element_code array to (value_at homes index rd)))
 value_code homes (before_one op of) rd to = one (straight (unary_code op to (value_at homes of rd)))
@@ -235,11 +280,11 @@ value_code homes (between_two op a b) rd to =
     else binary_code op to (value_at homes a rd) (value_at homes b (rd + 1))
 
 -- an operand is worked out where it stands in no register, after its own operands
-abbrev pub worked_out : ℕ → PlainSp → ℕ → PlainParts → PlainParts
+abbrev pub worked_out : Homes → PlainSp → ℕ → PlainParts → PlainParts
 worked_out homes e rd before = unless (is_home homes e) (joined before (value_code homes e rd rd))
 
 -- the code of the operands, from a register on
-abbrev pub operands_code : ℕ → PlainSp → ℕ → PlainParts
+abbrev pub operands_code : Homes → PlainSp → ℕ → PlainParts
 operands_code homes (constant n) rd = no_part
 operands_code homes (frame_word slot) rd = no_part
 operands_code homes (cell_word cell) rd = no_part
@@ -253,13 +298,13 @@ operands_code homes (between_two op a b) rd =
     (worked_out homes b (rd + 1) (operands_code homes b (rd + 1)))
 
 -- an expression, worked out from a register on, whose value goes to another one: its last instruction sets that
-abbrev pub expr_to : ℕ → PlainSp → ℕ → ℕ → PlainParts
+abbrev pub expr_to : Homes → PlainSp → ℕ → ℕ → PlainParts
 expr_to homes e rd to = joined (operands_code homes e rd) (value_code homes e rd to)
 
 -- and to the same
-abbrev pub expr_code : ℕ → PlainSp → ℕ → PlainParts
+abbrev pub expr_code : Homes → PlainSp → ℕ → PlainParts
 expr_code homes e rd = expr_to homes e rd rd
 
 -- the code of an operand
-abbrev pub operand_code : ℕ → PlainSp → ℕ → PlainParts
+abbrev pub operand_code : Homes → PlainSp → ℕ → PlainParts
 operand_code homes e rd = worked_out homes e rd (operands_code homes e rd)

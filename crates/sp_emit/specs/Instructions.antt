@@ -88,9 +88,9 @@ to_special special ra = under always (ToSpecial special ra)
 abbrev pub stack_op : StackFunc → ℕ → Slots
 stack_op func count = under always (Stack func count)
 
--- a register gets the word at the address in a register; or that of the stack, so many words from its top
-abbrev pub load_from : Mem → ℕ → ℕ → Slots
-load_from space rd ra = under always (Load space load.Word rd ra 0)
+-- a register gets the word so many words after the address in a register; or that of the stack, so many from its top
+abbrev pub load_from : Mem → ℕ → ℕ → ℕ → Slots
+load_from space rd ra words = under always (Load space load.Word rd ra words)
 
 abbrev pub load_slot : ℕ → ℕ → Slots
 load_slot rd slot = under always (Load mem.S load.Word rd 0 slot)

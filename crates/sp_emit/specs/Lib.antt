@@ -6,6 +6,7 @@ pub mod Divisors
 pub mod Endings
 pub mod Expressions
 pub mod Fits
+pub mod Flags
 pub mod Functions
 pub mod Holding
 pub mod Instructions
@@ -15,3 +16,4 @@ pub mod Ran
 pub mod Serving
 pub mod Statements
 pub mod Starting
+pub mod Truths

@@ -11,8 +11,9 @@ use Rattle.sp_tree.specs.Straight.{State}
 use Rattle.sp_shape.specs.Memory.{Memory, Start}
 use Rattle.sp_shape.specs.Run.{Run, IsWhole}
 use Rattle.sp_emit.specs.Holding.{held, KeepsFrom}
-use Rattle.sp_emit.specs.Places.{word_of}
+use Rattle.sp_emit.specs.Places.{shown_word}
 use Rattle.sp_emit.specs.declared.registers.TheConstants.{OVERRUN}
+use Rattle.sp_emit.specs.declared.stands.Homes.{Homes}
 
 -- a send of the world is a transfer of the run
 abbrev pub start_of : Sending → Start
@@ -26,8 +27,8 @@ pub record HasWords (w : World) (m : Memory) : Type 0 where
   pub starts : m.starts ≡ map start_of w.sends
 
 -- the first so many words of a frame
-pub record Shows (homes slots : ℕ) (s : State) (m : Run) : Type 0 where
-  pub frame : (slot : ℕ) → slot < slots → word_of homes slot m ≡ s.frame slot
+pub record Shows (homes : Homes) (slots : ℕ) (s : State) (m : Run) : Type 0 where
+  pub frame : (slot : ℕ) → slot < slots → shown_word homes slot m ≡ s.frame slot
   pub world : HasWords s.world m.memory
 
 -- the constants of an expression are words
@@ -51,12 +52,12 @@ pub record HasWordFrame (slots : ℕ) (s : State) : Type 0 where
   pub world : HoldsWords s.world
 
 -- an expression whose words a run shows, and for which registers suffice from one on
-pub record IsReady (homes slots : ℕ) (e : PlainSp) (rd : ℕ) (s : State) (m : Run) : Type 0 where
+pub record IsReady (homes : Homes) (slots : ℕ) (e : PlainSp) (rd : ℕ) (s : State) (m : Run) : Type 0 where
   pub some : 1 ≤ rd
   pub most : slots ≤ 128
   pub names : names_words slots e ≡ true
   pub registers : rd + need e ≤ 21
-  pub free : rd + need e ≤ homes
+  pub free : rd + need e ≤ homes.first
   pub constants : HasWordConstants e
   pub words : HasWordFrame slots s
   pub whole : IsWhole m
@@ -65,18 +66,14 @@ pub record IsReady (homes slots : ℕ) (e : PlainSp) (rd : ℕ) (s : State) (m :
 -- ---- statements
 
 -- a run is where a tree's state is: the words of the frame and the world, which are words of 32 bits, and the flag
-pub record Follows (homes slots : ℕ) (s : State) (m : Run) : Type 0 where
+pub record Follows (homes : Homes) (slots : ℕ) (s : State) (m : Run) : Type 0 where
   pub whole : IsWhole m
   pub shows : Shows homes slots s m
   pub words : HasWordFrame slots s
   pub flag : held OVERRUN m ≡ flag s.world.overrun
 
--- a later state has the words of the stack after so many of the frame as they were
-pub record KeepsStack (count : ℕ) (m t : Run) : Type 0 where
-  pub st : t.st ≡ m.st
-  pub stack : (a : ℕ) → m.st + count ≤ a → t.stack a ≡ m.stack a
-
--- and the registers from the end of a window on
+-- a later state has the words of the stack after so many of the frame as they were, and the registers from the end of a
+-- window on
 pub record KeepsBehind (top count : ℕ) (m t : Run) : Type 0 where
   pub st : t.st ≡ m.st
   pub stack : (a : ℕ) → m.st + count ≤ a → t.stack a ≡ m.stack a

@@ -1,11 +1,15 @@
 -- To be believed. Where the words of a frame stand, those that its tree names and the counters of iterations after them:
--- the first ones in registers, from one on and before the flag of loops, those that find none there in the stack.
-use Rattle.std.specs.Prelude.{ℕ, ◌+◌, ◌-◌, ◌^◌, nat_lt, max, min, Bool, if◌then◌else◌, zero, suc, List, [], ◌∷◌, ◌++◌, slice_index_or}
+-- some in predicates; of the others the first ones in registers, from one on and before the flag of loops, those that
+-- find none there in the stack.
+use Rattle.std.specs.Prelude.{ℕ, ◌+◌, ◌-◌, ◌^◌, ◌&&◌, nat_le, nat_lt, max, min, Bool, if◌then◌else◌, zero, suc, List, [], ◌∷◌, ◌++◌, Option, None, Some, slice_index_or}
+use Rattle.c_world.specs.Numbers.{flag}
 use Rattle.patmos_instr.specs.Bundles.{Slots}
 use Rattle.patmos_instr.specs.declared.guards.Guard.{Guard}
+use Rattle.patmos_instr.specs.declared.functions.CmpFunc.TheVariants as cmp
 use Rattle.patmos_instr.specs.declared.functions.ImmFunc.TheVariants as imm
+use Rattle.patmos_instr.specs.declared.functions.PredFunc.TheVariants as comb
 use Rattle.patmos_instr.specs.declared.instructions.Op.{Op}
-use Rattle.patmos_instr.specs.declared.instructions.Op.TheVariants.{AluImm, Load, Store}
+use Rattle.patmos_instr.specs.declared.instructions.Op.TheVariants.{AluImm, CmpImm, Load, Store}
 use Rattle.patmos_instr.specs.declared.memories.Mem.TheVariants as mem
 use Rattle.patmos_instr.specs.declared.memories.StoreWidth.TheVariants as store
 use Rattle.patmos_instr.specs.declared.memories.Width.TheVariants as load
@@ -13,23 +17,39 @@ use Rattle.sp_tree.specs.Need.{need}
 use Rattle.sp_tree.specs.Plain.{PlainSp}
 use Rattle.sp_tree.specs.Statements.{PlainSpTarget, to_slot, to_cell, to_array, PlainStmt, masks, writes, calls, transfers, overruns, iterations, PlainStmts, no_stmt, stmt, PlainFunction, no_function}
 use Rattle.sp_shape.specs.Run.{Run}
-use Rattle.sp_emit.specs.Holding.{held}
-use Rattle.sp_emit.specs.Instructions.{always, under, set_short}
-use Rattle.sp_emit.specs.declared.registers.TheConstants.{FIRST, SPARE, OVERRUN}
+use Rattle.sp_emit.specs.Holding.{held, so}
+use Rattle.sp_emit.specs.Instructions.{always, under, set_short, combine}
+use Rattle.sp_emit.specs.declared.registers.TheConstants.{FIRST, SPARE, OVERRUN, TEST, FLAGS}
+use Rattle.sp_emit.specs.declared.stands.Homes.{Homes}
+use Rattle.sp_emit.specs.declared.stands.Flags.{Flags}
 
 -- ---- places
 
--- whether a word stands in a register, where the first one stands in that of this number
+-- the predicate in which a word stands: there are four
+unfoldable pub flag_of : Flags → ℕ → Option ℕ
+flag_of flags slot =
+    if nat_le flags.word slot && nat_lt (slot - flags.word) (min 4 flags.count) then Some (FLAGS + (slot - flags.word))
+    else None
+
+-- whether a word that stands in no predicate stands in a register, where the first one would stand in that of this number
 abbrev pub in_register : ℕ → ℕ → Bool
 in_register homes slot = nat_lt (homes + slot) OVERRUN
 
--- what a word holds
+-- what it holds
 unfoldable pub word_of : ℕ → ℕ → Run → ℕ
 word_of homes slot m = if in_register homes slot then held (homes + slot) m else m.stack (m.st + slot)
 
+-- what a word holds, wherever it stands
+abbrev pub held_in : Option ℕ → ℕ → ℕ → Run → ℕ
+held_in (Some p) homes slot m = flag (so p m)
+held_in None homes slot m = word_of homes slot m
+
+abbrev pub shown_word : Homes → ℕ → Run → ℕ
+shown_word homes slot m = held_in (flag_of homes.flags slot) homes.first slot m
+
 -- ---- bundles
 
--- a register gets what a word holds
+-- a register gets what a word holds that stands in no predicate
 unfoldable pub read_op : ℕ → ℕ → ℕ → Op
 read_op homes rd slot =
     if in_register homes slot then AluImm imm.Add rd (homes + slot) 0 else Load mem.S load.Word rd 0 slot
@@ -62,13 +82,46 @@ set_op homes slot rs =
 abbrev pub set_word : ℕ → Guard → ℕ → ℕ → Slots
 set_word homes guard slot rs = under guard (set_op homes slot rs)
 
--- those of the first so many words that stand in registers are set to 0
-unfoldable pub word_cleared : ℕ → ℕ → List Slots
-word_cleared homes slot = if in_register homes slot then set_short always (homes + slot) 0 ∷ [] else []
+-- those of the first so many words that stand in predicates and in registers are set to 0
+unfoldable pub cleared_in : Option ℕ → ℕ → ℕ → List Slots
+cleared_in (Some p) homes slot = combine comb.Pxor p 0 0 ∷ []
+cleared_in None homes slot = if in_register homes slot then set_short always (homes + slot) 0 ∷ [] else []
 
-abbrev pub words_cleared : ℕ → ℕ → List Slots
+abbrev pub word_cleared : Homes → ℕ → List Slots
+word_cleared homes slot = cleared_in (flag_of homes.flags slot) homes.first slot
+
+abbrev pub words_cleared : Homes → ℕ → List Slots
 words_cleared homes zero = []
 words_cleared homes (suc n) = words_cleared homes n ++ word_cleared homes n
+
+-- ---- whether a mask is 1
+
+-- it is where its predicate is true, and nothing is done; else it is compared where it stands in a register, or where it is
+-- loaded to. Scheduling leaves out what does nothing
+unfoldable pub seek_op : Option ℕ → ℕ → ℕ → Op
+seek_op (Some p) homes mask = AluImm imm.Add 0 0 0
+seek_op None homes mask = fetch_op homes mask
+
+abbrev pub seek_word : Homes → ℕ → Slots
+seek_word homes mask = under always (seek_op (flag_of homes.flags mask) homes.first mask)
+
+unfoldable pub match_op : Option ℕ → ℕ → ℕ → Op
+match_op (Some p) homes mask = AluImm imm.Add 0 0 0
+match_op None homes mask = CmpImm cmp.Eq TEST (fetched_at homes mask) 1
+
+abbrev pub match_word : Homes → ℕ → Slots
+match_word homes mask = under always (match_op (flag_of homes.flags mask) homes.first mask)
+
+abbrev pub mask_test : Homes → ℕ → List Slots
+mask_test homes mask = seek_word homes mask ∷ match_word homes mask ∷ []
+
+-- the predicate that says it
+abbrev pub told_in : Option ℕ → ℕ
+told_in (Some p) = p
+told_in None = TEST
+
+abbrev pub told_at : Homes → ℕ → ℕ
+told_at homes mask = told_in (flag_of homes.flags mask)
 
 -- a number as a word counts it, which ends at the greatest
 abbrev pub capped : ℕ → ℕ

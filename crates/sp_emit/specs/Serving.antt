@@ -1,5 +1,5 @@
 -- To be believed. What the code of a function, and of its statements, has where it begins, and what it leaves.
-use Rattle.std.specs.Prelude.{ℕ, ◌≡◌, ◌+◌, ◌*◌, ◌<◌, ◌≤◌, ◌^◌, true, List, length, slice_index, bit_xor}
+use Rattle.std.specs.Prelude.{ℕ, ◌≡◌, ◌+◌, ◌*◌, ◌<◌, ◌≤◌, ◌^◌, true, false, List, length, slice_index, bit_xor}
 use Rattle.c_world.specs.Numbers.{flag}
 use Rattle.c_world.specs.World.{World}
 use Rattle.sp_tree.specs.Formed.{functions_formed, stmts_formed, stmts_levels}
@@ -9,8 +9,10 @@ use Rattle.sp_tree.specs.declared.limits.TheConstants.{MOST_FRAME}
 use Rattle.sp_shape.specs.Run.{Run, IsWhole}
 use Rattle.sp_emit.specs.Holding.{held}
 use Rattle.sp_emit.specs.Means.{Follows, HasConstants, HasStmtsConstants, HasWords, HoldsWords, KeepsBehind}
-use Rattle.sp_emit.specs.Places.{word_of, stmts_least, tops}
+use Rattle.sp_emit.specs.Flags.{stmts_hinder}
+use Rattle.sp_emit.specs.Places.{word_of, shown_word, stmts_least, tops}
 use Rattle.sp_emit.specs.declared.registers.TheConstants.{RESULT, MASK, FIRST, OVERRUN}
+use Rattle.sp_emit.specs.declared.stands.Homes.{Homes}
 
 -- the words of a world, and its flag
 pub record Carries (w : World) (m : Run) : Type 0 where
@@ -45,7 +47,7 @@ pub record AreFunctions (fs : List PlainFunction) (n : ℕ) : Type 0 where
 -- statements of a function of number n, in a frame of so many words, of which the first are named
 -- and the counters of iterations stand from one on downward; the run is where the tree's state is, and
 -- there is room for the frames of what they call
-pub record AreStatements (fs : List PlainFunction) (n homes frame slots counter : ℕ) (ts : PlainStmts) (s : State) (m : Run) : Type 0 where
+pub record AreStatements (fs : List PlainFunction) (n : ℕ) (homes : Homes) (frame slots counter : ℕ) (ts : PlainStmts) (s : State) (m : Run) : Type 0 where
   pub functions : AreFunctions fs n
   pub named : slots ≤ MOST_FRAME
   pub counted : counter < MOST_FRAME
@@ -54,7 +56,8 @@ pub record AreStatements (fs : List PlainFunction) (n homes frame slots counter 
   pub formed : stmts_formed fs n slots ts ≡ true
   pub constants : HasStmtsConstants ts
   pub room : n * MOST_FRAME ≤ m.st
-  pub homed : stmts_least (tops fs n) ts ≤ homes
+  pub homed : stmts_least (tops fs n) ts ≤ homes.first
+  pub stand : stmts_hinder homes.flags ts ≡ false
   pub follows : Follows homes slots s m
 
 -- ---- where a tree changes nothing of its world, as all do under a mask of 0 that set what they set under their masks
@@ -77,7 +80,7 @@ pub record Unchanged (top : ℕ) (m t : Run) : Type 0 where
   pub callers : (homes slot : ℕ) → top ≤ homes → word_of homes slot t ≡ word_of homes slot m
 
 -- statements: a word of the own frame stands where the tree's does, the same after as before
-pub record OwnUnchanged (homes slots count : ℕ) (before after : ℕ → ℕ) (m t : Run) : Type 0 where
+pub record OwnUnchanged (homes : Homes) (slots count : ℕ) (before after : ℕ → ℕ) (m t : Run) : Type 0 where
   pub world : WorldStands m t
-  pub frame : (slot : ℕ) → slot < slots → after slot ≡ before slot → word_of homes slot t ≡ word_of homes slot m
-  pub behind : KeepsBehind (homes + count) count m t
+  pub frame : (slot : ℕ) → slot < slots → after slot ≡ before slot → shown_word homes slot t ≡ shown_word homes slot m
+  pub behind : KeepsBehind (homes.first + count) count m t

@@ -1,19 +1,20 @@
 //! Calls, sends, loops that went past their bound, and the counters of iterations.
-ghost use Rattle.std.specs.Prelude.{◌≡◌, ◌<◌, ◌≤◌, OnOk, IfSome};
+ghost use Rattle.std.specs.Prelude.{◌≡◌, ◌++◌, ◌<◌, ◌≤◌, OnOk, IfSome};
+ghost use Rattle.sp_emit.specs.Places as places;
 ghost use Rattle.sp_emit.specs.Statements as specs;
 ghost use Rattle.sp_shape.specs.Parts.{straight, repeats, one, joined};
 ghost use Rattle.sp_shape.specs.Shown.{parts_of};
 
 use crate::instructions::{
-    always, branch, call, combine, compare, compare_short, compute, idle, set_long, set_short,
-    stack_op, store_to, where_so, with_short,
+    always, branch, call, combine, compare, compare_short, compute, idle, set_long, set_number,
+    set_short, stack_op, store_to, where_so, with_short,
 };
 use crate::parts::{listed, push, push_straight};
-use crate::places::{fetch_word, fetched_at, keep_word, read_word, set_word};
+use crate::places::{fetch_word, fetched_at, keep_word, mask_test, read_word, set_word, told_at};
 use crate::registers::{
     FIRST, MASK, MORE, OVERRUN, RESULT, SECOND, SPARE, TEST, behind, pred, reg,
 };
-use crate::writes::mask_test;
+use crate::stands::Homes;
 use patmos_instr::{AluFunc, Bundle, CmpFunc, ImmFunc, Mem, PredFunc, StackFunc};
 use sp_shape::Part;
 use tc_word::{List, OutOfMemory};
@@ -44,7 +45,7 @@ fn push_call(out: &mut Vec<Part>, function: u32) -> Result<(), OutOfMemory>
 // the words of the own frame are brought back, and the result is set
 fn come_back(
     out: &mut Vec<Part>,
-    homes: u32,
+    homes: Homes,
     frame: u32,
     mask: u32,
     slot: Option<u32>,
@@ -60,7 +61,12 @@ fn come_back(
         None => push_straight(out, &[back]),
         Some(word) => {
             let [load, test] = mask_test(homes, mask);
-            let set = set_word(homes, where_so(pred(TEST)), word, reg(RESULT));
+            let set = set_word(
+                homes.first,
+                where_so(told_at(homes, mask)),
+                word,
+                reg(RESULT),
+            );
             push_straight(out, &[back, load, test, set])
         }
     }
@@ -70,7 +76,7 @@ fn come_back(
 #[tactic(auto, using(crate::proofs::Pushed::call_pushed))]
 pub fn call_of(
     out: &mut Vec<Part>,
-    homes: u32,
+    homes: Homes,
     frame: u32,
     mask: u32,
     function: u32,
@@ -82,25 +88,29 @@ pub fn call_of(
     ensures { OnOk result (parts_of out.new.items
         ≡ joined (parts_of out.old.items) (specs.call_code homes frame mask function slot)) }
 {
-    hand_mask(out, homes, mask)?;
+    hand_mask(out, homes.first, mask)?;
     push_call(out, function)?;
     come_back(out, homes, frame, mask, slot)
 }
 
 // whether a send starts
-fn send_test() -> [Bundle; 9]
-    ensures { result ≡ specs.send_test }
+fn send_test(homes: Homes, mask: u32) -> [Bundle; 11]
+    requires { mask < 128 }
+    ensures { result ≡ places.mask_test homes mask ++ specs.send_test (places.told_at homes mask) }
 {
+    let [load, masked] = mask_test(homes, mask);
     let source = reg(FIRST);
     let target = behind(source);
     let count = behind(target);
     let (less, spare) = (behind(count), reg(SPARE));
     let (test, second) = (pred(TEST), pred(SECOND));
     [
+        load,
+        masked,
         set_long(spare, 512),
         with_short(always(), ImmFunc::Sub, less, count, 1),
         compare(CmpFunc::Ult, second, less, spare),
-        combine(PredFunc::Pand, test, test, second),
+        combine(PredFunc::Pand, test, told_at(homes, mask), second),
         compute(always(), AluFunc::Sub, spare, spare, count),
         compare(CmpFunc::Ule, second, source, spare),
         combine(PredFunc::Pand, test, test, second),
@@ -127,21 +137,20 @@ fn send_start(core: u32) -> [Bundle; 4]
 }
 
 /// A send, whose source, target and count stand in registers. It is `Err` where memory runs out.
-pub fn send(out: &mut Vec<Part>, homes: u32, mask: u32, core: u32) -> Result<(), OutOfMemory>
+pub fn send(out: &mut Vec<Part>, homes: Homes, mask: u32, core: u32) -> Result<(), OutOfMemory>
     requires mask { mask < 128 }
     requires core { core < 16 }
     ensures { OnOk result (parts_of out.new.items
         ≡ joined (parts_of out.old.items) (one (straight (specs.send_code homes mask core)))) }
 {
     let mut bundles = Vec::new(*out.allocator());
-    bundles.extend_from_slice(&mask_test(homes, mask))?;
-    bundles.extend_from_slice(&send_test())?;
+    bundles.extend_from_slice(&send_test(homes, mask))?;
     bundles.extend_from_slice(&send_start(core))?;
     push_straight(out, &bundles)
 }
 
 /// The flag is set where the first register's word is not 0. It is `Err` where memory runs out.
-pub fn overrun(out: &mut Vec<Part>, homes: u32, mask: u32) -> Result<(), OutOfMemory>
+pub fn overrun(out: &mut Vec<Part>, homes: Homes, mask: u32) -> Result<(), OutOfMemory>
     requires { mask < 128 }
     ensures { OnOk result (parts_of out.new.items
         ≡ joined (parts_of out.old.items) (one (straight (specs.overrun_code homes mask)))) }
@@ -152,7 +161,7 @@ pub fn overrun(out: &mut Vec<Part>, homes: u32, mask: u32) -> Result<(), OutOfMe
         load,
         masked,
         compare_short(CmpFunc::Neq, second, reg(FIRST), 0),
-        combine(PredFunc::Pand, test, test, second),
+        combine(PredFunc::Pand, test, told_at(homes, mask), second),
         set_short(where_so(test), reg(OVERRUN), 1),
     ];
     push_straight(out, &bundles)
@@ -169,7 +178,7 @@ pub fn begin_iterations(
     ensures { OnOk result (parts_of out.new.items
         ≡ joined (parts_of out.old.items) (one (straight (specs.iterations_begin homes counter count)))) }
 {
-    let begin = set_long(fetched_at(homes, counter), count);
+    let begin = set_number(fetched_at(homes, counter), count);
     push_straight(out, &[begin, keep_word(homes, counter)])
 }
 

@@ -1,7 +1,6 @@
 //! Quotients and remainders.
-ghost use Rattle.std.specs.Prelude.{◌≡◌, ◌<◌, IfOk, OnOk};
+ghost use Rattle.std.specs.Prelude.{◌≡◌, ◌<◌, ◌++◌, IfOk, OnOk};
 ghost use Rattle.sp_emit.specs.Division as specs;
-ghost use Rattle.sp_emit.specs.Instructions as code;
 ghost use Rattle.sp_shape.specs.Parts.{part, straight, no_part, joined};
 ghost use Rattle.sp_shape.specs.Shown.{plain_part, parts_of};
 
@@ -11,8 +10,7 @@ use crate::instructions::{
 };
 use crate::parts::{listed, push, push_straight};
 use crate::registers::{
-    DIGITS, DIVIDEND, DIVISOR, MORE, QUOTIENT_NEGATIVE, REMAINDER, REST_NEGATIVE, SECOND, SPARE,
-    TEST, pred, reg,
+    DIGITS, DIVIDEND, DIVISOR, MORE, REMAINDER, SECOND, SPARE, TEST, pred, reg,
 };
 use patmos_instr::{AluFunc, Bundle, CmpFunc, ImmFunc, PredFunc, Reg};
 use sp_shape::Part;
@@ -32,17 +30,32 @@ fn operands(ra: Reg, rb: Reg) -> [Bundle; 4]
 }
 
 // signs are kept apart
-fn without_signs() -> [Bundle; 5]
-    ensures { result ≡ specs.without_signs }
+fn without_signs(rest: u32, quotient: u32) -> [Bundle; 5]
+    requires of_rest { rest < 8 }
+    requires of_quotient { quotient < 8 }
+    ensures { result ≡ specs.without_signs rest quotient }
 {
     let (dividend, divisor) = (reg(DIVIDEND), reg(DIVISOR));
-    let (rest, quotient) = (pred(REST_NEGATIVE), pred(QUOTIENT_NEGATIVE));
+    let (rest, quotient) = (pred(rest), pred(quotient));
     [
         compare_short(CmpFunc::Btest, rest, dividend, 31),
         compare_short(CmpFunc::Btest, quotient, divisor, 31),
         compute(where_so(rest), AluFunc::Sub, dividend, reg(0), dividend),
         compute(where_so(quotient), AluFunc::Sub, divisor, reg(0), divisor),
         combine(PredFunc::Pxor, quotient, rest, quotient),
+    ]
+}
+
+// the operands are brought to their places without their signs
+fn signed_operands(rest: u32, quotient: u32, ra: Reg, rb: Reg) -> [Bundle; 9]
+    requires of_rest { rest < 8 }
+    requires of_quotient { quotient < 8 }
+    ensures { result ≡ specs.operands ra rb ++ specs.without_signs rest quotient }
+{
+    let [dividend, divisor, none, digits] = operands(ra, rb);
+    let [first, second, less, by, either] = without_signs(rest, quotient);
+    [
+        dividend, divisor, none, digits, first, second, less, by, either,
     ]
 }
 
@@ -147,20 +160,22 @@ pub fn unsigned_division(
     around(out, &operands(ra, rb), behind)
 }
 
-/// A division of signed words after the parts, with what makes its answer. It is `Err` where memory runs out.
+/// A division of signed words after the parts, with the predicates that say then whether the rest and the quotient are
+/// negative, and what makes its answer. It is `Err` where memory runs out.
 pub fn signed_division(
     out: &mut Vec<Part>,
+    rest: u32,
+    quotient: u32,
     behind: &[Bundle],
     ra: Reg,
     rb: Reg,
 ) -> Result<(), OutOfMemory>
+    requires of_rest { rest < 8 }
+    requires of_quotient { quotient < 8 }
     ensures { OnOk result (parts_of out.new.items
-        ≡ joined (parts_of out.old.items) (specs.signed_division behind.now ra rb)) }
+        ≡ joined (parts_of out.old.items) (specs.signed_division rest quotient behind.now ra rb)) }
 {
-    let mut before = Vec::new(*out.allocator());
-    before.extend_from_slice(&operands(ra, rb))?;
-    before.extend_from_slice(&without_signs())?;
-    around(out, &before, behind)
+    around(out, &signed_operands(rest, quotient, ra, rb), behind)
 }
 
 // whether the divisor is large, and whether it then goes into the dividend
@@ -234,20 +249,19 @@ pub fn signed_quotient_to(rd: Reg) -> [Bundle; 4]
     ensures { result ≡ specs.signed_quotient_to rd }
 {
     let [zero, quotient, none] = quotient_to(rd);
-    [zero, quotient, none, negated(QUOTIENT_NEGATIVE, rd)]
+    [zero, quotient, none, with_sign(rd)]
 }
 
 /// What is left of signed words, with its sign.
 pub fn signed_rest_to(rd: Reg) -> [Bundle; 2]
     ensures { result ≡ specs.signed_rest_to rd }
 {
-    [copy(rd, reg(REMAINDER)), negated(REST_NEGATIVE, rd)]
+    [copy(rd, reg(REMAINDER)), with_sign(rd)]
 }
 
-// a register's word is taken from 0 where a predicate is true
-fn negated(negative: u32, rd: Reg) -> Bundle
-    requires { negative < 8 }
-    ensures { result ≡ code.compute (code.where_so negative) AluFunc.Sub rd 0 rd }
+// a register's word is taken from 0 where what is given is negative
+fn with_sign(rd: Reg) -> Bundle
+    ensures { result ≡ specs.with_sign rd }
 {
-    compute(where_so(pred(negative)), AluFunc::Sub, rd, reg(0), rd)
+    compute(where_so(pred(SECOND)), AluFunc::Sub, rd, reg(0), rd)
 }

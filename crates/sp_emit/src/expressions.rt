@@ -4,31 +4,40 @@ ghost use Rattle.sp_emit.specs.Expressions as specs;
 ghost use Rattle.sp_shape.specs.Parts.{straight, one, joined};
 ghost use Rattle.sp_shape.specs.Shown.{parts_of};
 ghost use Rattle.sp_emit.specs.Fits.{ExprFits};
+ghost use Rattle.sp_emit.specs.Places.{flag_of};
 ghost use Rattle.sp_tree.specs.Formed.{cell_formed, array_formed};
 ghost use Rattle.sp_tree.specs.Need.{need};
 ghost use Rattle.sp_tree.specs.Plain.{plain_sp, constant, between_two};
 
-use crate::instructions::{always, compare, compute, load_from, set_number, set_short, where_not};
-use crate::operators::{binary, held, is_immediate, unary};
+use crate::arrays::{at_word_0, compare_below, offset_of, scale, set_base, set_length};
+use crate::instructions::{load_from, set_number, set_short, where_not};
+use crate::operators::{binary, held, is_immediate, truth_of, unary};
 use crate::parts::push_straight;
-use crate::places::{is_in_register, read_word};
-use crate::registers::{SPARE, TEST, behind, pred, reg};
-use patmos_instr::{AluFunc, CmpFunc, Mem, Reg};
+use crate::places::{flag_of, is_in_register, read_word};
+use crate::registers::{TEST, behind, pred, reg};
+use crate::stands::Homes;
+use patmos_instr::{Mem, Reg};
 use sp_shape::Part;
 use sp_tree::{Region, SpArray, SpBinary, SpCell, SpExpr};
 use tc_word::OutOfMemory;
+
+/// The byte at which the words of a memory begin.
+pub fn base_of(region: Region) -> u32
+    ensures { result ≡ specs.base_of region }
+{
+    match region {
+        Region::Scratch | Region::Private => 0,
+        Region::Comm => 0x1_0000,
+        Region::Shared => 0x100_0000,
+    }
+}
 
 /// The address in bytes of a word of a memory.
 pub fn address_of(region: Region, word: u32) -> u32
     requires { word < 65536 }
     ensures { result ≡ specs.address_of region word }
 {
-    let base = match region {
-        Region::Scratch | Region::Private => 0,
-        Region::Comm => 0x1_0000,
-        Region::Shared => 0x100_0000,
-    };
-    base + 4 * word
+    base_of(region) + 4 * word
 }
 
 /// The memory, as instructions name it, in which a variable stands.
@@ -60,7 +69,7 @@ fn cell(out: &mut Vec<Part>, cell: SpCell, rd: Reg) -> Result<(), OutOfMemory>
 {
     let bundles = [
         set_number(rd, address_of(cell.region, cell.word)),
-        load_from(cell_space(cell.region), rd, rd),
+        load_from(cell_space(cell.region), rd, rd, 0),
     ];
     push_straight(out, &bundles)
 }
@@ -71,15 +80,15 @@ fn element(out: &mut Vec<Part>, array: SpArray, rd: Reg, ra: Reg) -> Result<(), 
     ensures { OnOk result (parts_of out.new.items
         ≡ joined (parts_of out.old.items) (one (straight (specs.element_code array rd ra)))) }
 {
-    let spare = reg(SPARE);
+    let words = offset_of(array);
     let test = pred(TEST);
     let bundles = [
-        set_number(spare, array.length),
-        compare(CmpFunc::Ult, test, ra, spare),
-        set_number(spare, address_of(array.region, array.first)),
-        compute(always(), AluFunc::Shadd2, rd, ra, spare),
-        set_short(where_not(test), rd, 0),
-        load_from(array_space(array.region), rd, rd),
+        set_length(array.length),
+        compare_below(test, ra, array.length),
+        set_base(array),
+        scale(array, rd, ra),
+        at_word_0(test, rd, words),
+        load_from(array_space(array.region), rd, rd, words),
         set_short(where_not(test), rd, 0),
     ];
     push_straight(out, &bundles)
@@ -104,11 +113,13 @@ pub fn need_of(e: &SpExpr) -> u32
 
 // whether an operand is a word of the frame in a register
 #[tactic(auto, unfolding(sp_tree::specs::Plain::plain_sp))]
-fn is_home(homes: u32, e: &SpExpr) -> bool
+fn is_home(homes: Homes, e: &SpExpr) -> bool
     ensures { result ≡ specs.is_home homes (plain_sp e.now) }
 {
     match e {
-        SpExpr::Frame { slot } => is_in_register(homes, *slot),
+        SpExpr::Frame { slot } => {
+            flag_of(homes.flags, *slot).is_none() && is_in_register(homes.first, *slot)
+        }
         _ => false,
     }
 }
@@ -126,11 +137,11 @@ fn slot_number(e: &SpExpr) -> u32
 
 // the register in which an operand's value stands
 #[tactic(auto, using(crate::proofs::Operands::home_below))]
-pub fn value_at(homes: u32, e: &SpExpr, rd: Reg) -> Reg
+pub fn value_at(homes: Homes, e: &SpExpr, rd: Reg) -> Reg
     ensures { result ≡ specs.value_at homes (plain_sp e.now) rd }
 {
     if is_home(homes, e) {
-        reg(homes + slot_number(e))
+        reg(homes.first + slot_number(e))
     } else {
         rd
     }
@@ -161,7 +172,7 @@ pub fn held_constant(op: SpBinary, b: &SpExpr) -> Option<u32>
 #[tactic(auto, using(crate::proofs::Needs::few_needs, crate::proofs::Needs::first_fits, crate::proofs::Needs::second_fits, crate::proofs::Needs::one_behind))]
 fn applied(
     out: &mut Vec<Part>,
-    homes: u32,
+    homes: Homes,
     op: SpBinary,
     a: &SpExpr,
     b: &SpExpr,
@@ -184,16 +195,28 @@ fn applied(
     }
 }
 
+// the value of a word of the frame goes to a register
+fn word(out: &mut Vec<Part>, homes: Homes, to: Reg, slot: u32) -> Result<(), OutOfMemory>
+    requires { slot < 128 }
+    ensures { OnOk result (parts_of out.new.items
+        ≡ joined (parts_of out.old.items) (one (straight (specs.word_code (flag_of homes.flags slot) homes.first to slot)))) }
+{
+    match flag_of(homes.flags, slot) {
+        Some(p) => push_straight(out, &truth_of(p, to)),
+        None => push_straight(out, &[read_word(homes.first, to, slot)]),
+    }
+}
+
 // the value of an expression goes to a register, where its operands were worked out from another one on
 #[tactic(auto, using(crate::proofs::Pushed::two_pushed, crate::proofs::Needs::word_named, crate::proofs::Needs::cell_named, crate::proofs::Needs::array_named, crate::proofs::Needs::index_named), unfolding(sp_tree::specs::Plain::plain_sp))]
-fn value(out: &mut Vec<Part>, homes: u32, e: &SpExpr, rd: Reg, to: Reg) -> Result<(), OutOfMemory>
+fn value(out: &mut Vec<Part>, homes: Homes, e: &SpExpr, rd: Reg, to: Reg) -> Result<(), OutOfMemory>
     requires { ExprFits (plain_sp e.now) rd }
     ensures { OnOk result (parts_of out.new.items
         ≡ joined (parts_of out.old.items) (specs.value_code homes (plain_sp e.now) rd to)) }
 {
     match e {
         SpExpr::Const { value } => push_straight(out, &[set_number(to, *value)]),
-        SpExpr::Frame { slot } => push_straight(out, &[read_word(homes, to, *slot)]),
+        SpExpr::Frame { slot } => word(out, homes, to, *slot),
         SpExpr::Scalar { cell: of } => cell(out, *of, to),
         SpExpr::Element { array, index } => element(out, *array, to, value_at(homes, index, rd)),
         SpExpr::Unary { op, of } => unary(out, *op, to, value_at(homes, of, rd)),
@@ -204,7 +227,7 @@ fn value(out: &mut Vec<Part>, homes: u32, e: &SpExpr, rd: Reg, to: Reg) -> Resul
 // the operands of an expression are worked out, from a register on
 #[cycle(operands)]
 #[tactic(auto, using(crate::proofs::Pushed::nothing_pushed, crate::proofs::Needs::index_named, crate::proofs::Needs::operand_fits), unfolding(sp_tree::specs::Plain::plain_sp))]
-pub fn operands(out: &mut Vec<Part>, homes: u32, e: &SpExpr, rd: Reg) -> Result<(), OutOfMemory>
+pub fn operands(out: &mut Vec<Part>, homes: Homes, e: &SpExpr, rd: Reg) -> Result<(), OutOfMemory>
     requires { ExprFits (plain_sp e.now) rd }
     ensures { OnOk result (parts_of out.new.items
         ≡ joined (parts_of out.old.items) (specs.operands_code homes (plain_sp e.now) rd)) }
@@ -219,7 +242,7 @@ pub fn operands(out: &mut Vec<Part>, homes: u32, e: &SpExpr, rd: Reg) -> Result<
 // an operand's value goes to a register, where it does not stand in one
 #[cycle(operands)]
 #[tactic(auto, using(crate::proofs::Pushed::two_pushed))]
-fn operand(out: &mut Vec<Part>, homes: u32, e: &SpExpr, rd: Reg) -> Result<(), OutOfMemory>
+fn operand(out: &mut Vec<Part>, homes: Homes, e: &SpExpr, rd: Reg) -> Result<(), OutOfMemory>
     requires { ExprFits (plain_sp e.now) rd }
     ensures { OnOk result (parts_of out.new.items
         ≡ joined (parts_of out.old.items) (specs.operand_code homes (plain_sp e.now) rd)) }
@@ -236,7 +259,7 @@ fn operand(out: &mut Vec<Part>, homes: u32, e: &SpExpr, rd: Reg) -> Result<(), O
 #[tactic(auto, using(crate::proofs::Needs::few_needs, crate::proofs::Needs::first_fits, crate::proofs::Needs::second_fits, crate::proofs::Needs::first_fits_behind, crate::proofs::Needs::second_fits_behind, crate::proofs::Needs::one_behind))]
 fn two_operands(
     out: &mut Vec<Part>,
-    homes: u32,
+    homes: Homes,
     op: SpBinary,
     a: &SpExpr,
     b: &SpExpr,
@@ -261,7 +284,7 @@ fn two_operands(
 #[tactic(auto, using(crate::proofs::Pushed::two_pushed))]
 fn one_by_one(
     out: &mut Vec<Part>,
-    homes: u32,
+    homes: Homes,
     first: &SpExpr,
     second: &SpExpr,
     rd: Reg,
@@ -282,7 +305,7 @@ fn one_by_one(
 #[tactic(auto, using(crate::proofs::Pushed::two_pushed))]
 pub fn expression_to(
     out: &mut Vec<Part>,
-    homes: u32,
+    homes: Homes,
     e: &SpExpr,
     rd: Reg,
     to: Reg,
@@ -296,7 +319,7 @@ pub fn expression_to(
 }
 
 /// The value of an expression goes to a register. It is `Err` where memory runs out.
-pub fn expression(out: &mut Vec<Part>, homes: u32, e: &SpExpr, rd: Reg) -> Result<(), OutOfMemory>
+pub fn expression(out: &mut Vec<Part>, homes: Homes, e: &SpExpr, rd: Reg) -> Result<(), OutOfMemory>
     requires { ExprFits (plain_sp e.now) rd }
     ensures { OnOk result (parts_of out.new.items
         ≡ joined (parts_of out.old.items) (specs.expr_code homes (plain_sp e.now) rd)) }

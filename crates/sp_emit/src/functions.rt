@@ -21,17 +21,20 @@ ghost use Rattle.sp_tree.specs.Statements.{no_function};
 ghost use Rattle.sp_tree.specs.Shown.{plain_function, plain_unit};
 ghost use Rattle.sp_tree.specs.Shown as trees;
 
+use crate::flags::{begun_body, flags_of};
 use crate::instructions::{
-    always, copy, from_special, idle, load_slot, returning, set_short, stack_op, store_slot,
-    to_special, with_short,
+    always, combine, compare_short, copy, from_special, idle, load_slot, returning, set_short,
+    stack_op, store_slot, to_special, with_short,
 };
 use crate::parts::{listed, push, push_straight};
 use crate::places::{
-    have_calls, homes_over, is_in_register, needs_none, read_word, set_word, top_from, words_of,
+    flag_of, have_calls, homes_over, is_in_register, needs_none, read_word, set_word, top_from,
+    words_of,
 };
-use crate::registers::{FIRST, MASK, OVERRUN, RESULT, SPARE, reg};
+use crate::registers::{FIRST, MASK, OVERRUN, RESULT, SPARE, pred, reg};
+use crate::stands::Homes;
 use crate::statements::statements;
-use patmos_instr::{Bundle, ImmFunc, Special, StackFunc, WritableSpecial};
+use patmos_instr::{Bundle, CmpFunc, ImmFunc, PredFunc, Special, StackFunc, WritableSpecial};
 use sp_shape::{Part, Shape};
 use sp_tree::{SpFunction, SpUnit};
 use std::alloc::Global;
@@ -48,8 +51,8 @@ fn keep_arguments(bundles: &mut Vec<Bundle>, homes: u32, parameters: u32) -> Res
     Ok(())
 }
 
-// the words that stand in registers are set to 0
-fn clear_words(bundles: &mut Vec<Bundle>, homes: u32, words: u32) -> Result<(), OutOfMemory>
+// the words that stand in predicates and in registers are set to 0
+fn clear_words(bundles: &mut Vec<Bundle>, homes: Homes, words: u32) -> Result<(), OutOfMemory>
     ensures { OnOk result (bundles.new.items ≡ bundles.old.items ++ places.words_cleared homes words) }
 {
     for n in 0..words {
@@ -59,12 +62,14 @@ fn clear_words(bundles: &mut Vec<Bundle>, homes: u32, words: u32) -> Result<(), 
 }
 
 // one of them
-#[tactic(auto, unfolding(crate::specs::Places::word_cleared))]
-fn clear_word(bundles: &mut Vec<Bundle>, homes: u32, slot: u32) -> Result<(), OutOfMemory>
+#[tactic(auto, unfolding(crate::specs::Places::cleared_in))]
+fn clear_word(bundles: &mut Vec<Bundle>, homes: Homes, slot: u32) -> Result<(), OutOfMemory>
     ensures { OnOk result (bundles.new.items ≡ bundles.old.items ++ places.word_cleared homes slot) }
 {
-    if is_in_register(homes, slot) {
-        bundles.push(set_short(always(), reg(homes + slot), 0))?;
+    if let Some(p) = flag_of(homes.flags, slot) {
+        bundles.push(combine(PredFunc::Pxor, p, pred(0), pred(0)))?;
+    } else if is_in_register(homes.first, slot) {
+        bundles.push(set_short(always(), reg(homes.first + slot), 0))?;
     }
     Ok(())
 }
@@ -129,22 +134,34 @@ fn free_frame(bundles: &mut Vec<Bundle>, homes: u32, f: &SpFunction) -> Result<(
     Ok(())
 }
 
+// the mask of a function goes to its word: in a predicate it is tested at once
+fn keep_mask(bundles: &mut Vec<Bundle>, homes: Homes, f: &SpFunction) -> Result<(), OutOfMemory>
+    requires { f.now.mask < 128 }
+    ensures { OnOk result (bundles.new.items ≡ bundles.old.items ++ specs.mask_kept homes (plain_function f.now)) }
+{
+    let mask = reg(MASK);
+    match flag_of(homes.flags, f.mask) {
+        Some(p) => bundles.push(compare_short(CmpFunc::Eq, p, mask, 0))?,
+        None => bundles.extend_from_slice(&[
+            with_short(always(), ImmFunc::Xor, mask, mask, 1),
+            set_word(homes.first, always(), f.mask, mask),
+        ])?,
+    }
+    Ok(())
+}
+
 // a function takes its frame, and keeps its arguments, its mask and the place to which it returns
 #[tactic(auto, using(crate::proofs::Fitting::few_parameters, crate::proofs::Fitting::mask_fits))]
-fn begin(out: &mut Vec<Part>, homes: u32, f: &SpFunction) -> Result<(), OutOfMemory>
+fn begin(out: &mut Vec<Part>, homes: Homes, f: &SpFunction) -> Result<(), OutOfMemory>
     requires fits { FunctionFits (plain_function f.now) }
     ensures { OnOk result (parts_of out.new.items
         ≡ joined (parts_of out.old.items) (one (straight (specs.function_begin homes (plain_function f.now))))) }
 {
-    let mask = reg(MASK);
     let mut bundles = Vec::new(*out.allocator());
-    take_frame(&mut bundles, homes, f)?;
+    take_frame(&mut bundles, homes.first, f)?;
     clear_words(&mut bundles, homes, words_of(f))?;
-    keep_arguments(&mut bundles, homes, f.parameters)?;
-    bundles.extend_from_slice(&[
-        with_short(always(), ImmFunc::Xor, mask, mask, 1),
-        set_word(homes, always(), f.mask, mask),
-    ])?;
+    keep_arguments(&mut bundles, homes.first, f.parameters)?;
+    keep_mask(&mut bundles, homes, f)?;
     keep_place(&mut bundles, f)?;
     push_straight(out, &bundles)
 }
@@ -176,15 +193,16 @@ fn leave(out: &mut Vec<Part>) -> Result<(), OutOfMemory>
 }
 
 // the code of a function
-#[tactic(auto, using(crate::proofs::Pushed::function_pushed, crate::proofs::Fitting::frame_least, crate::proofs::Fitting::body_fits))]
-fn function(alloc: Global, homes: u32, f: &SpFunction) -> Result<List<Part>, OutOfMemory>
+#[tactic(auto, using(crate::proofs::Pushed::function_pushed, crate::proofs::Fitting::frame_least))]
+fn function(alloc: Global, homes: Homes, f: &SpFunction) -> Result<List<Part>, OutOfMemory>
     requires fits { FunctionFits (plain_function f.now) }
     ensures { IfOk result (λ parts. parts_of parts ≡ specs.function_code homes (plain_function f.now)) }
 {
     let mut parts = Vec::new(alloc);
     begin(&mut parts, homes, f)?;
-    statements(&mut parts, homes, f.body.as_slice(), f.frame, f.frame - 3)?;
-    end(&mut parts, homes, f)?;
+    let body = begun_body(homes.flags, f);
+    statements(&mut parts, homes, body, f.frame, f.frame - 3)?;
+    end(&mut parts, homes.first, f)?;
     leave(&mut parts)?;
     Ok(List::of(parts))
 }
@@ -198,9 +216,10 @@ fn functions(alloc: Global, fs: &[SpFunction]) -> Result<List<List<Part>>, OutOf
     let mut made = Vec::new(alloc);
     let mut tops = Vec::new(alloc);
     for f in fs {
-        let homes = homes_over(tops.as_slice(), f);
-        tops.push(top_from(homes, f))?;
-        let parts = function(alloc, homes, f)?;
+        let first = homes_over(tops.as_slice(), f);
+        tops.push(top_from(first, f))?;
+        let flags = flags_of(f);
+        let parts = function(alloc, Homes { first, flags }, f)?;
         made.push(parts)?;
     }
     Ok(List::of(made))

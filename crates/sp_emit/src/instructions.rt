@@ -202,15 +202,16 @@ pub fn stack_op(func: StackFunc, count: u32) -> Bundle
     under(always(), op)
 }
 
-pub fn load_from(space: Mem, rd: Reg, ra: Reg) -> Bundle
-    ensures { result ≡ code.load_from space rd ra }
+pub fn load_from(space: Mem, rd: Reg, ra: Reg, words: u32) -> Bundle
+    requires { words < 128 }
+    ensures { result ≡ code.load_from space rd ra words }
 {
     let op = Op::Load {
         space,
         width: Width::Word,
         rd,
         ra,
-        imm: Imm7::low(0),
+        imm: Imm7::low(words),
     };
     under(always(), op)
 }

@@ -3,12 +3,14 @@ ghost use Rattle.std.specs.Prelude.{◌≡◌, ◌<◌};
 ghost use Rattle.sp_emit.specs.Endings as specs;
 ghost use Rattle.sp_emit.specs.Expressions.{immediate_below};
 ghost use Rattle.sp_emit.specs.Fits.{ExprFits};
+ghost use Rattle.sp_emit.specs.Places.{flag_of};
 ghost use Rattle.sp_tree.specs.Plain.{plain_sp, between_two};
 
 use crate::expressions::{held_constant, is_second_first, value_at};
 use crate::instructions::{number_op, short_op};
-use crate::places::is_in_register;
+use crate::places::{flag_of, is_in_register};
 use crate::registers::{behind, reg};
+use crate::stands::Homes;
 use patmos_instr::{AluFunc, ImmFunc, Op, Reg};
 use sp_tree::{SpBinary, SpExpr, SpUnary};
 
@@ -85,7 +87,7 @@ fn held_op(op: SpBinary, to: Reg, ra: Reg, n: u32) -> Option<Op>
 
 // of an operator on two expressions
 #[tactic(auto, using(crate::proofs::Held::short_below, crate::proofs::Needs::few_needs, crate::proofs::Needs::first_fits, crate::proofs::Needs::second_fits, crate::proofs::Needs::one_behind))]
-fn operator_op(homes: u32, op: SpBinary, a: &SpExpr, b: &SpExpr, rd: Reg, to: Reg) -> Option<Op>
+fn operator_op(homes: Homes, op: SpBinary, a: &SpExpr, b: &SpExpr, rd: Reg, to: Reg) -> Option<Op>
     requires { ExprFits (between_two op (plain_sp a.now) (plain_sp b.now)) rd }
     ensures { result ≡ specs.last_op homes (between_two op (plain_sp a.now) (plain_sp b.now)) rd to }
 {
@@ -102,11 +104,11 @@ fn operator_op(homes: u32, op: SpBinary, a: &SpExpr, b: &SpExpr, rd: Reg, to: Re
 }
 
 // a word of the frame in a register
-fn home_op(homes: u32, slot: u32, to: Reg) -> Option<Op>
-    ensures { result ≡ specs.home_op homes slot to }
+fn home_op(homes: Homes, slot: u32, to: Reg) -> Option<Op>
+    ensures { result ≡ specs.home_op (flag_of homes.flags slot) homes.first slot to }
 {
-    if is_in_register(homes, slot) {
-        Some(short_op(ImmFunc::Add, to, reg(homes + slot), 0))
+    if flag_of(homes.flags, slot).is_none() && is_in_register(homes.first, slot) {
+        Some(short_op(ImmFunc::Add, to, reg(homes.first + slot), 0))
     } else {
         None
     }
@@ -115,7 +117,7 @@ fn home_op(homes: u32, slot: u32, to: Reg) -> Option<Op>
 /// The instruction in which the code of an expression ends, where its operands were worked out from a register on and
 /// the value goes to another one: `None` where that is more than one, a load, or has a predicate.
 #[tactic(auto, unfolding(sp_tree::specs::Plain::plain_sp))]
-pub fn last_op(homes: u32, e: &SpExpr, rd: Reg, to: Reg) -> Option<Op>
+pub fn last_op(homes: Homes, e: &SpExpr, rd: Reg, to: Reg) -> Option<Op>
     requires { ExprFits (plain_sp e.now) rd }
     ensures { result ≡ specs.last_op homes (plain_sp e.now) rd to }
 {

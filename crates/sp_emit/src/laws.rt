@@ -34,16 +34,17 @@ ghost use Rattle.sp_emit.specs.Ran.{begun_memory, ran};
 ghost use Rattle.sp_emit.specs.Serving.{Answers, AreFunctions, AreStatements, CalledWith, Unchanged, OwnUnchanged};
 ghost use Rattle.sp_emit.specs.Statements.{stmts_code};
 ghost use Rattle.sp_tree.specs.declared.limits.TheConstants.{MOST_FRAME};
-ghost use Rattle.sp_emit.specs.declared.registers.TheConstants.{RESULT, MASK, FIRST, SPARE, DIVIDEND, DIVISOR, REMAINDER, DIGITS, OVERRUN, TEST, SECOND, REST_NEGATIVE, QUOTIENT_NEGATIVE, MORE};
+ghost use Rattle.sp_emit.specs.declared.stands.Homes.{Homes};
+ghost use Rattle.sp_emit.specs.declared.registers.TheConstants.{RESULT, MASK, FIRST, SPARE, DIVIDEND, DIVISOR, REMAINDER, DIGITS, OVERRUN, TEST, SECOND, MORE, FLAGS};
 
 /// What the code of an expression leaves, from a register on. Whatever loads give, the registers below that one, those
 /// in which the words of a frame stand, the flag of loops, the stack and all memories are as they were. Where each load
 /// gives what was stored last in its word, the register holds the expression's value.
 pub fn expressions_are_worked_out()
-    ensures keeps { (from : Sources) (f : ℕ → List Step) (homes : ℕ) (e : PlainSp) (rd : ℕ) (m : Run)
-        → ExprFits e rd → rd + need e ≤ homes → IsWhole m
-        → Keeps rd homes m (run from (parts_trail f (expr_code homes e rd)) m) }
-    ensures value { (f : ℕ → List Step) (homes slots : ℕ) (e : PlainSp) (rd : ℕ) (s : State) (m : Run)
+    ensures keeps { (from : Sources) (f : ℕ → List Step) (homes : Homes) (e : PlainSp) (rd : ℕ) (m : Run)
+        → ExprFits e rd → rd + need e ≤ homes.first → IsWhole m
+        → Keeps rd homes.first m (run from (parts_trail f (expr_code homes e rd)) m) }
+    ensures value { (f : ℕ → List Step) (homes : Homes) (slots : ℕ) (e : PlainSp) (rd : ℕ) (s : State) (m : Run)
         → IsReady homes slots e rd s m
         → held rd (run by_words (parts_trail f (expr_code homes e rd)) m) ≡ worth e s }
 {}
@@ -85,18 +86,18 @@ pub fn functions_do_what_they_give()
         → length args ≡ (slice_index_or fs k no_function).parameters → (k + 1) * MOST_FRAME ≤ m.st
         → CalledWith mask args w m → (serves fs n k mask args w).world ≡ w
         → Unchanged (top_of fs k) m (run by_words (trails (codes fs) n k) m) }
-    ensures own_unchanged { (fs : List PlainFunction) (n homes frame slots counter : ℕ) (ts : PlainStmts) (s : State)
+    ensures own_unchanged { (fs : List PlainFunction) (n : ℕ) (homes : Homes) (frame slots counter : ℕ) (ts : PlainStmts) (s : State)
         (m : Run) → AreStatements fs n homes frame slots counter ts s m
         → (stmts_done (serves fs n) ts s).world ≡ s.world
         → OwnUnchanged homes slots (counter + 1) s.frame (stmts_done (serves fs n) ts s).frame m (run by_words
         (parts_trail (trails (codes fs) n) (stmts_code homes frame counter ts)) m) }
-    ensures statements { (fs : List PlainFunction) (n homes frame slots counter : ℕ) (ts : PlainStmts) (s : State)
+    ensures statements { (fs : List PlainFunction) (n : ℕ) (homes : Homes) (frame slots counter : ℕ) (ts : PlainStmts) (s : State)
         (m : Run) → AreStatements fs n homes frame slots counter ts s m
         → Follows homes slots (stmts_done (serves fs n) ts s)
         (run by_words (parts_trail (trails (codes fs) n) (stmts_code homes frame counter ts)) m) }
-    ensures frame { (fs : List PlainFunction) (n homes frame slots counter : ℕ) (ts : PlainStmts) (s : State)
+    ensures frame { (fs : List PlainFunction) (n : ℕ) (homes : Homes) (frame slots counter : ℕ) (ts : PlainStmts) (s : State)
         (m : Run) → AreStatements fs n homes frame slots counter ts s m
-        → KeepsBehind (homes + (counter + 1)) (counter + 1) m (run by_words
+        → KeepsBehind (homes.first + (counter + 1)) (counter + 1) m (run by_words
         (parts_trail (trails (codes fs) n) (stmts_code homes frame counter ts)) m) }
 {}
 
@@ -157,7 +158,6 @@ pub fn registers_numbered()
     ensures overrun { OVERRUN ≡ 26 }
     ensures test { TEST ≡ 1 }
     ensures second { SECOND ≡ 2 }
-    ensures rest { REST_NEGATIVE ≡ 3 }
-    ensures quotient { QUOTIENT_NEGATIVE ≡ 4 }
-    ensures more { MORE ≡ 5 }
+    ensures more { MORE ≡ 3 }
+    ensures flags { FLAGS ≡ 4 }
 {}

@@ -33,10 +33,12 @@
 //! What its words mean stands in [the glossary](../../../docs/GLOSSARY.md).
 #![tactic(auto)]
 
+mod arrays;
 mod calls;
 mod division;
 mod divisors;
 mod expressions;
+mod flags;
 mod functions;
 mod instructions;
 mod last;
@@ -45,7 +47,9 @@ mod operators;
 mod parts;
 mod places;
 mod registers;
+mod stands;
 mod statements;
+mod truths;
 mod worked;
 mod writes;
 
@@ -56,8 +60,9 @@ pub use laws::{
     tasks_do_what_they_mean, tasks_stay_within_the_stack,
 };
 pub use registers::{
-    DIGITS, DIVIDEND, DIVISOR, FIRST, MASK, MORE, OVERRUN, QUOTIENT_NEGATIVE, REMAINDER,
-    REST_NEGATIVE, RESULT, SECOND, SPARE, TEST,
+    DIGITS, DIVIDEND, DIVISOR, FIRST, FLAGS, MASK, MORE, OVERRUN, REMAINDER, RESULT, SECOND, SPARE,
+    TEST,
 };
 pub use sp_shape::{Part, Shape};
+pub use stands::{Flags, Homes};
 pub use worked::{worked_calls, worked_divisions, worked_effects};

@@ -20,19 +20,23 @@ use crate::instructions::{
 };
 use crate::parts::push_straight;
 use crate::registers::{DIVIDEND, SECOND, TEST, pred, reg};
-use patmos_instr::{AluFunc, Bundle, CmpFunc, ImmFunc, PredFunc, Reg, Special};
+use patmos_instr::{AluFunc, Bundle, CmpFunc, ImmFunc, Pred, PredFunc, Reg, Special};
 use sp_shape::Part;
 use sp_tree::{SpBinary, SpUnary};
 use tc_word::OutOfMemory;
 
-// 1 where the test is true, else 0
+/// 1 where a predicate is true, else 0.
+pub fn truth_of(p: Pred, rd: Reg) -> [Bundle; 2]
+    ensures { result ≡ specs.truth_of p rd }
+{
+    [set_short(always(), rd, 0), set_short(where_so(p), rd, 1)]
+}
+
+// of the test
 fn truth_to(rd: Reg) -> [Bundle; 2]
     ensures { result ≡ specs.truth_to rd }
 {
-    [
-        set_short(always(), rd, 0),
-        set_short(where_so(pred(TEST)), rd, 1),
-    ]
+    truth_of(pred(TEST), rd)
 }
 
 /// The value of an operator on a register's word goes there. It is `Err` where memory runs out.
@@ -126,9 +130,9 @@ pub fn binary(
         SpBinary::Plus => computed(out, AluFunc::Add, rd, ra, rb),
         SpBinary::Minus => computed(out, AluFunc::Sub, rd, ra, rb),
         SpBinary::Times => push_straight(out, &[multiply(ra, rb), from_special(rd, Special::Sl)]),
-        SpBinary::Divide => signed_division(out, &signed_quotient_to(rd), ra, rb),
+        SpBinary::Divide => signed_division(out, TEST, SECOND, &signed_quotient_to(rd), ra, rb),
         SpBinary::DivideUnsigned => unsigned_division(out, &unsigned_quotient_to(rd, ra), ra, rb),
-        SpBinary::Remainder => signed_division(out, &signed_rest_to(rd), ra, rb),
+        SpBinary::Remainder => signed_division(out, SECOND, TEST, &signed_rest_to(rd), ra, rb),
         SpBinary::RemainderUnsigned => unsigned_division(out, &unsigned_rest_to(rd, ra), ra, rb),
     }
 }

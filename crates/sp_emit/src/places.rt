@@ -11,10 +11,27 @@ ghost use Rattle.sp_emit.specs.Functions as functions;
 ghost use Rattle.sp_emit.specs.Places as specs;
 
 use crate::expressions::need_of;
-use crate::instructions::{always, copy, idle, load_slot, store_slot, with_short};
-use crate::registers::{FIRST, OVERRUN, SPARE, reg};
-use patmos_instr::{Bundle, Guard, ImmFunc, Reg};
+use crate::instructions::{always, compare_short, copy, idle, load_slot, store_slot, with_short};
+use crate::registers::{FIRST, FLAGS, OVERRUN, SPARE, TEST, pred, reg};
+use crate::stands::{Flags, Homes};
+use patmos_instr::{Bundle, CmpFunc, Guard, ImmFunc, Pred, Reg};
 use sp_tree::{SpExpr, SpFunction, SpStmt, SpTarget};
+
+/// The predicate in which a word stands.
+#[tactic(auto, unfolding(crate::specs::Places::flag_of))]
+pub fn flag_of(flags: Flags, slot: u32) -> Option<Pred>
+    ensures { result ≡ specs.flag_of flags slot }
+{
+    if slot < flags.word {
+        return None;
+    }
+    let n = slot - flags.word;
+    if n < 4 && n < flags.count {
+        Some(pred(FLAGS + n))
+    } else {
+        None
+    }
+}
 
 /// Whether a word stands in a register, where the first one stands in that of this number.
 pub fn is_in_register(homes: u32, slot: u32) -> bool
@@ -84,6 +101,28 @@ pub fn set_word(homes: u32, guard: Guard, slot: u32, rs: Reg) -> Bundle
     } else {
         store_slot(guard, slot, rs)
     }
+}
+
+/// Whether a mask is 1: nothing is done where it stands in a predicate.
+#[tactic(auto, unfolding(crate::specs::Places::seek_op, crate::specs::Places::match_op))]
+pub fn mask_test(homes: Homes, mask: u32) -> [Bundle; 2]
+    requires { mask < 128 }
+    ensures { result ≡ specs.mask_test homes mask }
+{
+    match flag_of(homes.flags, mask) {
+        Some(_) => [idle(), idle()],
+        None => [
+            fetch_word(homes.first, mask),
+            compare_short(CmpFunc::Eq, pred(TEST), fetched_at(homes.first, mask), 1),
+        ],
+    }
+}
+
+/// The predicate that says it then.
+pub fn told_at(homes: Homes, mask: u32) -> Pred
+    ensures { result ≡ specs.told_at homes mask }
+{
+    flag_of(homes.flags, mask).unwrap_or(pred(TEST))
 }
 
 // ---- how many words the tree of a function names

@@ -36,17 +36,15 @@ pub const OVERRUN: u32 = 26;
 /// The predicate of a test, or of a mask.
 pub const TEST: u32 = 1;
 
-/// The predicate of a second test, which is joined with the first; and that a divisor is large.
+/// The predicate of a second test, which is joined with the first; and that a divisor is large, or that what a signed
+/// division gives is negative.
 pub const SECOND: u32 = 2;
 
-/// The predicate that what is left of a signed division is negative.
-pub const REST_NEGATIVE: u32 = 3;
-
-/// The predicate that the quotient is negative.
-pub const QUOTIENT_NEGATIVE: u32 = 4;
-
 /// The predicate that a loop makes one more iteration, of statements or of a division.
-pub const MORE: u32 = 5;
+pub const MORE: u32 = 3;
+
+/// The first predicate in which a word of a frame may stand.
+pub const FLAGS: u32 = 4;
 
 /// The register of a number.
 pub fn reg(number: u32) -> Reg

@@ -15,9 +15,11 @@ use crate::expressions::{expression, expression_to, operands};
 use crate::instructions::{always, under, where_so};
 use crate::last::last_op;
 use crate::parts::push_straight;
-use crate::places::{is_in_register, set_word};
-use crate::registers::{FIRST, TEST, behind, pred, reg};
-use crate::writes::{cell_write, element_write, mask_test, slot_write};
+use crate::places::{flag_of, is_in_register, mask_test, set_word, told_at};
+use crate::registers::{FIRST, behind, reg};
+use crate::stands::Homes;
+use crate::truths::set_flag;
+use crate::writes::{cell_write, element_write, slot_write};
 use patmos_instr::{Op, Reg};
 use sp_shape::Part;
 use sp_tree::{SpExpr, SpStmt, SpTarget};
@@ -25,7 +27,7 @@ use tc_word::OutOfMemory;
 
 // a target is set to the value in the first register
 #[tactic(auto, using(crate::proofs::Pushed::two_pushed, crate::proofs::Fitting::target_mask, crate::proofs::Fitting::slot_fits, crate::proofs::Fitting::index_fits, crate::proofs::Fitting::cell_fits, crate::proofs::Fitting::array_fits))]
-fn target(out: &mut Vec<Part>, homes: u32, mask: u32, to: &SpTarget) -> Result<(), OutOfMemory>
+fn target(out: &mut Vec<Part>, homes: Homes, mask: u32, to: &SpTarget) -> Result<(), OutOfMemory>
     requires fits { TargetFits mask (plain_sp_target to.now) }
     ensures { OnOk result (parts_of out.new.items
         ≡ joined (parts_of out.old.items) (specs.target_write homes mask (plain_sp_target to.now))) }
@@ -42,13 +44,13 @@ fn target(out: &mut Vec<Part>, homes: u32, mask: u32, to: &SpTarget) -> Result<(
 
 // the instruction in which a value ends, where it sets a word in a register
 #[tactic(auto, unfolding(sp_tree::specs::Shown::plain_sp_target))]
-fn straight_op(homes: u32, to: &SpTarget, value: &SpExpr) -> Option<Op>
+fn straight_op(homes: Homes, to: &SpTarget, value: &SpExpr) -> Option<Op>
     requires { ExprFits (plain_sp value.now) FIRST }
     ensures { result ≡ specs.straight_op homes (plain_sp_target to.now) (plain_sp value.now) }
 {
     match to {
-        SpTarget::Frame { slot } if is_in_register(homes, *slot) => {
-            last_op(homes, value, reg(FIRST), reg(homes + *slot))
+        SpTarget::Frame { slot } if is_in_register(homes.first, *slot) => {
+            last_op(homes, value, reg(FIRST), reg(homes.first + *slot))
         }
         _ => None,
     }
@@ -58,7 +60,7 @@ fn straight_op(homes: u32, to: &SpTarget, value: &SpExpr) -> Option<Op>
 #[tactic(auto, using(crate::proofs::Pushed::two_pushed))]
 fn guarded(
     out: &mut Vec<Part>,
-    homes: u32,
+    homes: Homes,
     mask: u32,
     value: &SpExpr,
     op: Op,
@@ -70,14 +72,17 @@ fn guarded(
 {
     operands(out, homes, value, reg(FIRST))?;
     let [load, test] = mask_test(homes, mask);
-    push_straight(out, &[load, test, under(where_so(pred(TEST)), op)])
+    push_straight(
+        out,
+        &[load, test, under(where_so(told_at(homes, mask)), op)],
+    )
 }
 
 // a target is set to a value where a mask is 1
 #[tactic(auto, using(crate::proofs::Pushed::two_pushed, crate::proofs::Pushed::guarded_pushed, crate::proofs::Pushed::stored_pushed, crate::proofs::Fitting::target_mask))]
 fn write(
     out: &mut Vec<Part>,
-    homes: u32,
+    homes: Homes,
     mask: u32,
     to: &SpTarget,
     value: &SpExpr,
@@ -98,7 +103,7 @@ fn write(
 #[tactic(auto, using(crate::proofs::Fitting::first_argument, crate::proofs::Fitting::room_behind))]
 fn arguments(
     out: &mut Vec<Part>,
-    homes: u32,
+    homes: Homes,
     args: &[SpExpr],
     first: Reg,
 ) -> Result<(), OutOfMemory>
@@ -118,7 +123,7 @@ fn arguments(
 #[tactic(auto, using(crate::proofs::Pushed::three_pushed))]
 fn send_values(
     out: &mut Vec<Part>,
-    homes: u32,
+    homes: Homes,
     source: &SpExpr,
     target: &SpExpr,
     count: &SpExpr,
@@ -141,7 +146,7 @@ fn send_values(
 #[tactic(auto, using(crate::proofs::Pushed::send_pushed))]
 fn send_of(
     out: &mut Vec<Part>,
-    homes: u32,
+    homes: Homes,
     mask: u32,
     core: u32,
     source: &SpExpr,
@@ -161,20 +166,23 @@ fn send_of(
     send(out, homes, mask, core)
 }
 
-// a word of the frame is set in any case: in a register straight, else from the first one
+// a word of the frame is set in any case: in a predicate and in a register straight, else from the first one
 #[tactic(auto, using(crate::proofs::Pushed::two_pushed))]
-fn mask(out: &mut Vec<Part>, homes: u32, slot: u32, value: &SpExpr) -> Result<(), OutOfMemory>
+fn mask(out: &mut Vec<Part>, homes: Homes, slot: u32, value: &SpExpr) -> Result<(), OutOfMemory>
     requires slot { slot < 128 }
     requires value { ExprFits (plain_sp value.now) FIRST }
     ensures { OnOk result (parts_of out.new.items
         ≡ joined (parts_of out.old.items) (specs.mask_code homes slot (plain_sp value.now))) }
 {
     let first = reg(FIRST);
-    if is_in_register(homes, slot) {
-        return expression_to(out, homes, value, first, reg(homes + slot));
+    if let Some(p) = flag_of(homes.flags, slot) {
+        return set_flag(out, homes, p, value);
+    }
+    if is_in_register(homes.first, slot) {
+        return expression_to(out, homes, value, first, reg(homes.first + slot));
     }
     expression(out, homes, value, first)?;
-    push_straight(out, &[set_word(homes, always(), slot, first)])
+    push_straight(out, &[set_word(homes.first, always(), slot, first)])
 }
 
 /// The code of a statement stands after the parts. It is `Err` where memory runs out.
@@ -182,7 +190,7 @@ fn mask(out: &mut Vec<Part>, homes: u32, slot: u32, value: &SpExpr) -> Result<()
 #[tactic(auto, using(crate::proofs::Pushed::two_pushed, crate::proofs::Fitting::masks_value, crate::proofs::Fitting::masks_slot, crate::proofs::Fitting::writes_value, crate::proofs::Fitting::writes_target, crate::proofs::Fitting::calls_mask, crate::proofs::Fitting::calls_args, crate::proofs::Fitting::calls_result, crate::proofs::Fitting::sends_mask, crate::proofs::Fitting::sends_core, crate::proofs::Fitting::sends_source, crate::proofs::Fitting::sends_target, crate::proofs::Fitting::sends_count, crate::proofs::Fitting::overruns_mask, crate::proofs::Fitting::overruns_value), unfolding(sp_tree::specs::Shown::plain_stmt))]
 pub fn statement(
     out: &mut Vec<Part>,
-    homes: u32,
+    homes: Homes,
     t: &SpStmt,
     frame: u32,
     counter: u32,
@@ -234,7 +242,7 @@ pub fn statement(
 #[tactic(auto, using(crate::proofs::Pushed::iterations_pushed, crate::proofs::Fitting::counter_fits, crate::proofs::Fitting::counter_some, crate::proofs::Fitting::iterations_body))]
 fn iterations(
     out: &mut Vec<Part>,
-    homes: u32,
+    homes: Homes,
     count: u32,
     body: &[SpStmt],
     frame: u32,
@@ -244,10 +252,10 @@ fn iterations(
     ensures { OnOk result (parts_of out.new.items
         ≡ joined (parts_of out.old.items) (specs.stmt_code homes frame counter (plain.iterations count (stmts_of body.now)))) }
 {
-    begin_iterations(out, homes, counter, count)?;
+    begin_iterations(out, homes.first, counter, count)?;
     let mut iteration = Vec::new(*out.allocator());
     statements(&mut iteration, homes, body, frame, counter - 1)?;
-    repeat(out, homes, counter, count, iteration)
+    repeat(out, homes.first, counter, count, iteration)
 }
 
 /// The code of statements stands after the parts. It is `Err` where memory runs out.
@@ -255,7 +263,7 @@ fn iterations(
 #[tactic(auto)]
 pub fn statements(
     out: &mut Vec<Part>,
-    homes: u32,
+    homes: Homes,
     body: &[SpStmt],
     frame: u32,
     counter: u32,

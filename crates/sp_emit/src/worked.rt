@@ -10,7 +10,7 @@ ghost use Rattle.sp_tree.specs.declared.operators.SpBinary.TheVariants as binary
 use sp_tree::Region;
 
 /// A call that gives the difference of two words of the input, and its effect; nothing of the stack is left.
-#[tactic(auto, unfolding(crate::specs::Places::read_op, crate::specs::Places::fetch_op, crate::specs::Places::set_op, crate::specs::Places::word_cleared, crate::specs::Instructions::number_op))]
+#[tactic(auto, unfolding(crate::specs::Places::read_op, crate::specs::Places::fetch_op, crate::specs::Places::set_op, crate::specs::Places::cleared_in, crate::specs::Places::flag_of, crate::specs::Places::seek_op, crate::specs::Places::match_op, crate::specs::Instructions::number_op, crate::specs::Expressions::spare_op, crate::specs::Expressions::below_op, crate::specs::Expressions::scaled_op))]
 pub fn worked_calls()
     ensures value { word_in (ran_alone small.difference_unit (9 ∷ 4 ∷ [])).regs 1 ≡ 5 }
     ensures flag { word_in (ran_alone small.difference_unit (9 ∷ 4 ∷ [])).regs 2 ≡ 0 }
@@ -27,7 +27,7 @@ pub fn worked_calls()
 
 /// Quotients and what is left: signed words, by 0, the least word by -1, unsigned words past 2^31; by powers of two, by
 /// other constants, and by a word that is not known.
-#[tactic(auto, unfolding(crate::specs::Places::read_op, crate::specs::Places::fetch_op, crate::specs::Places::set_op, crate::specs::Places::word_cleared, crate::specs::Instructions::number_op, crate::specs::Divisors::highest, crate::specs::Divisors::is_power, crate::specs::Divisors::moved, crate::specs::Divisors::scale, crate::specs::Divisors::factor, crate::specs::Divisors::surplus, crate::specs::Divisors::is_exact, crate::specs::Divisors::factor_rest_to, crate::specs::Division::unsigned_quotient_to))]
+#[tactic(auto, unfolding(crate::specs::Places::read_op, crate::specs::Places::fetch_op, crate::specs::Places::set_op, crate::specs::Places::cleared_in, crate::specs::Places::flag_of, crate::specs::Places::seek_op, crate::specs::Places::match_op, crate::specs::Instructions::number_op, crate::specs::Divisors::highest, crate::specs::Divisors::is_power, crate::specs::Divisors::moved, crate::specs::Divisors::scale, crate::specs::Divisors::factor, crate::specs::Divisors::surplus, crate::specs::Divisors::is_exact, crate::specs::Divisors::factor_rest_to, crate::specs::Division::unsigned_quotient_to))]
 pub fn worked_divisions()
     ensures quotient { word_in (ran_alone
         (small.unit_of (one (masks 1 (between_two binary.Divide (constant (2 ^ 32 - 7)) (constant 2))))) []).regs 1
@@ -69,7 +69,7 @@ pub fn worked_divisions()
 {}
 
 /// Iterations, masks and what they keep off: a store at main memory goes to word 0. The flag, and a send.
-#[tactic(auto, unfolding(crate::specs::Places::read_op, crate::specs::Places::fetch_op, crate::specs::Places::keep_op, crate::specs::Places::set_op, crate::specs::Places::word_cleared, crate::specs::Instructions::number_op))]
+#[tactic(auto, unfolding(crate::specs::Places::read_op, crate::specs::Places::fetch_op, crate::specs::Places::keep_op, crate::specs::Places::set_op, crate::specs::Places::cleared_in, crate::specs::Places::flag_of, crate::specs::Places::seek_op, crate::specs::Places::match_op, crate::specs::Instructions::number_op, crate::specs::Expressions::spare_op, crate::specs::Expressions::below_op, crate::specs::Expressions::scaled_op))]
 pub fn worked_effects()
     ensures iterations { word_in (ran_alone (small.unit_of (one (small.adding 2))) []).regs 1 ≡ 4 }
     ensures slot_off { word_in (ran_alone

@@ -9,21 +9,21 @@ use Rattle.tc_link.specs.Placed.{size_of, flat}
 use Rattle.task_core.specs.Tasks.{code_of, IsRunnable, IsCode}
 use Rattle.task_core.specs.Worked.{sender}
 use Rattle.sp_emit.specs.Instructions.{number_op}
-use Rattle.sp_emit.specs.Places.{read_op, fetch_op, set_op, word_cleared}
+use Rattle.sp_emit.specs.Places.{flag_of, read_op, fetch_op, set_op, cleared_in, seek_op, match_op}
 use Rattle.task_core.proofs.Ranges.{all_fit}
 
 small : (k : ℕ) → k < 1 → size_of (code_of sender) k ≤ MOST_IN_FUNCTION
-unfolding read_op fetch_op set_op word_cleared number_op
+unfolding flag_of read_op fetch_op set_op cleared_in seek_op match_op number_op
 small zero within = omega arith
 small (suc k) within = absurd (omega (arith, within))
 
 fit : (k : ℕ) → k < 1 → All FitsBundle (flat (code_of sender) k)
-unfolding read_op fetch_op set_op word_cleared number_op
+unfolding flag_of read_op fetch_op set_op cleared_in seek_op match_op number_op
 fit zero within = all_fit (flat (code_of sender) 0) refl
 fit (suc k) within = absurd (omega (arith, within))
 
 pub sender_code : IsCode sender
-unfolding read_op fetch_op set_op word_cleared number_op
+unfolding flag_of read_op fetch_op set_op cleared_in seek_op match_op number_op
 sender_code = record {
   formed = refl;
   fits = record { small = small; within = omega arith; initial = omega arith; input_from = omega arith; input_room = omega arith };

@@ -4,8 +4,7 @@ use Rattle.sp_tree.specs.Cost.{cost}
 use Rattle.sp_tree.specs.Formed.{is_formed}
 use Rattle.sp_tree.specs.Statements.{PlainUnit, no_function}
 use Rattle.sp_shape.specs.Parts.{no_part}
-use Rattle.sp_emit.specs.Functions.{emitted}
-use Rattle.sp_emit.specs.Places.{homes_of}
+use Rattle.sp_emit.specs.Functions.{places_of, emitted}
 use Rattle.sp_emit.proofs.Codes.{codes_at, codes_length}
 use Rattle.sp_emit.proofs.Formed as emit_formed
 use Rattle.sp_emit.proofs.Kept as emit
@@ -24,7 +23,7 @@ module _ (u : PlainUnit) (weights : List ℕ) (formed : is_formed u ≡ true) (l
   few k below =
       let f = slice_index_or u.functions k no_function in
       let ps = slice_index_or (emitted u).functions k no_part in
-      let x = subst (IsFewOf f) (sym (codes_at u.functions k below)) (function_few (homes_of u.functions k) f) in
+      let x = subst (IsFewOf f) (sym (codes_at u.functions k below)) (function_few (places_of u.functions k) f) in
       let y = scheduled_has_no_more ps in
       subst (IsFewOf f) (sym (schedule.scheduled_at (emitted u) (scheduled (emitted u)) refl k))
       (record { iterations = omega (arith, x.iterations, y.iterations); calls = omega (arith, x.calls, y.calls); past = omega (arith, x.past, y.past) })

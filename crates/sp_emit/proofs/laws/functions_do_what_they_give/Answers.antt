@@ -12,6 +12,7 @@ use Rattle.sp_emit.proofs.Masks.{Done}
 use Rattle.sp_emit.proofs.Runs.{stmts_run}
 use Rattle.sp_emit.proofs.Serves.{AllServe, all_serve, calls_run, code_of}
 use Rattle.sp_emit.proofs.Standing.{world_stands}
+use Rattle.sp_emit.specs.declared.stands.Homes.{Homes}
 use Rattle.sp_emit.proofs.laws.functions_do_what_they_give.Goals as goal
 
 pub returns-clause-function : goal.returns-clause-function
@@ -25,12 +26,12 @@ returns-clause-callers c fs n k mask args w m are less count room called homes s
     let r = all_serve fs are.constants n are.within are.formed k less mask args w m count room called in
     word_kept homes slot m (run by_words (code_of fs n k) m) (λ q from lt. r.high q (omega (arith, top, from)) lt) r.answers.stack r.answers.st
 
-done : (fs : List PlainFunction) (n homes frame slots counter : ℕ) (ts : PlainStmts) (s : State) (m : Run) → AreStatements fs n homes frame slots counter ts s m
+done : (fs : List PlainFunction) (n : ℕ) (homes : Homes) (frame slots counter : ℕ) (ts : PlainStmts) (s : State) (m : Run) → AreStatements fs n homes frame slots counter ts s m
     → Done homes slots (counter + 1) (stmts_done (serves fs n) ts s) m (run by_words (parts_trail (code_of fs n) (stmts_code homes frame counter ts)) m)
 done fs n homes frame slots counter ts s m h =
     stmts_run homes (tops fs n) (code_of fs n) (serves fs n) fs n frame slots counter (n * 128)
     (calls_run homes fs n frame slots h.functions.formed h.named (all_serve fs h.functions.constants n h.functions.within h.functions.formed))
-    h.named h.counted h.framed ts h.levels h.formed h.constants h.homed s m h.room h.follows
+    h.named h.counted h.framed ts h.levels h.formed h.constants h.homed h.stand s m h.room h.follows
 
 pub returns-clause-unchanged : goal.returns-clause-unchanged
 unfolding AllServe ServedBy

@@ -1,0 +1,196 @@
+-- Words of a frame in predicates, and what any word holds wherever it stands.
+use Rattle.std.proofs.Common.{◌≡◌, ℕ, zero, suc, ◌+◌, ◌-◌, ◌<◌, ◌≤◌, ◌==◌, Bool, true, false, true≢false, ◌&&◌, if◌then◌else◌, Option, None, Some, List, [], ◌∷◌, refl, sym, ap, ◌∙◌, arith}
+use Rattle.std.specs.Prelude.{min, nat_le, nat_lt, is_none, is_some}
+use Rattle.std.specs.List.{list_all}
+use Rattle.std.proofs.lemmas.Bool.{and_parts, and_from, eqb-true, leb-true, ltb-true}
+use Rattle.sp_shape.proofs.Lists.{all_append}
+use Rattle.patmos_instr.specs.Bundles.{Slots}
+use Rattle.patmos_instr.specs.declared.functions.CmpFunc.TheVariants as cmp
+use Rattle.patmos_instr.specs.declared.functions.PredFunc.TheVariants as comb
+use Rattle.patmos_sem.specs.declared.writes.Write.TheVariants as write
+use Rattle.c_world.specs.Numbers.{flag}
+use Rattle.sp_shape.specs.Run.{Run, IsWhole}
+use Rattle.sp_emit.specs.Holding.{held, so, KeepsFrom, KeepsFlags}
+use Rattle.sp_emit.specs.Instructions.{always, under, idle, set_short, compare_short, combine}
+use Rattle.sp_emit.specs.Places.{flag_of, in_register, word_of, held_in, shown_word, fetch_word, fetched_at, seek_op, seek_word, match_op, match_word, mask_test, told_in, told_at, cleared_in, word_cleared, words_cleared}
+use Rattle.sp_emit.specs.declared.registers.TheConstants.{OVERRUN, TEST, SECOND, FLAGS}
+use Rattle.sp_emit.specs.declared.stands.Homes.{Homes}
+use Rattle.sp_emit.proofs.Once.{with_written, kept_by_pred, so_got, so_kept}
+use Rattle.sp_emit.proofs.WordPlaces.{Sets, word_still, word_kept}
+use Rattle.sp_emit.specs.declared.stands.Flags.{Flags}
+
+-- ---- each predicate is that of one word
+
+-- a word that stands in one is one of the first four
+pub record In (flags : Flags) (slot p : ℕ) : Type 0 where
+  pub from : flags.word ≤ slot
+  pub few : slot < flags.word + min 4 flags.count
+  pub is : p ≡ FLAGS + (slot - flags.word)
+
+pub stands_in : (flags : Flags) (slot p : ℕ) → flag_of flags slot ≡ Some p → In flags slot p
+unfolding flag_of
+stands_in flags slot p = by (nat_le flags.word slot && nat_lt (slot - flags.word) (min 4 flags.count)) refl
+  where
+    by : (b : Bool) → (nat_le flags.word slot && nat_lt (slot - flags.word) (min 4 flags.count)) ≡ b → (if b then Some (FLAGS + (slot - flags.word)) else None) ≡ Some p → In flags slot p
+    by true both is =
+        let parts = and_parts (nat_le flags.word slot) (nat_lt (slot - flags.word) (min 4 flags.count)) both in
+        let from = leb-true flags.word slot parts.0 in
+        record { from = from; few = omega (arith, from, ltb-true (slot - flags.word) (min 4 flags.count) parts.1); is = grind (arith, is) }
+    by false both is = absurd cc
+
+pub flag_range : (flags : Flags) (slot p : ℕ) → flag_of flags slot ≡ Some p → (4 ≤ p) × (p < 8)
+flag_range flags slot p is = let x = stands_in flags slot p is in (omega (arith, x.is), omega (arith, x.is, x.from, x.few))
+
+pub flag_one : (flags : Flags) (a b p : ℕ) → flag_of flags a ≡ Some p → flag_of flags b ≡ Some p → a ≡ b
+flag_one flags a b p is_a is_b =
+    let x = stands_in flags a p is_a in
+    let y = stands_in flags b p is_b in
+    omega (arith, x.is, y.is, x.from, y.from)
+
+-- where none stands in one, and before those that do
+pub none_stands : (flags : Flags) (slot : ℕ) → (flags.count == 0) ≡ true → flag_of flags slot ≡ None
+none_stands flags slot none = by (flag_of flags slot) refl
+  where
+    by : (o : Option ℕ) → flag_of flags slot ≡ o → o ≡ None
+    by None is = refl
+    by (Some p) is = let x = stands_in flags slot p is in absurd (omega (arith, x.from, x.few, eqb-true flags.count 0 none))
+
+pub before_flags : (flags : Flags) (slot : ℕ) → slot < flags.word → flag_of flags slot ≡ None
+before_flags flags slot lt = by (flag_of flags slot) refl
+  where
+    by : (o : Option ℕ) → flag_of flags slot ≡ o → o ≡ None
+    by None is = refl
+    by (Some p) is = let x = stands_in flags slot p is in absurd (omega (arith, x.from, lt))
+
+-- ---- what holds of both
+
+pub is_none_of : (o : Option ℕ) → is_none o ≡ true → o ≡ None
+is_none_of None is = refl
+is_none_of (Some p) is = absurd (true≢false (sym is))
+
+pub is_none_off : (o : Option ℕ) → is_some o ≡ false → o ≡ None
+is_none_off None off = refl
+is_none_off (Some p) off = absurd (true≢false off)
+
+pub seek_is : (P : Slots → Type 0) (homes : Homes) (mask : ℕ) → P idle → P (fetch_word homes.first mask) → P (seek_word homes mask)
+unfolding seek_op
+seek_is P homes mask none some = by (flag_of homes.flags mask)
+  where
+    by : (o : Option ℕ) → P (under always (seek_op o homes.first mask))
+    by None = some
+    by (Some p) = none
+
+pub match_is : (P : Slots → Type 0) (homes : Homes) (mask : ℕ) → P idle → P (compare_short cmp.Eq TEST (fetched_at homes.first mask) 1) → P (match_word homes mask)
+unfolding match_op
+match_is P homes mask none some = by (flag_of homes.flags mask)
+  where
+    by : (o : Option ℕ) → P (under always (match_op o homes.first mask))
+    by None = some
+    by (Some p) = none
+
+pub test_is : (P : List Slots → Type 0) (homes : Homes) (mask : ℕ) → ((p : ℕ) → flag_of homes.flags mask ≡ Some p → P (idle ∷ idle ∷ []))
+    → (flag_of homes.flags mask ≡ None → P (fetch_word homes.first mask ∷ compare_short cmp.Eq TEST (fetched_at homes.first mask) 1 ∷ [])) → P (mask_test homes mask)
+unfolding seek_op match_op
+test_is P homes mask flagged none = by (flag_of homes.flags mask) refl
+  where
+    by : (o : Option ℕ) → flag_of homes.flags mask ≡ o → P (under always (seek_op o homes.first mask) ∷ under always (match_op o homes.first mask) ∷ [])
+    by None is = none is
+    by (Some p) is = flagged p is
+
+-- the predicate is one of those that no instruction writes besides, or the test's
+pub told_few : (homes : Homes) (mask : ℕ) → (1 ≤ told_at homes mask) × (told_at homes mask < 8)
+told_few homes mask = by (flag_of homes.flags mask) refl
+  where
+    by : (o : Option ℕ) → flag_of homes.flags mask ≡ o → (1 ≤ told_in o) × (told_in o < 8)
+    by None is = (omega arith, omega arith)
+    by (Some p) is = let r = flag_range homes.flags mask p is in let a = r.0 in let b = r.1 in (omega (arith, a), omega (arith, b))
+
+pub told_other : (homes : Homes) (mask : ℕ) → SECOND ≡ told_at homes mask → ⊥
+told_other homes mask = by (flag_of homes.flags mask) refl
+  where
+    by : (o : Option ℕ) → flag_of homes.flags mask ≡ o → SECOND ≡ told_in o → ⊥
+    by None is same = omega (arith, same)
+    by (Some p) is same = let least = (flag_range homes.flags mask p is).0 in omega (arith, same, least)
+
+-- words that are cleared
+cleared_one : (holds : Slots → Bool) (homes : Homes) (slot : ℕ) → ((p : ℕ) → holds (combine comb.Pxor p 0 0) ≡ true) → holds (set_short always (homes.first + slot) 0) ≡ true → list_all holds (word_cleared homes slot) ≡ true
+unfolding cleared_in
+cleared_one holds homes slot pred one = by (flag_of homes.flags slot)
+  where
+    in_it : (b : Bool) → list_all holds (if b then set_short always (homes.first + slot) 0 ∷ [] else []) ≡ true
+    in_it true = and_from (holds (set_short always (homes.first + slot) 0)) true one refl
+    in_it false = refl
+
+    by : (o : Option ℕ) → list_all holds (cleared_in o homes.first slot) ≡ true
+    by None = in_it (in_register homes.first slot)
+    by (Some p) = and_from (holds (combine comb.Pxor p 0 0)) true (pred p) refl
+
+pub cleared_within : (holds : Slots → Bool) (homes : Homes) (n : ℕ) → ((p : ℕ) → holds (combine comb.Pxor p 0 0) ≡ true) → ((slot : ℕ) → slot < n → holds (set_short always (homes.first + slot) 0) ≡ true) → list_all holds (words_cleared homes n) ≡ true
+cleared_within holds homes zero pred each = refl
+cleared_within holds homes (suc n) pred each =
+    all_append holds (words_cleared homes n) (word_cleared homes n) (cleared_within holds homes n pred (λ slot lt. each slot (omega (arith, lt)))) (cleared_one holds homes n pred (each n (omega arith)))
+
+pub cleared_all : (holds : Slots → Bool) (homes : Homes) (n : ℕ) → ((p : ℕ) → holds (combine comb.Pxor p 0 0) ≡ true) → ((r : ℕ) → holds (set_short always r 0) ≡ true) → list_all holds (words_cleared homes n) ≡ true
+cleared_all holds homes n pred each = cleared_within holds homes n pred (λ slot lt. each (homes.first + slot))
+
+-- ---- what words hold
+
+pub shown_plain : (homes : Homes) (slot : ℕ) (m : Run) → flag_of homes.flags slot ≡ None → shown_word homes slot m ≡ word_of homes.first slot m
+shown_plain homes slot m is = ap (λ o. held_in o homes.first slot m) is
+
+pub shown_flag : (homes : Homes) (slot p : ℕ) (m : Run) → flag_of homes.flags slot ≡ Some p → shown_word homes slot m ≡ flag (so p m)
+shown_flag homes slot p m is = ap (λ o. held_in o homes.first slot m) is
+
+-- where its place stands, a word does
+pub shown_by : (homes : Homes) (slot : ℕ) (m t : Run) → word_of homes.first slot t ≡ word_of homes.first slot m → KeepsFlags m t → shown_word homes slot t ≡ shown_word homes slot m
+shown_by homes slot m t word flags = by (flag_of homes.flags slot) refl
+  where
+    by : (o : Option ℕ) → flag_of homes.flags slot ≡ o → held_in o homes.first slot t ≡ held_in o homes.first slot m
+    by None is = word
+    by (Some p) is = let r = flag_range homes.flags slot p is in ap flag (flags p r.0 r.1)
+
+pub shown_still : (homes : Homes) (slot : ℕ) (m t : Run) → KeepsFrom homes.first m t → KeepsFlags m t → t.stack ≡ m.stack → t.st ≡ m.st → shown_word homes slot t ≡ shown_word homes slot m
+shown_still homes slot m t high flags stack st = shown_by homes slot m t (word_still homes.first slot m t high stack st) flags
+
+-- where no word of a frame stands in a predicate
+pub shown_kept : (homes : Homes) (slot : ℕ) (m t : Run) → (homes.flags.count == 0) ≡ true → KeepsFrom homes.first m t → ((a : ℕ) → m.st ≤ a → t.stack a ≡ m.stack a) → t.st ≡ m.st
+    → shown_word homes slot t ≡ shown_word homes slot m
+shown_kept homes slot m t none high stack st =
+    let is = none_stands homes.flags slot none in
+    shown_plain homes slot t is ∙ word_kept homes.first slot m t high stack st ∙ sym (shown_plain homes slot m is)
+
+-- a word that is set in a register or in the stack
+pub shown_set : {most slot v : ℕ} {m t : Run} (homes : Homes) → Sets most homes.first slot v m t → flag_of homes.flags slot ≡ None → shown_word homes slot t ≡ v
+shown_set {most} {slot} {v} {m} {t} homes set is = shown_plain homes slot t is ∙ set.own
+
+pub shown_beside : {most slot v : ℕ} {m t : Run} (homes : Homes) (u : ℕ) → Sets most homes.first slot v m t → (slot ≡ u → ⊥) → shown_word homes u t ≡ shown_word homes u m
+shown_beside {most} {slot} {v} {m} {t} homes u set apart = shown_by homes u m t (set.others u apart) set.flags
+
+-- and one that is set in a predicate
+word_by_pred : (homes : Homes) (slot p : ℕ) (b : Bool) (m : Run) → IsWhole m → word_of homes.first slot (with_written (write.Predicate p b) m) ≡ word_of homes.first slot m
+unfolding word_of
+word_by_pred homes slot p b m whole = by (in_register homes.first slot) refl
+  where
+    t : Run
+    t = with_written (write.Predicate p b) m
+
+    by : (c : Bool) → in_register homes.first slot ≡ c → (if c then held (homes.first + slot) t else t.stack (t.st + slot)) ≡ (if c then held (homes.first + slot) m else m.stack (m.st + slot))
+    by true is = let lt = ltb-true (homes.first + slot) OVERRUN is in kept_by_pred p b (homes.first + slot) m whole (omega (arith, lt))
+    by false is = refl
+
+pub flag_own : (homes : Homes) (slot p : ℕ) (b : Bool) (m : Run) → IsWhole m → flag_of homes.flags slot ≡ Some p → shown_word homes slot (with_written (write.Predicate p b) m) ≡ flag b
+flag_own homes slot p b m whole is =
+    let r = flag_range homes.flags slot p is in
+    let least = r.0 in
+    shown_flag homes slot p (with_written (write.Predicate p b) m) is ∙ ap flag (so_got p b m whole (omega (arith, least)) r.1)
+
+pub flag_beside : (homes : Homes) (slot u p : ℕ) (b : Bool) (m : Run) → IsWhole m → flag_of homes.flags slot ≡ Some p → (slot ≡ u → ⊥) → shown_word homes u (with_written (write.Predicate p b) m) ≡ shown_word homes u m
+flag_beside homes slot u p b m whole is apart = by (flag_of homes.flags u) refl
+  where
+    t : Run
+    t = with_written (write.Predicate p b) m
+
+    by : (o : Option ℕ) → flag_of homes.flags u ≡ o → held_in o homes.first u t ≡ held_in o homes.first u m
+    by None of_u = word_by_pred homes u p b m whole
+    by (Some q) of_u =
+        ap flag (so_kept p b q m whole (flag_range homes.flags u q of_u).1 (λ same. apart (flag_one homes.flags slot u q (is ∙ ap Some same) of_u)))

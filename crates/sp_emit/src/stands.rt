@@ -1,0 +1,19 @@
+//! Where the words of a function's frame stand.
+
+/// The words of a function's frame that stand in predicates: so many from one on, at most four, one after another from
+/// [`FLAGS`](crate::FLAGS) on.
+#[derive(Clone, Copy)]
+pub struct Flags {
+    pub word: u32,
+    pub count: u32,
+}
+
+/// Where the words of a function's frame stand.
+///
+/// Some stand in predicates. Of the others, a word stands in the register so many after `first` as its number says, if
+/// that is before [`OVERRUN`](crate::OVERRUN), and else in the stack.
+#[derive(Clone, Copy)]
+pub struct Homes {
+    pub first: u32,
+    pub flags: Flags,
+}
