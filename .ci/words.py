@@ -32,6 +32,8 @@ COLUMNS = ("the program's answers", "the laws on compiled code", "the code's own
 CODE = {
     Place("single_path", "specs", "Single", "single"),
     Place("sp_emit", "specs", "Functions", "emitted"),
+    Place("sp_emit", "specs", "Functions", "codes"),
+    Place("sp_emit", "specs", "Statements", "stmts_code"),
     Place("bundle_sched", "specs", "Scheduled", "scheduled"),
     Place("tc_link", "specs", "Placed", "linked"),
 }

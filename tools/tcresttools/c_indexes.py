@@ -14,7 +14,7 @@ from dataclasses import dataclass
 from itertools import product
 from math import prod
 
-from .c_loops import Counted, block_end, counted, head_of, is_left_inside, is_plain
+from .c_loops import Counted, block_end, counted, has_inside, head_of, is_plain
 from .c_text import Token, number_of
 from .c_tree import KINDS, LEVELS, is_plain_name
 
@@ -350,7 +350,7 @@ class Around:
     def is_left(self, brace: int) -> bool:
         """The body of the loop of a block may be left in an iteration before its end."""
         if brace not in self.left:
-            self.left[brace] = is_left_inside(self.tokens, brace, block_end(self.tokens, brace))
+            self.left[brace] = has_inside(self.tokens, brace, block_end(self.tokens, brace), ("break", "continue"))
         return self.left[brace]
 
     def tested_before(self, spot: Spot) -> set[str]:

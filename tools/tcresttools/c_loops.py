@@ -70,17 +70,23 @@ def values_of(first: int | None, compare: str, last: int | None, sign: str, step
 
 
 def is_plain(tokens: list[Token], loop: Counted) -> bool:
-    """The loop is left by its condition alone, and its body does not set its variable."""
+    """The loop makes all its iterations (`makes_all`), and each of them goes on to the end of its body."""
+    return makes_all(tokens, loop) and not has_inside(tokens, loop.begin, loop.end, ("continue",))
+
+
+def makes_all(tokens: list[Token], loop: Counted) -> bool:
+    """The loop is left by its condition alone, and its body does not set its variable.
+
+    A `continue` in a `for` goes on to its step. In a `while` it may skip the step, so ask `is_plain` of that.
+    """
     body = [token.text for token in tokens[loop.begin : loop.end]]
     sets = any(name == loop.name and sign == "=" for name, sign in pairwise(body))
-    return not sets and "return" not in body and not is_left_inside(tokens, loop.begin, loop.end)
+    return not sets and "return" not in body and not has_inside(tokens, loop.begin, loop.end, ("break",))
 
 
-def is_left_inside(tokens: list[Token], begin: int, end: int) -> bool:
-    """A loop's body has a `break` or a `continue` of its own."""
-    return any(
-        tokens[number].text in ("break", "continue") for number in outside(tokens, begin + 1, end, ("for", "while"))
-    )
+def has_inside(tokens: list[Token], begin: int, end: int, words: tuple[str, ...]) -> bool:
+    """A loop's body has one of these words, and not in a loop inside it."""
+    return any(tokens[number].text in words for number in outside(tokens, begin + 1, end, ("for", "while")))
 
 
 def outside(tokens: list[Token], begin: int, end: int, words: tuple[str, ...]) -> Iterator[int]:

@@ -16,7 +16,7 @@ from collections import Counter
 from collections.abc import Iterator
 from dataclasses import dataclass, field, replace
 
-from .c_loops import counted_for, is_plain
+from .c_loops import counted_for, makes_all
 from .c_text import Token, number_of, tokens_of
 from .code_text import CodeBundle, CodeItem, CodeLoop, TaskCode
 from .events import Bundle, Cause, Event, NoSequence, Sequence, Transaction
@@ -60,7 +60,7 @@ def lowered_bound(token: Token) -> str:
 def lowered_limit(tokens: list[Token], at: int, most: int) -> list[Edit]:
     """Another limit for a `for` that makes just so many iterations, more than two; none for other loops."""
     loop = counted_for(tokens, at) if tokens[at].text == "for" else None
-    if loop is None or most <= KEPT_ITERATIONS or not is_plain(tokens, loop) or tokens[at + 7].text not in ("<", "<="):
+    if loop is None or most <= KEPT_ITERATIONS or not makes_all(tokens, loop) or tokens[at + 7].text not in ("<", "<="):
         return []
     step = number_of(tokens[at + 14]) or 1
     if (loop.most - loop.least) // step + 1 != most:

@@ -211,6 +211,34 @@ def test_loops_that_count_to_their_bounds_count_to_two(most: int, head: str, two
     assert lowered((text % (most, head)).encode()) == (text % (2, two)).encode()
 
 
+@pytest.mark.parametrize("body,limit", [
+    ("if (a[i]) { continue; } a[i] = 1;", 2),
+    ("if (a[i]) { break; } a[i] = 1;", 6),
+    ("if (a[i]) { return 1; } a[i] = 1;", 6),
+    ("if (a[i]) { i = 4; } a[i] = 1;", 6),
+])  # fmt: skip
+def test_a_loop_with_a_continue_still_counts(body: str, limit: int) -> None:
+    text = '_Pragma("loopbound min 0 max %d") for (i = 0; i < %d; i = i + 1) { %s }'
+    assert lowered((text % (6, 6, body)).encode()) == (text % (2, limit, body)).encode()
+
+
+def test_two_iterations_of_a_loop_with_a_continue_give_the_whole(program: str) -> None:
+    source = """
+    int in[6];
+    int main() {
+        int i; int s = 0;
+        _Pragma("loopbound min 0 max 6")
+        for (i = 0; i < 6; i = i + 1) { if (in[i] < 0) { continue; } s = s + in[i]; }
+        return s;
+    }
+    """
+    text = f"version = 1\ncores = 1\nslot = 6\ncycles = 9000\n[[task]]\ncore = 0\nlang = \"c\"\nsource = '''{source}'''\n"
+    task = job_of("job.toml", text.encode(), toml_values(text.encode())).tasks[0]
+    whole = recorded(task, program)
+    assert whole is not None
+    assert with_two_iterations(task, program).events == whole.events
+
+
 def test_a_long_task_is_replayed(program: str) -> None:
     source = """
     int t[9];

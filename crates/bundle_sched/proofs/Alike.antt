@@ -13,13 +13,13 @@ use Rattle.sp_shape.proofs.Joins.{trail_joined}
 use Rattle.sp_shape.proofs.Lists.{done_append}
 use Rattle.bundle_sched.specs.Ordered.{goes_by}
 use Rattle.bundle_sched.specs.Packed.{can_join, pair, lone, last_or}
-use Rattle.bundle_sched.specs.Packing.{packed, can_move, lets_pass, has_room, filled, but_last, goes_down, kept_by_one, way_by_one, kept_after, way_after, freed, kept, way, before_branch, from_branch, turned, iteration_packed, straights, left_over, parts_merged, function_merged, merged}
+use Rattle.bundle_sched.specs.Packing.{packed, can_move, lets_pass, has_room, filled, but_last, goes_down, kept_by_one, way_by_one, kept_after, way_after, freed, kept, way, before_branch, from_branch, turned, arranged, iteration_packed, straights, left_over, parts_merged, function_merged, merged}
 use Rattle.bundle_sched.specs.declared.slots.TheConstants.{MOST_SLOTS}
 use Rattle.bundle_sched.proofs.Commute.{idle_is, idle_once}
 use Rattle.bundle_sched.proofs.BehindFlow.{moved_once}
 use Rattle.bundle_sched.proofs.Beside.{without_nop_once, beside_once}
 use Rattle.bundle_sched.proofs.Freed.{freed_as}
-use Rattle.bundle_sched.proofs.EachStep.{AtEachStep, packed_steps}
+use Rattle.bundle_sched.proofs.EachStep.{AtEachStep, packed_steps, arranged_steps}
 use Rattle.bundle_sched.proofs.Swapping.{swap_once, join_once}
 
 -- ---- trails that leave the same, read at once
@@ -75,6 +75,9 @@ alike_steps from = record {
 
 pub packed_alike : (from : Sources) (bs : List Slots) → Alike from (all_done (packed bs)) (all_done bs)
 packed_alike from bs = packed_steps (λ xs ys. Alike from (all_done ys) (all_done xs)) (alike_steps from) bs
+
+arranged_alike : (from : Sources) (held front back : List Slots) → Alike from (all_done (packed (arranged held front back))) (all_done (held ++ front))
+arranged_alike from held front back = arranged_steps (λ xs ys. Alike from (all_done ys) (all_done xs)) (alike_steps from) held front back
 
 -- ---- a bundle in a delay slot
 
@@ -136,10 +139,10 @@ pub iteration_alike : (from : Sources) (held tail : List Slots) → Alike from (
 iteration_alike from held tail =
     let front = before_branch tail in
     let back = from_branch tail in
-    let p = packed (held ++ front) in
+    let p = packed (arranged held front back) in
     alike_on (alike_is from (all_done (turned p back)) (all_done (kept p back) ++ all_done (way p back)) (done_append (kept p back) (way p back)))
     (alike_on (slots_alike from p back)
-    (alike_on (alike_then (packed_alike from (held ++ front)) (alike_same from (all_done back)))
+    (alike_on (alike_then (arranged_alike from held front back) (alike_same from (all_done back)))
     (alike_is from (all_done (held ++ front) ++ all_done back) (all_done held ++ all_done tail)
     (ap (λ xs. xs ++ all_done back) (done_append held front) ∙ append_assoc (all_done held) (all_done front) (all_done back)
     ∙ ap (λ xs. all_done held ++ xs) (sym (done_append front back) ∙ ap all_done (tail_split tail))))))

@@ -2,17 +2,20 @@
 -- neighbours become one, or change places.
 -- What holds of each step holds of all.
 use mathlib.Core.List.{reverse_aux, reverse_aux-eq}
-use Rattle.std.proofs.Common.{◌≡◌, ℕ, zero, suc, Bool, true, false, not, if◌then◌else◌, Option, Some, None, IfSome, List, [], ◌∷◌, ◌++◌, length, reverse, refl, sym, ap, ◌∙◌, subst, append_assoc, append-nil}
+use Rattle.std.proofs.Common.{◌≡◌, ℕ, zero, suc, Bool, true, false, true≢false, not, if◌then◌else◌, Option, Some, None, IfSome, List, [], ◌∷◌, ◌++◌, length, reverse, refl, sym, ap, ◌∙◌, subst, append_assoc, append-nil}
 use Rattle.std.specs.Prelude.{◌&&◌, ◌||◌, is_none, slice_set}
+use Rattle.std.specs.List.{list_all}
 use Rattle.std.proofs.lemmas.Bool.{and_parts}
 use Rattle.std.proofs.lemmas.List.{length-reverse, reverse-reverse}
 use Rattle.patmos_instr.specs.Bundles.{Slots}
-use Rattle.sp_shape.specs.Bundles.{is_idle}
+use Rattle.patmos_instr.specs.declared.instructions.Instr.{Instr}
+use Rattle.sp_shape.specs.Bundles.{is_idle_op, is_idle}
+use Rattle.sp_shape.specs.Formed.{is_always}
 use Rattle.sp_shape.specs.Small.{idle}
 use Rattle.sp_shape.specs.Words.{is_late}
-use Rattle.bundle_sched.specs.Ordered.{goes_by, is_too_early, has_place, place, row_with, stood_last, stood, without_nop, put, put_unless_idle, ordered_behind, ordered}
-use Rattle.bundle_sched.specs.Packed.{can_join, can_pair, pair}
-use Rattle.bundle_sched.specs.Packing.{paired, in_pairs, packed}
+use Rattle.bundle_sched.specs.Ordered.{goes_by, can_pass, goes_back, all_go_back, is_too_early, has_place, place, row_with, stood_last, stood, without_nop, put, put_unless_idle, ordered_behind, ordered}
+use Rattle.bundle_sched.specs.Packed.{can_join, can_pair, pair, lone, is_nop}
+use Rattle.bundle_sched.specs.Packing.{paired, in_pairs, packed, comes_first, arranged}
 use Rattle.bundle_sched.specs.declared.ordering.TheConstants.{WINDOW}
 use Rattle.bundle_sched.proofs.TwoInOne.{pair_idle}
 
@@ -77,6 +80,25 @@ pairs_cleaned (b ∷ bs) =
       | false ↦ λ busy. ap (λ idles. if idles then in_pairs (cleaned bs) else paired b (cleaned bs)) busy ∙ paired_cleaned b bs
     ] refl
 
+-- what does nothing has no second instruction that does nothing
+idle_whole : (b : Slots) → is_idle b ≡ true → without_nop b ≡ b
+idle_whole b is = so b.second refl (and_parts (is_idle_op b.first.op) (is_none b.second) (and_parts (is_always b.first.guard) (is_idle_op b.first.op && is_none b.second) is).1).1
+  where
+    so : (o : Option Instr) → b.second ≡ o → is_none o ≡ true → elim o as (λ _. Slots) [ None ↦ b | Some i ↦ if is_nop i then lone b.first else b ] ≡ b
+    so None is h = refl
+    so (Some i) is h = absurd (true≢false (sym h))
+
+ordered_cleaned : (done bs : List Slots) → ordered_behind done (cleaned bs) ≡ ordered_behind done bs
+ordered_cleaned done [] = refl
+ordered_cleaned done (b ∷ bs) =
+    elim (is_idle b) as (λ idles. is_idle b ≡ idles → ordered_behind done (if idles then cleaned bs else b ∷ cleaned bs) ≡ ordered_behind (put_unless_idle (without_nop b) done) bs) [
+      | true ↦ λ is. ordered_cleaned done bs ∙ ap (λ ds. ordered_behind ds bs) (sym (ap (λ c. put_unless_idle c done) (idle_whole b is) ∙ ap (λ idles. if idles then done else put b done) is))
+      | false ↦ λ busy. ordered_cleaned (put_unless_idle (without_nop b) done) bs
+    ] refl
+
+packed_cleaned : (bs : List Slots) → packed (cleaned bs) ≡ packed bs
+packed_cleaned bs = ap in_pairs (ordered_cleaned [] bs)
+
 module _ (P : List Slots → List Slots → Type 0) (step : AtEachStep P) where
   -- ---- neighbours in one
 
@@ -133,7 +155,7 @@ module _ (P : List Slots → List Slots → Type 0) (step : AtEachStep P) where
                   (step.through (b ∷ x ∷ cleaned rest) (x ∷ b ∷ cleaned rest) (pair x b ∷ cleaned rest) (step.swapped b x (cleaned rest) both.0) (step.joined x b (cleaned rest) other both.1))
             ] refl here
 
-    goes_steps : (b : Slots) (rest : List Slots) → (is_idle b || goes_by b x) ≡ true → P (cleaned (b ∷ x ∷ rest)) (cleaned (x ∷ b ∷ rest))
+    goes_steps : (b : Slots) (rest : List Slots) → can_pass b x ≡ true → P (cleaned (b ∷ x ∷ rest)) (cleaned (x ∷ b ∷ rest))
     goes_steps b rest goes =
         elim (is_idle b) as (λ idles. is_idle b ≡ idles → (idles || goes_by b x) ≡ true → P (cleaned (b ∷ x ∷ rest)) (cleaned (x ∷ b ∷ rest))) [
           | true ↦ λ is h.
@@ -156,7 +178,7 @@ module _ (P : List Slots → List Slots → Type 0) (step : AtEachStep P) where
       back_steps (suc n) (b ∷ others) rest found is moved claim =
           let here = if not (is_too_early others x) && has_place b x then Some (length others, row_with b x) else found in
           let now = now_steps (not (is_too_early others x) && has_place b x) refl in
-          elim (is_idle b || goes_by b x) as (λ goes. (is_idle b || goes_by b x) ≡ goes → IfSome (if goes then place n x others here else here) Stands) [
+          elim (can_pass b x) as (λ goes. can_pass b x ≡ goes → IfSome (if goes then place n x others here else here) Stands) [
             | true ↦ λ goes. back_steps n others (b ∷ rest) here is
                 (step.through (cleaned (all ++ x ∷ [])) (cleaned (reverse_aux others (b ∷ x ∷ rest))) (cleaned (reverse_aux others (x ∷ b ∷ rest))) moved (onto_cleaned others (b ∷ x ∷ rest) (x ∷ b ∷ rest) (goes_steps b rest goes))) now
             | false ↦ λ goes. now
@@ -232,3 +254,45 @@ module _ (P : List Slots → List Slots → Type 0) (step : AtEachStep P) where
   packed_steps bs =
       subst (P bs) (pairs_cleaned (ordered bs))
       (step.through bs (cleaned (ordered bs)) (in_pairs (cleaned (ordered bs))) (ordered_steps bs) (pairs_steps P step (cleaned (ordered bs))))
+
+  -- ---- what goes back over all that stands before it
+
+  cleaned_steps : (bs : List Slots) → P bs (cleaned bs)
+  cleaned_steps [] = step.same []
+  cleaned_steps (b ∷ bs) =
+      elim (is_idle b) as (λ idles. is_idle b ≡ idles → P (b ∷ bs) (if idles then cleaned bs else b ∷ cleaned bs)) [
+        | true ↦ λ is. step.through (b ∷ bs) bs (cleaned bs) (step.left_out b bs is) (cleaned_steps bs)
+        | false ↦ λ busy. step.behind b bs (cleaned bs) (cleaned_steps bs)
+      ] refl
+
+  -- one that does something
+  busy_back : (x : Slots) (bs rest : List Slots) → is_idle x ≡ false → list_all (λ b. can_pass b x) bs ≡ true → P (cleaned (bs ++ x ∷ rest)) (cleaned (x ∷ bs ++ rest))
+  busy_back x [] rest busy goes = step.same (cleaned (x ∷ rest))
+  busy_back x (b ∷ bs) rest busy goes =
+      let both = and_parts (can_pass b x) (list_all (λ b. can_pass b x) bs) goes in
+      step.through (cleaned (b ∷ bs ++ x ∷ rest)) (cleaned (b ∷ x ∷ bs ++ rest)) (cleaned (x ∷ b ∷ bs ++ rest))
+      (behind_cleaned P step b (bs ++ x ∷ rest) (x ∷ bs ++ rest) (busy_back x bs rest busy both.1)) (goes_steps P step x busy b (bs ++ rest) both.0)
+
+  -- any
+  one_back : (x : Slots) (bs rest : List Slots) → goes_back bs x ≡ true → P (cleaned (bs ++ x ∷ rest)) (cleaned (x ∷ bs ++ rest))
+  one_back x bs rest goes =
+      elim (is_idle x) as (λ idles. is_idle x ≡ idles → (idles || list_all (λ b. can_pass b x) bs) ≡ true → P (cleaned (bs ++ x ∷ rest)) (cleaned (x ∷ bs ++ rest))) [
+        | true ↦ λ is h. subst (P (cleaned (bs ++ x ∷ rest))) (cleaned_append bs (x ∷ rest) ∙ ap (λ ys. cleaned bs ++ ys) (cleaned_idle x rest is) ∙ sym (cleaned_append bs rest) ∙ sym (cleaned_idle x (bs ++ rest) is)) (step.same (cleaned (bs ++ x ∷ rest)))
+        | false ↦ λ busy h. busy_back x bs rest busy h
+      ] refl goes
+
+  all_back : (xs bs : List Slots) → all_go_back bs xs ≡ true → P (cleaned (bs ++ xs)) (cleaned (xs ++ bs))
+  all_back [] bs goes = subst (λ ys. P (cleaned (bs ++ [])) (cleaned ys)) (append-nil bs) (step.same (cleaned (bs ++ [])))
+  all_back (x ∷ xs) bs goes =
+      let both = and_parts (goes_back bs x) (all_go_back bs xs) goes in
+      step.through (cleaned (bs ++ x ∷ xs)) (cleaned (x ∷ bs ++ xs)) (cleaned (x ∷ xs ++ bs)) (one_back x bs xs both.0) (behind_cleaned P step x (bs ++ xs) (xs ++ bs) (all_back xs bs both.1))
+
+  -- what is held and what stands before a branch, in the order in which they are packed
+  pub arranged_steps : (held front back : List Slots) → P (held ++ front) (packed (arranged held front back))
+  arranged_steps held front back =
+      elim (comes_first held front back) as (λ first. comes_first held front back ≡ first → P (held ++ front) (packed (if first then front ++ held else held ++ front))) [
+        | true ↦ λ first. step.through (held ++ front) (cleaned (held ++ front)) (packed (front ++ held)) (cleaned_steps (held ++ front))
+            (step.through (cleaned (held ++ front)) (cleaned (front ++ held)) (packed (front ++ held)) (all_back front held (and_parts (all_go_back held front) _ first).0)
+            (subst (P (cleaned (front ++ held))) (packed_cleaned (front ++ held)) (packed_steps (cleaned (front ++ held)))))
+        | false ↦ λ last. packed_steps (held ++ front)
+      ] refl

@@ -23,7 +23,7 @@ use Rattle.bundle_sched.specs.Placed.{is_awaited, spaced, parts_placed}
 use Rattle.bundle_sched.specs.Ordered.{without_nop, put, ordered_behind, ordered}
 use Rattle.bundle_sched.specs.Packed.{is_small, can_join, can_pair, mergeable, none_mergeable, first_apart, pair, is_nop, is_filled, holds_special, last_or, slot_used, is_used, can_follow, some_bundle, part_packed, parts_packed, lone}
 use Rattle.bundle_sched.specs.Legal.{has_legal_flow, parts_legal}
-use Rattle.bundle_sched.specs.Packing.{paired, in_pairs, packed, can_move, spares_guard, lets_pass, has_room, filled, but_last, goes_down, kept_by_one, way_by_one, kept_after, way_after, can_leave, freed, kept, way, before_branch, from_branch, iteration_packed, straights, left_over, parts_merged}
+use Rattle.bundle_sched.specs.Packing.{paired, in_pairs, packed, can_move, spares_guard, lets_pass, has_room, filled, but_last, goes_down, kept_by_one, way_by_one, kept_after, way_after, can_leave, freed, kept, way, before_branch, from_branch, arranged, iteration_packed, straights, left_over, parts_merged}
 use Rattle.bundle_sched.specs.declared.slots.TheConstants.{MOST_SLOTS}
 use Rattle.bundle_sched.proofs.EachStep.{cleaned, pairs_cleaned, put_steps}
 use Rattle.bundle_sched.proofs.Shaped.{parts_shaped}
@@ -455,9 +455,10 @@ then_packed p rest hp follows h = and_from (part_packed p) (can_follow p rest &&
 
 iteration_filled : (held tail : List Slots) → list_all is_filled (freed (from_branch tail)) ≡ true → list_all is_filled (spaced (iteration_packed held tail)) ≡ true
 iteration_filled held tail filled =
-    let p = packed (held ++ before_branch tail) in
     let back = from_branch tail in
-    let front = all_weaker is_good is_filled good_fills p (good_packed (held ++ before_branch tail)) in
+    let all = arranged held (before_branch tail) back in
+    let p = packed all in
+    let front = all_weaker is_good is_filled good_fills p (good_packed all) in
     filled_spaced (iteration_packed held tail)
     (all_append is_filled (kept p back) (way p back) (all_kept is_filled MOST_SLOTS p (freed back) front) (all_way is_filled MOST_SLOTS p (freed back) front filled))
 

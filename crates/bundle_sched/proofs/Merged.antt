@@ -15,11 +15,11 @@ use Rattle.sp_shape.specs.Words.{is_late, bundle_words, bundle_room, bundles_roo
 use Rattle.sp_shape.proofs.Lists.{all_append, room_append}
 use Rattle.bundle_sched.specs.Ordered.{without_nop}
 use Rattle.bundle_sched.specs.Packed.{can_join, pair, lone, last_or}
-use Rattle.bundle_sched.specs.Packing.{packed, filled, but_last, goes_down, kept_by_one, way_by_one, kept_after, way_after, freed, kept, way, before_branch, from_branch, iteration_packed, straights, left_over, parts_merged, function_merged}
+use Rattle.bundle_sched.specs.Packing.{packed, filled, but_last, goes_down, kept_by_one, way_by_one, kept_after, way_after, freed, kept, way, before_branch, from_branch, arranged, iteration_packed, straights, left_over, parts_merged, function_merged}
 use Rattle.bundle_sched.specs.declared.slots.TheConstants.{MOST_SLOTS}
 use Rattle.bundle_sched.proofs.Alike.{tail_split}
 use Rattle.bundle_sched.proofs.Freed.{without_nop_as, freed_as}
-use Rattle.bundle_sched.proofs.EachStep.{AtEachStep, packed_steps}
+use Rattle.bundle_sched.proofs.EachStep.{AtEachStep, packed_steps, arranged_steps}
 use Rattle.bundle_sched.proofs.Shaped.{left_all}
 use Rattle.bundle_sched.proofs.TwoInOne.{pairs}
 
@@ -48,6 +48,9 @@ module _ (holds : Slots → Bool) (alone : (b : Slots) → holds b ≡ true → 
 
   pub all_packed : (bs : List Slots) → list_all holds bs ≡ true → list_all holds (packed bs) ≡ true
   all_packed bs = packed_steps (λ xs ys. list_all holds xs ≡ true → list_all holds ys ≡ true) all_steps bs
+
+  pub all_arranged : (held front back : List Slots) → list_all holds held ≡ true → list_all holds front ≡ true → list_all holds (packed (arranged held front back)) ≡ true
+  all_arranged held front back hh hf = arranged_steps (λ xs ys. list_all holds xs ≡ true → list_all holds ys ≡ true) all_steps held front back (all_append holds held front hh hf)
 
 pub all_but_last : (holds : Slots → Bool) (b : Slots) (bs : List Slots) → list_all holds (b ∷ bs) ≡ true → (list_all holds (but_last b bs) ≡ true) × (holds (last_or b bs) ≡ true)
 all_but_last holds b [] h = (refl, (and_parts (holds b) true h).0)
@@ -104,10 +107,10 @@ module _ (holds : Slots → Bool) (alone : (b : Slots) → holds b ≡ true → 
     (closed : (a b : Slots) → is_idle b ≡ false → can_join a b ≡ true → holds a ≡ true → holds b ≡ true → holds (pair a b) ≡ true) where
   all_iteration : (before tail : List Slots) → list_all holds before ≡ true → list_all holds tail ≡ true → list_all holds (iteration_packed before tail) ≡ true
   all_iteration before tail hb h =
-      let p = packed (before ++ before_branch tail) in
       let back = from_branch tail in
+      let p = packed (arranged before (before_branch tail) back) in
       let own = all_split holds tail h in
-      let front = all_packed holds alone closed (before ++ before_branch tail) (all_append holds before (before_branch tail) hb own.0) in
+      let front = all_arranged holds alone closed before (before_branch tail) back hb own.0 in
       all_append holds (kept p back) (way p back) (all_kept holds MOST_SLOTS p (freed back) front) (all_way holds MOST_SLOTS p (freed back) front (all_freed holds alone second back own.1))
 
   pub all_merged : (held : List Slots) (ps : PlainParts) → list_all holds held ≡ true → parts_all holds ps ≡ true → parts_all holds (parts_merged held ps) ≡ true
@@ -178,6 +181,9 @@ room_steps = record {
 pub packed_room : (bs : List Slots) → bundles_room (packed bs) ≤ bundles_room bs
 packed_room bs = packed_steps (λ xs ys. bundles_room ys ≤ bundles_room xs) room_steps bs
 
+arranged_room : (held front back : List Slots) → bundles_room (packed (arranged held front back)) ≤ bundles_room (held ++ front)
+arranged_room held front back = arranged_steps (λ xs ys. bundles_room ys ≤ bundles_room xs) room_steps held front back
+
 room_split : (b : Slots) (bs : List Slots) → bundles_room (but_last b bs) + bundle_room (last_or b bs) ≡ bundle_room b + bundles_room bs
 room_split b [] = omega arith
 room_split b (c ∷ cs) = let others = room_split c cs in omega (arith, others)
@@ -233,8 +239,8 @@ iteration_room : (before tail : List Slots) → bundles_room (iteration_packed b
 iteration_room before tail =
     let front = before_branch tail in
     let back = from_branch tail in
-    let p = packed (before ++ front) in
-    omega (arith, room_append (kept p back) (way p back), slots_room p back, packed_room (before ++ front), room_append before front, room_append front back, ap bundles_room (tail_split tail))
+    let p = packed (arranged before front back) in
+    omega (arith, room_append (kept p back) (way p back), slots_room p back, arranged_room before front back, room_append before front, room_append front back, ap bundles_room (tail_split tail))
 
 merged_room : (held : List Slots) (ps : PlainParts) → parts_room (parts_merged held ps) + bundles_room (left_over held ps) ≤ bundles_room held + parts_room ps
 merged_room held no_part = omega arith

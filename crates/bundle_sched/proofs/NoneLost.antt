@@ -10,11 +10,11 @@ use Rattle.sp_shape.specs.Bundles.{is_idle, part_all, parts_all}
 use Rattle.sp_shape.specs.Parts.{straight, repeats, calls_to, leaves, PlainParts, no_part, part, joined}
 use Rattle.bundle_sched.specs.Ordered.{without_nop}
 use Rattle.bundle_sched.specs.Packed.{can_join, pair, lone, last_or}
-use Rattle.bundle_sched.specs.Packing.{packed, can_move, lets_pass, has_room, filled, but_last, goes_down, kept_by_one, way_by_one, kept_after, way_after, freed, kept, way, before_branch, from_branch, iteration_packed, straights, left_over, parts_merged, function_merged}
+use Rattle.bundle_sched.specs.Packing.{packed, can_move, lets_pass, has_room, filled, but_last, goes_down, kept_by_one, way_by_one, kept_after, way_after, freed, kept, way, before_branch, from_branch, arranged, iteration_packed, straights, left_over, parts_merged, function_merged}
 use Rattle.bundle_sched.specs.declared.slots.TheConstants.{MOST_SLOTS}
 use Rattle.bundle_sched.proofs.Alike.{tail_split}
 use Rattle.bundle_sched.proofs.Freed.{without_nop_as, nop_idle, freed_as}
-use Rattle.bundle_sched.proofs.EachStep.{AtEachStep, packed_steps}
+use Rattle.bundle_sched.proofs.EachStep.{AtEachStep, packed_steps, arranged_steps}
 
 -- it holds of what does nothing, of two bundles where it holds of the one that they become, and of a bundle where it holds
 -- of each of its instructions alone
@@ -42,6 +42,9 @@ module _ (holds : Slots → Bool) (dropped : (b : Slots) → is_idle b ≡ true 
 
   packed_had : (bs : List Slots) → list_all holds (packed bs) ≡ true → list_all holds bs ≡ true
   packed_had bs = packed_steps (λ xs ys. list_all holds ys ≡ true → list_all holds xs ≡ true) had_steps bs
+
+  arranged_had : (held front back : List Slots) → list_all holds (packed (arranged held front back)) ≡ true → list_all holds (held ++ front) ≡ true
+  arranged_had held front back = arranged_steps (λ xs ys. list_all holds ys ≡ true → list_all holds xs ≡ true) had_steps held front back
 
   front_had : (b : Slots) (bs : List Slots) → list_all holds (but_last b bs) ≡ true → holds (last_or b bs) ≡ true → list_all holds (b ∷ bs) ≡ true
   front_had b [] h last = and_from (holds b) true last refl
@@ -88,10 +91,10 @@ module _ (holds : Slots → Bool) (dropped : (b : Slots) → is_idle b ≡ true 
   iteration_had before tail h =
       let front = before_branch tail in
       let back = from_branch tail in
-      let p = packed (before ++ front) in
+      let p = packed (arranged before front back) in
       let both = and_parts (list_all holds (kept p back)) (list_all holds (way p back)) (sym (list_all-append holds (kept p back) (way p back)) ∙ h) in
       let had = slots_had p back both.0 both.1 in
-      let own = and_parts (list_all holds before) (list_all holds front) (sym (list_all-append holds before front) ∙ packed_had (before ++ front) had.0) in
+      let own = and_parts (list_all holds before) (list_all holds front) (sym (list_all-append holds before front) ∙ arranged_had before front back had.0) in
       (own.0, ap (list_all holds) (sym (tail_split tail)) ∙ list_all-append holds front back ∙ and_from (list_all holds front) (list_all holds back) own.1 had.1)
 
   straights_had : (bs : List Slots) (rest : PlainParts) → parts_all holds (straights bs rest) ≡ true → (list_all holds bs ≡ true) × (parts_all holds rest ≡ true)

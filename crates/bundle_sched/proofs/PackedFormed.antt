@@ -12,11 +12,11 @@ use Rattle.sp_shape.specs.Parts.{straight, repeats, calls_to, leaves, PlainPart,
 use Rattle.sp_shape.specs.Words.{is_late}
 use Rattle.sp_tree.specs.declared.limits.TheConstants.{MOST_FUNCTIONS}
 use Rattle.sp_shape.proofs.Functions.{function_then}
-use Rattle.sp_shape.proofs.Lists.{calm_append, all_append}
+use Rattle.sp_shape.proofs.Lists.{calm_append}
 use Rattle.bundle_sched.specs.Packed.{lone, last_or, holds_special}
-use Rattle.bundle_sched.specs.Packing.{packed, can_move, has_room, filled, but_last, goes_down, kept_by_one, way_by_one, kept_after, way_after, freed, kept, way, before_branch, from_branch, iteration_packed, straights, left_over, parts_merged, function_merged, merged}
+use Rattle.bundle_sched.specs.Packing.{packed, can_move, has_room, filled, but_last, goes_down, kept_by_one, way_by_one, kept_after, way_after, freed, kept, way, before_branch, from_branch, arranged, iteration_packed, straights, left_over, parts_merged, function_merged, merged}
 use Rattle.bundle_sched.specs.declared.slots.TheConstants.{MOST_SLOTS}
-use Rattle.bundle_sched.proofs.Merged.{all_packed, all_but_last, all_kept}
+use Rattle.bundle_sched.proofs.Merged.{all_packed, all_arranged, all_but_last, all_kept}
 use Rattle.bundle_sched.proofs.Alike.{merged_at}
 use Rattle.bundle_sched.proofs.Freed.{freed_holds}
 use Rattle.bundle_sched.proofs.Shaped.{parts_shaped, parts_are_shaped, left_calm, function_same}
@@ -43,6 +43,10 @@ each_calm (b ∷ bs) = ap (λ others. is_calm b && others) (each_calm bs)
 
 pub calm_packed : (bs : List Slots) → are_calm bs ≡ true → are_calm (packed bs) ≡ true
 calm_packed bs h = each_calm (packed bs) ∙ all_packed is_calm (λ b h. h) (λ a b busy can ha hb. ha) bs (sym (each_calm bs) ∙ h)
+
+calm_arranged : (held front back : List Slots) → are_calm held ≡ true → are_calm front ≡ true → are_calm (packed (arranged held front back)) ≡ true
+calm_arranged held front back hh hf =
+    each_calm (packed (arranged held front back)) ∙ all_arranged is_calm (λ b h. h) (λ a b busy can ha hb. ha) held front back (sym (each_calm held) ∙ hh) (sym (each_calm front) ∙ hf)
 
 calm_front : (b : Slots) (bs : List Slots) → are_calm (b ∷ bs) ≡ true → are_calm (but_last b bs) ≡ true
 calm_front b [] h = refl
@@ -197,11 +201,10 @@ calm_plain (b ∷ bs) h =
 
 prompt_iteration : (before tail : List Slots) → are_calm before ≡ true → iteration_idles tail ≡ true → iteration_prompt (iteration_packed before tail) ≡ true
 prompt_iteration before tail calm h =
-    let all = before ++ before_branch tail in
-    let p = packed all in
     let back = from_branch tail in
+    let p = packed (arranged before (before_branch tail) back) in
     plain_then (kept p back) (way p back)
-    (all_kept is_plain MOST_SLOTS p (freed back) (all_packed is_plain (λ b h. h) (λ a b busy can ha hb. ha) all (all_append is_plain before (before_branch tail) (calm_plain before calm) (before_plain tail))))
+    (all_kept is_plain MOST_SLOTS p (freed back) (all_arranged is_plain (λ b h. h) (λ a b busy can ha hb. ha) before (before_branch tail) back (calm_plain before calm) (before_plain tail)))
     (way_prompt_iteration p back (from_at tail) (from_idles tail h))
 
 calm_before : (tail : List Slots) → is_iteration tail ≡ true → are_calm (before_branch tail) ≡ true
@@ -244,10 +247,9 @@ way_iteration bs tail at h =
 
 iteration_formed : (before tail : List Slots) → are_calm before ≡ true → is_iteration tail ≡ true → is_iteration (iteration_packed before tail) ≡ true
 iteration_formed before tail calm h =
-    let all = before ++ before_branch tail in
-    let p = packed all in
     let back = from_branch tail in
-    calm_iteration (kept p back) (way p back) (calm_kept MOST_SLOTS p (freed back) (calm_packed all (calm_append before (before_branch tail) calm (calm_before tail h)))) (way_iteration p back (from_at tail) (from_iteration tail h))
+    let p = packed (arranged before (before_branch tail) back) in
+    calm_iteration (kept p back) (way p back) (calm_kept MOST_SLOTS p (freed back) (calm_arranged before (before_branch tail) back calm (calm_before tail h))) (way_iteration p back (from_at tail) (from_iteration tail h))
 
 -- ---- parts
 

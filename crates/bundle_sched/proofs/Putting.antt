@@ -1,11 +1,10 @@
 -- One more bundle is put where it can stand.
 use Rattle.std.proofs.Common.{◌≡◌, ℕ, zero, suc, ◌+◌, ◌-◌, ◌<◌, ◌≤◌, true, false, not, if◌then◌else◌, Option, Some, IfSome, List, [], ◌∷◌, ◌++◌, length, reverse, drop, get_or, refl, sym, ap, ◌∙◌, subst, arith}
-use Rattle.std.specs.Prelude.{◌&&◌, ◌||◌}
+use Rattle.std.specs.Prelude.{◌&&◌}
 use Rattle.std.proofs.lemmas.List.{drop_all, length-append, length-reverse, reverse-append}
 use Rattle.tc_word.proofs.Items.{drop_item}
 use Rattle.patmos_instr.specs.Bundles.{Slots}
-use Rattle.sp_shape.specs.Bundles.{is_idle}
-use Rattle.bundle_sched.specs.Ordered.{goes_by, is_too_early, has_place, row_with, place, without_nop, put_unless_idle, ordered_behind}
+use Rattle.bundle_sched.specs.Ordered.{can_pass, is_too_early, has_place, row_with, place, without_nop, put_unless_idle, ordered_behind}
 use Rattle.bundle_sched.specs.Placed.{waits_for}
 use Rattle.bundle_sched.specs.declared.ordering.TheConstants.{WINDOW}
 
@@ -29,19 +28,19 @@ module _ (bs front : List Slots) (b x : Slots) (k : ℕ) (found : Option (ℕ ×
   abbrev here : Option (ℕ × Slots)
   here = if not (is_too_early (reverse front) x) && has_place b x then Some (length front, row_with b x) else found
 
-  further : place (WINDOW - k) x (reverse bs) found ≡ (if is_idle b || goes_by b x then place (WINDOW - (k + 1)) x (reverse front) here else here)
+  further : place (WINDOW - k) x (reverse bs) found ≡ (if can_pass b x then place (WINDOW - (k + 1)) x (reverse front) here else here)
   further =
       let one : WINDOW - k ≡ suc (WINDOW - (k + 1)) = omega (arith, within) in
       let now = λ (n : ℕ). if not (is_too_early (reverse front) x) && has_place b x then Some (n, row_with b x) else found in
       ap (λ n. place n x (reverse bs) found) one ∙ ap (λ xs. place (suc (WINDOW - (k + 1))) x xs found) (nearest bs front b is)
-      ∙ ap (λ n. if is_idle b || goes_by b x then place (WINDOW - (k + 1)) x (reverse front) (now n) else now n) (length-reverse front)
+      ∙ ap (λ n. if can_pass b x then place (WINDOW - (k + 1)) x (reverse front) (now n) else now n) (length-reverse front)
 
   -- it ends there, or goes on
   module _ (next whole : Option (ℕ × Slots)) (is_here : next ≡ here) (before : place (WINDOW - k) x (reverse bs) found ≡ whole) where
-    pub place_found : (is_idle b || goes_by b x) ≡ false → next ≡ whole
+    pub place_found : can_pass b x ≡ false → next ≡ whole
     place_found stays = is_here ∙ ap (λ goes. if goes then place (WINDOW - (k + 1)) x (reverse front) here else here) (sym stays) ∙ sym further ∙ before
 
-    pub place_passed : (is_idle b || goes_by b x) ≡ true → place (WINDOW - (k + 1)) x (reverse front) next ≡ whole
+    pub place_passed : can_pass b x ≡ true → place (WINDOW - (k + 1)) x (reverse front) next ≡ whole
     place_passed goes =
         ap (place (WINDOW - (k + 1)) x (reverse front)) is_here ∙ ap (λ goes. if goes then place (WINDOW - (k + 1)) x (reverse front) here else here) (sym goes) ∙ sym further ∙ before
 

@@ -2,6 +2,7 @@
 -- The bundles that are ordered are rows, and each instruction, in its order, goes back over rows that have nothing in
 -- common with it to the first that has room for it.
 use Rattle.std.specs.Prelude.{ℕ, suc, Bool, true, false, not, ◌&&◌, ◌||◌, Option, None, Some, is_none, List, [], ◌∷◌, ◌++◌, length, reverse, slice_set, if◌then◌else◌}
+use Rattle.std.specs.List.{list_all}
 use Rattle.patmos_instr.specs.Bundles.{Slots}
 use Rattle.patmos_instr.specs.Instructions.{is_long, is_second_kind}
 use Rattle.patmos_instr.specs.declared.instructions.Instr.{Instr}
@@ -35,6 +36,18 @@ lets_by b x = are_free b.first x.first && elim b.second as (λ _. Bool) [ None �
 abbrev pub goes_by : Slots → Slots → Bool
 goes_by b x = is_none x.second && (lets_by b x && (is_plain_op x.first.op || all_plain b))
 
+-- or over one that does nothing
+abbrev pub can_pass : Slots → Slots → Bool
+can_pass b x = is_idle b || goes_by b x
+
+-- a bundle does nothing, or goes back over all of some others
+abbrev pub goes_back : List Slots → Slots → Bool
+goes_back bs x = is_idle x || list_all (λ b. can_pass b x) bs
+
+-- so does each of these
+abbrev pub all_go_back : List Slots → List Slots → Bool
+all_go_back bs xs = list_all (goes_back bs) xs
+
 -- ---- where it goes. Rows are told nearest first. Where a value is waited for, the row is empty: it does nothing
 
 -- the row directly before gives a late value that it reads
@@ -55,7 +68,7 @@ row_with b x = if is_idle b then x else (if can_join b x then pair b x else pair
 abbrev pub place : ℕ → Slots → List Slots → Option (ℕ × Slots) → Option (ℕ × Slots)
 place (suc n) x (b ∷ before) found =
     let here = if not (is_too_early before x) && has_place b x then Some (length before, row_with b x) else found in
-    if is_idle b || goes_by b x then place n x before here else here
+    if can_pass b x then place n x before here else here
 place _ x bs found = found
 
 -- ---- ordered code

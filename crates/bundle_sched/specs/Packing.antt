@@ -1,7 +1,7 @@
 -- To be believed. Code that is packed, before its values come in time: straight code is ordered, neighbours that can be
 -- one become one, left to right, and the last bundles before a flow go into its delay slots where they can (delay slot
 -- filling).
-use Rattle.std.specs.Prelude.{ℕ, zero, suc, Bool, false, not, ◌&&◌, ◌||◌, Option, Some, None, is_none, List, [], ◌∷◌, ◌++◌, map, if◌then◌else◌, true}
+use Rattle.std.specs.Prelude.{ℕ, zero, suc, Bool, false, not, ◌&&◌, ◌||◌, Option, Some, None, is_none, List, [], ◌∷◌, ◌++◌, length, map, nat_lt, if◌then◌else◌, true}
 use Rattle.patmos_instr.specs.Bundles.{Slots}
 use Rattle.patmos_instr.specs.Instructions.{is_second_kind}
 use Rattle.patmos_instr.specs.declared.guards.Guard.{Guard}
@@ -11,8 +11,9 @@ use Rattle.sp_shape.specs.Formed.{is_branch, is_flow, is_always}
 use Rattle.sp_shape.specs.Parts.{straight, repeats, calls_to, leaves, PlainParts, no_part, part, joined, PlainShape}
 use Rattle.sp_shape.specs.Words.{is_late}
 use Rattle.bundle_sched.specs.Operands.{spares}
-use Rattle.bundle_sched.specs.Ordered.{ordered}
+use Rattle.bundle_sched.specs.Ordered.{all_go_back, ordered}
 use Rattle.bundle_sched.specs.Packed.{can_pair, pair, lone, holds_special, last_or}
+use Rattle.bundle_sched.specs.Placed.{spaced}
 use Rattle.bundle_sched.specs.declared.slots.TheConstants.{MOST_SLOTS}
 
 -- ---- bundles
@@ -138,9 +139,25 @@ from_branch (b ∷ bs) = if is_branch b.first.op then b ∷ bs else from_branch 
 abbrev pub turned : List Slots → List Slots → List Slots
 turned front back = kept front back ++ way front back
 
+-- bundles, packed, and the branch after them: how many they are once their values come in time
+abbrev pub turned_length : List Slots → List Slots → ℕ
+turned_length bs back = length (spaced (turned (packed bs) back))
+
+-- what stands before the branch goes back over all straight code that is held, and fewer bundles are enough where it
+-- comes first
+abbrev pub comes_first : List Slots → List Slots → List Slots → Bool
+comes_first held front back =
+    all_go_back held front && nat_lt (turned_length (front ++ held) back) (turned_length (held ++ front) back)
+
+-- the two, in their order
+abbrev pub arranged : List Slots → List Slots → List Slots → List Slots
+arranged held front back = if comes_first held front back then front ++ held else held ++ front
+
 -- straight code that is held, and what stands before the branch, are packed as one piece
 abbrev pub iteration_packed : List Slots → List Slots → List Slots
-iteration_packed held tail = turned (packed (held ++ before_branch tail)) (from_branch tail)
+iteration_packed held tail =
+    let back = from_branch tail in
+    turned (packed (arranged held (before_branch tail) back)) back
 
 -- ---- parts
 

@@ -14,7 +14,8 @@
 //!   and the last bundles before a call, a return or a branch go into its delay slots, as many as there are, up to one
 //!   whose value comes late, that writes a special register, or that writes the predicate of the branch. What stands
 //!   beside a flow comes into its first delay slot too. The straight code at the end of a loop's body is one piece with
-//!   what stands before its branch.
+//!   what stands before its branch. That comes first where nothing in the code keeps it from going back over all of it,
+//!   and the iteration takes fewer bundles so; and else last.
 //! - Each value comes in time: a bundle that does nothing stands after each load and each product that the next bundle
 //!   reads, or that is the last of its piece.
 //!
@@ -49,6 +50,7 @@ mod pairs;
 mod parts;
 mod shapes;
 mod slots;
+mod tails;
 mod worked;
 
 pub use laws::no_bundle_is_lost;

@@ -1,8 +1,8 @@
 //! Straight code in an order in which more of it becomes one and less of it waits.
-ghost use Rattle.std.specs.Prelude.{◌≡◌, ◌<◌, not, ◌&&◌, ◌||◌, if◌then◌else◌, Some, None, true, false, IfOk, IfSome, IsNone, OnOk, length, reverse};
+ghost use Rattle.std.specs.Prelude.{◌≡◌, ◌<◌, not, ◌&&◌, if◌then◌else◌, Some, None, true, false, IfOk, IfSome, IsNone, OnOk, length, reverse};
+ghost use Rattle.std.specs.List.{list_all};
 ghost use Rattle.bundle_sched.specs.Ordered as specs;
 ghost use Rattle.bundle_sched.specs.Packing.{packed};
-ghost use Rattle.sp_shape.specs.Bundles.{is_idle};
 
 use crate::bundles::{idle, waits_for};
 use crate::operands::is_free;
@@ -109,9 +109,30 @@ fn earlier_row(
 
 // whether it may go by a row
 fn can_pass(row: &Bundle, one: &Bundle) -> bool
-    ensures { result ≡ (is_idle row.now || specs.goes_by row.now one.now) }
+    ensures { result ≡ specs.can_pass row.now one.now }
 {
     does_nothing(row) || goes_by(row, one)
+}
+
+// whether it may go by each of some rows
+fn passes_each(rows: &[Bundle], one: &Bundle) -> bool
+    ensures { result ≡ list_all (λ row. specs.can_pass row one.now) rows.now }
+{
+    rows.iter().all(|row| can_pass(row, one))
+}
+
+// whether it does nothing, or goes back over some bundles
+fn goes_back(bundles: &[Bundle], one: &Bundle) -> bool
+    ensures { result ≡ specs.goes_back bundles.now one.now }
+{
+    does_nothing(one) || passes_each(bundles, one)
+}
+
+/// Whether each of some bundles does nothing, or goes back over all of the others.
+pub fn all_go_back(others: &[Bundle], bundles: &[Bundle]) -> bool
+    ensures { result ≡ specs.all_go_back others.now bundles.now }
+{
+    bundles.iter().all(|bundle| goes_back(others, bundle))
 }
 
 // the number of the first row that has room for it, going back from the last one, and the row with it

@@ -7,7 +7,8 @@ ghost use Rattle.sp_shape.specs.Parts.{PlainParts, joined};
 ghost use Rattle.sp_shape.specs.Shown.{plain_part, parts_of};
 
 use crate::ordering::packed;
-use crate::slots::{iteration, way};
+use crate::slots::way;
+use crate::tails::iteration;
 use patmos_instr::Bundle;
 use sp_shape::Part;
 use std::alloc::Global;
@@ -63,7 +64,7 @@ fn push_before(
 
 // one part more: straight code is held, and goes out packed before each other part
 #[cycle(packed)]
-#[tactic(auto, using(crate::proofs::PackingParts::straight_held, crate::proofs::PackingParts::straight_left, crate::proofs::PackingParts::repeat_packed, crate::proofs::PackingParts::repeat_left, crate::proofs::PackingParts::call_packed, crate::proofs::PackingParts::call_left, crate::proofs::PackingParts::leave_packed, crate::proofs::PackingParts::leave_left, crate::proofs::PackingParts::straight_legal, crate::proofs::PackingParts::repeat_legal, crate::proofs::PackingParts::call_legal, crate::proofs::PackingParts::leave_legal))]
+#[tactic(auto, using(crate::proofs::PackingParts::straight_held, crate::proofs::PackingParts::straight_left, crate::proofs::PackingParts::repeat_packed, crate::proofs::PackingParts::repeat_left, crate::proofs::PackingParts::call_packed, crate::proofs::PackingParts::call_left, crate::proofs::PackingParts::leave_packed, crate::proofs::PackingParts::leave_left, crate::proofs::PackingParts::straight_legal, crate::proofs::PackingParts::call_legal, crate::proofs::PackingParts::leave_legal))]
 fn push_packed(out: &mut Vec<Part>, held: &mut Vec<Bundle>, part: &Part) -> Result<(), OutOfMemory>
     ensures out { OnOk result ((rest : PlainParts)
         → joined (parts_of out.new.items) (packing.parts_merged held.new.items rest)
@@ -80,7 +81,7 @@ fn push_packed(out: &mut Vec<Part>, held: &mut Vec<Bundle>, part: &Part) -> Resu
             let alloc = *out.allocator();
             let mut end = Vec::new(alloc);
             let body = parts_packed(alloc, body.as_slice(), &mut end)?;
-            let tail = iteration(alloc, end, tail.as_slice())?;
+            let tail = iteration(alloc, end.as_slice(), tail.as_slice())?;
             push_held(out, held)?;
             out.push(Part::Repeat {
                 count: *count,

@@ -1,13 +1,12 @@
 //! The delay slots of a call, a return or a branch.
-ghost use Rattle.std.specs.Prelude.{◌≡◌, ◌≤◌, true, ◌∷◌, IfOk, IfSome, IsNone, OnOk, length, take, drop};
+ghost use Rattle.std.specs.Prelude.{◌≡◌, true, ◌∷◌, IfOk, IfSome, IsNone, OnOk};
 ghost use Rattle.bundle_sched.specs.Legal as legal;
 ghost use Rattle.bundle_sched.specs.Packed as specs;
 ghost use Rattle.bundle_sched.specs.Packing as packing;
-ghost use Rattle.sp_shape.specs.Formed.{is_branch, is_flow};
+ghost use Rattle.sp_shape.specs.Formed.{is_flow};
 
 use crate::bundles::is_late;
 use crate::operands::lacks_pred;
-use crate::ordering::packed;
 use crate::pairs::{does_nothing, is_always};
 use patmos_instr::{Bundle, Guard, Instr, Op, Pred};
 use std::alloc::Global;
@@ -189,46 +188,4 @@ pub fn way(
         move_last(bundles, &mut slots)?;
     }
     Ok(List::of(slots))
-}
-
-// whether it is a branch
-fn is_branch(op: &Op) -> bool
-    ensures { result ≡ is_branch op.now }
-{
-    matches!(op, Op::Branch { .. })
-}
-
-// how many bundles stand before the branch
-#[tactic(auto, using(crate::proofs::LastBundle::before_next, crate::proofs::LastBundle::from_next, crate::proofs::LastBundle::before_here, crate::proofs::LastBundle::from_here, crate::proofs::LastBundle::before_all, crate::proofs::LastBundle::from_all))]
-fn branch_at(tail: &[Bundle]) -> usize
-    ensures within { result ≤ length tail.now }
-    ensures before { take result tail.now ≡ packing.before_branch tail.now }
-    ensures from { drop result tail.now ≡ packing.from_branch tail.now }
-{
-    let mut at = 0;
-    for bundle in tail {
-        if is_branch(&bundle.first().op) {
-            return at;
-        }
-        at += 1;
-    }
-    at
-}
-
-/// The tail of a loop's iteration: straight code that is held, and what stands before the branch, packed as one piece, and
-/// the last of it in the branch's delay slots where it goes there.
-pub fn iteration(
-    alloc: Global,
-    mut held: Vec<Bundle>,
-    tail: &[Bundle],
-) -> Result<List<Bundle>, OutOfMemory>
-    ensures iteration { IfOk result (λ list. list ≡ packing.iteration_packed held.items tail.now) }
-    ensures legal { IfOk result (λ list. legal.has_legal_flow (packing.from_branch tail.now) ≡ true) }
-{
-    let (front, back) = tail.split_at(branch_at(tail));
-    held.extend_from_slice(front)?;
-    let mut bundles = packed(alloc, held.as_slice())?.into_vec();
-    let slots = way(alloc, &mut bundles, back)?;
-    bundles.extend_from_slice(slots.as_slice())?;
-    Ok(List::of(bundles))
 }

@@ -66,11 +66,16 @@ pub fn worked_ordering()
 {}
 
 /// The straight code at the end of a loop's body is one piece with what stands before its branch, and the last of it
-/// goes into the branch's delay slots, but not where it sets the predicate that the branch asks for.
+/// goes into the branch's delay slots, but not where it sets the predicate that the branch asks for. So what stands before
+/// the branch comes first where the tail is shorter so, but not where it reads what the code writes.
 pub fn worked_loops()
     ensures slot { iteration_packed [] (test ∷ small.load ∷ add_to 2 ∷ small.again)
         ≡ test ∷ small.load ∷ small.under small.p1 small.branch ∷ add_to 2 ∷ small.idle ∷ [] }
     ensures guard { iteration_packed [] (add_to 2 ∷ test ∷ small.again) ≡ pair (add_to 2) test ∷ small.again }
+    ensures first { iteration_packed (set 2 ∷ set 3 ∷ set 4 ∷ set 5 ∷ []) (test ∷ small.again)
+        ≡ pair test (set 2) ∷ small.under small.p1 small.branch ∷ pair (set 3) (set 4) ∷ set 5 ∷ [] }
+    ensures reads { iteration_packed (set 2 ∷ set 3 ∷ set 4 ∷ small.add 1 ∷ []) (test ∷ small.again)
+        ≡ pair (set 2) (set 3) ∷ pair (set 4) (small.add 1) ∷ test ∷ small.again }
     ensures function { scheduled (small.shape_of (turning ∷ []) 0) ≡ small.shape_of (packed_turning ∷ []) 0 }
 {}
 

@@ -15,15 +15,15 @@ use Rattle.c_meaning.specs.Resolved as resolved
 use Rattle.c_meaning.specs.Values as values
 use Rattle.single_path.specs.declared.counted.Start.{Start}
 use Rattle.single_path.specs.declared.part_words.PartWords.{PartWords}
-use Rattle.single_path.specs.PartWords.{in_arm, in_loop}
+use Rattle.single_path.specs.PartWords.{in_arm, in_loop, in_counted}
 use Rattle.single_path.specs.Counted.{start_of}
-use Rattle.single_path.specs.Made.{is_counted, made_counted, made_loop, made_iteration, made, made_action, made_branches, made_assignment, made_arm, made_otherwise, made_after, any_exit, by_continue, by_return, actions_exit, branches_exit, is_no_branch, is_no_action, ends}
+use Rattle.single_path.specs.Made.{is_counted, counted_part, made_counted, made_loop, made_iteration, made, made_action, made_branches, made_assignment, made_arm, made_otherwise, made_after, any_exit, by_continue, by_return, actions_exit, branches_exit, is_no_branch, is_no_action, ends}
 use Rattle.single_path.specs.Widths.{action_words, words, branches_words}
 use Rattle.single_path.proofs.Fits.{FitsAction, Fits, FitsBranches}
 use Rattle.single_path.proofs.Keeping.{actions_fit}
 use Rattle.single_path.proofs.Exiting.{on_only, no_continue, action_avoids, actions_avoid}
 use Rattle.single_path.proofs.Frames.{Order, Still}
-use Rattle.single_path.proofs.Idle.{Quiet, Dead, order_arm, order_loop, dead, dead_branches}
+use Rattle.single_path.proofs.Idle.{Quiet, Dead, order_arm, order_loop, order_counted, dead, dead_branches}
 use Rattle.single_path.proofs.Agreeing.{Agrees, assignment_set, worth_same}
 use Rattle.single_path.proofs.Ways.{Acted, Live, Went, went_here, low_acted, set_acted, went_live, went_on, went_still}
 use Rattle.single_path.proofs.Calling.{Serving, given_set, level_set, nothing_set, sent}
@@ -118,20 +118,27 @@ mutual
   live_action Fit gc g serving n (iterations most condition body step) inside known p s l o nest within fits begins live h =
       by (is_counted known most condition body step) refl
       (λ none t m live' h'. live_all Fit gc g serving n body inside None p t m o nest (omega (arith, within)) (actions_fit Fit inside body none fits) tt live' h')
+      (λ t m live' h'. live_all Fit gc g serving n body true None (in_counted p) t m (order_counted n p o) (nest_loop n p o) (omega (arith, within)) fits tt live' h')
       (λ t m live' h'. live_all Fit gc g serving n body true None (in_loop p) t m (order_loop n p o) (nest_loop n p o) (omega (arith, within)) fits tt live' h')
     where
       iteration : PlainStmts
       iteration = made_iteration p condition (actions_exit by_continue body) (made None (in_loop p) body) step
 
+      inside_counted : PlainStmts
+      inside_counted = made None (counted_part p (actions_exit by_continue body)) body
+
       by : (counted : Bool) → is_counted known most condition body step ≡ counted
           → (actions_exit any_exit body ≡ false → (t : State) (m : values.State) → Live p t → Agrees n t m
           → Went n p t (resolved.actions_done gc body m) (stmts_done g (made None p body) t))
+          → ((t : State) (m : values.State) → Live (in_counted p) t → Agrees n t m
+          → Went n (in_counted p) t (resolved.actions_done gc body m) (stmts_done g (made None (in_counted p) body) t))
           → ((t : State) (m : values.State) → Live (in_loop p) t → Agrees n t m
           → Went n (in_loop p) t (resolved.actions_done gc body m) (stmts_done g (made None (in_loop p) body) t))
           → Acted (iterations most condition body step) n p s (resolved.action_done gc (iterations most condition body step) l)
-          (stmts_done g (if counted then made_counted p most (made None p body) step else made_loop p most condition (actions_exit by_return body) iteration) s)
-      by true is inner behind = counted_acted gc g n p known most condition body step s l is begins o (omega (arith, within)) inner live h
-      by false is inner behind =
+          (stmts_done g (if counted then made_counted p most (actions_exit by_continue body) inside_counted step
+          else made_loop p most condition (actions_exit by_return body) iteration) s)
+      by true is inner resumed behind = counted_acted gc g n p known most condition body step s l is begins o (omega (arith, within)) inner resumed live h
+      by false is inner resumed behind =
           loop_acted (iterations most condition body step) g n p most condition (actions_exit by_return body) (actions_exit by_continue body) (made None (in_loop p) body) step
           (resolved.actions_done gc body) s l refl
           (λ none. on_only (resolved.action_done gc (iterations most condition body step) l).way (action_avoids gc any_exit (iterations most condition body step) l none))

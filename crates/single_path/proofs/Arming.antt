@@ -35,17 +35,20 @@ arm_went n p s t d u o live below h = record {
 }
 
 -- after an arm that was taken the mask of what stands after `else` is 0
-not_taken : (w : Way) (own free : ℕ) → (w ≡ way.On → own ≡ 1) → (w ≡ way.On → free ≡ 1) → bit_and (bit_and (loop_of w) 1) (bit_xor own free) ≡ 0
-not_taken way.On own free own_on free_on = ap₂ (λ a f. bit_and 1 (bit_xor a f)) (own_on refl) (free_on refl)
-not_taken way.Broken own free own_on free_on = refl
-not_taken way.Continued own free own_on free_on = refl
-not_taken (way.Returned v) own free own_on free_on = refl
+not_taken : (counted : Bool) (w : Way) (own free : ℕ) → (w ≡ way.On → own ≡ 1) → (w ≡ way.On → free ≡ 1)
+    → bit_and (bit_and (loop_of counted w) 1) (bit_xor own free) ≡ 0
+not_taken counted way.On own free own_on free_on = ap₂ (λ a f. bit_and 1 (bit_xor a f)) (own_on refl) (free_on refl)
+not_taken counted way.Broken own free own_on free_on = refl
+not_taken true way.Continued own free own_on free_on = refl
+not_taken false way.Continued own free own_on free_on = refl
+not_taken counted (way.Returned v) own free own_on free_on = refl
 
-idle_armed : (w : Way) → Idle 0 (loop_of w) (function_of w)
-idle_armed way.On = armed
-idle_armed way.Broken = left
-idle_armed way.Continued = waits
-idle_armed (way.Returned v) = gone
+idle_armed : (counted : Bool) (w : Way) → Idle 0 (loop_of counted w) (function_of w)
+idle_armed counted way.On = armed
+idle_armed counted way.Broken = left
+idle_armed true way.Continued = left
+idle_armed false way.Continued = waits
+idle_armed counted (way.Returned v) = gone
 
 -- where the arm did not go elsewhere, both masks are 1
 other_word : (p : PartWords) (u : State) (own free : ℕ) → u.frame p.own ≡ own → u.frame p.free ≡ free → bit_and own 1 ≡ own
@@ -72,9 +75,9 @@ otherwise_idle g n p exits false rest s d u o on each h free_on = by exits on
         let begun = set_behind p.free p.free w u (omega arith) in
         let idle_there : Dead (in_arm p) v = record {
           own_word = 0;
-          loop_word = loop_of d.way;
+          loop_word = loop_of p.counted d.way;
           function_word = function_of d.way;
-          idle = idle_armed d.way;
+          idle = idle_armed p.counted d.way;
           own = put_here p.free w u.frame ∙ value exits on;
           loop = begun.frame p.iteration (omega (arith, o.own, o.free)) ∙ h.loop;
           function = begun.frame p.function (omega (arith, o.loop, o.own, o.free)) ∙ h.function;
@@ -86,7 +89,7 @@ otherwise_idle g n p exits false rest s d u o on each h free_on = by exits on
         value : (exits : Bool) → (exits ≡ false → d.way ≡ way.On) → worth (if exits then where_not_taken p else where_other p) u ≡ 0
         value true on =
             ap (λ b. bit_and (bit_and b 1) (bit_xor (u.frame p.own) (u.frame p.free))) h.loop
-            ∙ not_taken d.way (u.frame p.own) (u.frame p.free) (went_own n p s d u h) free_on
+            ∙ not_taken p.counted d.way (u.frame p.own) (u.frame p.free) (went_own n p s d u h) free_on
         value false on = other_word p u 1 1 (went_own n p s d u h (on refl)) (free_on (on refl)) refl
 
 -- the mask of an arm

@@ -16,7 +16,7 @@ use Rattle.sp_tree.specs.Statements.{PlainStmts, no_stmt, masks, one, joined}
 use Rattle.single_path.specs.declared.counted.Start.{Start}
 use Rattle.single_path.specs.declared.part_words.PartWords.{PartWords}
 use Rattle.single_path.specs.Counted.{start_of}
-use Rattle.single_path.specs.Made.{is_counted, made_counted, made_loop, made_iteration, by_return, by_continue, made, made_action, made_branches, made_otherwise, any_exit, actions_exit, is_no_branch, is_no_action, ends}
+use Rattle.single_path.specs.Made.{is_counted, counted_part, made_counted, made_loop, made_iteration, by_return, by_continue, made, made_action, made_branches, made_otherwise, any_exit, actions_exit, is_no_branch, is_no_action, ends}
 use Rattle.single_path.specs.Widths as width
 use Rattle.single_path.specs.PartWords.{in_arm, in_loop, where_so, where_not_taken, where_other}
 use Rattle.c_meaning.specs.Sizes.{actions_size, branches_size}
@@ -38,9 +38,10 @@ loop_is a most condition body body' step is same =
 -- a loop, as it is made
 pub counted_made : (known : Option Start) (p : PartWords) (most : ℕ) (condition : PlainSp) (body : PlainActions) (step : Option PlainAssignment)
     → is_counted known most condition body step ≡ true
-    → made_counted p most (made None p body) step ≡ made_action known p (iterations most condition body step)
+    → made_counted p most (actions_exit by_continue body) (made None (counted_part p (actions_exit by_continue body)) body) step
+    ≡ made_action known p (iterations most condition body step)
 counted_made known p most condition body step is =
-    ap (λ b. if b then made_counted p most (made None p body) step
+    ap (λ b. if b then made_counted p most (actions_exit by_continue body) (made None (counted_part p (actions_exit by_continue body)) body) step
     else made_loop p most condition (actions_exit by_return body) (made_iteration p condition (actions_exit by_continue body) (made None (in_loop p) body) step))
     (sym is)
 
@@ -49,16 +50,16 @@ pub repeated_made : (known : Option Start) (p : PartWords) (most : ℕ) (conditi
     → made_loop p most condition (actions_exit by_return body) (made_iteration p condition (actions_exit by_continue body) (made None (in_loop p) body) step)
     ≡ made_action known p (iterations most condition body step)
 repeated_made known p most condition body step is =
-    ap (λ b. if b then made_counted p most (made None p body) step
+    ap (λ b. if b then made_counted p most (actions_exit by_continue body) (made None (counted_part p (actions_exit by_continue body)) body) step
     else made_loop p most condition (actions_exit by_return body) (made_iteration p condition (actions_exit by_continue body) (made None (in_loop p) body) step))
     (sym is)
 
 -- one that counts has at least one iteration
-pub counted_masks : (known : Option Start) (most : ℕ) (condition : PlainSp) (body : PlainActions) (step : Option PlainAssignment) (n : ℕ)
-    → is_counted known most condition body step ≡ true → n ≤ width.loop_masks most n
-counted_masks None most condition body step n is = absurd (true≢false (sym is))
-counted_masks (Some s) zero condition body step n is = absurd (true≢false (sym is))
-counted_masks (Some s) (suc k) condition body step n is = omega arith
+pub counted_masks : (known : Option Start) (most : ℕ) (condition : PlainSp) (body : PlainActions) (step : Option PlainAssignment) (n : ℕ) (counted : Bool)
+    → counted ≡ is_counted known most condition body step → counted ≡ true → width.loop_masks most n ≡ 1 + n
+counted_masks None most condition body step n counted is so = absurd (true≢false (sym so ∙ is))
+counted_masks (Some s) zero condition body step n counted is so = absurd (true≢false (sym so ∙ is))
+counted_masks (Some s) (suc k) condition body step n counted is so = refl
 
 -- ---- one action more
 

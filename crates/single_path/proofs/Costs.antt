@@ -26,9 +26,9 @@ use Rattle.c_meaning.specs.Scope as scope
 use Rattle.c_meaning.specs.Values.{Names, named, expr_unsigned}
 use Rattle.single_path.specs.declared.counted.Start.{Start}
 use Rattle.single_path.specs.declared.part_words.PartWords.{PartWords}
-use Rattle.single_path.specs.PartWords.{in_arm, in_loop, outermost, both, without, bit_of, is_truth, where_so, where_not_taken, where_other, where_on, where_not_returned, not_zero, returned_function, returned_loop}
+use Rattle.single_path.specs.PartWords.{in_arm, in_loop, outermost, both, without, bit_of, is_truth, where_so, where_not_taken, where_other, where_on, where_not_returned, not_zero, broken, returned_function, returned_loop}
 use Rattle.single_path.specs.Counted.{start_of}
-use Rattle.single_path.specs.Made.{is_zero, made_target, made_step, made_result, made_return, ends, is_no_action, is_no_branch, made_arm, made_otherwise, made_on, made_after, made_behind, made_again, any_exit, by_continue, by_return, actions_exit, branches_exit, made_iteration, made_loop, is_counted, made_counted, made_action, made, made_branches}
+use Rattle.single_path.specs.Made.{is_zero, made_target, made_step, made_result, made_return, ends, is_no_action, is_no_branch, made_arm, made_otherwise, made_on, made_after, made_behind, made_again, any_exit, by_continue, by_return, actions_exit, branches_exit, made_iteration, made_loop, is_counted, counted_part, made_begun, made_counted, made_action, made, made_branches}
 use Rattle.single_path.specs.Single.{variables, made_function}
 
 -- ---- expressions and arguments
@@ -256,9 +256,20 @@ loop_cost : (p : PartWords) (most : ℕ) (condition : PlainSp) (exits : Bool) (i
 loop_cost p zero condition exits iteration = omega arith
 loop_cost p (suc n) condition exits iteration = omega (arith, behind_cost p exits)
 
-counted_cost : (p : PartWords) (most : ℕ) (body : PlainStmts) (step : Option PlainAssignment)
-    → stmts_cost (made_counted p most body step) ≤ 47 + stmts_cost body + step_cost step
-counted_cost p most body step = omega (arith, joined_cost body (made_step p.own step), made_step_cost p.own step)
+begun_cost : (p : PartWords) (resumes : Bool) → stmts_cost (made_begun p resumes) ≤ 4
+begun_cost p true = omega arith
+begun_cost p false = omega arith
+
+counted_cost : (p : PartWords) (most : ℕ) (resumes : Bool) (body : PlainStmts) (step : Option PlainAssignment)
+    → stmts_cost (made_counted p most resumes body step) ≤ 47 + stmts_cost body + step_cost step
+counted_cost p most resumes body step =
+    omega (
+      arith,
+      joined_cost (made_begun p resumes) (joined body (made_step p.own step)),
+      joined_cost body (made_step p.own step),
+      begun_cost p resumes,
+      made_step_cost p.own step,
+    )
 
 -- either way
 iterations_cost : (known : Option Start) (p : PartWords) (most : ℕ) (condition : PlainSp) (body : PlainActions) (step : Option PlainAssignment) (inside : ℕ)
@@ -269,10 +280,16 @@ iterations_cost known p most condition body step inside each = by (is_counted kn
     iteration : PlainStmts
     iteration = made_iteration p condition (actions_exit by_continue body) (made None (in_loop p) body) step
 
+    resumes : Bool
+    resumes = actions_exit by_continue body
+
+    inner : PartWords
+    inner = counted_part p resumes
+
     by : (counted : Bool)
-        → stmts_cost (if counted then made_counted p most (made None p body) step else made_loop p most condition (actions_exit by_return body) iteration)
+        → stmts_cost (if counted then made_counted p most resumes (made None inner body) step else made_loop p most condition (actions_exit by_return body) iteration)
         ≤ 47 + 2 * expr_cost condition + inside + step_cost step
-    by true = omega (arith, each p, counted_cost p most (made None p body) step)
+    by true = omega (arith, each inner, counted_cost p most resumes (made None inner body) step)
     by false = omega (
       arith,
       each (in_loop p),
@@ -301,6 +318,12 @@ head_cost names (plain.iterations_for first from condition to_set to) known p =
       sets_cost known p (variable_target (named names first)) (resolved names None from),
       assignment_cost names to_set to,
     )
+
+-- the mask after `continue`
+continued_cost : (p : PartWords) (counted : Bool)
+    → stmts_cost (tree.one (masks p.iteration (if counted then broken p else between_two binary.Plus (frame_word p.iteration) (bit_of p.own)))) ≤ 16
+continued_cost p true = omega arith
+continued_cost p false = omega arith
 
 -- ---- statements
 
@@ -375,7 +398,7 @@ mutual
             (λ after. omega (arith, one_cost after p loop, iterations_cost after p (most_iterations bound) condition inside step (block_weight body) (λ q. block_within fs names body None q))),
       )
   stmt_within fs names plain.broken known p = omega arith
-  stmt_within fs names plain.continued known p = omega arith
+  stmt_within fs names plain.continued known p = continued_cost p p.counted
   stmt_within fs names (plain.returned None) known p = omega (arith, one_cost known p (returns (constant 0)), return_cost p (constant 0))
   stmt_within fs names (plain.returned (Some e)) known p =
       let given = resolved names None e in

@@ -13,9 +13,9 @@ use Rattle.sp_tree.proofs.Joins.{joined_uses}
 use Rattle.c_meaning.specs.Actions.{PlainTarget, to_level, to_cell, to_array, PlainAssignment, PlainAction, sets, calls, transfers, chooses, iterations, breaks, continues, returns, PlainActions, no_action, action, PlainBranches, no_branch, branch}
 use Rattle.single_path.specs.declared.counted.Start.{Start}
 use Rattle.single_path.specs.declared.part_words.PartWords.{PartWords}
-use Rattle.single_path.specs.PartWords.{in_arm, in_loop, outermost, both, without, bit_of, not_zero, is_truth, where_so, where_not_taken, where_other, where_on, where_not_returned, returned_function, returned_loop}
+use Rattle.single_path.specs.PartWords.{in_arm, in_loop, outermost, both, without, bit_of, not_zero, is_truth, where_so, where_not_taken, where_other, where_on, where_not_returned, broken, returned_function, returned_loop}
 use Rattle.single_path.specs.Counted.{start_of}
-use Rattle.single_path.specs.Made.{is_zero, made_target, made_assignment, made_step, made_call, made_result, made_return, ends, is_no_action, is_no_branch, made_arm, made_otherwise, made_on, made_after, made_behind, made_again, any_exit, by_continue, by_return, actions_exit, branches_exit, made_iteration, made_loop, is_counted, made_counted, made_action, made, made_branches}
+use Rattle.single_path.specs.Made.{is_zero, made_target, made_assignment, made_step, made_call, made_result, made_return, ends, is_no_action, is_no_branch, made_arm, made_otherwise, made_on, made_after, made_behind, made_again, any_exit, by_continue, by_return, actions_exit, branches_exit, made_iteration, made_loop, is_counted, counted_part, made_begun, made_counted, made_action, made, made_branches}
 use Rattle.single_path.specs.Single.{variables, begun_mask, made_functions}
 
 -- ---- actions whose uses all have a property
@@ -207,10 +207,21 @@ either_does : (P : Use → Type 0) (b : Bool) (xs ys : PlainStmts) → StmtsDo P
 either_does P true xs ys first second = first
 either_does P false xs ys first second = second
 
-counted_does : (P : Use → Type 0) (p : PartWords) (most : ℕ) (body : PlainStmts) (step : Option PlainAssignment) → StmtsDo P body → StepDoes P step
-    → StmtsDo P (made_counted p most body step)
-counted_does P p most body step inside stepped =
-    only P (tree.iterations most (joined body (made_step p.own step))) (joined_do P body (made_step p.own step) inside (step_do P p.own step stepped))
+begun_does : (P : Use → Type 0) (p : PartWords) (resumes : Bool) → StmtsDo P (made_begun p resumes)
+begun_does P p true = tt
+begun_does P p false = tt
+
+counted_does : (P : Use → Type 0) (p : PartWords) (most : ℕ) (resumes : Bool) (body : PlainStmts) (step : Option PlainAssignment) → StmtsDo P body
+    → StepDoes P step → StmtsDo P (made_counted p most resumes body step)
+counted_does P p most resumes body step inside stepped =
+    let iteration = joined body (made_step p.own step) in
+    only P (tree.iterations most (joined (made_begun p resumes) iteration))
+    (joined_do P (made_begun p resumes) iteration (begun_does P p resumes) (joined_do P body (made_step p.own step) inside (step_do P p.own step stepped)))
+
+continued_does : (P : Use → Type 0) (p : PartWords) (counted : Bool)
+    → StmtsDo P (tree.one (masks p.iteration (if counted then broken p else between_two binary.Plus (frame_word p.iteration) (bit_of p.own))))
+continued_does P p true = tt
+continued_does P p false = tt
 
 -- ---- all actions
 
@@ -230,13 +241,15 @@ mutual
       (branches_do P p branches (is_no_action otherwise) (λ q. made None q otherwise) does.0 (λ q. made_does P None q otherwise does.1))
       (after_does P p (branches_exit any_exit branches || actions_exit any_exit otherwise))
   action_does P known p (iterations most condition body step) does =
-      either_does P (is_counted known most condition body step) (made_counted p most (made None p body) step)
+      let resumes = actions_exit by_continue body in
+      let inner = counted_part p resumes in
+      either_does P (is_counted known most condition body step) (made_counted p most resumes (made None inner body) step)
       (made_loop p most condition (actions_exit by_return body) (made_iteration p condition (actions_exit by_continue body) (made None (in_loop p) body) step))
-      (counted_does P p most (made None p body) step (made_does P None p body does.1) does.2)
+      (counted_does P p most resumes (made None inner body) step (made_does P None inner body does.1) does.2)
       (loop_does P p most condition (actions_exit by_return body) (made_iteration p condition (actions_exit by_continue body) (made None (in_loop p) body) step) does.0
       (iteration_does P p condition (actions_exit by_continue body) (made None (in_loop p) body) step does.0 (made_does P None (in_loop p) body does.1) does.2))
   action_does P known p breaks does = tt
-  action_does P known p continues does = tt
+  action_does P known p continues does = continued_does P p p.counted
   action_does P known p (returns e) does = return_does P p e does
 
   made_does : (P : Use → Type 0) (known : Option Start) (p : PartWords) (actions : PlainActions) → Do P actions → StmtsDo P (made known p actions)

@@ -1,5 +1,6 @@
 -- Actions in which a way on does not stand do not take it.
-use Rattle.std.proofs.Common.{◌≡◌, ◌≢◌, ℕ, zero, suc, Bool, true, false, if◌then◌else◌, ◌||◌, refl, sym, true≢false}
+use Rattle.std.proofs.Common.{◌≡◌, ◌≢◌, ℕ, zero, suc, Bool, true, false, if◌then◌else◌, ◌||◌, refl, ap₂, sym, true≢false}
+use Rattle.std.proofs.lemmas.Bool.{or_parts}
 use Rattle.c_meaning.specs.Actions.{PlainAction, sets, calls, transfers, chooses, iterations, breaks, continues, returns, PlainActions, no_action, action, PlainBranches, no_branch, branch}
 use Rattle.c_meaning.specs.declared.ways.Way.{Way}
 use Rattle.c_meaning.specs.declared.ways.Way.TheVariants as way
@@ -7,7 +8,7 @@ use Rattle.c_meaning.specs.Meaning.{Done, goes_on, then_done, iteration_done, it
 use Rattle.c_meaning.specs.Resolved as resolved
 use Rattle.c_meaning.specs.Values as values
 use Rattle.single_path.specs.declared.exits.Exits.{Exits}
-use Rattle.single_path.specs.Made.{ends, any_exit, by_continue, out_of_loop, action_exits, actions_exit, branches_exit}
+use Rattle.single_path.specs.Made.{ends, any_exit, by_leaving, by_continue, out_of_loop, action_exits, actions_exit, branches_exit}
 
 -- it is none of these
 abbrev pub Avoids : Exits → Way → Type 0
@@ -27,10 +28,6 @@ no_continue way.On h e = absurd (cc)
 no_continue way.Broken h e = absurd (cc)
 no_continue way.Continued h e = true≢false h
 no_continue (way.Returned v) h e = absurd (cc)
-
-neither : (a b : Bool) → (a || b) ≡ false → (a ≡ false) × (b ≡ false)
-neither true b is = absurd (true≢false is)
-neither false b is = (refl, is)
 
 -- after what always goes elsewhere nothing is done
 ends_away : (gc : resolved.Serves) (a : PlainAction) (l : values.State) → ends a ≡ true → (resolved.action_done gc a l).way ≢ way.On
@@ -73,7 +70,7 @@ mutual
   action_avoids gc q (calls k args result) l is = tt
   action_avoids gc q (transfers core source target count) l is = tt
   action_avoids gc q (chooses branches otherwise) l is =
-      let both = neither (branches_exit q branches) (actions_exit q otherwise) is in
+      let both = or_parts (branches_exit q branches) (actions_exit q otherwise) is in
       branches_avoid gc q branches (resolved.actions_done gc otherwise) (λ m. actions_avoid gc q otherwise m both.1) l both.0
   action_avoids gc q (iterations most condition body step) l is =
       iterations_avoid q (resolved.holds condition) (resolved.actions_done gc body) (resolved.step_done step) (λ m. actions_avoid gc (out_of_loop q) body m is) most l
@@ -84,7 +81,7 @@ mutual
   pub actions_avoid : (gc : resolved.Serves) (q : Exits) (all : PlainActions) (l : values.State) → actions_exit q all ≡ false → Avoids q (resolved.actions_done gc all l).way
   actions_avoid gc q no_action l is = tt
   actions_avoid gc q (action a rest) l is =
-      let both = neither (action_exits q a) (if ends a then false else actions_exit q rest) is in
+      let both = or_parts (action_exits q a) (if ends a then false else actions_exit q rest) is in
       let d = resolved.action_done gc a l in
       then_avoids q (resolved.actions_done gc rest) d.way d.state (action_avoids gc q a l both.0)
       (further (ends a) refl both.1 (λ none. actions_avoid gc q rest d.state none))
@@ -99,10 +96,46 @@ mutual
       → (l : values.State) → branches_exit q bs ≡ false → Avoids q (resolved.branches_done gc bs meant l).way
   branches_avoid gc q no_branch meant each l is = each l
   branches_avoid gc q (branch condition body rest) meant each l is =
-      let both = neither (actions_exit q body) (branches_exit q rest) is in
+      let both = or_parts (actions_exit q body) (branches_exit q rest) is in
       by (resolved.holds condition l) (actions_avoid gc q body l both.0) (branches_avoid gc q rest meant each l both.1)
     where
       by : (b : Bool) → Avoids q (resolved.actions_done gc body l).way → Avoids q (resolved.branches_done gc rest meant l).way
           → Avoids q (elim b as (λ _. Done) [ true ↦ resolved.actions_done gc body l | false ↦ resolved.branches_done gc rest meant l ]).way
       by true one others = one
       by false one others = others
+
+-- ---- what neither leaves its loop nor ends its iteration always goes on
+
+mutual
+  action_stays : (a : PlainAction) → action_exits by_leaving a ≡ false → action_exits by_continue a ≡ false → action_exits any_exit a ≡ false
+  action_stays (sets a) leaves resumes = refl
+  action_stays (calls k args result) leaves resumes = refl
+  action_stays (transfers core source target count) leaves resumes = refl
+  action_stays (chooses branches otherwise) leaves resumes =
+      let first = or_parts (branches_exit by_leaving branches) (actions_exit by_leaving otherwise) leaves in
+      let second = or_parts (branches_exit by_continue branches) (actions_exit by_continue otherwise) resumes in
+      ap₂ (λ a b. a || b) (branches_stay branches first.0 second.0) (actions_stay otherwise first.1 second.1)
+  action_stays (iterations most condition body step) leaves resumes = leaves
+  action_stays breaks leaves resumes = leaves
+  action_stays continues leaves resumes = resumes
+  action_stays (returns e) leaves resumes = leaves
+
+  pub actions_stay : (all : PlainActions) → actions_exit by_leaving all ≡ false → actions_exit by_continue all ≡ false → actions_exit any_exit all ≡ false
+  actions_stay no_action leaves resumes = refl
+  actions_stay (action a rest) leaves resumes =
+      let first = or_parts (action_exits by_leaving a) (if ends a then false else actions_exit by_leaving rest) leaves in
+      let second = or_parts (action_exits by_continue a) (if ends a then false else actions_exit by_continue rest) resumes in
+      ap₂ (λ a b. a || b) (action_stays a first.0 second.0) (by (ends a) first.1 second.1 (λ h k. actions_stay rest h k))
+    where
+      by : (ended : Bool) → (if ended then false else actions_exit by_leaving rest) ≡ false → (if ended then false else actions_exit by_continue rest) ≡ false
+          → (actions_exit by_leaving rest ≡ false → actions_exit by_continue rest ≡ false → actions_exit any_exit rest ≡ false)
+          → (if ended then false else actions_exit any_exit rest) ≡ false
+      by true leaves resumes further = refl
+      by false leaves resumes further = further leaves resumes
+
+  branches_stay : (bs : PlainBranches) → branches_exit by_leaving bs ≡ false → branches_exit by_continue bs ≡ false → branches_exit any_exit bs ≡ false
+  branches_stay no_branch leaves resumes = refl
+  branches_stay (branch condition body rest) leaves resumes =
+      let first = or_parts (actions_exit by_leaving body) (branches_exit by_leaving rest) leaves in
+      let second = or_parts (actions_exit by_continue body) (branches_exit by_continue rest) resumes in
+      ap₂ (λ a b. a || b) (actions_stay body first.0 second.0) (branches_stay rest first.1 second.1)

@@ -9,7 +9,7 @@ use Rattle.sp_tree.specs.Statements.{PlainStmts, no_stmt, stmt, joined, PlainFun
 use Rattle.sp_tree.specs.Statements as tree
 use Rattle.c_meaning.specs.Actions.{PlainTarget, to_level, to_cell, to_array, PlainAssignment, PlainAction, sets, calls, transfers, chooses, iterations, breaks, continues, returns, PlainActions, no_action, action, PlainBranches, no_branch, branch}
 use Rattle.single_path.specs.Counted.{start_of}
-use Rattle.single_path.specs.Made.{made_target, made_assignment, made_step, made_call, is_zero, made_result, made_return, ends, is_no_action, is_no_branch, made_arm, made_otherwise, made_on, made_after, made_behind, made_again, any_exit, by_continue, by_return, actions_exit, branches_exit, made_iteration, made_loop, is_counted, made_counted, made_action, made, made_branches}
+use Rattle.single_path.specs.Made.{made_target, made_assignment, made_step, made_call, is_zero, made_result, made_return, ends, is_no_action, is_no_branch, made_arm, made_otherwise, made_on, made_after, made_behind, made_again, any_exit, by_continue, by_return, actions_exit, branches_exit, made_iteration, made_loop, is_counted, counted_part, made_begun, made_counted, made_action, made, made_branches}
 use Rattle.single_path.specs.declared.counted.Start.{Start}
 use Rattle.single_path.specs.declared.part_words.PartWords.{PartWords}
 use Rattle.single_path.specs.PartWords.{in_arm, in_loop, where_so, where_not_taken, where_other, where_on, where_not_returned, bit_of, not_zero, returned_function, returned_loop}
@@ -17,8 +17,8 @@ use Rattle.single_path.specs.Widths.{result_words, expr_words, args_words, targe
 use Rattle.single_path.specs.Widths as width
 use Rattle.single_path.proofs.Fits.{FitsAction, Fits, FitsBranches}
 use Rattle.single_path.proofs.Frames.{Order}
-use Rattle.single_path.proofs.Idle.{order_arm, order_loop}
-use Rattle.single_path.proofs.MasksFormed.{Below, below, both_formed, broken_formed, condition_sound, continued_formed, mask_formed, more_formed, not_returned_formed, on_formed, other_formed, so_words, returned_function_formed, returned_loop_formed, unless_formed, words_there}
+use Rattle.single_path.proofs.Idle.{order_arm, order_loop, order_part, part_free}
+use Rattle.single_path.proofs.MasksFormed.{Below, begun_part_formed, below, both_formed, broken_formed, condition_sound, continued_formed, mask_formed, more_formed, not_returned_formed, on_formed, other_formed, so_words, returned_function_formed, returned_loop_formed, unless_formed, words_there}
 use Rattle.single_path.proofs.Needs.{Sound, sound_word, sound_formed, sound_args_formed}
 use Rattle.single_path.proofs.Sound.{SoundTarget, SoundResult, SoundStep, SoundAction, AllSound, SoundBranches}
 
@@ -149,15 +149,23 @@ loop_formed : (fs : List PlainFunction) (number slots : ℕ) (p : PartWords) (n 
     → p.free < slots → Sound condition → expr_words condition ≤ slots → stmts_formed fs number slots iteration ≡ true
     → stmts_formed fs number slots (made_loop p (suc n) condition exits iteration) ≡ true
 loop_formed fs number slots p n condition exits iteration b free sound within inside =
-    and_from _ _ (mask_formed fs number slots p.free (bit_of p.own) free (record { ranged = (tt, tt); few = omega arith }) (omega (arith, b.own)))
+    and_from _ _ (begun_part_formed fs number slots p b free)
     (and_from _ _ (and_from _ _ (lt-ltb 0 (suc n) (omega arith)) inside)
     (and_from _ _ (overrun_formed fs number slots p.free condition free sound within) (behind_formed fs number slots p exits b)))
 
-counted_formed : (fs : List PlainFunction) (number slots : ℕ) (p : PartWords) (n : ℕ) (body : PlainStmts) (step : Option PlainAssignment) → p.own < slots
-    → SoundStep step → step_words step ≤ slots → stmts_formed fs number slots body ≡ true → stmts_formed fs number slots (made_counted p (suc n) body step) ≡ true
-counted_formed fs number slots p n body step own to of inside =
+begun_made_formed : (fs : List PlainFunction) (number slots : ℕ) (p : PartWords) (resumes : Bool) → Below p slots → p.free < slots
+    → stmts_formed fs number slots (made_begun p resumes) ≡ true
+begun_made_formed fs number slots p true b free =
+    more_formed fs number slots (masks p.free (bit_of p.own)) no_stmt (begun_part_formed fs number slots p b free) refl
+begun_made_formed fs number slots p false b free = refl
+
+counted_formed : (fs : List PlainFunction) (number slots : ℕ) (p : PartWords) (n : ℕ) (resumes : Bool) (body : PlainStmts) (step : Option PlainAssignment)
+    → Below p slots → p.free < slots → SoundStep step → step_words step ≤ slots → stmts_formed fs number slots body ≡ true
+    → stmts_formed fs number slots (made_counted p (suc n) resumes body step) ≡ true
+counted_formed fs number slots p n resumes body step b free to of inside =
     and_from _ _ (and_from _ _ (lt-ltb 0 (suc n) (omega arith))
-    (both_formed fs number slots body (made_step p.own step) inside (step_formed fs number slots p.own step own to of))) refl
+    (both_formed fs number slots (made_begun p resumes) (joined body (made_step p.own step)) (begun_made_formed fs number slots p resumes b free)
+    (both_formed fs number slots body (made_step p.own step) inside (step_formed fs number slots p.own step b.own to of)))) refl
 
 -- ---- all actions
 
@@ -195,9 +203,16 @@ repeated_formed fs number slots n known p (suc k) condition body step order with
     iteration : PlainStmts
     iteration = made_iteration p condition (actions_exit by_continue body) (made None (in_loop p) body) step
 
+    resumes : Bool
+    resumes = actions_exit by_continue body
+
+    inner : PartWords
+    inner = counted_part p resumes
+
     by : (counted : Bool)
-        → stmts_formed fs number slots (if counted then made_counted p (suc k) (made None p body) step else made_loop p (suc k) condition (actions_exit by_return body) iteration) ≡ true
-    by true = counted_formed fs number slots p k (made None p body) step b.own sound.1.1 (omega (arith, within, more)) (each p order (omega (arith, free)))
+        → stmts_formed fs number slots (if counted then made_counted p (suc k) resumes (made None inner body) step else made_loop p (suc k) condition (actions_exit by_return body) iteration) ≡ true
+    by true = counted_formed fs number slots p k resumes (made None inner body) step b (omega (arith, free)) sound.1.1 (omega (arith, within, more))
+        (each inner (order_part n p resumes order) (omega (arith, free, part_free p resumes)))
     by false = loop_formed fs number slots p k condition (actions_exit by_return body) iteration b (omega (arith, free)) sound.0 (omega (arith, within, more))
         (iteration_formed fs number slots p condition (actions_exit by_continue body) (made None (in_loop p) body) step (omega (arith, free)) sound.0
         (omega (arith, within, more)) sound.1.1 (omega (arith, within, more)) (each (in_loop p) (order_loop n p order) (omega (arith, free))))

@@ -25,7 +25,7 @@ use Rattle.single_path.specs.declared.counted.Start.{Start}
 use Rattle.single_path.specs.declared.part_words.PartWords.{PartWords}
 use Rattle.single_path.specs.PartWords.{in_arm, in_loop, outermost, where_not_taken, where_other, where_on, where_not_returned, returned_function, returned_loop}
 use Rattle.single_path.specs.Counted.{start_of}
-use Rattle.single_path.specs.Made.{is_zero, made_result, made_return, made_step, ends, is_no_action, is_no_branch, made_arm, made_otherwise, made_on, made_after, made_behind, made_again, any_exit, by_continue, by_return, actions_exit, branches_exit, made_iteration, made_loop, is_counted, made_counted, made_action, made, made_branches}
+use Rattle.single_path.specs.Made.{is_zero, made_result, made_return, made_step, ends, is_no_action, is_no_branch, made_arm, made_otherwise, made_on, made_after, made_behind, made_again, any_exit, by_continue, by_return, actions_exit, branches_exit, made_iteration, made_loop, is_counted, counted_part, made_begun, made_counted, made_action, made, made_branches}
 use Rattle.single_path.specs.Single.{variables, made_function}
 use Rattle.single_path.specs.Widths.{expr_words, args_words, result_words, step_words, words, branches_words, branches_masks}
 use Rattle.single_path.specs.Widths as width
@@ -181,9 +181,20 @@ loop_levels : (p : PartWords) (most : ℕ) (condition : PlainSp) (exits : Bool) 
 loop_levels p zero condition exits iteration = omega arith
 loop_levels p (suc n) condition exits iteration = omega (arith, behind_levels p exits)
 
-counted_levels : (p : PartWords) (most : ℕ) (body : PlainStmts) (step : Option PlainAssignment)
-    → stmts_levels (made_counted p most body step) ≤ 1 + stmts_levels body
-counted_levels p most body step = omega (arith, joined_levels body (made_step p.own step), step_levels p.own step)
+begun_levels : (p : PartWords) (resumes : Bool) → stmts_levels (made_begun p resumes) ≤ 0
+begun_levels p true = omega arith
+begun_levels p false = omega arith
+
+counted_levels : (p : PartWords) (most : ℕ) (resumes : Bool) (body : PlainStmts) (step : Option PlainAssignment)
+    → stmts_levels (made_counted p most resumes body step) ≤ 1 + stmts_levels body
+counted_levels p most resumes body step =
+    omega (
+      arith,
+      joined_levels (made_begun p resumes) (joined body (made_step p.own step)),
+      joined_levels body (made_step p.own step),
+      begun_levels p resumes,
+      step_levels p.own step,
+    )
 
 iterations_levels : (known : Option Start) (p : PartWords) (most : ℕ) (condition : PlainSp) (body : PlainActions) (step : Option PlainAssignment) (inside : ℕ)
     → ((q : PartWords) → stmts_levels (made None q body) ≤ inside) → stmts_levels (made_action known p (iterations most condition body step)) ≤ 1 + inside
@@ -192,9 +203,15 @@ iterations_levels known p most condition body step inside each = by (is_counted 
     iteration : PlainStmts
     iteration = made_iteration p condition (actions_exit by_continue body) (made None (in_loop p) body) step
 
+    resumes : Bool
+    resumes = actions_exit by_continue body
+
+    inner : PartWords
+    inner = counted_part p resumes
+
     by : (counted : Bool)
-        → stmts_levels (if counted then made_counted p most (made None p body) step else made_loop p most condition (actions_exit by_return body) iteration) ≤ 1 + inside
-    by true = omega (arith, each p, counted_levels p most (made None p body) step)
+        → stmts_levels (if counted then made_counted p most resumes (made None inner body) step else made_loop p most condition (actions_exit by_return body) iteration) ≤ 1 + inside
+    by true = omega (arith, each inner, counted_levels p most resumes (made None inner body) step)
     by false = omega (
       arith,
       each (in_loop p),

@@ -1,9 +1,10 @@
 -- Parts that are not to act: under masks that say so they leave all words below the first free one, and all memories.
-use Rattle.std.proofs.Common.{◌≡◌, ◌≢◌, ℕ, zero, suc, ◌+◌, ◌<◌, ◌==◌, Bool, true, false, if◌then◌else◌, List, Option, Some, None, refl, ap, sym, ◌∙◌, arith, eq-eqb, eqb-true, ap₂, subst, true≢false}
+use Rattle.std.proofs.Common.{◌≡◌, ◌≢◌, ℕ, zero, suc, ◌+◌, ◌<◌, ◌≤◌, ◌==◌, Bool, true, false, if◌then◌else◌, List, Option, Some, None, refl, ap, sym, ◌∙◌, arith, eq-eqb, eqb-true, ap₂, subst, true≢false}
 use Rattle.std.specs.Prelude.{bit_and, bit_xor, not, ◌&&◌, ◌||◌}
 use Rattle.c_world.specs.Numbers.{flag, is_true, sum_of, difference_of}
 use Rattle.c_world.specs.World.{World}
-use Rattle.sp_tree.specs.Plain.{PlainSp, constant, frame_word}
+use Rattle.sp_tree.specs.declared.operators.SpBinary.TheVariants as binary
+use Rattle.sp_tree.specs.Plain.{PlainSp, constant, frame_word, between_two}
 use Rattle.sp_tree.specs.Statements.{PlainSpTarget, to_slot, masks, writes, overruns, PlainStmts, no_stmt, stmt, one, joined}
 use Rattle.sp_tree.specs.Statements as tree
 use Rattle.sp_tree.specs.Straight.{State, Serves, with_slot, args_worth, worth, times, stmt_done, stmts_done}
@@ -13,10 +14,10 @@ use Rattle.c_meaning.specs.Actions.{to_level, PlainAssignment, PlainAction, sets
 use Rattle.c_meaning.specs.Actions as actions
 use Rattle.single_path.specs.declared.counted.Start.{Start}
 use Rattle.single_path.specs.declared.part_words.PartWords.{PartWords}
-use Rattle.single_path.specs.PartWords.{in_arm, in_loop, truth, where_so, where_not_taken, where_other, where_not_returned, bit_of, not_zero, broken, continued, returned_function, returned_loop}
+use Rattle.single_path.specs.PartWords.{in_arm, in_loop, in_counted, truth, where_so, where_not_taken, where_other, where_not_returned, bit_of, not_zero, broken, continued, returned_function, returned_loop}
 use Rattle.single_path.specs.PartWords as mask
 use Rattle.single_path.specs.Counted.{start_of}
-use Rattle.single_path.specs.Made.{made, made_action, made_branches, made_target, made_assignment, made_step, made_return, made_result, made_arm, made_otherwise, made_on, made_after, made_behind, made_again, made_iteration, made_loop, is_counted, made_counted, any_exit, by_continue, by_return, actions_exit, branches_exit, is_zero, is_no_branch, is_no_action, ends}
+use Rattle.single_path.specs.Made.{made, made_action, made_branches, made_target, made_assignment, made_step, made_return, made_result, made_arm, made_otherwise, made_on, made_after, made_behind, made_again, made_iteration, made_loop, is_counted, counted_part, made_begun, made_counted, any_exit, by_continue, by_return, actions_exit, branches_exit, is_zero, is_no_branch, is_no_action, ends}
 use Rattle.single_path.proofs.Truths.{truth_worth}
 use Rattle.single_path.proofs.Frames.{put_here, Order, Still, still_here, still_on, fewer, set_behind, set_same, iterations_still}
 
@@ -174,8 +175,9 @@ dead_arm n p s t o h off d = record {
   alone = λ two. absurd (omega (arith, two));
 }
 
-dead_loop : (n : ℕ) (p : PartWords) (s t : State) → Order n p → Still p.free s t → t.frame p.free ≡ 0 → Dead p s → Dead (in_loop p) t
-dead_loop n p s t o h off d = record {
+dead_loop : (n : ℕ) (p : PartWords) (counted : Bool) (s t : State) → Order n p → Still p.free s t → t.frame p.free ≡ 0 → Dead p s
+    → Dead (record (in_loop p) { counted = counted }) t
+dead_loop n p counted s t o h off d = record {
   own_word = 0;
   loop_word = 0;
   function_word = d.function_word;
@@ -192,6 +194,17 @@ order_arm n p o = record { result = o.result; function = o.function; loop = o.lo
 pub order_loop : (n : ℕ) (p : PartWords) → Order n p → Order n (in_loop p)
 order_loop n p o = record { result = o.result; function = o.function; loop = omega (arith, o.loop, o.own, o.free); own = omega arith; free = omega arith }
 
+pub order_counted : (n : ℕ) (p : PartWords) → Order n p → Order n (in_counted p)
+order_counted n p o = record { result = o.result; function = o.function; loop = omega (arith, o.loop, o.own, o.free); own = omega arith; free = omega arith }
+
+pub order_part : (n : ℕ) (p : PartWords) (resumes : Bool) → Order n p → Order n (counted_part p resumes)
+order_part n p true o = order_counted n p o
+order_part n p false o = o
+
+pub part_free : (p : PartWords) (resumes : Bool) → (counted_part p resumes).free ≤ p.free + 1
+part_free p true = omega arith
+part_free p false = omega arith
+
 -- ---- statements under masks that are not 1
 
 pub off : (p : PartWords) (s : State) → Dead p s → s.frame p.own ≢ 1
@@ -204,6 +217,11 @@ joined_still : (g : Serves) (n : ℕ) (xs ys : PlainStmts) (s : State) → Still
     → Still n (stmts_done g xs s) (stmts_done g ys (stmts_done g xs s)) → Still n s (stmts_done g (joined xs ys) s)
 joined_still g n xs ys s h k =
     subst (λ u. Still n s u) (sym (joined_done g xs ys s)) (still_on n s (stmts_done g xs s) (stmts_done g ys (stmts_done g xs s)) h k)
+
+-- statements in three parts
+pub three_done : (g : Serves) (xs ys zs : PlainStmts) (s : State)
+    → stmts_done g (joined xs (joined ys zs)) s ≡ stmts_done g zs (stmts_done g ys (stmts_done g xs s))
+three_done g xs ys zs s = joined_done g xs (joined ys zs) s ∙ joined_done g ys zs (stmts_done g xs s)
 
 pub call_still : (g : Serves) → Quiet g → (n mask k : ℕ) (args : List PlainSp) (result : Option ℕ) (s : State) → s.frame mask ≢ 1
     → Still n s (stmt_done g (tree.calls mask k args result) s)
@@ -250,6 +268,16 @@ returned_loop_still p s true is d =
 returned_loop_still p s false is d =
     ap₂ bit_xor d.loop (d.own ∙ idle_apart d.own_word d.loop_word d.function_word d.idle (λ two. true≢false (sym (eq-eqb p.own p.iteration (d.alone two)) ∙ is)))
     ∙ idle_without d.own_word d.loop_word d.function_word d.idle ∙ sym d.loop
+
+broken_still : (p : PartWords) (s : State) → Dead p s → worth (broken p) s ≡ s.frame p.iteration
+broken_still p s d =
+    ap₂ (λ b a. bit_xor b (bit_and a 1)) d.loop d.own ∙ idle_broken d.own_word d.loop_word d.function_word d.idle ∙ sym d.loop
+
+continued_still : (p : PartWords) (s : State) (counted : Bool) → Dead p s
+    → worth (if counted then broken p else between_two binary.Plus (frame_word p.iteration) (bit_of p.own)) s ≡ s.frame p.iteration
+continued_still p s true d = broken_still p s d
+continued_still p s false d =
+    ap₂ (λ b a. sum_of b (bit_and a 1)) d.loop d.own ∙ idle_continued d.own_word d.loop_word d.function_word d.idle ∙ sym d.loop
 
 outer_still : (g : Serves) (p : PartWords) (outside : Bool) (s : State) → Dead p s
     → Still p.free s (stmts_done g (if outside then no_stmt else one (masks p.iteration (returned_loop p))) s)
@@ -345,13 +373,17 @@ after_still : (g : Serves) (p : PartWords) (exits : Bool) (s : State) → Dead p
 after_still g p true s d = on_still g p s d
 after_still g p false s d = still_here p.free s
 
+-- a mask that begins as that of a part that does not act
+begun_off : (p : PartWords) (s : State) → Dead p s → (with_slot p.free (worth (bit_of p.own) s) s).frame p.free ≡ 0
+begun_off p s d =
+    put_here p.free (worth (bit_of p.own) s) s.frame ∙ ap (λ x. bit_and x 1) d.own ∙ idle_bit d.own_word d.loop_word d.function_word d.idle
+
 -- a loop begins where its part does not act
 pub loop_left : (n : ℕ) (p : PartWords) (s : State) → Order n p → Dead p s → Left p (with_slot p.free (worth (bit_of p.own) s) s)
 loop_left n p s o d =
     let t = with_slot p.free (worth (bit_of p.own) s) s in
-    let off_there : t.frame p.free ≡ 0 =
-    put_here p.free (worth (bit_of p.own) s) s.frame ∙ ap (λ x. bit_and x 1) d.own ∙ idle_bit d.own_word d.loop_word d.function_word d.idle in
-    record { dead = dead_loop n p s t o (set_behind p.free p.free (worth (bit_of p.own) s) s (omega arith)) off_there d; off = off_there }
+    let off_there = begun_off p s d in
+    record { dead = dead_loop n p false s t o (set_behind p.free p.free (worth (bit_of p.own) s) s (omega arith)) off_there d; off = off_there }
 
 -- after the iterations the masks stand
 masked_still : (g : Serves) (n : ℕ) (p : PartWords) (exits : Bool) (s : State) → Order n p → Dead p s → Still p.free s (stmts_done g (made_behind p exits) s)
@@ -386,20 +418,41 @@ loop_still g n p (suc k) condition returned exits body step o each s d =
     let so_far = still_on p.free s t v begun (flagged_still g n p condition exits body step o each (suc k) t left_there) in
     still_on p.free s v (stmts_done g (made_behind p returned) v) so_far (masked_still g n p returned v o (still_dead n p s v o so_far d))
 
--- iterations under the mask of the part
-pub counted_still : (g : Serves) (n : ℕ) (p : PartWords) (body : PlainStmts) (step : Option PlainAssignment) → Order n p
-    → ((t : State) → Dead p t → Still p.free t (stmts_done g body t)) → (k : ℕ) (s : State) → Dead p s
-    → Still p.free s (times k (stmts_done g (joined body (made_step p.own step))) s)
-counted_still g n p body step o each k s d = iterations_still p.free iteration (Dead p) still (λ t h. still_dead n p t (iteration t) o (still t h) h) k s d
+-- the masks of an iteration that begins where its part does not act
+pub begun_dead : (g : Serves) (n : ℕ) (p : PartWords) (resumes : Bool) (s : State) → Order n p → Dead p s
+    → Dead (counted_part p resumes) (stmts_done g (made_begun p resumes) s)
+begun_dead g n p true s o d =
+    dead_loop n p true s (with_slot p.free (worth (bit_of p.own) s) s) o (set_behind p.free p.free (worth (bit_of p.own) s) s (omega arith)) (begun_off p s d) d
+begun_dead g n p false s o d = d
+
+-- the iteration before its step
+pub front_still : (g : Serves) (n : ℕ) (p : PartWords) (resumes : Bool) (body : PlainStmts) → Order n p
+    → ((t : State) → Dead (counted_part p resumes) t → Still (counted_part p resumes).free t (stmts_done g body t)) → (s : State) → Dead p s
+    → Still p.free s (stmts_done g body (stmts_done g (made_begun p resumes) s))
+front_still g n p true body o each s d =
+    let t = with_slot p.free (worth (bit_of p.own) s) s in
+    let u = stmts_done g body t in
+    still_on p.free s t u (set_behind p.free p.free (worth (bit_of p.own) s) s (omega arith))
+    (fewer (p.free + 1) p.free t u (omega arith) (each t (begun_dead g n p true s o d)))
+front_still g n p false body o each s d = each s d
+
+-- iterations of which the step stands under the mask of the part
+pub counted_still : (g : Serves) (n : ℕ) (p : PartWords) (resumes : Bool) (body : PlainStmts) (step : Option PlainAssignment) → Order n p
+    → ((t : State) → Dead (counted_part p resumes) t → Still (counted_part p resumes).free t (stmts_done g body t)) → (k : ℕ) (s : State) → Dead p s
+    → Still p.free s (times k (stmts_done g (joined (made_begun p resumes) (joined body (made_step p.own step)))) s)
+counted_still g n p resumes body step o each k s d =
+    iterations_still p.free iteration (Dead p) still (λ t h. still_dead n p t (iteration t) o (still t h) h) k s d
   where
     iteration : State → State
-    iteration = stmts_done g (joined body (made_step p.own step))
+    iteration = stmts_done g (joined (made_begun p resumes) (joined body (made_step p.own step)))
 
     still : (t : State) → Dead p t → Still p.free t (iteration t)
     still t h =
-        let u = stmts_done g body t in
-        joined_still g p.free body (made_step p.own step) t (each t h)
-        (step_still g p.free p.own step u (off p u (still_dead n p t u o (each t h) h)))
+        let u = stmts_done g body (stmts_done g (made_begun p resumes) t) in
+        let front = front_still g n p resumes body o each t h in
+        subst (λ v. Still p.free t v) (sym (three_done g (made_begun p resumes) body (made_step p.own step) t))
+        (still_on p.free t u (stmts_done g (made_step p.own step) u) front
+        (step_still g p.free p.own step u (off p u (still_dead n p t u o front h))))
 
 either_still : (g : Serves) (n : ℕ) (b : Bool) (xs ys : PlainStmts) (s : State) → Still n s (stmts_done g xs s) → Still n s (stmts_done g ys s)
     → Still n s (stmts_done g (if b then xs else ys) s)
@@ -480,15 +533,15 @@ mutual
       joined_still g p.free arms (made_after p exits) s chosen
       (after_still g p exits (stmts_done g arms s) (still_dead n p s (stmts_done g arms s) o chosen d))
   dead_action g quiet n (iterations most condition body step) known p s o d =
-      either_still g p.free (is_counted known most condition body step) (made_counted p most (made None p body) step)
+      let resumes = actions_exit by_continue body in
+      either_still g p.free (is_counted known most condition body step) (made_counted p most resumes (made None (counted_part p resumes) body) step)
       (made_loop p most condition (actions_exit by_return body) (made_iteration p condition (actions_exit by_continue body) (made None (in_loop p) body) step)) s
-      (counted_still g n p (made None p body) step o (λ t. dead g quiet n body None p t o) most s d)
+      (counted_still g n p resumes (made None (counted_part p resumes) body) step o
+      (λ t. dead g quiet n body None (counted_part p resumes) t (order_part n p resumes o)) most s d)
       (loop_still g n p most condition (actions_exit by_return body) (actions_exit by_continue body) (made None (in_loop p) body) step o
       (λ t. dead g quiet n body None (in_loop p) t (order_loop n p o)) s d)
-  dead_action g quiet n breaks known p s o d = set_same p.free p.iteration (worth (broken p) s) s
-      (ap₂ (λ b a. bit_xor b (bit_and a 1)) d.loop d.own ∙ idle_broken d.own_word d.loop_word d.function_word d.idle ∙ sym d.loop)
-  dead_action g quiet n continues known p s o d = set_same p.free p.iteration (worth (continued p) s) s
-      (ap₂ (λ b a. sum_of b (bit_and a 1)) d.loop d.own ∙ idle_continued d.own_word d.loop_word d.function_word d.idle ∙ sym d.loop)
+  dead_action g quiet n breaks known p s o d = set_same p.free p.iteration (worth (broken p) s) s (broken_still p s d)
+  dead_action g quiet n continues known p s o d = set_same p.free p.iteration (worth (continued p) s) s (continued_still p s p.counted d)
   dead_action g quiet n (returns e) known p s o d = return_still g n p e s o d
 
   pub dead : (g : Serves) → Quiet g → (n : ℕ) (all : PlainActions) (known : Option Start) (p : PartWords) (s : State) → Order n p → Dead p s

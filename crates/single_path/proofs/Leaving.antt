@@ -2,6 +2,7 @@
 use Rattle.std.proofs.Common.{◌≡◌, ◌≢◌, ℕ, ◌<◌, ◌≤◌, ◌==◌, Bool, true, false, if◌then◌else◌, refl, ap, sym, ◌∙◌, arith, eq-eqb, eqb-true, ap₂, subst, true≢false, ◌⊎◌, inl, inr, None}
 use Rattle.std.specs.Prelude.{bit_and, bit_xor}
 use Rattle.c_world.specs.Numbers.{sum_of}
+use Rattle.sp_tree.specs.declared.operators.SpBinary.TheVariants as binary
 use Rattle.sp_tree.specs.Plain.{PlainSp, constant, frame_word, cell_word, array_word, before_one, between_two}
 use Rattle.sp_tree.specs.Statements.{to_slot, masks, writes, no_stmt, stmt, one}
 use Rattle.sp_tree.specs.Straight.{State, Serves, with_slot, write_done, worth, stmts_done}
@@ -31,7 +32,7 @@ Nest inside p = inside ≡ true → p.function < p.iteration
 
 -- the loop's mask is set, and no other
 loop_set : (n : ℕ) (p : PartWords) (v : ℕ) (w : Way) (s : State) (l : values.State) → Order n p → p.function < p.iteration → Live p s → Agrees n s l
-    → v ≡ loop_of w → function_of w ≡ 1 → way_value w ≡ 0 → Went n p s (record { way = w; state = l }) (with_slot p.iteration v s)
+    → v ≡ loop_of p.counted w → function_of w ≡ 1 → way_value w ≡ 0 → Went n p s (record { way = w; state = l }) (with_slot p.iteration v s)
 loop_set n p v w s l o nested live h is function value = record {
   same = still_agrees n p.iteration s (with_slot p.iteration v s) l (omega (arith, o.result, o.function, o.loop)) (set_behind p.iteration p.iteration v s (omega arith)) h;
   result = put_there p.iteration v p.result s.frame (omega (arith, o.function, o.loop)) ∙ live.result ∙ sym value;
@@ -49,10 +50,16 @@ broken_acted gc g n p s l o nested live h = record {
   idle = λ is. absurd (true≢false is);
 }
 
+-- after `continue`
+continued_word : (p : PartWords) (s : State) (counted : Bool) → s.frame p.own ≡ 1 → s.frame p.iteration ≡ 1
+    → worth (if counted then broken p else between_two binary.Plus (frame_word p.iteration) (bit_of p.own)) s ≡ loop_of counted way.Continued
+continued_word p s true own loop = ap₂ (λ b a. bit_xor b (bit_and a 1)) loop own
+continued_word p s false own loop = ap₂ (λ b a. sum_of b (bit_and a 1)) loop own
+
 pub continued_acted : (gc : resolved.Serves) (g : Serves) (n : ℕ) (p : PartWords) (s : State) (l : values.State) → Order n p → p.function < p.iteration → Live p s → Agrees n s l
     → Acted continues n p s (resolved.action_done gc continues l) (stmts_done g (made_action None p continues) s)
 continued_acted gc g n p s l o nested live h = record {
-  went = loop_set n p (worth (continued p) s) way.Continued s l o nested live h (ap₂ (λ b a. sum_of b (bit_and a 1)) live.loop live.own) refl refl;
+  went = loop_set n p (worth (continued p) s) way.Continued s l o nested live h (continued_word p s p.counted live.own live.loop) refl refl;
   ended = λ is other. absurd (cc);
   idle = λ is. absurd (true≢false is);
 }
@@ -164,28 +171,32 @@ returned_acted gc g n p e s l o live h within =
 -- ---- after arms and loops
 
 -- the own mask is repaired from the loop's
-pub repaired : (w : Way) (own : ℕ) → (own ≡ 1) ⊎ ((own ≡ 0) × (w ≢ way.On)) → bit_and own (loop_of w) ≡ own_of w
-repaired way.On own (inl is) = ap (λ a. bit_and a 1) is
-repaired way.On own (inr is) = absurd (is.1 refl)
-repaired way.Broken own (inl is) = ap (λ a. bit_and a 0) is
-repaired way.Broken own (inr is) = ap (λ a. bit_and a 0) is.0
-repaired way.Continued own (inl is) = ap (λ a. bit_and a 2) is
-repaired way.Continued own (inr is) = ap (λ a. bit_and a 2) is.0
-repaired (way.Returned v) own (inl is) = ap (λ a. bit_and a 0) is
-repaired (way.Returned v) own (inr is) = ap (λ a. bit_and a 0) is.0
+pub repaired : (counted : Bool) (w : Way) (own : ℕ) → (own ≡ 1) ⊎ ((own ≡ 0) × (w ≢ way.On)) → bit_and own (loop_of counted w) ≡ own_of w
+repaired counted way.On own (inl is) = ap (λ a. bit_and a 1) is
+repaired counted way.On own (inr is) = absurd (is.1 refl)
+repaired counted way.Broken own (inl is) = ap (λ a. bit_and a 0) is
+repaired counted way.Broken own (inr is) = ap (λ a. bit_and a 0) is.0
+repaired true way.Continued own (inl is) = ap (λ a. bit_and a 0) is
+repaired true way.Continued own (inr is) = ap (λ a. bit_and a 0) is.0
+repaired false way.Continued own (inl is) = ap (λ a. bit_and a 2) is
+repaired false way.Continued own (inr is) = ap (λ a. bit_and a 2) is.0
+repaired counted (way.Returned v) own (inl is) = ap (λ a. bit_and a 0) is
+repaired counted (way.Returned v) own (inr is) = ap (λ a. bit_and a 0) is.0
 
 -- the masks of an idle part after each way but on
-idle_apart : (w : Way) → w ≢ way.On → Idle (own_of w) (loop_of w) (function_of w)
-idle_apart way.On other = absurd (other refl)
-idle_apart way.Broken other = left
-idle_apart way.Continued other = waits
-idle_apart (way.Returned v) other = gone
+idle_apart : (counted : Bool) (w : Way) → w ≢ way.On → Idle (own_of w) (loop_of counted w) (function_of w)
+idle_apart counted way.On other = absurd (other refl)
+idle_apart counted way.Broken other = left
+idle_apart true way.Continued other = left
+idle_apart false way.Continued other = waits
+idle_apart counted (way.Returned v) other = gone
 
-idle_alone : (w : Way) → w ≢ way.On → Idle (loop_of w) (loop_of w) (function_of w)
-idle_alone way.On other = absurd (other refl)
-idle_alone way.Broken other = left
-idle_alone way.Continued other = skips
-idle_alone (way.Returned v) other = gone
+idle_alone : (counted : Bool) (w : Way) → w ≢ way.On → Idle (loop_of counted w) (loop_of counted w) (function_of w)
+idle_alone counted way.On other = absurd (other refl)
+idle_alone counted way.Broken other = left
+idle_alone true way.Continued other = left
+idle_alone false way.Continued other = skips
+idle_alone counted (way.Returned v) other = gone
 
 pub own_word : (w : Way) → (own_of w ≡ 1) ⊎ ((own_of w ≡ 0) × (w ≢ way.On))
 own_word way.On = inl refl
@@ -225,10 +236,10 @@ on_acted a g n p s d t stays o h = by (p.own == p.iteration) refl
       went = h;
       ended = λ ended. absurd (true≢false (sym ended ∙ stays));
       idle = λ ended other. record {
-        own_word = loop_of d.way;
-        loop_word = loop_of d.way;
+        own_word = loop_of p.counted d.way;
+        loop_word = loop_of p.counted d.way;
         function_word = function_of d.way;
-        idle = idle_alone d.way other;
+        idle = idle_alone p.counted d.way other;
         own = ap t.frame alone ∙ h.loop;
         loop = h.loop;
         function = h.function;
@@ -237,8 +248,8 @@ on_acted a g n p s d t stays o h = by (p.own == p.iteration) refl
     }
     by false is =
         let apart : p.own ≢ p.iteration = λ e. true≢false (sym (eq-eqb p.own p.iteration e) ∙ is) in
-        let own : u.frame p.own ≡ own_of d.way = put_here p.own v t.frame ∙ ap (bit_and (t.frame p.own)) h.loop ∙ repaired d.way (t.frame p.own) (h.own apart) in
-        let loop : u.frame p.iteration ≡ loop_of d.way = there p.iteration (λ e. apart (sym e)) ∙ h.loop in
+        let own : u.frame p.own ≡ own_of d.way = put_here p.own v t.frame ∙ ap (bit_and (t.frame p.own)) h.loop ∙ repaired p.counted d.way (t.frame p.own) (h.own apart) in
+        let loop : u.frame p.iteration ≡ loop_of p.counted d.way = there p.iteration (λ e. apart (sym e)) ∙ h.loop in
         let function : u.frame p.function ≡ function_of d.way = there p.function (λ e. apart (omega (arith, o.loop, o.own, e))) ∙ h.function in
         record {
           went = record {
@@ -252,9 +263,9 @@ on_acted a g n p s d t stays o h = by (p.own == p.iteration) refl
           ended = λ ended. absurd (true≢false (sym ended ∙ stays));
           idle = λ ended other. record {
             own_word = own_of d.way;
-            loop_word = loop_of d.way;
+            loop_word = loop_of p.counted d.way;
             function_word = function_of d.way;
-            idle = idle_apart d.way other;
+            idle = idle_apart p.counted d.way other;
             own = own;
             loop = loop;
             function = function;

@@ -23,7 +23,7 @@ use Rattle.single_path.specs.Widths.{expr_words, step_words}
 use Rattle.single_path.proofs.Frames.{put_here, put_there, Order, Still, still_here, still_on, fewer, set_behind}
 use Rattle.single_path.proofs.Idle.{Idle, left, gone, Dead, Left, order_loop, still_dead, behind_still, ended_still, flagged_still}
 use Rattle.single_path.proofs.Agreeing.{Agrees, step_set, still_agrees, worth_same}
-use Rattle.single_path.proofs.Ways.{Acted, Live, Went, function_of, loop_of, low_acted}
+use Rattle.single_path.proofs.Ways.{Acted, Live, Went, function_of, loop_of, begun_live, low_acted}
 use Rattle.single_path.proofs.Leaving.{on_acted, stays_acted}
 use Rattle.single_path.proofs.Arming.{tested}
 
@@ -33,7 +33,7 @@ record Iterated (n : ℕ) (p : PartWords) (s : State) (d : Done) (u : State) : T
   same : Agrees n u d.state
   result : u.frame p.result ≡ way_value d.way
   function : u.frame p.function ≡ function_of d.way
-  settled : function_of d.way ≡ loop_of d.way
+  settled : function_of d.way ≡ loop_of p.counted d.way
   others : (x : ℕ) → n ≤ x → x < p.free → x ≢ p.result → x ≢ p.function → u.frame x ≡ s.frame x
 
 iterated_still : (n : ℕ) (p : PartWords) (s : State) (d : Done) (u v : State) → Order n p → Iterated n p s d u → Still p.free u v → Iterated n p s d v
@@ -56,7 +56,7 @@ iterated_from n p s t d u before h = record {
 }
 
 -- the masks of a loop that was left in its iteration
-left_there : (n : ℕ) (p : PartWords) (t : State) (w : Way) (m : values.State) (u : State) → loop_of w ≡ 0 → Idle 0 0 (function_of w)
+left_there : (n : ℕ) (p : PartWords) (t : State) (w : Way) (m : values.State) (u : State) → loop_of false w ≡ 0 → Idle 0 0 (function_of w)
     → Went n (in_loop p) t (record { way = w; state = m }) u → Left p u
 left_there n p t w m u is idle h = record {
   dead = record {
@@ -131,7 +131,7 @@ iterated g n p condition exits body step meant once o within step_within b (suc 
     u = stmts_done g body t
 
     -- the loop was left in this iteration
-    over : (w : Way) (m : values.State) → Went n (in_loop p) t (record { way = w; state = m }) u → loop_of w ≡ 0 → Idle 0 0 (function_of w)
+    over : (w : Way) (m : values.State) → Went n (in_loop p) t (record { way = w; state = m }) u → loop_of false w ≡ 0 → Idle 0 0 (function_of w)
         → Still p.free u (ends_as (stmts_done g end_of_iteration u))
     over w m went is idle =
         let off_there = left_there n p t w m u is idle went in
@@ -170,8 +170,8 @@ iterated g n p condition exits body step meant once o within step_within b (suc 
         (further x (resolved.step_done step m) live_there stepped.agrees)
 
     -- its mask is set to 1 where it may be 2
-    again_further : Rest → (w : Way) (m : values.State) → Went n (in_loop p) t (record { way = w; state = m }) u → not (loop_of w == 0) ≡ true → function_of w ≡ 1
-        → way_value w ≡ 0 → (again : Bool) → (again ≡ false → loop_of w ≡ 1)
+    again_further : Rest → (w : Way) (m : values.State) → Went n (in_loop p) t (record { way = w; state = m }) u → not (loop_of false w == 0) ≡ true → function_of w ≡ 1
+        → way_value w ≡ 0 → (again : Bool) → (again ≡ false → loop_of false w ≡ 1)
         → Iterated n p s (more (resolved.step_done step m)) (ends_as (stmts_done g (joined (made_again p again) (made_step p.free step)) u))
     again_further further w m went is function value true one_word =
         let v = with_slot p.free (worth (not_zero (frame_word p.free)) u) u in
@@ -253,7 +253,7 @@ behind_loop a g n p returned s d u stays on o live h = by returned on
         (omega (arith, o.function, o.loop)) (λ e. nested (sym e)) ∙ live.loop
 
     -- where the loop's mask stands
-    went : u.frame p.iteration ≡ loop_of d.way → Went n p s d u
+    went : u.frame p.iteration ≡ loop_of p.counted d.way → Went n p s d u
     went loop = record {
       same = h.same;
       result = h.result;
@@ -287,9 +287,9 @@ behind_loop a g n p returned s d u stays on o live h = by returned on
           others = λ x behind below r f q w. there x q ∙ h.others x behind below r f;
         }
 
-    stands : d.way ≡ way.On → (p.function ≡ p.iteration) ⊎ (p.function ≢ p.iteration) → u.frame p.iteration ≡ loop_of d.way
+    stands : d.way ≡ way.On → (p.function ≡ p.iteration) ⊎ (p.function ≢ p.iteration) → u.frame p.iteration ≡ loop_of p.counted d.way
     stands on (inl alone) = ap u.frame (sym alone) ∙ h.function ∙ h.settled
-    stands on (inr nested) = loop_word nested ∙ sym (ap loop_of on)
+    stands on (inr nested) = loop_word nested ∙ sym (ap (loop_of p.counted) on)
 
     by : (returned : Bool) → (returned ≡ false → d.way ≡ way.On) → Acted a n p s d (stmts_done g (made_behind p returned) u)
     by true on =
@@ -314,15 +314,8 @@ loop_acted a g n p zero condition returned exits body step meant s l stays on on
 loop_acted a g n p (suc k) condition returned exits body step meant s l stays on once o within step_within b live h =
     let t = with_slot p.free (worth (bit_of p.own) s) s in
     let begun = set_behind p.free p.free (worth (bit_of p.own) s) s (omega arith) in
-    let word : t.frame p.free ≡ 1 = put_here p.free (worth (bit_of p.own) s) s.frame ∙ ap (λ x. bit_and x 1) live.own in
-    let live_there : Live (in_loop p) t = record {
-      own = word;
-      loop = word;
-      function = begun.frame p.function (omega (arith, o.loop, o.own, o.free)) ∙ live.function;
-      result = begun.frame p.result (omega (arith, o.function, o.loop, o.own, o.free)) ∙ live.result;
-    } in
     let d = iterations_done (resolved.holds condition) meant (resolved.step_done step) (suc k) l in
     let u = stmt_done g (overruns p.free condition) (times (suc k) (stmts_done g (made_iteration p condition exits body step)) t) in
-    let there = iterated g n p condition exits body step meant once o within step_within b (suc k) t l live_there
+    let there = iterated g n p condition exits body step meant once o within step_within b (suc k) t l (begun_live n p false s o live)
     (still_agrees n p.free s t l (omega (arith, o.result, o.function, o.loop, o.own, o.free)) begun h) in
     behind_loop a g n p returned s d u stays on o live (iterated_from n p s t d u (λ x behind below r f. begun.frame x below) there)

@@ -91,10 +91,26 @@ pub broken_formed : (fs : List PlainFunction) (number slots : ℕ) (p : PartWord
 broken_formed fs number slots p b =
     mask_formed fs number slots p.iteration (broken p) b.loop (record { ranged = (tt, (tt, tt)); few = omega arith }) (omega (arith, b.own, b.loop))
 
+-- a mask that is set in one of two ways
+either_formed : (fs : List PlainFunction) (number slots slot : ℕ) (e : PlainSp → PlainSp) (first : Bool) (a b : PlainSp)
+    → stmt_formed fs number slots (masks slot (e a)) ≡ true → stmt_formed fs number slots (masks slot (e b)) ≡ true
+    → stmt_formed fs number slots (masks slot (e (if first then a else b))) ≡ true
+either_formed fs number slots slot e true a b ha hb = ha
+either_formed fs number slots slot e false a b ha hb = hb
+
 pub continued_formed : (fs : List PlainFunction) (number slots : ℕ) (p : PartWords) → Below p slots
     → stmt_formed fs number slots (masks p.iteration (continued p)) ≡ true
 continued_formed fs number slots p b =
-    mask_formed fs number slots p.iteration (continued p) b.loop (record { ranged = (tt, (tt, tt)); few = omega arith }) (omega (arith, b.own, b.loop))
+    either_formed fs number slots p.iteration (λ e. e) p.counted (broken p) more (broken_formed fs number slots p b)
+    (mask_formed fs number slots p.iteration more b.loop (record { ranged = (tt, (tt, tt)); few = omega arith }) (omega (arith, b.own, b.loop)))
+  where
+    more : PlainSp
+    more = between_two binary.Plus (frame_word p.iteration) (bit_of p.own)
+
+pub begun_part_formed : (fs : List PlainFunction) (number slots : ℕ) (p : PartWords) → Below p slots → p.free < slots
+    → stmt_formed fs number slots (masks p.free (bit_of p.own)) ≡ true
+begun_part_formed fs number slots p b free =
+    mask_formed fs number slots p.free (bit_of p.own) free (record { ranged = (tt, tt); few = omega arith }) (omega (arith, b.own))
 
 pub not_returned_formed : (fs : List PlainFunction) (number slots : ℕ) (p : PartWords) → Below p slots
     → stmt_formed fs number slots (masks p.iteration (where_not_returned p)) ≡ true
@@ -123,12 +139,6 @@ other_formed fs number slots p false b free = by (p.own == p.iteration)
         (record { ranged = (tt, tt); few = omega arith }) (omega (arith, b.own, free))
 
 -- ---- masks after `return`: two ways to clear them, of which the part decides
-
-either_formed : (fs : List PlainFunction) (number slots slot : ℕ) (e : PlainSp → PlainSp) (first : Bool) (a b : PlainSp)
-    → stmt_formed fs number slots (masks slot (e a)) ≡ true → stmt_formed fs number slots (masks slot (e b)) ≡ true
-    → stmt_formed fs number slots (masks slot (e (if first then a else b))) ≡ true
-either_formed fs number slots slot e true a b ha hb = ha
-either_formed fs number slots slot e false a b ha hb = hb
 
 pub returned_function_formed : (fs : List PlainFunction) (number slots : ℕ) (p : PartWords) → Below p slots
     → stmt_formed fs number slots (masks p.function (returned_function p)) ≡ true

@@ -14,10 +14,10 @@ use Rattle.single_path.specs.declared.part_words.PartWords.{PartWords}
 use Rattle.single_path.specs.PartWords.{in_arm, in_loop, where_so, where_not_taken, where_other, bit_of, not_zero, where_not_returned, returned_function, returned_loop}
 use Rattle.single_path.specs.PartWords as mask
 use Rattle.single_path.specs.Counted.{start_of}
-use Rattle.single_path.specs.Made.{made, made_action, made_branches, made_step, made_result, made_return, made_arm, made_otherwise, made_on, made_after, made_behind, made_again, made_iteration, made_loop, is_counted, made_counted, any_exit, by_continue, by_return, actions_exit, branches_exit, is_zero, is_no_branch, is_no_action, ends}
+use Rattle.single_path.specs.Made.{made, made_action, made_branches, made_step, made_result, made_return, made_arm, made_otherwise, made_on, made_after, made_behind, made_again, made_iteration, made_loop, is_counted, counted_part, made_begun, made_counted, any_exit, by_continue, by_return, actions_exit, branches_exit, is_zero, is_no_branch, is_no_action, ends}
 use Rattle.single_path.specs.Masked.{stmt_masks, stmts_mask}
 use Rattle.single_path.proofs.Frames.{put_there, Order, Still, fewer, set_behind}
-use Rattle.single_path.proofs.Idle.{Quiet, Dead, Left, still_dead, dead_arm, order_arm, order_loop, off, call_still, left_on, left_off, again_still, tested_still, iterations_left, counted_still, loop_left, arm_off, not_taken_still, dead_action, dead}
+use Rattle.single_path.proofs.Idle.{Quiet, Dead, Left, still_dead, dead_arm, order_arm, order_loop, order_part, begun_dead, front_still, off, call_still, left_on, left_off, again_still, tested_still, iterations_left, counted_still, loop_left, arm_off, not_taken_still, dead_action, dead}
 
 -- ---- statements under masks that are not 1
 
@@ -149,18 +149,29 @@ loop_rests g n p (suc k) condition returned exits body step o still each s d =
       ),
     )
 
-counted_rests : (g : Serves) (n : ℕ) (p : PartWords) (most : ℕ) (body : PlainStmts) (step : Option PlainAssignment) → Order n p
-    → ((t : State) → Dead p t → Still p.free t (stmts_done g body t)) → ((t : State) → Dead p t → AllRest g body t)
-    → (s : State) → Dead p s → AllRest g (made_counted p most body step) s
-counted_rests g n p most body step o still each s d = ((λ k. iteration (times k (stmts_done g (joined body (made_step p.own step))) s) (dead_there k)), tt)
-  where
-    dead_there : (k : ℕ) → Dead p (times k (stmts_done g (joined body (made_step p.own step))) s)
-    dead_there k = still_dead n p s (times k (stmts_done g (joined body (made_step p.own step))) s) o (counted_still g n p body step o still k s d) d
+begun_rests : (g : Serves) (p : PartWords) (resumes : Bool) (s : State) → AllRest g (made_begun p resumes) s
+begun_rests g p true s = (tt, tt)
+begun_rests g p false s = tt
 
-    iteration : (t : State) → Dead p t → AllRest g (joined body (made_step p.own step)) t
-    iteration t h =
-        let u = stmts_done g body t in
-        joined_rest g body (made_step p.own step) t (each t h) (step_rests g p.own step u (off p u (still_dead n p t u o (still t h) h)))
+counted_rests : (g : Serves) (n : ℕ) (p : PartWords) (most : ℕ) (resumes : Bool) (body : PlainStmts) (step : Option PlainAssignment) → Order n p
+    → ((t : State) → Dead (counted_part p resumes) t → Still (counted_part p resumes).free t (stmts_done g body t))
+    → ((t : State) → Dead (counted_part p resumes) t → AllRest g body t)
+    → (s : State) → Dead p s → AllRest g (made_counted p most resumes body step) s
+counted_rests g n p most resumes body step o still each s d = ((λ k. rests (times k (stmts_done g iteration) s) (dead_there k)), tt)
+  where
+    iteration : PlainStmts
+    iteration = joined (made_begun p resumes) (joined body (made_step p.own step))
+
+    dead_there : (k : ℕ) → Dead p (times k (stmts_done g iteration) s)
+    dead_there k = still_dead n p s (times k (stmts_done g iteration) s) o (counted_still g n p resumes body step o still k s d) d
+
+    rests : (t : State) → Dead p t → AllRest g iteration t
+    rests t h =
+        let v = stmts_done g (made_begun p resumes) t in
+        let u = stmts_done g body v in
+        joined_rest g (made_begun p resumes) (joined body (made_step p.own step)) t (begun_rests g p resumes t)
+        (joined_rest g body (made_step p.own step) v (each v (begun_dead g n p resumes t o h))
+        (step_rests g p.own step u (off p u (still_dead n p t u o (front_still g n p resumes body o still t h) h))))
 
 either_rest : (g : Serves) (b : Bool) (xs ys : PlainStmts) (s : State) → AllRest g xs s → AllRest g ys s → AllRest g (if b then xs else ys) s
 either_rest g true xs ys s h k = h
@@ -211,9 +222,12 @@ mutual
       (after_rests g p (branches_exit any_exit branches || actions_exit any_exit otherwise)
       (stmts_done g (made_branches p branches (is_no_action otherwise) (λ q. made None q otherwise)) s))
   action_rests g quiet n (actions.iterations most condition body step) known p s o d =
-      either_rest g (is_counted known most condition body step) (made_counted p most (made None p body) step)
+      let resumes = actions_exit by_continue body in
+      let inner = counted_part p resumes in
+      either_rest g (is_counted known most condition body step) (made_counted p most resumes (made None inner body) step)
       (made_loop p most condition (actions_exit by_return body) (made_iteration p condition (actions_exit by_continue body) (made None (in_loop p) body) step)) s
-      (counted_rests g n p most (made None p body) step o (λ t. dead g quiet n body None p t o) (λ t. actions_rest g quiet n body None p t o) s d)
+      (counted_rests g n p most resumes (made None inner body) step o (λ t. dead g quiet n body None inner t (order_part n p resumes o))
+      (λ t. actions_rest g quiet n body None inner t (order_part n p resumes o)) s d)
       (loop_rests g n p most condition (actions_exit by_return body) (actions_exit by_continue body) (made None (in_loop p) body) step o
       (λ t. dead g quiet n body None (in_loop p) t (order_loop n p o)) (λ t. actions_rest g quiet n body None (in_loop p) t (order_loop n p o)) s d)
   action_rests g quiet n actions.breaks known p s o d = (tt, tt)

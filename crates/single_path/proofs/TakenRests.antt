@@ -5,7 +5,7 @@ use Rattle.std.proofs.lemmas.Bool.{and_parts, ltb-true, leb-true}
 use Rattle.c_world.specs.World.{World}
 use Rattle.sp_tree.specs.Formed.{stmts_levels, slots_of}
 use Rattle.sp_tree.specs.Cost.{cost}
-use Rattle.sp_tree.specs.Plain.{PlainSp, frame_word}
+use Rattle.sp_tree.specs.Plain.{PlainSp}
 use Rattle.sp_tree.specs.Statements.{PlainStmt, masks, writes, calls, transfers, overruns, iterations, PlainStmts, no_stmt, stmt, one, joined, PlainFunction, no_function}
 use Rattle.sp_tree.specs.Straight.{State, Outcome, Serves, with_slot, in_world, with_result, args_worth, worth, times, stmt_done, stmts_done, begun_frame, function_outcome}
 use Rattle.sp_tree.proofs.Joins.{joined_done}
@@ -13,11 +13,12 @@ use Rattle.sp_tree.proofs.Masks.{off as masked, write_off, send_off, overrun_off
 use Rattle.sp_inline.specs.Moved.{stmt_moved, stmts_moved}
 use Rattle.sp_inline.specs.Reach.{args_reach, stmt_reach, stmts_reach, stmts_calls}
 use Rattle.sp_inline.specs.declared.room.Room.{Room}
-use Rattle.sp_inline.specs.Taken.{begun_words, handed, given_set, front, shortened, call_statements, PlainCaller, Taken, callee, room_after, is_whole, may_take, is_taken, kept, call_taken, stmt_taken, stmts_taken, body_taken, grown, function_taken}
+use Rattle.sp_inline.specs.Taken.{begun_words, tests_mask, call_mask, entered, given_set, front, shortened, call_statements, PlainCaller, Taken, callee, room_after, is_whole, may_take, is_taken, kept, call_taken, stmt_taken, stmts_taken, body_taken, grown, function_taken}
 use Rattle.sp_inline.proofs.Windows.{window, stmt_window, stmts_window}
 use Rattle.sp_inline.proofs.Alike.{Alike, Same, times_alike, stmt_alike, stmts_alike}
 use Rattle.sp_inline.proofs.Shortened.{short_is, short_fits}
-use Rattle.sp_inline.proofs.Taking.{call_entered, call_low, call_alike_taken}
+use Rattle.sp_inline.proofs.Entered.{entered_is, entered_reach, begun_state, test_done}
+use Rattle.sp_inline.proofs.Taking.{words_handed, call_entered, call_low, call_alike_taken}
 use Rattle.single_path.proofs.Idle.{Quiet}
 use Rattle.single_path.proofs.Resting.{Rests, AllRest, joined_rest}
 
@@ -125,20 +126,32 @@ short_rests g f rests under args w other =
     short_is (λ xs. AllRest g xs s) f.result f.body (rests under args w other)
     (λ h. front_rest g (front f.body) (one (masks h.slot h.value)) s (subst (λ xs. AllRest g xs s) (sym h.is) (rests under args w other)))
 
+-- and without the test of its mask, where it is handed that test
+entered_rests : (g : Serves) (f : PlainFunction) → FunctionRests g f → (mask : ℕ) (t : State) (args : List ℕ) (w : World) → t.frame mask ≢ 1
+    → let tests = tests_mask f.mask f.body in AllRest g (entered tests f.body) (begun_state f (worth (call_mask tests mask) t) args w)
+unfolding FunctionRests
+entered_rests g f rests mask t args w off =
+    let s = begun_state f (t.frame mask) args w in
+    let all = rests (t.frame mask) args w off in
+    entered_is (λ tests xs. AllRest g xs (begun_state f (worth (call_mask tests mask) t) args w)) f.mask f.body all
+    (λ is. subst (AllRest g (entered true f.body)) (sym (test_done g f (t.frame mask) args w)) (subst (λ xs. AllRest g xs s) (sym is) all).1)
+
 call_rests : (o : ℕ) (g : Serves) (f : PlainFunction) → FunctionRests g f → stmts_reach f.body ≤ slots_of f → (mask : ℕ) (args : List PlainSp) (result : Option ℕ)
     → mask < o → args_reach args ≤ o → length args ≤ f.mask → (s t : State) → Alike o s t → t.frame mask ≢ 1 → AllRest g (call_statements o f mask args result) s
-unfolding FunctionRests
 call_rests o g f rests reach mask args result mask_in within few s t a off =
-    let begin = begun_words o (slots_of f) (handed f.mask mask args) in
+    let tests = tests_mask f.mask f.body in
+    let body = entered tests f.body in
+    let words = words_handed f mask args in
+    let begin = begun_words o (slots_of f) words in
     let last = given_set mask result (o + f.result) in
     let s2 = stmts_done g begin s in
-    let s3 = stmts_done g (stmts_moved o f.body) s2 in
-    let own : State = record { frame = begun_frame f (t.frame mask) (args_worth args t); world = t.world } in
-    joined_rest g begin (joined (stmts_moved o f.body) last) s (begun_rest g o (slots_of f) (handed f.mask mask args) s)
-    (joined_rest g (stmts_moved o f.body) last s2
-    (all_moved g o f.body s2 (all_alike g (slots_of f) f.body (window o s2) own reach (call_entered o g f mask args mask_in within few s t a)
-    (rests (t.frame mask) (args_worth args t) t.world off)))
-    (given_rest g mask result (o + f.result) s3 (λ e. off (sym (a.frame mask mask_in) ∙ sym (call_low o g f mask args mask_in within s mask mask_in) ∙ e))))
+    let s3 = stmts_done g (stmts_moved o body) s2 in
+    let own = begun_state f (worth (call_mask tests mask) t) (args_worth args t) t.world in
+    joined_rest g begin (joined (stmts_moved o body) last) s (begun_rest g o (slots_of f) words s)
+    (joined_rest g (stmts_moved o body) last s2
+    (all_moved g o body s2 (all_alike g (slots_of f) body (window o s2) own (omega (arith, reach, entered_reach tests f.body))
+    (call_entered o g f mask args mask_in within few s t a) (entered_rests g f rests mask t (args_worth args t) t.world off)))
+    (given_rest g mask result (o + f.result) s3 (λ e. off (sym (a.frame mask mask_in) ∙ sym (call_low o g f body mask args mask_in within s mask mask_in) ∙ e))))
 
 -- ---- the statements of a function that takes in calls, where all of them rest
 

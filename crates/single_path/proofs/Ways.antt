@@ -1,15 +1,17 @@
 -- What a part leaves after it, by its way on.
-use Rattle.std.proofs.Common.{◌≡◌, ◌≢◌, ℕ, ◌<◌, ◌≤◌, true, false, refl, ap, sym, ◌∙◌, arith, true≢false, ◌⊎◌, inl, inr}
+use Rattle.std.proofs.Common.{◌≡◌, ◌≢◌, ℕ, ◌<◌, ◌≤◌, Bool, true, false, if◌then◌else◌, refl, ap, sym, ◌∙◌, arith, true≢false, ◌⊎◌, inl, inr}
+use Rattle.std.specs.Prelude.{bit_and}
 use Rattle.std.proofs.lemmas.Bool.{cases_eq}
-use Rattle.sp_tree.specs.Straight.{State}
+use Rattle.sp_tree.specs.Straight.{State, with_slot, worth}
 use Rattle.c_meaning.specs.Actions.{PlainAction}
 use Rattle.c_meaning.specs.declared.ways.Way.{Way}
 use Rattle.c_meaning.specs.declared.ways.Way.TheVariants as way
 use Rattle.c_meaning.specs.Meaning.{Done, goes_on, way_value}
 use Rattle.c_meaning.specs.Values as values
 use Rattle.single_path.specs.declared.part_words.PartWords.{PartWords}
+use Rattle.single_path.specs.PartWords.{in_loop, bit_of}
 use Rattle.single_path.specs.Made.{ends}
-use Rattle.single_path.proofs.Frames.{Order, Still}
+use Rattle.single_path.proofs.Frames.{put_here, Order, Still, set_behind}
 use Rattle.single_path.proofs.Idle.{Dead}
 use Rattle.single_path.proofs.Agreeing.{Agrees, Sets, still_agrees}
 
@@ -17,10 +19,11 @@ abbrev pub function_of : Way → ℕ
 function_of (way.Returned v) = 0
 function_of _ = 1
 
-abbrev pub loop_of : Way → ℕ
-loop_of way.On = 1
-loop_of way.Continued = 2
-loop_of _ = 0
+-- by whether the loop counts
+abbrev pub loop_of : Bool → Way → ℕ
+loop_of counted way.On = 1
+loop_of counted way.Continued = if counted then 0 else 2
+loop_of counted _ = 0
 
 abbrev pub own_of : Way → ℕ
 own_of way.On = 1
@@ -38,7 +41,7 @@ pub record Went (n : ℕ) (p : PartWords) (s : State) (d : Done) (t : State) : T
   pub same : Agrees n t d.state
   pub result : t.frame p.result ≡ way_value d.way
   pub function : t.frame p.function ≡ function_of d.way
-  pub loop : t.frame p.iteration ≡ loop_of d.way
+  pub loop : t.frame p.iteration ≡ loop_of p.counted d.way
   pub own : p.own ≢ p.iteration → (t.frame p.own ≡ 1) ⊎ ((t.frame p.own ≡ 0) × (d.way ≢ way.On))
   pub others : (x : ℕ) → n ≤ x → x < p.free → x ≢ p.result → x ≢ p.function → x ≢ p.iteration → x ≢ p.own → t.frame x ≡ s.frame x
 
@@ -56,7 +59,7 @@ went_own n p s d t h is = by (cases_eq p.own p.iteration)
     on_there (inr other) = absurd (other.1 is)
 
     by : (p.own ≡ p.iteration) ⊎ (p.own ≢ p.iteration) → t.frame p.own ≡ 1
-    by (inl same) = ap t.frame same ∙ h.loop ∙ ap loop_of is
+    by (inl same) = ap t.frame same ∙ h.loop ∙ ap (loop_of p.counted) is
     by (inr apart) = on_there (h.own apart)
 
 pub went_live : (n : ℕ) (p : PartWords) (s : State) (l : values.State) (t : State) → Went n p s (goes_on l) t → Live p t
@@ -98,6 +101,19 @@ went_here n p s l live h = record {
   own = λ apart. inl live.own;
   others = λ x behind below r f q w. refl;
 }
+
+-- the mask of a loop begins as that of its part
+pub begun_live : (n : ℕ) (p : PartWords) (counted : Bool) (s : State) → Order n p → Live p s
+    → Live (record (in_loop p) { counted = counted }) (with_slot p.free (worth (bit_of p.own) s) s)
+begun_live n p counted s o live =
+    let begun = set_behind p.free p.free (worth (bit_of p.own) s) s (omega arith) in
+    let word = put_here p.free (worth (bit_of p.own) s) s.frame ∙ ap (λ a. bit_and a 1) live.own in
+    record {
+      own = word;
+      loop = word;
+      function = begun.frame p.function (omega (arith, o.loop, o.own, o.free)) ∙ live.function;
+      result = begun.frame p.result (omega (arith, o.function, o.loop, o.own, o.free)) ∙ live.result;
+    }
 
 -- words below the first free one are set, and no mask
 pub low_went : (n : ℕ) (p : PartWords) (s t : State) (l : values.State) → Order n p → Live p s → Agrees n t l

@@ -10,7 +10,7 @@ use Rattle.single_path.specs.declared.counted.Start.{Start}
 use Rattle.single_path.specs.declared.exits.Exits.{Exits}
 use Rattle.single_path.specs.declared.part_words.PartWords.{PartWords}
 use Rattle.single_path.specs.Counted.{start_of, actions_set, limit_of, more_by, counts}
-use Rattle.single_path.specs.PartWords.{in_arm, in_loop, where_so, where_not_taken, where_other, where_on, where_not_returned, bit_of, not_zero, broken, continued, returned_function, returned_loop}
+use Rattle.single_path.specs.PartWords.{in_arm, in_loop, in_counted, where_so, where_not_taken, where_other, where_on, where_not_returned, bit_of, not_zero, broken, continued, returned_function, returned_loop}
 
 -- ---- what is set
 
@@ -62,7 +62,11 @@ ends _ = false
 abbrev pub any_exit : Exits
 any_exit = record { breaks = true; continues = true; returns = true }
 
--- those by which the iteration that they stand in goes on to its end, and those by which a function is left
+-- those by which the loop that they stand in is left, those by which its iteration goes on to its end, and those by
+-- which a function is left
+abbrev pub by_leaving : Exits
+by_leaving = record { breaks = true; continues = false; returns = true }
+
 abbrev pub by_continue : Exits
 by_continue = record { breaks = false; continues = true; returns = false }
 
@@ -143,17 +147,26 @@ made_loop p (suc n) condition exits iteration =
     stmt (masks p.free (bit_of p.own))
     (stmt (tree.iterations (suc n) iteration) (stmt (overruns p.free condition) (made_behind p exits)))
 
--- A loop that counts makes exactly the iterations of its bound: what stood right before it began its variable, its body does
--- not set the variable, and always goes on to its end
+-- A loop that counts makes exactly the iterations of its bound: what stood right before it began its variable, and its
+-- body neither sets the variable nor leaves the loop
 abbrev pub is_counted : Option Start → ℕ → PlainSp → PlainActions → Option PlainAssignment → Bool
 is_counted None most condition body step = false
 is_counted (Some s) most condition body step =
     counts s.value (more_by s.level step) (limit_of s.level condition) most
-    && (not (actions_set s.level body) && not (actions_exit any_exit body))
+    && (not (actions_set s.level body) && not (actions_exit by_leaving body))
 
--- so it needs no condition, no mask and no flag
-abbrev pub made_counted : PartWords → ℕ → PlainStmts → Option PlainAssignment → PlainStmts
-made_counted p most body step = one (tree.iterations most (joined body (made_step p.own step)))
+-- its body stands in the part around it; or in one with a mask of its own, where there may be a `continue` in it
+abbrev pub counted_part : PartWords → Bool → PartWords
+counted_part p resumes = if resumes then in_counted p else p
+
+-- each iteration begins that mask as the mask of the part around
+abbrev pub made_begun : PartWords → Bool → PlainStmts
+made_begun p resumes = if resumes then one (masks p.free (bit_of p.own)) else no_stmt
+
+-- So such a loop needs no condition and no flag, and it repairs no mask: the step stands under that of the part around
+abbrev pub made_counted : PartWords → ℕ → Bool → PlainStmts → Option PlainAssignment → PlainStmts
+made_counted p most resumes body step =
+    one (tree.iterations most (joined (made_begun p resumes) (joined body (made_step p.own step))))
 
 -- ---- all actions, by what is known right before them
 
@@ -166,7 +179,9 @@ abbrev mutual
       joined (made_branches p branches (is_no_action otherwise) (λ q. made None q otherwise))
       (made_after p (branches_exit any_exit branches || actions_exit any_exit otherwise))
   made_action known p (iterations most condition body step) =
-      if is_counted known most condition body step then made_counted p most (made None p body) step
+      if is_counted known most condition body step
+      then made_counted p most (actions_exit by_continue body)
+      (made None (counted_part p (actions_exit by_continue body)) body) step
       else made_loop p most condition (actions_exit by_return body)
       (made_iteration p condition (actions_exit by_continue body) (made None (in_loop p) body) step)
   made_action known p breaks = one (masks p.iteration (broken p))

@@ -13,11 +13,22 @@ abbrev pub in_arm : PartWords → PartWords
 in_arm p = record p { own = p.free; free = p.free + 1 }
 
 abbrev pub in_loop : PartWords → PartWords
-in_loop p = record p { iteration = p.free; own = p.free; free = p.free + 1 }
+in_loop p = record p { iteration = p.free; own = p.free; free = p.free + 1; counted = false }
+
+-- the words of the body of a loop that counts, where its iterations have a mask of their own
+abbrev pub in_counted : PartWords → PartWords
+in_counted p = record (in_loop p) { counted = true }
 
 -- the words of a function's body, after its first so many words
 abbrev pub outermost : ℕ → PartWords
-outermost words = record { result = words; function = words + 1; iteration = words + 1; own = words + 1; free = words + 2 }
+outermost words = record {
+  result = words;
+  function = words + 1;
+  iteration = words + 1;
+  own = words + 1;
+  free = words + 2;
+  counted = false;
+}
 
 -- ---- words that masks are set to
 
@@ -83,12 +94,14 @@ where_on p = both (frame_word p.own) (frame_word p.iteration)
 abbrev pub where_not_returned : PartWords → PlainSp
 where_not_returned p = both (frame_word p.iteration) (before_one unary.Minus (frame_word p.function))
 
--- where the part's own mask is 1, so is the loop's: `break` makes that one 0, and `continue` adds 1 to it
+-- where the part's own mask is 1, so is the loop's: `break` makes that one 0
 abbrev pub broken : PartWords → PlainSp
 broken p = without (frame_word p.iteration) (bit_of p.own)
 
+-- `continue` adds 1 to it; or makes it 0 as well, where the loop counts: only the step of the iteration is left then, and
+-- it stands under the mask of the part around
 abbrev pub continued : PartWords → PlainSp
-continued p = between_two binary.Plus (frame_word p.iteration) (bit_of p.own)
+continued p = if p.counted then broken p else between_two binary.Plus (frame_word p.iteration) (bit_of p.own)
 
 -- where the part's own mask is 1, so are the function's and the loop's: `return` makes both 0. The own one may be 2 only
 -- where it is the loop's

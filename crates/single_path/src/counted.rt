@@ -6,7 +6,7 @@ ghost use Rattle.c_meaning.specs.Shown.{plain_target, plain_assignment, plain_ac
 ghost use Rattle.single_path.specs.Counted as specs;
 ghost use Rattle.single_path.specs.Made as made;
 
-use crate::exits::{any_exit, may_exit};
+use crate::exits::{by_leaving, may_exit};
 use c_meaning::{Action, Assignment, Branch, Target};
 use sp_tree::{SpBinary, SpExpr};
 
@@ -245,13 +245,13 @@ fn counts(first: u32, more: u32, limit: u64, iterations: u32) -> bool
     last < limit && (limit <= end && end < 1 << 31)
 }
 
-// nothing in a loop's body sets its variable or goes elsewhere
+// nothing in a loop's body sets its variable or leaves the loop
 fn stays(level: u32, body: &[Action]) -> bool
     ensures { result
         ≡ (not (specs.actions_set level (actions_of body.now))
-        && not (made.actions_exit made.any_exit (actions_of body.now))) }
+        && not (made.actions_exit made.by_leaving (actions_of body.now))) }
 {
-    !all_set(level, body) && !may_exit(any_exit(), body)
+    !all_set(level, body) && !may_exit(by_leaving(), body)
 }
 
 /// Whether a loop makes exactly the iterations of its bound, by what is known right before it.

@@ -25,6 +25,17 @@ pub fn any_exit() -> Exits
     }
 }
 
+/// Those by which a loop is left.
+pub fn by_leaving() -> Exits
+    ensures { result ≡ specs.by_leaving }
+{
+    Exits {
+        breaks: true,
+        continues: false,
+        returns: true,
+    }
+}
+
 /// That by which an iteration goes on to its end.
 pub fn by_continue() -> Exits
     ensures { result ≡ specs.by_continue }

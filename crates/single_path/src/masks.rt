@@ -169,6 +169,9 @@ pub fn broken(alloc: Global, part: PartWords) -> Result<SpExpr, OutOfMemory>
 pub fn continued(alloc: Global, part: PartWords) -> Result<SpExpr, OutOfMemory>
     ensures { IfOk result (λ m. plain_sp m ≡ specs.continued part) }
 {
+    if part.counted {
+        return broken(alloc, part);
+    }
     let own = bit_of(alloc, part.own)?;
     between_operands(alloc, SpBinary::Plus, word(part.iteration), own)
 }

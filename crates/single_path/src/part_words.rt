@@ -10,12 +10,15 @@ pub struct PartWords {
     /// The mask of the function: 1 until it returns, and then 0.
     pub function: u32,
     /// The mask of the innermost loop's iteration: 1 while it goes on, 2 after a `continue`, and 0 where the loop was left.
+    /// A loop that counts has one only where there may be a `continue`, after which it is 0.
     /// Outside loops it is that of the function.
     pub iteration: u32,
     /// The mask of the part itself: the iteration's, or that of an arm.
     pub own: u32,
     /// The first word that nothing names.
     pub free: u32,
+    /// Whether the iteration's mask is one of a loop that counts.
+    pub counted: bool,
 }
 
 impl PartWords {
@@ -31,6 +34,7 @@ impl PartWords {
             iteration: mask,
             own: mask,
             free: words + 2,
+            counted: false,
         }
     }
 
@@ -55,7 +59,19 @@ impl PartWords {
             iteration: self.free,
             own: self.free,
             free: self.free + 1,
+            counted: false,
             ..self
+        }
+    }
+
+    /// The words of the body of a loop that counts, where its iterations have a mask of their own.
+    pub fn in_counted(self) -> PartWords
+        requires { self.free + 1 < 2 ^ 32 }
+        ensures { result ≡ specs.in_counted self }
+    {
+        PartWords {
+            counted: true,
+            ..self.in_loop()
         }
     }
 }

@@ -492,6 +492,35 @@ fn add_loop(
     repair_behind(alloc, part, out, exits)
 }
 
+// the words of the body of a loop that counts
+fn counted_part(part: PartWords, resumes: bool) -> PartWords
+    requires { part.free + 1 < 2 ^ 32 }
+    ensures { result ≡ specs.counted_part part resumes }
+{
+    if resumes {
+        return part.in_counted();
+    }
+    part
+}
+
+// the mask of its iterations, where they have one of their own
+#[tactic(auto, using(crate::proofs::Stated::joined_none))]
+fn begin_counted(
+    alloc: Global,
+    part: PartWords,
+    iteration: &mut Vec<SpStmt>,
+    resumes: bool,
+) -> Result<(), OutOfMemory>
+    ensures { OnOk result (stmts_of iteration.new.items
+        ≡ joined (stmts_of iteration.old.items) (specs.made_begun part resumes)) }
+{
+    if !resumes {
+        return Ok(());
+    }
+    let on = bit_of(alloc, part.own)?;
+    add_mask(iteration, part.free, on)
+}
+
 // ---- all actions
 
 #[cycle(conversion)]
@@ -652,14 +681,18 @@ fn add_counted(
     body: &[Action],
     step: &Option<Assignment>,
 ) -> Result<(), OutOfMemory>
-    requires { part.free + widths.masks (actions_of body.now) < 2 ^ 32 }
+    requires { part.free + (1 + widths.masks (actions_of body.now)) < 2 ^ 32 }
     ensures { OnOk result (stmts_of out.new.items ≡ joined (stmts_of out.old.items)
-        (specs.made_counted part max (specs.made None part (actions_of body.now))
-        (option_map plain_assignment step.now))) }
+        (specs.made_counted part max (specs.actions_exit specs.by_continue (actions_of body.now))
+        (specs.made None (specs.counted_part part (specs.actions_exit specs.by_continue (actions_of body.now)))
+        (actions_of body.now)) (option_map plain_assignment step.now))) }
 {
     let alloc = *out.allocator();
     let mut iteration = Vec::new(alloc);
-    add_all(alloc, part, &mut iteration, body)?;
+    let resumes = may_exit(by_continue(), body);
+    let inner = counted_part(part, resumes);
+    begin_counted(alloc, part, &mut iteration, resumes)?;
+    add_all(alloc, inner, &mut iteration, body)?;
     add_step(alloc, &mut iteration, part.own, step)?;
     add_iterations(out, max, List::of(iteration))
 }

@@ -21,6 +21,7 @@ use Rattle.sp_shape.specs.Bundles.{part_all, parts_all}
 use Rattle.sp_shape.specs.Formed.{parts_formed}
 use Rattle.sp_shape.specs.Run.{Run, Sources, run, IsWhole}
 use Rattle.sp_shape.specs.Trail.{Step, parts_trail}
+use Rattle.sp_emit.specs.Truths.{bit_sought}
 use Rattle.sp_emit.specs.Functions.{first_counter, needs_none, body_code}
 use Rattle.sp_shape.specs.Parts.{PlainPart, straight, repeats, calls_to, leaves, PlainParts, no_part, part, one, joined}
 use Rattle.sp_emit.specs.Chains.{stmt_calls, stmts_call}
@@ -144,9 +145,11 @@ truths_bare : (homes : Homes) (slots : ℕ) → homes.first + slots ≤ OVERRUN 
 truths_bare homes slots fits = record {
   none = refl;
   both = both;
+  first = λ op a b h. (and_parts (names_words slots a) (names_words slots b) h).0;
   second = λ op a b h. (and_parts (names_words slots a) (names_words slots b) h).1;
   operands = λ e h. named_bare homes slots e FIRST fits h;
   tests = tests_bare;
+  bits = λ slot h. each_lone is_bare (bit_sought homes.first slot) (rw (fetch_bare homes.first slot (let named = ltb-true slot slots h in omega (arith, named, fits))) refl);
 }
 
 operands_bare : (homes : Homes) (slots : ℕ) (e : PlainSp) (rd : ℕ) → homes.first + slots ≤ OVERRUN → expr_formed slots e ≡ true → Bare (operands_code homes e rd)

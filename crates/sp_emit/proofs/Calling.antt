@@ -1,6 +1,6 @@
 -- What the code of a call leaves, where the function's code does what it is to do.
 use Rattle.std.proofs.Common.{◌≡◌, ℕ, zero, suc, ◌+◌, ◌<◌, ◌≤◌, ◌^◌, ◌%◌, ◌==◌, Bool, true, false, if◌then◌else◌, Option, None, Some, List, [], ◌∷◌, ◌++◌, length, slice_index, refl, sym, ap, ◌∙◌, subst, arith, append-nil}
-use Rattle.std.specs.Prelude.{bit_xor, nat_le}
+use Rattle.std.specs.Prelude.{is_none, bit_xor, nat_le}
 use Rattle.patmos_instr.specs.declared.functions.ImmFunc.TheVariants as imm
 use Rattle.patmos_instr.specs.declared.functions.StackFunc.TheVariants.{Sens}
 use Rattle.patmos_instr.specs.declared.instructions.Op.TheVariants.{AluImm, Call}
@@ -19,6 +19,7 @@ use Rattle.sp_shape.specs.Parts.{straight, one, joined}
 use Rattle.sp_shape.specs.Run.{Run, Sources, by_words, once, run, begun, effected, with_settled, settled, IsWhole}
 use Rattle.sp_shape.specs.Run as runs
 use Rattle.sp_shape.specs.Trail.{Step, all_done, parts_trail}
+use Rattle.std.specs.List.{list_all}
 use Rattle.sp_emit.specs.Holding.{held, Keeps, KeepsFrom}
 use Rattle.sp_emit.specs.Instructions.{always, idle, call, with_short, stack_op}
 use Rattle.sp_emit.specs.Means.{HasArgsConstants, HasWords, HasWordFrame, Follows, KeepsBehind}
@@ -27,7 +28,7 @@ use Rattle.sp_emit.specs.Statements.{args_code, mask_handed, call_tail, call_cod
 use Rattle.sp_emit.specs.declared.registers.TheConstants.{RESULT, MASK, FIRST, OVERRUN}
 use Rattle.sp_tree.specs.Need.{need}
 use Rattle.sp_shape.proofs.Whole.{once_whole}
-use Rattle.sp_emit.specs.Places.{flag_of, word_of, read_word, mask_test, told_at, args_least}
+use Rattle.sp_emit.specs.Places.{flag_words, flag_of, word_of, read_word, mask_test, told_at, args_least}
 use Rattle.sp_emit.proofs.Calm.{is_calm_trail, calm_run}
 use Rattle.sp_emit.proofs.CalmCode.{own_free}
 use Rattle.sp_emit.proofs.Words.{value_word}
@@ -115,7 +116,7 @@ args_word homes slots (e ∷ args) s m most formed constants x (suc i) = args_wo
 
 -- ---- what the function gave
 
-pub result_done : (homes : Homes) (slots count frame mask : ℕ) (result : Option ℕ) (v : ℕ) (s : State) (t : Run) → (homes.flags.count == 0) ≡ true → 1 ≤ homes.first → slots ≤ 128 → slots ≤ count → mask < slots → result_formed slots result ≡ true → v < 2 ^ 32 → Follows homes slots s t → held RESULT t ≡ v
+pub result_done : (homes : Homes) (slots count frame mask : ℕ) (result : Option ℕ) (v : ℕ) (s : State) (t : Run) → list_all is_none (flag_words homes.flags) ≡ true → 1 ≤ homes.first → slots ≤ 128 → slots ≤ count → mask < slots → result_formed slots result ≡ true → v < 2 ^ 32 → Follows homes slots s t → held RESULT t ≡ v
     → Done homes slots count (where_on mask (with_result result v) s) t (run by_words (all_done (result_write homes mask result)) t)
 result_done homes slots count frame mask None v s t none some most fits masked formed word x is = record { follows = subst (λ z. Follows homes slots z t) (same (s.frame mask == 1)) x; keeps = record { st = refl; stack = λ a above. refl; high = λ r at lt. refl } }
   where
@@ -141,7 +142,7 @@ unfoldable pub ServedBy : (ℕ → List Step) → Serves → ℕ → ℕ → ℕ
 ServedBy f g k arguments room top = (mask : ℕ) (args : List ℕ) (w : World) (m : Run) → length args ≡ arguments → room ≤ m.st → CalledWith mask args w m → Returns top (g k mask args w) m (run by_words (f k) m)
 
 -- a frame's words after a call, and the world that the function gave
-follows_answer : (homes : Homes) (slots : ℕ) (s : State) (g : Outcome) (m c t : Run) → (homes.flags.count == 0) ≡ true → Follows homes slots s m → KeepsFrom homes.first m t → c.stack ≡ m.stack → c.st ≡ m.st → Answers g c t → Follows homes slots (in_world s g.world) t
+follows_answer : (homes : Homes) (slots : ℕ) (s : State) (g : Outcome) (m c t : Run) → list_all is_none (flag_words homes.flags) ≡ true → Follows homes slots s m → KeepsFrom homes.first m t → c.stack ≡ m.stack → c.st ≡ m.st → Answers g c t → Follows homes slots (in_world s g.world) t
 follows_answer homes slots s g m c t none x high same_stack same_st a = record {
   whole = a.carries.whole;
   shows = record {
@@ -170,7 +171,7 @@ pub first_least : (args : List PlainSp) (rd : ℕ) → rd ≤ args_least args rd
 first_least [] rd = omega arith
 first_least (e ∷ args) rd = omega arith
 
-pub call_is_done : (homes : Homes) (f : ℕ → List Step) (g : Serves) (frame counter slots room top mask k : ℕ) (args : List PlainSp) (result : Option ℕ) (s : State) (m : Run) → (homes.flags.count == 0) ≡ true → slots ≤ 128 → slots ≤ counter + 1 → mask < slots → length args ≤ 7 → args_formed slots args ≡ true
+pub call_is_done : (homes : Homes) (f : ℕ → List Step) (g : Serves) (frame counter slots room top mask k : ℕ) (args : List PlainSp) (result : Option ℕ) (s : State) (m : Run) → list_all is_none (flag_words homes.flags) ≡ true → slots ≤ 128 → slots ≤ counter + 1 → mask < slots → length args ≤ 7 → args_formed slots args ≡ true
     → HasArgsConstants args → result_formed slots result ≡ true → ServedBy f g k (length args) room top → top ≤ homes.first → args_least args FIRST ≤ homes.first → room ≤ m.st → Follows homes slots s m
     → Done homes slots (counter + 1) (stmt_done g (calls mask k args result) s) m (run by_words (parts_trail f (stmt_code homes frame counter (calls mask k args result))) m)
 unfolding ServedBy

@@ -3,19 +3,21 @@ use Rattle.std.proofs.Common.{◌≡◌, ℕ, zero, suc, ◌+◌, ◌-◌, ◌<�
 use Rattle.std.specs.Prelude.{is_some}
 use Rattle.std.specs.List.{list_all}
 use Rattle.std.proofs.lemmas.Bool.{and_parts, and_from, eqb-true, ltb-true}
+use Rattle.patmos_instr.specs.declared.functions.PredFunc.TheVariants as comb
 use Rattle.sp_tree.specs.Need.{need}
 use Rattle.sp_tree.specs.Plain.{PlainSp, constant, frame_word, cell_word, array_word, before_one, between_two}
 use Rattle.sp_tree.specs.Statements.{PlainSpTarget, to_slot, to_cell, to_array, PlainStmt, masks, writes, calls, transfers, overruns, iterations, PlainStmts, no_stmt, stmt, PlainFunction, no_function, PlainUnit}
 use Rattle.sp_tree.specs.declared.operators.SpBinary.{SpBinary}
 use Rattle.sp_shape.specs.Bundles.{has_word, part_all, parts_all}
 use Rattle.sp_shape.specs.Parts.{straight, PlainParts, no_part, part, one, joined}
+use Rattle.sp_emit.proofs.TruthCode.{seeks_word, no_joins, condition_tests}
 use Rattle.sp_emit.specs.Functions.{codes}
 use Rattle.sp_emit.specs.Places.{flag_of, fetched_at, keep_word, seek_word, match_word, mask_test, told_at}
 use Rattle.sp_emit.proofs.Codes.{codes_at}
 use Rattle.std.proofs.lemmas.Bool.{cases_lt}
 use Rattle.sp_emit.specs.Counts.{HasStmtCounts, HasStmtsCounts, HasCounts}
 use Rattle.sp_emit.specs.Flags.{stmt_hinders, stmts_hinder, is_equal, is_word, tests_mask, behind_first, begun_body, flags_of}
-use Rattle.sp_emit.specs.Truths.{bits_of, is_test, test_of, tested_code, is_same, is_one, word_flag, flag_at, joins, is_truth, unless_stands, join, truth_code, before_flag, flag_set, flag_by, flag_code}
+use Rattle.sp_emit.specs.Truths.{bits_of, is_test, test_of, tested_code, is_same, is_one, word_flag, flag_at, joins, is_truth, unless_stands, join, truth_code, before_flag, flag_set, flag_by, flag_code, is_frame_word, seeks, sought, operands_stood, both_of, is_condition, func_in, spares_second, pairs, kept_code, joining_code, paired_code, unjoined_code}
 use Rattle.sp_emit.proofs.FlagsStand.{Stands, stands_of, all_stand}
 use Rattle.sp_emit.proofs.Uncalled.{neither}
 use Rattle.sp_emit.proofs.Held.{short_below}
@@ -25,8 +27,8 @@ use Rattle.sp_emit.specs.Expressions.{is_home, unless, value_code, operands_code
 use Rattle.sp_emit.specs.Functions.{first_counter, function_begin, function_rest, body_code, function_code, places_of, emitted}
 use Rattle.sp_emit.specs.Means.{HasWordConstants, HasTargetConstants, HasArgsConstants, HasStmtConstants, HasStmtsConstants, HasConstants}
 use Rattle.sp_emit.specs.Statements.{element_write, target_write, guarded_code, args_code, call_code, send_code, overrun_code, slot_set, iterations_begin, iterations_tail, stmt_code, stmts_code}
-use Rattle.sp_emit.specs.Instructions.{always, where_so, under, number_op, set_number}
-use Rattle.sp_emit.specs.declared.registers.TheConstants.{FIRST, TEST}
+use Rattle.sp_emit.specs.Instructions.{always, where_so, under, number_op, set_number, combine}
+use Rattle.sp_emit.specs.declared.registers.TheConstants.{FIRST, TEST, SECOND}
 use Rattle.patmos_instr.specs.declared.instructions.Op.{Op}
 use Rattle.patmos_instr.specs.declared.functions.AluFunc.TheVariants as alu
 use Rattle.patmos_instr.specs.declared.functions.ImmFunc.TheVariants as imm
@@ -72,9 +74,10 @@ unless_words : (C : Type 0) (there : Bool) (code : PlainParts) → (there ≡ tr
 unless_words C true code f g wordy = f refl
 unless_words C false code f g wordy = g wordy
 
--- a word of the frame has no constant
+-- a word of the frame has no constant, and 0 is a word
 home_words : (homes : Homes) (e : PlainSp) → is_home homes e ≡ true → HasWordConstants e
 home_words homes (frame_word slot) is = tt
+home_words homes (constant n) is = let none = eqb-true n 0 is in omega (arith, none)
 home_words homes e is = absurd (true≢false (sym is))
 
 -- the number of a constant
@@ -142,6 +145,22 @@ at_words flags (between_two op a b) is = by (is_same op && is_one b) refl is
     by false other is = absurd (true≢false (sym is))
 at_words flags _ is = absurd (true≢false (sym is))
 
+-- so does a word whose lowest bit is sought
+joined_words : (flags : Flags) (op : SpBinary) (a b : PlainSp) → joins flags op a b ≡ true → HasWordConstants a
+joined_words flags op a b joins_them = by (flag_at flags a) refl (and_parts (is_some (bits_of op)) (is_some (flag_at flags a) || seeks flags op a b) joins_them).1
+  where
+    word : (a : PlainSp) → is_frame_word a ≡ true → HasWordConstants a
+    word (frame_word slot) is = tt
+    word (constant n) is = absurd (true≢false (sym is))
+    word (cell_word cell) is = tt
+    word (array_word array index) is = absurd (true≢false (sym is))
+    word (before_one inner of) is = absurd (true≢false (sym is))
+    word (between_two inner c d) is = absurd (true≢false (sym is))
+
+    by : (o : Option ℕ) → flag_at flags a ≡ o → (is_some o || seeks flags op a b) ≡ true → HasWordConstants a
+    by (Some p) there is = at_words flags a (ap is_some there)
+    by None none is = word a (seeks_word flags op a b is)
+
 -- a constant that is tested is 0
 test_word : (e : PlainSp) → is_test e ≡ true → OwnWord e
 test_word (constant n) test = let none = eqb-true n 0 test in omega (arith, none)
@@ -154,6 +173,22 @@ test_word (between_two op a b) test = tt
 tested_words : (homes : Homes) (e : PlainSp) → is_test e ≡ true → Wordy (tested_code homes e) → HasWordConstants e
 tested_words homes e test h = parts_words homes e FIRST (split (operands_code homes e FIRST) (one (straight (test_of homes e))) h).0 (test_word e test)
 
+-- two conditions, or one
+unjoined_words : (homes : Homes) (op : SpBinary) (a b : PlainSp) → is_test (between_two op a b) ≡ true → (is_condition a ≡ true → Wordy (truth_code homes a) → HasWordConstants a)
+    → Wordy (unjoined_code homes op a b (truth_code homes a)) → HasWordConstants a × HasWordConstants b
+unjoined_words homes op a b test first h = by (pairs op a b) refl h
+  where
+    by : (c : Bool) → pairs op a b ≡ c → Wordy (if c then paired_code homes op b (truth_code homes a) else tested_code homes (between_two op a b)) → HasWordConstants a × HasWordConstants b
+    by true is h =
+        let x = and_parts (is_some (both_of op)) (is_condition a && (is_condition b && spares_second b)) is in
+        let y = and_parts (is_condition a) (is_condition b && spares_second b) x.1 in
+        let z = and_parts (is_condition b) (spares_second b) y.1 in
+        let halves = split (kept_code (truth_code homes a)) (joining_code homes op b) h in
+        let own = split (truth_code homes a) (one (straight (combine comb.Por SECOND TEST TEST ∷ []))) halves.0 in
+        let other = split (tested_code homes b) (one (straight (combine (func_in (both_of op)) TEST SECOND TEST ∷ []))) halves.1 in
+        (first y.0 own.0, tested_words homes b (condition_tests b z.0) other.0)
+    by false is h = tested_words homes (between_two op a b) test h
+
 -- where no predicate holds a truth already, code gives it
 abbrev Truth : Homes → PlainSp → Type 0
 Truth homes e = is_truth homes.flags e ≡ true
@@ -165,6 +200,17 @@ second_words homes b code h = by (flag_at homes.flags b) refl h
     by None is h = code is h
     by (Some p) is h = at_words homes.flags b (ap is_some is)
 
+-- a condition has them in its code
+condition_words : (homes : Homes) (e : PlainSp) → is_condition e ≡ true → Wordy (truth_code homes e) → HasWordConstants e
+condition_words homes (constant n) is h = absurd (true≢false (sym is))
+condition_words homes (frame_word slot) is h = tt
+condition_words homes (cell_word cell) is h = tt
+condition_words homes (array_word array index) is h = absurd (true≢false (sym is))
+condition_words homes (before_one op of) is h = tested_words homes (before_one op of) is h
+condition_words homes (between_two op a b) is h =
+    unjoined_words homes op a b (condition_tests (between_two op a b) is) (condition_words homes a)
+    (subst (λ (c : Bool). Wordy (if c then joined (operands_stood homes a b (truth_code homes b)) (one (straight (join homes.flags TEST op a b ∷ []))) else unjoined_code homes op a b (truth_code homes a))) (no_joins homes.flags op a b is) h)
+
 truth_words : (homes : Homes) (e : PlainSp) → Truth homes e → flag_at homes.flags e ≡ None → Wordy (truth_code homes e) → HasWordConstants e
 truth_words homes (constant n) is none h = tested_words homes (constant n) (sym (ap (λ o. is_some o || (n == 0)) none) ∙ is) h
 truth_words homes (frame_word slot) is none h = tt
@@ -172,28 +218,31 @@ truth_words homes (cell_word cell) is none h = tt
 truth_words homes (array_word array index) is none h = absurd (true≢false (sym is))
 truth_words homes (before_one op of) is none h = tested_words homes (before_one op of) is h
 truth_words homes (between_two op a b) is none h =
-    by (joins homes.flags op a) refl (sym (ap (λ o. is_some o || (if joins homes.flags op a then is_truth homes.flags b else is_test (between_two op a b))) none) ∙ is) h (truth_words homes b)
+    by (joins homes.flags op a b) refl (sym (ap (λ o. is_some o || (if joins homes.flags op a b then is_truth homes.flags b else is_test (between_two op a b))) none) ∙ is) h (truth_words homes b)
   where
-    by : (c : Bool) → joins homes.flags op a ≡ c → (if c then is_truth homes.flags b else is_test (between_two op a b)) ≡ true
-        → Wordy (if c then joined (unless_stands (flag_at homes.flags b) (truth_code homes b)) (one (straight (join homes.flags TEST op a b ∷ []))) else tested_code homes (between_two op a b))
+    by : (c : Bool) → joins homes.flags op a b ≡ c → (if c then is_truth homes.flags b else is_test (between_two op a b)) ≡ true
+        → Wordy (if c then joined (operands_stood homes a b (truth_code homes b)) (one (straight (join homes.flags TEST op a b ∷ []))) else unjoined_code homes op a b (truth_code homes a))
         → (Truth homes b → flag_at homes.flags b ≡ None → Wordy (truth_code homes b) → HasWordConstants b) → HasWordConstants a × HasWordConstants b
     by true joins_it is h second =
-        let s = split (unless_stands (flag_at homes.flags b) (truth_code homes b)) (one (straight (join homes.flags TEST op a b ∷ []))) h in
-        (at_words homes.flags a (and_parts (is_some (bits_of op)) (is_some (flag_at homes.flags a)) joins_it).1, second_words homes b (second is) s.0)
-    by false tests is h second = tested_words homes (between_two op a b) is h
+        let s = split (operands_stood homes a b (truth_code homes b)) (one (straight (join homes.flags TEST op a b ∷ []))) h in
+        (joined_words homes.flags op a b joins_it, second_words homes b (second is) (split (unless_stands (flag_at homes.flags b) (truth_code homes b)) (sought homes a) s.0).0)
+    by false tests is h second = unjoined_words homes op a b is (condition_words homes a) h
 
 before_words : (homes : Homes) (e : PlainSp) → Truth homes e → flag_at homes.flags e ≡ None → Wordy (before_flag homes e) → HasWordConstants e
-before_words homes (constant n) is none h = truth_words homes (constant n) is none h
+before_words homes (constant n) is none h =
+    let zero : n ≡ 0 = eqb-true n 0 (ap (λ o. is_some o || is_test (constant n)) (sym none) ∙ is) in
+    omega (arith, zero)
 before_words homes (frame_word slot) is none h = tt
 before_words homes (cell_word cell) is none h = tt
 before_words homes (array_word array index) is none h = truth_words homes (array_word array index) is none h
 before_words homes (before_one op of) is none h = truth_words homes (before_one op of) is none h
-before_words homes (between_two op a b) is none h = by (joins homes.flags op a) refl (sym (ap (λ o. is_some o || (if joins homes.flags op a then is_truth homes.flags b else is_test (between_two op a b))) none) ∙ is) h
+before_words homes (between_two op a b) is none h = by (joins homes.flags op a b) refl (sym (ap (λ o. is_some o || (if joins homes.flags op a b then is_truth homes.flags b else is_test (between_two op a b))) none) ∙ is) h
   where
-    by : (c : Bool) → joins homes.flags op a ≡ c → (if c then is_truth homes.flags b else is_test (between_two op a b)) ≡ true
-        → Wordy (if c then unless_stands (flag_at homes.flags b) (truth_code homes b) else tested_code homes (between_two op a b)) → HasWordConstants a × HasWordConstants b
-    by true joins_it is h = (at_words homes.flags a (and_parts (is_some (bits_of op)) (is_some (flag_at homes.flags a)) joins_it).1, second_words homes b (truth_words homes b is) h)
-    by false tests is h = tested_words homes (between_two op a b) is h
+    by : (c : Bool) → joins homes.flags op a b ≡ c → (if c then is_truth homes.flags b else is_test (between_two op a b)) ≡ true
+        → Wordy (if c then operands_stood homes a b (truth_code homes b) else unjoined_code homes op a b (truth_code homes a)) → HasWordConstants a × HasWordConstants b
+    by true joins_it is h =
+        (joined_words homes.flags op a b joins_it, second_words homes b (truth_words homes b is) (split (unless_stands (flag_at homes.flags b) (truth_code homes b)) (sought homes a) h).0)
+    by false tests is h = unjoined_words homes op a b is (condition_words homes a) h
 
 flag_words : (homes : Homes) (to : ℕ) (e : PlainSp) → Truth homes e → Wordy (flag_code homes to e) → HasWordConstants e
 flag_words homes to e is h = by (flag_at homes.flags e) refl h

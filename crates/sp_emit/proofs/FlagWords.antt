@@ -1,6 +1,6 @@
 -- Words of a frame in predicates, and what any word holds wherever it stands.
-use Rattle.std.proofs.Common.{◌≡◌, ℕ, zero, suc, ◌+◌, ◌-◌, ◌<◌, ◌≤◌, ◌==◌, Bool, true, false, true≢false, ◌&&◌, if◌then◌else◌, Option, None, Some, List, [], ◌∷◌, refl, sym, ap, ◌∙◌, arith}
-use Rattle.std.specs.Prelude.{min, nat_le, nat_lt, is_none, is_some}
+use Rattle.std.proofs.Common.{◌≡◌, ℕ, zero, suc, ◌+◌, ◌<◌, ◌≤◌, Bool, true, false, true≢false, if◌then◌else◌, Option, None, Some, List, [], ◌∷◌, refl, sym, ap, ◌∙◌, arith, ne_eqb}
+use Rattle.std.specs.Prelude.{is_none, is_some}
 use Rattle.std.specs.List.{list_all}
 use Rattle.std.proofs.lemmas.Bool.{and_parts, and_from, eqb-true, leb-true, ltb-true}
 use Rattle.sp_shape.proofs.Lists.{all_append}
@@ -12,8 +12,9 @@ use Rattle.c_world.specs.Numbers.{flag}
 use Rattle.sp_shape.specs.Run.{Run, IsWhole}
 use Rattle.sp_emit.specs.Holding.{held, so, KeepsFrom, KeepsFlags}
 use Rattle.sp_emit.specs.Instructions.{always, under, idle, set_short, compare_short, combine}
-use Rattle.sp_emit.specs.Places.{flag_of, in_register, word_of, held_in, shown_word, fetch_word, fetched_at, seek_op, seek_word, match_op, match_word, mask_test, told_in, told_at, cleared_in, word_cleared, words_cleared}
-use Rattle.sp_emit.specs.declared.registers.TheConstants.{OVERRUN, TEST, SECOND, FLAGS}
+use Rattle.sp_emit.specs.Flags.{is_past}
+use Rattle.sp_emit.specs.Places.{is_that, flag_in, flag_words, flag_of, in_register, word_of, held_in, shown_word, fetch_word, fetched_at, seek_op, seek_word, match_op, match_word, mask_test, told_in, told_at, cleared_in, word_cleared, words_cleared}
+use Rattle.sp_emit.specs.declared.registers.TheConstants.{OVERRUN, TEST, SECOND}
 use Rattle.sp_emit.specs.declared.stands.Homes.{Homes}
 use Rattle.sp_emit.proofs.Once.{with_written, kept_by_pred, so_got, so_kept}
 use Rattle.sp_emit.proofs.WordPlaces.{Sets, word_still, word_kept}
@@ -21,46 +22,66 @@ use Rattle.sp_emit.specs.declared.stands.Flags.{Flags}
 
 -- ---- each predicate is that of one word
 
--- a word that stands in one is one of the first four
-pub record In (flags : Flags) (slot p : ℕ) : Type 0 where
-  pub from : flags.word ≤ slot
-  pub few : slot < flags.word + min 4 flags.count
-  pub is : p ≡ FLAGS + (slot - flags.word)
+abbrev preds_from : ℕ → ℕ → List ℕ
+preds_from p zero = []
+preds_from p (suc n) = p ∷ preds_from (p + 1) n
 
-pub stands_in : (flags : Flags) (slot p : ℕ) → flag_of flags slot ≡ Some p → In flags slot p
-unfolding flag_of
-stands_in flags slot p = by (nat_le flags.word slot && nat_lt (slot - flags.word) (min 4 flags.count)) refl
+in_range : (n p : ℕ) (words : List (Option ℕ)) (slot q : ℕ) → flag_in (preds_from p n) words slot ≡ Some q → (p ≤ q) × (q < p + n)
+in_range zero p words slot q is = absurd cc
+in_range (suc n) p [] slot q is = absurd cc
+in_range (suc n) p (word ∷ words) slot q is = by (in_range n (p + 1) words slot q) (is_that word slot) is
   where
-    by : (b : Bool) → (nat_le flags.word slot && nat_lt (slot - flags.word) (min 4 flags.count)) ≡ b → (if b then Some (FLAGS + (slot - flags.word)) else None) ≡ Some p → In flags slot p
-    by true both is =
-        let parts = and_parts (nat_le flags.word slot) (nat_lt (slot - flags.word) (min 4 flags.count)) both in
-        let from = leb-true flags.word slot parts.0 in
-        record { from = from; few = omega (arith, from, ltb-true (slot - flags.word) (min 4 flags.count) parts.1); is = grind (arith, is) }
-    by false both is = absurd cc
+    by : (flag_in (preds_from (p + 1) n) words slot ≡ Some q → (p + 1 ≤ q) × (q < p + 1 + n)) → (b : Bool) → (if b then Some p else flag_in (preds_from (p + 1) n) words slot) ≡ Some q → (p ≤ q) × (q < p + suc n)
+    by later true is = let same : p ≡ q = grind (arith, is) in (omega (arith, same), omega (arith, same))
+    by later false is = let r = later is in let a = r.0 in let b = r.1 in (omega (arith, a), omega (arith, b))
+
+same_word : (word : Option ℕ) (a b : ℕ) → is_that word a ≡ true → is_that word b ≡ true → a ≡ b
+same_word None a b is_a is_b = absurd (true≢false (sym is_a))
+same_word (Some word) a b is_a is_b = sym (eqb-true word a is_a) ∙ eqb-true word b is_b
+
+one_word : (n p : ℕ) (words : List (Option ℕ)) (a b q : ℕ) → flag_in (preds_from p n) words a ≡ Some q → flag_in (preds_from p n) words b ≡ Some q → a ≡ b
+one_word zero p words a b q is_a is_b = absurd cc
+one_word (suc n) p [] a b q is_a is_b = absurd cc
+one_word (suc n) p (word ∷ words) a b q is_a is_b = by (one_word n (p + 1) words a b q) (is_that word a) refl is_a (is_that word b) refl is_b
+  where
+    by : (flag_in (preds_from (p + 1) n) words a ≡ Some q → flag_in (preds_from (p + 1) n) words b ≡ Some q → a ≡ b) → (x : Bool) → is_that word a ≡ x → (if x then Some p else flag_in (preds_from (p + 1) n) words a) ≡ Some q → (y : Bool) → is_that word b ≡ y → (if y then Some p else flag_in (preds_from (p + 1) n) words b) ≡ Some q → a ≡ b
+    by later true same_a is_a true same_b is_b = same_word word a b same_a same_b
+    by later true same_a is_a false other is_b = let same : p ≡ q = grind (arith, is_a) in let r = (in_range n (p + 1) words b q is_b).0 in absurd (omega (arith, same, r))
+    by later false other is_a true same_b is_b = let same : p ≡ q = grind (arith, is_b) in let r = (in_range n (p + 1) words a q is_a).0 in absurd (omega (arith, same, r))
+    by later false other_a is_a false other_b is_b = later is_a is_b
 
 pub flag_range : (flags : Flags) (slot p : ℕ) → flag_of flags slot ≡ Some p → (4 ≤ p) × (p < 8)
-flag_range flags slot p is = let x = stands_in flags slot p is in (omega (arith, x.is), omega (arith, x.is, x.from, x.few))
+unfolding flag_of
+flag_range flags slot p is = in_range 4 4 (flag_words flags) slot p is
 
 pub flag_one : (flags : Flags) (a b p : ℕ) → flag_of flags a ≡ Some p → flag_of flags b ≡ Some p → a ≡ b
-flag_one flags a b p is_a is_b =
-    let x = stands_in flags a p is_a in
-    let y = stands_in flags b p is_b in
-    omega (arith, x.is, y.is, x.from, y.from)
+unfolding flag_of
+flag_one flags a b p is_a is_b = one_word 4 4 (flag_words flags) a b p is_a is_b
+
+-- a word that is none of those that do
+pub beside_in : (preds : List ℕ) (words : List (Option ℕ)) (slot : ℕ) (beside : Option ℕ → Bool) → ((word : Option ℕ) → beside word ≡ true → is_that word slot ≡ false) → list_all beside words ≡ true → flag_in preds words slot ≡ None
+beside_in [] words slot beside each all = refl
+beside_in (p ∷ preds) [] slot beside each all = refl
+beside_in (p ∷ preds) (word ∷ words) slot beside each all =
+    let both = and_parts (beside word) (list_all beside words) all in
+    ap (λ b. if b then Some p else flag_in preds words slot) (each word both.0) ∙ beside_in preds words slot beside each both.1
 
 -- where none stands in one, and before those that do
-pub none_stands : (flags : Flags) (slot : ℕ) → (flags.count == 0) ≡ true → flag_of flags slot ≡ None
-none_stands flags slot none = by (flag_of flags slot) refl
+pub none_stands : (flags : Flags) (slot : ℕ) → list_all is_none (flag_words flags) ≡ true → flag_of flags slot ≡ None
+unfolding flag_of
+none_stands flags slot none = beside_in (4 ∷ 5 ∷ 6 ∷ 7 ∷ []) (flag_words flags) slot is_none each none
   where
-    by : (o : Option ℕ) → flag_of flags slot ≡ o → o ≡ None
-    by None is = refl
-    by (Some p) is = let x = stands_in flags slot p is in absurd (omega (arith, x.from, x.few, eqb-true flags.count 0 none))
+    each : (word : Option ℕ) → is_none word ≡ true → is_that word slot ≡ false
+    each None is = refl
+    each (Some word) is = absurd (true≢false (sym is))
 
-pub before_flags : (flags : Flags) (slot : ℕ) → slot < flags.word → flag_of flags slot ≡ None
-before_flags flags slot lt = by (flag_of flags slot) refl
+pub before_flags : (flags : Flags) (most slot : ℕ) → list_all (is_past most) (flag_words flags) ≡ true → slot < most → flag_of flags slot ≡ None
+unfolding flag_of
+before_flags flags most slot past lt = beside_in (4 ∷ 5 ∷ 6 ∷ 7 ∷ []) (flag_words flags) slot (is_past most) each past
   where
-    by : (o : Option ℕ) → flag_of flags slot ≡ o → o ≡ None
-    by None is = refl
-    by (Some p) is = let x = stands_in flags slot p is in absurd (omega (arith, x.from, lt))
+    each : (word : Option ℕ) → is_past most word ≡ true → is_that word slot ≡ false
+    each None is = refl
+    each (Some word) is = ne_eqb word slot (λ same. absurd (omega (arith, same, lt, leb-true most word is)))
 
 -- ---- what holds of both
 
@@ -153,7 +174,7 @@ pub shown_still : (homes : Homes) (slot : ℕ) (m t : Run) → KeepsFrom homes.f
 shown_still homes slot m t high flags stack st = shown_by homes slot m t (word_still homes.first slot m t high stack st) flags
 
 -- where no word of a frame stands in a predicate
-pub shown_kept : (homes : Homes) (slot : ℕ) (m t : Run) → (homes.flags.count == 0) ≡ true → KeepsFrom homes.first m t → ((a : ℕ) → m.st ≤ a → t.stack a ≡ m.stack a) → t.st ≡ m.st
+pub shown_kept : (homes : Homes) (slot : ℕ) (m t : Run) → list_all is_none (flag_words homes.flags) ≡ true → KeepsFrom homes.first m t → ((a : ℕ) → m.st ≤ a → t.stack a ≡ m.stack a) → t.st ≡ m.st
     → shown_word homes slot t ≡ shown_word homes slot m
 shown_kept homes slot m t none high stack st =
     let is = none_stands homes.flags slot none in

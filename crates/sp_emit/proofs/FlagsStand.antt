@@ -1,15 +1,17 @@
 -- What it is for words of a function to stand in predicates, and that those that do so may.
-use Rattle.std.proofs.Common.{◌≡◌, ℕ, zero, suc, ◌-◌, ◌⊎◌, inl, inr, ◌<◌, ◌==◌, Bool, true, false, true≢false, not, ◌&&◌, ◌||◌, if◌then◌else◌, Option, None, Some, refl, sym, ap, ap₂, ◌∙◌, arith}
-use Rattle.std.specs.Prelude.{nat_le, is_none, is_some}
-use Rattle.std.proofs.lemmas.Bool.{and_parts, and_from, or_from, or_cases, leb-true, eqb-true}
+use Rattle.std.proofs.Common.{◌≡◌, ℕ, zero, suc, ◌-◌, ◌<◌, ◌==◌, Bool, true, false, true≢false, not, ◌&&◌, ◌||◌, if◌then◌else◌, Option, None, Some, refl, sym, ap, ap₂, ◌∙◌, arith}
+use Rattle.std.specs.Prelude.{is_none, is_some}
+use Rattle.std.specs.List.{list_all}
+use Rattle.sp_tree.specs.Formed.{slots_of}
+use Rattle.std.proofs.lemmas.Bool.{and_parts, and_from, or_from, eqb-true}
 use Rattle.c_world.specs.Numbers.{flag}
 use Rattle.sp_tree.specs.Plain.{PlainSp, constant, frame_word, between_two}
 use Rattle.sp_tree.specs.Statements.{PlainSpTarget, to_slot, to_cell, to_array, PlainStmt, masks, writes, calls, transfers, overruns, iterations, PlainStmts, no_stmt, stmt, PlainFunction}
 use Rattle.sp_tree.specs.Straight.{State, Serves, worth, with_slot, stmts_done}
 use Rattle.sp_tree.specs.declared.operators.SpBinary.{SpBinary}
 use Rattle.sp_tree.specs.declared.operators.SpBinary.TheVariants as binary
-use Rattle.sp_emit.specs.Flags.{most_flags, target_hinders, stmt_hinders, stmts_hinder, is_equal, is_word, tests_mask, behind_first, begun_body, function_stands, chosen, flags_of}
-use Rattle.sp_emit.specs.Places.{flag_of}
+use Rattle.sp_emit.specs.Flags.{first_flags, first_choice, is_past, most_flags, target_hinders, stmt_hinders, stmts_hinder, is_equal, is_word, tests_mask, behind_first, begun_body, function_stands, flags_of}
+use Rattle.sp_emit.specs.Places.{flag_words, flag_of}
 use Rattle.sp_emit.specs.Truths.{is_one, is_truth}
 use Rattle.sp_emit.proofs.FlagWords.{is_none_of, none_stands, before_flags}
 use Rattle.sp_emit.specs.declared.stands.Flags.{Flags}
@@ -33,28 +35,24 @@ on_false false is = refl
 pub stands_of : (flags : Flags) (f : PlainFunction) → function_stands flags f ≡ true → Stands flags f
 stands_of flags f h =
     let a = and_parts (is_none (flag_of flags f.result)) _ h in
-    let b = and_parts (flags.count == 0 || nat_le f.parameters flags.word) _ a.1 in
+    let b = and_parts (list_all (is_past f.parameters) (flag_words flags)) _ a.1 in
     let c = and_parts (is_none (flag_of flags f.mask) || tests_mask f.mask f.body) (not (stmts_hinder flags (begun_body flags f))) b.1 in
     record {
       result = is_none_of (flag_of flags f.result) a.0;
-      parameters = λ i lt. apart i lt (or_cases (flags.count == 0) (nat_le f.parameters flags.word) b.0);
+      parameters = λ i lt. before_flags flags f.parameters i b.0 lt;
       mask = unless_stands (flag_of flags f.mask) (tests_mask f.mask f.body) c.0;
       body = on_false (stmts_hinder flags (begun_body flags f)) c.1;
     }
-  where
-    apart : (i : ℕ) → i < f.parameters → ((flags.count == 0) ≡ true) ⊎ (nat_le f.parameters flags.word ≡ true) → flag_of flags i ≡ None
-    apart i lt (inl none) = none_stands flags i none
-    apart i lt (inr past) = before_flags flags i (omega (arith, lt, leb-true f.parameters flags.word past))
 
 -- ---- those that do may
 
-target_beside : (flags : Flags) (target : PlainSpTarget) → (flags.count == 0) ≡ true → target_hinders flags target ≡ false
+target_beside : (flags : Flags) (target : PlainSpTarget) → list_all is_none (flag_words flags) ≡ true → target_hinders flags target ≡ false
 target_beside flags (to_slot slot) none = ap is_some (none_stands flags slot none)
 target_beside flags (to_cell cell) none = refl
 target_beside flags (to_array array index) none = refl
 
 mutual
-  stmt_beside : (flags : Flags) (t : PlainStmt) → (flags.count == 0) ≡ true → stmt_hinders flags t ≡ false
+  stmt_beside : (flags : Flags) (t : PlainStmt) → list_all is_none (flag_words flags) ≡ true → stmt_hinders flags t ≡ false
   stmt_beside flags (masks slot e) none = ap (λ o. is_some o && not (is_truth flags e)) (none_stands flags slot none)
   stmt_beside flags (writes mask target e) none = target_beside flags target none
   stmt_beside flags (calls mask k args result) none = ap not none
@@ -62,34 +60,34 @@ mutual
   stmt_beside flags (overruns mask e) none = refl
   stmt_beside flags (iterations count body) none = stmts_beside flags body none
 
-  stmts_beside : (flags : Flags) (ts : PlainStmts) → (flags.count == 0) ≡ true → stmts_hinder flags ts ≡ false
+  stmts_beside : (flags : Flags) (ts : PlainStmts) → list_all is_none (flag_words flags) ≡ true → stmts_hinder flags ts ≡ false
   stmts_beside flags no_stmt none = refl
   stmts_beside flags (stmt t rest) none = or_from (stmt_hinders flags t) (stmts_hinder flags rest) (stmt_beside flags t none) (stmts_beside flags rest none)
 
 -- none do in any case
-none_stand : (f : PlainFunction) → function_stands (chosen 0 f) f ≡ true
-none_stand f =
-    let flags = chosen 0 f in
-    let mask = none_stands flags f.mask refl in
-    and_from (is_none (flag_of flags f.result)) _ (ap is_none (none_stands flags f.result refl))
-    (and_from (is_none (flag_of flags f.mask) || tests_mask f.mask f.body) _ (ap (λ o. is_none o || tests_mask f.mask f.body) mask)
-    (ap not (stmts_beside flags (begun_body flags f) refl)))
+none_stand : (flags : Flags) (f : PlainFunction) → function_stands (first_flags 0 flags) f ≡ true
+none_stand flags f =
+    let none = first_flags 0 flags in
+    let mask = none_stands none f.mask refl in
+    and_from (is_none (flag_of none f.result)) _ (ap is_none (none_stands none f.result refl))
+    (and_from (is_none (flag_of none f.mask) || tests_mask f.mask f.body) _ (ap (λ o. is_none o || tests_mask f.mask f.body) mask)
+    (ap not (stmts_beside none (begun_body none f) refl)))
 
-most_stand : (n : ℕ) (f : PlainFunction) → function_stands (most_flags n f) f ≡ true
-most_stand zero f = none_stand f
-most_stand (suc n) f = by (function_stands (chosen (suc n) f) f) refl (most_stand n f)
+most_stand : (n : ℕ) (flags : Flags) (f : PlainFunction) → function_stands (most_flags n flags f) f ≡ true
+most_stand zero flags f = none_stand flags f
+most_stand (suc n) flags f = by (function_stands (first_flags (suc n) flags) f) refl (most_stand n flags f)
   where
-    by : (b : Bool) → function_stands (chosen (suc n) f) f ≡ b → function_stands (most_flags n f) f ≡ true → function_stands (if b then chosen (suc n) f else most_flags n f) f ≡ true
+    by : (b : Bool) → function_stands (first_flags (suc n) flags) f ≡ b → function_stands (most_flags n flags f) f ≡ true → function_stands (if b then first_flags (suc n) flags else most_flags n flags f) f ≡ true
     by true is fewer = is
     by false is fewer = fewer
 
 pub all_stand : (f : PlainFunction) → function_stands (flags_of f) f ≡ true
-all_stand f = most_stand 4 f
+all_stand f = most_stand 4 (first_choice f (slots_of f)).best f
 
 -- one step of the choice
-pub more_flags : (count : ℕ) (f : PlainFunction) (b : Bool) → (count ≡ 0 → ⊥) → function_stands (chosen count f) f ≡ b → most_flags count f ≡ (if b then chosen count f else most_flags (count - 1) f)
-more_flags zero f b some is = absurd (some refl)
-more_flags (suc n) f b some is = ap (λ c. if c then chosen (suc n) f else most_flags n f) is ∙ ap (λ k. if b then chosen (suc n) f else most_flags k f) (let e : n ≡ suc n - 1 = omega arith in e)
+pub more_flags : (count : ℕ) (flags : Flags) (f : PlainFunction) (b : Bool) → (count ≡ 0 → ⊥) → function_stands (first_flags count flags) f ≡ b → most_flags count flags f ≡ (if b then first_flags count flags else most_flags (count - 1) flags f)
+more_flags zero flags f b some is = absurd (some refl)
+more_flags (suc n) flags f b some is = ap (λ c. if c then first_flags (suc n) flags else most_flags n flags f) is ∙ ap (λ k. if b then first_flags (suc n) flags else most_flags k flags f) (let e : n ≡ suc n - 1 = omega arith in e)
 
 -- ---- the body without the test of its mask
 

@@ -156,7 +156,7 @@ tests_formed n bs tests = lone n bs (calm bs tests)
     calm (b ∷ bs) is = let x = and_parts (is_test_bundle b) (list_all is_test_bundle bs) is in and_from (not (is_flow b.first.op)) (are_calm bs) (ap not (still b x.0)) (calm bs x.1)
 
 truths_formed : (homes : Homes) (n : ℕ) → TruthParts (λ ps. parts_formed n ps ≡ true) homes (λ e. Unit {0})
-truths_formed homes n = record { none = refl; both = both n; second = λ op a b h. h; operands = λ e h. operands_formed homes n e FIRST; tests = tests_formed n }
+truths_formed homes n = record { none = refl; both = both n; first = λ op a b h. h; second = λ op a b h. h; operands = λ e h. operands_formed homes n e FIRST; tests = tests_formed n; bits = λ slot h. rw (fetch_flow homes.first slot) refl }
 
 pub flag_formed : (homes : Homes) (n to : ℕ) (e : PlainSp) → parts_formed n (flag_code homes to e) ≡ true
 flag_formed homes n to e = flag_is (truths_formed homes n) to (λ func a b. refl) e tt

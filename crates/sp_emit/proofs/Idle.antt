@@ -74,7 +74,7 @@ tests_idle : (bs : List Slots) → AreTests bs → Idles (one (straight bs))
 tests_idle bs tests = refl
 
 truths_idle : (homes : Homes) → TruthParts Idles homes (λ e. Unit {0})
-truths_idle homes = record { none = refl; both = both; second = λ op a b h. h; operands = λ e h. operands_idle homes e FIRST; tests = tests_idle }
+truths_idle homes = record { none = refl; both = both; first = λ op a b h. h; second = λ op a b h. h; operands = λ e h. operands_idle homes e FIRST; tests = tests_idle; bits = λ slot h. refl }
 
 mutual
   stmt_idle : (homes : Homes) (frame counter : ℕ) (t : PlainStmt) → Idles (stmt_code homes frame counter t)

@@ -1,6 +1,6 @@
 -- What the code of operators and accesses leaves in a register.
 use Rattle.std.proofs.lemmas.Bool.{and_parts, leb-true, cases_lt, le-leb, lt-leb, lt-ltb, le-ltb, ltb-true}
-use Rattle.std.proofs.Common.{◌⊎◌, inl, inr, ◌≡◌, ℕ, ◌+◌, ◌-◌, ◌*◌, ◌/◌, ◌%◌, ◌^◌, ◌<◌, ◌≤◌, ◌==◌, Bool, true, false, not, if◌then◌else◌, List, refl, ap, ◌∙◌, arith, bit_or, nat_lt}
+use Rattle.std.proofs.Common.{◌⊎◌, inl, inr, ◌≡◌, ℕ, ◌+◌, ◌-◌, ◌*◌, ◌/◌, ◌%◌, ◌^◌, ◌<◌, ◌≤◌, ◌==◌, Bool, true, false, not, if◌then◌else◌, List, refl, ap, ◌∙◌, arith, bit_or, nat_lt, [], ◌∷◌, ap₂}
 use Rattle.std.specs.Prelude.{nat_le}
 use Rattle.std.specs.Int.Bits.{or_zero_r}
 use Rattle.patmos_instr.specs.declared.guards.Guard.{Guard}
@@ -102,25 +102,46 @@ held_compared_leaves from func rd ra n m whole some few =
     ap (λ t. held rd (run from (all_done (truth_to rd)) t)) (did_compare_short from func TEST ra n m whole)
     ∙ truth_leaves from TEST rd b (with_written (write.Predicate TEST b) m) (whole_written (write.Predicate TEST b) m whole) some few (omega arith) (so_got TEST b m whole (omega arith) (omega arith))
 
--- two tests, and the truth of what they come to
-pub both_leaves : (from : Sources) (func : PredFunc) (rd ra rb : ℕ) (m : Run) → IsWhole m → 1 ≤ rd → rd < 32 → rb < 32
-    → held rd (run from (all_done (both_code func rd ra rb)) m) ≡ flag (pred_value func (is_true (held ra m)) (is_true (held rb m)))
-both_leaves from func rd ra rb m whole some few second =
+-- two tests, which are joined
+abbrev pub both_seen : PredFunc → ℕ → ℕ → Run → Bool
+both_seen func ra rb m = pred_value func (is_true (held ra m)) (is_true (held rb m))
+
+abbrev pub with_both : PredFunc → ℕ → ℕ → Run → Run
+with_both func ra rb m = with_written (write.Predicate TEST (both_seen func ra rb m)) (with_written (write.Predicate SECOND (is_true (held rb m))) (with_written (write.Predicate TEST (is_true (held ra m))) m))
+
+pub both_tested : (from : Sources) (func : PredFunc) (ra rb : ℕ) (m : Run) → IsWhole m → rb < 32
+    → run from (all_done (compare_short cmp.Neq TEST ra 0 ∷ compare_short cmp.Neq SECOND rb 0 ∷ combine func TEST TEST SECOND ∷ [])) m ≡ with_both func ra rb m
+both_tested from func ra rb m whole second =
     let a = is_true (held ra m) in
     let b = is_true (held rb m) in
     let one = with_written (write.Predicate TEST a) m in
     let two = with_written (write.Predicate SECOND b) one in
     let whole_one = whole_written (write.Predicate TEST a) m whole in
-    let whole_two = whole_written (write.Predicate SECOND b) one whole_one in
     let test : so TEST two ≡ a = so_kept SECOND b TEST one whole_one (omega arith) (λ same. absurd (omega (arith, same))) ∙ so_got TEST a m whole (omega arith) (omega arith) in
     let other : so SECOND two ≡ b = so_got SECOND b one whole_one (omega arith) (omega arith) in
-    let c = pred_value func (so TEST two) (so SECOND two) in
-    ap (λ t. held rd (run from (all_done (truth_to rd)) (once from (combine func TEST TEST SECOND) (once from (compare_short cmp.Neq SECOND rb 0) t)))) (did_compare_short from cmp.Neq TEST ra 0 m whole)
-    ∙ ap (λ t. held rd (run from (all_done (truth_to rd)) (once from (combine func TEST TEST SECOND) t)))
-    (did_compare_short from cmp.Neq SECOND rb 0 one whole_one ∙ ap (λ x. with_written (write.Predicate SECOND (is_true x)) one) (kept_by_pred TEST a rb m whole second))
-    ∙ ap (λ t. held rd (run from (all_done (truth_to rd)) t)) (did_combine from func TEST TEST SECOND two whole_two)
-    ∙ truth_leaves from TEST rd c (with_written (write.Predicate TEST c) two) (whole_written (write.Predicate TEST c) two whole_two) some few (omega arith) (so_got TEST c two whole_two (omega arith) (omega arith))
-    ∙ ap (λ x. flag (pred_value func x (so SECOND two))) test ∙ ap (λ y. flag (pred_value func a y)) other
+    ap (λ t. once from (combine func TEST TEST SECOND) (once from (compare_short cmp.Neq SECOND rb 0) t)) (did_compare_short from cmp.Neq TEST ra 0 m whole)
+    ∙ ap (once from (combine func TEST TEST SECOND)) (did_compare_short from cmp.Neq SECOND rb 0 one whole_one ∙ ap (λ x. with_written (write.Predicate SECOND (is_true x)) one) (kept_by_pred TEST a rb m whole second))
+    ∙ did_combine from func TEST TEST SECOND two (whole_written (write.Predicate SECOND b) one whole_one)
+    ∙ ap₂ (λ x y. with_written (write.Predicate TEST (pred_value func x y)) two) test other
+
+both_tested_whole : (func : PredFunc) (ra rb : ℕ) (m : Run) → IsWhole m → IsWhole (with_both func ra rb m)
+both_tested_whole func ra rb m whole =
+    let one = with_written (write.Predicate TEST (is_true (held ra m))) m in
+    let two = with_written (write.Predicate SECOND (is_true (held rb m))) one in
+    whole_written (write.Predicate TEST (both_seen func ra rb m)) two (whole_written (write.Predicate SECOND (is_true (held rb m))) one (whole_written (write.Predicate TEST (is_true (held ra m))) m whole))
+
+pub both_told : (func : PredFunc) (ra rb : ℕ) (m : Run) → IsWhole m → so TEST (with_both func ra rb m) ≡ both_seen func ra rb m
+both_told func ra rb m whole =
+    let one = with_written (write.Predicate TEST (is_true (held ra m))) m in
+    let two = with_written (write.Predicate SECOND (is_true (held rb m))) one in
+    so_got TEST (both_seen func ra rb m) two (whole_written (write.Predicate SECOND (is_true (held rb m))) one (whole_written (write.Predicate TEST (is_true (held ra m))) m whole)) (omega arith) (omega arith)
+
+-- and the truth of what they come to
+pub both_leaves : (from : Sources) (func : PredFunc) (rd ra rb : ℕ) (m : Run) → IsWhole m → 1 ≤ rd → rd < 32 → rb < 32
+    → held rd (run from (all_done (both_code func rd ra rb)) m) ≡ flag (pred_value func (is_true (held ra m)) (is_true (held rb m)))
+both_leaves from func rd ra rb m whole some few second =
+    ap (λ t. held rd (run from (all_done (truth_to rd)) t)) (both_tested from func ra rb m whole second)
+    ∙ truth_leaves from TEST rd (both_seen func ra rb m) (with_both func ra rb m) (both_tested_whole func ra rb m whole) some few (omega arith) (both_told func ra rb m whole)
 
 -- ---- operators on one word
 

@@ -63,6 +63,7 @@ pub mod Reaching
 pub mod Returning
 pub mod Room
 pub mod Runs
+pub mod Seconds
 pub mod Sends
 pub mod Serves
 pub mod Signs
@@ -73,6 +74,7 @@ pub mod Storing
 pub mod TaskAsks
 pub mod Tasks
 pub mod Iterations
+pub mod TreeSizes
 pub mod TruthCode
 pub mod Uncalled
 pub mod Untouched

@@ -13,6 +13,7 @@ use Rattle.sp_shape.specs.Parts.{straight, PlainParts, no_part, part, one, joine
 use Rattle.sp_shape.specs.Run.{Run, Sources, Back, once, run, begun, IsWhole}
 use Rattle.sp_shape.specs.Trail.{Step, all_done, part_trail, parts_trail}
 use Rattle.sp_shape.specs.Iterating.{PartsIteration}
+use Rattle.sp_emit.specs.Truths.{bit_sought}
 use Rattle.sp_emit.proofs.Lasts.{write_is}
 use Rattle.sp_emit.proofs.Operands.{one_of, each_operands_are, each_expr_is, mask_is}
 use Rattle.sp_emit.specs.Places.{mask_test, told_at, word_of, fetched_at, set_word, args_least, stmt_least, stmts_least}
@@ -100,9 +101,11 @@ truths_iterate : (homes : Homes) (from : Sources) (f : ℕ → List Step) (Calle
 truths_iterate homes from f Called back = record {
   none = λ m whole. tt;
   both = two_parts from f Called back;
+  first = λ op a b h. h;
   second = λ op a b h. h;
   operands = λ e h. operands_iteration homes from f Called back e FIRST;
   tests = λ bs are. bundles from f Called back bs;
+  bits = λ slot h. bundles from f Called back (bit_sought homes.first slot);
 }
 
 -- ---- statements

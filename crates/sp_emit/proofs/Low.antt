@@ -5,6 +5,7 @@ use Rattle.std.specs.Prelude.{nat_le}
 use Rattle.std.specs.List.{list_all}
 use Rattle.std.proofs.lemmas.Bool.{and_parts, and_from, or_cases, or_right, le-leb, lt-ltb, leb-true, ltb-true, eqb-true}
 use Rattle.patmos_instr.specs.Bundles.{Slots}
+use Rattle.patmos_instr.specs.declared.functions.CmpFunc.TheVariants as cmp
 use Rattle.patmos_instr.specs.declared.guards.Guard.{Guard}
 use Rattle.patmos_instr.specs.declared.instructions.Op.{Op}
 use Rattle.patmos_instr.specs.declared.instructions.Op.TheVariants.{AluImm, AluReg, AluLong, FromSpecial, Stack, Load, Store}
@@ -20,9 +21,10 @@ use Rattle.sp_tree.specs.Plain.{PlainSp}
 use Rattle.sp_tree.specs.Statements.{PlainSpTarget, to_slot, to_cell, to_array, PlainStmt, masks, writes, calls, transfers, overruns, iterations, PlainStmts, no_stmt, stmt, PlainFunction, no_function}
 use Rattle.sp_shape.specs.Parts.{PlainPart, straight, repeats, calls_to, leaves, PlainParts, no_part, part, one, joined}
 use Rattle.sp_shape.proofs.Lists.{all_weaker}
+use Rattle.sp_emit.specs.Truths.{bit_sought}
 use Rattle.sp_emit.specs.Expressions.{value_code, operands_code, expr_to, expr_code, address_of}
 use Rattle.sp_emit.specs.Fits.{ExprFits}
-use Rattle.sp_emit.specs.Instructions.{always, where_so, under, set_number}
+use Rattle.sp_emit.specs.Instructions.{always, where_so, under, set_number, compare_short}
 use Rattle.sp_emit.specs.Places.{told_at, mask_test, seek_word, match_word, in_register, fetched_at, read_word, fetch_word, keep_word, set_op, set_word, args_least, target_least, stmt_least, stmts_least}
 use Rattle.sp_emit.specs.Statements.{slot_write, cell_write, element_write, target_write, write_code, guarded_code, args_code, mask_handed, call_tail, behind_call, call_code, way_to, send_code, overrun_code, slot_set, iterations_begin, iterations_tail, stmt_code, stmts_code}
 use Rattle.sp_emit.specs.declared.registers.TheConstants.{RESULT, MASK, FIRST, SECOND, SPARE, OVERRUN}
@@ -33,8 +35,7 @@ use Rattle.sp_emit.proofs.Numbers.{number_op_is}
 use Rattle.sp_emit.proofs.Offsets.{address_are}
 use Rattle.sp_emit.proofs.Operands.{mask_is}
 use Rattle.sp_emit.proofs.FlagWords.{seek_is, match_is}
-use Rattle.sp_emit.proofs.Needs.{covers, second_fits}
-use Rattle.sp_emit.proofs.TruthCode.{is_test_bundle, AreTests, TruthParts, flag_is}
+use Rattle.sp_emit.proofs.TruthCode.{is_test_bundle, AreTests, TruthParts, flag_is, Fitting, first_fitting, second_fitting}
 use Rattle.sp_emit.proofs.Passing.{is_outside, outside_low, is_low, passes, part_passes, parts_pass}
 use Rattle.sp_emit.proofs.Values.{before, operands_calm, value_calm}
 use Rattle.sp_emit.proofs.WordPlaces.{read_is, fetch_is, fetched_is, keep_is, set_op_is}
@@ -131,23 +132,21 @@ args_low tops homes slots top count (e ∷ args) rd most few formed free le =
 tests_low : (tops : List ℕ) (top count : ℕ) (bs : List Slots) → AreTests bs → Low tops top count (one (straight bs))
 tests_low tops top count bs tests = low_lone tops top count bs (all_weaker is_test_bundle (passes top count) (λ b is. grind (arith, is)) bs tests)
 
--- what suffices for operands
-abbrev Fitting : Homes → PlainSp → Type 0
-Fitting homes e = ExprFits e FIRST × (FIRST + need e ≤ homes.first)
+pub spare_low : (top : ℕ) → is_outside top SPARE ≡ true
+spare_low top = or_right (nat_lt SPARE top) true refl
 
 truths_low : (tops : List ℕ) (homes : Homes) (top count : ℕ) → 1 ≤ top → homes.first ≤ top → TruthParts (Low tops top count) homes (Fitting homes)
 truths_low tops homes top count some le = record {
   none = refl;
   both = low_joined tops top count;
-  second = λ op a b h. (second_fits op a b h.0, omega (arith, h.1, (covers (nat_lt (need a) (need b)) (need a) (need b)).1));
+  first = first_fitting homes;
+  second = second_fitting homes;
   operands = λ e h. calm_parts_low tops FIRST homes.first top count some le (operands_code homes e FIRST) (operands_calm homes FIRST e FIRST (omega arith) h.0 h.1);
   tests = tests_low tops top count;
+  bits = λ slot h. low_lone tops top count (bit_sought homes.first slot) (fetch_is (λ b. list_all (passes top count) (b ∷ compare_short cmp.Btest SECOND (fetched_at homes.first slot) 0 ∷ []) ≡ true) homes.first slot (rw (outside_low top 0 some) refl) (rw (spare_low top) refl));
 }
 
 -- ---- words of a frame
-
-pub spare_low : (top : ℕ) → is_outside top SPARE ≡ true
-spare_low top = or_right (nat_lt SPARE top) true refl
 
 flag_low : (top : ℕ) → is_outside top OVERRUN ≡ true
 flag_low top = or_right (nat_lt OVERRUN top) true refl

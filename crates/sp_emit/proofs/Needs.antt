@@ -10,6 +10,7 @@ use Rattle.sp_tree.specs.declared.expressions.SpArray.{SpArray}
 use Rattle.sp_tree.specs.declared.expressions.SpCell.{SpCell}
 use Rattle.sp_tree.specs.declared.operators.SpBinary.{SpBinary}
 use Rattle.sp_tree.specs.declared.operators.SpUnary.{SpUnary}
+use Rattle.sp_emit.specs.Expressions.{slot_number}
 use Rattle.sp_emit.specs.Fits.{ExprFits}
 
 -- ---- needs
@@ -43,6 +44,14 @@ few_needs e f = omega (arith, f.registers)
 
 pub word_named : {rd : ℕ} (slot : ℕ) → ExprFits (frame_word slot) rd → slot < 128
 word_named slot f = omega (arith, f.most, ltb-true slot f.slots f.names)
+
+pub slot_few : {rd : ℕ} (e : PlainSp) → ExprFits e rd → slot_number e < 128
+slot_few (constant n) f = omega arith
+slot_few (frame_word slot) f = word_named slot f
+slot_few (cell_word cell) f = omega arith
+slot_few (array_word array index) f = omega arith
+slot_few (before_one op of) f = omega arith
+slot_few (between_two op a b) f = omega arith
 
 pub cell_named : {rd : ℕ} (cell : SpCell) → ExprFits (cell_word cell) rd → cell_formed cell ≡ true
 cell_named cell f = f.names

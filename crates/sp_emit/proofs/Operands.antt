@@ -1,6 +1,6 @@
 -- What holds of the code of values and of parts after one another holds of that of operands: where an operand is a word of
 -- the frame in a register, it has none.
-use Rattle.std.proofs.Common.{◌≡◌, ℕ, ◌+◌, ◌<◌, Bool, true, false, if◌then◌else◌, nat_lt, true≢false, List, [], ◌∷◌, Option, None, Some, refl, sym, ap, ◌∙◌, subst}
+use Rattle.std.proofs.Common.{◌≡◌, ℕ, ◌+◌, ◌<◌, Bool, true, false, if◌then◌else◌, nat_lt, List, [], ◌∷◌, Option, None, Some, refl, sym, ap, ◌∙◌, subst, arith}
 use Rattle.std.specs.Prelude.{is_none}
 use Rattle.std.proofs.lemmas.Bool.{and_parts, ltb-true}
 use Rattle.patmos_instr.specs.Bundles.{Slots}
@@ -12,31 +12,25 @@ use Rattle.sp_tree.specs.declared.operators.SpBinary.{SpBinary}
 use Rattle.sp_tree.specs.declared.operators.SpUnary.{SpUnary}
 use Rattle.sp_shape.specs.Parts.{PlainParts, no_part, joined}
 use Rattle.sp_shape.proofs.Joins.{joined-nothing}
-use Rattle.sp_emit.specs.Expressions.{is_home, slot_number, is_immediate, unless, truth_of, word_code, value_code, operands_code, expr_to, expr_code, operand_code}
+use Rattle.sp_emit.specs.Expressions.{is_home, home_of, is_immediate, unless, truth_of, word_code, value_code, operands_code, expr_to, expr_code, operand_code}
 use Rattle.sp_emit.specs.Fits.{ExprFits}
 use Rattle.sp_emit.specs.Places.{flag_of, in_register, read_word}
 use Rattle.sp_emit.specs.Statements.{slot_set, mask_by, mask_code}
 use Rattle.sp_emit.specs.Truths.{flag_code}
 use Rattle.sp_emit.specs.declared.registers.TheConstants.{FIRST, OVERRUN}
-use Rattle.sp_emit.proofs.FlagWords.{is_none_of}
 use Rattle.sp_emit.proofs.Needs.{index_named, operand_fits, first_fits, second_fits, first_fits_behind, second_fits_behind}
 use Rattle.sp_emit.specs.declared.stands.Homes.{Homes}
 
-pub home_below : (homes : Homes) (e : PlainSp) → is_home homes e ≡ true → homes.first + slot_number e < OVERRUN
-home_below homes (frame_word slot) is = ltb-true (homes.first + slot) OVERRUN (and_parts (is_none (flag_of homes.flags slot)) (in_register homes.first slot) is).1
-home_below homes (constant n) is = absurd (true≢false (sym is))
-home_below homes (cell_word cell) is = absurd (true≢false (sym is))
-home_below homes (array_word array index) is = absurd (true≢false (sym is))
-home_below homes (before_one op of) is = absurd (true≢false (sym is))
-home_below homes (between_two op a b) is = absurd (true≢false (sym is))
+pub word_below : (homes : Homes) (slot : ℕ) → is_home homes (frame_word slot) ≡ true → homes.first + slot < OVERRUN
+word_below homes slot is = ltb-true (homes.first + slot) OVERRUN (and_parts (is_none (flag_of homes.flags slot)) (in_register homes.first slot) is).1
 
-pub home_plain : (homes : Homes) (e : PlainSp) → is_home homes e ≡ true → flag_of homes.flags (slot_number e) ≡ None
-home_plain homes (frame_word slot) is = is_none_of (flag_of homes.flags slot) (and_parts (is_none (flag_of homes.flags slot)) (in_register homes.first slot) is).0
-home_plain homes (constant n) is = absurd (true≢false (sym is))
-home_plain homes (cell_word cell) is = absurd (true≢false (sym is))
-home_plain homes (array_word array index) is = absurd (true≢false (sym is))
-home_plain homes (before_one op of) is = absurd (true≢false (sym is))
-home_plain homes (between_two op a b) is = absurd (true≢false (sym is))
+pub home_below : (homes : Homes) (e : PlainSp) → is_home homes e ≡ true → home_of homes e < OVERRUN
+home_below homes (frame_word slot) is = word_below homes slot is
+home_below homes (constant n) is = omega arith
+home_below homes (cell_word cell) is = omega arith
+home_below homes (array_word array index) is = omega arith
+home_below homes (before_one op of) is = omega arith
+home_below homes (between_two op a b) is = omega arith
 
 -- one of two, as a word of the frame stands in a predicate or not
 pub word_code_is : (P : List Slots → Type 0) (homes : Homes) (to slot : ℕ) → ((p : ℕ) → P (truth_of p to)) → P (read_word homes.first to slot ∷ []) → P (word_code (flag_of homes.flags slot) homes.first to slot)

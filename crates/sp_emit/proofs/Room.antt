@@ -1,11 +1,10 @@
 -- The code of a function takes at most as many words as its trees cost.
-use Rattle.std.proofs.Common.{◌≡◌, ℕ, zero, suc, ◌+◌, ◌-◌, ◌≤◌, Bool, true, false, List, [], ◌∷◌, length, refl, sym, ap, subst, arith, if◌then◌else◌, Option, None, Some, ◌++◌, min}
+use Rattle.std.proofs.Common.{◌≡◌, ℕ, zero, suc, ◌+◌, ◌-◌, ◌≤◌, Bool, true, false, List, [], ◌∷◌, length, refl, sym, ap, subst, arith, if◌then◌else◌, Option, None, Some, ◌++◌, true≢false, ◌||◌, ◌&&◌, ◌∙◌}
 use Rattle.std.specs.Prelude.{nat_lt, nat_le, is_some}
 use Rattle.std.proofs.lemmas.Bool.{and_parts, leb-true, ltb-true}
 use Rattle.std.proofs.lemmas.Bool.Decides.{nat_tests}
 use Rattle.c_world.specs.declared.region.Region.{Region}
 use Rattle.patmos_instr.specs.declared.functions.AluFunc.TheVariants as alu
-use Rattle.patmos_instr.specs.declared.functions.CmpFunc.{CmpFunc}
 use Rattle.patmos_instr.specs.declared.functions.ImmFunc.TheVariants as imm
 use Rattle.patmos_instr.specs.declared.functions.PredFunc.TheVariants as comb
 use Rattle.patmos_instr.specs.declared.instructions.Op.TheVariants.{AluImm, AluLong}
@@ -19,11 +18,12 @@ use Rattle.sp_tree.specs.declared.operators.SpUnary.{SpUnary}
 use Rattle.sp_shape.specs.Words.{bundles_room, parts_room, bundle_room}
 use Rattle.sp_shape.specs.Parts.{straight, PlainParts, no_part, part, one, joined}
 use Rattle.sp_shape.proofs.Lists.{room_append}
+use Rattle.sp_emit.proofs.TruthCode.{no_joins}
 use Rattle.sp_emit.proofs.Operands.{word_code_is, operand_is, mask_is}
 use Rattle.sp_emit.proofs.Held.{held_is}
 use Rattle.sp_emit.specs.Division.{unsigned_quotient_to}
 use Rattle.sp_emit.specs.Divisors.{factor_rest_to}
-use Rattle.sp_emit.specs.Expressions.{unary_code, binary_code, held_code, number_of, value_code, operands_code, expr_to, expr_code, operand_code, value_at, is_immediate, address_of, spare_op, length_op, below_op, has_offset, base_op, scaled_op}
+use Rattle.sp_emit.specs.Expressions.{unary_code, binary_code, held_code, number_of, value_code, operands_code, expr_to, expr_code, operand_code, value_at, is_immediate, address_of, spare_op, length_op, below_op, has_offset, base_op, scaled_op, slot_number}
 use Rattle.sp_emit.proofs.Codes.{kept_is, brought_is, taken_is, freed_is}
 use Rattle.sp_emit.specs.Functions.{argument_kept, first_counter, arguments_kept, mask_in, mask_kept, place_kept, state_kept, frame_taken, result_given, function_rest, body_code, function_code}
 use Rattle.std.specs.Prelude.{◌-◌}
@@ -31,14 +31,14 @@ use Rattle.patmos_instr.specs.declared.guards.Guard.{Guard}
 use Rattle.patmos_instr.specs.declared.instructions.Op.{Op}
 use Rattle.c_world.specs.declared.region.Region.TheVariants as region
 use Rattle.sp_emit.specs.Instructions.{always, where_so, under, set_short, set_number, number_op, combine}
-use Rattle.sp_emit.specs.Places.{flag_of, in_register, read_word, set_word, cleared_in, word_cleared, words_cleared, fetch_word, keep_word, fetched_at, seek_word, match_word, mask_test, told_at}
+use Rattle.sp_emit.specs.Places.{flag_in, flag_words, flag_of, in_register, read_word, set_word, cleared_in, word_cleared, words_cleared, fetch_word, keep_word, fetched_at, seek_word, match_word, mask_test, told_at}
 use Rattle.sp_emit.specs.declared.registers.TheConstants.{RESULT, MASK, FIRST, OVERRUN, TEST, SECOND, SPARE}
 use Rattle.sp_emit.proofs.WordPlaces.{read_is, set_op_is, fetch_is, keep_is}
 use Rattle.sp_emit.specs.Statements.{cell_write, element_write, target_write, guarded_code, args_code, call_code, send_code, overrun_code, slot_set, stmt_code, stmts_code}
 use Rattle.sp_emit.specs.Flags.{begun_body}
-use Rattle.sp_emit.specs.Truths.{cmp_of, by_two, by_number, test_of, tested_code, flag_at, joins, unless_stands, join, truth_code, before_flag, flag_set, flag_by, flag_code}
+use Rattle.sp_emit.specs.Truths.{cmp_of, by_two, by_number, test_of, tested_code, flag_at, joins, unless_stands, join, truth_code, before_flag, flag_set, flag_by, flag_code, both_of, bits_of, is_not, is_condition, is_masking, is_frame_word, word_flag, seeks, bit_sought, operands_stood, spares_second, pairs, kept_code, joining_code, paired_code, unjoined_code, func_in}
 use Rattle.sp_emit.proofs.BegunBody.{begun_costs}
-use Rattle.sp_emit.proofs.FlagWords.{stands_in, seek_is, match_is}
+use Rattle.sp_emit.proofs.FlagWords.{seek_is, match_is}
 use Rattle.sp_emit.proofs.Lasts.{Gives, write_is}
 use Rattle.sp_emit.proofs.Numbers.{number_op_is}
 use Rattle.sp_emit.proofs.Offsets.{spare_op_is, below_op_is, scaled_op_is}
@@ -184,30 +184,38 @@ args_room homes (e ∷ args) rd = omega (arith, room_both (expr_code homes e rd)
 
 -- ---- truths
 
--- a test takes no more than the value of its operator
-test_room : (op : SpBinary) (ra rb : ℕ) → bundles_room (by_two (cmp_of op) op ra rb) ≤ binary_cost op
+-- a test takes no more than the value of its operator; that of a condition takes two less, which set it to 0 and to 1
+abbrev saved_by : Bool → ℕ
+saved_by condition = if condition then 2 else 0
+
+abbrev op_saved : SpBinary → ℕ
+op_saved op = saved_by (is_some (cmp_of op) || is_some (both_of op))
+
+test_room : (op : SpBinary) (ra rb : ℕ) → bundles_room (by_two (cmp_of op) op ra rb) + op_saved op ≤ binary_cost op
 test_room op ra rb = grind arith
 
-number_test : (o : Option CmpFunc) (op : SpBinary) (ra n : ℕ) → bundles_room (by_number o ra n) ≤ binary_cost op
-number_test None op ra n = omega arith
-number_test (Some func) op ra n = some_binary op
+number_test : (op : SpBinary) (ra n : ℕ) → bundles_room (by_number (cmp_of op) ra n) + op_saved op ≤ binary_cost op
+number_test op ra n = grind arith
+
+not_saved : (op : SpUnary) → 1 + saved_by (is_not op) ≤ unary_cost op
+not_saved op = grind arith
 
 two_tests : (homes : Homes) (op : SpBinary) (a b : PlainSp) (held less : Bool)
     → bundles_room (if held then by_number (cmp_of op) (value_at homes a FIRST) (number_of b) else if less then by_two (cmp_of op) op (value_at homes a (FIRST + 1)) (value_at homes b FIRST) else by_two (cmp_of op) op (value_at homes a FIRST) (value_at homes b (FIRST + 1)))
-    ≤ binary_cost op
-two_tests homes op a b true less = number_test (cmp_of op) op (value_at homes a FIRST) (number_of b)
+    + op_saved op ≤ binary_cost op
+two_tests homes op a b true less = number_test op (value_at homes a FIRST) (number_of b)
 two_tests homes op a b false true = test_room op (value_at homes a (FIRST + 1)) (value_at homes b FIRST)
 two_tests homes op a b false false = test_room op (value_at homes a FIRST) (value_at homes b (FIRST + 1))
 
 operand_most : (homes : Homes) (e : PlainSp) (rd : ℕ) → parts_room (operand_code homes e rd) ≤ expr_cost e
 operand_most homes e rd = operand_room homes e rd (value_room homes e rd rd)
 
-tested_room : (homes : Homes) (e : PlainSp) → parts_room (tested_code homes e) ≤ expr_cost e
+tested_room : (homes : Homes) (e : PlainSp) → parts_room (tested_code homes e) + saved_by (is_condition e) ≤ expr_cost e
 tested_room homes (constant n) = some_cost (constant n)
 tested_room homes (frame_word slot) = omega arith
 tested_room homes (cell_word cell) = omega arith
 tested_room homes (array_word array index) = omega (arith, room_both (operand_code homes index FIRST) (one (straight [])), operand_most homes index FIRST)
-tested_room homes (before_one op of) = omega (arith, room_both (operand_code homes of FIRST) (one (straight (test_of homes (before_one op of)))), operand_most homes of FIRST, some_unary op)
+tested_room homes (before_one op of) = omega (arith, room_both (operand_code homes of FIRST) (one (straight (test_of homes (before_one op of)))), operand_most homes of FIRST, not_saved op)
 tested_room homes (between_two op a b) =
     omega (
       arith,
@@ -216,6 +224,29 @@ tested_room homes (between_two op a b) =
       two_operands homes a b FIRST (is_immediate op b) (nat_lt (need a) (need b)) (operand_most homes a FIRST) (operand_most homes b FIRST) (operand_most homes a (FIRST + 1)) (operand_most homes b (FIRST + 1)),
       two_tests homes op a b (is_immediate op b) (nat_lt (need a) (need b)),
     )
+
+saved_most : (c : Bool) → saved_by c ≤ 2
+saved_most true = omega arith
+saved_most false = omega arith
+
+-- where truths are joined there is no condition
+no_condition : (flags : Flags) (op : SpBinary) (a b : PlainSp) → joins flags op a b ≡ true → is_condition (between_two op a b) ≡ false
+no_condition flags op a b is = by (is_some (cmp_of op) || is_some (both_of op)) refl
+  where
+    by : (c : Bool) → (is_some (cmp_of op) || is_some (both_of op)) ≡ c → c ≡ false
+    by true condition = absurd (true≢false (sym is ∙ no_joins flags op a b condition))
+    by false other = refl
+
+both_cost : (op : SpBinary) (a b : PlainSp) → is_some (both_of op) ≡ true → expr_cost a + expr_cost b + 2 ≤ expr_cost (between_two op a b)
+both_cost op a b is = grind (arith, is)
+
+word_cost : (e : PlainSp) → is_frame_word e ≡ true → 2 ≤ expr_cost e
+word_cost (frame_word slot) is = omega arith
+word_cost (constant n) is = absurd (true≢false (sym is))
+word_cost (cell_word cell) is = absurd (true≢false (sym is))
+word_cost (array_word array index) is = absurd (true≢false (sym is))
+word_cost (before_one op of) is = absurd (true≢false (sym is))
+word_cost (between_two op a b) is = absurd (true≢false (sym is))
 
 unless_room : (most : ℕ) (o : Option ℕ) (code : PlainParts) → parts_room code ≤ most → parts_room (unless_stands o code) ≤ most
 unless_room most None code few = few
@@ -231,36 +262,109 @@ second_room homes op (array_word array index) few = omega (arith, few)
 second_room homes op (before_one f of) few = omega (arith, few)
 second_room homes op (between_two f c d) few = omega (arith, unless_room _ (flag_at homes.flags (between_two f c d)) (truth_code homes (between_two f c d)) few)
 
-truth_room : (homes : Homes) (e : PlainSp) → parts_room (truth_code homes e) ≤ expr_cost e
-truth_room homes (constant n) = tested_room homes (constant n)
-truth_room homes (frame_word slot) = tested_room homes (frame_word slot)
-truth_room homes (cell_word cell) = tested_room homes (cell_word cell)
-truth_room homes (array_word array index) = tested_room homes (array_word array index)
-truth_room homes (before_one op of) = tested_room homes (before_one op of)
-truth_room homes (between_two op a b) = by (joins homes.flags op a) (second_room homes op b (truth_room homes b)) (tested_room homes (between_two op a b))
+-- the second one, where the lowest bit of the first is sought
+second_saved : (homes : Homes) (op : SpBinary) (b : PlainSp) → parts_room (truth_code homes b) + saved_by (is_condition b) ≤ expr_cost b → (is_some (word_flag homes.flags b) || is_condition b) ≡ true
+    → parts_room (unless_stands (flag_at homes.flags b) (truth_code homes b)) + 2 ≤ (if is_held op b then 0 else expr_cost b)
+second_saved homes op (constant n) saved is = absurd (true≢false (sym is))
+second_saved homes op (frame_word slot) saved is = by (flag_of homes.flags slot) is
+  where
+    by : (o : Option ℕ) → (is_some o || false) ≡ true → parts_room (unless_stands o (truth_code homes (frame_word slot))) + 2 ≤ 2
+    by None is = absurd (true≢false (sym is))
+    by (Some p) is = omega arith
+second_saved homes op (cell_word cell) saved is = absurd (true≢false (sym is))
+second_saved homes op (array_word array index) saved is = absurd (true≢false (sym is))
+second_saved homes op (before_one f of) saved is =
+    let few = subst (λ c. parts_room (truth_code homes (before_one f of)) + saved_by c ≤ expr_cost (before_one f of)) is saved in
+    omega (arith, few)
+second_saved homes op (between_two f c d) saved is =
+    let few = subst (λ c'. parts_room (truth_code homes (between_two f c d)) + saved_by c' ≤ expr_cost (between_two f c d)) is saved in
+    omega (arith, few, unless_room (parts_room (truth_code homes (between_two f c d))) (flag_at homes.flags (between_two f c d)) (truth_code homes (between_two f c d)) (omega arith))
+
+-- both operands of two truths that are joined
+joined_room : (homes : Homes) (op : SpBinary) (a b : PlainSp) → joins homes.flags op a b ≡ true → parts_room (truth_code homes b) + saved_by (is_condition b) ≤ expr_cost b
+    → parts_room (operands_stood homes a b (truth_code homes b)) + 1 ≤ expr_cost (between_two op a b)
+joined_room homes op a b joins_them few = by (flag_at homes.flags a) (and_parts (is_some (bits_of op)) (is_some (flag_at homes.flags a) || seeks homes.flags op a b) joins_them).1
   where
     second : PlainParts
     second = unless_stands (flag_at homes.flags b) (truth_code homes b)
 
-    by : (c : Bool) → parts_room second ≤ 1 + (if is_held op b then 0 else expr_cost b) → parts_room (tested_code homes (between_two op a b)) ≤ expr_cost (between_two op a b)
-        → parts_room (if c then joined second (one (straight (join homes.flags TEST op a b ∷ []))) else tested_code homes (between_two op a b)) ≤ expr_cost (between_two op a b)
-    by true few tested = omega (arith, few, room_both second (one (straight (join homes.flags TEST op a b ∷ []))), some_cost a, some_binary op)
-    by false few tested = tested
+    bits : PlainParts
+    bits = one (straight (bit_sought homes.first (slot_number a)))
+
+    by : (o : Option ℕ) → (is_some o || seeks homes.flags op a b) ≡ true → parts_room (joined second (unless_stands o bits)) + 1 ≤ expr_cost (between_two op a b)
+    by (Some p) is = omega (arith, room_both second no_part, second_room homes op b (omega (arith, few)), some_cost a, some_binary op)
+    by None is =
+        let masked = and_parts (is_masking op) _ is in
+        let parts = and_parts (is_frame_word a) _ masked.1 in
+        omega (arith, room_both second bits, second_saved homes op b few parts.1, word_cost a parts.0, some_binary op, fetch_words homes.first (slot_number a))
+
+-- two conditions, or one
+unjoined_room : (homes : Homes) (op : SpBinary) (a b : PlainSp) → parts_room (truth_code homes a) + saved_by (is_condition a) ≤ expr_cost a
+    → parts_room (unjoined_code homes op a b (truth_code homes a)) + saved_by (is_condition (between_two op a b)) ≤ expr_cost (between_two op a b)
+unjoined_room homes op a b few = by (pairs op a b) refl
+  where
+    kept : PlainParts
+    kept = kept_code (truth_code homes a)
+
+    keep : PlainParts
+    keep = one (straight (combine comb.Por SECOND TEST TEST ∷ []))
+
+    join_them : PlainParts
+    join_them = one (straight (combine (func_in (both_of op)) TEST SECOND TEST ∷ []))
+
+    by : (c : Bool) → pairs op a b ≡ c → parts_room (if c then paired_code homes op b (truth_code homes a) else tested_code homes (between_two op a b)) + saved_by (is_condition (between_two op a b)) ≤ expr_cost (between_two op a b)
+    by true is =
+        let x = and_parts (is_some (both_of op)) (is_condition a && (is_condition b && spares_second b)) is in
+        let y = and_parts (is_condition a) (is_condition b && spares_second b) x.1 in
+        let z = and_parts (is_condition b) (spares_second b) y.1 in
+        let first = subst (λ c. parts_room (truth_code homes a) + saved_by c ≤ expr_cost a) y.0 few in
+        let second = subst (λ c. parts_room (tested_code homes b) + saved_by c ≤ expr_cost b) z.0 (tested_room homes b) in
+        let most : saved_by (is_condition (between_two op a b)) ≤ 2 = saved_most (is_condition (between_two op a b)) in
+        omega (
+          arith,
+          room_both kept (joining_code homes op b),
+          room_both (truth_code homes a) keep,
+          room_both (tested_code homes b) join_them,
+          first,
+          second,
+          most,
+          both_cost op a b x.0,
+        )
+    by false is = tested_room homes (between_two op a b)
+
+truth_saved : (homes : Homes) (e : PlainSp) → parts_room (truth_code homes e) + saved_by (is_condition e) ≤ expr_cost e
+truth_saved homes (constant n) = tested_room homes (constant n)
+truth_saved homes (frame_word slot) = tested_room homes (frame_word slot)
+truth_saved homes (cell_word cell) = tested_room homes (cell_word cell)
+truth_saved homes (array_word array index) = tested_room homes (array_word array index)
+truth_saved homes (before_one op of) = tested_room homes (before_one op of)
+truth_saved homes (between_two op a b) = by (joins homes.flags op a b) refl (λ is. joined_room homes op a b is (truth_saved homes b)) (unjoined_room homes op a b (truth_saved homes a))
+  where
+    both_code : PlainParts
+    both_code = operands_stood homes a b (truth_code homes b)
+
+    by : (c : Bool) → joins homes.flags op a b ≡ c → (c ≡ true → parts_room both_code + 1 ≤ expr_cost (between_two op a b))
+        → parts_room (unjoined_code homes op a b (truth_code homes a)) + saved_by (is_condition (between_two op a b)) ≤ expr_cost (between_two op a b)
+        → parts_room (if c then joined both_code (one (straight (join homes.flags TEST op a b ∷ []))) else unjoined_code homes op a b (truth_code homes a)) + saved_by (is_condition (between_two op a b)) ≤ expr_cost (between_two op a b)
+    by true is few other =
+        let none = ap saved_by (no_condition homes.flags op a b is) in
+        omega (arith, none, few refl, room_both both_code (one (straight (join homes.flags TEST op a b ∷ []))))
+    by false is few other = other
 
 before_room : (homes : Homes) (e : PlainSp) → parts_room (before_flag homes e) ≤ expr_cost e
-before_room homes (constant n) = tested_room homes (constant n)
-before_room homes (frame_word slot) = tested_room homes (frame_word slot)
-before_room homes (cell_word cell) = tested_room homes (cell_word cell)
-before_room homes (array_word array index) = tested_room homes (array_word array index)
-before_room homes (before_one op of) = tested_room homes (before_one op of)
-before_room homes (between_two op a b) = by (joins homes.flags op a)
+before_room homes (constant n) = omega arith
+before_room homes (frame_word slot) = omega (arith, tested_room homes (frame_word slot))
+before_room homes (cell_word cell) = omega (arith, tested_room homes (cell_word cell))
+before_room homes (array_word array index) = omega (arith, tested_room homes (array_word array index))
+before_room homes (before_one op of) = omega (arith, tested_room homes (before_one op of))
+before_room homes (between_two op a b) = by (joins homes.flags op a b) (λ is. joined_room homes op a b is (truth_saved homes b))
   where
-    by : (c : Bool) → parts_room (if c then unless_stands (flag_at homes.flags b) (truth_code homes b) else tested_code homes (between_two op a b)) ≤ expr_cost (between_two op a b)
-    by true = omega (arith, second_room homes op b (truth_room homes b), some_binary op)
-    by false = tested_room homes (between_two op a b)
+    by : (c : Bool) → (c ≡ true → parts_room (operands_stood homes a b (truth_code homes b)) + 1 ≤ expr_cost (between_two op a b)) → parts_room (if c then operands_stood homes a b (truth_code homes b) else unjoined_code homes op a b (truth_code homes a)) ≤ expr_cost (between_two op a b)
+    by true few = omega (arith, few refl)
+    by false few = omega (arith, unjoined_room homes op a b (truth_saved homes a))
 
 set_room : (flags : Flags) (to : ℕ) (e : PlainSp) → bundle_room (flag_set flags to e) ≤ 1
-set_room flags to (between_two op a b) = by (joins flags op a)
+set_room flags to (between_two op a b) = by (joins flags op a b)
   where
     by : (c : Bool) → bundle_room (if c then join flags to op a b else combine comb.Por to TEST TEST) ≤ 1
     by true = omega arith
@@ -364,16 +468,33 @@ abbrev counted : (ℕ → Option ℕ) → ℕ → ℕ
 counted g zero = 0
 counted g (suc n) = counted g n + (if is_some (g n) then 1 else 0)
 
-counted_within : (flags : Flags) (n : ℕ) → counted (flag_of flags) n ≤ min 4 (n - flags.word)
-counted_within flags zero = omega arith
-counted_within flags (suc n) = by (flag_of flags n) refl (counted_within flags n)
+abbrev counted_one : Option ℕ → ℕ → ℕ
+counted_one None n = 0
+counted_one (Some word) n = if nat_lt word n then 1 else 0
+
+one_counted : (word : Option ℕ) (n : ℕ) → counted_one word n ≤ 1
+one_counted None n = omega arith
+one_counted (Some word) n = by (nat_lt word n)
   where
-    by : (o : Option ℕ) → flag_of flags n ≡ o → counted (flag_of flags) n ≤ min 4 (n - flags.word) → counted (flag_of flags) n + (if is_some o then 1 else 0) ≤ min 4 (suc n - flags.word)
-    by None is few = omega (arith, few)
-    by (Some p) is few = let x = stands_in flags n p is in omega (arith, few, x.from, x.few)
+    by : (b : Bool) → (if b then 1 else 0) ≤ 1
+    by true = omega arith
+    by false = omega arith
+
+one_more : (p : ℕ) (preds : List ℕ) (word : Option ℕ) (words : List (Option ℕ)) (n : ℕ) → counted (flag_in (p ∷ preds) (word ∷ words)) n ≤ counted (flag_in preds words) n + counted_one word n
+one_more p preds word words zero = omega arith
+one_more p preds None words (suc n) = omega (arith, one_more p preds None words n)
+one_more p preds (Some word) words (suc n) = grind (arith, nat_tests, one_more p preds (Some word) words n)
+
+most_counted : (preds : List ℕ) (words : List (Option ℕ)) (n : ℕ) → counted (flag_in preds words) n ≤ length preds
+most_counted [] words zero = omega arith
+most_counted [] words (suc n) = omega (arith, most_counted [] words n)
+most_counted (p ∷ preds) [] zero = omega arith
+most_counted (p ∷ preds) [] (suc n) = omega (arith, most_counted (p ∷ preds) [] n)
+most_counted (p ∷ preds) (word ∷ words) n = omega (arith, one_more p preds word words n, one_counted word n, most_counted preds words n)
 
 few_flags : (flags : Flags) (n : ℕ) → counted (flag_of flags) n ≤ 4
-few_flags flags n = omega (arith, counted_within flags n)
+unfolding flag_of
+few_flags flags n = most_counted (4 ∷ 5 ∷ 6 ∷ 7 ∷ []) (flag_words flags) n
 
 -- a word is cleared by a bundle where it stands in a predicate or in a register, and none do from the flag on
 cleared_one : (homes : Homes) (n : ℕ) → bundles_room (word_cleared homes n) ≤ (if is_some (flag_of homes.flags n) then 1 else if in_register homes.first n then 1 else 0)

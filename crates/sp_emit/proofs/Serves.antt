@@ -1,6 +1,6 @@
 -- The code of functions does what they give, each over the earlier ones.
 use Rattle.std.proofs.Common.{◌≡◌, ℕ, zero, suc, ◌+◌, ◌-◌, ◌*◌, ◌<◌, ◌≤◌, ◌^◌, ◌==◌, ◌⊎◌, inl, inr, Bool, true, false, true≢false, not, ◌&&◌, if◌then◌else◌, Option, None, Some, List, ◌++◌, length, slice_index, slice_index_or, nat_lt, refl, sym, ap, ◌∙◌, subst, arith}
-use Rattle.std.specs.Prelude.{nat_le, min}
+use Rattle.std.specs.Prelude.{is_none, nat_le, min}
 use Rattle.std.proofs.lemmas.Bool.{cases_lt, and_parts, leb-true, ltb-true, eqb-true, eqb-false}
 use Rattle.c_world.specs.Numbers.{flag}
 use Rattle.c_world.specs.World.{World}
@@ -15,6 +15,7 @@ use Rattle.sp_shape.specs.Parts.{no_part, joined}
 use Rattle.sp_shape.specs.Run.{Run, Sources, by_words, run, IsWhole}
 use Rattle.sp_shape.specs.Trail.{Step, all_done, parts_trail, trails}
 use Rattle.sp_shape.proofs.Lists.{done_append}
+use Rattle.std.specs.List.{list_all}
 use Rattle.sp_emit.specs.Functions.{arguments_kept, state_kept, needs_none, frame_taken, function_begin, function_end, function_rest, body_code, function_code, places_of, first_counter, return_tail}
 use Rattle.sp_emit.specs.Means.{Follows, KeepsBehind, HasStmtConstants, HasStmtsConstants, HasConstants}
 use Rattle.sp_emit.specs.declared.registers.TheConstants.{OVERRUN}
@@ -22,7 +23,7 @@ use Rattle.sp_emit.specs.Serving.{Carries, CalledWith}
 use Rattle.sp_emit.specs.Functions.{codes}
 use Rattle.sp_emit.specs.Chains.{stmts_call}
 use Rattle.sp_emit.specs.Flags.{stmt_hinders, begun_body, function_stands}
-use Rattle.sp_emit.specs.Places.{flag_of, shown_word, words_cleared, homes_over, tops, top_of, stmt_least}
+use Rattle.sp_emit.specs.Places.{flag_words, flag_of, shown_word, words_cleared, homes_over, tops, top_of, stmt_least}
 use Rattle.sp_emit.proofs.Codes.{codes_at, tops_at}
 use Rattle.sp_emit.proofs.Bare.{needs_parts, calls_need, bare_body, outside}
 use Rattle.sp_emit.proofs.Beginning.{words_taken, taken_few, begins_frame}
@@ -203,7 +204,7 @@ calls_run homes fs n frame slots formed most earlier = record { calls = each }
         let less = ltb-true k n callee.0 in
         let count = eqb-true (length args) (slice_index_or fs k no_function).parameters callee.1 in
         let few = (parts_of_function fs k (slice_index_or fs k no_function) (earlier_one fs k n less formed)).parameters in
-        call_is_done homes (code_of fs n) (serves fs n) frame counter slots ((k + 1) * 128) (top_of fs k) mask k args result s m (off_false (homes.flags.count == 0) stand) most fits (ltb-true mask slots a.0) (omega (arith, count, few)) c.0 constants c.1
+        call_is_done homes (code_of fs n) (serves fs n) frame counter slots ((k + 1) * 128) (top_of fs k) mask k args result s m (off_false (list_all is_none (flag_words homes.flags)) stand) most fits (ltb-true mask slots a.0) (omega (arith, count, few)) c.0 constants c.1
         (λ word given w t same room called. earlier k less word given w t (same ∙ count) room called)
         (let top = tops_at fs n k less in omega (arith, least, top)) (omega (arith, least)) (omega (arith, less, enough)) x
 

@@ -8,6 +8,7 @@ use Rattle.patmos_instr.specs.Bundles.{Slots}
 use Rattle.patmos_instr.specs.declared.functions.StackFunc.TheVariants.{Sres}
 use Rattle.patmos_instr.specs.declared.instructions.Op.{Op}
 use Rattle.patmos_instr.specs.declared.instructions.Op.TheVariants.{Stack}
+use Rattle.sp_emit.specs.Truths.{bit_sought}
 use Rattle.sp_emit.specs.Chains.{takes_at_most}
 use Rattle.c_world.specs.declared.region.Region.{Region}
 use Rattle.sp_tree.specs.Plain.{PlainSp}
@@ -69,13 +70,18 @@ args_firm homes args rd = each_so is_quiet is_firm firm_quiet (args_code homes a
 tests_firm : (bs : List Slots) → AreTests bs → Firm (one (straight bs))
 tests_firm bs tests = each_lone is_firm bs (all_weaker is_test_bundle is_firm (λ b is. grind (arith, is)) bs tests)
 
+fetch_firm : (homes slot : ℕ) → is_firm (fetch_word homes slot) ≡ true
+fetch_firm homes slot = fetch_is (λ b. is_firm b ≡ true) homes slot refl refl
+
 truths_firm : (homes : Homes) → TruthParts Firm homes (λ e. Unit {0})
 truths_firm homes = record {
   none = refl;
   both = both;
+  first = λ op a b h. h;
   second = λ op a b h. h;
   operands = λ e h. each_so is_quiet is_firm firm_quiet (operands_code homes e FIRST) (operands_quiet homes e FIRST);
   tests = tests_firm;
+  bits = λ slot h. each_lone is_firm (bit_sought homes.first slot) (rw (fetch_firm homes.first slot) refl);
 }
 
 read_firm : (homes rd slot : ℕ) → is_firm (read_word homes rd slot) ≡ true
@@ -83,9 +89,6 @@ read_firm homes rd slot = read_is (λ b. is_firm b ≡ true) homes rd slot refl 
 
 keep_firm : (homes slot : ℕ) → is_firm (keep_word homes slot) ≡ true
 keep_firm homes slot = keep_is (λ b. is_firm b ≡ true) homes slot refl refl
-
-fetch_firm : (homes slot : ℕ) → is_firm (fetch_word homes slot) ≡ true
-fetch_firm homes slot = fetch_is (λ b. is_firm b ≡ true) homes slot refl refl
 
 number_firm : (rd n : ℕ) → is_firm (set_number rd n) ≡ true
 number_firm rd n = number_op_is (λ op. is_firm (under always op) ≡ true) rd n refl refl

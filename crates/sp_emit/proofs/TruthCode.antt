@@ -1,6 +1,7 @@
 -- The code of truths: operands, and bundles that set predicates. What holds of both holds of it.
-use Rattle.std.proofs.Common.{◌≡◌, ℕ, ◌+◌, ◌<◌, Bool, true, false, ◌&&◌, if◌then◌else◌, nat_lt, Option, None, Some, List, [], ◌∷◌, refl, arith}
-use Rattle.std.specs.Prelude.{is_none}
+use Rattle.std.proofs.Common.{◌≡◌, ℕ, ◌+◌, ◌<◌, Bool, true, false, true≢false, ◌&&◌, ◌||◌, if◌then◌else◌, nat_lt, Option, None, Some, List, [], ◌∷◌, refl, sym, ap, subst, arith, ◌≤◌}
+use Rattle.std.proofs.lemmas.Bool.{and_parts}
+use Rattle.std.specs.Prelude.{is_none, is_some}
 use Rattle.std.specs.List.{list_all}
 use Rattle.patmos_instr.specs.Bundles.{Slots}
 use Rattle.patmos_instr.specs.declared.functions.CmpFunc.{CmpFunc}
@@ -12,10 +13,13 @@ use Rattle.sp_tree.specs.Need.{need}
 use Rattle.sp_tree.specs.Plain.{PlainSp, constant, frame_word, cell_word, array_word, before_one, between_two}
 use Rattle.sp_tree.specs.declared.operators.SpBinary.{SpBinary}
 use Rattle.sp_shape.specs.Parts.{straight, PlainParts, no_part, one, joined}
-use Rattle.sp_emit.specs.Expressions.{immediate_below, is_immediate, number_of, value_at, operands_code}
+use Rattle.sp_emit.proofs.Needs.{covers, first_fits, second_fits}
+use Rattle.sp_emit.specs.Fits.{ExprFits}
+use Rattle.sp_emit.specs.Expressions.{immediate_below, is_immediate, number_of, slot_number, value_at, operands_code}
 use Rattle.sp_emit.specs.Instructions.{combine}
-use Rattle.sp_emit.specs.Truths.{cmp_of, both_of, bits_of, func_in, stood_in, joins, by_both, by_two, by_number, test_of, tested_code, flag_at, unless_stands, join, truth_code, before_flag, flag_set, flag_by, flag_code}
-use Rattle.sp_emit.specs.declared.registers.TheConstants.{FIRST, TEST}
+use Rattle.sp_emit.specs.Places.{told_in}
+use Rattle.sp_emit.specs.Truths.{cmp_of, both_of, bits_of, func_in, sought_in, is_masking, is_frame_word, seeks, joins, bit_sought, sought, operands_stood, pairs, kept_code, joining_code, paired_code, unjoined_code, by_both, by_two, by_number, test_of, tested_code, flag_at, unless_stands, join, truth_code, before_flag, flag_set, flag_by, flag_code, is_test, is_one, is_condition}
+use Rattle.sp_emit.specs.declared.registers.TheConstants.{FIRST, TEST, SECOND}
 use Rattle.sp_emit.specs.declared.stands.Homes.{Homes}
 use Rattle.sp_emit.proofs.Calm.{is_passing}
 use Rattle.sp_emit.proofs.Held.{short_below}
@@ -68,19 +72,50 @@ of_tests homes (between_two op a b) = by (is_immediate op b) (nat_lt (need a) (n
     by false true = two_tests (cmp_of op) op (value_at homes a (FIRST + 1)) (value_at homes b FIRST)
     by false false = two_tests (cmp_of op) op (value_at homes a FIRST) (value_at homes b (FIRST + 1))
 
-either : (P : PlainParts → Type 0) (c : Bool) (x y : PlainParts) → P x → P y → P (if c then x else y)
-either P true x y px py = px
-either P false x y px py = py
+by_case : (P : PlainParts → Type 0) (c : Bool) {d : Bool} → d ≡ c → (x y : PlainParts) → (d ≡ true → P x) → P y → P (if d then x else y)
+by_case P true is x y px py = subst (λ b. P (if b then x else y)) (sym is) (px is)
+by_case P false is x y px py = subst (λ b. P (if b then x else y)) (sym is) py
+
+-- a condition is tested
+pub condition_tests : (e : PlainSp) → is_condition e ≡ true → is_test e ≡ true
+condition_tests (before_one op of) is = is
+condition_tests (between_two op a b) is = ap (λ c. c || (is_masking op && is_one b)) is
+condition_tests (constant n) is = absurd (true≢false (sym is))
+condition_tests (frame_word slot) is = absurd (true≢false (sym is))
+condition_tests (cell_word cell) is = absurd (true≢false (sym is))
+condition_tests (array_word array index) is = absurd (true≢false (sym is))
+
+-- a condition joins no truths that stand already
+pub no_joins : (flags : Flags) (op : SpBinary) (a b : PlainSp) → (is_some (cmp_of op) || is_some (both_of op)) ≡ true → joins flags op a b ≡ false
+no_joins flags op a b is = ap (λ c. c && (is_some (flag_at flags a) || seeks flags op a b)) (no_bits op is)
+  where
+    no_bits : (op : SpBinary) → (is_some (cmp_of op) || is_some (both_of op)) ≡ true → is_some (bits_of op) ≡ false
+    no_bits op is = grind (arith, is)
+
+pub seeks_word : (flags : Flags) (op : SpBinary) (a b : PlainSp) → seeks flags op a b ≡ true → is_frame_word a ≡ true
+seeks_word flags op a b is = (and_parts (is_frame_word a) _ (and_parts (is_masking op) _ is).1).0
 
 -- ---- what holds of operands and of tests holds of the code of truths
 
--- `Holds` is handed from an operator to its second operand
+-- registers suffice for the operands
+abbrev pub Fitting : Homes → PlainSp → Type 0
+Fitting homes e = ExprFits e FIRST × (FIRST + need e ≤ homes.first)
+
+pub first_fitting : (homes : Homes) (op : SpBinary) (a b : PlainSp) → Fitting homes (between_two op a b) → Fitting homes a
+first_fitting homes op a b h = (first_fits op a b h.0, omega (arith, h.1, (covers (nat_lt (need a) (need b)) (need a) (need b)).0))
+
+pub second_fitting : (homes : Homes) (op : SpBinary) (a b : PlainSp) → Fitting homes (between_two op a b) → Fitting homes b
+second_fitting homes op a b h = (second_fits op a b h.0, omega (arith, h.1, (covers (nat_lt (need a) (need b)) (need a) (need b)).1))
+
+-- `Holds` is handed from an operator to its operands
 pub record TruthParts (P : PlainParts → Type 0) (homes : Homes) (Holds : PlainSp → Type 0) : Type 0 where
   pub none : P no_part
   pub both : (x y : PlainParts) → P x → P y → P (joined x y)
+  pub first : (op : SpBinary) (a b : PlainSp) → Holds (between_two op a b) → Holds a
   pub second : (op : SpBinary) (a b : PlainSp) → Holds (between_two op a b) → Holds b
   pub operands : (e : PlainSp) → Holds e → P (operands_code homes e FIRST)
   pub tests : (bs : List Slots) → AreTests bs → P (one (straight bs))
+  pub bits : (slot : ℕ) → Holds (frame_word slot) → P (one (straight (bit_sought homes.first slot)))
 
 tested_is : {P : PlainParts → Type 0} {homes : Homes} {Holds : PlainSp → Type 0} → TruthParts P homes Holds → (e : PlainSp) → Holds e → P (tested_code homes e)
 tested_is {P} {homes} x e h = x.both (operands_code homes e FIRST) (one (straight (test_of homes e))) (x.operands e h) (x.tests (test_of homes e) (of_tests homes e))
@@ -89,6 +124,37 @@ unless_is : (P : PlainParts → Type 0) (o : Option ℕ) (code : PlainParts) →
 unless_is P None code none some = some
 unless_is P (Some p) code none some = none
 
+-- a first operand stands in a predicate, or is a word that is sought
+sought_is : {P : PlainParts → Type 0} {homes : Homes} {Holds : PlainSp → Type 0} → TruthParts P homes Holds → (op : SpBinary) (a b : PlainSp) → joins homes.flags op a b ≡ true → Holds a → P (sought homes a)
+sought_is {P} {homes} {Holds} x op a b joins_them h = by (flag_at homes.flags a) (and_parts (is_some (bits_of op)) (is_some (flag_at homes.flags a) || seeks homes.flags op a b) joins_them).1
+  where
+    word : (a : PlainSp) → is_frame_word a ≡ true → Holds a → P (one (straight (bit_sought homes.first (slot_number a))))
+    word (frame_word slot) is h = x.bits slot h
+    word (constant n) is h = absurd (true≢false (sym is))
+    word (cell_word cell) is h = absurd (true≢false (sym is))
+    word (array_word array index) is h = absurd (true≢false (sym is))
+    word (before_one op of) is h = absurd (true≢false (sym is))
+    word (between_two op c d) is h = absurd (true≢false (sym is))
+
+    by : (o : Option ℕ) → (is_some o || seeks homes.flags op a b) ≡ true → P (unless_stands o (one (straight (bit_sought homes.first (slot_number a)))))
+    by (Some p) is = x.none
+    by None is = word a (seeks_word homes.flags op a b is) h
+
+operands_are : {P : PlainParts → Type 0} {homes : Homes} {Holds : PlainSp → Type 0} → TruthParts P homes Holds → (op : SpBinary) (a b : PlainSp) → joins homes.flags op a b ≡ true → Holds (between_two op a b)
+    → P (truth_code homes b) → P (operands_stood homes a b (truth_code homes b))
+operands_are {P} {homes} x op a b joins_them h code =
+    x.both (unless_stands (flag_at homes.flags b) (truth_code homes b)) (sought homes a) (unless_is P (flag_at homes.flags b) (truth_code homes b) x.none code) (sought_is x op a b joins_them (x.first op a b h))
+
+-- two conditions, or one
+pub unjoined_is : {P : PlainParts → Type 0} {homes : Homes} {Holds : PlainSp → Type 0} → TruthParts P homes Holds → (op : SpBinary) (a b : PlainSp) → Holds (between_two op a b) → P (truth_code homes a)
+    → P (unjoined_code homes op a b (truth_code homes a))
+unjoined_is {P} {homes} x op a b h code =
+    by_case P (pairs op a b) refl (paired_code homes op b (truth_code homes a)) (tested_code homes (between_two op a b))
+    (λ is. x.both (kept_code (truth_code homes a)) (joining_code homes op b)
+    (x.both (truth_code homes a) (one (straight (combine comb.Por SECOND TEST TEST ∷ []))) code (x.tests (combine comb.Por SECOND TEST TEST ∷ []) refl))
+    (x.both (tested_code homes b) (one (straight (combine (func_in (both_of op)) TEST SECOND TEST ∷ []))) (tested_is x b (x.second op a b h)) (x.tests (combine (func_in (both_of op)) TEST SECOND TEST ∷ []) refl)))
+    (tested_is x (between_two op a b) h)
+
 pub truth_is : {P : PlainParts → Type 0} {homes : Homes} {Holds : PlainSp → Type 0} → TruthParts P homes Holds → (e : PlainSp) → Holds e → P (truth_code homes e)
 truth_is x (constant n) h = tested_is x (constant n) h
 truth_is x (frame_word slot) h = tested_is x (frame_word slot) h
@@ -96,32 +162,32 @@ truth_is x (cell_word cell) h = tested_is x (cell_word cell) h
 truth_is x (array_word array index) h = tested_is x (array_word array index) h
 truth_is x (before_one op of) h = tested_is x (before_one op of) h
 truth_is {P} {homes} x (between_two op a b) h =
-    either P (joins homes.flags op a) _ (tested_code homes (between_two op a b))
-    (x.both (unless_stands (flag_at homes.flags b) (truth_code homes b)) (one (straight (join homes.flags TEST op a b ∷ [])))
-    (unless_is P (flag_at homes.flags b) (truth_code homes b) x.none (truth_is x b (x.second op a b h))) (x.tests (join homes.flags TEST op a b ∷ []) refl))
-    (tested_is x (between_two op a b) h)
+    by_case P (joins homes.flags op a b) refl _ (unjoined_code homes op a b (truth_code homes a))
+    (λ is. x.both (operands_stood homes a b (truth_code homes b)) (one (straight (join homes.flags TEST op a b ∷ [])))
+    (operands_are x op a b is h (truth_is x b (x.second op a b h))) (x.tests (join homes.flags TEST op a b ∷ []) refl))
+    (unjoined_is x op a b h (truth_is x a (x.first op a b h)))
 
 pub before_is : {P : PlainParts → Type 0} {homes : Homes} {Holds : PlainSp → Type 0} → TruthParts P homes Holds → (e : PlainSp) → Holds e → P (before_flag homes e)
-before_is x (constant n) h = tested_is x (constant n) h
+before_is x (constant n) h = x.none
 before_is x (frame_word slot) h = tested_is x (frame_word slot) h
 before_is x (cell_word cell) h = tested_is x (cell_word cell) h
 before_is x (array_word array index) h = tested_is x (array_word array index) h
 before_is x (before_one op of) h = tested_is x (before_one op of) h
 before_is {P} {homes} x (between_two op a b) h =
-    either P (joins homes.flags op a) (unless_stands (flag_at homes.flags b) (truth_code homes b)) (tested_code homes (between_two op a b))
-    (unless_is P (flag_at homes.flags b) (truth_code homes b) x.none (truth_is x b (x.second op a b h))) (tested_is x (between_two op a b) h)
+    by_case P (joins homes.flags op a b) refl (operands_stood homes a b (truth_code homes b)) (unjoined_code homes op a b (truth_code homes a))
+    (λ is. operands_are x op a b is h (truth_is x b (x.second op a b h))) (unjoined_is x op a b h (truth_is x a (x.first op a b h)))
 
 -- the bundle that sets the predicate
 set_is : (P : Slots → Type 0) (flags : Flags) (to : ℕ) (e : PlainSp) → ((func : PredFunc) (a b : ℕ) → P (combine func to a b)) → P (flag_set flags to e)
-set_is P flags to (constant n) each = each comb.Por TEST TEST
+set_is P flags to (constant n) each = each comb.Pxor 0 0
 set_is P flags to (frame_word slot) each = each comb.Por TEST TEST
 set_is P flags to (cell_word cell) each = each comb.Por TEST TEST
 set_is P flags to (array_word array index) each = each comb.Por TEST TEST
 set_is P flags to (before_one op of) each = each comb.Por TEST TEST
-set_is P flags to (between_two op a b) each = by (joins flags op a)
+set_is P flags to (between_two op a b) each = by (joins flags op a b)
   where
     by : (c : Bool) → P (if c then join flags to op a b else combine comb.Por to TEST TEST)
-    by true = each (func_in (bits_of op)) (stood_in (flag_at flags a)) (stood_in (flag_at flags b))
+    by true = each (func_in (bits_of op)) (sought_in (flag_at flags a)) (told_in (flag_at flags b))
     by false = each comb.Por TEST TEST
 
 pub flag_is : {P : PlainParts → Type 0} {homes : Homes} {Holds : PlainSp → Type 0} → TruthParts P homes Holds → (to : ℕ) → ((func : PredFunc) (a b : ℕ) → P (one (straight (combine func to a b ∷ [])))) → (e : PlainSp) → Holds e → P (flag_code homes to e)

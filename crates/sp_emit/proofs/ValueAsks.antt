@@ -40,14 +40,14 @@ use Rattle.sp_emit.specs.Fits.{ExprFits}
 use Rattle.sp_emit.specs.Holding.{held}
 use Rattle.sp_emit.specs.Instructions.{always, set_number, load_from, combine}
 use Rattle.sp_emit.specs.Places.{flag_of}
-use Rattle.sp_emit.specs.Truths.{flag_code}
+use Rattle.sp_emit.specs.Truths.{flag_code, bit_sought}
 use Rattle.sp_emit.specs.declared.registers.TheConstants.{FIRST, OVERRUN, TEST, SPARE}
-use Rattle.sp_emit.proofs.Accessing.{asks_append, asks_nothing, is_near, near_asks, near_parts, near_read, near_number}
+use Rattle.sp_emit.proofs.Accessing.{asks_append, asks_nothing, is_near, near_asks, near_parts, near_read, near_number, near_fetch}
 use Rattle.sp_emit.proofs.Cells.{few_words, first_small}
 use Rattle.sp_emit.proofs.Elements.{Reached, looked_up, reaches, looks_up, looks_at_0}
 use Rattle.sp_emit.proofs.Formed.{binary_formed}
 use Rattle.sp_emit.proofs.Leaving.{did_set_number}
-use Rattle.sp_emit.proofs.Needs.{some_need, array_named, index_named, second_fits}
+use Rattle.sp_emit.proofs.Needs.{some_need, array_named, index_named, second_fits, first_fits}
 use Rattle.sp_emit.proofs.Portless.{portless_start, portless_number, portless_address}
 use Rattle.sp_emit.proofs.Once.{with_written, did_load, whole_written, got}
 use Rattle.sp_emit.proofs.TruthCode.{is_test_bundle, TruthParts, flag_is}
@@ -251,7 +251,9 @@ flag_asks homes Named f p e fits named =
     parts = record {
       none = asks_nothing Named;
       both = asks_joined f;
+      first = λ op a b h. (first_fits op a b h.0, named_left Named (expr_uses a) (expr_uses b) h.1);
       second = λ op a b h. (second_fits op a b h.0, named_right Named (expr_uses a) (expr_uses b) h.1);
       operands = λ e h. operands_ask homes Named f e FIRST (omega arith) h.0 h.1;
       tests = λ bs tests. near bs (all_weaker is_test_bundle is_near test_near bs tests);
+      bits = λ slot h. near (bit_sought homes.first slot) (rw (near_fetch homes.first slot) refl);
     }

@@ -1,7 +1,7 @@
 -- The code of an expression keeps the registers below its own, the stack and all memories, and leaves its value.
 use Rattle.std.proofs.Common.{◌≡◌, ℕ, ◌+◌, ◌<◌, ◌≤◌, ◌^◌, Bool, true, false, if◌then◌else◌, List, [], ◌∷◌, refl, sym, ap, ◌∙◌, subst, arith, nat_lt, append-nil, true≢false, Option, None, Some}
 use Rattle.std.specs.Prelude.{is_none}
-use Rattle.std.proofs.lemmas.Bool.{and_parts, ltb-true}
+use Rattle.std.proofs.lemmas.Bool.{and_parts, ltb-true, eqb-true}
 use Rattle.patmos_instr.specs.Bundles.{Slots}
 use Rattle.sp_tree.specs.Formed.{names_words, array_formed}
 use Rattle.sp_tree.specs.Need.{need}
@@ -17,7 +17,7 @@ use Rattle.sp_shape.specs.Parts.{straight, PlainParts, no_part, one, joined}
 use Rattle.sp_shape.specs.Run.{Run, Sources, by_words, run, IsWhole}
 use Rattle.sp_shape.specs.Trail.{Step, all_done, parts_trail}
 use Rattle.sp_shape.proofs.Joins.{trail_joined}
-use Rattle.sp_emit.specs.Expressions.{unary_code, binary_code, held_code, cell_code, element_code, number_of, value_code, operands_code, expr_code, operand_code, value_at, is_home, slot_number, is_immediate, word_code}
+use Rattle.sp_emit.specs.Expressions.{unary_code, binary_code, held_code, cell_code, element_code, number_of, value_code, operands_code, expr_code, operand_code, value_at, is_home, is_immediate, word_code, home_of}
 use Rattle.sp_emit.specs.Fits.{ExprFits}
 use Rattle.sp_emit.specs.Holding.{held, so, Keeps}
 use Rattle.sp_emit.specs.Instructions.{set_number}
@@ -30,9 +30,9 @@ use Rattle.sp_emit.proofs.Held.{held_leaves}
 use Rattle.sp_emit.proofs.Binary.{binary_leaves}
 use Rattle.sp_emit.proofs.Needs.{covers, lesser, greater, some_need, word_named, array_named, first_fits, second_fits, first_fits_behind, second_fits_behind}
 use Rattle.sp_emit.specs.Places.{flag_of, in_register, held_in, shown_word}
-use Rattle.sp_emit.proofs.FlagWords.{flag_range, shown_plain, shown_still}
+use Rattle.sp_emit.proofs.FlagWords.{flag_range, shown_plain, shown_still, is_none_of}
 use Rattle.sp_emit.specs.declared.registers.TheConstants.{SPARE, OVERRUN}
-use Rattle.sp_emit.proofs.Operands.{home_below, home_plain, operand_is, one_of, Handed, fits_handed, both_handed, operands_are}
+use Rattle.sp_emit.proofs.Operands.{word_below, home_below, operand_is, one_of, Handed, fits_handed, both_handed, operands_are}
 use Rattle.sp_emit.proofs.WordPlaces.{in_place, read_leaves}
 use Rattle.sp_emit.proofs.Words.{value_word}
 use Rattle.sp_emit.specs.declared.stands.Homes.{Homes}
@@ -175,7 +175,7 @@ pub operands_named : {homes : Homes} {slots rd : ℕ} {s : State} {m : Run} (op 
 operands_named {homes} {slots} op a b r = and_parts (names_words slots a) (names_words slots b) r.names
 
 -- of two operands each is, in the run before or after the other, from a register on that suffices
-first_ready : {homes : Homes} {slots rd : ℕ} {s : State} {m : Run} (op : SpBinary) (a b : PlainSp) → IsReady homes slots (between_two op a b) rd s m
+pub first_ready : {homes : Homes} {slots rd : ℕ} {s : State} {m : Run} (op : SpBinary) (a b : PlainSp) → IsReady homes slots (between_two op a b) rd s m
     → (from : ℕ) (t : Run) → rd ≤ from → from + need a ≤ 21 → from + need a ≤ homes.first → Keeps rd homes.first m t → IsReady homes slots a from s t
 first_ready op a b r from t above registers free keeps = record {
   some = omega (arith, r.some, above);
@@ -223,38 +223,48 @@ operand_behind homes f e rd m = run by_words (parts_trail f (operand_code homes 
 pub operand_keeps : {homes : Homes} {slots rd : ℕ} {s : State} {m : Run} (f : ℕ → List Step) (e : PlainSp) → IsReady homes slots e rd s m → Keeps rd homes.first m (operand_behind homes f e rd m)
 operand_keeps {homes} {slots} {rd} {s} {m} f e r = operand_is (λ ps. Keeps rd homes.first m (run by_words (parts_trail f ps) m)) homes e rd (keeps_all rd homes.first m r.whole) (behind_keeps f e r)
 
--- a word of the frame in a register holds what the state has
-home_left : (homes : Homes) (slots : ℕ) (e : PlainSp) (s : State) (m : Run) → names_words slots e ≡ true → Shows homes slots s m → is_home homes e ≡ true → held (homes.first + slot_number e) m ≡ sp_value s.frame s.world e
-home_left homes slots (frame_word slot) s m names shows is =
-    sym (shown_plain homes slot m (home_plain homes (frame_word slot) is) ∙ in_place homes.first slot m (and_parts (is_none (flag_of homes.flags slot)) (in_register homes.first slot) is).1) ∙ shows.frame slot (ltb-true slot slots names)
-home_left homes slots (constant n) s m names shows is = absurd (true≢false (sym is))
-home_left homes slots (cell_word cell) s m names shows is = absurd (true≢false (sym is))
-home_left homes slots (array_word array index) s m names shows is = absurd (true≢false (sym is))
-home_left homes slots (before_one op of) s m names shows is = absurd (true≢false (sym is))
-home_left homes slots (between_two op a b) s m names shows is = absurd (true≢false (sym is))
+-- a word of the frame in a register holds what the state has, and register 0 holds 0
+home_left : (homes : Homes) (slots : ℕ) (e : PlainSp) (s : State) (m : Run) → IsWhole m → names_words slots e ≡ true → Shows homes slots s m → is_home homes e ≡ true → held (home_of homes e) m ≡ sp_value s.frame s.world e
+home_left homes slots (frame_word slot) s m whole names shows is =
+    let both = and_parts (is_none (flag_of homes.flags slot)) (in_register homes.first slot) is in
+    sym (shown_plain homes slot m (is_none_of (flag_of homes.flags slot) both.0) ∙ in_place homes.first slot m both.1) ∙ shows.frame slot (ltb-true slot slots names)
+home_left homes slots (constant n) s m whole names shows is = whole.fits.zero ∙ sym (eqb-true n 0 is)
+home_left homes slots (cell_word cell) s m whole names shows is = absurd (true≢false (sym is))
+home_left homes slots (array_word array index) s m whole names shows is = absurd (true≢false (sym is))
+home_left homes slots (before_one op of) s m whole names shows is = absurd (true≢false (sym is))
+home_left homes slots (between_two op a b) s m whole names shows is = absurd (true≢false (sym is))
+
+-- code from a later register on leaves it there
+home_stays : {from : ℕ} (homes : Homes) (e : PlainSp) (m t : Run) → 1 ≤ from → Keeps from homes.first m t → is_home homes e ≡ true → held (home_of homes e) t ≡ held (home_of homes e) m
+home_stays homes (frame_word slot) m t some keeps is = keeps.high (homes.first + slot) (omega arith) (word_below homes slot is)
+home_stays homes (constant n) m t some keeps is = keeps.low 0 some
+home_stays homes (cell_word cell) m t some keeps is = keeps.low 0 some
+home_stays homes (array_word array index) m t some keeps is = keeps.low 0 some
+home_stays homes (before_one op of) m t some keeps is = keeps.low 0 some
+home_stays homes (between_two op a b) m t some keeps is = keeps.low 0 some
 
 pub operand_left : {homes : Homes} {slots rd : ℕ} {s : State} {m : Run} (f : ℕ → List Step) (e : PlainSp) → IsReady homes slots e rd s m → LeavesAnywhere homes slots f e s
     → held (value_at homes e rd) (operand_behind homes f e rd m) ≡ sp_value s.frame s.world e
 unfolding LeavesAnywhere
 operand_left {homes} {slots} {rd} {s} {m} f e r leaves = by (is_home homes e) refl
   where
-    by : (b : Bool) → is_home homes e ≡ b → held (if b then homes.first + slot_number e else rd) (run by_words (parts_trail f (if b then no_part else expr_code homes e rd)) m) ≡ sp_value s.frame s.world e
-    by true is = home_left homes slots e s m r.names r.shows is
+    by : (b : Bool) → is_home homes e ≡ b → held (if b then home_of homes e else rd) (run by_words (parts_trail f (if b then no_part else expr_code homes e rd)) m) ≡ sp_value s.frame s.world e
+    by true is = home_left homes slots e s m r.whole r.names r.shows is
     by false is = leaves rd m r
 
 -- later code from a later register on leaves it there
 value_stays : {from : ℕ} (homes : Homes) (rd : ℕ) (e : PlainSp) (m t : Run) → rd < from → Keeps from homes.first m t → held (value_at homes e rd) t ≡ held (value_at homes e rd) m
 value_stays {from} homes rd e m t lt keeps = by (is_home homes e) refl
   where
-    by : (b : Bool) → is_home homes e ≡ b → held (if b then homes.first + slot_number e else rd) t ≡ held (if b then homes.first + slot_number e else rd) m
-    by true is = keeps.high (homes.first + slot_number e) (omega arith) (home_below homes e is)
+    by : (b : Bool) → is_home homes e ≡ b → held (if b then home_of homes e else rd) t ≡ held (if b then home_of homes e else rd) m
+    by true is = home_stays homes e m t (omega (arith, lt)) keeps is
     by false is = keeps.low rd lt
 
 -- no operand stands in a register that operators use beside
 pub value_low : (homes : Homes) (rd : ℕ) (e : PlainSp) → rd ≤ 21 → value_at homes e rd < 27
 value_low homes rd e few = by (is_home homes e) refl
   where
-    by : (b : Bool) → is_home homes e ≡ b → (if b then homes.first + slot_number e else rd) < 27
+    by : (b : Bool) → is_home homes e ≡ b → (if b then home_of homes e else rd) < 27
     by true is = let lt = home_below homes e is in omega (arith, lt)
     by false is = omega (arith, few)
 

@@ -43,7 +43,7 @@ use Rattle.sp_emit.proofs.Formed as formed
 use Rattle.sp_emit.proofs.Pointing.{Points, points_then, points_none, points_one, is_inside, Framed, Stays, stays_then, stays_all, inside_done}
 use Rattle.sp_emit.proofs.Quiet.{each_joined, each_lone}
 use Rattle.sp_emit.proofs.Values.{run_joined, run_lone}
-use Rattle.sp_emit.specs.Truths.{flag_code}
+use Rattle.sp_emit.specs.Truths.{flag_code, bit_sought}
 use Rattle.sp_emit.proofs.FlagWords.{seek_is, match_is}
 use Rattle.sp_emit.proofs.TruthCode.{is_test_bundle, AreTests, TruthParts, flag_is}
 use Rattle.sp_shape.proofs.Lists.{all_weaker}
@@ -148,9 +148,11 @@ truths_inside : (homes : Homes) (frame slots : ℕ) → slots ≤ frame → Trut
 truths_inside homes frame slots le = record {
   none = refl;
   both = each_joined (is_inside frame);
+  first = λ op a b h. (and_parts (names_words slots a) (names_words slots b) h).0;
   second = λ op a b h. (and_parts (names_words slots a) (names_words slots b) h).1;
   operands = λ e h. operands_inside homes frame slots e FIRST le h;
   tests = tests_inside frame;
+  bits = λ slot h. each_lone (is_inside frame) (bit_sought homes.first slot) (rw (fetch_inside frame homes.first slot (let named = ltb-true slot slots h in omega (arith, named, le))) refl);
 }
 
 flag_inside : (homes : Homes) (frame slots to : ℕ) (e : PlainSp) → slots ≤ frame → names_words slots e ≡ true → Inside frame (flag_code homes to e)

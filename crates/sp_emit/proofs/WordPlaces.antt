@@ -14,7 +14,7 @@ use Rattle.patmos_sem.specs.Registers.{holds}
 use Rattle.patmos_sem.specs.declared.writes.Write.TheVariants as write
 use Rattle.patmos_sem.specs.Effects.{address_of as address_by}
 use Rattle.sp_shape.specs.Run.{Run, Sources, word_given, once, IsWhole}
-use Rattle.sp_emit.specs.Holding.{held, Keeps, KeepsFrom, KeepsFlags}
+use Rattle.sp_emit.specs.Holding.{held, so, Keeps, KeepsFrom, KeepsFlags}
 use Rattle.sp_emit.specs.Instructions.{always, under, idle, copy, load_slot, store_slot}
 use Rattle.sp_emit.specs.Means.{KeepsBehind}
 use Rattle.sp_emit.specs.Places.{in_register, word_of, read_op, read_word, fetch_op, fetch_word, fetched_at, keep_op, keep_word, set_op, set_word}
@@ -133,6 +133,16 @@ fetch_leaves from homes slot m told whole near = by (in_register homes slot) ref
         ap (held (homes + slot)) (did_write from always (AluImm imm.Add 0 0 0) m whole whole.fits.always refl refl)
         ∙ nothing_written ((held 0 m + 0) % 2 ^ 32) (homes + slot) m whole (omega (arith, ltb-true (homes + slot) OVERRUN is))
     by false is = slot_leaves from SPARE slot m told whole (omega arith) (omega arith) near
+
+pub fetch_preds : (from : Sources) (homes slot q : ℕ) (m : Run) → IsWhole m → q < 8 → so q (once from (fetch_word homes slot) m) ≡ so q m
+unfolding fetch_op
+fetch_preds from homes slot q m whole few = by (in_register homes slot)
+  where
+    by : (b : Bool) → so q (once from (under always (if b then AluImm imm.Add 0 0 0 else Load mem.S load.Word SPARE 0 slot)) m) ≡ so q m
+    by true = ap (so q) (did_write from always (AluImm imm.Add 0 0 0) m whole whole.fits.always refl refl) ∙ so_by_register 0 ((held 0 m + 0) % 2 ^ 32) q m whole few
+    by false =
+        ap (so q) (did_load from always mem.S SPARE 0 slot m whole whole.fits.always)
+        ∙ so_by_register SPARE (word_given from mem.S (address_by (held 0 m) slot 4) m) q m whole few
 
 -- ---- a word that is changed where it was fetched
 

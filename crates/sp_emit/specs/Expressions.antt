@@ -246,17 +246,22 @@ abbrev pub number_of : PlainSp → ℕ
 number_of (constant n) = n
 number_of _ = 0
 
--- an operand that is a word of the frame in a register is used where it stands
+-- an operand that is a word of the frame in a register is used where it stands, and 0 in register 0, which always holds it
 abbrev pub is_home : Homes → PlainSp → Bool
+is_home homes (constant n) = n == 0
 is_home homes (frame_word slot) = is_none (flag_of homes.flags slot) && in_register homes.first slot
 is_home homes _ = false
+
+abbrev pub home_of : Homes → PlainSp → ℕ
+home_of homes (frame_word slot) = homes.first + slot
+home_of homes _ = 0
 
 abbrev pub slot_number : PlainSp → ℕ
 slot_number (frame_word slot) = slot
 slot_number _ = 0
 
 abbrev pub value_at : Homes → PlainSp → ℕ → ℕ
-value_at homes e rd = if is_home homes e then homes.first + slot_number e else rd
+value_at homes e rd = if is_home homes e then home_of homes e else rd
 
 abbrev pub unless : Bool → PlainParts → PlainParts
 unless there code = if there then no_part else code

@@ -1,11 +1,14 @@
 -- To be believed. Which words of a function's frame stand in predicates: such as are set to truths alone, and by no write.
-use Rattle.std.specs.Prelude.{ℕ, zero, suc, ◌==◌, ◌&&◌, ◌||◌, nat_le, Bool, true, false, not, if◌then◌else◌, is_none, is_some}
-use Rattle.sp_tree.specs.Plain.{PlainSp, frame_word, between_two}
-use Rattle.sp_tree.specs.Statements.{PlainSpTarget, to_slot, PlainStmt, masks, writes, calls, iterations, PlainStmts, no_stmt, stmt, PlainFunction}
+use Rattle.std.specs.Prelude.{ℕ, zero, suc, ◌+◌, ◌*◌, ◌==◌, ◌&&◌, ◌||◌, nat_le, nat_lt, Bool, true, false, not, if◌then◌else◌, Option, None, Some, is_none, is_some}
+use Rattle.std.specs.List.{list_all}
+use Rattle.sp_tree.specs.Formed.{slots_of}
+use Rattle.sp_tree.specs.Plain.{PlainSp, constant, frame_word, cell_word, array_word, before_one, between_two}
+use Rattle.sp_tree.specs.Statements.{PlainSpTarget, to_slot, PlainStmt, masks, writes, calls, transfers, overruns, iterations, PlainStmts, no_stmt, stmt, PlainFunction}
 use Rattle.sp_tree.specs.declared.operators.SpBinary.{SpBinary}
 use Rattle.sp_tree.specs.declared.operators.SpBinary.TheVariants as binary
-use Rattle.sp_emit.specs.Places.{flag_of}
-use Rattle.sp_emit.specs.Truths.{is_one, is_truth}
+use Rattle.sp_emit.specs.Places.{flag_of, flag_words, capped}
+use Rattle.sp_emit.specs.Truths.{bits_of, is_test, is_one, is_truth}
+use Rattle.sp_emit.specs.declared.flags.Choice.{Choice}
 use Rattle.sp_emit.specs.declared.stands.Flags.{Flags}
 
 -- ---- when they may
@@ -20,7 +23,7 @@ abbrev mutual
   pub stmt_hinders : Flags → PlainStmt → Bool
   stmt_hinders flags (masks slot e) = is_some (flag_of flags slot) && not (is_truth flags e)
   stmt_hinders flags (writes mask target e) = target_hinders flags target
-  stmt_hinders flags (calls mask k args result) = not (flags.count == 0)
+  stmt_hinders flags (calls mask k args result) = not (list_all is_none (flag_words flags))
   stmt_hinders flags (iterations count body) = stmts_hinder flags body
   stmt_hinders flags _ = false
 
@@ -50,20 +53,122 @@ behind_first (stmt t rest) = rest
 abbrev pub begun_body : Flags → PlainFunction → PlainStmts
 begun_body flags f = if is_some (flag_of flags f.mask) then behind_first f.body else f.body
 
+abbrev pub is_past : ℕ → Option ℕ → Bool
+is_past n None = true
+is_past n (Some word) = nat_le n word
+
 abbrev pub function_stands : Flags → PlainFunction → Bool
 function_stands flags f =
-    is_none (flag_of flags f.result) && ((flags.count == 0 || nat_le f.parameters flags.word)
+    is_none (flag_of flags f.result) && (list_all (is_past f.parameters) (flag_words flags)
     && ((is_none (flag_of flags f.mask) || tests_mask f.mask f.body) && not (stmts_hinder flags (begun_body flags f))))
 
--- ---- which do: its mask and those of its arms and loops, which stand one after another as they stand inside one another,
--- as many of them as may, at most as many as there are such predicates
+-- ---- which do: of its own mask and the words after it those that are set to what may be truths alone; of these, in the
+-- order of their numbers, as many after one another as there are such predicates, which the function names most
 
-abbrev pub chosen : ℕ → PlainFunction → Flags
-chosen count f = record { word = f.mask; count = count }
+-- a value that is a truth if the words in it are
+abbrev pub may_be : ℕ → PlainSp → Bool
+may_be mask (constant n) = nat_le n 1
+may_be mask (frame_word slot) = nat_le mask slot
+may_be mask (before_one op of) = is_test (before_one op of)
+may_be mask (between_two op a b) =
+    is_test (between_two op a b) || (is_some (bits_of op) && (may_be mask a && may_be mask b))
+may_be mask _ = false
 
-abbrev pub most_flags : ℕ → PlainFunction → Flags
-most_flags zero f = chosen 0 f
-most_flags (suc n) f = if function_stands (chosen (suc n) f) f then chosen (suc n) f else most_flags n f
+-- a word is set to what is none, or by a write
+abbrev pub is_target : ℕ → PlainSpTarget → Bool
+is_target slot (to_slot word) = word == slot
+is_target slot _ = false
+
+abbrev mutual
+  pub stmt_spoils : ℕ → ℕ → PlainStmt → Bool
+  stmt_spoils mask slot (masks word e) = word == slot && not (may_be mask e)
+  stmt_spoils mask slot (writes under target e) = is_target slot target
+  stmt_spoils mask slot (iterations count body) = stmts_spoil mask slot body
+  stmt_spoils mask slot _ = false
+
+  pub stmts_spoil : ℕ → ℕ → PlainStmts → Bool
+  stmts_spoil mask slot no_stmt = false
+  stmts_spoil mask slot (stmt t rest) = stmt_spoils mask slot t || stmts_spoil mask slot rest
+
+-- how often a word is named as a mask, and in what masks are set to; in a loop eight times as often
+abbrev pub named_as : ℕ → ℕ → ℕ
+named_as slot word = if word == slot then 1 else 0
+
+abbrev pub expr_names : ℕ → PlainSp → ℕ
+expr_names slot (constant n) = 0
+expr_names slot (frame_word word) = named_as slot word
+expr_names slot (cell_word cell) = 0
+expr_names slot (array_word array index) = expr_names slot index
+expr_names slot (before_one op of) = expr_names slot of
+expr_names slot (between_two op a b) = expr_names slot a + expr_names slot b
+
+abbrev mutual
+  pub stmt_names : ℕ → PlainStmt → ℕ
+  stmt_names slot (masks word e) = named_as slot word + expr_names slot e
+  stmt_names slot (writes mask target e) = named_as slot mask
+  stmt_names slot (calls mask k args result) = named_as slot mask
+  stmt_names slot (transfers mask core source target count) = named_as slot mask
+  stmt_names slot (overruns mask e) = named_as slot mask
+  stmt_names slot (iterations count body) = 8 * stmts_name slot body
+
+  pub stmts_name : ℕ → PlainStmts → ℕ
+  stmts_name slot no_stmt = 0
+  stmts_name slot (stmt t rest) = stmt_names slot t + stmts_name slot rest
+
+-- what passes 2^32 - 1 is counted as that
+abbrev pub times_named : PlainFunction → Option ℕ → ℕ
+times_named f None = 0
+times_named f (Some slot) = capped (stmts_name slot f.body)
+
+abbrev pub flags_named : PlainFunction → Flags → ℕ
+flags_named f flags =
+    (times_named f flags.first + times_named f flags.second) + (times_named f flags.third + times_named f flags.fourth)
+
+abbrev pub may_stand : PlainFunction → ℕ → Bool
+may_stand f slot =
+    nat_le f.mask slot && (nat_lt 0 (times_named f (Some slot)) && not (stmts_spoil f.mask slot f.body))
+
+abbrev pub no_flags : Flags
+no_flags = record { first = None; second = None; third = None; fourth = None }
+
+-- one word more: the first one goes where there are four
+abbrev pub with_flag : Flags → ℕ → Flags
+with_flag flags slot =
+    if is_none flags.first then record flags { first = Some slot }
+    else if is_none flags.second then record flags { second = Some slot }
+    else if is_none flags.third then record flags { third = Some slot }
+    else if is_none flags.fourth then record flags { fourth = Some slot }
+    else record { first = flags.second; second = flags.third; third = flags.fourth; fourth = Some slot }
+
+-- the last ones among the first so many words, and those that are named most
+abbrev pub heavier : PlainFunction → Flags → Flags → Flags
+heavier f best last = if nat_lt (flags_named f best) (flags_named f last) then last else best
+
+abbrev pub next_choice : PlainFunction → Choice → ℕ → Choice
+next_choice f c slot =
+    let last = with_flag c.last slot in
+    if may_stand f slot then record { last = last; best = heavier f c.best last } else c
+
+abbrev pub first_choice : PlainFunction → ℕ → Choice
+first_choice f zero = record { last = no_flags; best = no_flags }
+first_choice f (suc n) = next_choice f (first_choice f n) n
+
+-- so many of them, as many as may
+abbrev pub if_within : ℕ → ℕ → Option ℕ → Option ℕ
+if_within count i word = if nat_lt i count then word else None
+
+abbrev pub first_flags : ℕ → Flags → Flags
+first_flags count flags = record {
+  first = if_within count 0 flags.first;
+  second = if_within count 1 flags.second;
+  third = if_within count 2 flags.third;
+  fourth = if_within count 3 flags.fourth;
+}
+
+abbrev pub most_flags : ℕ → Flags → PlainFunction → Flags
+most_flags zero flags f = first_flags 0 flags
+most_flags (suc n) flags f =
+    if function_stands (first_flags (suc n) flags) f then first_flags (suc n) flags else most_flags n flags f
 
 abbrev pub flags_of : PlainFunction → Flags
-flags_of f = most_flags 4 f
+flags_of f = most_flags 4 (first_choice f (slots_of f)).best f

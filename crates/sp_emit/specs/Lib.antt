@@ -1,4 +1,5 @@
 pub mod Accesses
+pub mod Arms
 pub mod Chains
 pub mod Counts
 pub mod Division

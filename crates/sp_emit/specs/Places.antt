@@ -1,7 +1,7 @@
 -- To be believed. Where the words of a frame stand, those that its tree names and the counters of iterations after them:
 -- some in predicates; of the others the first ones in registers, from one on and before the flag of loops, those that
 -- find none there in the stack.
-use Rattle.std.specs.Prelude.{ℕ, ◌+◌, ◌-◌, ◌^◌, ◌&&◌, nat_le, nat_lt, max, min, Bool, if◌then◌else◌, zero, suc, List, [], ◌∷◌, ◌++◌, Option, None, Some, slice_index_or}
+use Rattle.std.specs.Prelude.{ℕ, ◌+◌, ◌-◌, ◌^◌, ◌==◌, nat_lt, max, min, Bool, false, if◌then◌else◌, zero, suc, List, [], ◌∷◌, ◌++◌, Option, None, Some, slice_index_or}
 use Rattle.c_world.specs.Numbers.{flag}
 use Rattle.patmos_instr.specs.Bundles.{Slots}
 use Rattle.patmos_instr.specs.declared.guards.Guard.{Guard}
@@ -19,17 +19,26 @@ use Rattle.sp_tree.specs.Statements.{PlainSpTarget, to_slot, to_cell, to_array, 
 use Rattle.sp_shape.specs.Run.{Run}
 use Rattle.sp_emit.specs.Holding.{held, so}
 use Rattle.sp_emit.specs.Instructions.{always, under, set_short, combine}
-use Rattle.sp_emit.specs.declared.registers.TheConstants.{FIRST, SPARE, OVERRUN, TEST, FLAGS}
+use Rattle.sp_emit.specs.declared.registers.TheConstants.{FIRST, SPARE, OVERRUN, TEST}
 use Rattle.sp_emit.specs.declared.stands.Homes.{Homes}
 use Rattle.sp_emit.specs.declared.stands.Flags.{Flags}
 
 -- ---- places
 
--- the predicate in which a word stands: there are four
+-- the predicate in which a word stands: the first one of all in the first of four, and so on
+abbrev pub is_that : Option ℕ → ℕ → Bool
+is_that None slot = false
+is_that (Some word) slot = word == slot
+
+abbrev pub flag_in : List ℕ → List (Option ℕ) → ℕ → Option ℕ
+flag_in (p ∷ preds) (word ∷ words) slot = if is_that word slot then Some p else flag_in preds words slot
+flag_in _ _ slot = None
+
+abbrev pub flag_words : Flags → List (Option ℕ)
+flag_words flags = flags.first ∷ flags.second ∷ flags.third ∷ flags.fourth ∷ []
+
 unfoldable pub flag_of : Flags → ℕ → Option ℕ
-flag_of flags slot =
-    if nat_le flags.word slot && nat_lt (slot - flags.word) (min 4 flags.count) then Some (FLAGS + (slot - flags.word))
-    else None
+flag_of flags slot = flag_in (4 ∷ 5 ∷ 6 ∷ 7 ∷ []) (flag_words flags) slot
 
 -- whether a word that stands in no predicate stands in a register, where the first one would stand in that of this number
 abbrev pub in_register : ℕ → ℕ → Bool

@@ -1,16 +1,19 @@
 -- To be believed. What the code of a function, and of its statements, has where it begins, and what it leaves.
-use Rattle.std.specs.Prelude.{ℕ, ◌≡◌, ◌+◌, ◌*◌, ◌<◌, ◌≤◌, ◌^◌, true, false, List, length, slice_index, bit_xor}
+use Rattle.std.specs.Prelude.{ℕ, ◌≡◌, ◌+◌, ◌*◌, ◌<◌, ◌≤◌, ◌^◌, true, false, List, length, slice_index, slice_index_or, bit_xor}
 use Rattle.c_world.specs.Numbers.{flag}
 use Rattle.c_world.specs.World.{World}
 use Rattle.sp_tree.specs.Formed.{functions_formed, stmts_formed, stmts_levels}
-use Rattle.sp_tree.specs.Statements.{PlainFunction, PlainStmts}
-use Rattle.sp_tree.specs.Straight.{Outcome, State}
+use Rattle.sp_tree.specs.Statements.{PlainFunction, PlainStmts, no_function}
+use Rattle.sp_tree.specs.Straight.{Outcome, State, serves, stmts_done}
 use Rattle.sp_tree.specs.declared.limits.TheConstants.{MOST_FRAME}
-use Rattle.sp_shape.specs.Run.{Run, IsWhole}
+use Rattle.sp_shape.specs.Run.{Run, IsWhole, by_words, run}
+use Rattle.sp_shape.specs.Trail.{parts_trail, trails}
+use Rattle.sp_emit.specs.Functions.{codes}
+use Rattle.sp_emit.specs.Statements.{stmts_code}
 use Rattle.sp_emit.specs.Holding.{held}
 use Rattle.sp_emit.specs.Means.{Follows, HasConstants, HasStmtsConstants, HasWords, HoldsWords, KeepsBehind}
 use Rattle.sp_emit.specs.Flags.{stmts_hinder}
-use Rattle.sp_emit.specs.Places.{word_of, shown_word, stmts_least, tops}
+use Rattle.sp_emit.specs.Places.{word_of, shown_word, stmts_least, tops, top_of}
 use Rattle.sp_emit.specs.declared.registers.TheConstants.{RESULT, MASK, FIRST, OVERRUN}
 use Rattle.sp_emit.specs.declared.stands.Homes.{Homes}
 
@@ -84,3 +87,13 @@ pub record OwnUnchanged (homes : Homes) (slots count : ℕ) (before after : ℕ 
   pub world : WorldStands m t
   pub frame : (slot : ℕ) → slot < slots → after slot ≡ before slot → shown_word homes slot t ≡ shown_word homes slot m
   pub behind : KeepsBehind (homes.first + count) count m t
+
+-- so it is of functions, each as it is called; and of statements
+pub record ChangeNoMore (fs : List PlainFunction) (n : ℕ) : Type 0 where
+  pub functions : (k mask : ℕ) (args : List ℕ) (w : World) (m : Run) → k < n
+      → length args ≡ (slice_index_or fs k no_function).parameters → (k + 1) * MOST_FRAME ≤ m.st → CalledWith mask args w m
+      → (serves fs n k mask args w).world ≡ w → Unchanged (top_of fs k) m (run by_words (trails (codes fs) n k) m)
+  pub statements : (homes : Homes) (frame slots counter : ℕ) (ts : PlainStmts) (s : State) (m : Run)
+      → AreStatements fs n homes frame slots counter ts s m → (stmts_done (serves fs n) ts s).world ≡ s.world
+      → OwnUnchanged homes slots (counter + 1) s.frame (stmts_done (serves fs n) ts s).frame m
+      (run by_words (parts_trail (trails (codes fs) n) (stmts_code homes frame counter ts)) m)

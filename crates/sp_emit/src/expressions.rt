@@ -111,12 +111,13 @@ pub fn need_of(e: &SpExpr) -> u32
     }
 }
 
-// whether an operand is a word of the frame in a register
+// whether an operand is a word of the frame in a register, or 0, which register 0 holds
 #[tactic(auto, unfolding(sp_tree::specs::Plain::plain_sp))]
 fn is_home(homes: Homes, e: &SpExpr) -> bool
     ensures { result ≡ specs.is_home homes (plain_sp e.now) }
 {
     match e {
+        SpExpr::Const { value } => *value == 0,
         SpExpr::Frame { slot } => {
             flag_of(homes.flags, *slot).is_none() && is_in_register(homes.first, *slot)
         }
@@ -126,7 +127,7 @@ fn is_home(homes: Homes, e: &SpExpr) -> bool
 
 // the word of the frame that an operand is
 #[tactic(auto, unfolding(sp_tree::specs::Plain::plain_sp))]
-fn slot_number(e: &SpExpr) -> u32
+pub fn slot_number(e: &SpExpr) -> u32
     ensures { result ≡ specs.slot_number (plain_sp e.now) }
 {
     match e {
@@ -136,14 +137,14 @@ fn slot_number(e: &SpExpr) -> u32
 }
 
 // the register in which an operand's value stands
-#[tactic(auto, using(crate::proofs::Operands::home_below))]
+#[tactic(auto, using(crate::proofs::Operands::word_below), unfolding(sp_tree::specs::Plain::plain_sp))]
 pub fn value_at(homes: Homes, e: &SpExpr, rd: Reg) -> Reg
     ensures { result ≡ specs.value_at homes (plain_sp e.now) rd }
 {
-    if is_home(homes, e) {
-        reg(homes.first + slot_number(e))
-    } else {
-        rd
+    match e {
+        SpExpr::Frame { slot } if is_home(homes, e) => reg(homes.first + *slot),
+        _ if is_home(homes, e) => reg(0),
+        _ => rd,
     }
 }
 

@@ -31,7 +31,7 @@ ghost use Rattle.sp_emit.specs.Holding.{held, Keeps};
 ghost use Rattle.sp_emit.specs.Means.{Follows, IsReady, KeepsBehind, HoldsWords, HasConstants};
 ghost use Rattle.sp_emit.specs.Places.{word_of, top_of};
 ghost use Rattle.sp_emit.specs.Ran.{begun_memory, ran};
-ghost use Rattle.sp_emit.specs.Serving.{Answers, AreFunctions, AreStatements, CalledWith, Unchanged, OwnUnchanged};
+ghost use Rattle.sp_emit.specs.Serving.{Answers, AreFunctions, AreStatements, CalledWith, ChangeNoMore};
 ghost use Rattle.sp_emit.specs.Statements.{stmts_code};
 ghost use Rattle.sp_tree.specs.declared.limits.TheConstants.{MOST_FRAME};
 ghost use Rattle.sp_emit.specs.declared.stands.Homes.{Homes};
@@ -81,16 +81,7 @@ pub fn functions_do_what_they_give()
         → length args ≡ (slice_index_or fs k no_function).parameters → (k + 1) * MOST_FRAME ≤ m.st
         → CalledWith mask args w m → (homes slot : ℕ) → top_of fs k ≤ homes
         → word_of homes slot (run by_words (trails (codes fs) n k) m) ≡ word_of homes slot m }
-    ensures unchanged { (fs : List PlainFunction) (n k mask : ℕ) (args : List ℕ) (w : World) (m : Run)
-        → AreFunctions fs n → k < n
-        → length args ≡ (slice_index_or fs k no_function).parameters → (k + 1) * MOST_FRAME ≤ m.st
-        → CalledWith mask args w m → (serves fs n k mask args w).world ≡ w
-        → Unchanged (top_of fs k) m (run by_words (trails (codes fs) n k) m) }
-    ensures own_unchanged { (fs : List PlainFunction) (n : ℕ) (homes : Homes) (frame slots counter : ℕ) (ts : PlainStmts) (s : State)
-        (m : Run) → AreStatements fs n homes frame slots counter ts s m
-        → (stmts_done (serves fs n) ts s).world ≡ s.world
-        → OwnUnchanged homes slots (counter + 1) s.frame (stmts_done (serves fs n) ts s).frame m (run by_words
-        (parts_trail (trails (codes fs) n) (stmts_code homes frame counter ts)) m) }
+    ensures unchanged { (fs : List PlainFunction) (n : ℕ) → AreFunctions fs n → ChangeNoMore fs n }
     ensures statements { (fs : List PlainFunction) (n : ℕ) (homes : Homes) (frame slots counter : ℕ) (ts : PlainStmts) (s : State)
         (m : Run) → AreStatements fs n homes frame slots counter ts s m
         → Follows homes slots (stmts_done (serves fs n) ts s)

@@ -17,17 +17,29 @@ use crate::stands::{Flags, Homes};
 use patmos_instr::{Bundle, CmpFunc, Guard, ImmFunc, Pred, Reg};
 use sp_tree::{SpExpr, SpFunction, SpStmt, SpTarget};
 
+// whether a word of those that stand in predicates is that of a number
+fn is_that(word: Option<u32>, slot: u32) -> bool
+    ensures { result ≡ specs.is_that word slot }
+{
+    match word {
+        Some(word) => word == slot,
+        None => false,
+    }
+}
+
 /// The predicate in which a word stands.
 #[tactic(auto, unfolding(crate::specs::Places::flag_of))]
 pub fn flag_of(flags: Flags, slot: u32) -> Option<Pred>
     ensures { result ≡ specs.flag_of flags slot }
 {
-    if slot < flags.word {
-        return None;
-    }
-    let n = slot - flags.word;
-    if n < 4 && n < flags.count {
-        Some(pred(FLAGS + n))
+    if is_that(flags.first, slot) {
+        Some(pred(FLAGS))
+    } else if is_that(flags.second, slot) {
+        Some(pred(FLAGS + 1))
+    } else if is_that(flags.third, slot) {
+        Some(pred(FLAGS + 2))
+    } else if is_that(flags.fourth, slot) {
+        Some(pred(FLAGS + 3))
     } else {
         None
     }

@@ -1,11 +1,12 @@
 //! Where the words of a function's frame stand.
 
-/// The words of a function's frame that stand in predicates: so many from one on, at most four, one after another from
-/// [`FLAGS`](crate::FLAGS) on.
+/// The words of a function's frame that stand in predicates, at most four: `first` in [`FLAGS`](crate::FLAGS), and so on.
 #[derive(Clone, Copy)]
 pub struct Flags {
-    pub word: u32,
-    pub count: u32,
+    pub first: Option<u32>,
+    pub second: Option<u32>,
+    pub third: Option<u32>,
+    pub fourth: Option<u32>,
 }
 
 /// Where the words of a function's frame stand.

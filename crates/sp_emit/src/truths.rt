@@ -1,16 +1,17 @@
 //! Truths in predicates.
-ghost use Rattle.std.specs.Prelude.{◌≡◌, true, OnOk};
-ghost use Rattle.sp_emit.specs.Expressions.{is_immediate};
+ghost use Rattle.std.specs.Prelude.{◌≡◌, true, OnOk, is_some};
+ghost use Rattle.sp_emit.specs.Expressions.{is_immediate, slot_number};
 ghost use Rattle.sp_emit.specs.Fits.{ExprFits};
+ghost use Rattle.sp_emit.specs.Places.{told_in};
 ghost use Rattle.sp_emit.specs.Truths as specs;
 ghost use Rattle.sp_shape.specs.Parts.{straight, one, joined};
 ghost use Rattle.sp_shape.specs.Shown.{parts_of};
 ghost use Rattle.sp_tree.specs.Plain.{plain_sp, constant, between_two};
 
-use crate::expressions::{held_constant, is_second_first, operands, value_at};
+use crate::expressions::{held_constant, is_second_first, operands, slot_number, value_at};
 use crate::instructions::{combine, compare, compare_short};
 use crate::parts::push_straight;
-use crate::places::flag_of;
+use crate::places::{fetch_word, fetched_at, flag_of};
 use crate::registers::{FIRST, SECOND, TEST, behind, pred, reg};
 use crate::stands::{Flags, Homes};
 use patmos_instr::{Bundle, CmpFunc, Pred, PredFunc, Reg};
@@ -56,15 +57,51 @@ fn bits_of(op: SpBinary) -> Option<PredFunc>
     }
 }
 
-// whether an expression is tested
+/// Whether an operator joins truths.
+pub fn is_joining(op: SpBinary) -> bool
+    ensures { result ≡ is_some (specs.bits_of op) }
+{
+    bits_of(op).is_some()
+}
+
+/// Whether an expression is the number 1.
 #[tactic(auto, unfolding(sp_tree::specs::Plain::plain_sp))]
-fn is_test(e: &SpExpr) -> bool
+pub fn is_one(e: &SpExpr) -> bool
+    ensures { result ≡ specs.is_one (plain_sp e.now) }
+{
+    match e {
+        SpExpr::Const { value } => *value == 1,
+        _ => false,
+    }
+}
+
+// whether an expression's code is longer where its value is worked out than where it is tested
+#[tactic(auto, unfolding(sp_tree::specs::Plain::plain_sp))]
+fn is_condition(e: &SpExpr) -> bool
+    ensures { result ≡ specs.is_condition (plain_sp e.now) }
+{
+    match e {
+        SpExpr::Unary { op, .. } => matches!(op, SpUnary::Not),
+        SpExpr::Binary { op, .. } => cmp_of(*op).is_some() || both_of(*op).is_some(),
+        _ => false,
+    }
+}
+
+fn is_masking(op: SpBinary) -> bool
+    ensures { result ≡ specs.is_masking op }
+{
+    matches!(op, SpBinary::BitAnd)
+}
+
+/// Whether an expression is tested.
+#[tactic(auto, unfolding(sp_tree::specs::Plain::plain_sp))]
+pub fn is_test(e: &SpExpr) -> bool
     ensures { result ≡ specs.is_test (plain_sp e.now) }
 {
     match e {
         SpExpr::Const { value } => *value == 0,
-        SpExpr::Unary { op, .. } => matches!(op, SpUnary::Not),
-        SpExpr::Binary { op, .. } => cmp_of(*op).is_some() || both_of(*op).is_some(),
+        SpExpr::Unary { .. } => is_condition(e),
+        SpExpr::Binary { op, b, .. } => is_condition(e) || (is_masking(*op) && is_one(b)),
         _ => false,
     }
 }
@@ -93,7 +130,7 @@ fn by_two(out: &mut Vec<Part>, op: SpBinary, ra: Reg, rb: Reg) -> Result<(), Out
     }
 }
 
-// of a register's word and a number that an instruction holds
+// of a register's word and a number that an instruction holds; where the operator is no comparison, of its lowest bit
 #[tactic(auto, using(crate::proofs::TruthCode::number_small))]
 fn by_number(out: &mut Vec<Part>, op: SpBinary, ra: Reg, n: u32) -> Result<(), OutOfMemory>
     requires { is_immediate op (constant n) ≡ true }
@@ -101,7 +138,7 @@ fn by_number(out: &mut Vec<Part>, op: SpBinary, ra: Reg, n: u32) -> Result<(), O
         ≡ joined (parts_of out.old.items) (one (straight (specs.by_number (specs.cmp_of op) ra n)))) }
 {
     match cmp_of(op) {
-        None => push_straight(out, &[]),
+        None => push_straight(out, &[compare_short(CmpFunc::Btest, pred(TEST), ra, 0)]),
         Some(func) => push_straight(out, &[compare_short(func, pred(TEST), ra, n)]),
     }
 }
@@ -172,17 +209,6 @@ fn is_same(op: SpBinary) -> bool
     matches!(op, SpBinary::BitAnd | SpBinary::Equal)
 }
 
-/// Whether an expression is the number 1.
-#[tactic(auto, unfolding(sp_tree::specs::Plain::plain_sp))]
-pub fn is_one(e: &SpExpr) -> bool
-    ensures { result ≡ specs.is_one (plain_sp e.now) }
-{
-    match e {
-        SpExpr::Const { value } => *value == 1,
-        _ => false,
-    }
-}
-
 #[tactic(auto, unfolding(sp_tree::specs::Plain::plain_sp))]
 fn word_flag(flags: Flags, e: &SpExpr) -> Option<Pred>
     ensures { result ≡ specs.word_flag flags (plain_sp e.now) }
@@ -206,11 +232,59 @@ fn flag_at(flags: Flags, e: &SpExpr) -> Option<Pred>
     }
 }
 
-// whether two truths are joined
-fn joins(flags: Flags, op: SpBinary, a: &SpExpr) -> bool
-    ensures { result ≡ specs.joins flags op (plain_sp a.now) }
+#[tactic(auto, unfolding(sp_tree::specs::Plain::plain_sp))]
+fn is_frame_word(e: &SpExpr) -> bool
+    ensures { result ≡ specs.is_frame_word (plain_sp e.now) }
 {
-    bits_of(op).is_some() && flag_at(flags, a).is_some()
+    matches!(e, SpExpr::Frame { .. })
+}
+
+// whether a word that stands in no predicate is masked with a truth
+fn seeks(flags: Flags, op: SpBinary, a: &SpExpr, b: &SpExpr) -> bool
+    ensures { result ≡ specs.seeks flags op (plain_sp a.now) (plain_sp b.now) }
+{
+    is_masking(op) && is_frame_word(a) && (word_flag(flags, b).is_some() || is_condition(b))
+}
+
+// whether two truths are joined
+fn joins(flags: Flags, op: SpBinary, a: &SpExpr, b: &SpExpr) -> bool
+    ensures { result ≡ specs.joins flags op (plain_sp a.now) (plain_sp b.now) }
+{
+    is_joining(op) && (flag_at(flags, a).is_some() || seeks(flags, op, a, b))
+}
+
+fn is_division(op: SpBinary) -> bool
+    ensures { result ≡ specs.is_division op }
+{
+    matches!(
+        op,
+        SpBinary::Divide
+            | SpBinary::DivideUnsigned
+            | SpBinary::Remainder
+            | SpBinary::RemainderUnsigned
+    )
+}
+
+// whether an expression's code leaves the second predicate as it is
+#[tactic(auto, unfolding(sp_tree::specs::Plain::plain_sp))]
+fn spares_second(e: &SpExpr) -> bool
+    ensures { result ≡ specs.spares_second (plain_sp e.now) }
+{
+    match e {
+        SpExpr::Element { index, .. } => spares_second(index),
+        SpExpr::Unary { of, .. } => spares_second(of),
+        SpExpr::Binary { op, a, b } => {
+            !(is_division(*op) || both_of(*op).is_some()) && (spares_second(a) && spares_second(b))
+        }
+        _ => true,
+    }
+}
+
+// whether the truths of two conditions are joined
+fn pairs(op: SpBinary, a: &SpExpr, b: &SpExpr) -> bool
+    ensures { result ≡ specs.pairs op (plain_sp a.now) (plain_sp b.now) }
+{
+    both_of(op).is_some() && (is_condition(a) && (is_condition(b) && spares_second(b)))
 }
 
 /// Whether the truth of an expression goes to a predicate.
@@ -222,7 +296,7 @@ pub fn is_truth(flags: Flags, e: &SpExpr) -> bool
         return true;
     }
     match e {
-        SpExpr::Binary { op, a, b } if joins(flags, *op, a) => is_truth(flags, b),
+        SpExpr::Binary { op, a, b } if joins(flags, *op, a, b) => is_truth(flags, b),
         _ => is_test(e),
     }
 }
@@ -231,9 +305,16 @@ pub fn is_truth(flags: Flags, e: &SpExpr) -> bool
 
 // where a truth stands once its code is done
 fn stood_at(flags: Flags, e: &SpExpr) -> Pred
-    ensures { result ≡ specs.stood_in (specs.flag_at flags (plain_sp e.now)) }
+    ensures { result ≡ told_in (specs.flag_at flags (plain_sp e.now)) }
 {
     flag_at(flags, e).unwrap_or(pred(TEST))
+}
+
+// that of a first operand, whose lowest bit may have been sought
+fn sought_at(flags: Flags, e: &SpExpr) -> Pred
+    ensures { result ≡ specs.sought_in (specs.flag_at flags (plain_sp e.now)) }
+{
+    flag_at(flags, e).unwrap_or(pred(SECOND))
 }
 
 // a predicate gets what two truths come to
@@ -241,24 +322,87 @@ fn join(flags: Flags, to: Pred, op: SpBinary, a: &SpExpr, b: &SpExpr) -> Bundle
     ensures { result ≡ specs.join flags to op (plain_sp a.now) (plain_sp b.now) }
 {
     let func = bits_of(op).unwrap_or(PredFunc::Por);
-    combine(func, to, stood_at(flags, a), stood_at(flags, b))
+    combine(func, to, sought_at(flags, a), stood_at(flags, b))
+}
+
+// the lowest bit of a first operand goes to the second predicate, unless it stands in one already
+#[tactic(auto, using(crate::proofs::Pushed::nothing_pushed, crate::proofs::Needs::slot_few))]
+fn seek(out: &mut Vec<Part>, homes: Homes, e: &SpExpr) -> Result<(), OutOfMemory>
+    requires { ExprFits (plain_sp e.now) FIRST }
+    ensures { OnOk result (parts_of out.new.items
+        ≡ joined (parts_of out.old.items) (specs.unless_stands (specs.flag_at homes.flags (plain_sp e.now))
+        (one (straight (specs.bit_sought homes.first (slot_number (plain_sp e.now))))))) }
+{
+    if flag_at(homes.flags, e).is_some() {
+        return Ok(());
+    }
+    let slot = slot_number(e);
+    let test = compare_short(
+        CmpFunc::Btest,
+        pred(SECOND),
+        fetched_at(homes.first, slot),
+        0,
+    );
+    push_straight(out, &[fetch_word(homes.first, slot), test])
 }
 
 // the truth of an expression goes to the predicate of a test
 #[cycle(truth)]
-#[tactic(auto, using(crate::proofs::Pushed::two_pushed), unfolding(sp_tree::specs::Plain::plain_sp))]
+#[tactic(auto, using(crate::proofs::Pushed::two_pushed, crate::proofs::Needs::first_fits), unfolding(sp_tree::specs::Plain::plain_sp))]
 fn truth(out: &mut Vec<Part>, homes: Homes, e: &SpExpr) -> Result<(), OutOfMemory>
     requires { ExprFits (plain_sp e.now) FIRST }
     ensures { OnOk result (parts_of out.new.items
         ≡ joined (parts_of out.old.items) (specs.truth_code homes (plain_sp e.now))) }
 {
     match e {
-        SpExpr::Binary { op, a, b } if joins(homes.flags, *op, a) => {
+        SpExpr::Binary { op, a, b } if joins(homes.flags, *op, a, b) => {
             second_truth(out, homes, *op, a, b)?;
+            seek(out, homes, a)?;
             push_straight(out, &[join(homes.flags, pred(TEST), *op, a, b)])
+        }
+        SpExpr::Binary { op, a, b } if pairs(*op, a, b) => {
+            first_truth(out, homes, *op, b, a)?;
+            join_kept(out, homes, *op, a, b)
         }
         _ => tested(out, homes, e),
     }
+}
+
+// the truth of an operator's first operand is kept in the second predicate
+#[cycle(truth)]
+#[tactic(auto, using(crate::proofs::Pushed::two_pushed, crate::proofs::Needs::first_fits))]
+fn first_truth(
+    out: &mut Vec<Part>,
+    homes: Homes,
+    op: SpBinary,
+    b: &SpExpr,
+    a: &SpExpr,
+) -> Result<(), OutOfMemory>
+    requires { ExprFits (between_two op (plain_sp a.now) (plain_sp b.now)) FIRST }
+    ensures { OnOk result (parts_of out.new.items
+        ≡ joined (parts_of out.old.items) (specs.kept_code (specs.truth_code homes (plain_sp a.now)))) }
+{
+    truth(out, homes, a)?;
+    let (test, second) = (pred(TEST), pred(SECOND));
+    push_straight(out, &[combine(PredFunc::Por, second, test, test)])
+}
+
+// and joined with that of the second one
+#[tactic(auto, using(crate::proofs::Pushed::two_pushed, crate::proofs::Needs::second_fits))]
+fn join_kept(
+    out: &mut Vec<Part>,
+    homes: Homes,
+    op: SpBinary,
+    a: &SpExpr,
+    b: &SpExpr,
+) -> Result<(), OutOfMemory>
+    requires { ExprFits (between_two op (plain_sp a.now) (plain_sp b.now)) FIRST }
+    ensures { OnOk result (parts_of out.new.items
+        ≡ joined (parts_of out.old.items) (specs.joining_code homes op (plain_sp b.now))) }
+{
+    tested(out, homes, b)?;
+    let func = both_of(op).unwrap_or(PredFunc::Por);
+    push_straight(out, &[combine(func, pred(TEST), pred(SECOND), pred(TEST))])
 }
 
 // that of an operator's second operand, where it stands in none already
@@ -282,15 +426,21 @@ fn second_truth(
 }
 
 // what stands before the bundle that sets a predicate to a truth
-#[tactic(auto, unfolding(sp_tree::specs::Plain::plain_sp))]
+#[tactic(auto, using(crate::proofs::Pushed::nothing_pushed, crate::proofs::Pushed::two_pushed, crate::proofs::Needs::first_fits), unfolding(sp_tree::specs::Plain::plain_sp))]
 fn before_flag(out: &mut Vec<Part>, homes: Homes, e: &SpExpr) -> Result<(), OutOfMemory>
     requires { ExprFits (plain_sp e.now) FIRST }
     ensures { OnOk result (parts_of out.new.items
         ≡ joined (parts_of out.old.items) (specs.before_flag homes (plain_sp e.now))) }
 {
     match e {
-        SpExpr::Binary { op, a, b } if joins(homes.flags, *op, a) => {
-            second_truth(out, homes, *op, a, b)
+        SpExpr::Const { .. } => Ok(()),
+        SpExpr::Binary { op, a, b } if joins(homes.flags, *op, a, b) => {
+            second_truth(out, homes, *op, a, b)?;
+            seek(out, homes, a)
+        }
+        SpExpr::Binary { op, a, b } if pairs(*op, a, b) => {
+            first_truth(out, homes, *op, b, a)?;
+            join_kept(out, homes, *op, a, b)
         }
         _ => tested(out, homes, e),
     }
@@ -303,7 +453,8 @@ fn flag_set(flags: Flags, to: Pred, e: &SpExpr) -> Bundle
 {
     let test = pred(TEST);
     match e {
-        SpExpr::Binary { op, a, b } if joins(flags, *op, a) => join(flags, to, *op, a, b),
+        SpExpr::Const { .. } => combine(PredFunc::Pxor, to, pred(0), pred(0)),
+        SpExpr::Binary { op, a, b } if joins(flags, *op, a, b) => join(flags, to, *op, a, b),
         _ => combine(PredFunc::Por, to, test, test),
     }
 }

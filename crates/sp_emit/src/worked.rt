@@ -1,6 +1,8 @@
 //! Worked examples: what comes of the code of small units.
-ghost use Rattle.std.specs.Prelude.{◌≡◌, ◌-◌, ◌+◌, ◌^◌, [], ◌∷◌, None};
+ghost use Rattle.std.specs.Prelude.{◌≡◌, ◌-◌, ◌+◌, ◌^◌, [], ◌∷◌, None, Some};
 ghost use Rattle.patmos_sem.specs.Registers.{word_in};
+ghost use Rattle.sp_emit.specs.Arms.{arm, in_arm};
+ghost use Rattle.sp_emit.specs.Flags.{flags_of};
 ghost use Rattle.sp_emit.specs.Ran.{ran_alone};
 ghost use Rattle.sp_tree.specs.Plain.{constant, frame_word, array_word, between_two};
 ghost use Rattle.sp_tree.specs.Small as small;
@@ -8,6 +10,27 @@ ghost use Rattle.sp_tree.specs.Statements.{masks, overruns, writes, to_cell, to_
 ghost use Rattle.sp_tree.specs.declared.operators.SpBinary.TheVariants as binary;
 
 use sp_tree::Region;
+
+/// Masks that stand in predicates: an arm that is taken by one condition or by two, or is not; and what stands after
+/// `else`.
+#[tactic(auto, unfolding(crate::specs::Places::read_op, crate::specs::Places::fetch_op, crate::specs::Places::set_op, crate::specs::Places::cleared_in, crate::specs::Places::flag_of, crate::specs::Places::seek_op, crate::specs::Places::match_op, crate::specs::Instructions::number_op))]
+pub fn worked_masks()
+    ensures words { flags_of (small.entry_of (arm (between_two binary.Less (constant 3) (constant 4)) 2))
+        ≡ record { first = Some 0; second = Some 2; third = Some 3; fourth = None } }
+    ensures taken { word_in (ran_alone (in_arm (between_two binary.Less (constant 3) (constant 4)) 2) []).regs 1 ≡ 7 }
+    ensures left { word_in (ran_alone (in_arm (between_two binary.Less (constant 4) (constant 3)) 2) []).regs 1 ≡ 0 }
+    ensures both { word_in (ran_alone (in_arm (between_two binary.And
+        (between_two binary.Less (constant 3) (constant 4)) (between_two binary.Equal (constant 5)
+        (constant 5))) 2) []).regs 1 ≡ 7 }
+    ensures first_alone { word_in (ran_alone (in_arm (between_two binary.And
+        (between_two binary.Less (constant 3) (constant 4)) (between_two binary.Equal (constant 5)
+        (constant 6))) 2) []).regs 1 ≡ 0 }
+    ensures either { word_in (ran_alone (in_arm (between_two binary.Or
+        (between_two binary.Less (constant 4) (constant 3)) (between_two binary.Equal (constant 5)
+        (constant 5))) 2) []).regs 1 ≡ 7 }
+    ensures after_else { word_in (ran_alone (in_arm (between_two binary.Less (constant 4)
+        (constant 3)) 3) []).regs 1 ≡ 7 }
+{}
 
 /// A call that gives the difference of two words of the input, and its effect; nothing of the stack is left.
 #[tactic(auto, unfolding(crate::specs::Places::read_op, crate::specs::Places::fetch_op, crate::specs::Places::set_op, crate::specs::Places::cleared_in, crate::specs::Places::flag_of, crate::specs::Places::seek_op, crate::specs::Places::match_op, crate::specs::Instructions::number_op, crate::specs::Expressions::spare_op, crate::specs::Expressions::below_op, crate::specs::Expressions::scaled_op))]

@@ -13,9 +13,10 @@ use Rattle.sp_tree.proofs.Joins.{joined_formed}
 use Rattle.sp_inline.specs.Moved.{moved, args_moved, target_moved, result_moved, stmt_moved, stmts_moved}
 use Rattle.sp_inline.specs.Reach.{expr_reach, args_reach, target_reach, result_reach, stmt_reach, stmts_reach, stmt_calls, stmts_calls}
 use Rattle.sp_inline.specs.declared.room.Room.{Room}
-use Rattle.sp_inline.specs.Taken.{begun_words, handed, given_set, call_statements, front, short_body, shortened, PlainCaller, Taken, callee, room_after, is_taken, kept, call_taken, stmt_taken, stmts_taken, body_taken, grown, is_whole, function_taken, first_taken, unit_taken}
+use Rattle.sp_inline.specs.Taken.{begun_words, handed, tests_mask, call_mask, entered, given_set, call_statements, front, short_body, shortened, PlainCaller, Taken, callee, room_after, is_taken, kept, call_taken, stmt_taken, stmts_taken, body_taken, grown, is_whole, function_taken, first_taken, unit_taken}
 use Rattle.sp_inline.proofs.Limits.{function_kept}
 use Rattle.sp_inline.proofs.Shortened.{short_is, short_slots}
+use Rattle.sp_inline.proofs.Entered.{entered_so}
 use Rattle.sp_inline.proofs.Taking.{first_at, first_before, first_length}
 use Rattle.sp_inline.proofs.Used.{still_apart}
 
@@ -169,12 +170,16 @@ begun_formed fs number o width at (suc n) (e ∷ args) more fits h =
     (and_from (nat_lt at width) (expr_formed width e) (lt-ltb at width (omega (arith, fits))) (more_expr o width e more both.0))
     (begun_formed fs number o width (at + 1) n args more (omega (arith, fits)) both.1)
 
-handed_formed : (o at mask : ℕ) (args : List PlainSp) → mask < o → args_formed o args ≡ true → args_formed o (handed at mask args) ≡ true
-handed_formed o zero mask args mask_in h = rw (lt-ltb mask o mask_in) refl
-handed_formed o (suc n) mask [] mask_in h = handed_formed o n mask [] mask_in refl
-handed_formed o (suc n) mask (e ∷ args) mask_in h =
+mask_formed : (o : ℕ) (tests : Bool) (mask : ℕ) → mask < o → expr_formed o (call_mask tests mask) ≡ true
+mask_formed o true mask mask_in = rw (lt-ltb mask o mask_in) refl
+mask_formed o false mask mask_in = rw (lt-ltb mask o mask_in) refl
+
+handed_formed : (o at : ℕ) (mask : PlainSp) (args : List PlainSp) → expr_formed o mask ≡ true → args_formed o args ≡ true → args_formed o (handed at mask args) ≡ true
+handed_formed o zero mask args formed h = and_from (expr_formed o mask) true formed refl
+handed_formed o (suc n) mask [] formed h = handed_formed o n mask [] formed refl
+handed_formed o (suc n) mask (e ∷ args) formed h =
     let both = and_parts (expr_formed o e) (args_formed o args) h in
-    and_from (expr_formed o e) (args_formed o (handed n mask args)) both.0 (handed_formed o n mask args mask_in both.1)
+    and_from (expr_formed o e) (args_formed o (handed n mask args)) both.0 (handed_formed o n mask args formed both.1)
 
 given_formed : (fs : List PlainFunction) (number width mask : ℕ) (result : Option ℕ) (word : ℕ) → mask < width → result_formed width result ≡ true → word < width
     → stmts_formed fs number width (given_set mask result word) ≡ true
@@ -234,10 +239,16 @@ call_formed : (gs : List PlainFunction) (number k o width : ℕ) (f : PlainFunct
     → stmts_formed gs number width (call_statements o f mask args result) ≡ true
 call_formed gs number k o width f mask args result below p fits mask_in h into =
     let at_result = p.result in
-    joined_so gs number width (begun_words o (slots_of f) (handed f.mask mask args)) (joined (stmts_moved o f.body) (given_set mask result (o + f.result)))
-    (begun_formed gs number o width o (slots_of f) (handed f.mask mask args) (omega (arith, fits)) (omega (arith, fits, at_result)) (handed_formed o f.mask mask args mask_in h))
-    (joined_so gs number width (stmts_moved o f.body) (given_set mask result (o + f.result))
-    (moved_stmts gs k number o (slots_of f) width below (record { within = fits }) f.body p.body)
+    let tests = tests_mask f.mask f.body in
+    let own = entered tests f.body in
+    let all = handed f.mask (call_mask tests mask) args in
+    let last = given_set mask result (o + f.result) in
+    joined_so gs number width (begun_words o (slots_of f) all) (joined (stmts_moved o own) last)
+    (begun_formed gs number o width o (slots_of f) all (omega (arith, fits)) (omega (arith, fits, at_result))
+    (handed_formed o f.mask (call_mask tests mask) args (mask_formed o tests mask mask_in) h))
+    (joined_so gs number width (stmts_moved o own) last
+    (moved_stmts gs k number o (slots_of f) width below (record { within = fits }) own
+    (entered_so (λ xs. stmts_formed gs k (slots_of f) xs ≡ true) (λ t rest is. (and_parts (stmt_formed gs k (slots_of f) t) _ is).1) tests f.body p.body))
     (given_formed gs number width mask result (o + f.result) (omega (arith, mask_in, fits)) into (omega (arith, fits, at_result))))
 
 -- ---- the statements of a function that takes in calls

@@ -19,7 +19,7 @@ use Rattle.sp_inline.specs.Capped.{capped}
 use Rattle.sp_inline.specs.Moved.{moved, args_moved, target_moved, stmt_moved, stmts_moved}
 use Rattle.sp_inline.specs.Reach.{stmts_reach, stmts_calls}
 use Rattle.sp_inline.specs.Shown.{measured_functions, plain_caller, args_of, statements_for}
-use Rattle.sp_inline.specs.Taken.{begun_words, handed, given_set, call_statements, shortened, PlainCaller, callee, growth, room_of, room_after, is_whole, may_take, has_room, is_taken}
+use Rattle.sp_inline.specs.Taken.{begun_words, handed, tests_mask, call_mask, entered, given_set, call_statements, PlainCaller, callee, growth, room_of, room_after, is_whole, may_take, has_room, is_taken}
 
 -- ---- what is moved costs what it cost
 
@@ -72,53 +72,60 @@ begun_cost at zero (e ∷ args) few = absurd (omega (arith, few))
 begun_cost at (suc n) [] few = let rest = begun_cost (at + 1) n [] (omega arith) in omega (arith, rest)
 begun_cost at (suc n) (e ∷ args) few = let rest = begun_cost (at + 1) n args (omega (arith, few)) in omega (arith, rest)
 
-pub handed_length : (at mask : ℕ) (args : List PlainSp) → length (handed at mask args) ≡ at + 1
+pub handed_length : (at : ℕ) (mask : PlainSp) (args : List PlainSp) → length (handed at mask args) ≡ at + 1
 handed_length zero mask args = refl
 handed_length (suc n) mask [] = let rest = handed_length n mask [] in omega (arith, rest)
 handed_length (suc n) mask (e ∷ args) = let rest = handed_length n mask args in omega (arith, rest)
 
-handed_cost : (at mask : ℕ) (args : List PlainSp) → length args ≤ at → args_cost (handed at mask args) + length args ≡ args_cost args + at + 2
-handed_cost zero mask [] few = refl
+handed_cost : (at : ℕ) (mask : PlainSp) (args : List PlainSp) → length args ≤ at
+    → args_cost (handed at mask args) + length args ≡ args_cost args + at + expr_cost mask
+handed_cost zero mask [] few = omega arith
 handed_cost zero mask (e ∷ args) few = absurd (omega (arith, few))
 handed_cost (suc n) mask [] few = let rest = handed_cost n mask [] (omega arith) in omega (arith, rest)
 handed_cost (suc n) mask (e ∷ args) few = let rest = handed_cost n mask args (omega (arith, few)) in omega (arith, rest)
 
 call_cost : (o mask : ℕ) (f : PlainFunction) (args : List PlainSp) (result : Option ℕ) → length args ≤ f.mask → f.mask < slots_of f
-    → stmts_cost (call_statements o f mask args result) + length args
-    ≡ args_cost args + (2 * slots_of f + (1 + (stmts_cost f.body + stmts_cost (given_set mask result (o + f.result)))))
+    → let tests = tests_mask f.mask f.body in
+    stmts_cost (call_statements o f mask args result) + length args + 1
+    ≡ args_cost args + (2 * slots_of f + (expr_cost (call_mask tests mask) + (stmts_cost (entered tests f.body) + stmts_cost (given_set mask result (o + f.result)))))
 call_cost o mask f args result few below =
+    let tests = tests_mask f.mask f.body in
+    let own = entered tests f.body in
     let last = given_set mask result (o + f.result) in
-    let body = joined (stmts_moved o f.body) last in
-    let all = handed f.mask mask args in
+    let body = joined (stmts_moved o own) last in
+    let all = handed f.mask (call_mask tests mask) args in
     let begin = begun_words o (slots_of f) all in
-    let count = handed_length f.mask mask args in
-    let paid = handed_cost f.mask mask args few in
+    let count = handed_length f.mask (call_mask tests mask) args in
+    let paid = handed_cost f.mask (call_mask tests mask) args few in
     let whole = joined_cost begin body in
-    let behind = joined_cost (stmts_moved o f.body) last in
+    let behind = joined_cost (stmts_moved o own) last in
     let first = begun_cost o (slots_of f) all (omega (arith, count, below)) in
-    let same = moved_stmts_cost o f.body in
-    numbers (stmts_cost (call_statements o f mask args result)) (stmts_cost begin) (stmts_cost body) (stmts_cost (stmts_moved o f.body)) (stmts_cost f.body)
-    (stmts_cost last) (length args) (args_cost args) (length all) (args_cost all) f.mask (slots_of f) whole behind first same count paid
+    let same = moved_stmts_cost o own in
+    numbers (stmts_cost (call_statements o f mask args result)) (stmts_cost begin) (stmts_cost body) (stmts_cost (stmts_moved o own)) (stmts_cost own)
+    (stmts_cost last) (length args) (args_cost args) (length all) (args_cost all) (expr_cost (call_mask tests mask)) f.mask (slots_of f) whole behind first same count paid
   where
-    numbers : (all begin body moved own last n args m handed at words : ℕ) → all ≡ begin + body → body ≡ moved + last → begin + m ≡ handed + 2 * words → moved ≡ own
-        → m ≡ at + 1 → handed + n ≡ args + at + 2 → all + n ≡ args + (2 * words + (1 + (own + last)))
-    numbers all begin body moved own last n args m handed at words a b c d e h = omega (arith, a, b, c, d, e, h)
+    numbers : (all begin body moved own last n args m handed given at words : ℕ) → all ≡ begin + body → body ≡ moved + last → begin + m ≡ handed + 2 * words → moved ≡ own
+        → m ≡ at + 1 → handed + n ≡ args + at + given → all + n + 1 ≡ args + (2 * words + (given + (own + last)))
+    numbers all begin body moved own last n args m handed given at words a b c d e h = omega (arith, a, b, c, d, e, h)
 
-pub grown : (o mask : ℕ) (f : PlainFunction) (args : List SpExpr) (result : Option ℕ) (words cost given : ℕ) → words ≡ slots_of f
-    → cost ≡ capped (stmts_cost f.body) → given ≡ stmts_cost (given_set mask result (o + f.result)) → length args ≤ f.mask → f.mask < words
-    → min (min (cost + (2 * words + 1 - length args + given)) (2 ^ 64 - 1) - 16) (2 ^ 32)
+pub grown : (o mask : ℕ) (f : PlainFunction) (args : List SpExpr) (result : Option ℕ) (words cost own given : ℕ) → words ≡ slots_of f
+    → let tests = tests_mask f.mask f.body in
+    cost ≡ capped (stmts_cost (entered tests f.body)) → own ≡ expr_cost (call_mask tests mask) → given ≡ stmts_cost (given_set mask result (o + f.result))
+    → length args ≤ f.mask → f.mask < words
+    → min (min (cost + (2 * words + own - 1 - length args + given)) (2 ^ 64 - 1) - 16) (2 ^ 32)
     ≡ min (growth (call_statements o f mask (map plain_sp args) result) (map plain_sp args)) (2 ^ 32)
-grown o mask f args result words cost given same_words same_cost same_given few below =
+grown o mask f args result words cost own given same_words same_cost same_own same_given few below =
+    let tests = tests_mask f.mask f.body in
     let count = length-map args plain_sp in
     let whole = call_cost o mask f (map plain_sp args) result (omega (arith, few, count)) (omega (arith, below, same_words)) in
-    numbers (stmts_cost (call_statements o f mask (map plain_sp args) result)) (args_cost (map plain_sp args)) (stmts_cost f.body)
-    (stmts_cost (given_set mask result (o + f.result))) (length args) (length (map plain_sp args)) f.mask words (slots_of f) cost given
-    same_words same_cost same_given few below count whole
+    numbers (stmts_cost (call_statements o f mask (map plain_sp args) result)) (args_cost (map plain_sp args)) (stmts_cost (entered tests f.body))
+    (expr_cost (call_mask tests mask)) (stmts_cost (given_set mask result (o + f.result))) (length args) (length (map plain_sp args)) f.mask words (slots_of f) cost own given
+    same_words same_cost same_own same_given few below count whole
   where
-    numbers : (all paid own last n m at words slots cost given : ℕ) → words ≡ slots → cost ≡ min own (2 ^ 64 - 1) → given ≡ last → n ≤ at → at < words → m ≡ n
-        → all + m ≡ paid + (2 * slots + (1 + (own + last)))
-        → min (min (cost + (2 * words + 1 - n + given)) (2 ^ 64 - 1) - 16) (2 ^ 32) ≡ min (all - (16 + paid)) (2 ^ 32)
-    numbers all paid own last n m at words slots cost given a b c d p e h = omega (arith, a, b, c, d, p, e, h)
+    numbers : (all paid body start last n m at words slots cost own given : ℕ) → words ≡ slots → cost ≡ min body (2 ^ 64 - 1) → own ≡ start → given ≡ last → n ≤ at → at < words → m ≡ n
+        → all + m + 1 ≡ paid + (2 * slots + (start + (body + last)))
+        → min (min (cost + (2 * words + own - 1 - n + given)) (2 ^ 64 - 1) - 16) (2 ^ 32) ≡ min (all - (16 + paid)) (2 ^ 32)
+    numbers all paid body start last n m at words slots cost own given a b c d p e q h = omega (arith, a, b, c, d, p, e, q, h)
 
 -- ---- functions that are called
 

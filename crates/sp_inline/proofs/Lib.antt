@@ -1,6 +1,7 @@
 pub mod Windows
 pub mod Alike
 pub mod Shortened
+pub mod Entered
 pub mod Taking
 pub mod Limits
 pub mod Used

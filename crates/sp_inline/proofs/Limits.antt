@@ -1,5 +1,5 @@
 -- A function that takes in calls keeps to its words of code and of its frame.
-use Rattle.std.proofs.Common.{◌≡◌, ℕ, zero, suc, ◌+◌, ◌<◌, ◌≤◌, Bool, true, false, if◌then◌else◌, List, [], ◌∷◌, Option, Some, None, refl, ap, ◌∙◌, arith}
+use Rattle.std.proofs.Common.{◌≡◌, ℕ, zero, suc, ◌+◌, ◌<◌, ◌≤◌, Bool, true, false, if◌then◌else◌, List, [], ◌∷◌, Option, Some, None, refl, ap, arith}
 use Rattle.std.specs.Prelude.{◌-◌, nat_le, max}
 use Rattle.std.proofs.lemmas.Bool.{and_parts, leb-true}
 use Rattle.sp_tree.specs.Cost.{args_cost, stmt_cost, stmts_cost, cost}
@@ -10,7 +10,8 @@ use Rattle.sp_tree.proofs.Joins.{joined_cost, joined_levels}
 use Rattle.sp_inline.specs.Moved.{stmt_moved, stmts_moved}
 use Rattle.sp_inline.specs.declared.room.Room.{Room}
 use Rattle.sp_inline.proofs.Shortened.{short_levels}
-use Rattle.sp_inline.specs.Taken.{begun_words, handed, given_set, call_statements, shortened, PlainCaller, Taken, callee, growth, room_after, may_take, is_taken, kept, call_taken, stmt_taken, stmts_taken, body_taken, grown}
+use Rattle.sp_inline.proofs.Entered.{entered_levels}
+use Rattle.sp_inline.specs.Taken.{begun_words, handed, tests_mask, call_mask, entered, given_set, call_statements, shortened, PlainCaller, Taken, callee, growth, room_after, may_take, is_taken, kept, call_taken, stmt_taken, stmts_taken, body_taken, grown}
 
 -- ---- levels of iterations
 
@@ -37,16 +38,18 @@ given_levels mask None word = refl
 given_levels mask (Some slot) word = omega arith
 
 pub call_levels : (o : ℕ) (f : PlainFunction) (mask : ℕ) (args : List PlainSp) (result : Option ℕ)
-    → stmts_levels (call_statements o f mask args result) ≡ stmts_levels f.body
+    → stmts_levels (call_statements o f mask args result) ≤ stmts_levels f.body
 call_levels o f mask args result =
-    let begin = begun_words o (slots_of f) (handed f.mask mask args) in
+    let tests = tests_mask f.mask f.body in
+    let own = entered tests f.body in
+    let all = handed f.mask (call_mask tests mask) args in
     let last = given_set mask result (o + f.result) in
-    let behind = joined (stmts_moved o f.body) last in
-    let a = begun_levels o (slots_of f) (handed f.mask mask args) in
+    let a = begun_levels o (slots_of f) all in
     let b = given_levels mask result (o + f.result) in
-    let c = moved_levels o f.body in
-    let d = joined_levels (stmts_moved o f.body) last in
-    joined_levels begin behind ∙ (omega (arith, a, b, c, d))
+    let c = moved_levels o own in
+    let d = joined_levels (stmts_moved o own) last in
+    let e = joined_levels (begun_words o (slots_of f) all) (joined (stmts_moved o own) last) in
+    omega (arith, a, b, c, d, e, entered_levels tests f.body)
 
 -- ---- words of code, and words and levels of the frame
 

@@ -1,5 +1,5 @@
 -- A function without the mask that it sets last gives what it gave, and takes no more.
-use Rattle.std.proofs.Common.{◌≡◌, ◌≢◌, ℕ, zero, suc, ◌+◌, ◌<◌, ◌≤◌, ◌==◌, Bool, true, false, not, if◌then◌else◌, List, [], ◌∷◌, length, take, refl, ap, ap₂, sym, ◌∙◌, subst, arith, true≢false, ◌⊎◌, inl, inr}
+use Rattle.std.proofs.Common.{◌≡◌, ◌≢◌, ℕ, suc, ◌+◌, ◌<◌, ◌≤◌, ◌==◌, Bool, true, false, not, if◌then◌else◌, List, [], ◌∷◌, length, take, refl, ap, ap₂, sym, ◌∙◌, subst, arith, true≢false}
 use Rattle.std.specs.Prelude.{◌-◌}
 use Rattle.std.proofs.lemmas.Bool.{eqb-false}
 use Rattle.std.proofs.lemmas.List.{take_all}
@@ -9,7 +9,7 @@ use Rattle.sp_tree.specs.Formed.{slots_of, stmts_levels}
 use Rattle.sp_tree.specs.Plain.{PlainSp}
 use Rattle.sp_tree.specs.Shown.{plain_stmt, stmts_of}
 use Rattle.sp_tree.specs.Statements.{PlainStmt, masks, writes, calls, transfers, overruns, iterations, PlainStmts, no_stmt, stmt, one, joined, PlainFunction}
-use Rattle.sp_tree.specs.Straight.{State, Outcome, Serves, with_slot, worth, stmts_done, begun_frame, function_outcome}
+use Rattle.sp_tree.specs.Straight.{State, Outcome, Serves, worth, stmts_done, begun_frame, function_outcome}
 use Rattle.sp_tree.proofs.Joins.{joined_done, joined_levels}
 use Rattle.sp_inline.specs.Kept.{kept_count}
 use Rattle.sp_inline.specs.Reach.{stmts_reach, stmts_calls}
@@ -124,7 +124,3 @@ kept_shown result body = by (ends_so result false (stmts_of body))
     by : (b : Bool) → stmts_of (take (if b then length body - 1 else length body) body) ≡ (if b then front (stmts_of body) else stmts_of body)
     by true = front_taken body
     by false = ap stmts_of (take_all (length body) body (omega arith))
-
--- and of a slice of it
-pub kept_all : (result : ℕ) (body slice : List SpStmt) (n : ℕ) → slice ≡ body → n ≡ kept_count result body → stmts_of (take n slice) ≡ short_body result (stmts_of body)
-kept_all result body slice n same is = ap₂ (λ k xs. stmts_of (take k xs)) is same ∙ kept_shown result body

@@ -1,5 +1,5 @@
 -- One step more of what is written in the place of a call.
-use Rattle.std.proofs.Common.{◌≡◌, ℕ, zero, suc, ◌+◌, ◌<◌, ◌≤◌, List, [], ◌∷◌, ◌++◌, length, length-append, map, get_or, drop, refl, sym, ◌∙◌, ap, ap₂, arith}
+use Rattle.std.proofs.Common.{◌≡◌, ℕ, zero, suc, ◌+◌, ◌<◌, ◌≤◌, Bool, List, [], ◌∷◌, ◌++◌, length, length-append, map, get_or, drop, refl, sym, ◌∙◌, ap, ap₂, arith}
 use Rattle.std.specs.Prelude.{◌-◌, Option, Result, Ok, Err, OnOk}
 use Rattle.std.proofs.lemmas.List.{length-map}
 use Rattle.sp_inline.proofs.Growth.{handed_length}
@@ -7,12 +7,12 @@ use Rattle.tc_word.proofs.Items.{drop_item}
 use Rattle.sp_tree.specs.declared.expressions.SpExpr.{SpExpr}
 use Rattle.sp_tree.specs.declared.statements.SpStmt.{SpStmt}
 use Rattle.sp_tree.specs.Formed.{slots_of}
-use Rattle.sp_tree.specs.Plain.{PlainSp, plain_sp, constant, frame_word}
+use Rattle.sp_tree.specs.Plain.{PlainSp, plain_sp, constant}
 use Rattle.sp_tree.specs.Shown.{plain_stmt, stmts_of}
 use Rattle.sp_tree.specs.Statements.{PlainStmts, no_stmt, stmt, one, joined, masks, PlainFunction}
 use Rattle.sp_tree.proofs.Joins.{joined_shown}
 use Rattle.sp_inline.specs.Moved.{stmts_moved}
-use Rattle.sp_inline.specs.Taken.{begun_words, handed, given_set, call_statements}
+use Rattle.sp_inline.specs.Taken.{begun_words, handed, tests_mask, call_mask, entered, given_set, call_statements}
 use Rattle.sp_inline.proofs.Parts.{joined_joined, joined_none}
 
 pub one_more : (out : List SpStmt) (t : SpStmt) → stmts_of (out ++ t ∷ []) ≡ joined (stmts_of out) (one (plain_stmt t))
@@ -114,25 +114,25 @@ zeros_length zero = refl
 zeros_length (suc n) = let rest = zeros_length n in omega (arith, rest)
 
 -- what a function is handed, piece by piece
-handed_is : (at mask : ℕ) (args : List PlainSp) → length args ≤ at → (args ++ zeros (at - length args)) ++ frame_word mask ∷ [] ≡ handed at mask args
+handed_is : (at : ℕ) (mask : PlainSp) (args : List PlainSp) → length args ≤ at → (args ++ zeros (at - length args)) ++ mask ∷ [] ≡ handed at mask args
 handed_is zero mask [] few = refl
 handed_is zero mask (e ∷ args) few = absurd (omega (arith, few))
 handed_is (suc n) mask [] few =
-    ap (λ k. zeros k ++ frame_word mask ∷ []) (let same : suc n - 0 ≡ suc (n - 0) = omega arith in same) ∙ ap (λ es. constant 0 ∷ es) (handed_is n mask [] (omega arith))
+    ap (λ k. zeros k ++ mask ∷ []) (let same : suc n - 0 ≡ suc (n - 0) = omega arith in same) ∙ ap (λ es. constant 0 ∷ es) (handed_is n mask [] (omega arith))
 handed_is (suc n) mask (e ∷ args) few =
-    ap (λ k. (e ∷ args ++ zeros k) ++ frame_word mask ∷ []) (let same : suc n - length (e ∷ args) ≡ n - length args = omega arith in same)
+    ap (λ k. (e ∷ args ++ zeros k) ++ mask ∷ []) (let same : suc n - length (e ∷ args) ≡ n - length args = omega arith in same)
     ∙ ap (λ es. e ∷ es) (handed_is n mask args (omega (arith, few)))
 
 -- the arguments, then 0, and then the mask
-pub all_handed : (place at mask : ℕ) (args : List SpExpr) (old first second new : PlainStmts) → length args ≤ at
+pub all_handed : (place at : ℕ) (mask : PlainSp) (args : List SpExpr) (old first second new : PlainStmts) → length args ≤ at
     → first ≡ joined old (begun_words place (length args) (map plain_sp args))
     → second ≡ joined first (begun_words (place + length args) (place + at - (place + length args)) [])
-    → new ≡ joined second (one (masks (place + at) (frame_word mask)))
+    → new ≡ joined second (one (masks (place + at) mask))
     → new ≡ joined old (begun_words place (at + 1) (handed at mask (map plain_sp args)))
 all_handed place at mask args old first second new few a b c =
-    c ∙ followed first second (one (masks (place + at) (frame_word mask))) (begun_words (place + length args) (place + at - (place + length args)) []) b
-    ∙ followed old first (joined (begun_words (place + length args) (place + at - (place + length args)) []) (one (masks (place + at) (frame_word mask)))) (begun_words place (length args) es) a
-    ∙ ap (joined old) (sym (joined_joined (begun_words place (length args) es) (begun_words (place + length args) (place + at - (place + length args)) []) (one (masks (place + at) (frame_word mask)))) ∙ whole)
+    c ∙ followed first second (one (masks (place + at) mask)) (begun_words (place + length args) (place + at - (place + length args)) []) b
+    ∙ followed old first (joined (begun_words (place + length args) (place + at - (place + length args)) []) (one (masks (place + at) mask))) (begun_words place (length args) es) a
+    ∙ ap (joined old) (sym (joined_joined (begun_words place (length args) es) (begun_words (place + length args) (place + at - (place + length args)) []) (one (masks (place + at) mask))) ∙ whole)
   where
     es : List PlainSp
     es = map plain_sp args
@@ -152,15 +152,15 @@ all_handed place at mask args old first second new few a b c =
         ∙ ap (joined (begun_words place (length args) es)) (zeros_begun (place + length args) left)
         ∙ begun_more place (length args) left es (zeros left) count ∙ ap (λ n. begun_words place n (es ++ zeros left)) (omega (arith, few))
 
-    whole : joined (joined (begun_words place (length args) es) (begun_words (place + length args) (place + at - (place + length args)) [])) (one (masks (place + at) (frame_word mask)))
+    whole : joined (joined (begun_words place (length args) es) (begun_words (place + length args) (place + at - (place + length args)) [])) (one (masks (place + at) mask))
         ≡ begun_words place (at + 1) (handed at mask es)
     whole =
-        ap (λ ts. joined ts (one (masks (place + at) (frame_word mask)))) upto
-        ∙ begun_more place at 1 (es ++ zeros left) (frame_word mask ∷ []) both
-        ∙ ap (begun_words place (at + 1)) (ap (λ n. (es ++ zeros (at - n)) ++ frame_word mask ∷ []) (sym count) ∙ handed_is at mask es (omega (arith, few, count)))
+        ap (λ ts. joined ts (one (masks (place + at) mask))) upto
+        ∙ begun_more place at 1 (es ++ zeros left) (mask ∷ []) both
+        ∙ ap (begun_words place (at + 1)) (ap (λ n. (es ++ zeros (at - n)) ++ mask ∷ []) (sym count) ∙ handed_is at mask es (omega (arith, few, count)))
 
 -- and then 0 in the others
-pub all_begun : (place words at mask : ℕ) (args : List PlainSp) (old middle new : PlainStmts) → at < words
+pub all_begun : (place words at : ℕ) (mask : PlainSp) (args : List PlainSp) (old middle new : PlainStmts) → at < words
     → middle ≡ joined old (begun_words place (at + 1) (handed at mask args))
     → new ≡ joined middle (begun_words (place + at + 1) (place + words - (place + at + 1)) [])
     → new ≡ joined old (begun_words place words (handed at mask args))
@@ -179,11 +179,13 @@ all_begun place words at mask args old middle new few first second =
 pub nothing_set : (out : PlainStmts) → out ≡ joined out no_stmt
 nothing_set out = sym (joined_none out)
 
-pub call_added : (o mask words : ℕ) (f : PlainFunction) (args : List PlainSp) (result : Option ℕ) (old begun moved new : PlainStmts) → words ≡ slots_of f
-    → begun ≡ joined old (begun_words o words (handed f.mask mask args)) → moved ≡ joined begun (stmts_moved o f.body)
-    → new ≡ joined moved (given_set mask result (o + f.result))
+pub call_added : (o mask words : ℕ) (tests : Bool) (f : PlainFunction) (args : List PlainSp) (result : Option ℕ) (old begun moved new : PlainStmts)
+    → words ≡ slots_of f → tests ≡ tests_mask f.mask f.body → begun ≡ joined old (begun_words o words (handed f.mask (call_mask tests mask) args))
+    → moved ≡ joined begun (stmts_moved o (entered tests f.body)) → new ≡ joined moved (given_set mask result (o + f.result))
     → new ≡ joined old (call_statements o f mask args result)
-call_added o mask words f args result old begun moved new same a b c =
+call_added o mask words tests f args result old begun moved new same tested a b c =
     let last = given_set mask result (o + f.result) in
-    c ∙ followed begun moved last (stmts_moved o f.body) b ∙ followed old begun (joined (stmts_moved o f.body) last) (begun_words o words (handed f.mask mask args)) a
-    ∙ ap (λ n. joined old (joined (begun_words o n (handed f.mask mask args)) (joined (stmts_moved o f.body) last))) same
+    let own = stmts_moved o (entered tests f.body) in
+    let begin = begun_words o words (handed f.mask (call_mask tests mask) args) in
+    c ∙ followed begun moved last own b ∙ followed old begun (joined own last) begin a
+    ∙ ap₂ (λ n test. joined old (joined (begun_words o n (handed f.mask (call_mask test mask) args)) (joined (stmts_moved o (entered test f.body)) last))) same tested

@@ -1,9 +1,8 @@
 -- A function that takes in calls gives what it gave.
-use Rattle.std.proofs.Common.{◌≡◌, ◌≢◌, ℕ, zero, suc, ◌+◌, ◌<◌, ◌≤◌, ◌==◌, Bool, true, false, if◌then◌else◌, List, [], ◌∷◌, ◌++◌, length, length-append, Option, Some, None, slice_index, slice_index_or, refl, ap, sym, ◌∙◌, arith, eq-eqb, ne_eqb, ap₂, subst, ◌⊎◌, inl, inr}
+use Rattle.std.proofs.Common.{◌≡◌, ℕ, zero, suc, ◌+◌, ◌<◌, ◌≤◌, ◌==◌, Bool, true, false, if◌then◌else◌, List, [], ◌∷◌, ◌++◌, length, length-append, Option, Some, None, slice_index, slice_index_or, refl, ap, sym, ◌∙◌, arith, ne_eqb, ap₂, subst, ◌⊎◌, inl, inr}
 use Rattle.std.specs.Prelude.{cond, ◌-◌, nat_lt, nat_le}
-use Rattle.std.proofs.lemmas.Bool.{cases_eq, cases_lt, and_parts, ltb-true, leb-true}
+use Rattle.std.proofs.lemmas.Bool.{cases_lt, and_parts, ltb-true, leb-true}
 use Rattle.std.proofs.lemmas.List.{get_or_append_left, get_or_at, get_or_past}
-use Rattle.shared_order.specs.Words.{put}
 use Rattle.c_world.specs.World.{World}
 use Rattle.sp_tree.specs.Cost.{cost}
 use Rattle.sp_tree.specs.Formed.{stmts_levels, slots_of}
@@ -14,12 +13,13 @@ use Rattle.sp_tree.specs.Begun.{begun, straight}
 use Rattle.sp_tree.proofs.Joins.{joined_done}
 use Rattle.sp_tree.proofs.Runs.{serves_own}
 use Rattle.sp_inline.specs.Moved.{stmts_moved}
-use Rattle.sp_inline.specs.Reach.{args_reach, stmt_reach, stmts_reach, stmts_calls}
+use Rattle.sp_inline.specs.Reach.{expr_reach, args_reach, stmt_reach, stmts_reach, stmts_calls}
 use Rattle.sp_inline.specs.declared.room.Room.{Room}
-use Rattle.sp_inline.specs.Taken.{begun_words, handed, given_set, call_statements, shortened, PlainCaller, Taken, callee, room_after, may_take, is_taken, kept, call_taken, stmt_taken, stmts_taken, body_taken, grown, is_whole, function_taken, first_taken, unit_taken}
+use Rattle.sp_inline.specs.Taken.{begun_words, handed, tests_mask, call_mask, entered, given_set, call_statements, shortened, PlainCaller, Taken, callee, room_after, may_take, is_taken, kept, call_taken, stmt_taken, stmts_taken, body_taken, grown, is_whole, function_taken, first_taken, unit_taken}
 use Rattle.sp_inline.proofs.Shortened.{short_calls, short_gives, short_fits}
+use Rattle.sp_inline.proofs.Entered.{entered_reach, entered_calls, mask_reach, begun_state, entered_done}
 use Rattle.sp_inline.proofs.Windows.{window, put_here, put_there, stmts_window, stmts_low}
-use Rattle.sp_inline.proofs.Alike.{Alike, Same, args_alike, slot_alike, on_alike, call_alike, times_alike, stmt_alike, stmts_alike}
+use Rattle.sp_inline.proofs.Alike.{Alike, Same, worth_alike, args_alike, slot_alike, on_alike, call_alike, times_alike, stmt_alike, stmts_alike}
 
 -- ---- words that are begun
 
@@ -69,48 +69,60 @@ same_next : (n x : ℕ) → (suc n == suc x) ≡ (n == x)
 same_next n x = grind arith
 
 -- what it is handed names no more words than the arguments and the mask
-pub handed_reach : (o at mask : ℕ) (args : List PlainSp) → mask < o → args_reach args ≤ o → args_reach (handed at mask args) ≤ o
+handed_reach : (o at : ℕ) (mask : PlainSp) (args : List PlainSp) → expr_reach mask ≤ o → args_reach args ≤ o → args_reach (handed at mask args) ≤ o
 handed_reach o zero mask args mask_in within = omega (arith, mask_in)
 handed_reach o (suc n) mask [] mask_in within = let rest = handed_reach o n mask [] mask_in (omega arith) in omega (arith, rest)
 handed_reach o (suc n) mask (e ∷ args) mask_in within = let rest = handed_reach o n mask args mask_in (omega (arith, within)) in omega (arith, rest, within)
 
 -- and is the mask in its own word, and each argument in its
-handed_worth : (at mask : ℕ) (args : List PlainSp) (s : State) (x : ℕ) → length args ≤ at
-    → slice_index (args_worth (handed at mask args) s) x ≡ cond (at == x) (s.frame mask) (slice_index (args_worth args s) x)
+handed_worth : (at : ℕ) (mask : PlainSp) (args : List PlainSp) (s : State) (x : ℕ) → length args ≤ at
+    → slice_index (args_worth (handed at mask args) s) x ≡ cond (at == x) (worth mask s) (slice_index (args_worth args s) x)
 handed_worth zero mask [] s zero few = refl
-handed_worth zero mask [] s (suc x) few = sym (ap (λ b. cond b (s.frame mask) (slice_index [] (suc x))) (ne_eqb zero (suc x) (omega arith)))
+handed_worth zero mask [] s (suc x) few = sym (ap (λ b. cond b (worth mask s) (slice_index [] (suc x))) (ne_eqb zero (suc x) (omega arith)))
 handed_worth zero mask (e ∷ args) s x few = absurd (omega (arith, few))
-handed_worth (suc n) mask [] s zero few = sym (ap (λ b. cond b (s.frame mask) 0) (ne_eqb (suc n) zero (omega arith)))
-handed_worth (suc n) mask [] s (suc x) few = handed_worth n mask [] s x (omega arith) ∙ ap (λ b. cond b (s.frame mask) 0) (sym (same_next n x))
-handed_worth (suc n) mask (e ∷ args) s zero few = sym (ap (λ b. cond b (s.frame mask) (worth e s)) (ne_eqb (suc n) zero (omega arith)))
+handed_worth (suc n) mask [] s zero few = sym (ap (λ b. cond b (worth mask s) 0) (ne_eqb (suc n) zero (omega arith)))
+handed_worth (suc n) mask [] s (suc x) few = handed_worth n mask [] s x (omega arith) ∙ ap (λ b. cond b (worth mask s) 0) (sym (same_next n x))
+handed_worth (suc n) mask (e ∷ args) s zero few = sym (ap (λ b. cond b (worth mask s) (worth e s)) (ne_eqb (suc n) zero (omega arith)))
 handed_worth (suc n) mask (e ∷ args) s (suc x) few =
-    handed_worth n mask args s x (omega (arith, few)) ∙ ap (λ b. cond b (s.frame mask) (slice_index (args_worth args s) x)) (sym (same_next n x))
+    handed_worth n mask args s x (omega (arith, few)) ∙ ap (λ b. cond b (worth mask s) (slice_index (args_worth args s) x)) (sym (same_next n x))
+
+-- what a function is handed at a call
+abbrev pub words_handed : PlainFunction → ℕ → List PlainSp → List PlainSp
+words_handed f mask args = handed f.mask (call_mask (tests_mask f.mask f.body) mask) args
 
 -- as the statements of the function begin, their words are those that it begins with
 pub call_entered : (o : ℕ) (g : Serves) (f : PlainFunction) (mask : ℕ) (args : List PlainSp) → mask < o → args_reach args ≤ o → length args ≤ f.mask → (s t : State) → Alike o s t
-    → let s1 = stmts_done g (begun_words o (slots_of f) (handed f.mask mask args)) s in
-    let own : State = record { frame = begun_frame f (t.frame mask) (args_worth args t); world = t.world } in
+    → let s1 = stmts_done g (begun_words o (slots_of f) (words_handed f mask args)) s in
+    let own = begun_state f (worth (call_mask (tests_mask f.mask f.body) mask) t) (args_worth args t) t.world in
     Alike (slots_of f) (window o s1) own
 call_entered o g f mask args mask_in within few s t h = record { frame = each; world = begun.world ∙ h.world }
   where
+    given : PlainSp
+    given = call_mask (tests_mask f.mask f.body) mask
+
+    given_in : expr_reach given ≤ o
+    given_in = mask_reach o (tests_mask f.mask f.body) mask mask_in
+
     s1 : State
-    s1 = stmts_done g (begun_words o (slots_of f) (handed f.mask mask args)) s
+    s1 = stmts_done g (begun_words o (slots_of f) (handed f.mask given args)) s
 
-    begun : Begun o (slots_of f) (args_worth (handed f.mask mask args) s) s s1
-    begun = begun_done g o o (slots_of f) (handed f.mask mask args) s (omega arith) (handed_reach o f.mask mask args mask_in within)
+    begun : Begun o (slots_of f) (args_worth (handed f.mask given args) s) s s1
+    begun = begun_done g o o (slots_of f) (handed f.mask given args) s (omega arith) (handed_reach o f.mask given args given_in within)
 
-    each : (x : ℕ) → x < slots_of f → s1.frame (o + x) ≡ begun_frame f (t.frame mask) (args_worth args t) x
+    each : (x : ℕ) → x < slots_of f → s1.frame (o + x) ≡ begun_frame f (worth given t) (args_worth args t) x
     each x below =
-        begun.here x below ∙ handed_worth f.mask mask args s x few
-        ∙ ap₂ (λ v vs. cond (f.mask == x) v (slice_index vs x)) (h.frame mask mask_in) (args_alike o args s t h within)
+        begun.here x below ∙ handed_worth f.mask given args s x few
+        ∙ ap₂ (λ v vs. cond (f.mask == x) v (slice_index vs x)) (worth_alike o given s t h given_in) (args_alike o args s t h within)
 
 -- and behind them the words before stand
-pub call_low : (o : ℕ) (g : Serves) (f : PlainFunction) (mask : ℕ) (args : List PlainSp) → mask < o → args_reach args ≤ o → (s : State) → (x : ℕ) → x < o
-    → (stmts_done g (stmts_moved o f.body) (stmts_done g (begun_words o (slots_of f) (handed f.mask mask args)) s)).frame x ≡ s.frame x
-call_low o g f mask args mask_in within s x below =
-    let s1 = stmts_done g (begun_words o (slots_of f) (handed f.mask mask args)) s in
-    let begun = begun_done g o o (slots_of f) (handed f.mask mask args) s (omega arith) (handed_reach o f.mask mask args mask_in within) in
-    stmts_low g o f.body x below s1 ∙ begun.before x below
+pub call_low : (o : ℕ) (g : Serves) (f : PlainFunction) (ts : PlainStmts) (mask : ℕ) (args : List PlainSp) → mask < o → args_reach args ≤ o → (s : State) → (x : ℕ) → x < o
+    → (stmts_done g (stmts_moved o ts) (stmts_done g (begun_words o (slots_of f) (words_handed f mask args)) s)).frame x ≡ s.frame x
+call_low o g f ts mask args mask_in within s x below =
+    let all = words_handed f mask args in
+    let given_in = mask_reach o (tests_mask f.mask f.body) mask mask_in in
+    let s1 = stmts_done g (begun_words o (slots_of f) all) s in
+    let begun = begun_done g o o (slots_of f) all s (omega arith) (handed_reach o f.mask (call_mask (tests_mask f.mask f.body) mask) args given_in within) in
+    stmts_low g o ts x below s1 ∙ begun.before x below
 
 pub call_alike_taken : (k o : ℕ) (g inner : Serves) → Same k g inner → (f : PlainFunction) → f.result < slots_of f → stmts_reach f.body ≤ slots_of f → stmts_calls f.body ≤ k
     → (mask : ℕ) (args : List PlainSp) (result : Option ℕ) → mask < o → args_reach args ≤ o → length args ≤ f.mask → (s t : State) → Alike o s t
@@ -118,37 +130,46 @@ pub call_alike_taken : (k o : ℕ) (g inner : Serves) → Same k g inner → (f 
     → Alike o (stmts_done g (call_statements o f mask args result) s) (call_done mask result t given)
 call_alike_taken k o g inner same f result_in reach earlier mask args result mask_in within few s t h given is =
     subst (λ u. Alike o u (call_done mask result t given))
-    (sym (joined_done g (begun_words o z (handed f.mask mask args)) (joined (stmts_moved o f.body) (given_set mask result (o + f.result))) s
-    ∙ joined_done g (stmts_moved o f.body) (given_set mask result (o + f.result)) s2))
+    (sym (joined_done g (begun_words o z (words_handed f mask args)) (joined (stmts_moved o body) (given_set mask result (o + f.result))) s
+    ∙ joined_done g (stmts_moved o body) (given_set mask result (o + f.result)) s2))
     (by result)
   where
     z : ℕ
     z = slots_of f
 
+    tests : Bool
+    tests = tests_mask f.mask f.body
+
+    body : PlainStmts
+    body = entered tests f.body
+
     s2 : State
-    s2 = stmts_done g (begun_words o z (handed f.mask mask args)) s
+    s2 = stmts_done g (begun_words o z (words_handed f mask args)) s
 
     s3 : State
-    s3 = stmts_done g (stmts_moved o f.body) s2
+    s3 = stmts_done g (stmts_moved o body) s2
 
     own : State
-    own = record { frame = begun_frame f (t.frame mask) (args_worth args t); world = t.world }
+    own = begun_state f (worth (call_mask tests mask) t) (args_worth args t) t.world
 
-    first_alike : Alike z (window o s2) own
-    first_alike = call_entered o g f mask args mask_in within few s t h
+    last : State
+    last = stmts_done inner f.body (begun_state f (t.frame mask) (args_worth args t) t.world)
 
-    last_alike : Alike z (stmts_done g f.body (window o s2)) (stmts_done inner f.body own)
-    last_alike = stmts_alike k g inner same z f.body (window o s2) own reach earlier first_alike
+    last_alike : Alike z (stmts_done g body (window o s2)) last
+    last_alike =
+        subst (Alike z (stmts_done g body (window o s2))) (entered_done inner f mask t (args_worth args t) t.world)
+        (stmts_alike k g inner same z body (window o s2) own (omega (arith, reach, entered_reach tests f.body)) (omega (arith, earlier, entered_calls tests f.body))
+        (call_entered o g f mask args mask_in within few s t h))
 
     value_same : s3.frame (o + f.result) ≡ given.value
-    value_same = ap (λ (u : State). u.frame f.result) (stmts_window g o f.body s2) ∙ last_alike.frame f.result result_in
+    value_same = ap (λ (u : State). u.frame f.result) (stmts_window g o body s2) ∙ last_alike.frame f.result result_in
         ∙ sym (ap (λ (x : Outcome). x.value) is)
 
     world_same : s3.world ≡ given.world
-    world_same = ap (λ (u : State). u.world) (stmts_window g o f.body s2) ∙ last_alike.world ∙ sym (ap (λ (x : Outcome). x.world) is)
+    world_same = ap (λ (u : State). u.world) (stmts_window g o body s2) ∙ last_alike.world ∙ sym (ap (λ (x : Outcome). x.world) is)
 
     low : (x : ℕ) → x < o → s3.frame x ≡ t.frame x
-    low x below = call_low o g f mask args mask_in within s x below ∙ h.frame x below
+    low x below = call_low o g f body mask args mask_in within s x below ∙ h.frame x below
 
     behind : Alike o s3 (in_world t given.world)
     behind = record { frame = low; world = world_same }

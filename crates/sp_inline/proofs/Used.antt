@@ -12,7 +12,8 @@ use Rattle.sp_tree.proofs.Joins.{joined_uses}
 use Rattle.sp_inline.specs.Moved.{moved, args_moved, target_moved, stmt_moved, stmts_moved}
 use Rattle.sp_inline.specs.declared.room.Room.{Room}
 use Rattle.sp_inline.proofs.Shortened.{short_is}
-use Rattle.sp_inline.specs.Taken.{begun_words, handed, given_set, call_statements, front, short_body, shortened, PlainCaller, Taken, callee, room_after, is_taken, kept, stmt_taken, stmts_taken, body_taken, grown, is_whole, function_taken, first_taken, unit_taken}
+use Rattle.sp_inline.proofs.Entered.{entered_so}
+use Rattle.sp_inline.specs.Taken.{begun_words, handed, tests_mask, call_mask, entered, given_set, call_statements, front, short_body, shortened, PlainCaller, Taken, callee, room_after, is_taken, kept, stmt_taken, stmts_taken, body_taken, grown, is_whole, function_taken, first_taken, unit_taken}
 
 -- ---- words of a frame from a place on
 
@@ -59,11 +60,14 @@ begun_each P at (suc n) (e ∷ args) h =
     each-append P (expr_uses e) (stmts_uses (begun_words (at + 1) n args)) (each_first P (expr_uses e) (args_uses args) h)
     (begun_each P (at + 1) n args (each_rest P (expr_uses e) (args_uses args) h))
 
-handed_each : (P : Use → Type 0) (at mask : ℕ) (args : List PlainSp) → Each P (args_uses args) → Each P (args_uses (handed at mask args))
-handed_each P zero mask args h = tt
-handed_each P (suc n) mask [] h = handed_each P n mask [] tt
-handed_each P (suc n) mask (e ∷ args) h =
-    each-append P (expr_uses e) (args_uses (handed n mask args)) (each_first P (expr_uses e) (args_uses args) h) (handed_each P n mask args (each_rest P (expr_uses e) (args_uses args) h))
+handed_each : (P : Use → Type 0) (at : ℕ) (tests : Bool) (mask : ℕ) (args : List PlainSp) → Each P (args_uses args)
+    → Each P (args_uses (handed at (call_mask tests mask) args))
+handed_each P zero true mask args h = tt
+handed_each P zero false mask args h = tt
+handed_each P (suc n) tests mask [] h = handed_each P n tests mask [] tt
+handed_each P (suc n) tests mask (e ∷ args) h =
+    each-append P (expr_uses e) (args_uses (handed n (call_mask tests mask) args)) (each_first P (expr_uses e) (args_uses args) h)
+    (handed_each P n tests mask args (each_rest P (expr_uses e) (args_uses args) h))
 
 -- a mask that is left out used nothing that the others do not
 short_each : (P : Use → Type 0) (result : ℕ) (ts : PlainStmts) → Each P (stmts_uses ts) → Each P (stmts_uses (short_body result ts))
@@ -79,9 +83,16 @@ given_each P mask (Some slot) word = tt
 call_each : (P : Use → Type 0) (o : ℕ) (f : PlainFunction) (mask : ℕ) (args : List PlainSp) (result : Option ℕ) → Each P (args_uses args) → Each P (stmts_uses f.body)
     → Each P (stmts_uses (call_statements o f mask args result))
 call_each P o f mask args result h body =
-    joined_each P (begun_words o (slots_of f) (handed f.mask mask args)) (joined (stmts_moved o f.body) (given_set mask result (o + f.result)))
-    (begun_each P o (slots_of f) (handed f.mask mask args) (handed_each P f.mask mask args h))
-    (joined_each P (stmts_moved o f.body) (given_set mask result (o + f.result)) (subst (Each P) (sym (moved_stmts o f.body)) body) (given_each P mask result (o + f.result)))
+    let tests = tests_mask f.mask f.body in
+    let own = entered tests f.body in
+    let all = handed f.mask (call_mask tests mask) args in
+    let last = given_set mask result (o + f.result) in
+    joined_each P (begun_words o (slots_of f) all) (joined (stmts_moved o own) last)
+    (begun_each P o (slots_of f) all (handed_each P f.mask tests mask args h))
+    (joined_each P (stmts_moved o own) last
+    (subst (Each P) (sym (moved_stmts o own))
+    (entered_so (λ xs. Each P (stmts_uses xs)) (λ t rest. each_rest P (stmt_uses t) (stmts_uses rest)) tests f.body body))
+    (given_each P mask result (o + f.result)))
 
 one_each : (P : Use → Type 0) (t : PlainStmt) → Each P (stmt_uses t) → Each P (stmts_uses (stmt t no_stmt))
 one_each P t h = each-append P (stmt_uses t) [] h tt

@@ -1,9 +1,11 @@
 -- To be believed. Calls in loops, in the place of which the statements of their functions stand, over further words of
 -- the frame, as far as the function keeps to so many words of code and of its frame.
-use Rattle.std.specs.Prelude.{ℕ, zero, suc, ◌+◌, ◌-◌, ◌==◌, nat_lt, nat_le, max, Bool, false, not, if◌then◌else◌, ◌&&◌, List, [], ◌∷◌, ◌++◌, length, Option, None, Some, slice_index, slice_index_or}
+use Rattle.std.specs.Prelude.{ℕ, zero, suc, ◌+◌, ◌-◌, ◌==◌, nat_lt, nat_le, max, Bool, true, false, not, if◌then◌else◌, ◌&&◌, List, [], ◌∷◌, ◌++◌, length, Option, None, Some, slice_index, slice_index_or}
+use Rattle.sp_tree.specs.declared.operators.SpBinary.{SpBinary}
+use Rattle.sp_tree.specs.declared.operators.SpBinary.TheVariants as binary
 use Rattle.sp_tree.specs.Cost.{args_cost, stmts_cost, cost}
 use Rattle.sp_tree.specs.Formed.{stmts_levels, slots_of}
-use Rattle.sp_tree.specs.Plain.{PlainSp, constant, frame_word}
+use Rattle.sp_tree.specs.Plain.{PlainSp, constant, frame_word, between_two}
 use Rattle.sp_tree.specs.Statements.{to_slot, PlainStmt, masks, writes, calls, iterations, PlainStmts, no_stmt, stmt, one, joined, PlainFunction, no_function, PlainUnit}
 use Rattle.sp_inline.specs.declared.room.Room.{Room}
 use Rattle.sp_inline.specs.Moved.{stmts_moved}
@@ -17,11 +19,40 @@ begun_words at zero args = no_stmt
 begun_words at (suc n) [] = stmt (masks at (constant 0)) (begun_words (at + 1) n [])
 begun_words at (suc n) (e ∷ args) = stmt (masks at e) (begun_words (at + 1) n args)
 
--- the arguments, 0 up to the word of the mask, and there the mask of the call
-abbrev pub handed : ℕ → ℕ → List PlainSp → List PlainSp
-handed zero mask args = frame_word mask ∷ []
+-- the arguments, 0 up to the word of the mask, and there what the mask is
+abbrev pub handed : ℕ → PlainSp → List PlainSp → List PlainSp
+handed zero mask args = mask ∷ []
 handed (suc n) mask [] = constant 0 ∷ handed n mask []
 handed (suc n) mask (e ∷ args) = e ∷ handed n mask args
+
+abbrev pub is_equal : SpBinary → Bool
+is_equal binary.Equal = true
+is_equal _ = false
+
+abbrev pub is_word : ℕ → PlainSp → Bool
+is_word word (frame_word slot) = slot == word
+is_word word _ = false
+
+abbrev pub is_one : PlainSp → Bool
+is_one (constant n) = n == 1
+is_one _ = false
+
+-- whether the first statement tests a mask, as that of each function of C does: it sets the word to whether it is 1
+abbrev pub tests_mask : ℕ → PlainStmts → Bool
+tests_mask mask (stmt (masks slot (between_two op a b)) rest) =
+    slot == mask && (is_equal op && (is_word mask a && is_one b))
+tests_mask mask _ = false
+
+-- Where a function begins so, its mask is set to whether that of the call is 1, and where it does not, to that itself
+abbrev pub call_mask : Bool → ℕ → PlainSp
+call_mask true mask = between_two binary.Equal (frame_word mask) (constant 1)
+call_mask false mask = frame_word mask
+
+-- and the statement that tests it is left out, as it is made already
+abbrev pub entered : Bool → PlainStmts → PlainStmts
+entered true (stmt t rest) = rest
+entered true no_stmt = no_stmt
+entered false ts = ts
 
 -- what was given is set under the mask of the call
 abbrev pub given_set : ℕ → Option ℕ → ℕ → PlainStmts
@@ -30,8 +61,9 @@ given_set mask (Some slot) word = one (writes mask (to_slot slot) (frame_word wo
 
 abbrev pub call_statements : ℕ → PlainFunction → ℕ → List PlainSp → Option ℕ → PlainStmts
 call_statements o f mask args result =
-    joined (begun_words o (slots_of f) (handed f.mask mask args))
-    (joined (stmts_moved o f.body) (given_set mask result (o + f.result)))
+    let tests = tests_mask f.mask f.body in
+    joined (begun_words o (slots_of f) (handed f.mask (call_mask tests mask) args))
+    (joined (stmts_moved o (entered tests f.body)) (given_set mask result (o + f.result)))
 
 -- a word is set in any case, which is not that of the result
 abbrev pub is_other_mask : ℕ → PlainStmt → Bool

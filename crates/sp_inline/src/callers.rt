@@ -1,6 +1,6 @@
 //! Which calls are taken in.
 ghost use Rattle.std.specs.Prelude.{◌≡◌, ◌+◌, ◌-◌, ◌&&◌, nat_lt, nat_le, ◌<◌, ◌≤◌, ◌^◌, ℕ, length, min, true, false, MatchOption, Some, None, if◌then◌else◌};
-ghost use Rattle.sp_tree.specs.Cost.{stmts_cost};
+ghost use Rattle.sp_tree.specs.Cost.{expr_cost, stmts_cost};
 ghost use Rattle.sp_tree.specs.Shown.{plain_function};
 ghost use Rattle.sp_inline.specs.Shown.{plain_caller, args_of, statements_for};
 ghost use Rattle.sp_inline.specs.Taken as specs;
@@ -57,6 +57,14 @@ fn given_cost(given: Option<u32>) -> u64
     }
 }
 
+// how many words of code it takes to work out the mask of the function
+fn mask_cost(tests: bool) -> u64
+    ensures cost { (mask : ℕ) → result ≡ expr_cost (specs.call_mask tests mask) }
+    ensures small { result ≤ 5 }
+{
+    if tests { 5 } else { 2 }
+}
+
 // by how many words of code a function grows that takes in a call; what passes 2^32 is counted as that
 fn growth(callee: &Measured, call: &Call<'_>) -> u64
     requires few { length call.now.args.now ≤ callee.now.function.mask }
@@ -65,7 +73,7 @@ fn growth(callee: &Measured, call: &Call<'_>) -> u64
         ≡ min (specs.growth (statements_for o (plain_function callee.now.function) call.now) (args_of call.now))
         (2 ^ 32) }
 {
-    let begun = 2 * u64::from(callee.words) + 1 - call.args.len() as u64;
+    let begun = 2 * u64::from(callee.words) + mask_cost(callee.tests) - 1 - call.args.len() as u64;
     let others = begun + given_cost(call.result);
     callee
         .kept_cost

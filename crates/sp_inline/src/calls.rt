@@ -1,15 +1,15 @@
 //! The statements that stand in the place of a call.
-ghost use Rattle.std.specs.Prelude.{◌≡◌, ◌+◌, ◌-◌, ◌<◌, ◌≤◌, ◌^◌, [], length, map, OnOk};
-ghost use Rattle.sp_tree.specs.Plain.{plain_sp, frame_word};
+ghost use Rattle.std.specs.Prelude.{◌≡◌, ◌+◌, ◌-◌, ◌<◌, ◌≤◌, ◌^◌, [], length, map, IfOk, OnOk};
+ghost use Rattle.sp_tree.specs.Plain.{plain_sp};
 ghost use Rattle.sp_tree.specs.Shown.{plain_function, plain_stmt, stmts_of};
 ghost use Rattle.sp_tree.specs.Statements.{joined, one, masks};
-ghost use Rattle.sp_inline.specs.Shown.{statements_for};
+ghost use Rattle.sp_inline.specs.Shown.{args_of, statements_for};
 ghost use Rattle.sp_inline.specs.Taken as specs;
 ghost use Rattle.sp_inline.specs.Reach.{stmts_reach};
 
 use crate::measured::Measured;
 use crate::moves::add_moved;
-use sp_tree::{SpExpr, SpStmt, SpTarget, copied};
+use sp_tree::{SpBinary, SpExpr, SpStmt, SpTarget, between_operands, copied};
 use std::alloc::Global;
 use tc_word::OutOfMemory;
 
@@ -38,15 +38,6 @@ fn add_mask(out: &mut Vec<SpStmt>, slot: u32, value: SpExpr) -> Result<(), OutOf
         ≡ joined (stmts_of out.old.items) (one (masks slot (plain_sp value)))) }
 {
     add(out, SpStmt::Mask { slot, value })
-}
-
-// a word is set to another
-#[tactic(auto, unfolding(sp_tree::specs::Plain::plain_sp))]
-fn add_copy(out: &mut Vec<SpStmt>, slot: u32, from: u32) -> Result<(), OutOfMemory>
-    ensures { OnOk result (stmts_of out.new.items
-        ≡ joined (stmts_of out.old.items) (one (masks slot (frame_word from)))) }
-{
-    add_mask(out, slot, SpExpr::Frame { slot: from })
 }
 
 // the words from a place on are set to the arguments
@@ -88,41 +79,57 @@ fn add_zeros(out: &mut Vec<SpStmt>, from: u32, to: u32) -> Result<(), OutOfMemor
     Ok(())
 }
 
+// what the mask of a function is, which may begin by testing it
+#[tactic(auto, unfolding(sp_tree::specs::Plain::plain_sp))]
+fn call_mask(alloc: Global, tests: bool, mask: u32) -> Result<SpExpr, OutOfMemory>
+    ensures { IfOk result (λ e. plain_sp e ≡ specs.call_mask tests mask) }
+{
+    let word = SpExpr::Frame { slot: mask };
+    if tests {
+        between_operands(alloc, SpBinary::Equal, word, SpExpr::Const { value: 1 })
+    } else {
+        Ok(word)
+    }
+}
+
 // the words from a place on up to that of the mask are set to the arguments, and then to 0
 fn add_handed(
     alloc: Global,
     place: u32,
-    mask: u32,
+    callee: &Measured,
     call: &Call<'_>,
     out: &mut Vec<SpStmt>,
 ) -> Result<(), OutOfMemory>
-    requires room { place + mask + 1 < 2 ^ 32 }
-    requires few { length call.now.args.now ≤ mask }
-    ensures { OnOk result (stmts_of out.new.items ≡ joined (stmts_of out.old.items)
-        (specs.begun_words place (mask + 1) (specs.handed mask call.now.mask (map plain_sp call.now.args.now)))) }
+    requires room { place + callee.now.function.mask + 1 < 2 ^ 32 }
+    requires few { length call.now.args.now ≤ callee.now.function.mask }
+    ensures { let mask = callee.now.function.mask in
+        OnOk result (stmts_of out.new.items ≡ joined (stmts_of out.old.items) (specs.begun_words place (mask + 1)
+        (specs.handed mask (specs.call_mask callee.now.tests call.now.mask) (args_of call.now)))) }
 {
+    let mask = callee.function.mask;
     add_arguments(alloc, place, call.args, out)?;
     add_zeros(out, place + call.args.len() as u32, place + mask)?;
-    add_copy(out, place + mask, call.mask)
+    let value = call_mask(alloc, callee.tests, call.mask)?;
+    add_mask(out, place + mask, value)
 }
 
-// so many words from a place on are set as the function begins with them
+// the words of a function from a place on are set as it begins with them
 fn add_begun(
     alloc: Global,
     place: u32,
-    words: u32,
-    mask: u32,
+    callee: &Measured,
     call: &Call<'_>,
     out: &mut Vec<SpStmt>,
 ) -> Result<(), OutOfMemory>
-    requires room { place + words < 2 ^ 32 }
-    requires mask { mask < words }
-    requires few { length call.now.args.now ≤ mask }
+    requires room { place + callee.now.words < 2 ^ 32 }
+    requires mask { callee.now.function.mask < callee.now.words }
+    requires few { length call.now.args.now ≤ callee.now.function.mask }
     ensures { OnOk result (stmts_of out.new.items ≡ joined (stmts_of out.old.items)
-        (specs.begun_words place words (specs.handed mask call.now.mask (map plain_sp call.now.args.now)))) }
+        (specs.begun_words place callee.now.words (specs.handed callee.now.function.mask
+        (specs.call_mask callee.now.tests call.now.mask) (args_of call.now)))) }
 {
-    add_handed(alloc, place, mask, call, out)?;
-    add_zeros(out, place + mask + 1, place + words)
+    add_handed(alloc, place, callee, call, out)?;
+    add_zeros(out, place + callee.function.mask + 1, place + callee.words)
 }
 
 // under a mask a word is set to another, if one is to be set
@@ -165,9 +172,7 @@ pub fn add_call(
     ensures { OnOk result (stmts_of out.new.items ≡ joined (stmts_of out.old.items)
         (statements_for place (plain_function callee.now.function) call.now)) }
 {
-    let function = &callee.function;
-    let statements = &function.body.as_slice()[..callee.kept];
-    add_begun(alloc, place, callee.words, function.mask, call, out)?;
-    add_moved(alloc, place, out, statements)?;
-    add_given(out, call.mask, call.result, place + function.result)
+    add_begun(alloc, place, callee, call, out)?;
+    add_moved(alloc, place, out, callee.statements())?;
+    add_given(out, call.mask, call.result, place + callee.function.result)
 }

@@ -6,18 +6,20 @@ ghost use Rattle.sp_tree.specs.Shown.{plain_function, stmts_of};
 ghost use Rattle.sp_inline.specs.Capped.{capped};
 ghost use Rattle.sp_inline.specs.Kept.{kept_count};
 ghost use Rattle.sp_inline.specs.Reach.{stmts_reach, stmts_calls};
-ghost use Rattle.sp_inline.specs.Taken.{short_body};
+ghost use Rattle.sp_inline.specs.Taken.{short_body, tests_mask, entered as entered_body};
 
+use crate::beginnings::{entered, tests_mask};
 use crate::callees::calls_of;
 use crate::costs::cost_of;
 use crate::endings::kept_of;
 use crate::levels::levels_of;
 use crate::reach::reach_of;
-use sp_tree::SpFunction;
+use sp_tree::{SpFunction, SpStmt};
 
 /// A function; how many words its tree may name; and of its statements, how many words they name, how many functions
 /// they call, how many levels of iterations they have, and how many words of code they take. Then, how many of its
-/// statements are taken in, and how many words of code these take.
+/// statements stand before a mask that is set last, whether they begin by testing its mask, and how many words of code
+/// those of them take that are taken in: all but that test.
 #[derive(Debug, Drop)]
 pub struct Measured {
     pub function: SpFunction,
@@ -27,6 +29,7 @@ pub struct Measured {
     pub levels: u64,
     pub cost: u64,
     pub kept: usize,
+    pub tests: bool,
     pub kept_cost: u64,
     pub ghost few: { 0 < words → words + (levels + 2) < 2 ^ 32 },
     pub ghost words_are: { words ≡ slots_of (plain_function function) },
@@ -35,7 +38,9 @@ pub struct Measured {
     pub ghost levels_are: { levels ≡ capped (stmts_levels (stmts_of function.body)) },
     pub ghost cost_is: { cost ≡ capped (stmts_cost (stmts_of function.body)) },
     pub ghost kept_is: { kept ≡ kept_count function.result function.body },
-    pub ghost kept_cost_is: { kept_cost ≡ capped (stmts_cost (short_body function.result (stmts_of function.body))) },
+    pub ghost tests_are: { tests ≡ tests_mask function.mask (short_body function.result (stmts_of function.body)) },
+    pub ghost kept_cost_is: { kept_cost
+        ≡ capped (stmts_cost (entered_body tests (short_body function.result (stmts_of function.body)))) },
 }
 
 // how many of the words of a frame a tree with so many levels of iterations may name
@@ -60,7 +65,9 @@ impl Measured {
         let calls = calls_of(function.body.as_slice());
         let cost = cost_of(function.body.as_slice());
         let kept = kept_of(function.result, function.body.as_slice());
-        let kept_cost = cost_of(&function.body.as_slice()[..kept]);
+        let statements = &function.body.as_slice()[..kept];
+        let tests = tests_mask(function.mask, statements);
+        let kept_cost = cost_of(entered(tests, statements));
         Measured {
             function,
             words,
@@ -69,8 +76,18 @@ impl Measured {
             levels,
             cost,
             kept,
+            tests,
             kept_cost,
         }
+    }
+
+    /// The statements that are taken in.
+    #[tactic(auto, using(crate::proofs::Shortened::kept_within, crate::proofs::Shortened::kept_shown))]
+    pub fn statements(&self) -> &[SpStmt]
+        ensures { stmts_of result.now
+            ≡ entered_body self.now.tests (short_body self.now.function.result (stmts_of self.now.function.body)) }
+    {
+        entered(self.tests, &self.function.body.as_slice()[..self.kept])
     }
 
     /// Whether the function of this number names no words but its own, and calls earlier ones.

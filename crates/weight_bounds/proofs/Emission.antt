@@ -28,6 +28,7 @@ use Rattle.sp_emit.specs.Flags.{behind_first, begun_body}
 use Rattle.sp_emit.specs.Functions.{first_counter, argument_kept, arguments_kept, mask_in, mask_kept, place_kept, state_kept, frame_taken, place_brought, result_given, function_begin, function_end, function_rest, body_code, function_code}
 use Rattle.sp_emit.specs.Instructions.{always, where_so, under, set_number, combine}
 use Rattle.sp_emit.specs.Places.{flag_of, mask_test, seek_word, match_word, told_at, read_word, fetch_word, fetched_at, keep_word, set_word, words_cleared}
+use Rattle.sp_emit.specs.Truths.{bit_sought}
 use Rattle.sp_emit.specs.Statements.{cell_write, element_write, target_write, guarded_code, args_code, call_code, send_code, overrun_code, iterations_begin, iterations_tail, slot_set, stmt_code, stmts_code}
 use Rattle.sp_emit.specs.declared.registers.TheConstants.{RESULT, MASK, FIRST, SPARE, TEST, SECOND}
 use Rattle.sp_emit.proofs.BegunBody.{begun_is}
@@ -206,9 +207,11 @@ truths_few : (most : ℕ) (homes : Homes) → 1 ≤ most → TruthParts (IsFew m
 truths_few most homes some = record {
   none = record { some = some; iterations = some; calls = omega arith; past = omega arith };
   both = few_both most 0 0;
+  first = λ op a b h. omega (arith, h);
   second = λ op a b h. omega (arith, h);
   operands = λ e h. operands_few most homes e FIRST some h;
   tests = λ bs tests. tests_few most bs some tests;
+  bits = λ slot h. few_straight most 0 (bit_sought homes.first slot) some (omega (arith, fetch_past homes.first slot));
 }
 
 -- ---- statements

@@ -9,11 +9,11 @@ use Rattle.sp_shape.specs.Small.{idle}
 use Rattle.sp_shape.specs.Parts.{PlainPart, straight, repeats, calls_to, leaves, PlainParts, no_part, part}
 use Rattle.cycle_bound.specs.Bound.{op_moves}
 use Rattle.bundle_sched.specs.Packed.{lone, last_or}
-use Rattle.bundle_sched.specs.Packing.{packed, filled, but_last, goes_down, kept_by_one, way_by_one, kept_after, way_after, freed, kept, way, before_branch, from_branch, iteration_packed, straights, left_over, parts_merged, function_merged}
+use Rattle.bundle_sched.specs.Packing.{packed, arranged, filled, but_last, goes_down, kept_by_one, way_by_one, kept_after, way_after, freed, kept, way, before_branch, from_branch, iteration_packed, straights, left_over, parts_merged, function_merged}
 use Rattle.bundle_sched.specs.Placed.{is_awaited, spaced, part_placed, parts_placed}
 use Rattle.bundle_sched.specs.declared.slots.TheConstants.{MOST_SLOTS}
 use Rattle.bundle_sched.proofs.Alike.{tail_split}
-use Rattle.bundle_sched.proofs.EachStep.{AtEachStep, packed_steps}
+use Rattle.bundle_sched.proofs.EachStep.{AtEachStep, packed_steps, arranged_steps}
 use Rattle.bundle_sched.proofs.Freed.{without_nop_as, freed_as}
 use Rattle.weight_bounds.specs.Counts.{part_iterations, parts_iterations, part_calls, parts_calls, bundle_past, bundles_past, part_past, parts_past}
 use Rattle.weight_bounds.proofs.Joins.{some_iterations, joined_iterations, joined_calls, joined_past, past_append}
@@ -33,6 +33,9 @@ past_steps = record {
 
 packed_past : (bs : List Slots) → bundles_past (packed bs) ≤ bundles_past bs
 packed_past bs = packed_steps (λ xs ys. bundles_past ys ≤ bundles_past xs) past_steps bs
+
+arranged_past : (held front back : List Slots) → bundles_past (packed (arranged held front back)) ≤ bundles_past (held ++ front)
+arranged_past held front back = arranged_steps (λ xs ys. bundles_past ys ≤ bundles_past xs) past_steps held front back
 
 past_split : (b : Slots) (bs : List Slots) → bundles_past (but_last b bs) + bundle_past (last_or b bs) ≡ bundle_past b + bundles_past bs
 past_split b [] = omega arith
@@ -76,8 +79,8 @@ iteration_past : (before tail : List Slots) → bundles_past (iteration_packed b
 iteration_past before tail =
     let front = before_branch tail in
     let back = from_branch tail in
-    let p = packed (before ++ front) in
-    omega (arith, past_append (kept p back) (way p back), slots_past p back, packed_past (before ++ front), past_append before front, past_append front back, ap bundles_past (tail_split tail))
+    let p = packed (arranged before front back) in
+    omega (arith, past_append (kept p back) (way p back), slots_past p back, arranged_past before front back, past_append before front, past_append front back, ap bundles_past (tail_split tail))
 
 spaced_past : (bs : List Slots) → bundles_past (spaced bs) ≤ bundles_past bs
 spaced_past [] = omega arith

@@ -7,7 +7,8 @@ use Rattle.sp_tree.specs.Plain.{PlainSp, constant, frame_word, cell_word, array_
 use Rattle.sp_tree.specs.Statements.{PlainSpTarget, to_slot, to_cell, to_array, PlainStmt, masks, writes, calls, transfers, overruns, iterations, PlainStmts, no_stmt, stmt, one, joined, PlainFunction, no_function}
 use Rattle.sp_inline.specs.declared.room.Room.{Room}
 use Rattle.sp_inline.specs.Moved.{moved, args_moved, target_moved, stmt_moved, stmts_moved}
-use Rattle.sp_inline.specs.Taken.{begun_words, handed, ends_so, front, shortened, given_set, call_statements, PlainCaller, Taken, callee, growth, room_after, is_whole, may_take, has_room, is_taken, call_taken, stmt_taken, stmts_taken, body_taken, grown, function_taken, first_taken}
+use Rattle.sp_inline.specs.Taken.{begun_words, handed, tests_mask, call_mask, entered, ends_so, front, shortened, given_set, call_statements, PlainCaller, Taken, callee, growth, room_after, is_whole, may_take, has_room, is_taken, call_taken, stmt_taken, stmts_taken, body_taken, grown, function_taken, first_taken}
+use Rattle.sp_inline.proofs.Entered.{entered_so}
 use Rattle.sp_inline.proofs.Taking.{first_at, first_length}
 use Rattle.weight_bounds.specs.Trees.{expr_iterations, args_iterations, target_iterations, stmt_iterations, stmts_iterations, stmt_call_count, stmts_call_count}
 use Rattle.weight_bounds.specs.Leaves.{IsLeaf, AreLeaves, HasNoMore}
@@ -70,11 +71,17 @@ begun_within at zero (e ∷ args) = record { iterations = omega (arith, some_exp
 begun_within at (suc n) [] = let x = begun_within (at + 1) n [] in record { iterations = omega (arith, x.iterations); calls = omega (arith, x.calls) }
 begun_within at (suc n) (e ∷ args) = let x = begun_within (at + 1) n args in record { iterations = omega (arith, x.iterations); calls = omega (arith, x.calls) }
 
--- the arguments with the mask, and a body without its last statement
-handed_within : (n mask : ℕ) (args : List PlainSp) → args_iterations (handed n mask args) ≤ args_iterations args
-handed_within zero mask args = omega (arith, some_args args)
-handed_within (suc n) mask [] = omega (arith, handed_within n mask [])
-handed_within (suc n) mask (e ∷ args) = omega (arith, handed_within n mask args)
+-- the arguments with the mask, and a body without its first statement or its last
+handed_within : (n : ℕ) (tests : Bool) (mask : ℕ) (args : List PlainSp) → args_iterations (handed n (call_mask tests mask) args) ≤ args_iterations args
+handed_within zero true mask args = omega (arith, some_args args)
+handed_within zero false mask args = omega (arith, some_args args)
+handed_within (suc n) tests mask [] = omega (arith, handed_within n tests mask [])
+handed_within (suc n) tests mask (e ∷ args) = omega (arith, handed_within n tests mask args)
+
+entered_within : (tests : Bool) (ts : PlainStmts) → IsWithin (stmts_iterations ts) (stmts_call_count ts) (entered tests ts)
+entered_within tests ts =
+    entered_so (IsWithin (stmts_iterations ts) (stmts_call_count ts)) (λ t rest h. record { iterations = omega (arith, h.iterations); calls = omega (arith, h.calls) })
+    tests ts (record { iterations = omega arith; calls = omega arith })
 
 front_within : (ts : PlainStmts) → IsWithin (stmts_iterations ts) (stmts_call_count ts) (front ts)
 front_within no_stmt = record { iterations = omega arith; calls = omega arith }
@@ -94,16 +101,19 @@ given_within mask (Some slot) word = record { iterations = omega arith; calls = 
 
 statements_within : (o : ℕ) (f : PlainFunction) (mask : ℕ) (args : List PlainSp) (result : Option ℕ) → IsLeaf f → IsWithin (args_iterations args) 0 (call_statements o f mask args result)
 statements_within o f mask args result leaf =
-    let words = handed f.mask mask args in
+    let tests = tests_mask f.mask f.body in
+    let words = handed f.mask (call_mask tests mask) args in
     let begun = begun_words o (slots_of f) words in
     let given = given_set mask result (o + f.result) in
-    let own = stmts_moved o f.body in
+    let body = entered tests f.body in
+    let own = stmts_moved o body in
     let last = joined own given in
     let a = begun_within o (slots_of f) words in
     let b = given_within mask result (o + f.result) in
+    let e = entered_within tests f.body in
     record {
-      iterations = omega (arith, joined_iterations begun last, joined_iterations own given, stmts_same o f.body, leaf.iterations, a.iterations, b.iterations, handed_within f.mask mask args, some_args args);
-      calls = omega (arith, joined_calls begun last, joined_calls own given, calls_same o f.body, leaf.calls, a.calls, b.calls);
+      iterations = omega (arith, joined_iterations begun last, joined_iterations own given, stmts_same o body, leaf.iterations, a.iterations, b.iterations, e.iterations, handed_within f.mask tests mask args, some_args args);
+      calls = omega (arith, joined_calls begun last, joined_calls own given, calls_same o body, leaf.calls, a.calls, b.calls, e.calls);
     }
 
 -- ---- statements

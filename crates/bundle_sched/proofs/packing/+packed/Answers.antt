@@ -1,7 +1,8 @@
-use Rattle.std.proofs.Common.{ap, ◌∙◌, arith}
+use Rattle.std.proofs.Common.{sym, ap, ◌∙◌, arith}
 use Rattle.sp_shape.specs.Shown.{parts_of}
-use Rattle.bundle_sched.specs.Packing.{iteration_packed, left_over, parts_merged}
-use Rattle.bundle_sched.proofs.PackingParts.{repeat_packed, call_left, leave_left, parts_done}
+use Rattle.bundle_sched.specs.Legal.{has_legal_flow, parts_legal}
+use Rattle.bundle_sched.specs.Packing.{from_branch, iteration_packed, left_over, parts_merged}
+use Rattle.bundle_sched.proofs.PackingParts.{repeat_packed, repeat_legal, call_left, leave_left, parts_done}
 use Rattle.bundle_sched.proofs.packing.+packed.Goals as goal
 
 pub parts_packed-returns-clause-parts : goal.parts_packed-returns-clause-parts
@@ -15,9 +16,16 @@ push_packed-returns-in_ok-push-in-Repeat-clause-out t c = λ rest.
     c.in_ok-push_held-in-Repeat.ensures.out
     (ap parts_of c.of.ensures ∙ c.in_ok-body-in-Repeat.ensures.parts ∙ (λ k. parts_merged (c.new-end.ensures.items k) (parts_of (c.as_slice-in-Repeat.ensures k))))
     (c.in_ok-tail-in-Repeat.ensures.iteration
-    ∙ (λ k. iteration_packed (c.in_ok-body-in-Repeat.ensures.left k) (c.as_slice-in-Repeat-2.ensures k))
+    ∙ (λ k. iteration_packed (c.as_slice-in-Repeat-2.ensures.value k) (c.as_slice-in-Repeat-3.ensures k))
+    ∙ (λ k. iteration_packed (c.in_ok-body-in-Repeat.ensures.left k) c.in-Repeat.tail)
     ∙ (λ k. iteration_packed (left_over (c.new-end.ensures.items k) (parts_of (c.as_slice-in-Repeat.ensures k))) c.in-Repeat.tail))
     c.in_ok-push-in-Repeat.ensures.items
+
+pub push_packed-returns-in_ok-push-in-Repeat-clause-legal : goal.push_packed-returns-in_ok-push-in-Repeat-clause-legal
+push_packed-returns-in_ok-push-in-Repeat-clause-legal t c =
+    repeat_legal c.args.part.now c.in-Repeat.count c.in-Repeat.body c.in-Repeat.tail c.in-Repeat.is
+    (ap (λ ps. parts_legal (parts_of ps)) (sym c.as_slice-in-Repeat.ensures) ∙ c.in_ok-body-in-Repeat.ensures.legal)
+    (ap (λ bs. has_legal_flow (from_branch bs)) (sym c.as_slice-in-Repeat-3.ensures) ∙ c.in_ok-tail-in-Repeat.ensures.legal)
 
 pub push_packed-returns-in_ok-push-in-CallTo-clause-left : goal.push_packed-returns-in_ok-push-in-CallTo-clause-left
 push_packed-returns-in_ok-push-in-CallTo-clause-left t c = λ rest.

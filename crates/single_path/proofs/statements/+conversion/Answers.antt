@@ -10,6 +10,7 @@ use Rattle.single_path.specs.Widths as width
 use Rattle.c_meaning.specs.Sizes.{action_size}
 use Rattle.c_meaning.proofs.Falls.{part_size}
 use Rattle.single_path.proofs.Converted.{choose_is, loop_is, counted_made, repeated_made, counted_masks, next_action, no_action_left, arm_added, nothing_added, otherwise_added, split_size, part_masks, split_masks}
+use Rattle.single_path.proofs.Idle.{part_free}
 use Rattle.single_path.proofs.statements.+conversion.Goals as goal
 
 pub add_action-add_choice-requires : goal.add_action-add_choice-requires
@@ -28,8 +29,13 @@ add_action-add_counted-requires t c =
     let size = ap action_size same in
     let taken = ap width.action_masks same in
     let some = counted_masks c.args.known c.in-Loop.max (plain_sp c.in-Loop.condition) body (option_map plain_assignment c.in-Loop.step) (width.masks body)
-    (sym c.is_counted.ensures ∙ c.if-is_counted.true) in
+    c.is_counted.result c.is_counted.ensures c.if-is_counted.true in
     (omega (arith, c.decreases, size), omega (arith, c.requires, taken, some))
+
+pub add_counted-add_all-requires : goal.add_counted-add_all-requires
+add_counted-add_all-requires t c =
+    let free = ap (λ (q : PartWords). q.free) c.counted_part-inner.ensures in
+    (omega (arith, c.decreases), omega (arith, c.requires, free, part_free c.args.part c.may_exit-resumes.result))
 
 pub add_action-add_repeated-requires : goal.add_action-add_repeated-requires
 add_action-add_repeated-requires t c =

@@ -35,25 +35,25 @@ done fs n homes frame slots counter ts s m h =
 
 pub returns-clause-unchanged : goal.returns-clause-unchanged
 unfolding AllServe ServedBy
-returns-clause-unchanged c fs n k mask args w m are less count room called same =
-    let r = all_serve fs are.constants n are.within are.formed k less mask args w m count room called in
-    let t = run by_words (code_of fs n k) m in
-    record {
-      world = world_stands (serves fs n k mask args w).world w m t same called.carries.has r.answers.carries.has called.carries.flag r.answers.carries.flag;
-      st = r.answers.st;
-      stack = r.answers.stack;
-      callers = λ homes slot top. word_kept homes slot m t (λ q from lt. r.high q (omega (arith, top, from)) lt) r.answers.stack r.answers.st;
-    }
-
-pub returns-clause-own_unchanged : goal.returns-clause-own_unchanged
-returns-clause-own_unchanged c fs n homes frame slots counter ts s m h same =
-    let d = done fs n homes frame slots counter ts s m h in
-    let z = stmts_done (serves fs n) ts s in
-    record {
-      world = world_stands z.world s.world m (run by_words (parts_trail (code_of fs n) (stmts_code homes frame counter ts)) m) same h.follows.shows.world d.follows.shows.world h.follows.flag d.follows.flag;
-      frame = λ slot lt is. d.follows.shows.frame slot lt ∙ is ∙ sym (h.follows.shows.frame slot lt);
-      behind = d.keeps;
-    }
+returns-clause-unchanged c fs n are = record {
+  functions = λ k mask args w m less count room called same.
+      let r = all_serve fs are.constants n are.within are.formed k less mask args w m count room called in
+      let t = run by_words (code_of fs n k) m in
+      record {
+        world = world_stands (serves fs n k mask args w).world w m t same called.carries.has r.answers.carries.has called.carries.flag r.answers.carries.flag;
+        st = r.answers.st;
+        stack = r.answers.stack;
+        callers = λ homes slot top. word_kept homes slot m t (λ q from lt. r.high q (omega (arith, top, from)) lt) r.answers.stack r.answers.st;
+      };
+  statements = λ homes frame slots counter ts s m h same.
+      let d = done fs n homes frame slots counter ts s m h in
+      let z = stmts_done (serves fs n) ts s in
+      record {
+        world = world_stands z.world s.world m (run by_words (parts_trail (code_of fs n) (stmts_code homes frame counter ts)) m) same h.follows.shows.world d.follows.shows.world h.follows.flag d.follows.flag;
+        frame = λ slot lt is. d.follows.shows.frame slot lt ∙ is ∙ sym (h.follows.shows.frame slot lt);
+        behind = d.keeps;
+      };
+}
 
 pub returns-clause-statements : goal.returns-clause-statements
 returns-clause-statements c fs n homes frame slots counter ts s m h = (done fs n homes frame slots counter ts s m h).follows

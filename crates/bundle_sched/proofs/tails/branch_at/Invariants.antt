@@ -1,6 +1,6 @@
 use Rattle.std.proofs.Common.{◌≡◌, ◌++◌, take, drop}
 use Rattle.bundle_sched.specs.Packing.{before_branch, from_branch}
-use Rattle.bundle_sched.proofs.slots.branch_at.Given as goal
+use Rattle.bundle_sched.proofs.tails.branch_at.Given as goal
 
 abbrev pub invariant-loop-bundle : goal.invariant-loop-bundle
 invariant-loop-bundle l = record {
