@@ -3,7 +3,7 @@
 The text is one that the program takes. The order is that of docs/COMPILER.md: the condition of a loop is tested in each
 iteration and once more after them; an index is worked out after the value that is stored there; of two operands the
 one that needs more registers comes first; and what follows `break`, `continue` or `return` in its block has no code.
-A division is a loop of 16 iterations, but for most of those by a number, which are a product or a shift.
+A division is a loop of 8 iterations, but for most of those by a number, which are a product or a shift.
 """
 
 from __future__ import annotations
@@ -16,7 +16,7 @@ from .c_text import Token, number_of, tokens_of
 from .c_tree import KINDS, LEVELS, UNARY
 
 DIVIDING = {"/": "division", "%": "remainder"}
-DIVISION_ITERATIONS = 16
+DIVISION_ITERATIONS = 8
 SWAPPED = (">", ">=")
 TRUTHS = ("||", "&&", "==", "!=", "<", "<=", *SWAPPED)
 SHIFTS = ("<<", ">>")

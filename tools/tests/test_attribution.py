@@ -157,13 +157,13 @@ def with_inlined(inlined: int) -> TaskCode:
     def body_of_f(lines: Lines, label: int) -> None:
         lines.call("g")
         loop = lines.inner()
-        loop.loop(f"L{label + 1}", 16, loop.inner().bundles("nop"))
+        loop.loop(f"L{label + 1}", 8, loop.inner().bundles("nop"))
         lines.loop(f"L{label}", 4, loop)
 
     f = Lines()
     body_of_f(f, 0)
     g = Lines()
-    g.loop("L0", 16, g.inner().bundles("nop"))
+    g.loop("L0", 8, g.inner().bundles("nop"))
     loop = Lines()
     for number in range(2):
         if number < inlined:

@@ -144,7 +144,7 @@ def test_divisions_by_numbers(program: str) -> None:
             text = f"int main() {{ {kind} x = in[0]; {lines} return x; }}".encode()
             code = code_of_task(Task(0, 0, "c", b"int in[1]; " + text, [], 0), program)
             loops = [item for item in code.functions[0].items if isinstance(item, CodeLoop)]
-            assert [loop.iterations for loop in loops] == [16] * len(loops)
+            assert [loop.iterations for loop in loops] == [8] * len(loops)
             assert len(list(bundles_of(code.functions[0].items))) > len(numbers)
             assert len(loops) == sum(is_long(number, kind == "unsigned") for number in numbers)
 

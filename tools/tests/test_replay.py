@@ -245,8 +245,8 @@ def test_a_long_task_is_replayed(program: str) -> None:
     int f(int x) { t[x & 7] = x; return x % t[1]; }
     int main() {
         int i; int s = 0;
-        _Pragma("loopbound min 0 max 460")
-        for (i = 0; i < 460; i = i + 1) { int d = f(i); s = s + d; }
+        _Pragma("loopbound min 0 max 520")
+        for (i = 0; i < 520; i = i + 1) { int d = f(i); s = s + d; }
         return s;
     }
     """
@@ -264,7 +264,7 @@ void f0() { int a = 1; shared[0] = a; }
 void f1() { %s f0(); f0(); }
 void f2() { %s f1(); f1(); }
 int main() { int i; _Pragma("loopbound min 3 max 3") for (i = 0; i < 3; i = i + 1) { f2(); f2(); } return 0; }
-""" % (("".join(f"int v{number} = {number}; " for number in range(60)),) * 2)
+""" % (("".join(f"int v{number} = {number}; " for number in range(90)),) * 2)
 
 
 def test_fills_in_front_of_a_fetch_are_told_apart(program: str) -> None:

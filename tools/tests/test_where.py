@@ -109,9 +109,9 @@ def test_divisions_and_functions_that_are_inlined(tool: Tool, tmp_path: Path) ->
     shown = [(row["part"], row["depth"], row["entered"], row["iterations"], row["inlined"]) for row in rows]
     # g is inlined in the loop of `main`, calls of f outside of loops stay; a division by a number has no loop
     assert shown == [
-        ("main()", "0", "1", "1", ""), ("while", "0", "1", "4", ""), ("division", "1", "4", "64", ""),
-        ("while", "1", "4", "12", "g"), ("division after it", "0", "1", "16", ""),
-        ("f()", "0", "2", "2", ""), ("division", "0", "2", "32", ""), ("remainder", "0", "2", "32", ""),
+        ("main()", "0", "1", "1", ""), ("while", "0", "1", "4", ""), ("division", "1", "4", "32", ""),
+        ("while", "1", "4", "12", "g"), ("division after it", "0", "1", "8", ""),
+        ("f()", "0", "2", "2", ""), ("division", "0", "2", "16", ""), ("remainder", "0", "2", "16", ""),
     ]  # fmt: skip
     for row in rows[-2:]:
         # lines are those of the file, and columns those of the sign

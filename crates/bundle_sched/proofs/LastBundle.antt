@@ -170,9 +170,3 @@ pub way_more : (n k : ℕ) (bs tail next slots whole : List Slots) → k < n →
 way_more n k bs tail next slots whole within front back before =
     let one : n - k ≡ suc (n - (k + 1)) = omega (arith, within) in
     (λ i. way_after (n - (k + 1)) (front i) (back i)) ∙ sym (ap (λ m. way_after m bs tail) one) ∙ before
-
-pub kept_ended : (n k : ℕ) (bs tail whole : List Slots) → n ≤ k → kept_after (n - k) bs tail ≡ whole → bs ≡ whole
-kept_ended n k bs tail whole past before = let end : n - k ≡ 0 = omega (arith, past) in sym (ap (λ m. kept_after m bs tail) end) ∙ before
-
-pub way_ended : (n k : ℕ) (bs tail whole : List Slots) → n ≤ k → way_after (n - k) bs tail ≡ whole → tail ≡ whole
-way_ended n k bs tail whole past before = let end : n - k ≡ 0 = omega (arith, past) in sym (ap (λ m. way_after m bs tail) end) ∙ before

@@ -120,9 +120,6 @@ part_left ps i p held later whole within is added before = added (parts_of (drop
 pub parts_done : (ps : List Part) (i : ℕ) (done : List Part) (held : List Slots) (whole : PlainParts) → length ps ≤ i → joined (parts_of done) (parts_merged held (parts_of (drop i ps))) ≡ whole → parts_of done ≡ whole
 parts_done ps i done held whole past before = sym (joined-nothing (parts_of done)) ∙ ap (λ xs. joined (parts_of done) (parts_merged held (parts_of xs))) (sym (drop_all i ps past)) ∙ before
 
-pub left_done : (ps : List Part) (i : ℕ) (held whole : List Slots) → length ps ≤ i → left_over held (parts_of (drop i ps)) ≡ whole → held ≡ whole
-left_done ps i held whole past before = ap (λ xs. left_over held (parts_of xs)) (sym (drop_all i ps past)) ∙ before
-
 -- ---- a function
 
 pub function_done : (done all : List Part) (held : List Slots) (ps : PlainParts) → parts_of done ≡ parts_merged [] ps → held ≡ left_over [] ps

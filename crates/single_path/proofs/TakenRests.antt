@@ -13,7 +13,8 @@ use Rattle.sp_tree.proofs.Masks.{off as masked, write_off, send_off, overrun_off
 use Rattle.sp_inline.specs.Moved.{stmt_moved, stmts_moved}
 use Rattle.sp_inline.specs.Reach.{args_reach, stmt_reach, stmts_reach, stmts_calls}
 use Rattle.sp_inline.specs.declared.room.Room.{Room}
-use Rattle.sp_inline.specs.Taken.{begun_words, tests_mask, call_mask, entered, given_set, front, shortened, call_statements, PlainCaller, Taken, callee, room_after, is_whole, may_take, is_taken, kept, call_taken, stmt_taken, stmts_taken, body_taken, grown, function_taken}
+use Rattle.sp_inline.specs.Taken.{begun_words, call_mask, entered, given_set, front, shortened, call_statements, PlainCaller, Taken, callee, room_after, is_whole, may_take, is_taken, kept, call_taken, stmt_taken, stmts_taken, body_taken, grown, function_taken}
+use Rattle.sp_tree.specs.MaskTests.{tests_mask}
 use Rattle.sp_inline.proofs.Windows.{window, stmt_window, stmts_window}
 use Rattle.sp_inline.proofs.Alike.{Alike, Same, times_alike, stmt_alike, stmts_alike}
 use Rattle.sp_inline.proofs.Shortened.{short_is, short_fits}

@@ -187,13 +187,13 @@ mutual
 -- ---- words of the frame
 
 pub near_read : (homes rd slot : ℕ) → is_near (read_word homes rd slot) ≡ true
-near_read homes rd slot = read_is (λ b. is_near b ≡ true) homes rd slot refl refl
+near_read homes rd slot = read_is (λ b. is_near b ≡ true) homes rd slot refl (λ out. refl)
 
 pub near_keep : (homes slot : ℕ) → is_near (keep_word homes slot) ≡ true
-near_keep homes slot = keep_is (λ b. is_near b ≡ true) homes slot refl refl
+near_keep homes slot = keep_is (λ b. is_near b ≡ true) homes slot refl (λ out. refl)
 
 pub near_fetch : (homes slot : ℕ) → is_near (fetch_word homes slot) ≡ true
-near_fetch homes slot = fetch_is (λ b. is_near b ≡ true) homes slot refl refl
+near_fetch homes slot = fetch_is (λ b. is_near b ≡ true) homes slot refl (λ out. refl)
 
 pub near_seek : (homes : Homes) (mask : ℕ) → is_near (seek_word homes mask) ≡ true
 near_seek homes mask = seek_is (λ b. is_near b ≡ true) homes mask refl (near_fetch homes.first mask)
@@ -208,4 +208,4 @@ pub near_address : (a : SpArray) (pd rd ra : ℕ) → AddressAre (λ b. is_near 
 near_address a pd rd ra = address_are (λ b. is_near b ≡ true) a pd rd ra refl (near_number SPARE) refl refl refl refl
 
 pub near_set : (homes : ℕ) (g : Guard) (slot rs : ℕ) → is_near (set_word homes g slot rs) ≡ true
-near_set homes g slot rs = set_op_is (λ op. is_near (under g op) ≡ true) homes slot rs refl refl
+near_set homes g slot rs = set_op_is (λ op. is_near (under g op) ≡ true) homes slot rs refl (λ out. refl)

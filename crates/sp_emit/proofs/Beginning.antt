@@ -10,18 +10,18 @@ use Rattle.sp_shape.proofs.Whole.{run_append}
 use Rattle.sp_shape.specs.Run.{Run, Sources, by_words, once, run, reserved, IsWhole}
 use Rattle.sp_shape.specs.Trail.{all_done}
 use Rattle.sp_shape.proofs.Lists.{done_append}
-use Rattle.sp_emit.specs.Functions.{argument_kept, arguments_kept}
+use Rattle.sp_emit.specs.Functions.{argument_kept, arguments_kept, words_taken}
 use Rattle.patmos_sem.specs.declared.writes.Write.TheVariants as write
 use Rattle.sp_emit.specs.Holding.{held, KeepsFrom}
-use Rattle.sp_emit.specs.Instructions.{always, set_short, stack_op}
-use Rattle.sp_emit.specs.Places.{flag_of, in_register, shown_word, set_word, cleared_in, word_cleared, words_cleared}
+use Rattle.sp_emit.specs.Instructions.{always, set_short}
+use Rattle.sp_emit.specs.Places.{flag_of, in_register, shown_word, set_word, cleared_in, word_cleared, words_cleared, stack_word}
 use Rattle.sp_emit.specs.declared.registers.TheConstants.{FIRST, OVERRUN}
 use Rattle.sp_emit.proofs.Arguments.{did_stack}
 use Rattle.sp_emit.proofs.Frames.{put_same, put_other}
 use Rattle.sp_emit.proofs.FlagWords.{shown_plain, shown_set, shown_beside, flag_own, flag_beside}
 use Rattle.sp_emit.proofs.Leaving.{did_set_short, did_combine}
 use Rattle.sp_emit.proofs.Once.{with_written, whole_written, kept_by_pred}
-use Rattle.sp_emit.proofs.WordPlaces.{with_word, Sets, did_set_word, sets_word, sets_register, in_stack}
+use Rattle.sp_emit.proofs.WordPlaces.{with_word, Sets, did_set_word, sets_word, sets_register, in_stack, Outside}
 use Rattle.sp_emit.specs.declared.stands.Homes.{Homes}
 
 -- the first so many of some words, and 0 after them
@@ -39,14 +39,6 @@ pub record Taken (homes : Homes) (frame slots : ℕ) (words : ℕ → ℕ) (m t 
   pub low : (r : ℕ) → 1 ≤ r → r < homes.first → r < 32 → held r t ≡ held r m
   pub high : KeepsFrom (homes.first + slots) m t
   pub flag : held OVERRUN t ≡ held OVERRUN m
-
--- how many words of the stack are taken, or none
-abbrev pub words_taken : Bool → ℕ → ℕ
-words_taken none frame = if none then 0 else frame
-
-pub taken_few : (none : Bool) (frame : ℕ) → words_taken none frame ≤ frame
-taken_few true frame = omega arith
-taken_few false frame = omega arith
 
 reserved_word : (st count word : ℕ) (stack : ℕ → ℕ) → st - count ≤ word → word < st → reserved st count stack word ≡ 0
 reserved_word st count word stack from below = rw (le-leb (st - count) word from, lt-ltb word st below) refl
@@ -66,8 +58,8 @@ record Clears (homes : Homes) (frame slots count : ℕ) (m t : Run) : Type 0 whe
   high : KeepsFrom (homes.first + slots) m t
   flag : held OVERRUN t ≡ held OVERRUN m
 
-takes_frame : (from : Sources) (homes : Homes) (frame slots : ℕ) (none : Bool) (m : Run) → IsWhole m → frame ≤ m.st → Clears homes (words_taken none frame) slots 0 m (run from (all_done (if none then [] else stack_op Sres frame ∷ [])) m)
-takes_frame from homes frame slots true m whole enough = record {
+takes_frame : (from : Sources) (homes : Homes) (frame slots : ℕ) (m : Run) → IsWhole m → frame ≤ m.st → Clears homes frame slots 0 m (run from (all_done (words_taken frame)) m)
+takes_frame from homes zero slots m whole enough = record {
   whole = whole;
   memory = refl;
   st = omega arith;
@@ -78,21 +70,17 @@ takes_frame from homes frame slots true m whole enough = record {
   high = λ r from lt. refl;
   flag = refl;
 }
-takes_frame from homes frame slots false m whole enough = subst (Clears homes frame slots 0 m) (sym (did_stack from Sres frame m whole)) (record {
+takes_frame from homes (suc n) slots m whole enough = subst (Clears homes (suc n) slots 0 m) (sym (did_stack from Sres (suc n) m whole)) (record {
   whole = record { fits = whole.fits; pending = whole.pending };
   memory = refl;
   st = refl;
   cleared = λ x lt. absurd (omega (arith, lt));
-  zeros = λ x lt. reserved_word m.st frame (m.st - frame + x) m.stack (omega arith) (omega (arith, lt, enough));
-  behind = λ a above. reserved_behind m.st frame a m.stack above;
+  zeros = λ x lt. reserved_word m.st (suc n) (m.st - suc n + x) m.stack (omega arith) (omega (arith, lt, enough));
+  behind = λ a above. reserved_behind m.st (suc n) a m.stack above;
   low = λ r some before few. refl;
   high = λ r from lt. refl;
   flag = refl;
 })
-
--- the words that stand in no register stand in the frame
-abbrev pub Outside : ℕ → ℕ → ℕ → Type 0
-Outside homes slots frame = (x : ℕ) → x < slots → in_register homes x ≡ false → x < frame
 
 -- a word is cleared in a predicate or in a register, or is left in the stack
 word_cleared_is : (P : Run → Type 0) (from : Sources) (homes : Homes) (slot : ℕ) (m : Run) → IsWhole m → ((p : ℕ) → flag_of homes.flags slot ≡ Some p → P (with_written (write.Predicate p false) m)) → (flag_of homes.flags slot ≡ None → homes.first + slot < OVERRUN → P (with_written (write.Register (homes.first + slot) 0) m))
@@ -157,7 +145,7 @@ clears_words from homes frame slots (suc n) m t some out few x =
       whole = y.whole;
       memory = y.memory;
       st = y.st;
-      cleared = one_cleared homes n u u y.cleared (shown_plain homes n u plain ∙ in_stack homes.first n u none ∙ y.zeros n (out n (omega (arith, few)) none)) (λ v other. refl);
+      cleared = one_cleared homes n u u y.cleared (shown_plain homes n u plain ∙ in_stack homes.first n u none ∙ y.zeros (stack_word homes.first n) (out n (omega (arith, few)) none)) (λ v other. refl);
       zeros = y.zeros;
       behind = y.behind;
       low = y.low;
@@ -235,16 +223,15 @@ all_words args u = by (cases_lt u (length args))
     by (inl less) = rw (lt-ltb u (length args) less) refl
     by (inr more) = rw (le-ltb u (length args) more) (sym (past_all args u more))
 
-pub begins_frame : (homes : Homes) (frame slots parameters : ℕ) (none : Bool) (args : List ℕ) (m : Run) → ((i : ℕ) → i < length args → flag_of homes.flags i ≡ None) → IsWhole m → length args ≡ parameters → FIRST + parameters ≤ homes.first → parameters ≤ slots → parameters ≤ 6 → Outside homes.first slots (words_taken none frame) → slots ≤ 128 → frame ≤ m.st
+pub begins_frame : (homes : Homes) (frame slots parameters : ℕ) (args : List ℕ) (m : Run) → ((i : ℕ) → i < length args → flag_of homes.flags i ≡ None) → IsWhole m → length args ≡ parameters → FIRST + parameters ≤ homes.first → parameters ≤ slots → parameters ≤ 6 → Outside homes.first slots frame → slots ≤ 128 → frame ≤ m.st
     → ((i : ℕ) → i < length args → held (FIRST + i) m ≡ slice_index args i) → ((i : ℕ) → slice_index args i < 2 ^ 32)
-    → Taken homes (words_taken none frame) slots (slice_index args) m (run by_words (all_done (arguments_kept homes.first parameters)) (run by_words (all_done (words_cleared homes slots)) (run by_words (all_done (if none then [] else stack_op Sres frame ∷ [])) m)))
-begins_frame homes frame slots parameters none args m plain whole count before inside small out most enough given words =
-    let t0 = run by_words (all_done (if none then [] else stack_op Sres frame ∷ [])) m in
+    → Taken homes frame slots (slice_index args) m (run by_words (all_done (arguments_kept homes.first parameters)) (run by_words (all_done (words_cleared homes slots)) (run by_words (all_done (words_taken frame)) m)))
+begins_frame homes frame slots parameters args m plain whole count before inside small out most enough given words =
+    let t0 = run by_words (all_done (words_taken frame)) m in
     let t = run by_words (all_done (words_cleared homes slots)) t0 in
-    let n = words_taken none frame in
-    subst (λ p. Taken homes n slots (slice_index args) m (run by_words (all_done (arguments_kept homes.first p)) t)) count
-    (retold (stores_arguments homes n slots (length args) args m t plain (omega (arith, count, before)) (omega arith) (omega (arith, count, inside)) (omega (arith, count, small)) out most (omega (arith, taken_few none frame, enough)) given words
-    (takes_words by_words homes n slots args m t0 (omega (arith, before)) out (takes_frame by_words homes frame slots none m whole enough))))
+    subst (λ p. Taken homes frame slots (slice_index args) m (run by_words (all_done (arguments_kept homes.first p)) t)) count
+    (retold (stores_arguments homes frame slots (length args) args m t plain (omega (arith, count, before)) (omega arith) (omega (arith, count, inside)) (omega (arith, count, small)) out most enough given words
+    (takes_words by_words homes frame slots args m t0 (omega (arith, before)) out (takes_frame by_words homes frame slots m whole enough))))
   where
-    retold : {t : Run} → Taken homes (words_taken none frame) slots (first_words (length args) args) m t → Taken homes (words_taken none frame) slots (slice_index args) m t
+    retold : {t : Run} → Taken homes frame slots (first_words (length args) args) m t → Taken homes frame slots (slice_index args) m t
     retold x = record { whole = x.whole; memory = x.memory; st = x.st; frame_is = λ u lt. x.frame_is u lt ∙ all_words args u; behind = x.behind; low = x.low; high = x.high; flag = x.flag }

@@ -28,7 +28,7 @@ use Rattle.sp_emit.specs.Statements.{args_code, mask_handed, call_tail, call_cod
 use Rattle.sp_emit.specs.declared.registers.TheConstants.{RESULT, MASK, FIRST, OVERRUN}
 use Rattle.sp_tree.specs.Need.{need}
 use Rattle.sp_shape.proofs.Whole.{once_whole}
-use Rattle.sp_emit.specs.Places.{flag_words, flag_of, word_of, read_word, mask_test, told_at, args_least}
+use Rattle.sp_emit.specs.Places.{flag_words, flag_of, word_of, read_word, mask_test, told_at, args_least, stack_word}
 use Rattle.sp_emit.proofs.Calm.{is_calm_trail, calm_run}
 use Rattle.sp_emit.proofs.CalmCode.{own_free}
 use Rattle.sp_emit.proofs.Words.{value_word}
@@ -101,7 +101,7 @@ hands_mask homes slots mask s n plain within most named x =
     let free = own_free MASK homes.first MASK (omega arith) (omega arith) within in
     record {
       keeps = calm_run by_words MASK homes.first (all_done (mask_handed homes.first mask)) n (omega arith) x.whole
-          (read_is (λ b. is_calm_trail MASK homes.first (all_done (b ∷ with_short always imm.Xor MASK MASK 1 ∷ [])) ≡ true) homes.first MASK mask (grind (arith, free)) (grind (arith, free)));
+          (read_is (λ b. is_calm_trail MASK homes.first (all_done (b ∷ with_short always imm.Xor MASK MASK 1 ∷ [])) ≡ true) homes.first MASK mask (grind (arith, free)) (λ out. grind (arith, free)));
       masked = ap (held MASK) steps ∙ got MASK w u1 h1 (omega arith) (omega arith) ∙ ap (λ b. bit_xor b 1) value;
       others = λ y lt other. ap (held y) steps ∙ kept MASK w y u1 h1 lt other ∙ read_others by_words homes.first MASK mask y n x.whole lt other;
     }
@@ -203,7 +203,7 @@ call_is_done homes f g frame counter slots room top mask k args result s m none 
     let sens = did_stack by_words Sens frame t1 w.whole in
     let w2 : Follows homes slots (in_world s given.world) t2 = subst (Follows homes slots (in_world s given.world)) (sym sens) (record { whole = record { fits = w.whole.fits; pending = w.whole.pending }; shows = record { frame = λ slot lt. shown_still homes slot t1 (with_stack Sens frame t1) (λ r from lt. refl) (λ p from lt. refl) refl refl ∙ w.shows.frame slot lt; world = w.shows.world }; words = w.words; flag = w.flag }) in
     let d = result_done homes slots (counter + 1) frame mask result given.value (in_world s given.world) t2 none (omega (arith, least)) most fits masked result_named answers.value_word w2 (ap (held RESULT) sens ∙ answers.value) in
-    let behind : KeepsBehind (homes.first + (counter + 1)) (counter + 1) u t2 = subst (KeepsBehind (homes.first + (counter + 1)) (counter + 1) u) (sym sens) (record {
+    let behind : KeepsBehind (homes.first + (counter + 1)) (stack_word homes.first (counter + 1)) u t2 = subst (KeepsBehind (homes.first + (counter + 1)) (stack_word homes.first (counter + 1)) u) (sym sens) (record {
       st = answers.st ∙ b.st;
       stack = λ at above. answers.stack at (subst (λ st. st ≤ at) (sym b.st) (omega (arith, above))) ∙ ap (λ words. words at) b.stack;
       high = λ r from lt. high r (omega (arith, from)) lt;

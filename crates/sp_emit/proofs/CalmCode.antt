@@ -121,7 +121,7 @@ constant_calm low homes rd n le few within = rw (number_calm low homes rd n (own
 pub slot_calm : (low top : ℕ) (homes : Homes) (rd slot : ℕ) → low ≤ rd → rd < OVERRUN → rd < top → list_all (is_calm low top) (word_code (flag_of homes.flags slot) homes.first rd slot) ≡ true
 slot_calm low top homes rd slot le few within =
     let free = own_free low top rd le few within in
-    word_code_is (λ bs. list_all (is_calm low top) bs ≡ true) homes rd slot (λ p. grind (arith, free)) (read_is (λ b. list_all (is_calm low top) (b ∷ []) ≡ true) homes.first rd slot (grind (arith, free)) (grind (arith, free)))
+    word_code_is (λ bs. list_all (is_calm low top) bs ≡ true) homes rd slot (λ p. grind (arith, free)) (read_is (λ b. list_all (is_calm low top) (b ∷ []) ≡ true) homes.first rd slot (grind (arith, free)) (λ out. grind (arith, free)))
 
 pub cell_calm : (c : SpCell) (low homes rd : ℕ) → low ≤ rd → rd < OVERRUN → rd < homes → list_all (is_calm low homes) (cell_code c rd) ≡ true
 cell_calm c low homes rd le few within =

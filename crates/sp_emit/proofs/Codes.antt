@@ -1,5 +1,5 @@
 -- The code of each function of a task.
-use Rattle.std.proofs.Common.{◌≡◌, ℕ, zero, suc, ◌<◌, ◌≤◌, ◌⊎◌, inl, inr, Bool, true, false, if◌then◌else◌, List, [], ◌∷◌, ◌++◌, length, slice_index_or, refl, sym, ap, ◌∙◌, arith}
+use Rattle.std.proofs.Common.{◌≡◌, ℕ, zero, suc, ◌<◌, ◌≤◌, ◌⊎◌, inl, inr, Bool, true, false, if◌then◌else◌, List, [], ◌∷◌, ◌++◌, length, slice_index_or, refl, sym, ap, ◌∙◌, arith, ◌+◌, ◌-◌}
 use Rattle.std.proofs.lemmas.Bool.{cases_lt}
 use Rattle.sp_tree.specs.Statements.{PlainFunction, no_function}
 use Rattle.sp_shape.specs.Parts.{PlainParts, no_part}
@@ -7,8 +7,10 @@ use Rattle.patmos_instr.specs.Bundles.{Slots}
 use Rattle.patmos_instr.specs.declared.functions.StackFunc.TheVariants.{Sres, Sfree}
 use Rattle.sp_emit.specs.Chains.{stmts_call}
 use Rattle.sp_emit.specs.Instructions.{stack_op}
-use Rattle.sp_emit.specs.Functions.{place_stored, place_loaded, place_kept, place_brought, needs_none, frame_taken, frame_freed, function_code, places_of, functions_code, codes}
+use Rattle.sp_emit.specs.Functions.{place_stored, place_loaded, place_kept, place_brought, function_code, places_of, functions_code, codes, words_taken, words_freed, base_slot, frame_words}
 use Rattle.sp_emit.specs.Places.{tops, top_of}
+use Rattle.sp_emit.proofs.WordPlaces.{Outside, outside}
+use Rattle.sp_tree.specs.Formed.{slots_of}
 
 length_more : (xs : List PlainParts) (x : PlainParts) → length (xs ++ x ∷ []) ≡ suc (length xs)
 length_more [] x = refl
@@ -79,28 +81,47 @@ tops_at fs (suc n) k lt = by (λ less. tops_at fs n k less) (cases_lt k n)
 
 -- ---- the place to which a function returns is kept, or stays
 
-pub kept_is : (P : List Slots → Type 0) (f : PlainFunction) → (stmts_call f.body ≡ true → P (place_stored f)) → P [] → P (place_kept f)
-kept_is P f here there = by (stmts_call f.body) refl
+pub kept_is : (P : List Slots → Type 0) (homes : ℕ) (f : PlainFunction) → (stmts_call f.body ≡ true → P (place_stored homes f)) → P [] → P (place_kept homes f)
+kept_is P homes f here there = by (stmts_call f.body) refl
   where
-    by : (b : Bool) → stmts_call f.body ≡ b → P (if b then place_stored f else [])
+    by : (b : Bool) → stmts_call f.body ≡ b → P (if b then place_stored homes f else [])
     by true is = here is
     by false is = there
 
-pub brought_is : (P : List Slots → Type 0) (f : PlainFunction) → (stmts_call f.body ≡ true → P (place_loaded f)) → P [] → P (place_brought f)
-brought_is P f here there = by (stmts_call f.body) refl
+pub brought_is : (P : List Slots → Type 0) (homes : ℕ) (f : PlainFunction) → (stmts_call f.body ≡ true → P (place_loaded homes f)) → P [] → P (place_brought homes f)
+brought_is P homes f here there = by (stmts_call f.body) refl
   where
-    by : (b : Bool) → stmts_call f.body ≡ b → P (if b then place_loaded f else [])
+    by : (b : Bool) → stmts_call f.body ≡ b → P (if b then place_loaded homes f else [])
     by true is = here is
     by false is = there
 
--- ---- a frame is taken and freed, or neither
+-- ---- words of the stack are taken and freed, or there are none
 
-or_none : (P : List Slots → Type 0) (b : Bool) (bs : List Slots) → P [] → P bs → P (if b then [] else bs)
-or_none P true bs none some = none
-or_none P false bs none some = some
+pub taken_is : (P : List Slots → Type 0) (n : ℕ) → P [] → P (stack_op Sres n ∷ []) → P (words_taken n)
+taken_is P zero none some = none
+taken_is P (suc n) none some = some
 
-pub taken_is : (P : List Slots → Type 0) (homes : ℕ) (f : PlainFunction) → P [] → P (stack_op Sres f.frame ∷ []) → P (frame_taken homes f)
-taken_is P homes f none some = or_none P (needs_none homes f) (stack_op Sres f.frame ∷ []) none some
+pub freed_is : (P : List Slots → Type 0) (n : ℕ) → P [] → P (stack_op Sfree n ∷ []) → P (words_freed n)
+freed_is P zero none some = none
+freed_is P (suc n) none some = some
 
-pub freed_is : (P : List Slots → Type 0) (homes : ℕ) (f : PlainFunction) → P [] → P (stack_op Sfree f.frame ∷ []) → P (frame_freed homes f)
-freed_is P homes f none some = or_none P (needs_none homes f) (stack_op Sfree f.frame ∷ []) none some
+-- ---- how many there are
+
+-- no more than the tree's frame has
+pub words_few : (homes : ℕ) (f : PlainFunction) → 2 ≤ f.frame → frame_words homes f ≤ f.frame
+words_few homes f some = by (stmts_call f.body)
+  where
+    by : (b : Bool) → base_slot homes f + (if b then 2 else 0) ≤ f.frame
+    by true = omega (arith, some)
+    by false = omega (arith, some)
+
+-- two more where it calls others
+pub words_called : (homes : ℕ) (f : PlainFunction) → stmts_call f.body ≡ true → frame_words homes f ≡ base_slot homes f + 2
+words_called homes f has = ap (λ b. base_slot homes f + (if b then 2 else 0)) has
+
+-- the words of a function that stand in no register stand among them, and before the place to which it returns
+pub words_outside : (homes : ℕ) (f : PlainFunction) → slots_of f + 2 ≤ f.frame → Outside homes (slots_of f) (frame_words homes f)
+words_outside homes f room = outside homes (slots_of f) (f.frame - 2) (frame_words homes f) (omega (arith, room)) (omega arith)
+
+pub base_outside : (homes : ℕ) (f : PlainFunction) → slots_of f + 2 ≤ f.frame → Outside homes (slots_of f) (base_slot homes f)
+base_outside homes f room = outside homes (slots_of f) (f.frame - 2) (base_slot homes f) (omega (arith, room)) (omega arith)

@@ -11,13 +11,15 @@ use Rattle.sp_tree.specs.declared.operators.SpBinary.{SpBinary}
 use Rattle.sp_shape.specs.Bundles.{has_word, part_all, parts_all}
 use Rattle.sp_shape.specs.Parts.{straight, PlainParts, no_part, part, one, joined}
 use Rattle.sp_emit.proofs.TruthCode.{seeks_word, no_joins, condition_tests}
-use Rattle.sp_emit.specs.Functions.{codes}
+use Rattle.sp_emit.specs.Functions.{codes, frame_words}
 use Rattle.sp_emit.specs.Places.{flag_of, fetched_at, keep_word, seek_word, match_word, mask_test, told_at}
 use Rattle.sp_emit.proofs.Codes.{codes_at}
 use Rattle.std.proofs.lemmas.Bool.{cases_lt}
 use Rattle.sp_emit.specs.Counts.{HasStmtCounts, HasStmtsCounts, HasCounts}
-use Rattle.sp_emit.specs.Flags.{stmt_hinders, stmts_hinder, is_equal, is_word, tests_mask, behind_first, begun_body, flags_of}
-use Rattle.sp_emit.specs.Truths.{bits_of, is_test, test_of, tested_code, is_same, is_one, word_flag, flag_at, joins, is_truth, unless_stands, join, truth_code, before_flag, flag_set, flag_by, flag_code, is_frame_word, seeks, sought, operands_stood, both_of, is_condition, func_in, spares_second, pairs, kept_code, joining_code, paired_code, unjoined_code}
+use Rattle.sp_emit.specs.Flags.{stmt_hinders, stmts_hinder, behind_first, begun_body, flags_of}
+use Rattle.sp_tree.specs.MaskTests.{is_equal, is_word, tests_mask}
+use Rattle.sp_emit.specs.Truths.{bits_of, is_test, test_of, tested_code, is_same, word_flag, flag_at, joins, is_truth, unless_stands, join, truth_code, before_flag, flag_set, flag_by, flag_code, is_frame_word, seeks, sought, operands_stood, both_of, is_condition, func_in, spares_second, pairs, kept_code, joining_code, paired_code, unjoined_code}
+use Rattle.sp_tree.specs.MaskTests.{is_one}
 use Rattle.sp_emit.proofs.FlagsStand.{Stands, stands_of, all_stand}
 use Rattle.sp_emit.proofs.Uncalled.{neither}
 use Rattle.sp_emit.proofs.Held.{short_below}
@@ -325,7 +327,7 @@ first_words mask _ tests h = absurd (true≢false (sym tests))
 
 function_words : (homes : Homes) (f : PlainFunction) → Stands homes.flags f → Wordy (function_code homes f) → HasStmtsConstants f.body × HasStmtsCounts f.body
 function_words homes f stands h = by (is_some (flag_of homes.flags f.mask)) refl
-    (stmts_words homes f.frame (first_counter f) (begun_body homes.flags f) stands.body
+    (stmts_words homes (frame_words homes.first f) (first_counter f) (begun_body homes.flags f) stands.body
     (split (body_code homes f) (function_rest homes.first f) (and_parts (list_all has_word (function_begin homes f)) (parts_all has_word (joined (body_code homes f) (function_rest homes.first f))) h).1).0)
   where
     by : (b : Bool) → is_some (flag_of homes.flags f.mask) ≡ b → HasStmtsConstants (if b then behind_first f.body else f.body) × HasStmtsCounts (if b then behind_first f.body else f.body) → HasStmtsConstants f.body × HasStmtsCounts f.body

@@ -11,17 +11,17 @@ use Rattle.sp_shape.specs.Trail.{Step, all_done, parts_trail}
 use Rattle.sp_shape.specs.Iterating.{AsksAgain, AsksNoMore, AllIterations}
 use Rattle.sp_emit.specs.Holding.{held, so}
 use Rattle.sp_emit.specs.Instructions.{always, with_short, compare_short}
-use Rattle.sp_emit.specs.Places.{word_of, fetch_word, fetched_at, keep_word}
+use Rattle.sp_emit.specs.Places.{word_of, fetch_word, fetched_at, keep_word, stack_word}
 use Rattle.sp_emit.specs.Statements.{iterations_tail}
 use Rattle.sp_emit.specs.declared.registers.TheConstants.{SPARE, MORE}
 use Rattle.sp_emit.proofs.Asking.{same_ways, back_again, again, no_more, counts_down, tests_count}
 use Rattle.sp_emit.proofs.Calm.{calm_run}
 use Rattle.sp_emit.proofs.Low.{iterations_tail_low}
 use Rattle.sp_emit.proofs.Passing.{Passes, passes_done, enough_still}
-use Rattle.sp_emit.proofs.WordPlaces.{fetch_is, fetched_some, fetched_few, fetch_leaves, keep_is, keep_leaves, behind_word, word_still}
+use Rattle.sp_emit.proofs.WordPlaces.{fetch_is, fetched_some, fetched_few, fetch_leaves, keep_is, keep_leaves, behind_word, word_still, stack_before}
 
 -- the counter's word after a body that leaves it
-still : (homes counter n : ℕ) (m t : Run) → Passes (homes + counter) counter m t → word_of homes counter m ≡ n → word_of homes counter t ≡ n
+still : (homes counter n : ℕ) (m t : Run) → Passes (homes + counter) (stack_word homes counter) m t → word_of homes counter m ≡ n → word_of homes counter t ≡ n
 still homes counter n m t p is = behind_word homes counter m t p.keeps ∙ is
 
 -- up to the branch
@@ -36,8 +36,8 @@ counter_tested homes counter =
 tested_calm : (homes counter : ℕ) → are_calm (counter_tested homes counter) ≡ true
 tested_calm homes counter =
     let left = fetched_at homes counter in
-    let kept = keep_is (λ b. are_calm (b ∷ compare_short cmp.Neq MORE left 0 ∷ []) ≡ true) homes counter refl refl in
-    fetch_is (λ b. are_calm (b ∷ with_short always imm.Sub left left 1 ∷ keep_word homes counter ∷ compare_short cmp.Neq MORE left 0 ∷ []) ≡ true) homes counter kept kept
+    let kept = keep_is (λ b. are_calm (b ∷ compare_short cmp.Neq MORE left 0 ∷ []) ≡ true) homes counter refl (λ out. refl) in
+    fetch_is (λ b. are_calm (b ∷ with_short always imm.Sub left left 1 ∷ keep_word homes counter ∷ compare_short cmp.Neq MORE left 0 ∷ []) ≡ true) homes counter kept (λ out. kept)
 
 -- a counter that was so much and 1, before its branch
 record Counted (homes counter n : ℕ) (m t : Run) : Type 0 where
@@ -69,7 +69,7 @@ counter_counted from homes counter n m told some whole few is word =
 
 -- a tail, and what it leaves of the counter
 record TailCounted (homes counter n : ℕ) (m t : Run) : Type 0 where
-  keeps : Passes (homes + (counter + 1)) (counter + 1) m t
+  keeps : Passes (homes + (counter + 1)) (stack_word homes (counter + 1)) m t
   word : word_of homes counter t ≡ n
 
 tail_counted : (from : Sources) (homes counter n : ℕ) (m : Run) → from.stack ≡ true → 1 ≤ homes → IsWhole m → counter < 128 → word_of homes counter m ≡ suc n → suc n < 2 ^ 32
@@ -79,7 +79,7 @@ tail_counted from homes counter n m told some whole few is word =
     let t = run from (all_done (counter_tested homes counter)) m in
     let k = calm_run from SPARE homes (all_done (back_again MORE)) t (omega arith) c.whole refl in
     record {
-      keeps = passes_done from (homes + (counter + 1)) (counter + 1) (iterations_tail homes counter) m (omega (arith, few)) whole (iterations_tail_low (homes + (counter + 1)) (counter + 1) homes counter (omega arith) (omega arith) (omega arith));
+      keeps = passes_done from (homes + (counter + 1)) (stack_word homes (counter + 1)) (iterations_tail homes counter) m (omega (arith, few)) whole (iterations_tail_low (homes + (counter + 1)) (stack_word homes (counter + 1)) homes counter (omega arith) (omega arith) (stack_before homes counter (counter + 1) (omega arith)));
       word = word_still homes counter t (run from (all_done (back_again MORE)) t) k.high k.stack k.st ∙ c.word;
     }
 
@@ -95,7 +95,7 @@ asks_no_more from homes counter m told some whole few is =
 
 -- all iterations of a loop whose body leaves the counter
 pub counter_iterations : (from : Sources) (f : ℕ → List Step) (Body : Run → Type 0) (body : PlainParts) (homes counter low : ℕ) → from.stack ≡ true → 1 ≤ homes → counter < 128
-    → ((m : Run) → IsWhole m → low ≤ m.st → Body m) → ((m : Run) → IsWhole m → low ≤ m.st → Passes (homes + counter) counter m (run from (parts_trail f body) m))
+    → ((m : Run) → IsWhole m → low ≤ m.st → Body m) → ((m : Run) → IsWhole m → low ≤ m.st → Passes (homes + counter) (stack_word homes counter) m (run from (parts_trail f body) m))
     → (n : ℕ) → n < 2 ^ 32 → (m : Run) → IsWhole m → low ≤ m.st → word_of homes counter m ≡ n
     → AllIterations (run from) Body (parts_trail f body) (iterations_tail homes counter) n m
 counter_iterations from f Body body homes counter low told some few each passes zero word m whole enough is = tt

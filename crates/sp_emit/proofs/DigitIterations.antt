@@ -8,7 +8,7 @@ use Rattle.sp_shape.specs.Parts.{no_part}
 use Rattle.sp_shape.specs.Run.{Run, Sources, Back, branches, once, run, IsWhole}
 use Rattle.sp_shape.specs.Trail.{Step, all_done}
 use Rattle.sp_shape.specs.Iterating.{AsksAgain, AsksNoMore, AllIterations, PartsIteration}
-use Rattle.sp_emit.specs.Division.{operands, without_signs, highest_bit, digit, digit_iteration, digit_tail, around}
+use Rattle.sp_emit.specs.Division.{operands, without_signs, highest_bit, four_digits, digit_iteration, digit_tail, around}
 use Rattle.sp_emit.specs.Holding.{held, so}
 use Rattle.sp_emit.specs.Instructions.{always, set_short, copy, with_short, compare_short}
 use Rattle.sp_emit.specs.declared.registers.TheConstants.{DIVIDEND, DIVISOR, REMAINDER, DIGITS, MORE}
@@ -36,8 +36,8 @@ iteration_counted from n m whole is word =
     let h2 = once_whole from (compare_short cmp.Neq MORE DIGITS 0) m1 h1 in
     record {
       whole = run_whole from (all_done digit_iteration) m whole;
-      more = left_run from (predicate MORE) (digit ++ digit) m2 (omega arith) h2 refl ∙ tests_count from MORE DIGITS n m1 h1 (omega arith) (omega arith) c1;
-      left = left_run from (register DIGITS) (compare_short cmp.Neq MORE DIGITS 0 ∷ digit ++ digit) m1 (omega arith) h1 refl ∙ c1;
+      more = left_run from (predicate MORE) four_digits m2 (omega arith) h2 refl ∙ tests_count from MORE DIGITS n m1 h1 (omega arith) (omega arith) c1;
+      left = left_run from (register DIGITS) (compare_short cmp.Neq MORE DIGITS 0 ∷ four_digits) m1 (omega arith) h1 refl ∙ c1;
       ways = same_ways from digit_iteration m refl;
     }
 
@@ -68,21 +68,21 @@ digits_iteration from f Called back (suc (suc n)) word m whole is = (
   digits_iteration from f Called back (suc n) (omega (arith, word)) (run from (all_done digit_tail) m) (run_whole from (all_done digit_tail) m whole) (tail_left from (suc n) m whole is word),
 )
 
--- the operands stand in their registers, and 16 iterations are to be made
-operands_set : (from : Sources) (ra rb : ℕ) (m : Run) → IsWhole m → held DIGITS (run from (all_done (operands ra rb)) m) ≡ 16
+-- the operands stand in their registers, and 8 iterations are to be made
+operands_set : (from : Sources) (ra rb : ℕ) (m : Run) → IsWhole m → held DIGITS (run from (all_done (operands ra rb)) m) ≡ 8
 operands_set from ra rb m whole =
     let n = run from (all_done (copy DIVIDEND ra ∷ copy DIVISOR rb ∷ set_short always REMAINDER 0 ∷ [])) m in
     let h = run_whole from (all_done (copy DIVIDEND ra ∷ copy DIVISOR rb ∷ set_short always REMAINDER 0 ∷ [])) m whole in
-    ap (held DIGITS) (did_set_short from always DIGITS 16 n h h.fits.always) ∙ got DIGITS _ n h (omega arith) (omega arith)
+    ap (held DIGITS) (did_set_short from always DIGITS 8 n h h.fits.always) ∙ got DIGITS _ n h (omega arith) (omega arith)
 
-around_iterations : (from : Sources) (f : ℕ → List Step) (Called : ℕ → Run → Type 0) (back : Back) (before behind : List Slots) (m : Run) → IsWhole m → held DIGITS (run from (all_done before) m) ≡ 16
+around_iterations : (from : Sources) (f : ℕ → List Step) (Called : ℕ → Run → Type 0) (back : Back) (before behind : List Slots) (m : Run) → IsWhole m → held DIGITS (run from (all_done before) m) ≡ 8
     → PartsIteration (run from) f Called back (around before behind) m
 around_iterations from f Called back before behind m whole is =
     let n = run from (all_done before) m in
     let h = run_whole from (all_done before) m whole in
     let u = run from (all_done (before ++ highest_bit ∷ [])) m in
-    let left : held DIGITS u ≡ 16 = ap (held DIGITS) (run_before from before m) ∙ left_once from (register DIGITS) highest_bit n (omega arith) h refl ∙ is in
-    (tt, (digits_iteration from f Called back 16 (omega arith) u (run_whole from (all_done (before ++ highest_bit ∷ [])) m whole) left, (tt, tt)))
+    let left : held DIGITS u ≡ 8 = ap (held DIGITS) (run_before from before m) ∙ left_once from (register DIGITS) highest_bit n (omega arith) h refl ∙ is in
+    (tt, (digits_iteration from f Called back 8 (omega arith) u (run_whole from (all_done (before ++ highest_bit ∷ [])) m whole) left, (tt, tt)))
 
 pub division_iterations : (from : Sources) (f : ℕ → List Step) (Called : ℕ → Run → Type 0) (back : Back) (ra rb : ℕ) (behind : List Slots) (m : Run) → IsWhole m → PartsIteration (run from) f Called back (around (operands ra rb) behind) m
 division_iterations from f Called back ra rb behind m whole = around_iterations from f Called back (operands ra rb) behind m whole (operands_set from ra rb m whole)

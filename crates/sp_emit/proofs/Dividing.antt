@@ -196,29 +196,35 @@ still_iterations from negative dividend rest divisor bs m quiet spare t = record
   bit_is = left_run from (register SPARE) bs m (omega arith) t.divides.whole spare ∙ t.bit_is;
 }
 
--- an iteration is counted, and takes two digits
+-- an iteration is counted, and takes four digits
 iteration_done : (from : Sources) (negative : Bool) (d : ℕ × ℕ) (divisor : ℕ) (m : Run) → Iterations negative d.0 d.1 divisor m
-    → Iterations negative (step divisor (step divisor d)).0 (step divisor (step divisor d)).1 divisor (run from (all_done digit_tail) m)
+    → Iterations negative (iterated 4 divisor d).0 (iterated 4 divisor d).1 divisor (run from (all_done digit_tail) m)
 iteration_done from negative d divisor m t =
     let m1 = run from (all_done counted) m in
     let m2 = run from (all_done digit) m1 in
+    let m3 = run from (all_done digit) m2 in
+    let m4 = run from (all_done digit) m3 in
     let one = step divisor d in
     let two = step divisor one in
+    let three = step divisor two in
+    let four = step divisor three in
     let t1 = still_iterations from negative d.0 d.1 divisor counted m refl refl t in
     let t2 = digit_done from negative d.0 d.1 divisor m1 t1 in
     let t3 = digit_done from negative one.0 one.1 divisor m2 t2 in
-    still_iterations from negative two.0 two.1 divisor (back_again MORE) (run from (all_done digit) m2) refl refl t3
+    let t4 = digit_done from negative two.0 two.1 divisor m3 t3 in
+    let t5 = digit_done from negative three.0 three.1 divisor m4 t4 in
+    still_iterations from negative four.0 four.1 divisor (back_again MORE) (run from (all_done digit) m4) refl refl t5
 
-abbrev twice : ℕ → ℕ
-twice zero = zero
-twice (suc n) = suc (suc (twice n))
+abbrev fourfold : ℕ → ℕ
+fourfold zero = zero
+fourfold (suc n) = suc (suc (suc (suc (fourfold n))))
 
 iterations_done : (from : Sources) (negative : Bool) (n : ℕ) (d : ℕ × ℕ) (divisor : ℕ) (m : Run) → Iterations negative d.0 d.1 divisor m
-    → Iterations negative (iterated (twice n) divisor d).0 (iterated (twice n) divisor d).1 divisor (run from (copies n (all_done digit_tail)) m)
+    → Iterations negative (iterated (fourfold n) divisor d).0 (iterated (fourfold n) divisor d).1 divisor (run from (copies n (all_done digit_tail)) m)
 iterations_done from negative zero d divisor m t = t
 iterations_done from negative (suc n) d divisor m t =
     subst (Iterations negative _ _ divisor) (sym (run_append from (all_done digit_tail) (copies n (all_done digit_tail)) m))
-    (iterations_done from negative n (step divisor (step divisor d)) divisor (run from (all_done digit_tail) m) (iteration_done from negative d divisor m t))
+    (iterations_done from negative n (iterated 4 divisor d) divisor (run from (all_done digit_tail) m) (iteration_done from negative d divisor m t))
 
 -- the first bit stands apart after what is before
 pub run_before : (from : Sources) (before : List Slots) (m : Run) → run from (all_done (before ++ highest_bit ∷ [])) m ≡ once from highest_bit (run from (all_done before) m)
@@ -226,9 +232,9 @@ run_before from before m = ap (λ l. run from l m) (done_append before (highest_
 
 -- all digits then
 pub digits_done : (from : Sources) (negative : Bool) (dividend divisor : ℕ) (m : Run) → Divides negative dividend 0 divisor m
-    → Divides negative (iterated 32 divisor (dividend, 0)).0 (iterated 32 divisor (dividend, 0)).1 divisor (run from (copies 16 (all_done digit_tail)) (once from highest_bit m))
+    → Divides negative (iterated 32 divisor (dividend, 0)).0 (iterated 32 divisor (dividend, 0)).1 divisor (run from (copies 8 (all_done digit_tail)) (once from highest_bit m))
 digits_done from negative dividend divisor m d =
-    let t = run from (copies 16 (all_done digit_tail)) (once from highest_bit m) in
-    let same : twice 16 ≡ 32 = refl in
+    let t = run from (copies 8 (all_done digit_tail)) (once from highest_bit m) in
+    let same : fourfold 8 ≡ 32 = refl in
     subst (λ k. Divides negative (iterated k divisor (dividend, 0)).0 (iterated k divisor (dividend, 0)).1 divisor t) same
-    (iterations_done from negative 16 (dividend, 0) divisor (once from highest_bit m) (stands_apart from negative dividend 0 divisor m d)).divides
+    (iterations_done from negative 8 (dividend, 0) divisor (once from highest_bit m) (stands_apart from negative dividend 0 divisor m d)).divides

@@ -23,10 +23,10 @@ use Rattle.sp_emit.specs.Instructions.{always, from_special, store_slot}
 use Rattle.sp_emit.specs.Means.{HasWords}
 use Rattle.sp_emit.specs.Serving.{Carries}
 use Rattle.sp_emit.specs.declared.registers.TheConstants.{MASK, SPARE, OVERRUN}
-use Rattle.sp_emit.proofs.Beginning.{Outside, Taken}
+use Rattle.sp_emit.proofs.Beginning.{Taken}
 use Rattle.sp_emit.proofs.Frames.{put_same, put_other}
 use Rattle.sp_emit.proofs.FlagWords.{shown_by, shown_still, shown_set, shown_beside, flag_own, flag_beside}
-use Rattle.sp_emit.proofs.WordPlaces.{with_word, Sets, did_set_word, sets_word, beside_word}
+use Rattle.sp_emit.proofs.WordPlaces.{with_word, Sets, did_set_word, sets_word, beside_word, Outside}
 use Rattle.sp_emit.proofs.Leaving.{did_with_short, did_compare_short}
 use Rattle.sp_emit.proofs.Once.{with_written, did_write, whole_written, kept, got, kept_by_pred, so_by_register}
 use Rattle.sp_emit.proofs.Storing.{did_store_slot}
@@ -58,14 +58,14 @@ written_enters homes slots top words w m t r v other apart x = record {
     keeps q from lt = kept r v q t x.carries.whole (omega (arith, lt)) (apart q from lt)
 
 -- a word of the stack is stored after the first of the frame
-stored_enters : (homes : Homes) (slots top frame slot rs : ℕ) (words : ℕ → ℕ) (w : World) (m t : Run) → slots ≤ slot → slot < frame → frame ≤ 128 → top + frame ≤ m.st → Enters homes slots top words w m t
-    → Enters homes slots top words w m (once by_words (store_slot always slot rs) t)
-stored_enters homes slots top frame slot rs words w m t past named most below x =
-    subst (Enters homes slots top words w m) (sym (did_store_slot by_words always slot rs t x.carries.whole x.carries.whole.fits.always (omega (arith, named, most)))) (record {
+stored_enters : (homes : Homes) (slots top frame at rs : ℕ) (words : ℕ → ℕ) (w : World) (m t : Run) → Outside homes.first slots at → at < frame → frame ≤ 128 → top + frame ≤ m.st → Enters homes slots top words w m t
+    → Enters homes slots top words w m (once by_words (store_slot always at rs) t)
+stored_enters homes slots top frame at rs words w m t past named most below x =
+    subst (Enters homes slots top words w m) (sym (did_store_slot by_words always at rs t x.carries.whole x.carries.whole.fits.always (omega (arith, named, most)))) (record {
       carries = record { whole = record { fits = x.carries.whole.fits; pending = x.carries.whole.pending }; has = x.carries.has; words = x.carries.words; flag = x.carries.flag };
       st = x.st;
-      frame_is = λ u lt. shown_by homes u t _ (beside_word homes.first slot u (held rs t) t (λ same. absurd (omega (arith, same, past, lt)))) (λ q from lt. refl) ∙ x.frame_is u lt;
-      behind = λ a above. put_other (t.st + slot) a (held rs t) t.stack (λ same. absurd (omega (arith, same, x.st, above, named, below))) ∙ x.behind a above;
+      frame_is = λ u lt. shown_by homes u t _ (beside_word homes.first at u (held rs t) t (λ out same. absurd (omega (arith, same, past u lt out)))) (λ q from lt. refl) ∙ x.frame_is u lt;
+      behind = λ a above. put_other (t.st + at) a (held rs t) t.stack (λ same. absurd (omega (arith, same, x.st, above, named, below))) ∙ x.behind a above;
       high = x.high;
     })
 
@@ -110,26 +110,26 @@ handed_is mask = by (mask == 1) refl
     by false is = ne_eqb (bit_xor mask 1) 0 (λ none. eqb-false mask 1 is (sym (mask_back mask) ∙ ap (λ n. bit_xor n 1) none))
 
 -- a special register is kept in a word after the first
-special_enters : (homes : Homes) (slots top frame slot : ℕ) (s : Special) (words : ℕ → ℕ) (w : World) (m t : Run) → slots ≤ slot → slot < frame → frame ≤ 128 → top + frame ≤ m.st → Enters homes slots top words w m t
-    → Enters homes slots top words w m (once by_words (store_slot always slot SPARE) (once by_words (from_special SPARE s) t))
-special_enters homes slots top frame slot s words w m t past named most below x =
+special_enters : (homes : Homes) (slots top frame at : ℕ) (s : Special) (words : ℕ → ℕ) (w : World) (m t : Run) → Outside homes.first slots at → at < frame → frame ≤ 128 → top + frame ≤ m.st → Enters homes slots top words w m t
+    → Enters homes slots top words w m (once by_words (store_slot always at SPARE) (once by_words (from_special SPARE s) t))
+special_enters homes slots top frame at s words w m t past named most below x =
     let v = special_in t.st t.ss t.regs s in
     let n = with_written (write.Register SPARE v) t in
     let y = written_enters homes slots top words w m t SPARE v (λ same. absurd (omega (arith, same))) (λ q from lt same. omega (arith, same, lt)) x in
-    subst (λ n. Enters homes slots top words w m (once by_words (store_slot always slot SPARE) n)) (sym (did_write by_words always (FromSpecial SPARE s) t x.carries.whole x.carries.whole.fits.always refl refl))
-    (stored_enters homes slots top frame slot SPARE words w m n past named most below y)
+    subst (λ n. Enters homes slots top words w m (once by_words (store_slot always at SPARE) n)) (sym (did_write by_words always (FromSpecial SPARE s) t x.carries.whole x.carries.whole.fits.always refl refl))
+    (stored_enters homes slots top frame at SPARE words w m n past named most below y)
 
 -- the place to which the function returns is kept, where it calls others
 abbrev place_of : ℕ → Bool → List Slots
-place_of frame calls =
-    if calls then from_special SPARE special.Srb ∷ store_slot always (frame - 2) SPARE ∷ from_special SPARE special.Sro ∷ store_slot always (frame - 1) SPARE ∷ [] else []
+place_of base calls =
+    if calls then from_special SPARE special.Srb ∷ store_slot always base SPARE ∷ from_special SPARE special.Sro ∷ store_slot always (base + 1) SPARE ∷ [] else []
 
-place_enters : (homes : Homes) (slots top frame : ℕ) (calls : Bool) (words : ℕ → ℕ) (w : World) (m t : Run) → slots + 2 ≤ frame → frame ≤ 128 → (calls ≡ true → top + frame ≤ m.st) → Enters homes slots top words w m t
-    → Enters homes slots top words w m (run by_words (all_done (place_of frame calls)) t)
-place_enters homes slots top frame true words w m t room most below x =
-    let a = special_enters homes slots top frame (frame - 2) special.Srb words w m t (omega (arith, room)) (omega (arith, room)) most (below refl) x in
-    special_enters homes slots top frame (frame - 1) special.Sro words w m _ (omega (arith, room)) (omega (arith, room)) most (below refl) a
-place_enters homes slots top frame false words w m t room most below x = x
+place_enters : (homes : Homes) (slots top frame base : ℕ) (calls : Bool) (words : ℕ → ℕ) (w : World) (m t : Run) → Outside homes.first slots base → (calls ≡ true → base + 2 ≤ frame) → frame ≤ 128 → top + frame ≤ m.st → Enters homes slots top words w m t
+    → Enters homes slots top words w m (run by_words (all_done (place_of base calls)) t)
+place_enters homes slots top frame base true words w m t past room most below x =
+    let a = special_enters homes slots top frame base special.Srb words w m t past (omega (arith, room refl)) most below x in
+    special_enters homes slots top frame (base + 1) special.Sro words w m _ (λ u lt out. omega (arith, past u lt out)) (omega (arith, room refl)) most below a
+place_enters homes slots top frame base false words w m t past room most below x = x
 
 -- the words with which the body begins: a mask that stands in a predicate is tested before
 abbrev pub begun_words : Option ℕ → ℕ → ℕ → (ℕ → ℕ) → ℕ → ℕ
@@ -137,9 +137,9 @@ begun_words None slot mask args = put slot mask args
 begun_words (Some p) slot mask args = put slot (flag (mask == 1)) (put slot mask args)
 
 -- the mask comes to its word before
-pub enters : (homes : Homes) (slots taken frame mask_slot mask : ℕ) (calls : Bool) (args : ℕ → ℕ) (w : World) (m t : Run) → MASK < homes.first → slots + 2 ≤ frame → frame ≤ 128 → taken ≤ m.st → (calls ≡ true → frame ≤ taken) → Outside homes.first slots taken → mask_slot < slots → held MASK m ≡ bit_xor mask 1 → mask < 2 ^ 32 → Carries w m → Taken homes taken slots args m t
-    → Enters homes slots (m.st - taken) (begun_words (flag_of homes.flags mask_slot) mask_slot mask args) w m (run by_words (all_done (mask_in (flag_of homes.flags mask_slot) homes.first mask_slot ++ place_of frame calls)) t)
-enters homes slots taken frame mask_slot mask calls args w m t before room most enough within out named masked word carries x = by (flag_of homes.flags mask_slot) refl
+pub enters : (homes : Homes) (slots taken base mask_slot mask : ℕ) (calls : Bool) (args : ℕ → ℕ) (w : World) (m t : Run) → MASK < homes.first → slots ≤ 128 → taken ≤ 128 → taken ≤ m.st → (calls ≡ true → base + 2 ≤ taken) → Outside homes.first slots taken → Outside homes.first slots base → mask_slot < slots → held MASK m ≡ bit_xor mask 1 → mask < 2 ^ 32 → Carries w m → Taken homes taken slots args m t
+    → Enters homes slots (m.st - taken) (begun_words (flag_of homes.flags mask_slot) mask_slot mask args) w m (run by_words (all_done (mask_in (flag_of homes.flags mask_slot) homes.first mask_slot ++ place_of base calls)) t)
+enters homes slots taken base mask_slot mask calls args w m t before few most enough room out past named masked word carries x = by (flag_of homes.flags mask_slot) refl
   where
     top : ℕ
     top = m.st - taken
@@ -159,18 +159,18 @@ enters homes slots taken frame mask_slot mask calls args w m t before room most 
     handed : held MASK t ≡ bit_xor mask 1
     handed = x.low MASK (omega arith) before (omega arith) ∙ masked
 
-    by : (o : Option ℕ) → flag_of homes.flags mask_slot ≡ o → Enters homes slots top (begun_words o mask_slot mask args) w m (run by_words (all_done (mask_in o homes.first mask_slot ++ place_of frame calls)) t)
+    by : (o : Option ℕ) → flag_of homes.flags mask_slot ≡ o → Enters homes slots top (begun_words o mask_slot mask args) w m (run by_words (all_done (mask_in o homes.first mask_slot ++ place_of base calls)) t)
     by None plain =
         let v = bit_xor (held MASK t) 1 in
         let n = with_written (write.Register MASK v) t in
         let y = written_enters homes slots top args w m t MASK v (λ same. absurd (omega (arith, same))) (λ q from lt same. omega (arith, same, from, before)) first in
         let is : held MASK n ≡ mask = got MASK v t x.whole (omega arith) (omega arith) ∙ ap (λ b. bit_xor b 1) handed ∙ mask_back mask in
-        let z = set_enters homes slots top taken mask_slot MASK mask args w m n plain (omega (arith, before)) named out (omega (arith, room, most)) below is word y in
-        subst (λ n. Enters homes slots top (put mask_slot mask args) w m (run by_words (all_done (set_word homes.first always mask_slot MASK ∷ place_of frame calls)) n))
-        (sym (did_with_short by_words imm.Xor MASK MASK 1 t x.whole)) (place_enters homes slots top frame calls (put mask_slot mask args) w m _ room most (λ has. omega (arith, below, within has)) z)
+        let z = set_enters homes slots top taken mask_slot MASK mask args w m n plain (omega (arith, before)) named out few below is word y in
+        subst (λ n. Enters homes slots top (put mask_slot mask args) w m (run by_words (all_done (set_word homes.first always mask_slot MASK ∷ place_of base calls)) n))
+        (sym (did_with_short by_words imm.Xor MASK MASK 1 t x.whole)) (place_enters homes slots top taken base calls (put mask_slot mask args) w m _ past room most below z)
     by (Some p) is =
         let words = put mask_slot (flag (mask == 1)) (put mask_slot mask args) in
         let y = flag_enters homes slots top mask_slot p (mask == 1) args (put mask_slot mask args) w m t is (λ u other. sym (put_other mask_slot u mask args other)) first in
-        subst (λ n. Enters homes slots top words w m (run by_words (all_done (place_of frame calls)) n))
+        subst (λ n. Enters homes slots top words w m (run by_words (all_done (place_of base calls)) n))
         (sym (did_compare_short by_words cmp.Eq p MASK 0 t x.whole ∙ ap (λ v. with_written (write.Predicate p (v == 0)) t) handed ∙ ap (λ b. with_written (write.Predicate p b) t) (handed_is mask)))
-        (place_enters homes slots top frame calls words w m _ room most (λ has. omega (arith, below, within has)) y)
+        (place_enters homes slots top taken base calls words w m _ past room most below y)

@@ -24,7 +24,7 @@ expr_fits slots rd e most low h =
     record { slots = slots; most = most; names = b.0; registers = omega (arith, low, leb-true (need e) 12 b.1) }
 
 few_slots : {frame counter : ℕ} {t : PlainStmt} → (f : StmtFits frame counter t) → f.slots ≤ 126
-few_slots f = omega (arith, f.counters, f.within, f.most)
+few_slots f = omega (arith, f.counters, f.counted)
 
 word_fits : {frame counter : ℕ} {t : PlainStmt} (f : StmtFits frame counter t) (word : ℕ) → nat_lt word f.slots ≡ true → word < 128
 word_fits f word h = omega (arith, few_slots f, ltb-true word f.slots h)
@@ -146,12 +146,12 @@ iterations_body count body f = record {
   some = f.some;
   formed = (and_parts (nat_lt 0 count) (stmts_formed f.functions f.number f.slots body) f.formed).1;
   counters = omega (arith, f.counters, f.some);
-  within = omega (arith, f.within);
+  counted = omega (arith, f.counted);
   most = f.most;
 }
 
 pub counter_fits : {frame counter : ℕ} (count : ℕ) (body : PlainStmts) → StmtFits frame counter (iterations count body) → counter < 128
-counter_fits count body f = omega (arith, f.within, f.most)
+counter_fits count body f = omega (arith, f.counted)
 
 pub counter_some : {frame counter : ℕ} (count : ℕ) (body : PlainStmts) → StmtFits frame counter (iterations count body) → 1 ≤ counter
 counter_some count body f = omega (arith, f.counters, f.some)
@@ -173,7 +173,7 @@ item_fits body i t within is f = record {
   some = f.some;
   formed = item_part f.functions f.number f.slots body i t within is f.formed;
   counters = omega (arith, f.counters, level_within body i t within is);
-  within = f.within;
+  counted = f.counted;
   most = f.most;
 }
 
@@ -234,8 +234,8 @@ mask_fits h = omega (arith, (sizes h).mask, (sizes h).frame)
 pub result_fits : {f : PlainFunction} → FunctionFits f → f.result < 128
 result_fits h = omega (arith, (sizes h).result, (sizes h).frame)
 
-pub body_fits : {f : PlainFunction} (flags : Flags) → FunctionFits f → StmtsFit f.frame (first_counter f) (begun_body flags f)
-body_fits {f} flags h = record {
+pub body_fits : {f : PlainFunction} (flags : Flags) {frame : ℕ} → frame ≤ 128 → FunctionFits f → StmtsFit frame (first_counter f) (begun_body flags f)
+body_fits {f} flags few h = record {
   functions = h.functions;
   number = h.number;
   earlier = h.earlier;
@@ -243,8 +243,8 @@ body_fits {f} flags h = record {
   some = omega (arith, (sizes h).mask);
   formed = begun_formed flags h.functions h.number (slots_of f) f formed;
   counters = omega (arith, (sizes h).mask, begun_levels flags f);
-  within = omega (arith, (sizes h).mask);
-  most = (sizes h).frame;
+  counted = omega (arith, (sizes h).mask, (sizes h).frame);
+  most = few;
 }
   where
     formed : stmts_formed h.functions h.number (slots_of f) f.body ≡ true

@@ -30,7 +30,8 @@ use Rattle.sp_emit.specs.Holding.{held, so, Keeps}
 use Rattle.sp_emit.specs.Instructions.{compare, compare_short, combine}
 use Rattle.sp_emit.specs.Means.{Shows, IsReady}
 use Rattle.sp_emit.specs.Places.{flag_of, word_of, fetch_word, fetched_at, told_in, told_at}
-use Rattle.sp_emit.specs.Truths.{spares_second, pairs, kept_code, joining_code, paired_code, unjoined_code, cmp_of, both_of, bits_of, is_masking, is_condition, is_test, by_two, by_number, test_of, tested_code, is_same, is_one, word_flag, flag_at, is_frame_word, seeks, joins, is_truth, func_in, unless_stands, bit_sought, sought, sought_in, operands_stood, join, truth_code, flag_by, flag_code}
+use Rattle.sp_emit.specs.Truths.{spares_second, pairs, kept_code, joining_code, paired_code, unjoined_code, cmp_of, both_of, bits_of, is_masking, is_condition, is_test, by_two, by_number, test_of, tested_code, is_same, word_flag, flag_at, is_frame_word, seeks, joins, is_truth, func_in, unless_stands, bit_sought, sought, sought_in, operands_stood, join, truth_code, flag_by, flag_code}
+use Rattle.sp_tree.specs.MaskTests.{is_one}
 use Rattle.sp_emit.specs.declared.registers.TheConstants.{FIRST, TEST, SECOND}
 use Rattle.sp_emit.specs.declared.stands.Homes.{Homes}
 use Rattle.sp_emit.proofs.Calm.{is_calm, is_calm_trail, parts_calm, calm_run, parts_trail_calm, keeps_all, keeps_both}
@@ -230,7 +231,7 @@ calm_tests homes bs tests = lone_calm FIRST homes.first bs (all_weaker is_test_b
 
 bit_calm : (homes : Homes) (slot : ℕ) → is_calm_trail FIRST homes.first (all_done (bit_sought homes.first slot)) ≡ true
 bit_calm homes slot =
-    fetch_is (λ b. is_calm_trail FIRST homes.first (all_done (b ∷ compare_short cmp.Btest SECOND (fetched_at homes.first slot) 0 ∷ [])) ≡ true) homes.first slot refl refl
+    fetch_is (λ b. is_calm_trail FIRST homes.first (all_done (b ∷ compare_short cmp.Btest SECOND (fetched_at homes.first slot) 0 ∷ [])) ≡ true) homes.first slot refl (λ out. refl)
 
 calm_parts : (homes : Homes) → TruthParts (λ ps. parts_calm FIRST homes.first ps ≡ true) homes (Fitting homes)
 calm_parts homes = record {
@@ -240,7 +241,7 @@ calm_parts homes = record {
   second = second_fitting homes;
   operands = λ e h. operands_calm homes FIRST e FIRST (omega arith) h.0 h.1;
   tests = calm_tests homes;
-  bits = λ slot h. lone_calm FIRST homes.first (bit_sought homes.first slot) (fetch_is (λ b. list_all (is_calm FIRST homes.first) (b ∷ compare_short cmp.Btest SECOND (fetched_at homes.first slot) 0 ∷ []) ≡ true) homes.first slot refl refl);
+  bits = λ slot h. lone_calm FIRST homes.first (bit_sought homes.first slot) (fetch_is (λ b. list_all (is_calm FIRST homes.first) (b ∷ compare_short cmp.Btest SECOND (fetched_at homes.first slot) 0 ∷ []) ≡ true) homes.first slot refl (λ out. refl));
 }
 
 tests_calm : (homes : Homes) (e : PlainSp) → Fitting homes e → parts_calm FIRST homes.first (tested_code homes e) ≡ true
@@ -271,10 +272,6 @@ masked_value binary.BitAnd w y is = by (has_bit w 0) y (lowest w)
     by x true low = ap flag (and-true x) ∙ low
     by x false low = ap flag (and-false x) ∙ (let e : 0 ≡ w % 1 = omega arith in e) ∙ sym (and_mask w 0)
 masked_value op w y is = absurd (true≢false (sym is))
-
-some_of : (o : Option ℕ) → is_some o ≡ true → o ≡ Some (told_in o)
-some_of None is = absurd (true≢false (sym is))
-some_of (Some p) is = refl
 
 -- the second operand, in the predicate where it stands or in that of the test
 second_told : {homes : Homes} {slots : ℕ} {s : State} {m : Run} (f : ℕ → List Step) (b : PlainSp) → IsReady homes slots b FIRST s m

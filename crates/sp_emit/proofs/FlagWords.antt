@@ -13,7 +13,7 @@ use Rattle.sp_shape.specs.Run.{Run, IsWhole}
 use Rattle.sp_emit.specs.Holding.{held, so, KeepsFrom, KeepsFlags}
 use Rattle.sp_emit.specs.Instructions.{always, under, idle, set_short, compare_short, combine}
 use Rattle.sp_emit.specs.Flags.{is_past}
-use Rattle.sp_emit.specs.Places.{is_that, flag_in, flag_words, flag_of, in_register, word_of, held_in, shown_word, fetch_word, fetched_at, seek_op, seek_word, match_op, match_word, mask_test, told_in, told_at, cleared_in, word_cleared, words_cleared}
+use Rattle.sp_emit.specs.Places.{is_that, flag_in, flag_words, flag_of, in_register, word_of, held_in, shown_word, fetch_word, fetched_at, seek_op, seek_word, match_op, match_word, mask_test, told_in, told_at, cleared_in, word_cleared, words_cleared, stack_word}
 use Rattle.sp_emit.specs.declared.registers.TheConstants.{OVERRUN, TEST, SECOND}
 use Rattle.sp_emit.specs.declared.stands.Homes.{Homes}
 use Rattle.sp_emit.proofs.Once.{with_written, kept_by_pred, so_got, so_kept}
@@ -195,7 +195,7 @@ word_by_pred homes slot p b m whole = by (in_register homes.first slot) refl
     t : Run
     t = with_written (write.Predicate p b) m
 
-    by : (c : Bool) → in_register homes.first slot ≡ c → (if c then held (homes.first + slot) t else t.stack (t.st + slot)) ≡ (if c then held (homes.first + slot) m else m.stack (m.st + slot))
+    by : (c : Bool) → in_register homes.first slot ≡ c → (if c then held (homes.first + slot) t else t.stack (t.st + stack_word homes.first slot)) ≡ (if c then held (homes.first + slot) m else m.stack (m.st + stack_word homes.first slot))
     by true is = let lt = ltb-true (homes.first + slot) OVERRUN is in kept_by_pred p b (homes.first + slot) m whole (omega (arith, lt))
     by false is = refl
 

@@ -10,9 +10,11 @@ use Rattle.sp_tree.specs.Statements.{PlainSpTarget, to_slot, to_cell, to_array, 
 use Rattle.sp_tree.specs.Straight.{State, Serves, worth, with_slot, stmts_done}
 use Rattle.sp_tree.specs.declared.operators.SpBinary.{SpBinary}
 use Rattle.sp_tree.specs.declared.operators.SpBinary.TheVariants as binary
-use Rattle.sp_emit.specs.Flags.{first_flags, first_choice, is_past, most_flags, target_hinders, stmt_hinders, stmts_hinder, is_equal, is_word, tests_mask, behind_first, begun_body, function_stands, flags_of}
+use Rattle.sp_emit.specs.Flags.{first_flags, first_choice, is_past, most_flags, target_hinders, stmt_hinders, stmts_hinder, behind_first, begun_body, function_stands, flags_of}
+use Rattle.sp_tree.specs.MaskTests.{is_equal, is_word, tests_mask}
 use Rattle.sp_emit.specs.Places.{flag_words, flag_of}
-use Rattle.sp_emit.specs.Truths.{is_one, is_truth}
+use Rattle.sp_emit.specs.Truths.{is_truth}
+use Rattle.sp_tree.specs.MaskTests.{is_one}
 use Rattle.sp_emit.proofs.FlagWords.{is_none_of, none_stands, before_flags}
 use Rattle.sp_emit.specs.declared.stands.Flags.{Flags}
 

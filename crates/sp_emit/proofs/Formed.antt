@@ -26,7 +26,7 @@ use Rattle.sp_emit.specs.Division.{unsigned_quotient_to}
 use Rattle.sp_emit.specs.Divisors.{factor_rest_to}
 use Rattle.sp_emit.specs.Expressions.{unary_code, binary_code, held_code, number_of, word_code, value_code, operands_code, expr_to, expr_code, value_at, is_immediate, address_of}
 use Rattle.sp_emit.proofs.Codes.{kept_is, brought_is, taken_is, freed_is}
-use Rattle.sp_emit.specs.Functions.{argument_kept, first_counter, arguments_kept, mask_in, mask_kept, place_kept, state_kept, place_brought, frame_taken, result_given, function_begin, function_end, function_rest, body_code, function_code, places_of, emitted}
+use Rattle.sp_emit.specs.Functions.{argument_kept, first_counter, arguments_kept, mask_in, mask_kept, place_kept, state_kept, place_brought, frame_taken, result_given, function_begin, function_end, function_rest, body_code, function_code, places_of, emitted, frame_words}
 use Rattle.sp_shape.specs.Formed.{is_flow}
 use Rattle.sp_emit.specs.Functions.{codes}
 use Rattle.sp_emit.specs.Instructions.{always, where_so, under, set_short, number_op, idle, with_short, compare_short, branch}
@@ -93,20 +93,20 @@ unfolding factor_rest_to
 held_calm op rd ra n = held_is (λ bs. are_calm bs ≡ true) op rd ra n (grind arith) (grind arith)
 
 read_flow : (homes rd slot : ℕ) → is_flow (read_op homes rd slot) ≡ false
-read_flow homes rd slot = read_op_is (λ op. is_flow op ≡ false) homes rd slot refl refl
+read_flow homes rd slot = read_op_is (λ op. is_flow op ≡ false) homes rd slot refl (λ out. refl)
 
 fetch_flow : (homes slot : ℕ) → is_flow (fetch_op homes slot) ≡ false
-fetch_flow homes slot = fetch_op_is (λ op. is_flow op ≡ false) homes slot refl refl
+fetch_flow homes slot = fetch_op_is (λ op. is_flow op ≡ false) homes slot refl (λ out. refl)
 
 keep_flow : (homes slot : ℕ) → is_flow (keep_op homes slot) ≡ false
-keep_flow homes slot = keep_is (λ b. is_flow b.first.op ≡ false) homes slot refl refl
+keep_flow homes slot = keep_is (λ b. is_flow b.first.op ≡ false) homes slot refl (λ out. refl)
 
 tail_formed : (homes counter : ℕ) → is_iteration (iterations_tail homes counter) ≡ true
 tail_formed homes counter =
     let left = fetched_at homes counter in
     let last = compare_short cmp.Neq MORE left 0 ∷ branch MORE ∷ idle ∷ idle ∷ [] in
-    let kept = keep_is (λ b. is_iteration (b ∷ last) ≡ true) homes counter refl refl in
-    fetch_is (λ b. is_iteration (b ∷ with_short always imm.Sub left left 1 ∷ keep_word homes counter ∷ last) ≡ true) homes counter kept kept
+    let kept = keep_is (λ b. is_iteration (b ∷ last) ≡ true) homes counter refl (λ out. refl) in
+    fetch_is (λ b. is_iteration (b ∷ with_short always imm.Sub left left 1 ∷ keep_word homes counter ∷ last) ≡ true) homes counter kept (λ out. kept)
 
 seek_flow : (homes : Homes) (mask : ℕ) → is_flow (seek_word homes mask).first.op ≡ false
 seek_flow homes mask = seek_is (λ b. is_flow b.first.op ≡ false) homes mask refl (fetch_flow homes.first mask)
@@ -124,7 +124,7 @@ alu_flow : (op : Op) → is_alu op ≡ true → is_flow op ≡ false
 alu_flow op alu = grind (arith, alu)
 
 set_flow : (homes slot rs : ℕ) → is_flow (set_op homes slot rs) ≡ false
-set_flow homes slot rs = set_op_is (λ op. is_flow op ≡ false) homes slot rs refl refl
+set_flow homes slot rs = set_op_is (λ op. is_flow op ≡ false) homes slot rs refl (λ out. refl)
 
 value_formed : (homes : Homes) (n : ℕ) (e : PlainSp) (rd to : ℕ) → parts_formed n (value_code homes e rd to) ≡ true
 value_formed homes n (constant v) rd to = rw (number_flow to v) refl
@@ -267,10 +267,10 @@ mask_calm homes f = by (flag_of homes.flags f.mask)
 
 begin_calm : (homes : Homes) (f : PlainFunction) → are_calm (function_begin homes f) ≡ true
 begin_calm homes f =
-    calm_append (frame_taken homes.first f) (words_cleared homes (tree.slots_of f) ++ (arguments_kept homes.first f.parameters ++ state_kept homes f)) (taken_is (λ bs. are_calm bs ≡ true) homes.first f refl refl)
+    calm_append (frame_taken homes.first f) (words_cleared homes (tree.slots_of f) ++ (arguments_kept homes.first f.parameters ++ state_kept homes f)) (taken_is (λ bs. are_calm bs ≡ true) (frame_words homes.first f) refl refl)
     (calm_append (words_cleared homes (tree.slots_of f)) (arguments_kept homes.first f.parameters ++ state_kept homes f) (cleared_calm homes (tree.slots_of f))
     (calm_append (arguments_kept homes.first f.parameters) (state_kept homes f) (kept_calm homes.first f.parameters)
-    (calm_append (mask_kept homes f) (place_kept f) (mask_calm homes f) (kept_is (λ bs. are_calm bs ≡ true) f (λ has. refl) refl))))
+    (calm_append (mask_kept homes f) (place_kept homes.first f) (mask_calm homes f) (kept_is (λ bs. are_calm bs ≡ true) homes.first f (λ has. refl) refl))))
 
 -- a function ends as what stands after parts does
 ends : (n : ℕ) (a b : PlainParts) → parts_formed n a ≡ true → function_formed n b ≡ true → function_formed n (joined a b) ≡ true
@@ -291,9 +291,9 @@ function_is_formed homes fs n f h =
     let b = tree_body fs n f h in
     and_from (are_calm (function_begin homes f)) (function_formed n (joined (body_code homes f) (function_rest homes.first f))) (begin_calm homes f)
     (ends n (body_code homes f) (function_rest homes.first f)
-    (stmts_formed homes fs n (tree.slots_of f) f.frame (first_counter f) (begun_body homes.flags f) (begun_formed homes.flags fs n (tree.slots_of f) f b))
-    (and_from (are_calm (function_end homes.first f)) true (calm_append (place_brought f) (result_given homes.first f) (brought_is (λ bs. are_calm bs ≡ true) f (λ has. refl) refl)
-    (rw (read_flow homes.first RESULT f.result) (freed_is (λ bs. are_calm bs ≡ true) homes.first f refl refl))) refl))
+    (stmts_formed homes fs n (tree.slots_of f) (frame_words homes.first f) (first_counter f) (begun_body homes.flags f) (begun_formed homes.flags fs n (tree.slots_of f) f b))
+    (and_from (are_calm (function_end homes.first f)) true (calm_append (place_brought homes.first f) (result_given homes.first f) (brought_is (λ bs. are_calm bs ≡ true) homes.first f (λ has. refl) refl)
+    (rw (read_flow homes.first RESULT f.result) (freed_is (λ bs. are_calm bs ≡ true) (frame_words homes.first f) refl refl))) refl))
   where
     tree_body : (fs : List PlainFunction) (n : ℕ) (f : PlainFunction) → tree.function_formed fs n f ≡ true → tree.stmts_formed fs n (tree.slots_of f) f.body ≡ true
     tree_body fs n f h =

@@ -23,11 +23,11 @@ use Rattle.sp_shape.proofs.Lists.{all_append, done_append}
 use Rattle.sp_emit.specs.Functions.{codes}
 use Rattle.sp_emit.specs.Flags.{begun_body}
 use Rattle.sp_emit.specs.Places.{flag_of, set_word, words_cleared, tops}
-use Rattle.sp_emit.proofs.Codes.{codes_at, codes_length, taken_is, freed_is}
+use Rattle.sp_emit.proofs.Codes.{codes_at, codes_length, taken_is, freed_is, words_few}
 use Rattle.sp_emit.proofs.FlagWords.{cleared_all}
 use Rattle.sp_emit.proofs.WordPlaces.{read_is, set_op_is}
 use Rattle.sp_emit.specs.Counts.{HasStmtsCounts, HasCounts}
-use Rattle.sp_emit.specs.Functions.{arguments_kept, mask_in, mask_kept, state_kept, place_stored, place_loaded, result_given, needs_none, frame_taken, frame_freed, base_slot, offset_slot, first_counter, function_begin, function_end, function_rest, body_code, function_code, places_of, return_tail, emitted}
+use Rattle.sp_emit.specs.Functions.{arguments_kept, mask_in, mask_kept, state_kept, place_stored, place_loaded, result_given, frame_words, frame_taken, frame_freed, base_slot, offset_slot, first_counter, function_begin, function_end, function_rest, body_code, function_code, places_of, return_tail, emitted}
 use Rattle.sp_emit.specs.Holding.{held}
 use Rattle.sp_emit.specs.Instructions.{always, under, idle, return, copy, from_special, to_special, load_slot, store_slot}
 use Rattle.sp_emit.specs.declared.registers.TheConstants.{RESULT, MASK, FIRST, SPARE, OVERRUN}
@@ -42,11 +42,9 @@ use Rattle.sp_emit.proofs.Uncalled.{stmts_uncalled}
 use Rattle.sp_emit.proofs.Leaving.{slot_leaves}
 use Rattle.sp_emit.proofs.LoopIterations.{Callees, iterations_joined, stmts_iteration}
 use Rattle.sp_emit.proofs.Once.{did_write, got}
-use Rattle.sp_emit.proofs.Passed.{taken, cleared, entered, worked, enters_frame, works_in_frame, all_pass, InWindow, window_end, own_window}
-use Rattle.sp_emit.proofs.Bare.{calls_need}
+use Rattle.sp_emit.proofs.Passed.{taken, cleared, entered, worked, enters_frame, works_in_frame, all_pass, InWindow, own_window}
 use Rattle.sp_emit.proofs.BegunBody.{begun_formed, begun_levels, begun_least, begun_uncalled, begun_counts}
-use Rattle.sp_emit.proofs.Beginning.{words_taken, taken_few}
-use Rattle.sp_emit.proofs.Passing.{AllPass, Passes, passes_done}
+use Rattle.sp_emit.proofs.Passing.{AllPass, passes_done}
 use Rattle.sp_emit.proofs.Returning.{did_return}
 use Rattle.sp_emit.proofs.Serves.{begin_run, Parts, code_of}
 use Rattle.sp_emit.proofs.Storing.{did_store_slot}
@@ -72,7 +70,7 @@ special_stored from s slot m whole few =
     ∙ ap (λ x. put (m.st + slot) x m.stack) (got SPARE v m whole (omega arith) (omega arith))
 
 set_keeps : (homes slot rs : ℕ) → keeps_place (set_word homes always slot rs) ≡ true
-set_keeps homes slot rs = set_op_is (λ op. keeps_place (under always op) ≡ true) homes slot rs refl refl
+set_keeps homes slot rs = set_op_is (λ op. keeps_place (under always op) ≡ true) homes slot rs refl (λ out. refl)
 
 arguments_keep : (homes n : ℕ) → list_all keeps_place (arguments_kept homes n) ≡ true
 arguments_keep homes zero = refl
@@ -94,10 +92,10 @@ masked_back : (homes : Homes) (from : Sources) (f : PlainFunction) (m : Run)
 masked_back homes from f m =
     let t0 = run from (all_done (frame_taken homes.first f)) m in
     let tc = run from (all_done (words_cleared homes (slots_of f))) t0 in
-    back_then (back_then (back_then (done_back from (frame_taken homes.first f) m (taken_is (λ bs. list_all keeps_place bs ≡ true) homes.first f refl refl)) (done_back from (words_cleared homes (slots_of f)) t0 (cleared_all keeps_place homes (slots_of f) (λ p. refl) (λ r. refl))))
+    back_then (back_then (back_then (done_back from (frame_taken homes.first f) m (taken_is (λ bs. list_all keeps_place bs ≡ true) (frame_words homes.first f) refl refl)) (done_back from (words_cleared homes (slots_of f)) t0 (cleared_all keeps_place homes (slots_of f) (λ p. refl) (λ r. refl))))
     (done_back from (arguments_kept homes.first f.parameters) tc (arguments_keep homes.first f.parameters))) (done_back from (mask_kept homes f) (run from (all_done (arguments_kept homes.first f.parameters)) tc) (mask_keeps homes f))
 
-entered_home : (homes : Homes) (from : Sources) (fs : List PlainFunction) (number : ℕ) (f : PlainFunction) (m : Run) → stmts_call f.body ≡ true → Parts fs number f → IsWhole m → Holds (base_slot f) (offset_slot f) (back_of m) (entered homes from f m)
+entered_home : (homes : Homes) (from : Sources) (fs : List PlainFunction) (number : ℕ) (f : PlainFunction) (m : Run) → stmts_call f.body ≡ true → Parts fs number f → IsWhole m → Holds (base_slot homes.first f) (offset_slot homes.first f) (back_of m) (entered homes from f m)
 unfolding entered cleared taken
 entered_home homes from fs number f m has p whole =
     let t0 = run from (all_done (frame_taken homes.first f)) m in
@@ -106,20 +104,20 @@ entered_home homes from fs number f m has p whole =
     let n2 = run from (all_done (mask_kept homes f)) t1 in
     let h2 = run_whole from (all_done (mask_kept homes f)) t1 (run_whole from (all_done (arguments_kept homes.first f.parameters)) tc (run_whole from (all_done (words_cleared homes (slots_of f))) t0 (run_whole from (all_done (frame_taken homes.first f)) m whole))) in
     let b2 = masked_back homes from f m in
-    let base = from_special SPARE special.Srb ∷ store_slot always (base_slot f) SPARE ∷ [] in
+    let base = from_special SPARE special.Srb ∷ store_slot always (base_slot homes.first f) SPARE ∷ [] in
     let n4 = run from (all_done base) n2 in
-    let p4 = kept_word from (base_slot f) special.Srb n2 h2 (omega (arith, p.frame, p.room)) in
-    let offset = from_special SPARE special.Sro ∷ store_slot always (offset_slot f) SPARE ∷ [] in
+    let p4 = kept_word from (base_slot homes.first f) special.Srb n2 h2 (omega (arith, p.frame, p.room)) in
+    let offset = from_special SPARE special.Sro ∷ store_slot always (offset_slot homes.first f) SPARE ∷ [] in
     let n6 = run from (all_done offset) n4 in
     let h4 = run_whole from (all_done base) n2 h2 in
-    let p6 = kept_word from (offset_slot f) special.Sro n4 h4 (omega (arith, p.frame, p.room)) in
+    let p6 = kept_word from (offset_slot homes.first f) special.Sro n4 h4 (omega (arith, p.frame, p.room)) in
     let b4 = back_then b2 (done_back from base n2 refl) in
-    let s4 = special_stored from special.Srb (base_slot f) n2 h2 (omega (arith, p.frame, p.room)) in
-    let s6 = special_stored from special.Sro (offset_slot f) n4 h4 (omega (arith, p.frame, p.room)) in
-    subst (λ b. Holds (base_slot f) (offset_slot f) (back_of m) (run from (all_done (mask_kept homes f ++ (if b then place_stored f else []))) t1)) (sym has) (subst (Holds (base_slot f) (offset_slot f) (back_of m)) (sym (state_run homes from f (place_stored f) t1)) (record {
-      base_is = ap (λ st. n6.stack (st + base_slot f)) p6 ∙ ap (λ s. s (n4.st + base_slot f)) s6 ∙ put_other (n4.st + offset_slot f) (n4.st + base_slot f) n4.regs.sro n4.stack (λ same. omega (arith, same, p.room))
-          ∙ ap (λ st. n4.stack (st + base_slot f)) p4 ∙ ap (λ s. s (n2.st + base_slot f)) s4 ∙ put_same (n2.st + base_slot f) n2.regs.srb n2.stack ∙ b2.base;
-      offset_is = ap (λ st. n6.stack (st + offset_slot f)) p6 ∙ ap (λ s. s (n4.st + offset_slot f)) s6 ∙ put_same (n4.st + offset_slot f) n4.regs.sro n4.stack ∙ b4.offset;
+    let s4 = special_stored from special.Srb (base_slot homes.first f) n2 h2 (omega (arith, p.frame, p.room)) in
+    let s6 = special_stored from special.Sro (offset_slot homes.first f) n4 h4 (omega (arith, p.frame, p.room)) in
+    subst (λ b. Holds (base_slot homes.first f) (offset_slot homes.first f) (back_of m) (run from (all_done (mask_kept homes f ++ (if b then place_stored homes.first f else []))) t1)) (sym has) (subst (Holds (base_slot homes.first f) (offset_slot homes.first f) (back_of m)) (sym (state_run homes from f (place_stored homes.first f) t1)) (record {
+      base_is = ap (λ st. n6.stack (st + base_slot homes.first f)) p6 ∙ ap (λ s. s (n4.st + base_slot homes.first f)) s6 ∙ put_other (n4.st + offset_slot homes.first f) (n4.st + base_slot homes.first f) n4.regs.sro n4.stack (λ same. omega (arith, same, p.room))
+          ∙ ap (λ st. n4.stack (st + base_slot homes.first f)) p4 ∙ ap (λ s. s (n2.st + base_slot homes.first f)) s4 ∙ put_same (n2.st + base_slot homes.first f) n2.regs.srb n2.stack ∙ b2.base;
+      offset_is = ap (λ st. n6.stack (st + offset_slot homes.first f)) p6 ∙ ap (λ s. s (n4.st + offset_slot homes.first f)) s6 ∙ put_same (n4.st + offset_slot homes.first f) n4.regs.sro n4.stack ∙ b4.offset;
     }))
   where
     kept_word : (from : Sources) (slot : ℕ) (s : Special) (n : Run) → IsWhole n → slot < 128 → (run from (all_done (from_special SPARE s ∷ store_slot always slot SPARE ∷ [])) n).st ≡ n.st
@@ -129,16 +127,16 @@ entered_home homes from fs number f m has p whole =
         ap (λ t. t.st) (did_store_slot from always slot SPARE t h h.fits.always few) ∙ ap (λ t. t.st) (did_write from always (FromSpecial SPARE s) n whole whole.fits.always refl refl)
 
 worked_home : (homes : Homes) (from : Sources) (code : ℕ → List Step) (tops : List ℕ) (fs : List PlainFunction) (number low : ℕ) (f : PlainFunction) (m : Run) → stmts_call f.body ≡ true → InWindow homes tops fs number f → AllPass from code tops number low → IsWhole m → low + 128 ≤ m.st
-    → Holds (base_slot f) (offset_slot f) (back_of m) (worked homes from code f m)
+    → Holds (base_slot homes.first f) (offset_slot homes.first f) (back_of m) (worked homes from code f m)
 worked_home homes from code tops fs number low f m has window others whole enough =
     let p = window.parts in
     let e = entered homes from f m in
     let w = worked homes from code f m in
     let h = entered_home homes from fs number f m has p whole in
-    let k = (subst (λ b. Passes (window_end homes.first f) (words_taken b (first_counter f + 1)) e w) (calls_need homes.first f has) (works_in_frame homes from code tops fs number low f m window others whole enough)).keeps in
+    let k = (works_in_frame homes from code tops fs number low f m window others whole enough).keeps in
     record {
-      base_is = ap (λ st. w.stack (st + base_slot f)) k.st ∙ k.stack (e.st + base_slot f) (omega (arith, p.room)) ∙ h.base_is;
-      offset_is = ap (λ st. w.stack (st + offset_slot f)) k.st ∙ k.stack (e.st + offset_slot f) (omega (arith, p.room)) ∙ h.offset_is;
+      base_is = ap (λ st. w.stack (st + base_slot homes.first f)) k.st ∙ k.stack (e.st + base_slot homes.first f) (omega (arith, p.room, p.mask)) ∙ h.base_is;
+      offset_is = ap (λ st. w.stack (st + offset_slot homes.first f)) k.st ∙ k.stack (e.st + offset_slot homes.first f) (omega (arith, p.room, p.mask)) ∙ h.offset_is;
     }
 
 -- ---- and comes back from there
@@ -151,28 +149,28 @@ record Home (back : Back) (t : Run) : Type 0 where
 
 given_keep : (homes : ℕ) (f : PlainFunction) → list_all keeps_place (result_given homes f) ≡ true
 given_keep homes f =
-    let freed = freed_is (λ bs. list_all keeps_place bs ≡ true) homes f refl refl in
-    read_is (λ b. list_all keeps_place (b ∷ copy MASK OVERRUN ∷ frame_freed homes f) ≡ true) homes RESULT f.result freed freed
+    let freed = freed_is (λ bs. list_all keeps_place bs ≡ true) (frame_words homes f) refl refl in
+    read_is (λ b. list_all keeps_place (b ∷ copy MASK OVERRUN ∷ frame_freed homes f) ≡ true) homes RESULT f.result freed (λ out. freed)
 
-brings_home : (homes : Homes) (from : Sources) (f : PlainFunction) (back : Back) (m : Run) → stmts_call f.body ≡ true → from.stack ≡ true → base_slot f < 128 → offset_slot f < 128 → IsWhole m → Holds (base_slot f) (offset_slot f) back m → Home back (run from (all_done (function_end homes.first f)) m)
+brings_home : (homes : Homes) (from : Sources) (f : PlainFunction) (back : Back) (m : Run) → stmts_call f.body ≡ true → from.stack ≡ true → base_slot homes.first f < 128 → offset_slot homes.first f < 128 → IsWhole m → Holds (base_slot homes.first f) (offset_slot homes.first f) back m → Home back (run from (all_done (function_end homes.first f)) m)
 brings_home homes from f back m has told few_base few_offset whole h =
-    let e1 = once from (load_slot SPARE (base_slot f)) m in
-    let h1 = once_whole from (load_slot SPARE (base_slot f)) m whole in
+    let e1 = once from (load_slot SPARE (base_slot homes.first f)) m in
+    let h1 = once_whole from (load_slot SPARE (base_slot homes.first f)) m whole in
     let e2 = once from (to_special writable.Srb SPARE) e1 in
     let h2 = once_whole from (to_special writable.Srb SPARE) e1 h1 in
     let did2 = did_write from always (ToSpecial writable.Srb SPARE) e1 h1 h1.fits.always refl refl in
-    let k = (passes_done from OVERRUN 0 (load_slot SPARE (base_slot f) ∷ to_special writable.Srb SPARE ∷ []) m (omega arith) whole refl).keeps in
-    let e3 = once from (load_slot SPARE (offset_slot f)) e2 in
-    let h3 = once_whole from (load_slot SPARE (offset_slot f)) e2 h2 in
+    let k = (passes_done from OVERRUN 0 (load_slot SPARE (base_slot homes.first f) ∷ to_special writable.Srb SPARE ∷ []) m (omega arith) whole refl).keeps in
+    let e3 = once from (load_slot SPARE (offset_slot homes.first f)) e2 in
+    let h3 = once_whole from (load_slot SPARE (offset_slot homes.first f)) e2 h2 in
     let e4 = once from (to_special writable.Sro SPARE) e3 in
     let did4 = did_write from always (ToSpecial writable.Sro SPARE) e3 h3 h3.fits.always refl refl in
-    let b3 = done_back from (load_slot SPARE (offset_slot f) ∷ []) e2 refl in
+    let b3 = done_back from (load_slot SPARE (offset_slot homes.first f) ∷ []) e2 refl in
     let b7 = done_back from (result_given homes.first f) e4 (given_keep homes.first f) in
-    subst (λ b. Home back (run from (all_done ((if b then place_loaded f else []) ++ result_given homes.first f)) m)) (sym has) (record {
-      whole = run_whole from (all_done (place_loaded f ++ result_given homes.first f)) m whole;
-      base = b7.base ∙ ap (λ t. t.regs.srb) did4 ∙ b3.base ∙ ap (λ t. t.regs.srb) did2 ∙ slot_leaves from SPARE (base_slot f) m told whole (omega arith) (omega arith) few_base ∙ h.base_is;
-      offset = b7.offset ∙ ap (λ t. t.regs.sro) did4 ∙ slot_leaves from SPARE (offset_slot f) e2 told h2 (omega arith) (omega arith) few_offset
-          ∙ ap (λ st. e2.stack (st + offset_slot f)) k.st ∙ k.stack (m.st + offset_slot f) (omega arith) ∙ h.offset_is;
+    subst (λ b. Home back (run from (all_done ((if b then place_loaded homes.first f else []) ++ result_given homes.first f)) m)) (sym has) (record {
+      whole = run_whole from (all_done (place_loaded homes.first f ++ result_given homes.first f)) m whole;
+      base = b7.base ∙ ap (λ t. t.regs.srb) did4 ∙ b3.base ∙ ap (λ t. t.regs.srb) did2 ∙ slot_leaves from SPARE (base_slot homes.first f) m told whole (omega arith) (omega arith) few_base ∙ h.base_is;
+      offset = b7.offset ∙ ap (λ t. t.regs.sro) did4 ∙ slot_leaves from SPARE (offset_slot homes.first f) e2 told h2 (omega arith) (omega arith) few_offset
+          ∙ ap (λ st. e2.stack (st + offset_slot homes.first f)) k.st ∙ k.stack (m.st + offset_slot homes.first f) (omega arith) ∙ h.offset_is;
     })
 
 -- ---- or it stays set, where no function is called
@@ -182,14 +180,14 @@ unfolding worked entered cleared taken
 worked_back homes from code fs number f m none p =
     let body = body_code homes f in
     let t1 = run from (all_done (arguments_kept homes.first f.parameters)) (run from (all_done (words_cleared homes (slots_of f))) (run from (all_done (frame_taken homes.first f)) m)) in
-    let entered_back = subst (λ b. SameBack m (run from (all_done (mask_kept homes f ++ (if b then place_stored f else []))) t1)) (sym none) (subst (SameBack m) (sym (state_run homes from f [] t1)) (masked_back homes from f m)) in
+    let entered_back = subst (λ b. SameBack m (run from (all_done (mask_kept homes f ++ (if b then place_stored homes.first f else []))) t1)) (sym none) (subst (SameBack m) (sym (state_run homes from f [] t1)) (masked_back homes from f m)) in
     let begun = begun_body homes.flags f in
-    back_then entered_back (parts_back from code body (formed.stmts_formed homes fs 0 (slots_of f) f.frame (first_counter f) begun (stmts_uncalled fs number (slots_of f) begun (begun_uncalled homes.flags f none) (begun_formed homes.flags fs number (slots_of f) f p.body)))
-    (each_so is_firm keeps_place place_firm body (stmts_firm homes f.frame (first_counter f) begun)) (run from (all_done (state_kept homes f)) t1))
+    back_then entered_back (parts_back from code body (formed.stmts_formed homes fs 0 (slots_of f) (frame_words homes.first f) (first_counter f) begun (stmts_uncalled fs number (slots_of f) begun (begun_uncalled homes.flags f none) (begun_formed homes.flags fs number (slots_of f) f p.body)))
+    (each_so is_firm keeps_place place_firm body (stmts_firm homes (frame_words homes.first f) (first_counter f) begun)) (run from (all_done (state_kept homes f)) t1))
 
 stays_home : (homes : Homes) (from : Sources) (f : PlainFunction) (m w : Run) → stmts_call f.body ≡ false → IsWhole w → SameBack m w → Home (back_of m) (run from (all_done (function_end homes.first f)) w)
 stays_home homes from f m w none whole x =
-    let y = back_then x (done_back from (function_end homes.first f) w (subst (λ b. list_all keeps_place ((if b then place_loaded f else []) ++ result_given homes.first f) ≡ true) (sym none) (given_keep homes.first f))) in
+    let y = back_then x (done_back from (function_end homes.first f) w (subst (λ b. list_all keeps_place ((if b then place_loaded homes.first f else []) ++ result_given homes.first f) ≡ true) (sym none) (given_keep homes.first f))) in
     record { whole = run_whole from (all_done (function_end homes.first f)) w whole; base = y.base; offset = y.offset }
 
 asks_home : (from : Sources) (back : Back) (t : Run) → Home back t → Returns (run from) return_tail back t
@@ -218,7 +216,7 @@ unfolding worked
 function_iterations homes from code Called tops fs number low f told window counts callees m whole enough =
     let p = window.parts in
     let e = enters_frame homes from fs number f m window.homed.own p whole (omega (arith, enough, p.frame)) in
-    let few = taken_few (needs_none homes.first f) f.frame in
+    let few = words_few homes.first f (omega (arith, p.room)) in
     let body = body_code homes f in
     let w = worked homes from code f m in
     let levels = begun_levels homes.flags f in
@@ -227,7 +225,7 @@ function_iterations homes from code Called tops fs number low f told window coun
       tt,
       subst (PartsIteration (run from) code Called (back_of m) (joined body (function_rest homes.first f))) (sym (begin_entered homes from f m))
           (iterations_joined from code Called (back_of m) body (function_rest homes.first f) (entered homes from f m)
-          (stmts_iteration homes from code Called (back_of m) tops fs number (slots_of f) f.frame (first_counter f) low told callees window.homed (omega (arith, p.frame, p.room)) (begun_body homes.flags f) (omega (arith, p.room, p.mask, levels))
+          (stmts_iteration homes from code Called (back_of m) tops fs number (slots_of f) (frame_words homes.first f) (first_counter f) low told callees window.homed (omega (arith, p.frame, p.room)) (begun_body homes.flags f) (omega (arith, p.room, p.mask, levels))
           (begun_formed homes.flags fs number (slots_of f) f p.body) (begun_counts homes.flags f counts) (omega (arith, fewer, window.least)) (entered homes from f m) e.whole (omega (arith, e.st, few, enough, p.frame)))
           (tt, (asks_home from (back_of m) (run from (all_done (function_end homes.first f)) w) home, tt))),
     )

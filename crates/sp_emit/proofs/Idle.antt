@@ -15,7 +15,7 @@ use Rattle.sp_emit.proofs.Operands.{one_of, word_code_is, each_operands_are, eac
 use Rattle.sp_emit.specs.Division.{unsigned_quotient_to}
 use Rattle.sp_emit.specs.Flags.{begun_body}
 use Rattle.sp_emit.specs.Expressions.{binary_code, held_code, number_of, value_code, operands_code, expr_to, expr_code, value_at, is_immediate}
-use Rattle.sp_emit.specs.Functions.{first_counter, function_rest, body_code, function_code}
+use Rattle.sp_emit.specs.Functions.{first_counter, function_rest, body_code, function_code, frame_words}
 use Rattle.sp_emit.specs.Instructions.{always, where_so, under, idle, with_short, compare_short, branch}
 use Rattle.sp_emit.specs.Places.{fetched_at, keep_word, mask_test, told_at}
 use Rattle.sp_emit.specs.declared.registers.TheConstants.{FIRST, MORE}
@@ -67,8 +67,8 @@ tail_idles : (homes counter : ℕ) → iteration_idles (iterations_tail homes co
 tail_idles homes counter =
     let left = fetched_at homes counter in
     let last = compare_short cmp.Neq MORE left 0 ∷ branch MORE ∷ idle ∷ idle ∷ [] in
-    let kept = keep_is (λ b. iteration_idles (b ∷ last) ≡ true) homes counter refl refl in
-    fetch_is (λ b. iteration_idles (b ∷ with_short always imm.Sub left left 1 ∷ keep_word homes counter ∷ last) ≡ true) homes counter kept kept
+    let kept = keep_is (λ b. iteration_idles (b ∷ last) ≡ true) homes counter refl (λ out. refl) in
+    fetch_is (λ b. iteration_idles (b ∷ with_short always imm.Sub left left 1 ∷ keep_word homes counter ∷ last) ≡ true) homes counter kept (λ out. kept)
 
 tests_idle : (bs : List Slots) → AreTests bs → Idles (one (straight bs))
 tests_idle bs tests = refl
@@ -97,4 +97,4 @@ mutual
   stmts_idle homes frame counter (stmt t rest) = both (stmt_code homes frame counter t) (stmts_code homes frame counter rest) (stmt_idle homes frame counter t) (stmts_idle homes frame counter rest)
 
 pub function_idle : (homes : Homes) (f : PlainFunction) → Idles (function_code homes f)
-function_idle homes f = both (body_code homes f) (function_rest homes.first f) (stmts_idle homes f.frame (first_counter f) (begun_body homes.flags f)) refl
+function_idle homes f = both (body_code homes f) (function_rest homes.first f) (stmts_idle homes (frame_words homes.first f) (first_counter f) (begun_body homes.flags f)) refl

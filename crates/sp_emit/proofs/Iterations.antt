@@ -16,7 +16,7 @@ use Rattle.sp_shape.specs.Trail.{Step, all_done, copies, parts_trail}
 use Rattle.sp_emit.specs.Holding.{held, Keeps, KeepsFlags}
 use Rattle.sp_emit.specs.Instructions.{always, under, idle, set_number, with_short, compare_short, branch}
 use Rattle.sp_emit.specs.Means.{Follows, HasWords, KeepsBehind}
-use Rattle.sp_emit.specs.Places.{in_register, word_of, fetch_word, fetched_at, keep_op, keep_word}
+use Rattle.sp_emit.specs.Places.{in_register, word_of, fetch_word, fetched_at, keep_op, keep_word, stack_word}
 use Rattle.sp_emit.specs.Statements.{iterations_begin, iterations_tail}
 use Rattle.sp_emit.specs.declared.registers.TheConstants.{SPARE, OVERRUN, MORE}
 use Rattle.sp_emit.proofs.Calm.{is_calm_trail, calm_run, keeps_register}
@@ -40,7 +40,7 @@ record Beside (homes counter : ℕ) (m t : Run) : Type 0 where
   flags : KeepsFlags m t
   flag : held OVERRUN t ≡ held OVERRUN m
   words : (u : ℕ) → u < counter → word_of homes u t ≡ word_of homes u m
-  keeps : KeepsBehind (homes + (counter + 1)) (counter + 1) m t
+  keeps : KeepsBehind (homes + (counter + 1)) (stack_word homes (counter + 1)) m t
 
 beside_then : {homes counter : ℕ} {m n t : Run} → Beside homes counter m n → Beside homes counter n t → Beside homes counter m t
 beside_then a b = record {
@@ -82,9 +82,9 @@ beside_back : (homes counter : ℕ) (m : Run) → 1 ≤ homes → counter < 128 
 unfolding keep_op
 beside_back homes counter m some few whole = by (in_register homes counter) refl
   where
-    by : (b : Bool) → in_register homes counter ≡ b → Beside homes counter m (once by_words (under always (if b then AluImm imm.Add 0 0 0 else Store mem.S store.Word 0 SPARE counter)) m)
+    by : (b : Bool) → in_register homes counter ≡ b → Beside homes counter m (once by_words (under always (if b then AluImm imm.Add 0 0 0 else Store mem.S store.Word 0 SPARE (stack_word homes counter))) m)
     by true is = beside_kept (calm_run by_words SPARE homes (all_done (idle ∷ [])) m (omega arith) whole refl)
-    by false is = subst (Beside homes counter m) (sym (did_store_slot by_words always counter SPARE m whole whole.fits.always few)) (beside_set some (omega arith) (sets_stack homes counter (held SPARE m) m whole is))
+    by false is = subst (Beside homes counter m) (sym (did_store_slot by_words always (stack_word homes counter) SPARE m whole whole.fits.always (omega (arith, few)))) (beside_set some (omega arith) (sets_stack homes counter (held SPARE m) m whole is))
 
 beside_done : (homes : Homes) (slots counter : ℕ) (s : State) (m t : Run) → slots ≤ counter → Beside homes.first counter m t → Follows homes slots s m → Done homes slots (counter + 1) s m t
 beside_done homes slots counter s m t le b x = record {
@@ -106,7 +106,7 @@ tail_beside : (homes counter : ℕ) (m : Run) → 1 ≤ homes → counter < 128 
 tail_beside homes counter m some few whole =
     let left = fetched_at homes counter in
     let first : Beside homes counter m (once by_words (fetch_word homes counter) m) =
-    beside_kept (calm_run by_words SPARE homes (all_done (fetch_word homes counter ∷ [])) m (omega arith) whole (fetch_is (λ b. is_calm_trail SPARE homes (all_done (b ∷ [])) ≡ true) homes counter refl refl)) in
+    beside_kept (calm_run by_words SPARE homes (all_done (fetch_word homes counter ∷ [])) m (omega arith) whole (fetch_is (λ b. is_calm_trail SPARE homes (all_done (b ∷ [])) ≡ true) homes counter refl (λ out. refl))) in
     let n = once by_words (fetch_word homes counter) m in
     let counted = subst (Beside homes counter n) (sym (did_with_short by_words imm.Sub left left 1 n first.whole)) (beside_written homes counter (alu_value (alu_of imm.Sub) (held left n) 1) n some first.whole) in
     let u = once by_words (with_short always imm.Sub left left 1) n in
@@ -116,14 +116,14 @@ tail_beside homes counter m some few whole =
 
 -- ---- loops
 
-pub done_then : {homes : Homes} {slots count : ℕ} {z : State} {m n t : Run} → KeepsBehind (homes.first + count) count m n → Done homes slots count z n t → Done homes slots count z m t
+pub done_then : {homes : Homes} {slots count : ℕ} {z : State} {m n t : Run} → KeepsBehind (homes.first + count) (stack_word homes.first count) m n → Done homes slots count z n t → Done homes slots count z m t
 done_then keeps d = record { follows = d.follows; keeps = keeps_then keeps d.keeps }
 
 -- so many iterations of a body
 iterations_run : (homes : Homes) (f : ℕ → List Step) (slots counter low : ℕ) (body : PlainParts) (change : State → State) → 1 ≤ homes.first → slots ≤ counter → counter < 128
     → ((s : State) (m : Run) → low ≤ m.st → Follows homes slots s m → Done homes slots (counter + 1) (change s) m (run by_words (parts_trail f body) m))
     → (count : ℕ) (s : State) (m : Run) → low ≤ m.st → Follows homes slots s m → Done homes slots (counter + 1) (times count change s) m (run by_words (copies count (parts_trail f body ++ all_done (iterations_tail homes.first counter))) m)
-iterations_run homes f slots counter low body change some beside few iteration zero s m enough x = record { follows = x; keeps = kept_all (homes.first + (counter + 1)) (counter + 1) m }
+iterations_run homes f slots counter low body change some beside few iteration zero s m enough x = record { follows = x; keeps = kept_all (homes.first + (counter + 1)) (stack_word homes.first (counter + 1)) m }
 iterations_run homes f slots counter low body change some beside few iteration (suc count) s m enough x =
     let one_iteration = parts_trail f body ++ all_done (iterations_tail homes.first counter) in
     let n = run by_words (parts_trail f body) m in

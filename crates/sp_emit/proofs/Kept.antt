@@ -2,7 +2,7 @@
 use Rattle.std.proofs.Common.{◌≡◌, ℕ, ◌+◌, ◌<◌, ◌≤◌, true, length, slice_index_or, ap, sym, ◌∙◌, subst, arith}
 use Rattle.std.specs.Prelude.{nat_le, is_none}
 use Rattle.std.proofs.lemmas.Bool.{and_parts}
-use Rattle.sp_tree.proofs.Forms.{earlier_one}
+use Rattle.sp_tree.proofs.Forms.{earlier_one, earlier_ones}
 use Rattle.sp_tree.specs.Cost.{cost}
 use Rattle.sp_tree.specs.Formed as tree
 use Rattle.sp_tree.specs.Statements.{PlainUnit, no_function}
@@ -17,6 +17,8 @@ use Rattle.sp_emit.proofs.Idle.{function_idle}
 use Rattle.sp_emit.proofs.Room.{function_room}
 use Rattle.sp_emit.proofs.Steady.{function_steady}
 use Rattle.sp_emit.proofs.Taking.{function_takes}
+use Rattle.sp_emit.specs.Fits.{FunctionFits}
+use Rattle.sp_emit.proofs.Fitting.{frame_least}
 
 code_at : (s : PlainShape) (u : PlainUnit) → s ≡ emitted u → (k : ℕ) → k < length u.functions
     → slice_index_or s.functions k no_part ≡ function_code (places_of u.functions k) (slice_index_or u.functions k no_function)
@@ -31,11 +33,15 @@ alone_as s u told k below = ap (parts_all (λ b. is_none b.second)) (code_at s u
 pub steady_as : (s : PlainShape) (u : PlainUnit) → s ≡ emitted u → (k : ℕ) → k < length u.functions → parts_all is_steady (slice_index_or s.functions k no_part) ≡ true
 steady_as s u told k below = ap (parts_all is_steady) (code_at s u told k below) ∙ function_steady (places_of u.functions k) (slice_index_or u.functions k no_function)
 
-pub frames_as : (s : PlainShape) (u : PlainUnit) → s ≡ emitted u → (k : ℕ) → k < length u.functions
+pub frames_as : (s : PlainShape) (u : PlainUnit) → s ≡ emitted u → tree.is_formed u ≡ true → (k : ℕ) → k < length u.functions
     → parts_all (takes_at_most (slice_index_or u.functions k no_function).frame) (slice_index_or s.functions k no_part) ≡ true
-frames_as s u told k below =
+frames_as s u told h k below =
     let f = slice_index_or u.functions k no_function in
-    ap (parts_all (takes_at_most f.frame)) (code_at s u told k below) ∙ function_takes (places_of u.functions k) f
+    let a = and_parts (nat_le (length u.functions) 512) _ h in
+    let b = and_parts (tree.functions_formed u.functions (length u.functions)) _ a.1 in
+    let own = earlier_one u.functions k (length u.functions) below b.0 in
+    let fits : FunctionFits f = record { functions = u.functions; number = k; earlier = earlier_ones u.functions k (length u.functions) (omega (arith, below)) b.0; formed = own } in
+    ap (parts_all (takes_at_most f.frame)) (code_at s u told k below) ∙ function_takes (places_of u.functions k) f (omega (arith, frame_least fits))
 
 pub room_as : (s : PlainShape) (u : PlainUnit) → s ≡ emitted u → tree.is_formed u ≡ true → (k : ℕ) → k < length u.functions
     → 1 + parts_room (slice_index_or s.functions k no_part) ≤ cost (slice_index_or u.functions k no_function)

@@ -23,7 +23,7 @@ use Rattle.sp_shape.specs.Parts.{straight, PlainParts, one, joined}
 use Rattle.sp_emit.specs.Endings.{imm_of, unary_op, binary_op, held_op, home_op, last_op}
 use Rattle.sp_emit.specs.Expressions.{immediate_below, unary_code, binary_code, held_code, number_of, word_code, value_at, is_immediate, value_code, operands_code, expr_code}
 use Rattle.sp_emit.specs.Instructions.{always, where_so, under, set_number, number_op}
-use Rattle.sp_emit.specs.Places.{flag_of, in_register, read_op, seek_word, match_word, mask_test, told_at}
+use Rattle.sp_emit.specs.Places.{flag_of, in_register, read_op, seek_word, match_word, mask_test, told_at, stack_word}
 use Rattle.sp_emit.specs.Statements.{target_write, guarded_code, write_by, write_code}
 use Rattle.sp_emit.specs.declared.registers.TheConstants.{FIRST, OVERRUN}
 use Rattle.sp_emit.proofs.Numbers.{number_op_is}
@@ -57,7 +57,7 @@ home_ends : (homes : Homes) (slot to : ℕ) → Ends (one (straight (word_code (
 unfolding read_op
 home_ends homes slot to = by (flag_of homes.flags slot) (in_register homes.first slot) refl
   where
-    plain : (b : Bool) → Ends (one (straight (under always (if b then AluImm imm.Add to (homes.first + slot) 0 else Load mem.S load.Word to 0 slot) ∷ []))) (if b then Some (AluImm imm.Add to (homes.first + slot) 0) else None)
+    plain : (b : Bool) → Ends (one (straight (under always (if b then AluImm imm.Add to (homes.first + slot) 0 else Load mem.S load.Word to 0 (stack_word homes.first slot)) ∷ []))) (if b then Some (AluImm imm.Add to (homes.first + slot) 0) else None)
     plain true = record { alu = refl; is = refl }
     plain false = tt
 

@@ -4,7 +4,6 @@ pub mod Apart
 pub mod Arguments
 pub mod Around
 pub mod Asking
-pub mod Bare
 pub mod Beginning
 pub mod BegunBody
 pub mod Binary

@@ -16,7 +16,7 @@ use Rattle.sp_shape.specs.Iterating.{PartsIteration}
 use Rattle.sp_emit.specs.Truths.{bit_sought}
 use Rattle.sp_emit.proofs.Lasts.{write_is}
 use Rattle.sp_emit.proofs.Operands.{one_of, each_operands_are, each_expr_is, mask_is}
-use Rattle.sp_emit.specs.Places.{mask_test, told_at, word_of, fetched_at, set_word, args_least, stmt_least, stmts_least}
+use Rattle.sp_emit.specs.Places.{mask_test, told_at, word_of, fetched_at, set_word, args_least, stmt_least, stmts_least, stack_word}
 use Rattle.sp_emit.specs.Counts.{HasStmtCounts, HasStmtsCounts}
 use Rattle.sp_emit.specs.Division.{unsigned_quotient_to, unsigned_rest_to, signed_quotient_to, signed_rest_to}
 use Rattle.sp_emit.specs.Expressions.{binary_code, held_code, number_of, value_code, operands_code, expr_to, expr_code, value_at, is_immediate}
@@ -31,7 +31,7 @@ use Rattle.sp_emit.proofs.Calling.{first_least}
 use Rattle.sp_emit.proofs.Low.{Low, IsHomed, few_args, args_low, handed_low, call_tail_low, stmt_low, stmts_low, iterations_begin_low}
 use Rattle.sp_emit.proofs.Passing.{AllPass, passes_then, passes_done, passes_parts, passes_begun, enough_still}
 use Rattle.sp_emit.proofs.TruthCode.{TruthParts, flag_is}
-use Rattle.sp_emit.proofs.WordPlaces.{fetched_some, fetched_few, keep_leaves}
+use Rattle.sp_emit.proofs.WordPlaces.{fetched_some, fetched_few, keep_leaves, stack_before}
 use Rattle.sp_emit.specs.declared.stands.Homes.{Homes}
 
 -- ---- parts after others
@@ -170,13 +170,13 @@ mutual
       let code = stmts_code homes frame (counter - 1) body in
       let some : 1 ≤ homes.first = omega (arith, h.own) in
       let n = run from (all_done (iterations_begin homes.first counter count)) m in
-      let p = passes_done from (homes.first + (counter + 1)) (counter + 1) (iterations_begin homes.first counter count) m (omega (arith, few)) whole (iterations_begin_low (homes.first + (counter + 1)) (counter + 1) homes.first counter count (omega arith) (omega arith) (omega arith)) in
-      let low_body : Low tops (homes.first + counter) counter code = subst (λ c. Low tops (homes.first + c) c code) (let e : counter - 1 + 1 ≡ counter = omega (arith, levels, h.some) in e) (stmts_low tops homes fs number slots frame (counter - 1) body h (omega (arith, levels, h.some)) parts.1 (omega (arith, least))) in (
+      let p = passes_done from (homes.first + (counter + 1)) (stack_word homes.first (counter + 1)) (iterations_begin homes.first counter count) m (omega (arith, few)) whole (iterations_begin_low (homes.first + (counter + 1)) (stack_word homes.first (counter + 1)) homes.first counter count (omega arith) (omega arith) (stack_before homes.first counter (counter + 1) (omega arith))) in
+      let low_body : Low tops (homes.first + counter) (stack_word homes.first counter) code = subst (λ c. Low tops (homes.first + c) (stack_word homes.first c) code) (let e : counter - 1 + 1 ≡ counter = omega (arith, levels, h.some) in e) (stmts_low tops homes fs number slots frame (counter - 1) body h (omega (arith, levels, h.some)) parts.1 (omega (arith, least))) in (
         tt,
         (
           counter_iterations from f (PartsIteration (run from) f Called back code) code homes.first counter low told some few
               (λ t rest room. stmts_iteration homes from f Called back tops fs number slots frame (counter - 1) low told callees h (omega (arith, few)) body (omega (arith, levels, h.some)) parts.1 counts.1 (omega (arith, least)) t rest room)
-              (λ t rest room. passes_parts from f tops number low (homes.first + counter) counter (omega (arith, few)) callees.passing code (formed.stmts_formed homes fs number slots frame (counter - 1) body parts.1) low_body t rest room)
+              (λ t rest room. passes_parts from f tops number low (homes.first + counter) (stack_word homes.first counter) (omega (arith, few)) callees.passing code (formed.stmts_formed homes fs number slots frame (counter - 1) body parts.1) low_body t rest room)
               count counts.0 n p.whole (enough_still p enough) (counter_set from homes.first counter count m some whole few counts.0),
           tt,
         ),
@@ -188,7 +188,7 @@ mutual
   stmts_iteration homes from f Called back tops fs number slots frame counter low told callees h few no_stmt levels is counts least m whole enough = tt
   stmts_iteration homes from f Called back tops fs number slots frame counter low told callees h few (stmt t rest) levels is counts least m whole enough =
       let parts = and_parts (stmt_formed fs number slots t) (stmts_formed fs number slots rest) is in
-      let p = passes_parts from f tops number low (homes.first + (counter + 1)) (counter + 1) (omega (arith, few)) callees.passing (stmt_code homes frame counter t) (formed.stmt_formed homes fs number slots frame counter t parts.0)
+      let p = passes_parts from f tops number low (homes.first + (counter + 1)) (stack_word homes.first (counter + 1)) (omega (arith, few)) callees.passing (stmt_code homes frame counter t) (formed.stmt_formed homes fs number slots frame counter t parts.0)
       (stmt_low tops homes fs number slots frame counter t h (omega (arith, levels)) parts.0 (omega (arith, least))) m whole enough in
       iterations_joined from f Called back (stmt_code homes frame counter t) (stmts_code homes frame counter rest) m
       (stmt_iterations homes from f Called back tops fs number slots frame counter low told callees h few t (omega (arith, levels)) parts.0 counts.0 (omega (arith, least)) m whole enough)

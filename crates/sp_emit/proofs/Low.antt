@@ -1,6 +1,6 @@
 -- The code of statements changes no word of the stack after the next counter of iterations, and none of the registers that
 -- stand for such words.
-use Rattle.std.proofs.Common.{◌≡◌, ℕ, ◌+◌, ◌-◌, ◌<◌, ◌≤◌, ◌==◌, ◌⊎◌, inl, inr, Bool, true, false, true≢false, if◌then◌else◌, ◌&&◌, is_none, List, [], ◌∷◌, ◌++◌, Option, None, Some, length, nat_lt, slice_index_or, refl, subst, sym, arith}
+use Rattle.std.proofs.Common.{◌≡◌, ℕ, ◌+◌, ◌-◌, ◌<◌, ◌≤◌, ◌==◌, ◌⊎◌, inl, inr, true, false, true≢false, ◌&&◌, is_none, List, [], ◌∷◌, ◌++◌, Option, None, Some, length, nat_lt, slice_index_or, refl, subst, sym, arith}
 use Rattle.std.specs.Prelude.{nat_le}
 use Rattle.std.specs.List.{list_all}
 use Rattle.std.proofs.lemmas.Bool.{and_parts, and_from, or_cases, or_right, le-leb, lt-ltb, leb-true, ltb-true, eqb-true}
@@ -25,7 +25,7 @@ use Rattle.sp_emit.specs.Truths.{bit_sought}
 use Rattle.sp_emit.specs.Expressions.{value_code, operands_code, expr_to, expr_code, address_of}
 use Rattle.sp_emit.specs.Fits.{ExprFits}
 use Rattle.sp_emit.specs.Instructions.{always, where_so, under, set_number, compare_short}
-use Rattle.sp_emit.specs.Places.{told_at, mask_test, seek_word, match_word, in_register, fetched_at, read_word, fetch_word, keep_word, set_op, set_word, args_least, target_least, stmt_least, stmts_least}
+use Rattle.sp_emit.specs.Places.{told_at, mask_test, seek_word, match_word, in_register, stack_word, fetched_at, read_word, fetch_word, keep_word, set_word, args_least, target_least, stmt_least, stmts_least}
 use Rattle.sp_emit.specs.Statements.{slot_write, cell_write, element_write, target_write, write_code, guarded_code, args_code, mask_handed, call_tail, behind_call, call_code, way_to, send_code, overrun_code, slot_set, iterations_begin, iterations_tail, stmt_code, stmts_code}
 use Rattle.sp_emit.specs.declared.registers.TheConstants.{RESULT, MASK, FIRST, SECOND, SPARE, OVERRUN}
 use Rattle.sp_emit.proofs.Calm.{IsApart, free_cases, is_free, is_calm_op, is_calm, part_calm, parts_calm}
@@ -38,7 +38,7 @@ use Rattle.sp_emit.proofs.FlagWords.{seek_is, match_is}
 use Rattle.sp_emit.proofs.TruthCode.{is_test_bundle, AreTests, TruthParts, flag_is, Fitting, first_fitting, second_fitting}
 use Rattle.sp_emit.proofs.Passing.{is_outside, outside_low, is_low, passes, part_passes, parts_pass}
 use Rattle.sp_emit.proofs.Values.{before, operands_calm, value_calm}
-use Rattle.sp_emit.proofs.WordPlaces.{read_is, fetch_is, fetched_is, keep_is, set_op_is}
+use Rattle.sp_emit.proofs.WordPlaces.{stack_before, Outside, outside, read_is, fetch_is, fetched_is, keep_is, set_op_is}
 use Rattle.sp_emit.specs.declared.stands.Homes.{Homes}
 
 abbrev pub Low : List ℕ → ℕ → ℕ → PlainParts → Type 0
@@ -143,7 +143,7 @@ truths_low tops homes top count some le = record {
   second = second_fitting homes;
   operands = λ e h. calm_parts_low tops FIRST homes.first top count some le (operands_code homes e FIRST) (operands_calm homes FIRST e FIRST (omega arith) h.0 h.1);
   tests = tests_low tops top count;
-  bits = λ slot h. low_lone tops top count (bit_sought homes.first slot) (fetch_is (λ b. list_all (passes top count) (b ∷ compare_short cmp.Btest SECOND (fetched_at homes.first slot) 0 ∷ []) ≡ true) homes.first slot (rw (outside_low top 0 some) refl) (rw (spare_low top) refl));
+  bits = λ slot h. low_lone tops top count (bit_sought homes.first slot) (fetch_is (λ b. list_all (passes top count) (b ∷ compare_short cmp.Btest SECOND (fetched_at homes.first slot) 0 ∷ []) ≡ true) homes.first slot (rw (outside_low top 0 some) refl) (λ out. rw (spare_low top) refl));
 }
 
 -- ---- words of a frame
@@ -155,25 +155,16 @@ fetched_low : (top homes slot : ℕ) → homes + slot < top → is_outside top (
 fetched_low top homes slot within = fetched_is (λ r. is_outside top r ≡ true) homes slot (λ lt. outside_low top (homes + slot) within) (spare_low top)
 
 pub read_low : (top count homes rd slot : ℕ) → rd < top → passes top count (read_word homes rd slot) ≡ true
-read_low top count homes rd slot lt = read_is (λ b. passes top count b ≡ true) homes rd slot (rw (outside_low top rd lt) refl) (rw (outside_low top rd lt) refl)
+read_low top count homes rd slot lt = read_is (λ b. passes top count b ≡ true) homes rd slot (rw (outside_low top rd lt) refl) (λ out. rw (outside_low top rd lt) refl)
 
 fetch_low : (top count homes slot : ℕ) → 1 ≤ top → passes top count (fetch_word homes slot) ≡ true
-fetch_low top count homes slot some = fetch_is (λ b. passes top count b ≡ true) homes slot (rw (outside_low top 0 some) refl) (rw (spare_low top) refl)
+fetch_low top count homes slot some = fetch_is (λ b. passes top count b ≡ true) homes slot (rw (outside_low top 0 some) refl) (λ out. rw (spare_low top) refl)
 
-set_low : (top count homes : ℕ) (g : Guard) (slot rs : ℕ) → homes + slot < top → slot < count → passes top count (set_word homes g slot rs) ≡ true
-set_low top count homes g slot rs within lt = set_op_is (λ op. passes top count (under g op) ≡ true) homes slot rs (rw (outside_low top (homes + slot) within) refl) (rw (lt-ltb slot count lt) refl)
+pub set_low : (top count homes : ℕ) (g : Guard) (slot rs : ℕ) → homes + slot < top → (in_register homes slot ≡ false → stack_word homes slot < count) → passes top count (set_word homes g slot rs) ≡ true
+set_low top count homes g slot rs within below = set_op_is (λ op. passes top count (under g op) ≡ true) homes slot rs (rw (outside_low top (homes + slot) within) refl) (λ out. rw (lt-ltb (stack_word homes slot) count (below out)) refl)
 
-keep_low : (top count homes slot : ℕ) → 1 ≤ top → slot < count → passes top count (keep_word homes slot) ≡ true
-keep_low top count homes slot some lt = keep_is (λ b. passes top count b ≡ true) homes slot (rw (outside_low top 0 some) refl) (rw (lt-ltb slot count lt) refl)
-
--- where it stands in the stack, it is one of the first so many; and in the window, it is before its end
-pub set_beside : (top count homes slot rs : ℕ) → homes + slot < top → (in_register homes slot ≡ false → slot < count) → passes top count (set_word homes always slot rs) ≡ true
-unfolding set_op
-set_beside top count homes slot rs within out = by (in_register homes slot) refl
-  where
-    by : (b : Bool) → in_register homes slot ≡ b → passes top count (under always (if b then AluImm imm.Add (homes + slot) rs 0 else Store mem.S store.Word 0 rs slot)) ≡ true
-    by true is = rw (outside_low top (homes + slot) within) refl
-    by false is = rw (lt-ltb slot count (out is)) refl
+keep_low : (top count homes slot : ℕ) → 1 ≤ top → (in_register homes slot ≡ false → stack_word homes slot < count) → passes top count (keep_word homes slot) ≡ true
+keep_low top count homes slot some below = keep_is (λ b. passes top count b ≡ true) homes slot (rw (outside_low top 0 some) refl) (λ out. rw (lt-ltb (stack_word homes slot) count (below out)) refl)
 
 number_low : (top count rd n : ℕ) → is_outside top rd ≡ true → passes top count (set_number rd n) ≡ true
 number_low top count rd n out = number_op_is (λ op. passes top count (under always op) ≡ true) rd n (rw (out) refl) (rw (out) refl)
@@ -186,8 +177,8 @@ seek_low top count homes mask some = seek_is (λ b. passes top count b ≡ true)
 match_low : (top count : ℕ) (homes : Homes) (mask : ℕ) → 1 ≤ top → passes top count (match_word homes mask) ≡ true
 match_low top count homes mask some = match_is (λ b. passes top count b ≡ true) homes mask (rw (outside_low top 0 some) refl) refl
 
-slot_write_low : (top count : ℕ) (homes : Homes) (mask slot : ℕ) → homes.first + slot < top → slot < count → AreLow top count (slot_write homes mask slot)
-slot_write_low top count homes mask slot within lt = rw (seek_low top count homes mask (omega (arith, within)), match_low top count homes mask (omega (arith, within)), set_low top count homes.first (where_so (told_at homes mask)) slot FIRST within lt) refl
+slot_write_low : (top count : ℕ) (homes : Homes) (mask slot : ℕ) → homes.first + slot < top → (in_register homes.first slot ≡ false → stack_word homes.first slot < count) → AreLow top count (slot_write homes mask slot)
+slot_write_low top count homes mask slot within below = rw (seek_low top count homes mask (omega (arith, within)), match_low top count homes mask (omega (arith, within)), set_low top count homes.first (where_so (told_at homes mask)) slot FIRST within below) refl
 
 cell_write_low : (top count : ℕ) (homes : Homes) (mask : ℕ) (r : Region) (word : ℕ) → 1 ≤ top → AreLow top count (cell_write homes mask (record { region = r; word = word }))
 cell_write_low top count homes mask r word some =
@@ -207,12 +198,12 @@ element_write_low top count homes mask r first length within =
     (rw (outside_low top 0 (omega (arith, within))) refl) (λ n. number_low top count SPARE n spare) refl refl (rw (index) refl) (rw (index) refl) in
     grind (arith, read, match, index, address.length, address.below, address.base, address.scaled)
 
-target_low : (tops : List ℕ) (homes : Homes) (slots top count mask : ℕ) (target : PlainSpTarget) → slots ≤ 128 → slots ≤ count → homes.first + slots ≤ top → 1 ≤ homes.first → target_formed slots target ≡ true → target_least target ≤ homes.first → Low tops top count (target_write homes mask target)
-target_low tops homes slots top count mask (to_slot slot) most le within own formed free =
+target_low : (tops : List ℕ) (homes : Homes) (slots top count mask : ℕ) (target : PlainSpTarget) → slots ≤ 128 → Outside homes.first slots count → homes.first + slots ≤ top → 1 ≤ homes.first → target_formed slots target ≡ true → target_least target ≤ homes.first → Low tops top count (target_write homes mask target)
+target_low tops homes slots top count mask (to_slot slot) most out within own formed free =
     let named = ltb-true slot slots formed in
-    low_lone tops top count (slot_write homes mask slot) (slot_write_low top count homes mask slot (omega (arith, within, named)) (omega (arith, le, named)))
-target_low tops homes slots top count mask (to_cell cell) most le within own formed free = low_lone tops top count (cell_write homes mask cell) (cell_write_low top count homes mask cell.region cell.word (omega (arith, within, own)))
-target_low tops homes slots top count mask (to_array array index) most le within own formed free =
+    low_lone tops top count (slot_write homes mask slot) (slot_write_low top count homes mask slot (omega (arith, within, named)) (out slot named))
+target_low tops homes slots top count mask (to_cell cell) most out within own formed free = low_lone tops top count (cell_write homes mask cell) (cell_write_low top count homes mask cell.region cell.word (omega (arith, within, own)))
+target_low tops homes slots top count mask (to_array array index) most out within own formed free =
     let least = before homes index free in
     low_joined tops top count (expr_code homes index (FIRST + 1)) (one (straight (element_write homes mask array)))
     (own_low tops homes slots top count index (FIRST + 1) most (omega arith) (and_parts (array_formed array) (expr_formed slots index) formed).1 free (omega (arith, within)))
@@ -224,20 +215,20 @@ handed_low top count homes mask own = rw (read_low top count homes MASK mask own
 pub call_tail_low : (top count : ℕ) → 1 ≤ top → AreLow top count call_tail
 call_tail_low top count some = rw (outside_low top 0 some) refl
 
-behind_low : (top count : ℕ) (homes : Homes) (slots frame mask : ℕ) (result : Option ℕ) → 1 ≤ top → slots ≤ count → homes.first + slots ≤ top → result_formed slots result ≡ true → AreLow top count (behind_call homes frame mask result)
-behind_low top count homes slots frame mask None own le within formed = refl
-behind_low top count homes slots frame mask (Some slot) own le within formed =
+behind_low : (top count : ℕ) (homes : Homes) (slots frame mask : ℕ) (result : Option ℕ) → 1 ≤ top → Outside homes.first slots count → homes.first + slots ≤ top → result_formed slots result ≡ true → AreLow top count (behind_call homes frame mask result)
+behind_low top count homes slots frame mask None own out within formed = refl
+behind_low top count homes slots frame mask (Some slot) own out within formed =
     let named = ltb-true slot slots formed in
-    rw (seek_low top count homes mask own, match_low top count homes mask own, set_low top count homes.first (where_so (told_at homes mask)) slot RESULT (omega (arith, within, named)) (omega (arith, le, named))) refl
+    rw (seek_low top count homes mask own, match_low top count homes mask own, set_low top count homes.first (where_so (told_at homes mask)) slot RESULT (omega (arith, within, named)) (out slot named)) refl
 
-call_low : (tops : List ℕ) (homes : Homes) (slots top count frame mask k : ℕ) (result : Option ℕ) → slots ≤ count → homes.first + slots ≤ top → FIRST ≤ homes.first → slice_index_or tops k 0 ≤ homes.first → result_formed slots result ≡ true → Low tops top count (call_code homes frame mask k result)
-call_low tops homes slots top count frame mask k result le within own window formed =
+call_low : (tops : List ℕ) (homes : Homes) (slots top count frame mask k : ℕ) (result : Option ℕ) → Outside homes.first slots count → homes.first + slots ≤ top → FIRST ≤ homes.first → slice_index_or tops k 0 ≤ homes.first → result_formed slots result ≡ true → Low tops top count (call_code homes frame mask k result)
+call_low tops homes slots top count frame mask k result out within own window formed =
     low_joined tops top count (one (straight (mask_handed homes.first mask))) (joined (one (way_to k)) (one (straight (behind_call homes frame mask result))))
     (low_lone tops top count (mask_handed homes.first mask) (handed_low top count homes.first mask (omega (arith, own, within))))
     (low_joined tops top count (one (way_to k)) (one (straight (behind_call homes frame mask result)))
     (and_from (nat_le (slice_index_or tops k 0) top && list_all (passes top count) call_tail) true
     (and_from (nat_le (slice_index_or tops k 0) top) (list_all (passes top count) call_tail) (le-leb (slice_index_or tops k 0) top (omega (arith, window, within))) (call_tail_low top count (omega (arith, own, within)))) refl)
-    (low_lone tops top count (behind_call homes frame mask result) (behind_low top count homes slots frame mask result (omega (arith, own, within)) le within formed)))
+    (low_lone tops top count (behind_call homes frame mask result) (behind_low top count homes slots frame mask result (omega (arith, own, within)) out within formed)))
 
 send_low : (top count : ℕ) (homes : Homes) (mask core : ℕ) → FIRST + 3 < top → AreLow top count (send_code homes mask core)
 send_low top count homes mask core within =
@@ -254,11 +245,11 @@ overrun_low top count homes mask some =
     let flag = flag_low top in
     grind (arith, read, match, flag)
 
-pub iterations_begin_low : (top count homes counter n : ℕ) → 1 ≤ top → homes + counter < top → counter < count → AreLow top count (iterations_begin homes counter n)
-iterations_begin_low top count homes counter n some within lt = rw (number_low top count (fetched_at homes counter) n (fetched_low top homes counter within), keep_low top count homes counter some lt) refl
+pub iterations_begin_low : (top count homes counter n : ℕ) → 1 ≤ top → homes + counter < top → (in_register homes counter ≡ false → stack_word homes counter < count) → AreLow top count (iterations_begin homes counter n)
+iterations_begin_low top count homes counter n some within below = rw (number_low top count (fetched_at homes counter) n (fetched_low top homes counter within), keep_low top count homes counter some below) refl
 
-pub iterations_tail_low : (top count homes counter : ℕ) → 1 ≤ top → homes + counter < top → counter < count → AreLow top count (iterations_tail homes counter)
-iterations_tail_low top count homes counter some within lt = rw (fetch_low top count homes counter some, fetched_low top homes counter within, keep_low top count homes counter some lt, outside_low top 0 some) refl
+pub iterations_tail_low : (top count homes counter : ℕ) → 1 ≤ top → homes + counter < top → (in_register homes counter ≡ false → stack_word homes counter < count) → AreLow top count (iterations_tail homes counter)
+iterations_tail_low top count homes counter some within below = rw (fetch_low top count homes counter some, fetched_low top homes counter within, keep_low top count homes counter some below, outside_low top 0 some) refl
 
 -- a value that is worked out, and its last instruction under a mask
 guarded_low : (tops : List ℕ) (homes : Homes) (slots top count mask slot : ℕ) (e : PlainSp) (op : Op) → slots ≤ 128 → homes.first ≤ top → homes.first + slot < OVERRUN → homes.first + slot < top → expr_formed slots e ≡ true → FIRST + need e ≤ homes.first → Gives (value_code homes e FIRST (homes.first + slot)) op
@@ -272,14 +263,14 @@ guarded_low tops homes slots top count mask slot e op most le lt within formed f
     (calm_parts_low tops FIRST homes.first top count some le (operands_code homes e FIRST) (operands_calm homes FIRST e FIRST (omega arith) (formed_fits slots e FIRST most (omega arith) formed) free))
     (low_lone tops top count (mask_test homes mask ++ under (where_so (told_at homes mask)) op ∷ []) (rw (seek_low top count homes mask some, match_low top count homes mask some, own) refl))
 
-write_low : (tops : List ℕ) (homes : Homes) (slots top count mask : ℕ) (target : PlainSpTarget) (e : PlainSp) → slots ≤ 128 → slots ≤ count → homes.first + slots ≤ top → 1 ≤ homes.first → target_formed slots target ≡ true → expr_formed slots e ≡ true → FIRST + need e ≤ homes.first → target_least target ≤ homes.first
+write_low : (tops : List ℕ) (homes : Homes) (slots top count mask : ℕ) (target : PlainSpTarget) (e : PlainSp) → slots ≤ 128 → Outside homes.first slots count → homes.first + slots ≤ top → 1 ≤ homes.first → target_formed slots target ≡ true → expr_formed slots e ≡ true → FIRST + need e ≤ homes.first → target_least target ≤ homes.first
     → Low tops top count (write_code homes mask target e)
-write_low tops homes slots top count mask target e most le within some formed value free least = by target formed least
+write_low tops homes slots top count mask target e most out within some formed value free least = by target formed least
   where
     stored : (target : PlainSpTarget) → target_formed slots target ≡ true → target_least target ≤ homes.first → Low tops top count (joined (expr_code homes e FIRST) (target_write homes mask target))
     stored target formed least =
         low_joined tops top count (expr_code homes e FIRST) (target_write homes mask target) (own_low tops homes slots top count e FIRST most (omega arith) value free (omega (arith, within)))
-        (target_low tops homes slots top count mask target most le within some formed least)
+        (target_low tops homes slots top count mask target most out within some formed least)
 
     by : (target : PlainSpTarget) → target_formed slots target ≡ true → target_least target ≤ homes.first → Low tops top count (write_code homes mask target e)
     by (to_slot slot) formed least =
@@ -359,38 +350,39 @@ few_args fs number k count earlier formed =
 
 mutual
   pub stmt_low : (tops : List ℕ) (homes : Homes) (fs : List PlainFunction) (number slots frame counter : ℕ) (t : PlainStmt) → IsHomed homes fs number slots → slots + stmt_levels t ≤ counter + 1 → stmt_formed fs number slots t ≡ true → stmt_least tops t ≤ homes.first
-      → Low tops (homes.first + (counter + 1)) (counter + 1) (stmt_code homes frame counter t)
+      → Low tops (homes.first + (counter + 1)) (stack_word homes.first (counter + 1)) (stmt_code homes frame counter t)
   stmt_low tops homes fs number slots frame counter (masks slot e) h levels formed free =
       let parts = and_parts (nat_lt slot slots) (expr_formed slots e) formed in
       let named = ltb-true slot slots parts.0 in
       let top = homes.first + (counter + 1) in
-      let low = counter + 1 in
+      let low = stack_word homes.first (counter + 1) in
       mask_is (Low tops top low) homes slot e
       (λ p is. flag_is (truths_low tops homes top low (omega (arith, h.own)) (omega arith)) p (λ func a b. refl) e (formed_fits slots e FIRST h.most (omega arith) parts.1, free))
       (λ plain here. expr_low tops homes top low e FIRST (homes.first + slot) (formed_fits slots e FIRST h.most (omega arith) parts.1) free (omega arith) (ltb-true (homes.first + slot) OVERRUN here) (omega (arith, named, levels)))
       (λ plain there. low_joined tops top low (expr_code homes e FIRST) (slot_set homes.first slot) (own_low tops homes slots top low e FIRST h.most (omega arith) parts.1 free (omega arith))
-      (low_lone tops top low (set_word homes.first always slot FIRST ∷ []) (rw (set_low top low homes.first always slot FIRST (omega (arith, named, levels)) (omega (arith, named, levels))) refl)))
+      (low_lone tops top low (set_word homes.first always slot FIRST ∷ []) (rw (set_low top low homes.first always slot FIRST (omega (arith, named, levels)) (stack_before homes.first slot (counter + 1) (omega (arith, named, levels)))) refl)))
   stmt_low tops homes fs number slots frame counter (writes mask target e) h levels formed free =
       let parts = and_parts (nat_lt mask slots) (target_formed slots target && expr_formed slots e) formed in
       let targets = and_parts (target_formed slots target) (expr_formed slots e) parts.1 in
       let top = homes.first + (counter + 1) in
-      let low = counter + 1 in
-      write_low tops homes slots top low mask target e h.most (omega (arith, levels)) (omega (arith, levels)) (omega (arith, h.own)) targets.0 targets.1 (omega (arith, free)) (omega (arith, free))
+      let low = stack_word homes.first (counter + 1) in
+      write_low tops homes slots top low mask target e h.most (outside homes.first slots (counter + 1) low (omega (arith, levels)) (omega arith)) (omega (arith, levels)) (omega (arith, h.own)) targets.0 targets.1 (omega (arith, free)) (omega (arith, free))
   stmt_low tops homes fs number slots frame counter (calls mask k args result) h levels formed free =
       let a = and_parts (nat_lt mask slots) (callee_formed fs number k (length args) && (args_formed slots args && result_formed slots result)) formed in
       let b = and_parts (callee_formed fs number k (length args)) (args_formed slots args && result_formed slots result) a.1 in
       let c = and_parts (args_formed slots args) (result_formed slots result) b.1 in
       let top = homes.first + (counter + 1) in
-      low_joined tops top (counter + 1) (args_code homes args FIRST) (call_code homes frame mask k result)
-      (args_low tops homes slots top (counter + 1) args FIRST h.most (few_args fs number k (length args) h.earlier b.0) c.0 (omega (arith, free)) (omega arith))
-      (call_low tops homes slots top (counter + 1) frame mask k result (omega (arith, levels)) (omega (arith, levels)) h.own (omega (arith, free)) c.1)
+      let low = stack_word homes.first (counter + 1) in
+      low_joined tops top low (args_code homes args FIRST) (call_code homes frame mask k result)
+      (args_low tops homes slots top low args FIRST h.most (few_args fs number k (length args) h.earlier b.0) c.0 (omega (arith, free)) (omega arith))
+      (call_low tops homes slots top low frame mask k result (outside homes.first slots (counter + 1) low (omega (arith, levels)) (omega arith)) (omega (arith, levels)) h.own (omega (arith, free)) c.1)
   stmt_low tops homes fs number slots frame counter (transfers mask core source target count) h levels formed free =
       let parts = and_parts (nat_lt mask slots) (send_formed slots core source target count) formed in
       let send = and_parts (nat_lt core 16) (expr_formed slots source && (expr_formed slots target && expr_formed slots count)) parts.1 in
       let first = and_parts (expr_formed slots source) (expr_formed slots target && expr_formed slots count) send.1 in
       let rest = and_parts (expr_formed slots target) (expr_formed slots count) first.1 in
       let top = homes.first + (counter + 1) in
-      let low = counter + 1 in
+      let low = stack_word homes.first (counter + 1) in
       let sent = one (straight (send_code homes mask core)) in
       low_joined tops top low (expr_code homes source FIRST) (joined (expr_code homes target (FIRST + 1)) (joined (expr_code homes count (FIRST + 2)) sent)) (own_low tops homes slots top low source FIRST h.most (omega arith) first.0 (omega (arith, free)) (omega arith))
       (low_joined tops top low (expr_code homes target (FIRST + 1)) (joined (expr_code homes count (FIRST + 2)) sent) (own_low tops homes slots top low target (FIRST + 1) h.most (omega arith) rest.0 (omega (arith, free)) (omega arith))
@@ -399,23 +391,24 @@ mutual
   stmt_low tops homes fs number slots frame counter (overruns mask e) h levels formed free =
       let parts = and_parts (nat_lt mask slots) (expr_formed slots e) formed in
       let top = homes.first + (counter + 1) in
-      low_joined tops top (counter + 1) (expr_code homes e FIRST) (one (straight (overrun_code homes mask))) (own_low tops homes slots top (counter + 1) e FIRST h.most (omega arith) parts.1 free (omega arith))
-      (low_lone tops top (counter + 1) (overrun_code homes mask) (overrun_low top (counter + 1) homes mask (omega arith)))
+      let low = stack_word homes.first (counter + 1) in
+      low_joined tops top low (expr_code homes e FIRST) (one (straight (overrun_code homes mask))) (own_low tops homes slots top low e FIRST h.most (omega arith) parts.1 free (omega arith))
+      (low_lone tops top low (overrun_code homes mask) (overrun_low top low homes mask (omega arith)))
   stmt_low tops homes fs number slots frame counter (iterations count body) h levels formed free =
       let parts = and_parts (nat_lt 0 count) (stmts_formed fs number slots body) formed in
       let code = stmts_code homes frame (counter - 1) body in
       let top = homes.first + (counter + 1) in
-      let low = counter + 1 in
+      let low = stack_word homes.first (counter + 1) in
       let inner = stmts_low tops homes fs number slots frame (counter - 1) body h (omega (arith, levels, h.some)) parts.1 (omega (arith, free)) in
-      let within : Low tops top low code = low_more tops (homes.first + (counter - 1 + 1)) top (counter - 1 + 1) low code (omega arith) (omega (arith, levels, h.some)) inner in
+      let within : Low tops top low code = low_more tops (homes.first + (counter - 1 + 1)) top (stack_word homes.first (counter - 1 + 1)) low code (omega arith) (omega (arith, levels, h.some)) inner in
       low_joined tops top low (one (straight (iterations_begin homes.first counter count))) (one (repeats count code (iterations_tail homes.first counter)))
-      (low_lone tops top low (iterations_begin homes.first counter count) (iterations_begin_low top low homes.first counter count (omega arith) (omega arith) (omega arith)))
-      (and_from _ true (and_from (parts_pass tops top low code) (list_all (passes top low) (iterations_tail homes.first counter)) within (iterations_tail_low top low homes.first counter (omega arith) (omega arith) (omega arith))) refl)
+      (low_lone tops top low (iterations_begin homes.first counter count) (iterations_begin_low top low homes.first counter count (omega arith) (omega arith) (stack_before homes.first counter (counter + 1) (omega arith))))
+      (and_from _ true (and_from (parts_pass tops top low code) (list_all (passes top low) (iterations_tail homes.first counter)) within (iterations_tail_low top low homes.first counter (omega arith) (omega arith) (stack_before homes.first counter (counter + 1) (omega arith)))) refl)
 
   pub stmts_low : (tops : List ℕ) (homes : Homes) (fs : List PlainFunction) (number slots frame counter : ℕ) (ts : PlainStmts) → IsHomed homes fs number slots → slots + stmts_levels ts ≤ counter + 1 → stmts_formed fs number slots ts ≡ true → stmts_least tops ts ≤ homes.first
-      → Low tops (homes.first + (counter + 1)) (counter + 1) (stmts_code homes frame counter ts)
+      → Low tops (homes.first + (counter + 1)) (stack_word homes.first (counter + 1)) (stmts_code homes frame counter ts)
   stmts_low tops homes fs number slots frame counter no_stmt h levels formed free = refl
   stmts_low tops homes fs number slots frame counter (stmt t rest) h levels formed free =
       let parts = and_parts (stmt_formed fs number slots t) (stmts_formed fs number slots rest) formed in
-      low_joined tops (homes.first + (counter + 1)) (counter + 1) (stmt_code homes frame counter t) (stmts_code homes frame counter rest) (stmt_low tops homes fs number slots frame counter t h (omega (arith, levels)) parts.0 (omega (arith, free)))
+      low_joined tops (homes.first + (counter + 1)) (stack_word homes.first (counter + 1)) (stmt_code homes frame counter t) (stmts_code homes frame counter rest) (stmt_low tops homes fs number slots frame counter t h (omega (arith, levels)) parts.0 (omega (arith, free)))
       (stmts_low tops homes fs number slots frame counter rest h (omega (arith, levels)) parts.1 (omega (arith, free)))

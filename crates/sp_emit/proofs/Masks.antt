@@ -24,10 +24,10 @@ use Rattle.sp_emit.specs.declared.registers.TheConstants.{FIRST, SPARE, OVERRUN,
 use Rattle.sp_shape.proofs.Whole.{once_whole}
 use Rattle.sp_emit.specs.Flags.{stmt_hinders}
 use Rattle.sp_emit.specs.Truths.{is_truth, flag_code}
-use Rattle.sp_emit.specs.Places.{flag_of, shown_word, fetch_word, fetched_at, set_word, mask_test, told_in, told_at}
+use Rattle.sp_emit.specs.Places.{flag_of, shown_word, fetch_word, fetched_at, set_word, mask_test, told_in, told_at, stack_word}
 use Rattle.sp_emit.proofs.Calm.{is_calm_trail, calm_run, keeps_all, keeps_both, keeps_fewer}
 use Rattle.sp_emit.proofs.Leaving.{did_compare_short}
-use Rattle.sp_emit.proofs.WordPlaces.{with_word, Sets, fetch_is, fetch_leaves, did_set_word, set_off, sets_word, sets_straight}
+use Rattle.sp_emit.proofs.WordPlaces.{with_word, Sets, fetch_is, fetch_leaves, did_set_word, set_off, sets_word, sets_straight, stack_before}
 use Rattle.sp_emit.proofs.Once.{with_written, whole_written, kept_by_pred, so_got, did_nothing}
 use Rattle.sp_emit.proofs.FlagCode.{flag_sets}
 use Rattle.sp_emit.proofs.FlagWords.{flag_range, test_is, shown_plain, shown_flag, shown_set, shown_beside, flag_own, flag_beside}
@@ -80,14 +80,14 @@ follows_flag homes slots slot p v b s m stands is x = record {
     at u lt (inl same) = ap (λ n. shown_word homes n t) (sym same) ∙ flag_own homes slot p b m x.whole stands ∙ is ∙ sym (put_same slot v s.frame) ∙ ap (put slot v s.frame) same
     at u lt (inr other) = flag_beside homes slot u p b m x.whole stands other ∙ x.shows.frame u lt ∙ sym (put_other slot u v s.frame other)
 
-pub keeps_set : {most slot v : ℕ} {m t : Run} (homes count : ℕ) → 1 ≤ homes → OVERRUN ≤ most → slot < count → Sets most homes slot v m t → KeepsBehind (homes + count) count m t
-keeps_set homes count some least named set = record {
+pub keeps_set : {most slot v : ℕ} {m t : Run} (homes count : ℕ) → 1 ≤ homes → OVERRUN ≤ most → slot < count → Sets most homes slot v m t → KeepsBehind (homes + count) (stack_word homes count) m t
+keeps_set {most} {slot} homes count some least named set = record {
   st = set.st;
-  stack = λ a above. set.stack a (λ out is. absurd (omega (arith, is, above, named)));
+  stack = λ a above. set.stack a (λ out is. absurd (omega (arith, is, above, stack_before homes slot count named out)));
   high = λ r at lt. set.regs r (omega (arith, at, some)) (omega (arith, lt, least)) (λ is. absurd (omega (arith, is, at, named)));
 }
 
-pub keeps_slot : (homes : Homes) (count slot v : ℕ) (m : Run) → 1 ≤ homes.first → IsWhole m → slot < count → KeepsBehind (homes.first + count) count m (with_word homes.first slot v m)
+pub keeps_slot : (homes : Homes) (count slot v : ℕ) (m : Run) → 1 ≤ homes.first → IsWhole m → slot < count → KeepsBehind (homes.first + count) (stack_word homes.first count) m (with_word homes.first slot v m)
 keeps_slot homes count slot v m some whole named = keeps_set homes.first count some (omega arith) named (sets_word homes.first slot v m some whole)
 
 -- a predicate is written
@@ -103,14 +103,14 @@ follows_still {homes} {slots} {rd} {s} {m} {t} keeps x = record {
   flag = keeps.flag ∙ x.flag;
 }
 
-pub behind_still : {homes rd : ℕ} {m t : Run} (count : ℕ) → Keeps rd homes m t → KeepsBehind (homes + count) count m t
+pub behind_still : {homes rd : ℕ} {m t : Run} (count : ℕ) → Keeps rd homes m t → KeepsBehind (homes + count) (stack_word homes count) m t
 behind_still count keeps = record { st = keeps.st; stack = λ a above. ap (λ words. words a) keeps.stack; high = λ r at lt. keeps.high r (omega (arith, at)) lt }
 
 -- ---- what a statement leaves
 
 pub record Done (homes : Homes) (slots count : ℕ) (s : State) (m t : Run) : Type 0 where
   pub follows : Follows homes slots s t
-  pub keeps : KeepsBehind (homes.first + count) count m t
+  pub keeps : KeepsBehind (homes.first + count) (stack_word homes.first count) m t
 
 -- an expression of a statement is ready from a register on
 pub ready : (homes : Homes) (slots rd : ℕ) (e : PlainSp) (s : State) (m : Run) → 1 ≤ rd → rd ≤ 9 → rd + need e ≤ homes.first → slots ≤ 128 → expr_formed slots e ≡ true → HasWordConstants e → Follows homes slots s m → IsReady homes slots e rd s m
@@ -162,7 +162,7 @@ mask_done homes f frame counter slots slot e s m most fits named formed constant
         let set = flag_sets f p e r (truth p is) in
         subst (Done homes slots (counter + 1) (with_slot slot (worth e s) s) m) (sym set.is) (record {
           follows = follows_flag homes slots slot p (worth e s) set.truth s set.before is set.value (follows_still set.keeps x);
-          keeps = keeps_then (behind_still (counter + 1) set.keeps) (by_predicate (homes.first + (counter + 1)) (counter + 1) p set.truth set.before set.keeps.whole);
+          keeps = keeps_then (behind_still (counter + 1) set.keeps) (by_predicate (homes.first + (counter + 1)) (stack_word homes.first (counter + 1)) p set.truth set.before set.keeps.whole);
         })
 
     here : flag_of homes.flags slot ≡ None → homes.first + slot < OVERRUN → Done homes slots (counter + 1) (with_slot slot (worth e s) s) m (run by_words (parts_trail f (expr_to homes e FIRST (homes.first + slot))) m)
@@ -217,7 +217,7 @@ tested homes slots mask s n most named x = test_is (λ bs. Tested homes mask s n
     plain : flag_of homes.flags mask ≡ None → Tested homes mask s n (run by_words (all_done (fetch_word homes.first mask ∷ compare_short cmp.Eq TEST at 1 ∷ [])) n)
     plain is = record {
       keeps = calm_run by_words SPARE homes.first (all_done (fetch_word homes.first mask ∷ compare_short cmp.Eq TEST at 1 ∷ [])) n (omega arith) x.whole
-          (fetch_is (λ b. is_calm_trail SPARE homes.first (all_done (b ∷ compare_short cmp.Eq TEST at 1 ∷ [])) ≡ true) homes.first mask refl refl);
+          (fetch_is (λ b. is_calm_trail SPARE homes.first (all_done (b ∷ compare_short cmp.Eq TEST at 1 ∷ [])) ≡ true) homes.first mask refl (λ out. refl));
       test = ap (λ o. so (told_in o) (once by_words (compare_short cmp.Eq TEST at 1) r1)) is
           ∙ ap (so TEST) (did_compare_short by_words cmp.Eq TEST at 1 r1 whole_r1) ∙ so_got TEST (held at r1 == 1) r1 whole_r1 (omega arith) (omega arith)
           ∙ ap (λ n. n == 1) (fetch_leaves by_words homes.first mask n refl x.whole (omega (arith, named, most)) ∙ sym (shown_plain homes mask n is) ∙ x.shows.frame mask named);
@@ -232,7 +232,7 @@ slot_where homes slots count p slot rs v s r true plain some most named fits wor
       keeps = keeps_slot homes count slot v r some x.whole (omega (arith, named, fits));
     })
 slot_where homes slots count p slot rs v s r false plain some most named fits word x is off =
-    subst (Done homes slots count s r) (sym (set_off by_words homes.first (where_so p) slot rs r x.whole off)) (record { follows = x; keeps = kept_all (homes.first + count) count r })
+    subst (Done homes slots count s r) (sym (set_off by_words homes.first (where_so p) slot rs r x.whole off)) (record { follows = x; keeps = kept_all (homes.first + count) (stack_word homes.first count) r })
 
 -- so is the last instruction of a value, which sets the register of the word
 guarded_done : (homes : Homes) (f : ℕ → List Step) (slots count p slot : ℕ) (e : PlainSp) (op : Op) (s : State) (m u : Run) (on : Bool) → flag_of homes.flags slot ≡ None → IsReady homes slots e FIRST s m → slot < slots → slots ≤ count → homes.first + slot < OVERRUN → Gives (value_code homes e FIRST (homes.first + slot)) op

@@ -6,44 +6,44 @@ use Rattle.patmos_instr.specs.Bundles.{Slots}
 use Rattle.patmos_instr.specs.declared.functions.StackFunc.TheVariants.{Sres, Sfree}
 use Rattle.sp_tree.specs.Formed.{slots_of, function_formed, functions_formed}
 use Rattle.sp_tree.specs.Statements.{PlainFunction, no_function}
-use Rattle.sp_shape.specs.Parts.{PlainParts, no_part}
+use Rattle.sp_shape.specs.Parts.{no_part}
 use Rattle.sp_shape.specs.Run.{Run, Sources, run, IsWhole}
 use Rattle.sp_shape.specs.Trail.{Step, all_done, parts_trail}
 use Rattle.sp_shape.proofs.Lists.{all_append}
-use Rattle.sp_emit.specs.Functions.{argument_kept, arguments_kept, mask_in, mask_kept, place_kept, state_kept, place_brought, result_given, needs_none, frame_taken, frame_freed, base_slot, offset_slot, first_counter, function_end, body_code, function_code, places_of, return_tail}
-use Rattle.sp_emit.specs.Instructions.{copy, stack_op}
+use Rattle.sp_emit.specs.Functions.{argument_kept, arguments_kept, mask_in, mask_kept, place_kept, state_kept, place_brought, result_given, frame_taken, frame_freed, base_slot, offset_slot, first_counter, function_end, body_code, function_code, places_of, return_tail, words_taken, words_freed, frame_words}
+use Rattle.sp_emit.specs.Instructions.{always, copy}
 use Rattle.sp_emit.specs.declared.registers.TheConstants.{RESULT, MASK, FIRST, OVERRUN}
 use Rattle.sp_emit.proofs.Arguments.{did_stack}
 use Rattle.sp_emit.specs.Chains.{stmts_call}
-use Rattle.sp_emit.proofs.Bare.{needs_parts, bare_body, outside}
-use Rattle.sp_emit.proofs.Beginning.{Outside, words_taken, taken_few, reserved_behind}
+use Rattle.sp_emit.proofs.Beginning.{reserved_behind}
 use Rattle.sp_emit.specs.Functions.{codes}
 use Rattle.sp_emit.specs.Holding.{KeepsFrom}
 use Rattle.sp_emit.specs.Flags.{begun_body}
-use Rattle.sp_emit.specs.Places.{flag_of, read_word, words_cleared, stmts_least, tops, top_of}
-use Rattle.sp_emit.proofs.Codes.{codes_at, tops_at, kept_is, brought_is}
+use Rattle.sp_emit.specs.Places.{flag_of, read_word, words_cleared, stmts_least, tops, top_of, stack_word}
+use Rattle.sp_emit.proofs.Codes.{codes_at, tops_at, kept_is, brought_is, words_few, words_called, words_outside}
 use Rattle.sp_emit.proofs.BegunBody.{begun_formed, begun_levels, begun_least}
 use Rattle.sp_emit.proofs.FlagWords.{cleared_within}
 use Rattle.sp_emit.proofs.Formed as formed
-use Rattle.sp_emit.proofs.Low.{AreLow, IsHomed, spare_low, read_low, set_beside, stmts_low}
+use Rattle.sp_emit.proofs.Low.{AreLow, IsHomed, spare_low, read_low, stmts_low, set_low}
 use Rattle.sp_emit.proofs.Passing.{outside_low, AllPass, Passes, passes, passes_then, passes_more, passes_done, passes_parts}
-use Rattle.sp_emit.proofs.Serves.{Parts, parts_of_function, whole_frame, function_run, code_of}
+use Rattle.sp_emit.proofs.Serves.{Parts, parts_of_function, function_run, code_of}
 use Rattle.sp_emit.specs.declared.stands.Homes.{Homes}
+use Rattle.sp_emit.proofs.WordPlaces.{Outside}
 
 -- ---- before and after the body
 
 arguments_low : (homes : Homes) (slots top count n : ℕ) → n ≤ slots → homes.first + slots ≤ top → Outside homes.first slots count → AreLow top count (arguments_kept homes.first n)
 arguments_low homes slots top count zero le within out = refl
 arguments_low homes slots top count (suc n) le within out =
-    all_append (passes top count) (arguments_kept homes.first n) (argument_kept homes.first n) (arguments_low homes slots top count n (omega (arith, le)) within out) (rw (set_beside top count homes.first n (FIRST + n) (omega (arith, le, within)) (out n le)) refl)
+    all_append (passes top count) (arguments_kept homes.first n) (argument_kept homes.first n) (arguments_low homes slots top count n (omega (arith, le)) within out) (rw (set_low top count homes.first always n (FIRST + n) (omega (arith, le, within)) (out n le)) refl)
 
-state_low : (homes : Homes) (top count : ℕ) (f : PlainFunction) → f.mask < slots_of f → homes.first + slots_of f ≤ top → MASK < top → Outside homes.first (slots_of f) count → (stmts_call f.body ≡ true → f.frame ≤ count) → 2 ≤ f.frame → AreLow top count (state_kept homes f)
-state_low homes top count f mask within own out whole some =
-    all_append (passes top count) (mask_kept homes f) (place_kept f) (by (flag_of homes.flags f.mask))
-    (kept_is (AreLow top count) f (λ has. rw (spare_low top, lt-ltb (base_slot f) count (omega (arith, whole has, some)), lt-ltb (offset_slot f) count (omega (arith, whole has, some))) refl) refl)
+state_low : (homes : Homes) (top count : ℕ) (f : PlainFunction) → f.mask < slots_of f → homes.first + slots_of f ≤ top → MASK < top → Outside homes.first (slots_of f) count → (stmts_call f.body ≡ true → base_slot homes.first f + 2 ≤ count) → AreLow top count (state_kept homes f)
+state_low homes top count f mask within own out room =
+    all_append (passes top count) (mask_kept homes f) (place_kept homes.first f) (by (flag_of homes.flags f.mask))
+    (kept_is (AreLow top count) homes.first f (λ has. rw (spare_low top, lt-ltb (base_slot homes.first f) count (omega (arith, room has)), lt-ltb (offset_slot homes.first f) count (omega (arith, room has))) refl) refl)
   where
     by : (o : Option ℕ) → AreLow top count (mask_in o homes.first f.mask)
-    by None = rw (outside_low top MASK own, set_beside top count homes.first f.mask MASK (omega (arith, mask, within)) (out f.mask mask)) refl
+    by None = rw (outside_low top MASK own, set_low top count homes.first always f.mask MASK (omega (arith, mask, within)) (out f.mask mask)) refl
     by (Some p) = refl
 
 -- the end of a function, before its frame is freed
@@ -51,11 +51,11 @@ abbrev pub result_read : ℕ → PlainFunction → List Slots
 result_read homes f = read_word homes RESULT f.result ∷ copy MASK OVERRUN ∷ []
 
 abbrev pub given_back : ℕ → PlainFunction → List Slots
-given_back homes f = place_brought f ++ result_read homes f
+given_back homes f = place_brought homes f ++ result_read homes f
 
 -- and then it is
 pub end_run : (homes : ℕ) (from : Sources) (f : PlainFunction) (m : Run) → run from (all_done (function_end homes f)) m ≡ run from (all_done (frame_freed homes f)) (run from (all_done (given_back homes f)) m)
-end_run homes from f m = brought_is (λ bs. run from (all_done (bs ++ result_given homes f)) m ≡ run from (all_done (frame_freed homes f)) (run from (all_done (bs ++ result_read homes f)) m)) f (λ has. refl) refl
+end_run homes from f m = brought_is (λ bs. run from (all_done (bs ++ result_given homes f)) m ≡ run from (all_done (frame_freed homes f)) (run from (all_done (bs ++ result_read homes f)) m)) homes f (λ has. refl) refl
 
 -- ---- functions
 
@@ -91,32 +91,32 @@ entered homes from f m = run from (all_done (state_kept homes f)) (run from (all
 unfoldable pub worked : Homes → Sources → (ℕ → List Step) → PlainFunction → Run → Run
 worked homes from code f m = run from (parts_trail code (body_code homes f)) (entered homes from f m)
 
-takes_room : (from : Sources) (top frame : ℕ) (none : Bool) (m : Run) → IsWhole m → frame ≤ m.st → InFrame top (words_taken none frame) m (run from (all_done (if none then [] else stack_op Sres frame ∷ [])) m)
-takes_room from top frame true m whole enough = record { whole = whole; st = omega arith; behind = λ a above. refl; high = λ r at lt. refl }
-takes_room from top frame false m whole enough = subst (InFrame top frame m) (sym (did_stack from Sres frame m whole)) (record {
+takes_room : (from : Sources) (top frame : ℕ) (m : Run) → IsWhole m → InFrame top frame m (run from (all_done (words_taken frame)) m)
+takes_room from top zero m whole = record { whole = whole; st = omega arith; behind = λ a above. refl; high = λ r at lt. refl }
+takes_room from top (suc n) m whole = subst (InFrame top (suc n) m) (sym (did_stack from Sres (suc n) m whole)) (record {
   whole = record { fits = whole.fits; pending = whole.pending };
   st = refl;
-  behind = λ a above. reserved_behind m.st frame a m.stack above;
+  behind = λ a above. reserved_behind m.st (suc n) a m.stack above;
   high = λ r at lt. refl;
 })
 
-pub enters_frame : (homes : Homes) (from : Sources) (fs : List PlainFunction) (number : ℕ) (f : PlainFunction) (m : Run) → FIRST ≤ homes.first → Parts fs number f → IsWhole m → f.frame ≤ m.st → InFrame (window_end homes.first f) (words_taken (needs_none homes.first f) f.frame) m (entered homes from f m)
+pub enters_frame : (homes : Homes) (from : Sources) (fs : List PlainFunction) (number : ℕ) (f : PlainFunction) (m : Run) → FIRST ≤ homes.first → Parts fs number f → IsWhole m → f.frame ≤ m.st → InFrame (window_end homes.first f) (frame_words homes.first f) m (entered homes from f m)
 unfolding entered cleared taken
 enters_frame homes from fs number f m own p whole enough =
-    let n = words_taken (needs_none homes.first f) f.frame in
+    let n = frame_words homes.first f in
     let top = window_end homes.first f in
-    let few = taken_few (needs_none homes.first f) f.frame in
+    let few = words_few homes.first f (omega (arith, p.room)) in
     let most : n ≤ 128 = omega (arith, few, p.frame) in
     let room : n ≤ m.st = omega (arith, few, enough) in
-    let out = outside homes.first f (omega (arith, p.room)) (needs_none homes.first f) refl in
-    let first = takes_room from top f.frame (needs_none homes.first f) m whole enough in
+    let out = words_outside homes.first f (omega (arith, p.room)) in
+    let first = takes_room from top n m whole in
     let c = passes_done from top n (words_cleared homes (slots_of f)) (taken homes from f m) most first.whole
     (cleared_within (passes top n) homes (slots_of f) (λ p. refl) (λ slot lt. rw (outside_low top (homes.first + slot) (omega (arith, lt, p.room))) refl)) in
     let second = in_frame_still (omega arith) room first c in
     let a = passes_done from top n (arguments_kept homes.first f.parameters) (cleared homes from f m) most c.whole (arguments_low homes (slots_of f) top n f.parameters (omega (arith, p.before_mask, p.mask)) (omega (arith, p.room)) out) in
     let third = in_frame_still (omega arith) room second a in
     let b = passes_done from top n (state_kept homes f) (run from (all_done (arguments_kept homes.first f.parameters)) (cleared homes from f m)) most a.whole
-    (state_low homes top n f p.mask (omega (arith, p.room)) (omega (arith, own)) out (whole_frame homes.first f) (omega (arith, p.room))) in
+    (state_low homes top n f p.mask (omega (arith, p.room)) (omega (arith, own)) out (λ has. let is = words_called homes.first f has in omega (arith, is))) in
     in_frame_still (omega arith) room third b
 
 -- a function whose window begins after all that its code and what it calls use
@@ -126,48 +126,34 @@ pub record InWindow (homes : Homes) (tops : List ℕ) (fs : List PlainFunction) 
   pub least : stmts_least tops f.body ≤ homes.first
 
 pub works_in_frame : (homes : Homes) (from : Sources) (code : ℕ → List Step) (tops : List ℕ) (fs : List PlainFunction) (number low : ℕ) (f : PlainFunction) (m : Run) → InWindow homes tops fs number f → AllPass from code tops number low → IsWhole m → low + 128 ≤ m.st
-    → Passes (window_end homes.first f) (words_taken (needs_none homes.first f) (first_counter f + 1)) (entered homes from f m) (worked homes from code f m)
+    → Passes (window_end homes.first f) (stack_word homes.first (first_counter f + 1)) (entered homes from f m) (worked homes from code f m)
 unfolding worked
 works_in_frame homes from code tops fs number low f m w others whole enough =
     let p = w.parts in
+    let n = frame_words homes.first f in
+    let few = words_few homes.first f (omega (arith, p.room)) in
     let x = enters_frame homes from fs number f m w.homed.own p whole (omega (arith, enough, p.frame)) in
-    by (needs_none homes.first f) refl x.whole (omega (arith, x.st, taken_few (needs_none homes.first f) f.frame, enough, p.frame))
-  where
-    body : PlainParts
-    body = body_code homes f
+    let levels = begun_levels homes.flags f in
+    let fewer = begun_least homes.flags tops f in
+    let begun = begun_formed homes.flags fs number (slots_of f) f p.body in
+    let counter = first_counter f in
+    passes_more (omega (arith, p.room, p.mask)) (omega arith) (passes_parts from code tops number low (homes.first + (counter + 1)) (stack_word homes.first (counter + 1)) (omega (arith, p.frame)) others (body_code homes f)
+    (formed.stmts_formed homes fs number (slots_of f) n counter (begun_body homes.flags f) begun) (stmts_low tops homes fs number (slots_of f) n counter (begun_body homes.flags f) w.homed (omega (arith, p.room, p.mask, levels)) begun (omega (arith, fewer, w.least)))
+    (entered homes from f m) x.whole (omega (arith, x.st, few, enough, p.frame)))
 
-    counted : homes.first + (first_counter f + 1) ≤ window_end homes.first f
-    counted = omega (arith, w.parts.room, w.parts.mask)
-
-    by : (b : Bool) → needs_none homes.first f ≡ b → IsWhole (entered homes from f m) → low ≤ (entered homes from f m).st
-        → Passes (window_end homes.first f) (words_taken b (first_counter f + 1)) (entered homes from f m) (run from (parts_trail code body) (entered homes from f m))
-    by true none here room = passes_more counted (omega arith) (bare_body homes from code fs number f tops w.homed w.parts.body w.parts.room w.least (needs_parts homes.first f none) (entered homes from f m) here)
-    by false some here room =
-        let p = w.parts in
-        let levels = begun_levels homes.flags f in
-        let fewer = begun_least homes.flags tops f in
-        let begun = begun_formed homes.flags fs number (slots_of f) f p.body in
-        passes_more counted (omega arith) (passes_parts from code tops number low (homes.first + (first_counter f + 1)) (first_counter f + 1) (omega (arith, p.frame)) others body (formed.stmts_formed homes fs number (slots_of f) f.frame (first_counter f) (begun_body homes.flags f) begun)
-        (stmts_low tops homes fs number (slots_of f) f.frame (first_counter f) (begun_body homes.flags f) w.homed (omega (arith, p.room, p.mask, levels)) begun (omega (arith, fewer, w.least))) (entered homes from f m) here room)
-
-frees_frame : (from : Sources) (top frame : ℕ) (none : Bool) (m n : Run) → frame ≤ m.st → InFrame top (words_taken none frame) m n → Passes top 0 m (run from (all_done (if none then [] else stack_op Sfree frame ∷ [])) n)
-frees_frame from top frame true m n enough x = record { whole = x.whole; keeps = record { st = omega (arith, x.st); stack = λ a above. x.behind a (omega (arith, above)); high = x.high } }
-frees_frame from top frame false m n enough x = subst (Passes top 0 m) (sym (did_stack from Sfree frame n x.whole)) (record {
+frees_frame : (from : Sources) (top frame : ℕ) (m n : Run) → frame ≤ m.st → InFrame top frame m n → Passes top 0 m (run from (all_done (words_freed frame)) n)
+frees_frame from top zero m n enough x = record { whole = x.whole; keeps = record { st = omega (arith, x.st); stack = λ a above. x.behind a (omega (arith, above)); high = x.high } }
+frees_frame from top (suc k) m n enough x = subst (Passes top 0 m) (sym (did_stack from Sfree (suc k) n x.whole)) (record {
   whole = record { fits = x.whole.fits; pending = x.whole.pending };
   keeps = record { st = omega (arith, x.st, enough); stack = λ a above. x.behind a (omega (arith, above)); high = x.high };
 })
-
--- the body uses no more than is taken
-used_few : (none : Bool) (used frame : ℕ) → used ≤ frame → words_taken none used ≤ words_taken none frame
-used_few true used frame le = omega arith
-used_few false used frame le = le
 
 -- the end of a function changes no word of the stack
 given_low : (homes : Homes) (top : ℕ) (f : PlainFunction) → MASK < top → AreLow top 0 (given_back homes.first f)
 given_low homes top f own =
     let read = read_low top 0 homes.first RESULT f.result (omega (arith, own)) in
     let flag = outside_low top MASK own in
-    brought_is (λ bs. AreLow top 0 (bs ++ result_read homes.first f)) f (λ has. rw (spare_low top, read, flag) refl) (rw (read, flag) refl)
+    brought_is (λ bs. AreLow top 0 (bs ++ result_read homes.first f)) homes.first f (λ has. rw (spare_low top, read, flag) refl) (rw (read, flag) refl)
 
 return_low : (top : ℕ) → 1 ≤ top → AreLow top 0 return_tail
 return_low top some = rw (outside_low top 0 some) refl
@@ -181,13 +167,14 @@ passes_function homes from code tops fs number low f window others m whole enoug
     let top = window_end homes.first f in
     let room = (let e : f.frame ≤ m.st = omega (arith, enough, p.frame) in e) in
     let x = enters_frame homes from fs number f m own p whole room in
-    let none = needs_none homes.first f in
-    let fits : words_taken none f.frame ≤ m.st = omega (arith, taken_few none f.frame, room) in
-    let y = in_frame_still (used_few none (first_counter f + 1) f.frame (omega (arith, p.room, p.mask))) fits x (works_in_frame homes from code tops fs number low f m window others whole enough) in
+    let n = frame_words homes.first f in
+    let few = words_few homes.first f (omega (arith, p.room)) in
+    let fits : n ≤ m.st = omega (arith, few, room) in
+    let y = in_frame_still (omega (arith, p.room, p.mask)) fits x (works_in_frame homes from code tops fs number low f m window others whole enough) in
     let z = in_frame_still (omega arith) fits y (passes_done from top 0 (given_back homes.first f) (worked homes from code f m) (omega arith) y.whole (given_low homes top f (omega (arith, own)))) in
-    let n = run from (all_done (given_back homes.first f)) (worked homes from code f m) in
-    let w = frees_frame from top f.frame none m n room z in
-    let r = passes_done from top 0 return_tail (run from (all_done (frame_freed homes.first f)) n) (omega arith) w.whole (return_low top (omega (arith, own))) in
+    let t = run from (all_done (given_back homes.first f)) (worked homes from code f m) in
+    let w = frees_frame from top n m t fits z in
+    let r = passes_done from top 0 return_tail (run from (all_done (frame_freed homes.first f)) t) (omega arith) w.whole (return_low top (omega (arith, own))) in
     subst (Passes top 0 m) (sym (function_run homes from code f m ∙ ap (run from (all_done return_tail)) (end_run homes.first from f (worked homes from code f m)))) (passes_then w r)
 
 -- ---- all of them, in order

@@ -67,7 +67,7 @@ words_right from (begins ∷ xs) ys m words = words_right from xs ys (begun m) w
 pub portless_test : (homes : Homes) (mask : ℕ) → list_all is_portless (mask_test homes mask) ≡ true
 portless_test homes mask =
     test_is (λ bs. list_all is_portless bs ≡ true) homes mask (λ p is. refl)
-    (λ is. fetch_is (λ b. list_all is_portless (b ∷ compare_short cmp.Eq TEST (fetched_at homes.first mask) 1 ∷ []) ≡ true) homes.first mask refl refl)
+    (λ is. fetch_is (λ b. list_all is_portless (b ∷ compare_short cmp.Eq TEST (fetched_at homes.first mask) 1 ∷ []) ≡ true) homes.first mask refl (λ out. refl))
 
 pub portless_number : (rd n : ℕ) → is_portless (set_number rd n) ≡ true
 portless_number rd n = number_op_is (λ op. is_portless (under always op) ≡ true) rd n refl refl

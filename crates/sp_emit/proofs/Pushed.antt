@@ -7,7 +7,7 @@ use Rattle.sp_shape.specs.Shown.{plain_part, parts_of}
 use Rattle.sp_shape.specs.declared.parts.Part.{Part, Straight}
 use Rattle.sp_emit.specs.Division.{highest_bit, digits, around}
 use Rattle.sp_emit.specs.Flags.{begun_body}
-use Rattle.sp_emit.specs.Functions.{function_begin, function_end, leaving, body_code, function_code}
+use Rattle.sp_emit.specs.Functions.{function_begin, function_end, leaving, body_code, function_code, frame_words}
 use Rattle.sp_emit.specs.Expressions.{expr_code}
 use Rattle.sp_emit.specs.Statements.{target_write, guarded_code, straight_op, write_by, write_code, mask_handed, way_to, behind_call, call_code, iterations_begin, iterations_tail, stmt_code, stmts_code}
 use Rattle.sp_tree.specs.Shown.{plain_function}
@@ -37,13 +37,13 @@ pub around_pushed : (old first second third : PlainParts) (before behind : List 
 around_pushed old first second third before behind one two three = three_pushed old first second third (part (straight (before ++ highest_bit ∷ [])) no_part) (part digits no_part) (part (straight behind) no_part) one two three
 
 pub function_pushed : (homes : Homes) (f : SpFunction) (xs : List Part) (ts : PlainStmts) (first second third fourth : PlainParts) → xs ≡ [] → ts ≡ begun_body homes.flags (plain_function f)
-    → first ≡ joined (parts_of xs) (one (straight (function_begin homes (plain_function f)))) → second ≡ joined first (stmts_code homes f.frame (f.frame - 3) ts)
+    → first ≡ joined (parts_of xs) (one (straight (function_begin homes (plain_function f)))) → second ≡ joined first (stmts_code homes (frame_words homes.first (plain_function f)) (f.frame - 3) ts)
     → third ≡ joined second (one (straight (function_end homes.first (plain_function f)))) → fourth ≡ joined third (one leaving) → fourth ≡ function_code homes (plain_function f)
 function_pushed homes f xs ts first second third fourth none is a b c d =
     let begin = one (straight (function_begin homes (plain_function f))) in
     let body = body_code homes (plain_function f) in
     let end = one (straight (function_end homes.first (plain_function f))) in
-    let b' : second ≡ joined first body = b ∙ ap (λ s. joined first (stmts_code homes f.frame (f.frame - 3) s)) is in
+    let b' : second ≡ joined first body = b ∙ ap (λ s. joined first (stmts_code homes (frame_words homes.first (plain_function f)) (f.frame - 3) s)) is in
     let a' : first ≡ begin = a ∙ ap (λ l. joined (parts_of l) begin) none in
     d ∙ ap (λ x. joined x (one leaving)) (c ∙ ap (λ x. joined x end) (b' ∙ ap (λ x. joined x body) a')) ∙ joined-assoc (joined begin body) end (one leaving)
     ∙ joined-assoc begin body (joined end (one leaving))

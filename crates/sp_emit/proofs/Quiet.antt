@@ -86,7 +86,7 @@ unfolding factor_rest_to
 held_quiet op rd ra n = held_is AreQuiet op rd ra n (grind arith) (grind arith)
 
 read_quiet : (homes rd slot : ℕ) → is_quiet_op always (read_op homes rd slot) ≡ true
-read_quiet homes rd slot = read_op_is (λ op. is_quiet_op always op ≡ true) homes rd slot refl refl
+read_quiet homes rd slot = read_op_is (λ op. is_quiet_op always op ≡ true) homes rd slot refl (λ out. refl)
 
 number_quiet : (rd n : ℕ) → is_quiet_op always (number_op rd n) ≡ true
 number_quiet rd n = number_op_is (λ op. is_quiet_op always op ≡ true) rd n refl refl

@@ -50,11 +50,11 @@ starts from ra rb a b m whole few is_a is_b word_a word_b =
     let w3 = write.Register REMAINDER 0 in
     let m3 = with_written w3 m2 in
     let h3 = whole_written w3 m2 h2 in
-    let w4 = write.Register DIGITS 16 in
+    let w4 = write.Register DIGITS 8 in
     let steps : run from (all_done (operands ra rb)) m ≡ with_written w4 m3 =
-    ap (λ t. once from (set_short always DIGITS 16) (once from (set_short always REMAINDER 0) (once from (copy DIVISOR rb) t))) (did_copy from DIVIDEND ra m whole)
-    ∙ ap (λ t. once from (set_short always DIGITS 16) (once from (set_short always REMAINDER 0) t)) (did_copy from DIVISOR rb m1 h1)
-    ∙ ap (once from (set_short always DIGITS 16)) (did_set_short from always REMAINDER 0 m2 h2 h2.fits.always) ∙ did_set_short from always DIGITS 16 m3 h3 h3.fits.always in
+    ap (λ t. once from (set_short always DIGITS 8) (once from (set_short always REMAINDER 0) (once from (copy DIVISOR rb) t))) (did_copy from DIVIDEND ra m whole)
+    ∙ ap (λ t. once from (set_short always DIGITS 8) (once from (set_short always REMAINDER 0) t)) (did_copy from DIVISOR rb m1 h1)
+    ∙ ap (once from (set_short always DIGITS 8)) (did_set_short from always REMAINDER 0 m2 h2 h2.fits.always) ∙ did_set_short from always DIGITS 8 m3 h3 h3.fits.always in
     let b1 : held rb m1 ≡ b = kept DIVIDEND v rb m whole (omega (arith, few)) (λ same. absurd (omega (arith, same, few))) ∙ is_b in
     let d1 = held_written w1 DIVIDEND m whole (omega arith) ∙ ap (λ n. (n + 0) % 2 ^ 32) is_a ∙ word_copied a word_a in
     let d2 = held_written w2 DIVISOR m1 h1 (omega arith) ∙ ap (λ n. (n + 0) % 2 ^ 32) b1 ∙ word_copied b word_b in
@@ -339,13 +339,13 @@ large_rest_is a b r word_a word_b word_r is_r = by (has_bit b 31) refl (nat_le b
 -- ---- the whole
 
 run_around : (from : Sources) (f : ℕ → List Step) (before behind : List Slots) (m : Run)
-    → run from (parts_trail f (around before behind)) m ≡ run from (all_done behind) (run from (copies 16 (all_done digit_tail)) (once from highest_bit (run from (all_done before) m)))
+    → run from (parts_trail f (around before behind)) m ≡ run from (all_done behind) (run from (copies 8 (all_done digit_tail)) (once from highest_bit (run from (all_done before) m)))
 run_around from f before behind m =
     let first = all_done (before ++ highest_bit ∷ []) in
-    run_append from first (copies 16 (all_done digit_tail) ++ (all_done behind ++ [])) m
-    ∙ run_append from (copies 16 (all_done digit_tail)) (all_done behind ++ []) (run from first m)
-    ∙ ap (λ steps. run from steps (run from (copies 16 (all_done digit_tail)) (run from first m))) (append-nil (all_done behind))
-    ∙ ap (λ t. run from (all_done behind) (run from (copies 16 (all_done digit_tail)) t)) (run_before from before m)
+    run_append from first (copies 8 (all_done digit_tail) ++ (all_done behind ++ [])) m
+    ∙ run_append from (copies 8 (all_done digit_tail)) (all_done behind ++ []) (run from first m)
+    ∙ ap (λ steps. run from steps (run from (copies 8 (all_done digit_tail)) (run from first m))) (append-nil (all_done behind))
+    ∙ ap (λ t. run from (all_done behind) (run from (copies 8 (all_done digit_tail)) t)) (run_before from before m)
 
 -- after the digits of unsigned words: the dividend still stands in its register
 record UnsignedDivided (a b ra : ℕ) (m t : Run) : Type 0 where
@@ -353,12 +353,12 @@ record UnsignedDivided (a b ra : ℕ) (m t : Run) : Type 0 where
   dividend : held ra t ≡ a
 
 unsigned_divided : (from : Sources) (ra rb a b : ℕ) (m : Run) → IsWhole m → ra < 27 → rb < 27 → held ra m ≡ a → held rb m ≡ b → a < 2 ^ 32 → b < 2 ^ 32
-    → UnsignedDivided a b ra m (run from (copies 16 (all_done digit_tail)) (once from highest_bit (run from (all_done (operands ra rb)) m)))
+    → UnsignedDivided a b ra m (run from (copies 8 (all_done digit_tail)) (once from highest_bit (run from (all_done (operands ra rb)) m)))
 unsigned_divided from ra rb a b m whole low few is_a is_b word_a word_b =
     let before = operands ra rb ++ highest_bit ∷ [] in
     let n = run from (all_done before) m in
     let k1 = calm_run from 27 0 (all_done before) m (omega arith) whole refl in
-    let k2 = calm_run from 27 0 (copies 16 (all_done digit_tail)) n (omega arith) k1.whole refl in
+    let k2 = calm_run from 27 0 (copies 8 (all_done digit_tail)) n (omega arith) k1.whole refl in
     record {
       divides = digits_done from _ a b (run from (all_done (operands ra rb)) m) (starts from ra rb a b m whole few is_a is_b word_a word_b);
       dividend = k2.low ra low ∙ k1.low ra low ∙ is_a;
@@ -415,7 +415,7 @@ signless from p q ra rb a b m some_p few_p some_q few_q other whole few is_a is_
 
 -- the sign that is asked for stays through the digits
 signed_divided : (from : Sources) (p q a b : ℕ) (on : Bool) (t : Run) → Signless p q a b t → so SECOND t ≡ on
-    → Divides on (iterated 32 (size_of b) (size_of a, 0)).0 (iterated 32 (size_of b) (size_of a, 0)).1 (size_of b) (run from (copies 16 (all_done digit_tail)) (once from highest_bit t))
+    → Divides on (iterated 32 (size_of b) (size_of a, 0)).0 (iterated 32 (size_of b) (size_of a, 0)).1 (size_of b) (run from (copies 8 (all_done digit_tail)) (once from highest_bit t))
 signed_divided from p q a b on t x is = digits_done from on (size_of a) (size_of b) t (subst (λ s. Divides s (size_of a) 0 (size_of b) t) is x.divides)
 
 pub signed_quotient_left : (from : Sources) (f : ℕ → List Step) (rd ra rb a b : ℕ) (m : Run) → IsWhole m → 1 ≤ rd → rd < 32 → rb < 27 → held ra m ≡ a → held rb m ≡ b → a < 2 ^ 32 → b < 2 ^ 32

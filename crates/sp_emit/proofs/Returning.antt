@@ -1,5 +1,5 @@
 -- What a function's code leaves after its body: its result, the flag, and the stack without its frame.
-use Rattle.std.proofs.Common.{◌≡◌, ℕ, ◌+◌, ◌%◌, ◌^◌, ◌<◌, Bool, true, false, if◌then◌else◌, List, [], ◌∷◌, ◌++◌, refl, sym, ap, ◌∙◌, subst, arith}
+use Rattle.std.proofs.Common.{◌≡◌, ℕ, zero, suc, ◌+◌, ◌%◌, ◌^◌, ◌<◌, Bool, true, false, if◌then◌else◌, List, [], ◌∷◌, ◌++◌, refl, sym, ap, ◌∙◌, subst, arith}
 use Rattle.patmos_instr.specs.Bundles.{Slots}
 use Rattle.patmos_instr.specs.declared.functions.StackFunc.TheVariants.{Sfree}
 use Rattle.patmos_instr.specs.declared.instructions.Op.TheVariants.{ToSpecial, Return}
@@ -15,15 +15,14 @@ use Rattle.c_world.specs.World.{World}
 use Rattle.sp_shape.specs.Run.{Run, Sources, by_words, once, run, effected, with_settled, settled, IsWhole}
 use Rattle.sp_shape.specs.Run as runs
 use Rattle.sp_shape.specs.Trail.{all_done}
-use Rattle.sp_emit.specs.Functions.{return_tail}
+use Rattle.sp_emit.specs.Functions.{words_freed, return_tail}
 use Rattle.sp_emit.specs.Holding.{held, Keeps, KeepsFrom}
 use Rattle.sp_emit.specs.Places.{word_of, read_word}
-use Rattle.sp_emit.specs.Instructions.{always, copy, load_slot, to_special, stack_op, return}
+use Rattle.sp_emit.specs.Instructions.{always, copy, load_slot, to_special, return}
 use Rattle.sp_emit.specs.Means.{HasWords}
 use Rattle.sp_emit.specs.Serving.{Carries}
 use Rattle.sp_emit.specs.declared.registers.TheConstants.{RESULT, MASK, SPARE, OVERRUN}
 use Rattle.sp_emit.proofs.Arguments.{did_stack}
-use Rattle.sp_emit.proofs.Beginning.{words_taken}
 use Rattle.sp_emit.proofs.Calling.{Begins, idle_begins}
 use Rattle.sp_emit.proofs.Calm.{is_calm_trail, calm_run}
 use Rattle.sp_emit.proofs.CalmCode.{own_free}
@@ -85,35 +84,35 @@ flag_copied : (b : Bool) → (flag b + 0) % 2 ^ 32 ≡ flag b
 flag_copied true = refl
 flag_copied false = refl
 
-abbrev given_of : ℕ → ℕ → Bool → ℕ → List Slots
-given_of homes frame none slot = read_word homes RESULT slot ∷ copy MASK OVERRUN ∷ (if none then [] else stack_op Sfree frame ∷ [])
+abbrev given_of : ℕ → ℕ → ℕ → List Slots
+given_of homes frame slot = read_word homes RESULT slot ∷ copy MASK OVERRUN ∷ words_freed frame
 
--- a frame is freed, or none
-record Freed (taken : ℕ) (m t : Run) : Type 0 where
+-- words of the stack are freed
+record Freed (frame : ℕ) (m t : Run) : Type 0 where
   whole : IsWhole t
   regs : (r : ℕ) → held r t ≡ held r m
   stack : t.stack ≡ m.stack
-  st : t.st ≡ m.st + taken
+  st : t.st ≡ m.st + frame
   memory : t.memory ≡ m.memory
 
-frees : (none : Bool) (frame : ℕ) (m : Run) → IsWhole m → Freed (words_taken none frame) m (run by_words (all_done (if none then [] else stack_op Sfree frame ∷ [])) m)
-frees true frame m whole = record { whole = whole; regs = λ r. refl; stack = refl; st = omega arith; memory = refl }
-frees false frame m whole = subst (Freed frame m) (sym (did_stack by_words Sfree frame m whole)) (record { whole = record { fits = whole.fits; pending = whole.pending }; regs = λ r. refl; stack = refl; st = refl; memory = refl })
+frees : (frame : ℕ) (m : Run) → IsWhole m → Freed frame m (run by_words (all_done (words_freed frame)) m)
+frees zero m whole = record { whole = whole; regs = λ r. refl; stack = refl; st = omega arith; memory = refl }
+frees (suc n) m whole = subst (Freed (suc n) m) (sym (did_stack by_words Sfree (suc n) m whole)) (record { whole = record { fits = whole.fits; pending = whole.pending }; regs = λ r. refl; stack = refl; st = refl; memory = refl })
 
-gives_value : (homes : ℕ) (w : World) (frame : ℕ) (none : Bool) (slot v : ℕ) (m n : Run) → Ends homes w m n → MASK < homes → slot < 128 → word_of homes slot m ≡ v → v < 2 ^ 32
-    → Returned homes w (words_taken none frame) v m (run by_words (all_done return_tail) (run by_words (all_done (given_of homes frame none slot)) n))
-gives_value homes w frame none slot v m n b within few value word =
+gives_value : (homes : ℕ) (w : World) (frame slot v : ℕ) (m n : Run) → Ends homes w m n → MASK < homes → slot < 128 → word_of homes slot m ≡ v → v < 2 ^ 32
+    → Returned homes w frame v m (run by_words (all_done return_tail) (run by_words (all_done (given_of homes frame slot)) n))
+gives_value homes w frame slot v m n b within few value word =
     let own = own_free 1 homes RESULT (omega arith) (omega arith) (omega (arith, within)) in
     let c = ends_calm homes w m n (read_word homes RESULT slot) b (calm_run by_words 1 homes (all_done (read_word homes RESULT slot ∷ [])) n (omega arith) b.carries.whole
-    (read_is (λ b. is_calm_trail 1 homes (all_done (b ∷ [])) ≡ true) homes RESULT slot (grind (arith, own)) (grind (arith, own)))) in
+    (read_is (λ b. is_calm_trail 1 homes (all_done (b ∷ [])) ≡ true) homes RESULT slot (grind (arith, own)) (λ out. grind (arith, own)))) in
     let n1 = once by_words (read_word homes RESULT slot) n in
     let same : word_of homes slot n ≡ v = word_still homes slot m n b.high b.stack b.st ∙ value in
     let is : held RESULT n1 ≡ v = read_leaves by_words homes RESULT slot n refl b.carries.whole (omega arith) (omega arith) few (subst (λ x. x < 2 ^ 32) (sym same) word) ∙ same in
     let free_mask = own_free 2 homes MASK (omega arith) (omega arith) within in
     let k = calm_run by_words 2 homes (all_done (copy MASK OVERRUN ∷ [])) n1 (omega arith) c.carries.whole (grind (arith, free_mask)) in
     let n2 = once by_words (copy MASK OVERRUN) n1 in
-    let free = frees none frame n2 k.whole in
-    let n3 = run by_words (all_done (if none then [] else stack_op Sfree frame ∷ [])) n2 in
+    let free = frees frame n2 k.whole in
+    let n3 = run by_words (all_done (words_freed frame)) n2 in
     let r = returns_with n3 free.whole in
     record {
       carries = record {
@@ -126,18 +125,18 @@ gives_value homes w frame none slot v m n b within few value word =
       flagged = r.regs MASK (omega arith) ∙ free.regs MASK ∙ ap (held MASK) (did_copy by_words MASK OVERRUN n1 c.carries.whole) ∙ held_written (write.Register MASK ((held OVERRUN n1 + 0) % 2 ^ 32)) MASK n1 c.carries.whole (omega arith)
           ∙ ap (λ z. (z + 0) % 2 ^ 32) c.carries.flag ∙ flag_copied w.overrun;
       stack = r.stack ∙ free.stack ∙ k.stack ∙ c.stack;
-      st = r.st ∙ free.st ∙ ap (λ n. n + words_taken none frame) (k.st ∙ c.st);
+      st = r.st ∙ free.st ∙ ap (λ n. n + frame) (k.st ∙ c.st);
       high = λ q from lt. r.regs q (omega (arith, lt)) ∙ free.regs q ∙ k.high q from lt ∙ c.high q from lt;
     }
 
 -- the place to which the function returns is brought back before, where it calls others
-abbrev place_of : ℕ → ℕ → Bool → List Slots
-place_of base offset calls = if calls then load_slot SPARE base ∷ to_special writable.Srb SPARE ∷ load_slot SPARE offset ∷ to_special writable.Sro SPARE ∷ [] else []
+abbrev place_of : ℕ → Bool → List Slots
+place_of base calls = if calls then load_slot SPARE base ∷ to_special writable.Srb SPARE ∷ load_slot SPARE (base + 1) ∷ to_special writable.Sro SPARE ∷ [] else []
 
-pub returns_value : (homes : ℕ) (w : World) (frame base offset : ℕ) (none : Bool) (slot v : ℕ) (calls : Bool) (m : Run) → Carries w m → MASK < homes → slot < 128 → word_of homes slot m ≡ v → v < 2 ^ 32
-    → Returned homes w (words_taken none frame) v m (run by_words (all_done return_tail) (run by_words (all_done (place_of base offset calls ++ given_of homes frame none slot)) m))
-returns_value homes w frame base offset none slot v true m carries within few value word =
+pub returns_value : (homes : ℕ) (w : World) (frame base slot v : ℕ) (calls : Bool) (m : Run) → Carries w m → MASK < homes → slot < 128 → word_of homes slot m ≡ v → v < 2 ^ 32
+    → Returned homes w frame v m (run by_words (all_done return_tail) (run by_words (all_done (place_of base calls ++ given_of homes frame slot)) m))
+returns_value homes w frame base slot v true m carries within few value word =
     let a = ends_special homes w m m base writable.Srb (record { carries = carries; stack = refl; st = refl; high = λ q from lt. refl }) in
-    gives_value homes w frame none slot v m _ (ends_special homes w m _ offset writable.Sro a) within few value word
-returns_value homes w frame base offset none slot v false m carries within few value word =
-    gives_value homes w frame none slot v m m (record { carries = carries; stack = refl; st = refl; high = λ q from lt. refl }) within few value word
+    gives_value homes w frame slot v m _ (ends_special homes w m _ (base + 1) writable.Sro a) within few value word
+returns_value homes w frame base slot v false m carries within few value word =
+    gives_value homes w frame slot v m m (record { carries = carries; stack = refl; st = refl; high = λ q from lt. refl }) within few value word

@@ -25,7 +25,7 @@ use Rattle.sp_emit.specs.Division.{unsigned_quotient_to}
 use Rattle.sp_emit.specs.Divisors.{factor_rest_to}
 use Rattle.sp_emit.specs.Expressions.{unary_code, binary_code, held_code, number_of, value_code, operands_code, expr_to, expr_code, operand_code, value_at, is_immediate, address_of, spare_op, length_op, below_op, has_offset, base_op, scaled_op, slot_number}
 use Rattle.sp_emit.proofs.Codes.{kept_is, brought_is, taken_is, freed_is}
-use Rattle.sp_emit.specs.Functions.{argument_kept, first_counter, arguments_kept, mask_in, mask_kept, place_kept, state_kept, frame_taken, result_given, function_rest, body_code, function_code}
+use Rattle.sp_emit.specs.Functions.{argument_kept, first_counter, arguments_kept, mask_in, mask_kept, place_kept, state_kept, frame_taken, result_given, function_rest, body_code, function_code, frame_words}
 use Rattle.std.specs.Prelude.{◌-◌}
 use Rattle.patmos_instr.specs.declared.guards.Guard.{Guard}
 use Rattle.patmos_instr.specs.declared.instructions.Op.{Op}
@@ -64,13 +64,13 @@ unfolding factor_rest_to
 held_room op rd ra n = held_is (λ bs. bundles_room bs ≤ binary_cost op) op rd ra n (grind arith) (grind arith)
 
 read_words : (homes rd slot : ℕ) → bundle_room (read_word homes rd slot) ≤ 2
-read_words homes rd slot = read_is (λ b. bundle_room b ≤ 2) homes rd slot (omega arith) (omega arith)
+read_words homes rd slot = read_is (λ b. bundle_room b ≤ 2) homes rd slot (omega arith) (λ out. omega arith)
 
 keep_words : (homes slot : ℕ) → bundle_room (keep_word homes slot) ≤ 1
-keep_words homes slot = keep_is (λ b. bundle_room b ≤ 1) homes slot (omega arith) (omega arith)
+keep_words homes slot = keep_is (λ b. bundle_room b ≤ 1) homes slot (omega arith) (λ out. omega arith)
 
 fetch_words : (homes slot : ℕ) → bundle_room (fetch_word homes slot) ≤ 2
-fetch_words homes slot = fetch_is (λ b. bundle_room b ≤ 2) homes slot (omega arith) (omega arith)
+fetch_words homes slot = fetch_is (λ b. bundle_room b ≤ 2) homes slot (omega arith) (λ out. omega arith)
 
 seek_words : (homes : Homes) (mask : ℕ) → bundle_room (seek_word homes mask) ≤ 2
 seek_words homes mask = seek_is (λ b. bundle_room b ≤ 2) homes mask (omega arith) (fetch_words homes.first mask)
@@ -100,7 +100,7 @@ scaled_words : (a : SpArray) (rd ra : ℕ) → bundle_room (under always (scaled
 scaled_words a rd ra = scaled_op_is (λ op. bundle_room (under always op) ≤ 1) a rd ra (omega arith) (omega arith)
 
 set_words : (homes : ℕ) (g : Guard) (slot rs : ℕ) → bundle_room (set_word homes g slot rs) ≤ 1
-set_words homes g slot rs = set_op_is (λ op. bundle_room (under g op) ≤ 1) homes slot rs (omega arith) (omega arith)
+set_words homes g slot rs = set_op_is (λ op. bundle_room (under g op) ≤ 1) homes slot rs (omega arith) (λ out. omega arith)
 
 -- each costs a word
 some_unary : (op : SpUnary) → 1 ≤ unary_cost op
@@ -536,12 +536,12 @@ function_room homes fs n f h before =
     let few = and_parts (nat_le f.parameters 6) _ a.1 in
     omega (
       arith,
-      taken_is (λ bs. bundles_room bs ≤ 1) homes.first f (omega arith) (omega arith),
-      kept_is (λ bs. bundles_room bs ≤ 4) f (λ has. omega arith) (omega arith),
+      taken_is (λ bs. bundles_room bs ≤ 1) (frame_words homes.first f) (omega arith) (omega arith),
+      kept_is (λ bs. bundles_room bs ≤ 4) homes.first f (λ has. omega arith) (omega arith),
       mask_room homes f,
-      room_append (mask_kept homes f) (place_kept f),
-      brought_is (λ bs. bundles_room (bs ++ result_given homes.first f) ≤ 10) f (λ has. omega (arith, freed_is (λ bs. bundles_room bs ≤ 1) homes.first f (omega arith) (omega arith), read_words homes.first RESULT f.result))
-          (omega (arith, freed_is (λ bs. bundles_room bs ≤ 1) homes.first f (omega arith) (omega arith), read_words homes.first RESULT f.result)),
+      room_append (mask_kept homes f) (place_kept homes.first f),
+      brought_is (λ bs. bundles_room (bs ++ result_given homes.first f) ≤ 10) homes.first f (λ has. omega (arith, freed_is (λ bs. bundles_room bs ≤ 1) (frame_words homes.first f) (omega arith) (omega arith), read_words homes.first RESULT f.result))
+          (omega (arith, freed_is (λ bs. bundles_room bs ≤ 1) (frame_words homes.first f) (omega arith) (omega arith), read_words homes.first RESULT f.result)),
       room_append (frame_taken homes.first f) (words_cleared homes (tree.slots_of f) ++ (arguments_kept homes.first f.parameters ++ state_kept homes f)),
       leb-true f.parameters 6 few.0,
       before,
@@ -551,6 +551,6 @@ function_room homes fs n f h before =
       room_append (words_cleared homes (tree.slots_of f)) (arguments_kept homes.first f.parameters ++ state_kept homes f),
       room_append (arguments_kept homes.first f.parameters) (state_kept homes f),
       room_both (body_code homes f) (function_rest homes.first f),
-      stmts_room homes f.frame (first_counter f) (begun_body homes.flags f),
+      stmts_room homes (frame_words homes.first f) (first_counter f) (begun_body homes.flags f),
       begun_costs homes.flags f,
     )

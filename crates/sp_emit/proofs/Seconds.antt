@@ -114,7 +114,7 @@ number_spares : (rd n : ℕ) → spares (set_number rd n) ≡ true
 number_spares rd n = number_op_is (λ op. spares (under always op) ≡ true) rd n refl refl
 
 read_spares : (homes rd slot : ℕ) → spares (read_word homes rd slot) ≡ true
-read_spares homes rd slot = read_is (λ b. spares b ≡ true) homes rd slot refl refl
+read_spares homes rd slot = read_is (λ b. spares b ≡ true) homes rd slot refl (λ out. refl)
 
 cell_spares : (r : Region) (word rd : ℕ) → list_all spares (cell_code (record { region = r; word = word }) rd) ≡ true
 cell_spares r word rd = let address = number_spares rd (address_of r word) in grind (arith, address)

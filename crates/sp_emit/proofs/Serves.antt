@@ -12,21 +12,20 @@ use Rattle.sp_tree.specs.Statements.{PlainFunction, no_function, calls}
 use Rattle.sp_tree.specs.Straight.{State, Outcome, Serves, stmts_done, begun_frame, function_outcome, serves}
 use Rattle.sp_shape.proofs.Whole.{run_append}
 use Rattle.sp_shape.specs.Parts.{no_part, joined}
-use Rattle.sp_shape.specs.Run.{Run, Sources, by_words, run, IsWhole}
+use Rattle.sp_shape.specs.Run.{Run, Sources, by_words, run}
 use Rattle.sp_shape.specs.Trail.{Step, all_done, parts_trail, trails}
 use Rattle.sp_shape.proofs.Lists.{done_append}
 use Rattle.std.specs.List.{list_all}
-use Rattle.sp_emit.specs.Functions.{arguments_kept, state_kept, needs_none, frame_taken, function_begin, function_end, function_rest, body_code, function_code, places_of, first_counter, return_tail}
-use Rattle.sp_emit.specs.Means.{Follows, KeepsBehind, HasStmtConstants, HasStmtsConstants, HasConstants}
+use Rattle.sp_emit.specs.Functions.{arguments_kept, state_kept, frame_taken, function_begin, function_end, function_rest, body_code, function_code, places_of, first_counter, return_tail, base_slot, frame_words}
+use Rattle.sp_emit.specs.Means.{Follows, HasStmtConstants, HasStmtsConstants, HasConstants}
 use Rattle.sp_emit.specs.declared.registers.TheConstants.{OVERRUN}
 use Rattle.sp_emit.specs.Serving.{Carries, CalledWith}
 use Rattle.sp_emit.specs.Functions.{codes}
 use Rattle.sp_emit.specs.Chains.{stmts_call}
 use Rattle.sp_emit.specs.Flags.{stmt_hinders, begun_body, function_stands}
-use Rattle.sp_emit.specs.Places.{flag_words, flag_of, shown_word, words_cleared, homes_over, tops, top_of, stmt_least}
-use Rattle.sp_emit.proofs.Codes.{codes_at, tops_at}
-use Rattle.sp_emit.proofs.Bare.{needs_parts, calls_need, bare_body, outside}
-use Rattle.sp_emit.proofs.Beginning.{words_taken, taken_few, begins_frame}
+use Rattle.sp_emit.specs.Places.{flag_words, flag_of, shown_word, words_cleared, homes_over, tops, top_of, stmt_least, homes_of}
+use Rattle.sp_emit.proofs.Codes.{codes_at, tops_at, words_few, words_called, words_outside, base_outside}
+use Rattle.sp_emit.proofs.Beginning.{begins_frame}
 use Rattle.sp_emit.proofs.Calling.{Returns, ServedBy, call_is_done}
 use Rattle.sp_emit.proofs.BegunBody.{begun_formed, begun_levels, begun_least, begun_constants}
 use Rattle.sp_emit.proofs.Entering.{begun_words, enters}
@@ -66,10 +65,6 @@ parts_of_function fs number f formed =
       body = g.1;
       room = omega (arith, mask);
     }
-
--- one that calls others takes its whole frame
-pub whole_frame : (homes : ℕ) (f : PlainFunction) → stmts_call f.body ≡ true → f.frame ≤ words_taken (needs_none homes f) f.frame
-whole_frame homes f has = let same = ap (λ b. words_taken b f.frame) (calls_need homes f has) in omega (arith, same)
 
 -- what a function begins with, piece by piece
 pub begin_run : (homes : Homes) (from : Sources) (f : PlainFunction) (m : Run) → run from (all_done (function_begin homes f)) m
@@ -129,29 +124,28 @@ follows_begun homes slots f mask args w t x carries shows = by (flag_of homes.fl
 
 -- a function over what the earlier ones do
 pub function_serves : (homes : Homes) (tops : List ℕ) (code : ℕ → List Step) (g : Serves) (fs : List PlainFunction) (number low : ℕ) (f : PlainFunction) → functions_formed fs number ≡ true → function_formed fs number f ≡ true → HasStmtsConstants f.body → homes_over tops f ≤ homes.first → function_stands homes.flags f ≡ true
-    → CallsRun homes tops code g fs number f.frame (slots_of f) low
+    → CallsRun homes tops code g fs number (frame_words homes.first f) (slots_of f) low
     → (mask : ℕ) (args : List ℕ) (w : World) (m : Run) → length args ≡ f.parameters → low + 128 ≤ m.st → CalledWith mask args w m → Returns (homes.first + (f.frame - 2)) (function_outcome g f mask args w) m (run by_words (parts_trail code (function_code homes f)) m)
 function_serves homes tops code g fs number low f earlier formed constants least placed others mask args w m count enough x =
     let p = parts_of_function fs number f formed in
     let slots = slots_of f in
     let t1 = run by_words (all_done (arguments_kept homes.first f.parameters)) (run by_words (all_done (words_cleared homes slots)) (run by_words (all_done (frame_taken homes.first f)) m)) in
-    let none = needs_none homes.first f in
-    let n = words_taken none f.frame in
-    let few = taken_few none f.frame in
-    let out = outside homes.first f (omega (arith, p.room)) none refl in
+    let n = frame_words homes.first f in
+    let few = words_few homes.first f (omega (arith, p.room)) in
+    let out = words_outside homes.first f (omega (arith, p.room)) in
     let stand = stands_of homes.flags f placed in
-    let taken = begins_frame homes f.frame slots f.parameters none args m (λ i lt. stand.parameters i (omega (arith, lt, count))) x.carries.whole count (omega (arith, least)) (omega (arith, p.before_mask, p.mask)) p.parameters out (omega (arith, p.room, p.frame)) (omega (arith, p.frame, enough)) x.given x.arg_words in
+    let taken = begins_frame homes n slots f.parameters args m (λ i lt. stand.parameters i (omega (arith, lt, count))) x.carries.whole count (omega (arith, least)) (omega (arith, p.before_mask, p.mask)) p.parameters out (omega (arith, p.room, p.frame)) (omega (arith, few, p.frame, enough)) x.given x.arg_words in
     let t2 = run by_words (all_done (state_kept homes f)) t1 in
-    let e = enters homes slots n f.frame f.mask mask (stmts_call f.body) (slice_index args) w m t1 (omega (arith, least)) (omega (arith, p.room)) p.frame (omega (arith, few, p.frame, enough)) (λ has. whole_frame homes.first f has) out p.mask x.masked x.mask_word x.carries taken in
+    let e = enters homes slots n (base_slot homes.first f) f.mask mask (stmts_call f.body) (slice_index args) w m t1 (omega (arith, least)) (omega (arith, p.room, p.frame)) (omega (arith, few, p.frame)) (omega (arith, few, p.frame, enough)) (λ has. let is = words_called homes.first f has in omega (arith, is)) out (base_outside homes.first f (omega (arith, p.room))) p.mask x.masked x.mask_word x.carries taken in
     let s : State = record { frame = begun_frame f mask args; world = w } in
     let y = follows_begun homes slots f mask args w t2 x e.carries e.frame_is in
     let z = stmts_done g (begun_body homes.flags f) (begun_state (flag_of homes.flags f.mask) f.mask s) in
     let levels = begun_levels homes.flags f in
     let fewer = begun_least homes.flags tops f in
-    let d = stmts_run homes tops code g fs number f.frame slots (first_counter f) low others (omega (arith, p.room, p.frame)) (omega (arith, p.room, p.frame, p.mask)) (omega (arith, p.room, p.mask)) (begun_body homes.flags f) (omega (arith, p.room, p.mask, levels))
+    let d = stmts_run homes tops code g fs number n slots (first_counter f) low others (omega (arith, p.room, p.frame)) (omega (arith, p.room, p.frame, p.mask)) (begun_body homes.flags f) (omega (arith, p.room, p.mask, levels))
     (begun_formed homes.flags fs number slots f p.body) (begun_constants homes.flags f constants) (omega (arith, least, fewer)) stand.body (begun_state (flag_of homes.flags f.mask) f.mask s) t2 (omega (arith, e.st, few, enough, p.frame)) y in
     let t3 = run by_words (parts_trail code (body_code homes f)) t2 in
-    let r = returns_value homes.first z.world f.frame (f.frame - 2) (f.frame - 1) none f.result (z.frame f.result) (stmts_call f.body) t3 (record { whole = d.follows.whole; has = d.follows.shows.world; words = d.follows.words.world; flag = d.follows.flag })
+    let r = returns_value homes.first z.world n (base_slot homes.first f) f.result (z.frame f.result) (stmts_call f.body) t3 (record { whole = d.follows.whole; has = d.follows.shows.world; words = d.follows.words.world; flag = d.follows.flag })
     (omega (arith, least)) (omega (arith, p.result, p.room, p.frame)) (sym (shown_plain homes f.result t3 stand.result) ∙ d.follows.shows.frame f.result p.result) (d.follows.words.frame f.result p.result) in
     subst (λ z. Returns (homes.first + (f.frame - 2)) (record { value = z.frame f.result; world = z.world }) m (run by_words (parts_trail code (function_code homes f)) m)) (sym (begun_done g homes.flags f s stand.mask))
     (subst (Returns (homes.first + (f.frame - 2)) (record { value = z.frame f.result; world = z.world }) m) (sym (function_run homes by_words code f m)) (record {
@@ -161,21 +155,10 @@ function_serves homes tops code g fs number low f earlier formed constants least
         flagged = r.flagged;
         value_word = d.follows.words.frame f.result p.result;
         st = omega (arith, r.st, d.keeps.st, e.st, few, enough, p.frame);
-        stack = λ a above. ap (λ words. words a) r.stack ∙ stands none refl e.carries.whole e.st d.keeps a above ∙ e.behind a above;
+        stack = λ a above. ap (λ words. words a) r.stack ∙ d.keeps.stack a (omega (arith, e.st, above, p.room, p.mask)) ∙ e.behind a above;
       };
       high = λ q from lt. r.high q (omega (arith, from)) lt ∙ d.keeps.high q (omega (arith, from, p.room, p.mask)) lt ∙ e.high q (omega (arith, from, p.room)) lt;
     }))
-  where
-    -- its body leaves the stack of its callers
-    stands : {t : Run} (b : Bool) → needs_none homes.first f ≡ b → IsWhole t → t.st ≡ m.st - words_taken (needs_none homes.first f) f.frame → KeepsBehind (homes.first + (first_counter f + 1)) (first_counter f + 1) t (run by_words (parts_trail code (body_code homes f)) t)
-        → (a : ℕ) → m.st ≤ a → (run by_words (parts_trail code (body_code homes f)) t).stack a ≡ t.stack a
-    stands {t} true none whole st keeps a above =
-        let p = parts_of_function fs number f formed in
-        let stays = bare_body homes by_words code fs number f tops (record { earlier = earlier; some = omega (arith, p.mask); most = omega (arith, p.room, p.frame); own = omega (arith, least) }) p.body p.room (omega (arith, least)) (needs_parts homes.first f none) t whole in
-        stays.keeps.stack a (omega (arith, st, above))
-    stands {t} false some whole st keeps a above =
-        let p = parts_of_function fs number f formed in
-        keeps.stack a (let same = ap (λ b. words_taken b f.frame) some in omega (arith, st, same, above, p.frame, p.room, p.mask, enough))
 
 -- ---- all of them, in order
 
@@ -194,9 +177,9 @@ pub calls_run : (homes : Homes) (fs : List PlainFunction) (n frame slots : ℕ) 
 unfolding AllServe ServedBy
 calls_run homes fs n frame slots formed most earlier = record { calls = each }
   where
-    each : (counter mask k : ℕ) (args : List PlainSp) (result : Option ℕ) → slots ≤ counter + 1 → counter + 3 ≤ frame → stmt_formed fs n slots (calls mask k args result) ≡ true → HasStmtConstants (calls mask k args result) → stmt_least (tops fs n) (calls mask k args result) ≤ homes.first → stmt_hinders homes.flags (calls mask k args result) ≡ false
+    each : (counter mask k : ℕ) (args : List PlainSp) (result : Option ℕ) → slots ≤ counter + 1 → stmt_formed fs n slots (calls mask k args result) ≡ true → HasStmtConstants (calls mask k args result) → stmt_least (tops fs n) (calls mask k args result) ≤ homes.first → stmt_hinders homes.flags (calls mask k args result) ≡ false
         → Runs homes (code_of fs n) (serves fs n) frame counter slots (n * 128) (calls mask k args result)
-    each counter mask k args result fits within named constants least stand s m enough x =
+    each counter mask k args result fits named constants least stand s m enough x =
         let a = and_parts (nat_lt mask slots) (callee_formed fs n k (length args) && (args_formed slots args && result_formed slots result)) named in
         let b = and_parts (callee_formed fs n k (length args)) (args_formed slots args && result_formed slots result) a.1 in
         let callee = and_parts (nat_lt k n) (length args == (slice_index_or fs k no_function).parameters) b.0 in
@@ -227,7 +210,7 @@ all_serve fs constants (suc n) within formed k less mask args w m count room cal
     last : AllServe fs n → k ≡ n → Returns (top_of fs n) (function_outcome (serves fs n) f mask args w) m (run by_words (parts_trail (code_of fs n) (function_code (places_of fs n) f)) m)
     last before is =
         let p = parts_of_function fs n f parts.1 in
-        ends_at (function_serves (places_of fs n) (tops fs n) (code_of fs n) (serves fs n) fs n (n * 128) f parts.0 parts.1 (constants n) (omega arith) (all_stand f) (calls_run (places_of fs n) fs n f.frame (slots_of f) parts.0 (omega (arith, p.room, p.frame)) before)
+        ends_at (function_serves (places_of fs n) (tops fs n) (code_of fs n) (serves fs n) fs n (n * 128) f parts.0 parts.1 (constants n) (omega arith) (all_stand f) (calls_run (places_of fs n) fs n (frame_words (homes_of fs n) f) (slots_of f) parts.0 (omega (arith, p.room, p.frame)) before)
         mask args w m (count ∙ ap (λ j. (slice_index_or fs j no_function).parameters) is) (omega (arith, room, is)) called)
 
     by : AllServe fs n → (b : Bool) → (k == n) ≡ b

@@ -80,7 +80,7 @@ send_starts homes from mask core m few whole word_a word_b word_c =
     let address = 0x20000 + 16 * core in
     let u = run from (all_done (mask_test homes mask)) m in
     let k = calm_run from (FIRST + 3) OVERRUN (all_done (mask_test homes mask)) m (omega arith) whole (test_is (λ bs. is_calm_trail (FIRST + 3) OVERRUN (all_done bs) ≡ true) homes mask (λ p is. refl)
-    (λ is. fetch_is (λ b. is_calm_trail (FIRST + 3) OVERRUN (all_done (b ∷ compare_short cmp.Eq TEST (fetched_at homes.first mask) 1 ∷ [])) ≡ true) homes.first mask refl refl)) in
+    (λ is. fetch_is (λ b. is_calm_trail (FIRST + 3) OVERRUN (all_done (b ∷ compare_short cmp.Eq TEST (fetched_at homes.first mask) 1 ∷ [])) ≡ true) homes.first mask refl (λ out. refl))) in
     let told = told_at homes mask in
     let b = so told u in
     let allowed = tests_send (record { first = OVERRUN; flags = homes.flags }) from core told (told_few homes mask).1 (told_other homes mask) (omega arith) b (held FIRST u) (held (FIRST + 1) u) (held (FIRST + 2) u) u k.whole refl refl refl refl in

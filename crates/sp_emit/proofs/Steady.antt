@@ -18,7 +18,7 @@ use Rattle.sp_shape.specs.Parts.{straight, PlainParts, one, joined, repeats}
 use Rattle.sp_shape.proofs.Lists.{all_weaker}
 use Rattle.sp_emit.specs.Flags.{begun_body}
 use Rattle.sp_emit.specs.Expressions.{operands_code, expr_to, expr_code, address_of}
-use Rattle.sp_emit.specs.Functions.{first_counter, function_begin, function_end, function_rest, body_code, function_code}
+use Rattle.sp_emit.specs.Functions.{first_counter, function_begin, function_end, function_rest, body_code, function_code, frame_words}
 use Rattle.patmos_instr.specs.declared.guards.Guard.{Guard}
 use Rattle.sp_emit.specs.Instructions.{always, where_so, under, set_number}
 use Rattle.sp_emit.specs.Places.{read_word, set_word, fetch_word, keep_word, fetched_at, seek_word, match_word, told_at}
@@ -71,7 +71,7 @@ tests_firm : (bs : List Slots) → AreTests bs → Firm (one (straight bs))
 tests_firm bs tests = each_lone is_firm bs (all_weaker is_test_bundle is_firm (λ b is. grind (arith, is)) bs tests)
 
 fetch_firm : (homes slot : ℕ) → is_firm (fetch_word homes slot) ≡ true
-fetch_firm homes slot = fetch_is (λ b. is_firm b ≡ true) homes slot refl refl
+fetch_firm homes slot = fetch_is (λ b. is_firm b ≡ true) homes slot refl (λ out. refl)
 
 truths_firm : (homes : Homes) → TruthParts Firm homes (λ e. Unit {0})
 truths_firm homes = record {
@@ -85,10 +85,10 @@ truths_firm homes = record {
 }
 
 read_firm : (homes rd slot : ℕ) → is_firm (read_word homes rd slot) ≡ true
-read_firm homes rd slot = read_is (λ b. is_firm b ≡ true) homes rd slot refl refl
+read_firm homes rd slot = read_is (λ b. is_firm b ≡ true) homes rd slot refl (λ out. refl)
 
 keep_firm : (homes slot : ℕ) → is_firm (keep_word homes slot) ≡ true
-keep_firm homes slot = keep_is (λ b. is_firm b ≡ true) homes slot refl refl
+keep_firm homes slot = keep_is (λ b. is_firm b ≡ true) homes slot refl (λ out. refl)
 
 number_firm : (rd n : ℕ) → is_firm (set_number rd n) ≡ true
 number_firm rd n = number_op_is (λ op. is_firm (under always op) ≡ true) rd n refl refl
@@ -101,7 +101,7 @@ match_firm homes mask = match_is (λ b. is_firm b ≡ true) homes mask refl refl
 
 -- a word of the stack or a register, under a guard
 set_firm : (homes : ℕ) (g : Guard) (slot rs : ℕ) → is_firm (set_word homes g slot rs) ≡ true
-set_firm homes g slot rs = set_op_is (λ op. is_firm (under g op) ≡ true) homes slot rs refl refl
+set_firm homes g slot rs = set_op_is (λ op. is_firm (under g op) ≡ true) homes slot rs refl (λ out. refl)
 
 cell_write_firm : (homes : Homes) (mask : ℕ) (r : Region) (word : ℕ) → AreFirm (cell_write homes mask (record { region = r; word = word }))
 cell_write_firm homes mask r word =
@@ -153,7 +153,7 @@ mutual
       both (stmt_code homes frame counter t) (stmts_code homes frame counter rest) (stmt_firm homes frame counter t) (stmts_firm homes frame counter rest)
 
 pub body_firm : (homes : Homes) (f : PlainFunction) → Firm (body_code homes f)
-body_firm homes f = stmts_firm homes f.frame (first_counter f) (begun_body homes.flags f)
+body_firm homes f = stmts_firm homes (frame_words homes.first f) (first_counter f) (begun_body homes.flags f)
 
 pub place_firm : (b : Slots) → is_firm b ≡ true → keeps_place b ≡ true
 place_firm b firm = (and_parts (keeps_place b) (takes_none b.first.op) (and_parts (is_steady b) (keeps_place b && takes_none b.first.op) firm).1).0

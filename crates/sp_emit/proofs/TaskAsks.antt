@@ -16,7 +16,7 @@ use Rattle.sp_shape.specs.Parts.{straight, no_part, one, joined}
 use Rattle.sp_shape.specs.Trail.{Step, all_done, parts_trail, trails, trail}
 use Rattle.sp_emit.specs.Accesses.{AsksOnly}
 use Rattle.sp_emit.specs.Expressions.{operands_code, expr_code}
-use Rattle.sp_emit.specs.Functions.{first_counter, function_begin, function_end, function_rest, function_code, return_tail, places_of, emitted}
+use Rattle.sp_emit.specs.Functions.{first_counter, function_begin, function_end, function_rest, function_code, return_tail, places_of, emitted, frame_words}
 use Rattle.sp_emit.specs.Statements.{slot_write, cell_write, element_write, target_write, args_code, call_code, send_code, overrun_code, slot_set, iterations_begin, iterations_tail, stmt_code, stmts_code}
 use Rattle.sp_emit.specs.Instructions.{always, where_so, under}
 use Rattle.sp_emit.specs.declared.registers.TheConstants.{RESULT, MASK, FIRST, OVERRUN}
@@ -141,7 +141,7 @@ function_asks homes Named code fs number f called earlier formed some named =
     let p = parts_of_function fs number f formed in
     let body = begun_body homes.flags f in
     asks_append (near_asks Named (function_begin homes f) (begin_all is_near homes f refl (λ r. refl) (λ slot rs. near_set homes.first always slot rs) refl (λ p. refl) (λ p. refl) refl))
-    (asks_joined code (stmts_code homes f.frame (first_counter f) body) (function_rest homes.first f) (stmts_ask homes Named code fs number (slots_of f) f.frame (first_counter f) called earlier (omega (arith, p.room, p.frame)) some body (begun_formed homes.flags fs number (slots_of f) f p.body) (begun_named Named homes.flags f named))
+    (asks_joined code (stmts_code homes (frame_words homes.first f) (first_counter f) body) (function_rest homes.first f) (stmts_ask homes Named code fs number (slots_of f) (frame_words homes.first f) (first_counter f) called earlier (omega (arith, p.room, p.frame)) some body (begun_formed homes.flags fs number (slots_of f) f p.body) (begun_named Named homes.flags f named))
     (asks_append (near_asks Named (function_end homes.first f) (end_all is_near homes.first f refl (near_read homes.first RESULT f.result) refl refl)) (asks_append (near_asks Named return_tail refl) (asks_nothing Named))))
 
 -- what is said of all uses is said of each function's

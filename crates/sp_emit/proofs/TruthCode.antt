@@ -18,7 +18,8 @@ use Rattle.sp_emit.specs.Fits.{ExprFits}
 use Rattle.sp_emit.specs.Expressions.{immediate_below, is_immediate, number_of, slot_number, value_at, operands_code}
 use Rattle.sp_emit.specs.Instructions.{combine}
 use Rattle.sp_emit.specs.Places.{told_in}
-use Rattle.sp_emit.specs.Truths.{cmp_of, both_of, bits_of, func_in, sought_in, is_masking, is_frame_word, seeks, joins, bit_sought, sought, operands_stood, pairs, kept_code, joining_code, paired_code, unjoined_code, by_both, by_two, by_number, test_of, tested_code, flag_at, unless_stands, join, truth_code, before_flag, flag_set, flag_by, flag_code, is_test, is_one, is_condition}
+use Rattle.sp_emit.specs.Truths.{cmp_of, both_of, bits_of, func_in, sought_in, is_masking, is_frame_word, seeks, joins, bit_sought, sought, operands_stood, pairs, kept_code, joining_code, paired_code, unjoined_code, by_both, by_two, by_number, test_of, tested_code, flag_at, unless_stands, join, truth_code, before_flag, flag_set, flag_by, flag_code, is_test, is_condition}
+use Rattle.sp_tree.specs.MaskTests.{is_one}
 use Rattle.sp_emit.specs.declared.registers.TheConstants.{FIRST, TEST, SECOND}
 use Rattle.sp_emit.specs.declared.stands.Homes.{Homes}
 use Rattle.sp_emit.proofs.Calm.{is_passing}

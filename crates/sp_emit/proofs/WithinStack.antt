@@ -1,5 +1,5 @@
 -- Functions stay within the stack, where the frames on a chain of calls leave room for it.
-use Rattle.std.proofs.Common.{◌≡◌, ℕ, zero, suc, ◌+◌, ◌<◌, ◌≤◌, ◌==◌, ◌⊎◌, inl, inr, Bool, true, false, if◌then◌else◌, Option, None, Some, List, [], ◌∷◌, ◌++◌, length, slice_index_or, nat_lt, refl, sym, ap, ◌∙◌, subst, arith}
+use Rattle.std.proofs.Common.{◌≡◌, ℕ, zero, suc, ◌+◌, ◌<◌, ◌≤◌, ◌==◌, ◌⊎◌, inl, inr, Bool, true, false, if◌then◌else◌, Option, None, Some, List, ◌++◌, length, slice_index_or, nat_lt, refl, sym, ap, ◌∙◌, subst, arith}
 use Rattle.std.specs.Prelude.{nat_le}
 use Rattle.std.specs.List.{list_all}
 use Rattle.std.proofs.lemmas.Bool.{cases_lt, and_parts, lt-ltb, ltb-true, eqb-false}
@@ -16,42 +16,40 @@ use Rattle.sp_shape.proofs.Lists.{all_append}
 use Rattle.sp_emit.specs.Functions.{codes}
 use Rattle.sp_emit.specs.Flags.{begun_body}
 use Rattle.sp_emit.specs.Places.{flag_of, words_cleared}
-use Rattle.sp_emit.proofs.Codes.{codes_at, codes_length, kept_is, brought_is}
+use Rattle.sp_emit.proofs.Codes.{codes_at, codes_length, kept_is, brought_is, words_few, words_called, words_outside}
 use Rattle.sp_emit.proofs.BegunBody.{begun_formed, begun_levels, begun_chain}
 use Rattle.sp_emit.proofs.FlagWords.{cleared_all}
 use Rattle.sp_emit.specs.Chains.{stmts_call, stmts_chain, chains}
-use Rattle.sp_emit.specs.Functions.{arguments_kept, argument_kept, mask_in, mask_kept, place_kept, state_kept, needs_none, frame_taken, frame_freed, base_slot, offset_slot, first_counter, body_code, function_code, places_of, return_tail, emitted}
-use Rattle.sp_emit.specs.Instructions.{always, stack_op}
+use Rattle.sp_emit.specs.Functions.{arguments_kept, argument_kept, mask_in, mask_kept, place_kept, state_kept, words_taken, words_freed, frame_words, frame_taken, frame_freed, base_slot, offset_slot, first_counter, body_code, function_code, places_of, return_tail, emitted}
+use Rattle.sp_emit.specs.Instructions.{always}
 use Rattle.sp_emit.specs.declared.registers.TheConstants.{RESULT, MASK, FIRST}
 use Rattle.sp_emit.proofs.Arguments.{did_stack}
-use Rattle.sp_emit.proofs.Bare.{is_bare, bare_inside, needs_parts, body_bare, body_lone, outside}
-use Rattle.sp_emit.proofs.Beginning.{Outside, words_taken, taken_few}
-use Rattle.sp_emit.proofs.Quiet.{each_so}
 use Rattle.sp_emit.proofs.Passed.{result_read, given_back, end_run}
 use Rattle.sp_emit.proofs.Pointing.{Points, points_then, points_none, points_one, is_inside, Framed, Stays, inside_done}
-use Rattle.sp_emit.proofs.Serves.{parts_of_function, whole_frame, function_run, code_of}
-use Rattle.sp_emit.proofs.WithinFrames.{GivesBack, CalleesStay, stmts_stay, stay_parts, read_beside, set_within}
+use Rattle.sp_emit.proofs.Serves.{parts_of_function, function_run, code_of}
+use Rattle.sp_emit.proofs.WithinFrames.{GivesBack, CalleesStay, stmts_stay, read_inside, set_inside}
 use Rattle.sp_emit.specs.declared.stands.Homes.{Homes}
+use Rattle.sp_emit.proofs.WordPlaces.{Outside}
 
 -- ---- before and after the body
 
 arguments_inside : (homes : Homes) (slots frame n : ℕ) → n ≤ slots → Outside homes.first slots frame → list_all (is_inside frame) (arguments_kept homes.first n) ≡ true
 arguments_inside homes slots frame zero le out = refl
-arguments_inside homes slots frame (suc n) le out = all_append (is_inside frame) (arguments_kept homes.first n) (argument_kept homes.first n) (arguments_inside homes slots frame n (omega (arith, le)) out) (rw (set_within frame homes.first always n (FIRST + n) (out n le)) refl)
+arguments_inside homes slots frame (suc n) le out = all_append (is_inside frame) (arguments_kept homes.first n) (argument_kept homes.first n) (arguments_inside homes slots frame n (omega (arith, le)) out) (rw (set_inside frame homes.first always n (FIRST + n) (out n le)) refl)
 
-state_inside : (homes : Homes) (frame : ℕ) (f : PlainFunction) → f.mask < slots_of f → Outside homes.first (slots_of f) frame → (stmts_call f.body ≡ true → f.frame ≤ frame) → 2 ≤ f.frame → list_all (is_inside frame) (state_kept homes f) ≡ true
-state_inside homes frame f mask out whole some =
-    all_append (is_inside frame) (mask_kept homes f) (place_kept f) (by (flag_of homes.flags f.mask))
-    (kept_is (λ bs. list_all (is_inside frame) bs ≡ true) f (λ has. rw (lt-ltb (base_slot f) frame (omega (arith, whole has, some)), lt-ltb (offset_slot f) frame (omega (arith, whole has, some))) refl) refl)
+state_inside : (homes : Homes) (frame : ℕ) (f : PlainFunction) → f.mask < slots_of f → Outside homes.first (slots_of f) frame → (stmts_call f.body ≡ true → base_slot homes.first f + 2 ≤ frame) → list_all (is_inside frame) (state_kept homes f) ≡ true
+state_inside homes frame f mask out room =
+    all_append (is_inside frame) (mask_kept homes f) (place_kept homes.first f) (by (flag_of homes.flags f.mask))
+    (kept_is (λ bs. list_all (is_inside frame) bs ≡ true) homes.first f (λ has. rw (lt-ltb (base_slot homes.first f) frame (omega (arith, room has)), lt-ltb (offset_slot homes.first f) frame (omega (arith, room has))) refl) refl)
   where
     by : (o : Option ℕ) → list_all (is_inside frame) (mask_in o homes.first f.mask) ≡ true
-    by None = rw (set_within frame homes.first always f.mask MASK (out f.mask mask)) refl
+    by None = rw (set_inside frame homes.first always f.mask MASK (out f.mask mask)) refl
     by (Some p) = refl
 
-end_inside : (homes frame : ℕ) (f : PlainFunction) → f.result < slots_of f → Outside homes (slots_of f) frame → (stmts_call f.body ≡ true → f.frame ≤ frame) → 2 ≤ f.frame → list_all (is_inside frame) (given_back homes f) ≡ true
-end_inside homes frame f result out whole some =
-    let read = read_beside frame homes RESULT f.result (out f.result result) in
-    brought_is (λ bs. list_all (is_inside frame) (bs ++ result_read homes f) ≡ true) f (λ has. rw (lt-ltb (base_slot f) frame (omega (arith, whole has, some)), lt-ltb (offset_slot f) frame (omega (arith, whole has, some)), read) refl) (rw (read) refl)
+end_inside : (homes frame : ℕ) (f : PlainFunction) → f.result < slots_of f → Outside homes (slots_of f) frame → (stmts_call f.body ≡ true → base_slot homes f + 2 ≤ frame) → list_all (is_inside frame) (given_back homes f) ≡ true
+end_inside homes frame f result out room =
+    let read = read_inside frame homes RESULT f.result (out f.result result) in
+    brought_is (λ bs. list_all (is_inside frame) (bs ++ result_read homes f) ≡ true) homes f (λ has. rw (lt-ltb (base_slot homes f) frame (omega (arith, room has)), lt-ltb (offset_slot homes f) frame (omega (arith, room has)), read) refl) (rw (read) refl)
 
 -- ---- functions
 
@@ -64,22 +62,22 @@ record Entered (frame : ℕ) (m t : Run) : Type 0 where
 entered_then : {frame : ℕ} {m n t : Run} → Entered frame m n → Stays frame n t → Entered frame m t
 entered_then a b = record { stays = b.framed; points = points_then a.points b.points; st = omega (arith, a.st, b.st) }
 
-takes : (from : Sources) (frame : ℕ) (none : Bool) (m : Run) → IsWhole m → frame ≤ 128 → m.st ≤ 65536 → m.st ≤ m.ss → 49152 + frame ≤ m.st → Entered (words_taken none frame) m (run from (all_done (if none then [] else stack_op Sres frame ∷ [])) m)
-takes from frame true m whole few high held enough = record {
+takes : (from : Sources) (frame : ℕ) (m : Run) → IsWhole m → frame ≤ 128 → m.st ≤ 65536 → m.st ≤ m.ss → 49152 + frame ≤ m.st → Entered frame m (run from (all_done (words_taken frame)) m)
+takes from zero m whole few high held enough = record {
   stays = record { whole = whole; few = omega arith; high = omega (arith, high); held = omega (arith, held) };
   points = points_none m m refl refl;
   st = omega arith;
 }
-takes from frame false m whole few high held enough = subst (Entered frame m) (sym (did_stack from Sres frame m whole)) (record {
+takes from (suc n) m whole few high held enough = subst (Entered (suc n) m) (sym (did_stack from Sres (suc n) m whole)) (record {
   stays = record { whole = record { fits = whole.fits; pending = whole.pending }; few = few; high = omega (arith, high, enough); held = omega (arith, held, few, enough) };
-  points = points_one (effect.StackOp Sres frame) m _ refl (few, enough) refl;
+  points = points_one (effect.StackOp Sres (suc n)) m _ refl (few, enough) refl;
   st = omega (arith, enough);
 })
 
-frees : (from : Sources) (frame : ℕ) (none : Bool) (m n : Run) → Entered (words_taken none frame) m n → GivesBack m (run from (all_done (if none then [] else stack_op Sfree frame ∷ [])) n)
-frees from frame true m n x = record { points = x.points; whole = x.stays.whole; st = omega (arith, x.st); held = omega (arith, x.stays.held) }
-frees from frame false m n x = subst (GivesBack m) (sym (did_stack from Sfree frame n x.stays.whole)) (record {
-  points = points_then x.points (points_one (effect.StackOp Sfree frame) n _ refl (x.stays.few, x.stays.high) refl);
+frees : (from : Sources) (frame : ℕ) (m n : Run) → Entered frame m n → GivesBack m (run from (all_done (words_freed frame)) n)
+frees from zero m n x = record { points = x.points; whole = x.stays.whole; st = omega (arith, x.st); held = omega (arith, x.stays.held) }
+frees from (suc k) m n x = subst (GivesBack m) (sym (did_stack from Sfree (suc k) n x.stays.whole)) (record {
+  points = points_then x.points (points_one (effect.StackOp Sfree (suc k)) n _ refl (x.stays.few, x.stays.high) refl);
   whole = record { fits = x.stays.whole.fits; pending = x.stays.whole.pending };
   st = x.st;
   held = omega arith;
@@ -95,35 +93,27 @@ function_stays : (homes : Homes) (from : Sources) (code : ℕ → List Step) (g 
     → (m : Run) → IsWhole m → m.st ≤ 65536 → m.st ≤ m.ss → 49152 + (f.frame + stmts_chain g f.body) ≤ m.st → GivesBack m (run from (parts_trail code (function_code homes f)) m)
 function_stays homes from code g fs number f formed callees m whole high held enough =
     let p = parts_of_function fs number f formed in
-    let none = needs_none homes.first f in
-    let n = words_taken none f.frame in
-    let out = outside homes.first f (omega (arith, p.room)) none refl in
+    let n = frame_words homes.first f in
+    let few = words_few homes.first f (omega (arith, p.room)) in
+    let out = words_outside homes.first f (omega (arith, p.room)) in
+    let calls : stmts_call f.body ≡ true → base_slot homes.first f + 2 ≤ n = λ has. let is = words_called homes.first f has in omega (arith, is) in
     let t0 = run from (all_done (frame_taken homes.first f)) m in
-    let x0 = takes from f.frame none m whole p.frame high held (omega (arith, enough)) in
+    let x0 = takes from n m whole (omega (arith, few, p.frame)) high held (omega (arith, few, enough)) in
     let c = inside_done from n (words_cleared homes (slots_of f)) t0 x0.stays (cleared_all (is_inside n) homes (slots_of f) (λ p. refl) (λ r. refl)) in
     let xc = entered_then x0 c in
     let tc = run from (all_done (words_cleared homes (slots_of f))) t0 in
     let x1 = entered_then xc (inside_done from n (arguments_kept homes.first f.parameters) tc xc.stays (arguments_inside homes (slots_of f) n f.parameters (omega (arith, p.before_mask, p.mask)) out)) in
     let t1 = run from (all_done (arguments_kept homes.first f.parameters)) tc in
-    let x2 = entered_then x1 (inside_done from n (state_kept homes f) t1 x1.stays (state_inside homes n f p.mask out (whole_frame homes.first f) (omega (arith, p.room)))) in
+    let x2 = entered_then x1 (inside_done from n (state_kept homes f) t1 x1.stays (state_inside homes n f p.mask out calls)) in
     let t2 = run from (all_done (state_kept homes f)) t1 in
-    let x3 = entered_then x2 (by none refl t2 x2.stays (omega (arith, x2.st, taken_few none f.frame, enough))) in
+    let levels = begun_levels homes.flags f in
+    let chain = begun_chain homes.flags g f in
+    let x3 = entered_then x2 (stmts_stay homes from code g fs number (slots_of f) n (first_counter f) callees (omega (arith, p.mask)) (omega (arith, p.room, p.mask)) (begun_body homes.flags f) (omega (arith, p.room, p.mask, levels))
+    (begun_formed homes.flags fs number (slots_of f) f p.body) t2 x2.stays (omega (arith, chain, x2.st, few, enough))) in
     let t3 = run from (parts_trail code (body_code homes f)) t2 in
-    let x4 = entered_then x3 (inside_done from n (given_back homes.first f) t3 x3.stays (end_inside homes.first n f p.result out (whole_frame homes.first f) (omega (arith, p.room)))) in
+    let x4 = entered_then x3 (inside_done from n (given_back homes.first f) t3 x3.stays (end_inside homes.first n f p.result out calls)) in
     let t4 = run from (all_done (given_back homes.first f)) t3 in
-    subst (GivesBack m) (sym (function_run homes from code f m ∙ ap (run from (all_done return_tail)) (end_run homes.first from f t3))) (gives_then from m (run from (all_done (frame_freed homes.first f)) t4) (frees from f.frame none m t4 x4) high)
-  where
-    by : (b : Bool) → needs_none homes.first f ≡ b → (t : Run) → Framed (words_taken b f.frame) t → 49152 + stmts_chain g f.body ≤ t.st → Stays (words_taken b f.frame) t (run from (parts_trail code (body_code homes f)) t)
-    by true none t framed room =
-        let p = parts_of_function fs number f formed in
-        let facts = needs_parts homes.first f none in
-        let body = body_code homes f in
-        stay_parts from code 0 body (body_lone homes fs number f p.body facts) (each_so is_bare (is_inside 0) bare_inside body (body_bare homes fs number f p.body p.room (omega (arith, p.mask)) facts)) t framed
-    by false some t framed room =
-        let p = parts_of_function fs number f formed in
-        let levels = begun_levels homes.flags f in
-        let chain = begun_chain homes.flags g f in
-        stmts_stay homes from code g fs number (slots_of f) f.frame (first_counter f) callees (omega (arith, p.mask)) (omega (arith, p.room, p.mask)) (begun_body homes.flags f) (omega (arith, p.room, p.mask, levels)) (begun_formed homes.flags fs number (slots_of f) f p.body) t framed (omega (arith, chain, room))
+    subst (GivesBack m) (sym (function_run homes from code f m ∙ ap (run from (all_done return_tail)) (end_run homes.first from f t3))) (gives_then from m (run from (all_done (frame_freed homes.first f)) t4) (frees from n m t4 x4) high)
 
 -- ---- all of them, in order
 

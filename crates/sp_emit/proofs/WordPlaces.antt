@@ -1,6 +1,6 @@
 -- Words of a frame, in registers and in the stack: what reading and setting one leaves.
 use Rattle.std.proofs.Common.{◌≡◌, ℕ, zero, suc, ◌+◌, ◌%◌, ◌^◌, ◌<◌, ◌≤◌, ◌⊎◌, inl, inr, Bool, true, false, if◌then◌else◌, refl, ap, ◌∙◌, arith}
-use Rattle.std.proofs.lemmas.Bool.{cases_lt, ltb-true, lt-ltb}
+use Rattle.std.proofs.lemmas.Bool.{cases_lt, ltb-true, ltb-false, lt-ltb}
 use Rattle.shared_order.specs.Words.{put}
 use Rattle.patmos_instr.specs.Bundles.{Slots}
 use Rattle.patmos_instr.specs.declared.guards.Guard.{Guard}
@@ -17,35 +17,56 @@ use Rattle.sp_shape.specs.Run.{Run, Sources, word_given, once, IsWhole}
 use Rattle.sp_emit.specs.Holding.{held, so, Keeps, KeepsFrom, KeepsFlags}
 use Rattle.sp_emit.specs.Instructions.{always, under, idle, copy, load_slot, store_slot}
 use Rattle.sp_emit.specs.Means.{KeepsBehind}
-use Rattle.sp_emit.specs.Places.{in_register, word_of, read_op, read_word, fetch_op, fetch_word, fetched_at, keep_op, keep_word, set_op, set_word}
+use Rattle.sp_emit.specs.Places.{in_register, stack_word, word_of, read_op, read_word, fetch_op, fetch_word, fetched_at, keep_op, keep_word, set_op, set_word}
 use Rattle.sp_emit.specs.declared.registers.TheConstants.{SPARE, OVERRUN}
 use Rattle.sp_emit.proofs.Frames.{put_same, put_other}
 use Rattle.sp_emit.proofs.Once.{with_written, stays_zero, did_write, did_nothing, did_load, got, kept, so_by_register, whole_written}
 use Rattle.sp_emit.proofs.Leaving.{slot_leaves}
 use Rattle.sp_emit.proofs.Storing.{with_slot_word, did_store_slot}
 
+-- ---- words of the stack
+
+-- an earlier word stands before a later one
+pub stack_before : (homes slot count : ℕ) → slot < count → in_register homes slot ≡ false → stack_word homes slot < stack_word homes count
+stack_before homes slot count lt out = omega (arith, lt, ltb-false (homes + slot) OVERRUN out)
+
+-- no two words stand in one
+stack_apart : (homes slot u : ℕ) → in_register homes slot ≡ false → in_register homes u ≡ false → (slot ≡ u → ⊥) → stack_word homes slot ≡ stack_word homes u → ⊥
+stack_apart homes slot u out other apart same = apart (omega (arith, same, ltb-false (homes + slot) OVERRUN out, ltb-false (homes + u) OVERRUN other))
+
+-- so it is one of the first so many, where a later one begins with them or before
+pub stack_within : (homes slot most count : ℕ) → slot < most → stack_word homes most ≤ count → in_register homes slot ≡ false → stack_word homes slot < count
+stack_within homes slot most count lt within out = omega (arith, within, stack_before homes slot most lt out)
+
+-- words of a frame stand in registers, or among the first so many of the stack
+abbrev pub Outside : ℕ → ℕ → ℕ → Type 0
+Outside homes slots count = (slot : ℕ) → slot < slots → in_register homes slot ≡ false → stack_word homes slot < count
+
+pub outside : (homes slots most count : ℕ) → slots ≤ most → stack_word homes most ≤ count → Outside homes slots count
+outside homes slots most count le within slot lt = stack_within homes slot most count (omega (arith, lt, le)) within
+
 -- ---- what holds of both bundles holds of the one
 
-pub read_op_is : (P : Op → Type 0) (homes rd slot : ℕ) → P (AluImm imm.Add rd (homes + slot) 0) → P (Load mem.S load.Word rd 0 slot) → P (read_op homes rd slot)
+pub read_op_is : (P : Op → Type 0) (homes rd slot : ℕ) → P (AluImm imm.Add rd (homes + slot) 0) → (in_register homes slot ≡ false → P (Load mem.S load.Word rd 0 (stack_word homes slot))) → P (read_op homes rd slot)
 unfolding read_op
-read_op_is P homes rd slot here there = by (in_register homes slot)
+read_op_is P homes rd slot here there = by (in_register homes slot) refl
   where
-    by : (b : Bool) → P (if b then AluImm imm.Add rd (homes + slot) 0 else Load mem.S load.Word rd 0 slot)
-    by true = here
-    by false = there
+    by : (b : Bool) → in_register homes slot ≡ b → P (if b then AluImm imm.Add rd (homes + slot) 0 else Load mem.S load.Word rd 0 (stack_word homes slot))
+    by true is = here
+    by false is = there is
 
-pub read_is : (P : Slots → Type 0) (homes rd slot : ℕ) → P (copy rd (homes + slot)) → P (load_slot rd slot) → P (read_word homes rd slot)
+pub read_is : (P : Slots → Type 0) (homes rd slot : ℕ) → P (copy rd (homes + slot)) → (in_register homes slot ≡ false → P (load_slot rd (stack_word homes slot))) → P (read_word homes rd slot)
 read_is P homes rd slot here there = read_op_is (λ op. P (under always op)) homes rd slot here there
 
-pub fetch_op_is : (P : Op → Type 0) (homes slot : ℕ) → P (AluImm imm.Add 0 0 0) → P (Load mem.S load.Word SPARE 0 slot) → P (fetch_op homes slot)
+pub fetch_op_is : (P : Op → Type 0) (homes slot : ℕ) → P (AluImm imm.Add 0 0 0) → (in_register homes slot ≡ false → P (Load mem.S load.Word SPARE 0 (stack_word homes slot))) → P (fetch_op homes slot)
 unfolding fetch_op
-fetch_op_is P homes slot here there = by (in_register homes slot)
+fetch_op_is P homes slot here there = by (in_register homes slot) refl
   where
-    by : (b : Bool) → P (if b then AluImm imm.Add 0 0 0 else Load mem.S load.Word SPARE 0 slot)
-    by true = here
-    by false = there
+    by : (b : Bool) → in_register homes slot ≡ b → P (if b then AluImm imm.Add 0 0 0 else Load mem.S load.Word SPARE 0 (stack_word homes slot))
+    by true is = here
+    by false is = there is
 
-pub fetch_is : (P : Slots → Type 0) (homes slot : ℕ) → P idle → P (load_slot SPARE slot) → P (fetch_word homes slot)
+pub fetch_is : (P : Slots → Type 0) (homes slot : ℕ) → P idle → (in_register homes slot ≡ false → P (load_slot SPARE (stack_word homes slot))) → P (fetch_word homes slot)
 fetch_is P homes slot here there = fetch_op_is (λ op. P (under always op)) homes slot here there
 
 -- the register to which it is fetched: its own, or the spare one
@@ -62,21 +83,21 @@ fetched_some homes slot some = fetched_is (λ r. 1 ≤ r) homes slot (λ lt. ome
 pub fetched_few : (homes slot : ℕ) → fetched_at homes slot < 32
 fetched_few homes slot = fetched_is (λ r. r < 32) homes slot (λ lt. omega (arith, lt)) (omega arith)
 
-pub keep_is : (P : Slots → Type 0) (homes slot : ℕ) → P idle → P (store_slot always slot SPARE) → P (keep_word homes slot)
+pub keep_is : (P : Slots → Type 0) (homes slot : ℕ) → P idle → (in_register homes slot ≡ false → P (store_slot always (stack_word homes slot) SPARE)) → P (keep_word homes slot)
 unfolding keep_op
-keep_is P homes slot here there = by (in_register homes slot)
+keep_is P homes slot here there = by (in_register homes slot) refl
   where
-    by : (b : Bool) → P (under always (if b then AluImm imm.Add 0 0 0 else Store mem.S store.Word 0 SPARE slot))
-    by true = here
-    by false = there
+    by : (b : Bool) → in_register homes slot ≡ b → P (under always (if b then AluImm imm.Add 0 0 0 else Store mem.S store.Word 0 SPARE (stack_word homes slot)))
+    by true is = here
+    by false is = there is
 
-pub set_op_is : (P : Op → Type 0) (homes slot rs : ℕ) → P (AluImm imm.Add (homes + slot) rs 0) → P (Store mem.S store.Word 0 rs slot) → P (set_op homes slot rs)
+pub set_op_is : (P : Op → Type 0) (homes slot rs : ℕ) → P (AluImm imm.Add (homes + slot) rs 0) → (in_register homes slot ≡ false → P (Store mem.S store.Word 0 rs (stack_word homes slot))) → P (set_op homes slot rs)
 unfolding set_op
-set_op_is P homes slot rs here there = by (in_register homes slot)
+set_op_is P homes slot rs here there = by (in_register homes slot) refl
   where
-    by : (b : Bool) → P (if b then AluImm imm.Add (homes + slot) rs 0 else Store mem.S store.Word 0 rs slot)
-    by true = here
-    by false = there
+    by : (b : Bool) → in_register homes slot ≡ b → P (if b then AluImm imm.Add (homes + slot) rs 0 else Store mem.S store.Word 0 rs (stack_word homes slot))
+    by true is = here
+    by false is = there is
 
 -- ---- words
 
@@ -84,27 +105,27 @@ pub word_still : (homes slot : ℕ) (m t : Run) → KeepsFrom homes m t → t.st
 unfolding word_of
 word_still homes slot m t high stack st = by (in_register homes slot) refl
   where
-    by : (b : Bool) → in_register homes slot ≡ b → (if b then held (homes + slot) t else t.stack (t.st + slot)) ≡ (if b then held (homes + slot) m else m.stack (m.st + slot))
+    by : (b : Bool) → in_register homes slot ≡ b → (if b then held (homes + slot) t else t.stack (t.st + stack_word homes slot)) ≡ (if b then held (homes + slot) m else m.stack (m.st + stack_word homes slot))
     by true is = high (homes + slot) (omega arith) (ltb-true (homes + slot) OVERRUN is)
-    by false is = ap (λ words. words (t.st + slot)) stack ∙ ap (λ st. m.stack (st + slot)) st
+    by false is = ap (λ words. words (t.st + stack_word homes slot)) stack ∙ ap (λ st. m.stack (st + stack_word homes slot)) st
 
 -- where only those of the stack from its top on are known to stand
 pub word_kept : (homes slot : ℕ) (m t : Run) → KeepsFrom homes m t → ((a : ℕ) → m.st ≤ a → t.stack a ≡ m.stack a) → t.st ≡ m.st → word_of homes slot t ≡ word_of homes slot m
 unfolding word_of
 word_kept homes slot m t high stack st = by (in_register homes slot) refl
   where
-    by : (b : Bool) → in_register homes slot ≡ b → (if b then held (homes + slot) t else t.stack (t.st + slot)) ≡ (if b then held (homes + slot) m else m.stack (m.st + slot))
+    by : (b : Bool) → in_register homes slot ≡ b → (if b then held (homes + slot) t else t.stack (t.st + stack_word homes slot)) ≡ (if b then held (homes + slot) m else m.stack (m.st + stack_word homes slot))
     by true is = high (homes + slot) (omega arith) (ltb-true (homes + slot) OVERRUN is)
-    by false is = ap (λ st. t.stack (st + slot)) st ∙ stack (m.st + slot) (omega arith)
+    by false is = ap (λ st. t.stack (st + stack_word homes slot)) st ∙ stack (m.st + stack_word homes slot) (omega arith)
 
 -- and where only those behind it are
-pub behind_word : (homes slot : ℕ) (m t : Run) → KeepsBehind (homes + slot) slot m t → word_of homes slot t ≡ word_of homes slot m
+pub behind_word : (homes slot : ℕ) (m t : Run) → KeepsBehind (homes + slot) (stack_word homes slot) m t → word_of homes slot t ≡ word_of homes slot m
 unfolding word_of
 behind_word homes slot m t keeps = by (in_register homes slot) refl
   where
-    by : (b : Bool) → in_register homes slot ≡ b → (if b then held (homes + slot) t else t.stack (t.st + slot)) ≡ (if b then held (homes + slot) m else m.stack (m.st + slot))
+    by : (b : Bool) → in_register homes slot ≡ b → (if b then held (homes + slot) t else t.stack (t.st + stack_word homes slot)) ≡ (if b then held (homes + slot) m else m.stack (m.st + stack_word homes slot))
     by true is = keeps.high (homes + slot) (omega arith) (ltb-true (homes + slot) OVERRUN is)
-    by false is = ap (λ st. t.stack (st + slot)) keeps.st ∙ keeps.stack (m.st + slot) (omega arith)
+    by false is = ap (λ st. t.stack (st + stack_word homes slot)) keeps.st ∙ keeps.stack (m.st + stack_word homes slot) (omega arith)
 
 -- ---- reading
 
@@ -112,12 +133,12 @@ pub read_leaves : (from : Sources) (homes rd slot : ℕ) (m : Run) → from.stac
 unfolding read_op word_of
 read_leaves from homes rd slot m told whole some few near = by (in_register homes slot)
   where
-    by : (b : Bool) → (if b then held (homes + slot) m else m.stack (m.st + slot)) < 2 ^ 32
-        → held rd (once from (under always (if b then AluImm imm.Add rd (homes + slot) 0 else Load mem.S load.Word rd 0 slot)) m) ≡ (if b then held (homes + slot) m else m.stack (m.st + slot))
+    by : (b : Bool) → (if b then held (homes + slot) m else m.stack (m.st + stack_word homes slot)) < 2 ^ 32
+        → held rd (once from (under always (if b then AluImm imm.Add rd (homes + slot) 0 else Load mem.S load.Word rd 0 (stack_word homes slot))) m) ≡ (if b then held (homes + slot) m else m.stack (m.st + stack_word homes slot))
     by true word =
         ap (held rd) (did_write from always (AluImm imm.Add rd (homes + slot) 0) m whole whole.fits.always refl refl)
         ∙ got rd ((held (homes + slot) m + 0) % 2 ^ 32) m whole some few ∙ (let e : (held (homes + slot) m + 0) % 2 ^ 32 ≡ held (homes + slot) m = omega (arith, word) in e)
-    by false word = slot_leaves from rd slot m told whole some few near
+    by false word = slot_leaves from rd (stack_word homes slot) m told whole some few (omega (arith, near))
 
 pub nothing_written : (v r : ℕ) (m : Run) → IsWhole m → r < 32 → held r (with_written (write.Register 0 v) m) ≡ held r m
 nothing_written v zero m whole few = stays_zero (write.Register 0 v) m whole
@@ -128,21 +149,21 @@ unfolding fetch_op word_of
 fetch_leaves from homes slot m told whole near = by (in_register homes slot) refl
   where
     by : (b : Bool) → in_register homes slot ≡ b
-        → held (if b then homes + slot else SPARE) (once from (under always (if b then AluImm imm.Add 0 0 0 else Load mem.S load.Word SPARE 0 slot)) m) ≡ (if b then held (homes + slot) m else m.stack (m.st + slot))
+        → held (if b then homes + slot else SPARE) (once from (under always (if b then AluImm imm.Add 0 0 0 else Load mem.S load.Word SPARE 0 (stack_word homes slot))) m) ≡ (if b then held (homes + slot) m else m.stack (m.st + stack_word homes slot))
     by true is =
         ap (held (homes + slot)) (did_write from always (AluImm imm.Add 0 0 0) m whole whole.fits.always refl refl)
         ∙ nothing_written ((held 0 m + 0) % 2 ^ 32) (homes + slot) m whole (omega (arith, ltb-true (homes + slot) OVERRUN is))
-    by false is = slot_leaves from SPARE slot m told whole (omega arith) (omega arith) near
+    by false is = slot_leaves from SPARE (stack_word homes slot) m told whole (omega arith) (omega arith) (omega (arith, near))
 
 pub fetch_preds : (from : Sources) (homes slot q : ℕ) (m : Run) → IsWhole m → q < 8 → so q (once from (fetch_word homes slot) m) ≡ so q m
 unfolding fetch_op
 fetch_preds from homes slot q m whole few = by (in_register homes slot)
   where
-    by : (b : Bool) → so q (once from (under always (if b then AluImm imm.Add 0 0 0 else Load mem.S load.Word SPARE 0 slot)) m) ≡ so q m
+    by : (b : Bool) → so q (once from (under always (if b then AluImm imm.Add 0 0 0 else Load mem.S load.Word SPARE 0 (stack_word homes slot))) m) ≡ so q m
     by true = ap (so q) (did_write from always (AluImm imm.Add 0 0 0) m whole whole.fits.always refl refl) ∙ so_by_register 0 ((held 0 m + 0) % 2 ^ 32) q m whole few
     by false =
-        ap (so q) (did_load from always mem.S SPARE 0 slot m whole whole.fits.always)
-        ∙ so_by_register SPARE (word_given from mem.S (address_by (held 0 m) slot 4) m) q m whole few
+        ap (so q) (did_load from always mem.S SPARE 0 (stack_word homes slot) m whole whole.fits.always)
+        ∙ so_by_register SPARE (word_given from mem.S (address_by (held 0 m) (stack_word homes slot) 4) m) q m whole few
 
 -- ---- a word that is changed where it was fetched
 
@@ -159,30 +180,30 @@ keep_leaves from homes slot m whole near = record { word = word (in_register hom
     nothing r few = ap (held r) (did_write from always (AluImm imm.Add 0 0 0) m whole whole.fits.always refl refl) ∙ nothing_written ((held 0 m + 0) % 2 ^ 32) r m whole few
 
     word : (b : Bool) → in_register homes slot ≡ b
-        → (let t = once from (under always (if b then AluImm imm.Add 0 0 0 else Store mem.S store.Word 0 SPARE slot)) m in if b then held (homes + slot) t else t.stack (t.st + slot)) ≡ held (if b then homes + slot else SPARE) m
+        → (let t = once from (under always (if b then AluImm imm.Add 0 0 0 else Store mem.S store.Word 0 SPARE (stack_word homes slot))) m in if b then held (homes + slot) t else t.stack (t.st + stack_word homes slot)) ≡ held (if b then homes + slot else SPARE) m
     word true is = nothing (homes + slot) (omega (arith, ltb-true (homes + slot) OVERRUN is))
-    word false is = ap (λ t. t.stack (t.st + slot)) (did_store_slot from always slot SPARE m whole whole.fits.always near) ∙ put_same (m.st + slot) (held SPARE m) m.stack
+    word false is = ap (λ t. t.stack (t.st + stack_word homes slot)) (did_store_slot from always (stack_word homes slot) SPARE m whole whole.fits.always (omega (arith, near))) ∙ put_same (m.st + stack_word homes slot) (held SPARE m) m.stack
 
-    stays : (b : Bool) → in_register homes slot ≡ b → held (if b then homes + slot else SPARE) (once from (under always (if b then AluImm imm.Add 0 0 0 else Store mem.S store.Word 0 SPARE slot)) m) ≡ held (if b then homes + slot else SPARE) m
+    stays : (b : Bool) → in_register homes slot ≡ b → held (if b then homes + slot else SPARE) (once from (under always (if b then AluImm imm.Add 0 0 0 else Store mem.S store.Word 0 SPARE (stack_word homes slot))) m) ≡ held (if b then homes + slot else SPARE) m
     stays true is = nothing (homes + slot) (omega (arith, ltb-true (homes + slot) OVERRUN is))
-    stays false is = ap (held SPARE) (did_store_slot from always slot SPARE m whole whole.fits.always near)
+    stays false is = ap (held SPARE) (did_store_slot from always (stack_word homes slot) SPARE m whole whole.fits.always (omega (arith, near)))
 
 -- ---- setting
 
 -- the run with a word set
 unfoldable pub with_word : ℕ → ℕ → ℕ → Run → Run
-with_word homes slot v m = if in_register homes slot then with_written (write.Register (homes + slot) v) m else with_slot_word slot v m
+with_word homes slot v m = if in_register homes slot then with_written (write.Register (homes + slot) v) m else with_slot_word (stack_word homes slot) v m
 
 pub did_set_word : (from : Sources) (homes : ℕ) (g : Guard) (slot rs v : ℕ) (m : Run) → IsWhole m → holds m.regs g ≡ true → slot < 128 → held rs m ≡ v → v < 2 ^ 32 → once from (set_word homes g slot rs) m ≡ with_word homes slot v m
 unfolding set_op with_word
 did_set_word from homes g slot rs v m whole on near is word = by (in_register homes slot)
   where
-    by : (b : Bool) → once from (under g (if b then AluImm imm.Add (homes + slot) rs 0 else Store mem.S store.Word 0 rs slot)) m ≡ (if b then with_written (write.Register (homes + slot) v) m else with_slot_word slot v m)
+    by : (b : Bool) → once from (under g (if b then AluImm imm.Add (homes + slot) rs 0 else Store mem.S store.Word 0 rs (stack_word homes slot))) m ≡ (if b then with_written (write.Register (homes + slot) v) m else with_slot_word (stack_word homes slot) v m)
     by true =
         did_write from g (AluImm imm.Add (homes + slot) rs 0) m whole on refl refl
         ∙ ap (λ n. with_written (write.Register (homes + slot) ((n + 0) % 2 ^ 32)) m) is
         ∙ ap (λ n. with_written (write.Register (homes + slot) n) m) (let e : (v + 0) % 2 ^ 32 ≡ v = omega (arith, word) in e)
-    by false = did_store_slot from g slot rs m whole on near ∙ ap (λ n. with_slot_word slot n m) is
+    by false = did_store_slot from g (stack_word homes slot) rs m whole on (omega (arith, near)) ∙ ap (λ n. with_slot_word (stack_word homes slot) n m) is
 
 -- what stands after a word is set: all but this word and others of the window, of the registers those below a number
 pub record Sets (most homes slot v : ℕ) (m t : Run) : Type 0 where
@@ -194,7 +215,7 @@ pub record Sets (most homes slot v : ℕ) (m t : Run) : Type 0 where
   pub regs : (r : ℕ) → 1 ≤ r → r < most → (homes + slot ≡ r → ⊥) → held r t ≡ held r m
   pub flags : KeepsFlags m t
   pub flag : held OVERRUN t ≡ held OVERRUN m
-  pub stack : (a : ℕ) → (in_register homes slot ≡ false → m.st + slot ≡ a → ⊥) → t.stack a ≡ m.stack a
+  pub stack : (a : ℕ) → (in_register homes slot ≡ false → m.st + stack_word homes slot ≡ a → ⊥) → t.stack a ≡ m.stack a
 
 from_next : (n r : ℕ) → n ≤ r → (n ≡ r → ⊥) → n + 1 ≤ r
 from_next n r from apart = by (cases_lt n r)
@@ -209,7 +230,7 @@ sets_register homes slot v m some whole lt = record {
   whole = whole_written (write.Register (homes + slot) v) m whole;
   st = refl;
   memory = refl;
-  own = ap (λ c. if c then held (homes + slot) t else t.stack (t.st + slot)) (lt-ltb (homes + slot) OVERRUN lt) ∙ got (homes + slot) v m whole (omega (arith, some)) (omega (arith, lt));
+  own = ap (λ c. if c then held (homes + slot) t else t.stack (t.st + stack_word homes slot)) (lt-ltb (homes + slot) OVERRUN lt) ∙ got (homes + slot) v m whole (omega (arith, some)) (omega (arith, lt));
   others = λ u apart. word u apart (in_register homes u) refl;
   regs = λ r least few apart. other r few apart;
   flags = λ p from few. so_by_register (homes + slot) v p m whole few;
@@ -223,7 +244,7 @@ sets_register homes slot v m some whole lt = record {
     other : (r : ℕ) → r < 32 → (homes + slot ≡ r → ⊥) → held r t ≡ held r m
     other r few apart = kept (homes + slot) v r m whole few apart
 
-    word : (u : ℕ) → (slot ≡ u → ⊥) → (c : Bool) → in_register homes u ≡ c → (if c then held (homes + u) t else t.stack (t.st + u)) ≡ (if c then held (homes + u) m else m.stack (m.st + u))
+    word : (u : ℕ) → (slot ≡ u → ⊥) → (c : Bool) → in_register homes u ≡ c → (if c then held (homes + u) t else t.stack (t.st + stack_word homes u)) ≡ (if c then held (homes + u) m else m.stack (m.st + stack_word homes u))
     word u apart true in_it = other (homes + u) (omega (arith, ltb-true (homes + u) OVERRUN in_it)) (λ same. apart (omega (arith, same)))
     word u apart false in_it = refl
 
@@ -234,7 +255,7 @@ sets_straight homes slot v m t lt keeps is = record {
   whole = keeps.whole;
   st = keeps.st;
   memory = keeps.memory;
-  own = ap (λ c. if c then held (homes + slot) t else t.stack (t.st + slot)) (lt-ltb (homes + slot) OVERRUN lt) ∙ is;
+  own = ap (λ c. if c then held (homes + slot) t else t.stack (t.st + stack_word homes slot)) (lt-ltb (homes + slot) OVERRUN lt) ∙ is;
   others = λ u apart. word u apart (in_register homes u) refl;
   regs = λ r least few apart. other r few apart (cases_lt r (homes + slot));
   flags = keeps.flags;
@@ -246,72 +267,72 @@ sets_straight homes slot v m t lt keeps is = record {
     other r few apart (inl below) = keeps.low r below
     other r few apart (inr from) = keeps.high r (from_next (homes + slot) r from apart) few
 
-    word : (u : ℕ) → (slot ≡ u → ⊥) → (c : Bool) → in_register homes u ≡ c → (if c then held (homes + u) t else t.stack (t.st + u)) ≡ (if c then held (homes + u) m else m.stack (m.st + u))
+    word : (u : ℕ) → (slot ≡ u → ⊥) → (c : Bool) → in_register homes u ≡ c → (if c then held (homes + u) t else t.stack (t.st + stack_word homes u)) ≡ (if c then held (homes + u) m else m.stack (m.st + stack_word homes u))
     word u apart true in_it = other (homes + u) (ltb-true (homes + u) OVERRUN in_it) (λ same. apart (omega (arith, same))) (cases_lt (homes + u) (homes + slot))
-    word u apart false in_it = ap (λ words. words (t.st + u)) keeps.stack ∙ ap (λ st. m.stack (st + u)) keeps.st
+    word u apart false in_it = ap (λ words. words (t.st + stack_word homes u)) keeps.stack ∙ ap (λ st. m.stack (st + stack_word homes u)) keeps.st
 
-pub sets_stack : (homes slot v : ℕ) (m : Run) → IsWhole m → in_register homes slot ≡ false → Sets 32 homes slot v m (with_slot_word slot v m)
+pub sets_stack : (homes slot v : ℕ) (m : Run) → IsWhole m → in_register homes slot ≡ false → Sets 32 homes slot v m (with_slot_word (stack_word homes slot) v m)
 unfolding word_of
 sets_stack homes slot v m whole is = record {
   whole = record { fits = whole.fits; pending = whole.pending };
   st = refl;
   memory = refl;
-  own = ap (λ c. if c then held (homes + slot) t else t.stack (t.st + slot)) is ∙ put_same (m.st + slot) v m.stack;
-  others = λ u apart. word u apart (in_register homes u);
+  own = ap (λ c. if c then held (homes + slot) t else t.stack (t.st + stack_word homes slot)) is ∙ put_same (m.st + stack_word homes slot) v m.stack;
+  others = λ u apart. word u apart (in_register homes u) refl;
   regs = λ r least few apart. refl;
   flags = λ p from few. refl;
   flag = refl;
-  stack = λ a apart. put_other (m.st + slot) a v m.stack (apart is);
+  stack = λ a apart. put_other (m.st + stack_word homes slot) a v m.stack (apart is);
 }
   where
     t : Run
-    t = with_slot_word slot v m
+    t = with_slot_word (stack_word homes slot) v m
 
-    word : (u : ℕ) → (slot ≡ u → ⊥) → (c : Bool) → (if c then held (homes + u) t else t.stack (t.st + u)) ≡ (if c then held (homes + u) m else m.stack (m.st + u))
-    word u apart true = refl
-    word u apart false = put_other (m.st + slot) (m.st + u) v m.stack (λ same. apart (omega (arith, same)))
+    word : (u : ℕ) → (slot ≡ u → ⊥) → (c : Bool) → in_register homes u ≡ c → (if c then held (homes + u) t else t.stack (t.st + stack_word homes u)) ≡ (if c then held (homes + u) m else m.stack (m.st + stack_word homes u))
+    word u apart true other = refl
+    word u apart false other = put_other (m.st + stack_word homes slot) (m.st + stack_word homes u) v m.stack (λ same. stack_apart homes slot u is other apart (omega (arith, same)))
 
 pub sets_word : (homes slot v : ℕ) (m : Run) → 1 ≤ homes → IsWhole m → Sets 32 homes slot v m (with_word homes slot v m)
 unfolding with_word
 sets_word homes slot v m some whole = by (in_register homes slot) refl
   where
-    by : (b : Bool) → in_register homes slot ≡ b → Sets 32 homes slot v m (if b then with_written (write.Register (homes + slot) v) m else with_slot_word slot v m)
+    by : (b : Bool) → in_register homes slot ≡ b → Sets 32 homes slot v m (if b then with_written (write.Register (homes + slot) v) m else with_slot_word (stack_word homes slot) v m)
     by true is = sets_register homes slot v m some whole (ltb-true (homes + slot) OVERRUN is)
     by false is = sets_stack homes slot v m whole is
 
-pub in_stack : (homes slot : ℕ) (m : Run) → in_register homes slot ≡ false → word_of homes slot m ≡ m.stack (m.st + slot)
+pub in_stack : (homes slot : ℕ) (m : Run) → in_register homes slot ≡ false → word_of homes slot m ≡ m.stack (m.st + stack_word homes slot)
 unfolding word_of
-in_stack homes slot m is = ap (λ c. if c then held (homes + slot) m else m.stack (m.st + slot)) is
+in_stack homes slot m is = ap (λ c. if c then held (homes + slot) m else m.stack (m.st + stack_word homes slot)) is
 
 -- under a guard that is false
 pub set_off : (from : Sources) (homes : ℕ) (g : Guard) (slot rs : ℕ) (m : Run) → IsWhole m → holds m.regs g ≡ false → once from (set_word homes g slot rs) m ≡ m
 unfolding set_op
 set_off from homes g slot rs m whole off = by (in_register homes slot)
   where
-    by : (b : Bool) → once from (under g (if b then AluImm imm.Add (homes + slot) rs 0 else Store mem.S store.Word 0 rs slot)) m ≡ m
+    by : (b : Bool) → once from (under g (if b then AluImm imm.Add (homes + slot) rs 0 else Store mem.S store.Word 0 rs (stack_word homes slot))) m ≡ m
     by true = did_nothing from g (AluImm imm.Add (homes + slot) rs 0) m whole off
-    by false = did_nothing from g (Store mem.S store.Word 0 rs slot) m whole off
+    by false = did_nothing from g (Store mem.S store.Word 0 rs (stack_word homes slot)) m whole off
 
 -- ---- beside
 
--- a word of the stack that is set is none of the others
-pub beside_word : (homes slot u v : ℕ) (m : Run) → (slot ≡ u → ⊥) → word_of homes u (with_slot_word slot v m) ≡ word_of homes u m
+-- a word of the stack that is set is none in which one of the frame stands
+pub beside_word : (homes at u v : ℕ) (m : Run) → (in_register homes u ≡ false → at ≡ stack_word homes u → ⊥) → word_of homes u (with_slot_word at v m) ≡ word_of homes u m
 unfolding word_of
-beside_word homes slot u v m apart = by (in_register homes u)
+beside_word homes at u v m apart = by (in_register homes u) refl
   where
-    by : (b : Bool) → (if b then held (homes + u) (with_slot_word slot v m) else put (m.st + slot) v m.stack (m.st + u)) ≡ (if b then held (homes + u) m else m.stack (m.st + u))
-    by true = refl
-    by false = put_other (m.st + slot) (m.st + u) v m.stack (λ same. apart (omega (arith, same)))
+    by : (b : Bool) → in_register homes u ≡ b → (if b then held (homes + u) (with_slot_word at v m) else put (m.st + at) v m.stack (m.st + stack_word homes u)) ≡ (if b then held (homes + u) m else m.stack (m.st + stack_word homes u))
+    by true is = refl
+    by false is = put_other (m.st + at) (m.st + stack_word homes u) v m.stack (λ same. apart is (omega (arith, same)))
 
 -- reading leaves all other registers
 pub read_others : (from : Sources) (homes rd slot r : ℕ) (m : Run) → IsWhole m → r < 32 → (rd ≡ r → ⊥) → held r (once from (read_word homes rd slot) m) ≡ held r m
 unfolding read_op
 read_others from homes rd slot r m whole few apart = by (in_register homes slot)
   where
-    by : (b : Bool) → held r (once from (under always (if b then AluImm imm.Add rd (homes + slot) 0 else Load mem.S load.Word rd 0 slot)) m) ≡ held r m
+    by : (b : Bool) → held r (once from (under always (if b then AluImm imm.Add rd (homes + slot) 0 else Load mem.S load.Word rd 0 (stack_word homes slot))) m) ≡ held r m
     by true = ap (held r) (did_write from always (AluImm imm.Add rd (homes + slot) 0) m whole whole.fits.always refl refl) ∙ kept rd ((held (homes + slot) m + 0) % 2 ^ 32) r m whole few apart
-    by false = ap (held r) (did_load from always mem.S rd 0 slot m whole whole.fits.always) ∙ kept rd (word_given from mem.S (address_by (held 0 m) slot 4) m) r m whole few apart
+    by false = ap (held r) (did_load from always mem.S rd 0 (stack_word homes slot) m whole whole.fits.always) ∙ kept rd (word_given from mem.S (address_by (held 0 m) (stack_word homes slot) 4) m) r m whole few apart
 
 pub in_place : (homes slot : ℕ) (m : Run) → in_register homes slot ≡ true → word_of homes slot m ≡ held (homes + slot) m
 unfolding word_of
-in_place homes slot m is = ap (λ c. if c then held (homes + slot) m else m.stack (m.st + slot)) is
+in_place homes slot m is = ap (λ c. if c then held (homes + slot) m else m.stack (m.st + stack_word homes slot)) is

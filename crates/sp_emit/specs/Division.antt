@@ -1,4 +1,4 @@
--- To be believed. The code of quotients and remainders: long division in base 2, two digits in each of 16 iterations, which
+-- To be believed. The code of quotients and remainders: long division in base 2, four digits in each of 8 iterations, which
 -- take the same bundles whatever the words are (restoring division: Knuth, The Art of Computer Programming, volume 2, 4.3.1).
 use Rattle.std.specs.Prelude.{ℕ, List, [], ◌∷◌, ◌++◌}
 use Rattle.patmos_instr.specs.Bundles.{Slots}
@@ -10,9 +10,9 @@ use Rattle.sp_shape.specs.Parts.{PlainPart, straight, repeats, PlainParts, no_pa
 use Rattle.sp_emit.specs.Instructions.{always, where_so, idle, set_short, copy, with_short, compute, compare, compare_short, combine, branch}
 use Rattle.sp_emit.specs.declared.registers.TheConstants.{SPARE, DIVIDEND, DIVISOR, REMAINDER, DIGITS, TEST, SECOND, MORE}
 
--- the operands stand in two registers; nothing is left so far, and 16 iterations are to be made
+-- the operands stand in two registers; nothing is left so far, and 8 iterations are to be made
 abbrev pub operands : ℕ → ℕ → List Slots
-operands ra rb = copy DIVIDEND ra ∷ copy DIVISOR rb ∷ set_short always REMAINDER 0 ∷ set_short always DIGITS 16 ∷ []
+operands ra rb = copy DIVIDEND ra ∷ copy DIVISOR rb ∷ set_short always REMAINDER 0 ∷ set_short always DIGITS 8 ∷ []
 
 -- signed words are divided as what they are without their signs; two predicates then say whether the rest and the
 -- quotient are negative
@@ -42,18 +42,21 @@ digit =
     ∷ with_short (where_so TEST) imm.Add DIVIDEND DIVIDEND 1
     ∷ []
 
--- an iteration is counted, and whether one more comes; it takes two digits
+-- an iteration is counted, and whether one more comes; it takes four digits
 abbrev pub counted : List Slots
 counted = with_short always imm.Sub DIGITS DIGITS 1 ∷ compare_short cmp.Neq MORE DIGITS 0 ∷ []
 
+abbrev pub four_digits : List Slots
+four_digits = digit ++ digit ++ digit ++ digit
+
 abbrev pub digit_iteration : List Slots
-digit_iteration = counted ++ digit ++ digit
+digit_iteration = counted ++ four_digits
 
 abbrev pub digit_tail : List Slots
 digit_tail = digit_iteration ++ branch MORE ∷ idle ∷ idle ∷ []
 
 abbrev pub digits : PlainPart
-digits = repeats 16 no_part digit_tail
+digits = repeats 8 no_part digit_tail
 
 -- A divisor from 2^31 on goes into a dividend once or not at all; what is left of so large a divisor may be more than a
 -- word while digits are taken, so its quotient, and what is left, are set afterwards.

@@ -34,7 +34,7 @@ pub record StmtFits (frame counter : ℕ) (t : PlainStmt) : Type 0 where
   pub some : 1 ≤ slots
   pub formed : stmt_formed functions number slots t ≡ true
   pub counters : slots + stmt_levels t ≤ counter + 1
-  pub within : counter + 3 ≤ frame
+  pub counted : counter + 3 ≤ 128
   pub most : frame ≤ 128
 
 pub record StmtsFit (frame counter : ℕ) (ts : PlainStmts) : Type 0 where
@@ -45,7 +45,7 @@ pub record StmtsFit (frame counter : ℕ) (ts : PlainStmts) : Type 0 where
   pub some : 1 ≤ slots
   pub formed : stmts_formed functions number slots ts ≡ true
   pub counters : slots + stmts_levels ts ≤ counter + 1
-  pub within : counter + 3 ≤ frame
+  pub counted : counter + 3 ≤ 128
   pub most : frame ≤ 128
 
 -- a function whose frame has words for all that its code keeps there

@@ -2,12 +2,11 @@
 use Rattle.std.specs.Prelude.{ℕ, zero, suc, ◌+◌, ◌*◌, ◌==◌, ◌&&◌, ◌||◌, nat_le, nat_lt, Bool, true, false, not, if◌then◌else◌, Option, None, Some, is_none, is_some}
 use Rattle.std.specs.List.{list_all}
 use Rattle.sp_tree.specs.Formed.{slots_of}
+use Rattle.sp_tree.specs.MaskTests.{tests_mask}
 use Rattle.sp_tree.specs.Plain.{PlainSp, constant, frame_word, cell_word, array_word, before_one, between_two}
 use Rattle.sp_tree.specs.Statements.{PlainSpTarget, to_slot, PlainStmt, masks, writes, calls, transfers, overruns, iterations, PlainStmts, no_stmt, stmt, PlainFunction}
-use Rattle.sp_tree.specs.declared.operators.SpBinary.{SpBinary}
-use Rattle.sp_tree.specs.declared.operators.SpBinary.TheVariants as binary
 use Rattle.sp_emit.specs.Places.{flag_of, flag_words, capped}
-use Rattle.sp_emit.specs.Truths.{bits_of, is_test, is_one, is_truth}
+use Rattle.sp_emit.specs.Truths.{bits_of, is_test, is_truth}
 use Rattle.sp_emit.specs.declared.flags.Choice.{Choice}
 use Rattle.sp_emit.specs.declared.stands.Flags.{Flags}
 
@@ -33,18 +32,6 @@ abbrev mutual
 
 -- ---- the mask of a function: it stands in a predicate where its first statement tests it. What a function begins with
 -- does that, so its code has no bundles for this statement
-
-abbrev pub is_equal : SpBinary → Bool
-is_equal binary.Equal = true
-is_equal _ = false
-
-abbrev pub is_word : ℕ → PlainSp → Bool
-is_word word (frame_word slot) = slot == word
-is_word word _ = false
-
-abbrev pub tests_mask : ℕ → PlainStmts → Bool
-tests_mask mask (stmt (masks slot (between_two op a b)) rest) = slot == mask && (is_equal op && (is_word mask a && is_one b))
-tests_mask mask _ = false
 
 abbrev pub behind_first : PlainStmts → PlainStmts
 behind_first no_stmt = no_stmt

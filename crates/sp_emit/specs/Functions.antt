@@ -1,7 +1,7 @@
--- To be believed. The code of functions and tasks. A function takes its frame from the stack, where its code needs one:
--- first the words that its tree names; last the place to which it returns, where it calls others; and before that the
--- counters of iterations, those inside others before them.
-use Rattle.std.specs.Prelude.{ℕ, zero, suc, ◌+◌, ◌-◌, nat_le, Bool, not, ◌&&◌, if◌then◌else◌, List, [], ◌∷◌, ◌++◌, Option, None, Some, length, slice_index_or}
+-- To be believed. The code of functions and tasks. Of its frame a function takes from the stack what finds no register:
+-- first words that its tree names; then counters of iterations, those inside others before them; and last the place to
+-- which it returns, where it calls others.
+use Rattle.std.specs.Prelude.{ℕ, zero, suc, ◌+◌, ◌-◌, if◌then◌else◌, List, [], ◌∷◌, ◌++◌, Option, None, Some, length, slice_index_or}
 use Rattle.patmos_instr.specs.Bundles.{Slots}
 use Rattle.patmos_instr.specs.declared.functions.CmpFunc.TheVariants as cmp
 use Rattle.patmos_instr.specs.declared.functions.ImmFunc.TheVariants as imm
@@ -14,7 +14,7 @@ use Rattle.sp_shape.specs.Parts.{PlainPart, straight, leaves, PlainParts, no_par
 use Rattle.sp_emit.specs.Instructions.{always, idle, copy, with_short, compare_short, from_special, to_special, stack_op, load_slot, store_slot, return}
 use Rattle.sp_emit.specs.Chains.{stmts_call}
 use Rattle.sp_emit.specs.Flags.{begun_body, flags_of}
-use Rattle.sp_emit.specs.Places.{flag_of, read_word, set_word, words_cleared, homes_of}
+use Rattle.sp_emit.specs.Places.{flag_of, stack_word, read_word, set_word, words_cleared, homes_of}
 use Rattle.sp_emit.specs.Statements.{stmts_code}
 use Rattle.sp_emit.specs.declared.registers.TheConstants.{RESULT, MASK, FIRST, SPARE, OVERRUN}
 use Rattle.sp_emit.specs.declared.stands.Homes.{Homes}
@@ -27,40 +27,44 @@ abbrev pub arguments_kept : ℕ → ℕ → List Slots
 arguments_kept homes zero = []
 arguments_kept homes (suc n) = arguments_kept homes n ++ argument_kept homes n
 
--- where the return's base and its offset stand
-abbrev pub base_slot : PlainFunction → ℕ
-base_slot f = f.frame - 2
+-- where the return's base and its offset stand, after all of these
+abbrev pub base_slot : ℕ → PlainFunction → ℕ
+base_slot homes f = stack_word homes (f.frame - 2)
 
-abbrev pub offset_slot : PlainFunction → ℕ
-offset_slot f = f.frame - 1
+abbrev pub offset_slot : ℕ → PlainFunction → ℕ
+offset_slot homes f = base_slot homes f + 1
 
 -- and the counter of iterations that stand in no others
 abbrev pub first_counter : PlainFunction → ℕ
 first_counter f = f.frame - 3
 
+-- how many words of the stack a function takes
+abbrev pub frame_words : ℕ → PlainFunction → ℕ
+frame_words homes f = base_slot homes f + (if stmts_call f.body then 2 else 0)
+
 -- the place to which it returns goes there, and comes back from there
-abbrev pub place_stored : PlainFunction → List Slots
-place_stored f =
+abbrev pub place_stored : ℕ → PlainFunction → List Slots
+place_stored homes f =
     from_special SPARE special.Srb
-    ∷ store_slot always (base_slot f) SPARE
+    ∷ store_slot always (base_slot homes f) SPARE
     ∷ from_special SPARE special.Sro
-    ∷ store_slot always (offset_slot f) SPARE
+    ∷ store_slot always (offset_slot homes f) SPARE
     ∷ []
 
-abbrev pub place_loaded : PlainFunction → List Slots
-place_loaded f =
-    load_slot SPARE (base_slot f)
+abbrev pub place_loaded : ℕ → PlainFunction → List Slots
+place_loaded homes f =
+    load_slot SPARE (base_slot homes f)
     ∷ to_special writable.Srb SPARE
-    ∷ load_slot SPARE (offset_slot f)
+    ∷ load_slot SPARE (offset_slot homes f)
     ∷ to_special writable.Sro SPARE
     ∷ []
 
 -- both where it calls others, each of which sets another place; else its own stays set
-abbrev pub place_kept : PlainFunction → List Slots
-place_kept f = if stmts_call f.body then place_stored f else []
+abbrev pub place_kept : ℕ → PlainFunction → List Slots
+place_kept homes f = if stmts_call f.body then place_stored homes f else []
 
-abbrev pub place_brought : PlainFunction → List Slots
-place_brought f = if stmts_call f.body then place_loaded f else []
+abbrev pub place_brought : ℕ → PlainFunction → List Slots
+place_brought homes f = if stmts_call f.body then place_loaded homes f else []
 
 -- the mask goes to its word: in a predicate it is tested at once
 abbrev pub mask_in : Option ℕ → ℕ → ℕ → List Slots
@@ -71,19 +75,22 @@ abbrev pub mask_kept : Homes → PlainFunction → List Slots
 mask_kept homes f = mask_in (flag_of homes.flags f.mask) homes.first f.mask
 
 abbrev pub state_kept : Homes → PlainFunction → List Slots
-state_kept homes f = mask_kept homes f ++ place_kept f
+state_kept homes f = mask_kept homes f ++ place_kept homes.first f
 
--- whether code needs no word of the stack: it calls no function, and registers hold all words that its tree names and its
--- counters of iterations
-abbrev pub needs_none : ℕ → PlainFunction → Bool
-needs_none homes f = not (stmts_call f.body) && nat_le (homes + (f.frame - 2)) OVERRUN
+-- so many words of the stack are taken, and freed; nothing is done for none
+abbrev pub words_taken : ℕ → List Slots
+words_taken zero = []
+words_taken (suc n) = stack_op Sres (suc n) ∷ []
 
--- then it takes no frame
+abbrev pub words_freed : ℕ → List Slots
+words_freed zero = []
+words_freed (suc n) = stack_op Sfree (suc n) ∷ []
+
 abbrev pub frame_taken : ℕ → PlainFunction → List Slots
-frame_taken homes f = if needs_none homes f then [] else stack_op Sres f.frame ∷ []
+frame_taken homes f = words_taken (frame_words homes f)
 
 abbrev pub frame_freed : ℕ → PlainFunction → List Slots
-frame_freed homes f = if needs_none homes f then [] else stack_op Sfree f.frame ∷ []
+frame_freed homes f = words_freed (frame_words homes f)
 
 abbrev pub function_begin : Homes → PlainFunction → List Slots
 function_begin homes f =
@@ -95,7 +102,7 @@ abbrev pub result_given : ℕ → PlainFunction → List Slots
 result_given homes f = read_word homes RESULT f.result ∷ copy MASK OVERRUN ∷ frame_freed homes f
 
 abbrev pub function_end : ℕ → PlainFunction → List Slots
-function_end homes f = place_brought f ++ result_given homes f
+function_end homes f = place_brought homes f ++ result_given homes f
 
 abbrev pub return_tail : List Slots
 return_tail = return ∷ idle ∷ idle ∷ idle ∷ []
@@ -108,7 +115,7 @@ function_rest homes f = part (straight (function_end homes f)) (part leaving no_
 
 -- the statements of its body, but for the test of its mask where that stands in a predicate
 abbrev pub body_code : Homes → PlainFunction → PlainParts
-body_code homes f = stmts_code homes f.frame (first_counter f) (begun_body homes.flags f)
+body_code homes f = stmts_code homes (frame_words homes.first f) (first_counter f) (begun_body homes.flags f)
 
 abbrev pub function_code : Homes → PlainFunction → PlainParts
 function_code homes f =

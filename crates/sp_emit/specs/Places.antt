@@ -1,6 +1,6 @@
 -- To be believed. Where the words of a frame stand, those that its tree names and the counters of iterations after them:
--- some in predicates; of the others the first ones in registers, from one on and before the flag of loops, those that
--- find none there in the stack.
+-- some in predicates; of the others the first ones in registers, from one on and before the flag of loops; those that
+-- find none there in the stack, one after another from its top on.
 use Rattle.std.specs.Prelude.{ℕ, ◌+◌, ◌-◌, ◌^◌, ◌==◌, nat_lt, max, min, Bool, false, if◌then◌else◌, zero, suc, List, [], ◌∷◌, ◌++◌, Option, None, Some, slice_index_or}
 use Rattle.c_world.specs.Numbers.{flag}
 use Rattle.patmos_instr.specs.Bundles.{Slots}
@@ -44,9 +44,13 @@ flag_of flags slot = flag_in (4 ∷ 5 ∷ 6 ∷ 7 ∷ []) (flag_words flags) slo
 abbrev pub in_register : ℕ → ℕ → Bool
 in_register homes slot = nat_lt (homes + slot) OVERRUN
 
+-- else in this word of the stack, from its top on: the first that finds no register in the first
+abbrev pub stack_word : ℕ → ℕ → ℕ
+stack_word homes slot = slot - (OVERRUN - homes)
+
 -- what it holds
 unfoldable pub word_of : ℕ → ℕ → Run → ℕ
-word_of homes slot m = if in_register homes slot then held (homes + slot) m else m.stack (m.st + slot)
+word_of homes slot m = if in_register homes slot then held (homes + slot) m else m.stack (m.st + stack_word homes slot)
 
 -- what a word holds, wherever it stands
 abbrev pub held_in : Option ℕ → ℕ → ℕ → Run → ℕ
@@ -61,14 +65,14 @@ shown_word homes slot m = held_in (flag_of homes.flags slot) homes.first slot m
 -- a register gets what a word holds that stands in no predicate
 unfoldable pub read_op : ℕ → ℕ → ℕ → Op
 read_op homes rd slot =
-    if in_register homes slot then AluImm imm.Add rd (homes + slot) 0 else Load mem.S load.Word rd 0 slot
+    if in_register homes slot then AluImm imm.Add rd (homes + slot) 0 else Load mem.S load.Word rd 0 (stack_word homes slot)
 
 abbrev pub read_word : ℕ → ℕ → ℕ → Slots
 read_word homes rd slot = under always (read_op homes rd slot)
 
 -- the spare register gets what a word of the stack holds; a word in a register is used there
 unfoldable pub fetch_op : ℕ → ℕ → Op
-fetch_op homes slot = if in_register homes slot then AluImm imm.Add 0 0 0 else Load mem.S load.Word SPARE 0 slot
+fetch_op homes slot = if in_register homes slot then AluImm imm.Add 0 0 0 else Load mem.S load.Word SPARE 0 (stack_word homes slot)
 
 abbrev pub fetch_word : ℕ → ℕ → Slots
 fetch_word homes slot = under always (fetch_op homes slot)
@@ -78,7 +82,7 @@ fetched_at homes slot = if in_register homes slot then homes + slot else SPARE
 
 -- and goes back to the stack from there
 unfoldable pub keep_op : ℕ → ℕ → Op
-keep_op homes slot = if in_register homes slot then AluImm imm.Add 0 0 0 else Store mem.S store.Word 0 SPARE slot
+keep_op homes slot = if in_register homes slot then AluImm imm.Add 0 0 0 else Store mem.S store.Word 0 SPARE (stack_word homes slot)
 
 abbrev pub keep_word : ℕ → ℕ → Slots
 keep_word homes slot = under always (keep_op homes slot)
@@ -86,7 +90,7 @@ keep_word homes slot = under always (keep_op homes slot)
 -- a word gets what a register holds
 unfoldable pub set_op : ℕ → ℕ → ℕ → Op
 set_op homes slot rs =
-    if in_register homes slot then AluImm imm.Add (homes + slot) rs 0 else Store mem.S store.Word 0 rs slot
+    if in_register homes slot then AluImm imm.Add (homes + slot) rs 0 else Store mem.S store.Word 0 rs (stack_word homes slot)
 
 abbrev pub set_word : ℕ → Guard → ℕ → ℕ → Slots
 set_word homes guard slot rs = under guard (set_op homes slot rs)

@@ -13,7 +13,7 @@ use Rattle.sp_emit.specs.Statements.{stmts_code}
 use Rattle.sp_emit.specs.Holding.{held}
 use Rattle.sp_emit.specs.Means.{Follows, HasConstants, HasStmtsConstants, HasWords, HoldsWords, KeepsBehind}
 use Rattle.sp_emit.specs.Flags.{stmts_hinder}
-use Rattle.sp_emit.specs.Places.{word_of, shown_word, stmts_least, tops, top_of}
+use Rattle.sp_emit.specs.Places.{stack_word, word_of, shown_word, stmts_least, tops, top_of}
 use Rattle.sp_emit.specs.declared.registers.TheConstants.{RESULT, MASK, FIRST, OVERRUN}
 use Rattle.sp_emit.specs.declared.stands.Homes.{Homes}
 
@@ -47,14 +47,13 @@ pub record AreFunctions (fs : List PlainFunction) (n : ℕ) : Type 0 where
   pub within : n ≤ length fs
   pub formed : functions_formed fs n ≡ true
 
--- statements of a function of number n, in a frame of so many words, of which the first are named
--- and the counters of iterations stand from one on downward; the run is where the tree's state is, and
--- there is room for the frames of what they call
+-- statements of a function of number n that takes so many words of the stack; the first words of its frame are named, and
+-- the counters of iterations stand from one on downward; the run is where the tree's state is, and there is room for the
+-- frames of what they call
 pub record AreStatements (fs : List PlainFunction) (n : ℕ) (homes : Homes) (frame slots counter : ℕ) (ts : PlainStmts) (s : State) (m : Run) : Type 0 where
   pub functions : AreFunctions fs n
   pub named : slots ≤ MOST_FRAME
   pub counted : counter < MOST_FRAME
-  pub framed : counter + 3 ≤ frame
   pub levels : slots + stmts_levels ts ≤ counter + 1
   pub formed : stmts_formed fs n slots ts ≡ true
   pub constants : HasStmtsConstants ts
@@ -86,7 +85,7 @@ pub record Unchanged (top : ℕ) (m t : Run) : Type 0 where
 pub record OwnUnchanged (homes : Homes) (slots count : ℕ) (before after : ℕ → ℕ) (m t : Run) : Type 0 where
   pub world : WorldStands m t
   pub frame : (slot : ℕ) → slot < slots → after slot ≡ before slot → shown_word homes slot t ≡ shown_word homes slot m
-  pub behind : KeepsBehind (homes.first + count) count m t
+  pub behind : KeepsBehind (homes.first + count) (stack_word homes.first count) m t
 
 -- so it is of functions, each as it is called; and of statements
 pub record ChangeNoMore (fs : List PlainFunction) (n : ℕ) : Type 0 where

@@ -157,8 +157,8 @@ iterations_tail homes counter =
     ∷ idle
     ∷ []
 
--- ---- statements of a function whose frame has so many words, and where the next counter of iterations stands; those inside
--- stand before it
+-- ---- statements of a function that takes so many words of the stack, and where the next counter of iterations stands;
+-- those inside stand before it
 
 abbrev pub slot_set : ℕ → ℕ → PlainParts
 slot_set homes slot = one (straight (set_word homes always slot FIRST ∷ []))

@@ -6,6 +6,7 @@ use Rattle.patmos_instr.specs.declared.functions.CmpFunc.{CmpFunc}
 use Rattle.patmos_instr.specs.declared.functions.CmpFunc.TheVariants as cmp
 use Rattle.patmos_instr.specs.declared.functions.PredFunc.{PredFunc}
 use Rattle.patmos_instr.specs.declared.functions.PredFunc.TheVariants as comb
+use Rattle.sp_tree.specs.MaskTests.{is_one}
 use Rattle.sp_tree.specs.Need.{need}
 use Rattle.sp_tree.specs.Plain.{PlainSp, constant, frame_word, array_word, before_one, between_two}
 use Rattle.sp_tree.specs.declared.operators.SpBinary.{SpBinary}
@@ -48,10 +49,6 @@ bits_of _ = None
 abbrev pub is_not : SpUnary → Bool
 is_not unary.Not = true
 is_not _ = false
-
-abbrev pub is_one : PlainSp → Bool
-is_one (constant n) = n == 1
-is_one _ = false
 
 -- the lowest bit of a word
 abbrev pub is_masking : SpBinary → Bool

@@ -8,7 +8,7 @@ use crate::instructions::{
     always, branch, combine, compare, compare_short, compute, copy, idle, set_short, where_so,
     with_short,
 };
-use crate::parts::{listed, push, push_straight};
+use crate::parts::{push, push_straight};
 use crate::registers::{
     DIGITS, DIVIDEND, DIVISOR, MORE, REMAINDER, SECOND, SPARE, TEST, pred, reg,
 };
@@ -25,7 +25,7 @@ fn operands(ra: Reg, rb: Reg) -> [Bundle; 4]
         copy(reg(DIVIDEND), ra),
         copy(reg(DIVISOR), rb),
         set_short(always(), reg(REMAINDER), 0),
-        set_short(always(), reg(DIGITS), 16),
+        set_short(always(), reg(DIGITS), 8),
     ]
 }
 
@@ -93,30 +93,18 @@ fn counted() -> [Bundle; 2]
 }
 
 // the bundles of an iteration, with the branch after them
-fn digit_tail() -> [Bundle; 17]
-    ensures { result ≡ specs.digit_tail }
+fn digit_tail(alloc: Global) -> Result<List<Bundle>, OutOfMemory>
+    ensures { IfOk result (λ tail. tail ≡ specs.digit_tail) }
 {
-    let [count, more] = counted();
-    let [shift, double, test, next, less, one] = digit();
-    [
-        count,
-        more,
-        shift,
-        double,
-        test,
-        next,
-        less,
-        one,
-        shift,
-        double,
-        test,
-        next,
-        less,
-        one,
-        branch(pred(MORE)),
-        idle(),
-        idle(),
-    ]
+    let digit = digit();
+    let mut tail = Vec::new(alloc);
+    tail.extend_from_slice(&counted())?;
+    tail.extend_from_slice(&digit)?;
+    tail.extend_from_slice(&digit)?;
+    tail.extend_from_slice(&digit)?;
+    tail.extend_from_slice(&digit)?;
+    tail.extend_from_slice(&[branch(pred(MORE)), idle(), idle()])?;
+    Ok(List::of(tail))
 }
 
 // all digits
@@ -124,9 +112,9 @@ fn digit_tail() -> [Bundle; 17]
 fn digits(alloc: Global) -> Result<Part, OutOfMemory>
     ensures { IfOk result (λ p. plain_part p ≡ specs.digits) }
 {
-    let tail = listed(alloc, &digit_tail())?;
+    let tail = digit_tail(alloc)?;
     Ok(Part::Repeat {
-        count: 16,
+        count: 8,
         body: List::of(Vec::new(alloc)),
         tail,
     })

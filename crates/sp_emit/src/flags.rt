@@ -10,8 +10,8 @@ ghost use Rattle.sp_tree.specs.Shown.{plain_sp_target, plain_stmt, stmts_of, pla
 
 use crate::places::{flag_of, words_of};
 use crate::stands::Flags;
-use crate::truths::{is_joining, is_one, is_test, is_truth};
-use sp_tree::{SpBinary, SpExpr, SpFunction, SpStmt, SpTarget};
+use crate::truths::{is_joining, is_test, is_truth};
+use sp_tree::{SpBinary, SpExpr, SpFunction, SpStmt, SpTarget, tests_mask};
 
 // ---- when they may
 
@@ -60,34 +60,6 @@ fn statements_hinder(flags: Flags, stmts: &[SpStmt]) -> bool
         }
     }
     false
-}
-
-// ---- the mask of a function
-
-#[tactic(auto, unfolding(sp_tree::specs::Plain::plain_sp))]
-fn is_word(word: u32, e: &SpExpr) -> bool
-    ensures { result ≡ specs.is_word word (plain_sp e.now) }
-{
-    match e {
-        SpExpr::Frame { slot } => *slot == word,
-        _ => false,
-    }
-}
-
-// whether the first statement tests a mask
-#[tactic(auto, unfolding(sp_tree::specs::Plain::plain_sp, sp_tree::specs::Shown::plain_stmt))]
-fn tests_mask(mask: u32, body: &[SpStmt]) -> bool
-    ensures { result ≡ specs.tests_mask mask (stmts_of body.now) }
-{
-    match body {
-        [SpStmt::Mask { slot, value }, ..] => match value {
-            SpExpr::Binary { op, a, b } => {
-                *slot == mask && matches!(op, SpBinary::Equal) && is_word(mask, a) && is_one(b)
-            }
-            _ => false,
-        },
-        _ => false,
-    }
 }
 
 /// The statements of a function's body that have code: all but the test of its mask where that stands in a predicate.

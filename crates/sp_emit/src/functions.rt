@@ -28,8 +28,8 @@ use crate::instructions::{
 };
 use crate::parts::{listed, push, push_straight};
 use crate::places::{
-    flag_of, have_calls, homes_over, is_in_register, needs_none, read_word, set_word, top_from,
-    words_of,
+    base_slot, flag_of, frame_words, have_calls, homes_over, is_in_register, read_word, set_word,
+    top_from, words_of,
 };
 use crate::registers::{FIRST, MASK, OVERRUN, RESULT, SPARE, pred, reg};
 use crate::stands::Homes;
@@ -76,17 +76,18 @@ fn clear_word(bundles: &mut Vec<Bundle>, homes: Homes, slot: u32) -> Result<(), 
 
 // the place to which a function returns is kept, where it calls others
 #[tactic(auto, using(crate::proofs::Fitting::frame_most, crate::proofs::Fitting::frame_least))]
-fn keep_place(bundles: &mut Vec<Bundle>, f: &SpFunction) -> Result<(), OutOfMemory>
+fn keep_place(bundles: &mut Vec<Bundle>, homes: u32, f: &SpFunction) -> Result<(), OutOfMemory>
     requires fits { FunctionFits (plain_function f.now) }
-    ensures { OnOk result (bundles.new.items ≡ bundles.old.items ++ specs.place_kept (plain_function f.now)) }
+    ensures { OnOk result (bundles.new.items ≡ bundles.old.items ++ specs.place_kept homes (plain_function f.now)) }
 {
     let spare = reg(SPARE);
     if have_calls(f.body.as_slice()) {
+        let base = base_slot(homes, f);
         bundles.extend_from_slice(&[
             from_special(spare, Special::Srb),
-            store_slot(always(), f.frame - 2, spare),
+            store_slot(always(), base, spare),
             from_special(spare, Special::Sro),
-            store_slot(always(), f.frame - 1, spare),
+            store_slot(always(), base + 1, spare),
         ])?;
     }
     Ok(())
@@ -94,42 +95,43 @@ fn keep_place(bundles: &mut Vec<Bundle>, f: &SpFunction) -> Result<(), OutOfMemo
 
 // and is brought back
 #[tactic(auto, using(crate::proofs::Fitting::frame_most, crate::proofs::Fitting::frame_least))]
-fn bring_place(bundles: &mut Vec<Bundle>, f: &SpFunction) -> Result<(), OutOfMemory>
+fn bring_place(bundles: &mut Vec<Bundle>, homes: u32, f: &SpFunction) -> Result<(), OutOfMemory>
     requires fits { FunctionFits (plain_function f.now) }
-    ensures { OnOk result (bundles.new.items ≡ bundles.old.items ++ specs.place_brought (plain_function f.now)) }
+    ensures { OnOk result (bundles.new.items ≡ bundles.old.items ++ specs.place_brought homes (plain_function f.now)) }
 {
     let spare = reg(SPARE);
     if have_calls(f.body.as_slice()) {
+        let base = base_slot(homes, f);
         bundles.extend_from_slice(&[
-            load_slot(spare, f.frame - 2),
+            load_slot(spare, base),
             to_special(WritableSpecial::Srb, spare),
-            load_slot(spare, f.frame - 1),
+            load_slot(spare, base + 1),
             to_special(WritableSpecial::Sro, spare),
         ])?;
     }
     Ok(())
 }
 
-// a frame is taken, where code needs one
-#[tactic(auto, using(crate::proofs::Fitting::frame_most))]
-fn take_frame(bundles: &mut Vec<Bundle>, homes: u32, f: &SpFunction) -> Result<(), OutOfMemory>
-    requires fits { FunctionFits (plain_function f.now) }
-    ensures { OnOk result (bundles.new.items ≡ bundles.old.items ++ specs.frame_taken homes (plain_function f.now)) }
+// words of the stack are taken, where there are any
+#[tactic(auto)]
+fn take_frame(bundles: &mut Vec<Bundle>, words: u32) -> Result<(), OutOfMemory>
+    requires few { words ≤ 128 }
+    ensures { OnOk result (bundles.new.items ≡ bundles.old.items ++ specs.words_taken words) }
 {
-    if !needs_none(homes, f) {
-        bundles.push(stack_op(StackFunc::Sres, f.frame))?;
+    if words > 0 {
+        bundles.push(stack_op(StackFunc::Sres, words))?;
     }
     Ok(())
 }
 
-// and is freed
-#[tactic(auto, using(crate::proofs::Fitting::frame_most))]
-fn free_frame(bundles: &mut Vec<Bundle>, homes: u32, f: &SpFunction) -> Result<(), OutOfMemory>
-    requires fits { FunctionFits (plain_function f.now) }
-    ensures { OnOk result (bundles.new.items ≡ bundles.old.items ++ specs.frame_freed homes (plain_function f.now)) }
+// and are freed
+#[tactic(auto)]
+fn free_frame(bundles: &mut Vec<Bundle>, words: u32) -> Result<(), OutOfMemory>
+    requires few { words ≤ 128 }
+    ensures { OnOk result (bundles.new.items ≡ bundles.old.items ++ specs.words_freed words) }
 {
-    if !needs_none(homes, f) {
-        bundles.push(stack_op(StackFunc::Sfree, f.frame))?;
+    if words > 0 {
+        bundles.push(stack_op(StackFunc::Sfree, words))?;
     }
     Ok(())
 }
@@ -158,11 +160,11 @@ fn begin(out: &mut Vec<Part>, homes: Homes, f: &SpFunction) -> Result<(), OutOfM
         ≡ joined (parts_of out.old.items) (one (straight (specs.function_begin homes (plain_function f.now))))) }
 {
     let mut bundles = Vec::new(*out.allocator());
-    take_frame(&mut bundles, homes.first, f)?;
+    take_frame(&mut bundles, frame_words(homes.first, f))?;
     clear_words(&mut bundles, homes, words_of(f))?;
     keep_arguments(&mut bundles, homes.first, f.parameters)?;
     keep_mask(&mut bundles, homes, f)?;
-    keep_place(&mut bundles, f)?;
+    keep_place(&mut bundles, homes.first, f)?;
     push_straight(out, &bundles)
 }
 
@@ -174,12 +176,12 @@ fn end(out: &mut Vec<Part>, homes: u32, f: &SpFunction) -> Result<(), OutOfMemor
         ≡ joined (parts_of out.old.items) (one (straight (specs.function_end homes (plain_function f.now))))) }
 {
     let mut bundles = Vec::new(*out.allocator());
-    bring_place(&mut bundles, f)?;
+    bring_place(&mut bundles, homes, f)?;
     bundles.extend_from_slice(&[
         read_word(homes, reg(RESULT), f.result),
         copy(reg(MASK), reg(OVERRUN)),
     ])?;
-    free_frame(&mut bundles, homes, f)?;
+    free_frame(&mut bundles, frame_words(homes, f))?;
     push_straight(out, &bundles)
 }
 
@@ -201,7 +203,8 @@ fn function(alloc: Global, homes: Homes, f: &SpFunction) -> Result<List<Part>, O
     let mut parts = Vec::new(alloc);
     begin(&mut parts, homes, f)?;
     let body = begun_body(homes.flags, f);
-    statements(&mut parts, homes, body, f.frame, f.frame - 3)?;
+    let frame = frame_words(homes.first, f);
+    statements(&mut parts, homes, body, frame, f.frame - 3)?;
     end(&mut parts, homes.first, f)?;
     leave(&mut parts)?;
     Ok(List::of(parts))

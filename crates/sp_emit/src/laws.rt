@@ -29,7 +29,7 @@ ghost use Rattle.sp_emit.specs.Fits.{ExprFits};
 ghost use Rattle.sp_emit.specs.Functions.{emitted, codes};
 ghost use Rattle.sp_emit.specs.Holding.{held, Keeps};
 ghost use Rattle.sp_emit.specs.Means.{Follows, IsReady, KeepsBehind, HoldsWords, HasConstants};
-ghost use Rattle.sp_emit.specs.Places.{word_of, top_of};
+ghost use Rattle.sp_emit.specs.Places.{stack_word, word_of, top_of};
 ghost use Rattle.sp_emit.specs.Ran.{begun_memory, ran};
 ghost use Rattle.sp_emit.specs.Serving.{Answers, AreFunctions, AreStatements, CalledWith, ChangeNoMore};
 ghost use Rattle.sp_emit.specs.Statements.{stmts_code};
@@ -88,7 +88,7 @@ pub fn functions_do_what_they_give()
         (run by_words (parts_trail (trails (codes fs) n) (stmts_code homes frame counter ts)) m) }
     ensures frame { (fs : List PlainFunction) (n : ℕ) (homes : Homes) (frame slots counter : ℕ) (ts : PlainStmts) (s : State)
         (m : Run) → AreStatements fs n homes frame slots counter ts s m
-        → KeepsBehind (homes.first + (counter + 1)) (counter + 1) m (run by_words
+        → KeepsBehind (homes.first + (counter + 1)) (stack_word homes.first (counter + 1)) m (run by_words
         (parts_trail (trails (codes fs) n) (stmts_code homes frame counter ts)) m) }
 {}
 

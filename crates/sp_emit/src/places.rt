@@ -1,5 +1,5 @@
 //! Where the words of a frame stand.
-ghost use Rattle.std.specs.Prelude.{◌≡◌, ◌<◌, map, slice_index_or};
+ghost use Rattle.std.specs.Prelude.{◌≡◌, ◌<◌, ◌≤◌, map, slice_index_or};
 ghost use Rattle.sp_emit.specs.Chains.{stmt_calls, stmts_call};
 ghost use Rattle.sp_emit.specs.Places.{capped};
 ghost use Rattle.sp_emit.specs.Fits.{ArgsFit, TargetFits, StmtFits, StmtsFit, FunctionFits};
@@ -52,6 +52,13 @@ pub fn is_in_register(homes: u32, slot: u32) -> bool
     homes < OVERRUN && slot < OVERRUN - homes
 }
 
+/// The word of the stack, from its top on, in which a word of the frame stands that finds no register.
+pub fn stack_word(homes: u32, slot: u32) -> u32
+    ensures { result ≡ specs.stack_word homes slot }
+{
+    slot.saturating_sub(OVERRUN.saturating_sub(homes))
+}
+
 /// A register gets what a word holds.
 #[tactic(auto, unfolding(crate::specs::Places::read_op))]
 pub fn read_word(homes: u32, rd: Reg, slot: u32) -> Bundle
@@ -61,7 +68,7 @@ pub fn read_word(homes: u32, rd: Reg, slot: u32) -> Bundle
     if is_in_register(homes, slot) {
         copy(rd, reg(homes + slot))
     } else {
-        load_slot(rd, slot)
+        load_slot(rd, stack_word(homes, slot))
     }
 }
 
@@ -74,7 +81,7 @@ pub fn fetch_word(homes: u32, slot: u32) -> Bundle
     if is_in_register(homes, slot) {
         idle()
     } else {
-        load_slot(reg(SPARE), slot)
+        load_slot(reg(SPARE), stack_word(homes, slot))
     }
 }
 
@@ -98,7 +105,7 @@ pub fn keep_word(homes: u32, slot: u32) -> Bundle
     if is_in_register(homes, slot) {
         idle()
     } else {
-        store_slot(always(), slot, reg(SPARE))
+        store_slot(always(), stack_word(homes, slot), reg(SPARE))
     }
 }
 
@@ -111,7 +118,7 @@ pub fn set_word(homes: u32, guard: Guard, slot: u32, rs: Reg) -> Bundle
     if is_in_register(homes, slot) {
         with_short(guard, ImmFunc::Add, reg(homes + slot), rs, 0)
     } else {
-        store_slot(guard, slot, rs)
+        store_slot(guard, stack_word(homes, slot), rs)
     }
 }
 
@@ -202,14 +209,24 @@ pub fn have_calls(stmts: &[SpStmt]) -> bool
     false
 }
 
-/// Whether the code of a function needs no word of the stack, where its first word stands in the register of this
-/// number.
-pub fn needs_none(homes: u32, f: &SpFunction) -> bool
+/// Where the place stands to which a function returns, from the stack's top on: after the words of its frame that find no
+/// register, where its first word would stand in the register of this number.
+pub fn base_slot(homes: u32, f: &SpFunction) -> u32
     requires { FunctionFits (plain_function f.now) }
-    ensures { result ≡ functions.needs_none homes (plain_function f.now) }
+    ensures { result ≡ functions.base_slot homes (plain_function f.now) }
 {
-    let words = f.frame - 2;
-    !have_calls(f.body.as_slice()) && homes <= OVERRUN && words <= OVERRUN - homes
+    stack_word(homes, f.frame - 2)
+}
+
+/// How many words of the stack a function takes: two more where it calls others.
+#[tactic(auto, using(crate::proofs::Fitting::frame_most, crate::proofs::Fitting::frame_least))]
+pub fn frame_words(homes: u32, f: &SpFunction) -> u32
+    requires { FunctionFits (plain_function f.now) }
+    ensures words { result ≡ functions.frame_words homes (plain_function f.now) }
+    ensures few { result ≤ 128 }
+{
+    let place = if have_calls(f.body.as_slice()) { 2 } else { 0 };
+    base_slot(homes, f) + place
 }
 
 // ---- from which register on they stand

@@ -16,7 +16,7 @@ use crate::registers::{FIRST, SECOND, TEST, behind, pred, reg};
 use crate::stands::{Flags, Homes};
 use patmos_instr::{Bundle, CmpFunc, Pred, PredFunc, Reg};
 use sp_shape::Part;
-use sp_tree::{SpBinary, SpExpr, SpUnary};
+use sp_tree::{SpBinary, SpExpr, SpUnary, is_one};
 use tc_word::OutOfMemory;
 
 // the comparison that an operator is
@@ -62,17 +62,6 @@ pub fn is_joining(op: SpBinary) -> bool
     ensures { result ≡ is_some (specs.bits_of op) }
 {
     bits_of(op).is_some()
-}
-
-/// Whether an expression is the number 1.
-#[tactic(auto, unfolding(sp_tree::specs::Plain::plain_sp))]
-pub fn is_one(e: &SpExpr) -> bool
-    ensures { result ≡ specs.is_one (plain_sp e.now) }
-{
-    match e {
-        SpExpr::Const { value } => *value == 1,
-        _ => false,
-    }
 }
 
 // whether an expression's code is longer where its value is worked out than where it is tested

@@ -12,7 +12,8 @@ use Rattle.sp_tree.specs.Plain.{PlainSp, constant, frame_word, between_two}
 use Rattle.sp_tree.specs.Statements.{PlainStmt, masks, PlainStmts, no_stmt, stmt, PlainFunction}
 use Rattle.sp_tree.specs.Straight.{State, Serves, worth, stmt_done, stmts_done, begun_frame}
 use Rattle.sp_inline.specs.Reach.{expr_reach, stmts_reach, stmts_calls}
-use Rattle.sp_inline.specs.Taken.{is_equal, is_word, is_one, tests_mask, call_mask, entered}
+use Rattle.sp_inline.specs.Taken.{call_mask, entered}
+use Rattle.sp_tree.specs.MaskTests.{is_equal, is_word, is_one, tests_mask}
 use Rattle.sp_inline.proofs.Windows.{put_here}
 
 -- ---- the test

@@ -19,7 +19,8 @@ use Rattle.sp_inline.specs.Capped.{capped}
 use Rattle.sp_inline.specs.Moved.{moved, args_moved, target_moved, stmt_moved, stmts_moved}
 use Rattle.sp_inline.specs.Reach.{stmts_reach, stmts_calls}
 use Rattle.sp_inline.specs.Shown.{measured_functions, plain_caller, args_of, statements_for}
-use Rattle.sp_inline.specs.Taken.{begun_words, handed, tests_mask, call_mask, entered, given_set, call_statements, PlainCaller, callee, growth, room_of, room_after, is_whole, may_take, has_room, is_taken}
+use Rattle.sp_inline.specs.Taken.{begun_words, handed, call_mask, entered, given_set, call_statements, PlainCaller, callee, growth, room_of, room_after, is_whole, may_take, has_room, is_taken}
+use Rattle.sp_tree.specs.MaskTests.{tests_mask}
 
 -- ---- what is moved costs what it cost
 

@@ -11,7 +11,8 @@ use Rattle.sp_inline.specs.Moved.{stmt_moved, stmts_moved}
 use Rattle.sp_inline.specs.declared.room.Room.{Room}
 use Rattle.sp_inline.proofs.Shortened.{short_levels}
 use Rattle.sp_inline.proofs.Entered.{entered_levels}
-use Rattle.sp_inline.specs.Taken.{begun_words, handed, tests_mask, call_mask, entered, given_set, call_statements, shortened, PlainCaller, Taken, callee, growth, room_after, may_take, is_taken, kept, call_taken, stmt_taken, stmts_taken, body_taken, grown}
+use Rattle.sp_inline.specs.Taken.{begun_words, handed, call_mask, entered, given_set, call_statements, shortened, PlainCaller, Taken, callee, growth, room_after, may_take, is_taken, kept, call_taken, stmt_taken, stmts_taken, body_taken, grown}
+use Rattle.sp_tree.specs.MaskTests.{tests_mask}
 
 -- ---- levels of iterations
 

@@ -12,7 +12,8 @@ use Rattle.sp_tree.specs.Shown.{plain_stmt, stmts_of}
 use Rattle.sp_tree.specs.Statements.{PlainStmts, no_stmt, stmt, one, joined, masks, PlainFunction}
 use Rattle.sp_tree.proofs.Joins.{joined_shown}
 use Rattle.sp_inline.specs.Moved.{stmts_moved}
-use Rattle.sp_inline.specs.Taken.{begun_words, handed, tests_mask, call_mask, entered, given_set, call_statements}
+use Rattle.sp_inline.specs.Taken.{begun_words, handed, call_mask, entered, given_set, call_statements}
+use Rattle.sp_tree.specs.MaskTests.{tests_mask}
 use Rattle.sp_inline.proofs.Parts.{joined_joined, joined_none}
 
 pub one_more : (out : List SpStmt) (t : SpStmt) → stmts_of (out ++ t ∷ []) ≡ joined (stmts_of out) (one (plain_stmt t))

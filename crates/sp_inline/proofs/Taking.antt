@@ -15,7 +15,8 @@ use Rattle.sp_tree.proofs.Runs.{serves_own}
 use Rattle.sp_inline.specs.Moved.{stmts_moved}
 use Rattle.sp_inline.specs.Reach.{expr_reach, args_reach, stmt_reach, stmts_reach, stmts_calls}
 use Rattle.sp_inline.specs.declared.room.Room.{Room}
-use Rattle.sp_inline.specs.Taken.{begun_words, handed, tests_mask, call_mask, entered, given_set, call_statements, shortened, PlainCaller, Taken, callee, room_after, may_take, is_taken, kept, call_taken, stmt_taken, stmts_taken, body_taken, grown, is_whole, function_taken, first_taken, unit_taken}
+use Rattle.sp_inline.specs.Taken.{begun_words, handed, call_mask, entered, given_set, call_statements, shortened, PlainCaller, Taken, callee, room_after, may_take, is_taken, kept, call_taken, stmt_taken, stmts_taken, body_taken, grown, is_whole, function_taken, first_taken, unit_taken}
+use Rattle.sp_tree.specs.MaskTests.{tests_mask}
 use Rattle.sp_inline.proofs.Shortened.{short_calls, short_gives, short_fits}
 use Rattle.sp_inline.proofs.Entered.{entered_reach, entered_calls, mask_reach, begun_state, entered_done}
 use Rattle.sp_inline.proofs.Windows.{window, put_here, put_there, stmts_window, stmts_low}

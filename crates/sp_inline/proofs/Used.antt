@@ -13,7 +13,8 @@ use Rattle.sp_inline.specs.Moved.{moved, args_moved, target_moved, stmt_moved, s
 use Rattle.sp_inline.specs.declared.room.Room.{Room}
 use Rattle.sp_inline.proofs.Shortened.{short_is}
 use Rattle.sp_inline.proofs.Entered.{entered_so}
-use Rattle.sp_inline.specs.Taken.{begun_words, handed, tests_mask, call_mask, entered, given_set, call_statements, front, short_body, shortened, PlainCaller, Taken, callee, room_after, is_taken, kept, stmt_taken, stmts_taken, body_taken, grown, is_whole, function_taken, first_taken, unit_taken}
+use Rattle.sp_inline.specs.Taken.{begun_words, handed, call_mask, entered, given_set, call_statements, front, short_body, shortened, PlainCaller, Taken, callee, room_after, is_taken, kept, stmt_taken, stmts_taken, body_taken, grown, is_whole, function_taken, first_taken, unit_taken}
+use Rattle.sp_tree.specs.MaskTests.{tests_mask}
 
 -- ---- words of a frame from a place on
 

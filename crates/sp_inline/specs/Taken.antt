@@ -1,10 +1,10 @@
 -- To be believed. Calls in loops, in the place of which the statements of their functions stand, over further words of
 -- the frame, as far as the function keeps to so many words of code and of its frame.
 use Rattle.std.specs.Prelude.{ℕ, zero, suc, ◌+◌, ◌-◌, ◌==◌, nat_lt, nat_le, max, Bool, true, false, not, if◌then◌else◌, ◌&&◌, List, [], ◌∷◌, ◌++◌, length, Option, None, Some, slice_index, slice_index_or}
-use Rattle.sp_tree.specs.declared.operators.SpBinary.{SpBinary}
 use Rattle.sp_tree.specs.declared.operators.SpBinary.TheVariants as binary
 use Rattle.sp_tree.specs.Cost.{args_cost, stmts_cost, cost}
 use Rattle.sp_tree.specs.Formed.{stmts_levels, slots_of}
+use Rattle.sp_tree.specs.MaskTests.{tests_mask}
 use Rattle.sp_tree.specs.Plain.{PlainSp, constant, frame_word, between_two}
 use Rattle.sp_tree.specs.Statements.{to_slot, PlainStmt, masks, writes, calls, iterations, PlainStmts, no_stmt, stmt, one, joined, PlainFunction, no_function, PlainUnit}
 use Rattle.sp_inline.specs.declared.room.Room.{Room}
@@ -25,25 +25,8 @@ handed zero mask args = mask ∷ []
 handed (suc n) mask [] = constant 0 ∷ handed n mask []
 handed (suc n) mask (e ∷ args) = e ∷ handed n mask args
 
-abbrev pub is_equal : SpBinary → Bool
-is_equal binary.Equal = true
-is_equal _ = false
-
-abbrev pub is_word : ℕ → PlainSp → Bool
-is_word word (frame_word slot) = slot == word
-is_word word _ = false
-
-abbrev pub is_one : PlainSp → Bool
-is_one (constant n) = n == 1
-is_one _ = false
-
--- whether the first statement tests a mask, as that of each function of C does: it sets the word to whether it is 1
-abbrev pub tests_mask : ℕ → PlainStmts → Bool
-tests_mask mask (stmt (masks slot (between_two op a b)) rest) =
-    slot == mask && (is_equal op && (is_word mask a && is_one b))
-tests_mask mask _ = false
-
--- Where a function begins so, its mask is set to whether that of the call is 1, and where it does not, to that itself
+-- where a function begins by testing its mask, this is set to whether that of the call is 1, and where it does not, to that
+-- itself
 abbrev pub call_mask : Bool → ℕ → PlainSp
 call_mask true mask = between_two binary.Equal (frame_word mask) (constant 1)
 call_mask false mask = frame_word mask

@@ -31,7 +31,7 @@ fn binary(op: SpBinary) -> u64
         SpBinary::Divide
         | SpBinary::DivideUnsigned
         | SpBinary::Remainder
-        | SpBinary::RemainderUnsigned => 32,
+        | SpBinary::RemainderUnsigned => 43,
         _ => 1,
     }
 }

@@ -2,19 +2,20 @@
 ghost use Rattle.std.specs.Prelude.{◌≡◌, ◌+◌, ◌-◌, ◌<◌, ◌^◌};
 ghost use Rattle.sp_tree.specs.Cost.{stmts_cost};
 ghost use Rattle.sp_tree.specs.Formed.{slots_of, stmts_levels};
+ghost use Rattle.sp_tree.specs.MaskTests.{tests_mask};
 ghost use Rattle.sp_tree.specs.Shown.{plain_function, stmts_of};
 ghost use Rattle.sp_inline.specs.Capped.{capped};
 ghost use Rattle.sp_inline.specs.Kept.{kept_count};
 ghost use Rattle.sp_inline.specs.Reach.{stmts_reach, stmts_calls};
-ghost use Rattle.sp_inline.specs.Taken.{short_body, tests_mask, entered as entered_body};
+ghost use Rattle.sp_inline.specs.Taken.{short_body, entered as entered_body};
 
-use crate::beginnings::{entered, tests_mask};
+use crate::beginnings::entered;
 use crate::callees::calls_of;
 use crate::costs::cost_of;
 use crate::endings::kept_of;
 use crate::levels::levels_of;
 use crate::reach::reach_of;
-use sp_tree::{SpFunction, SpStmt};
+use sp_tree::{SpFunction, SpStmt, tests_mask};
 
 /// A function; how many words its tree may name; and of its statements, how many words they name, how many functions
 /// they call, how many levels of iterations they have, and how many words of code they take. Then, how many of its

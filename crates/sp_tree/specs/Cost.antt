@@ -17,7 +17,8 @@ unary_cost unary.Complement = 1
 unary_cost unary.Not = 3
 
 -- `||` and `&&` compare both operands with 0, and join what comes of it; a comparison sets 0 and, under its predicate,
--- 1; a product is fetched from a register of its own; quotients and remainders take at most 16 iterations
+-- 1; a product is fetched from a register of its own; quotients and remainders are taken digit by digit, four in
+-- each iteration
 abbrev pub binary_cost : SpBinary → ℕ
 binary_cost binary.Or = 5
 binary_cost binary.And = 5
@@ -28,10 +29,10 @@ binary_cost binary.LessUnsigned = 3
 binary_cost binary.LessEqual = 3
 binary_cost binary.LessEqualUnsigned = 3
 binary_cost binary.Times = 3
-binary_cost binary.Divide = 32
-binary_cost binary.DivideUnsigned = 32
-binary_cost binary.Remainder = 32
-binary_cost binary.RemainderUnsigned = 32
+binary_cost binary.Divide = 43
+binary_cost binary.DivideUnsigned = 43
+binary_cost binary.Remainder = 43
+binary_cost binary.RemainderUnsigned = 43
 binary_cost _ = 1
 
 -- the constants that an instruction holds as its second operand are those below this number: a masking has 12 bits for

@@ -1,6 +1,7 @@
 pub mod Begun
 pub mod Cost
 pub mod Formed
+pub mod MaskTests
 pub mod Need
 pub mod Operators
 pub mod Plain

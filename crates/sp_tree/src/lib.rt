@@ -12,6 +12,7 @@
 //!   out: exactly that. They go only as deep as the tree and its chain of calls.
 //! - What is well formed: `specs/Formed.antt`, with the registers that an expression takes (`specs/Need.antt`) and what
 //!   a unit does with memories (`specs/Uses.antt`). Code can be written for each unit that is well formed.
+//! - How the statements of each function of C begin, with a test of its mask: `specs/MaskTests.antt`, [`tests_mask`].
 //! - How many words the code of a function takes at most: `specs/Cost.antt`.
 //!
 //! What its words mean stands in [the glossary](../../../docs/GLOSSARY.md).
@@ -22,6 +23,7 @@ mod expressions;
 mod laws;
 mod limits;
 mod making;
+mod mask_tests;
 mod operators;
 mod outcome;
 mod run;
@@ -37,6 +39,7 @@ pub use expressions::{SpArray, SpCell, SpExpr, SpTarget};
 pub use laws::{earlier_functions_serve, frames_grow, masks_hold, statements_join, tree_limits};
 pub use limits::{MOST_FRAME, MOST_FUNCTIONS, MOST_NEED, MOST_PARAMETERS};
 pub use making::{before_operand, between_operands, copied, indexed};
+pub use mask_tests::{is_one, tests_mask};
 pub use operators::{SpBinary, SpUnary};
 pub use outcome::{SpOutcome, plain_straight};
 pub use statements::{SpFunction, SpStmt, SpUnit};

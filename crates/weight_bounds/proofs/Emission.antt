@@ -25,7 +25,7 @@ use Rattle.sp_emit.specs.Division.{unsigned_quotient_to}
 use Rattle.sp_emit.specs.Divisors.{factor_rest_to}
 use Rattle.sp_emit.specs.Expressions.{truth_of, address_of, cell_space, array_space, unary_code, binary_code, held_code, cell_code, element_code, number_of, value_at, value_code, operands_code, expr_to, expr_code, is_immediate}
 use Rattle.sp_emit.specs.Flags.{behind_first, begun_body}
-use Rattle.sp_emit.specs.Functions.{first_counter, argument_kept, arguments_kept, mask_in, mask_kept, place_kept, state_kept, frame_taken, place_brought, result_given, function_begin, function_end, function_rest, body_code, function_code}
+use Rattle.sp_emit.specs.Functions.{first_counter, frame_words, argument_kept, arguments_kept, mask_in, mask_kept, place_kept, state_kept, frame_taken, place_brought, result_given, function_begin, function_end, function_rest, body_code, function_code}
 use Rattle.sp_emit.specs.Instructions.{always, where_so, under, set_number, combine}
 use Rattle.sp_emit.specs.Places.{flag_of, mask_test, seek_word, match_word, told_at, read_word, fetch_word, fetched_at, keep_word, set_word, words_cleared}
 use Rattle.sp_emit.specs.Truths.{bit_sought}
@@ -73,13 +73,13 @@ few_straight most count bs some past = record { some = some; iterations = omega 
 -- ---- bundles that have no transactions past one
 
 read_past : (homes rd slot : ℕ) → bundle_past (read_word homes rd slot) ≤ 0
-read_past homes rd slot = read_is (λ b. bundle_past b ≤ 0) homes rd slot (omega arith) (omega arith)
+read_past homes rd slot = read_is (λ b. bundle_past b ≤ 0) homes rd slot (omega arith) (λ out. omega arith)
 
 keep_past : (homes slot : ℕ) → bundle_past (keep_word homes slot) ≤ 0
-keep_past homes slot = keep_is (λ b. bundle_past b ≤ 0) homes slot (omega arith) (omega arith)
+keep_past homes slot = keep_is (λ b. bundle_past b ≤ 0) homes slot (omega arith) (λ out. omega arith)
 
 fetch_past : (homes slot : ℕ) → bundle_past (fetch_word homes slot) ≤ 0
-fetch_past homes slot = fetch_is (λ b. bundle_past b ≤ 0) homes slot (omega arith) (omega arith)
+fetch_past homes slot = fetch_is (λ b. bundle_past b ≤ 0) homes slot (omega arith) (λ out. omega arith)
 
 seek_past : (homes : Homes) (mask : ℕ) → bundle_past (seek_word homes mask) ≤ 0
 seek_past homes mask = seek_is (λ b. bundle_past b ≤ 0) homes mask (omega arith) (fetch_past homes.first mask)
@@ -100,7 +100,7 @@ number_past : (rd n : ℕ) → bundle_past (set_number rd n) ≤ 0
 number_past rd n = number_op_is (λ op. bundle_past (under always op) ≤ 0) rd n (omega arith) (omega arith)
 
 set_past : (homes : ℕ) (g : Guard) (slot rs : ℕ) → bundle_past (set_word homes g slot rs) ≤ 0
-set_past homes g slot rs = set_op_is (λ op. bundle_past (under g op) ≤ 0) homes slot rs (omega arith) (omega arith)
+set_past homes g slot rs = set_op_is (λ op. bundle_past (under g op) ≤ 0) homes slot rs (omega arith) (λ out. omega arith)
 
 alu_past : (g : Guard) (op : Op) → is_alu op ≡ true → bundle_past (under g op) ≤ 0
 alu_past g (AluImm func rd ra imm) alu = omega arith
@@ -313,19 +313,19 @@ begin_past homes f =
       past_append (frame_taken homes.first f) (words_cleared homes (slots_of f) ++ (arguments_kept homes.first f.parameters ++ state_kept homes f)),
       past_append (words_cleared homes (slots_of f)) (arguments_kept homes.first f.parameters ++ state_kept homes f),
       past_append (arguments_kept homes.first f.parameters) (state_kept homes f),
-      taken_is (λ bs. bundles_past bs ≤ 31) homes.first f (omega arith) (omega arith),
+      taken_is (λ bs. bundles_past bs ≤ 31) (frame_words homes.first f) (omega arith) (omega arith),
       none_past (words_cleared homes (slots_of f)) (cleared_all (λ b. bundle_past b == 0) homes (slots_of f) (λ p. refl) (λ r. refl)),
       arguments_past homes.first f.parameters,
-      past_append (mask_kept homes f) (place_kept f),
+      past_append (mask_kept homes f) (place_kept homes.first f),
       mask_past homes f,
-      kept_is (λ bs. bundles_past bs ≤ 0) f (λ has. omega arith) (omega arith),
+      kept_is (λ bs. bundles_past bs ≤ 0) homes.first f (λ has. omega arith) (omega arith),
     )
 
 end_past : (homes : ℕ) (f : PlainFunction) → bundles_past (function_end homes f) ≤ 0
 end_past homes f =
-    let given : bundles_past (result_given homes f) ≤ 0 = omega (arith, read_past homes RESULT f.result, freed_is (λ bs. bundles_past bs ≤ 0) homes f (omega arith) (omega arith)) in
-    let brought = brought_is (λ bs. bundles_past bs ≤ 0) f (λ has. omega arith) (omega arith) in
-    omega (arith, past_append (place_brought f) (result_given homes f), given, brought)
+    let given : bundles_past (result_given homes f) ≤ 0 = omega (arith, read_past homes RESULT f.result, freed_is (λ bs. bundles_past bs ≤ 0) (frame_words homes f) (omega arith) (omega arith)) in
+    let brought = brought_is (λ bs. bundles_past bs ≤ 0) homes f (λ has. omega arith) (omega arith) in
+    omega (arith, past_append (place_brought homes f) (result_given homes f), given, brought)
 
 begun_iterations : (flags : Flags) (f : PlainFunction) → stmts_iterations (begun_body flags f) ≤ stmts_iterations f.body
 begun_iterations flags f = begun_is (λ ts. stmts_iterations ts ≤ stmts_iterations f.body) flags f (omega arith) (by f.body)
@@ -344,7 +344,7 @@ begun_calls flags f = begun_is (λ ts. stmts_call_count ts ≤ stmts_call_count 
 pub function_few : (homes : Homes) (f : PlainFunction) → IsFewOf f (function_code homes f)
 function_few homes f =
     let body = body_code homes f in
-    let x = stmts_few homes f.frame (first_counter f) (begun_body homes.flags f) in
+    let x = stmts_few homes (frame_words homes.first f) (first_counter f) (begun_body homes.flags f) in
     let fewer = begun_iterations homes.flags f in
     let less = begun_calls homes.flags f in
     record {

@@ -7,7 +7,8 @@ use Rattle.sp_tree.specs.Plain.{PlainSp, constant, frame_word, cell_word, array_
 use Rattle.sp_tree.specs.Statements.{PlainSpTarget, to_slot, to_cell, to_array, PlainStmt, masks, writes, calls, transfers, overruns, iterations, PlainStmts, no_stmt, stmt, one, joined, PlainFunction, no_function}
 use Rattle.sp_inline.specs.declared.room.Room.{Room}
 use Rattle.sp_inline.specs.Moved.{moved, args_moved, target_moved, stmt_moved, stmts_moved}
-use Rattle.sp_inline.specs.Taken.{begun_words, handed, tests_mask, call_mask, entered, ends_so, front, shortened, given_set, call_statements, PlainCaller, Taken, callee, growth, room_after, is_whole, may_take, has_room, is_taken, call_taken, stmt_taken, stmts_taken, body_taken, grown, function_taken, first_taken}
+use Rattle.sp_inline.specs.Taken.{begun_words, handed, call_mask, entered, ends_so, front, shortened, given_set, call_statements, PlainCaller, Taken, callee, growth, room_after, is_whole, may_take, has_room, is_taken, call_taken, stmt_taken, stmts_taken, body_taken, grown, function_taken, first_taken}
+use Rattle.sp_tree.specs.MaskTests.{tests_mask}
 use Rattle.sp_inline.proofs.Entered.{entered_so}
 use Rattle.sp_inline.proofs.Taking.{first_at, first_length}
 use Rattle.weight_bounds.specs.Trees.{expr_iterations, args_iterations, target_iterations, stmt_iterations, stmts_iterations, stmt_call_count, stmts_call_count}

@@ -30,7 +30,7 @@ pub returns-clause-steady : goal.returns-clause-steady
 returns-clause-steady c = λ k below. steady_as (plain_shape c.in_ok-shape.shape) (plain_unit c.args.unit.now) c.in_ok-shape.ensures k below
 
 pub returns-clause-frames : goal.returns-clause-frames
-returns-clause-frames c = λ k below. frames_as (plain_shape c.in_ok-shape.shape) (plain_unit c.args.unit.now) c.in_ok-shape.ensures k below
+returns-clause-frames c = λ k below. frames_as (plain_shape c.in_ok-shape.shape) (plain_unit c.args.unit.now) c.in_ok-shape.ensures c.requires.formed k below
 
 pub returns-clause-room : goal.returns-clause-room
 returns-clause-room c = λ k below. room_as (plain_shape c.in_ok-shape.shape) (plain_unit c.args.unit.now) c.in_ok-shape.ensures c.requires.formed k below

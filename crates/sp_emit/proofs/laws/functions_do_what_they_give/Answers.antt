@@ -31,7 +31,7 @@ done : (fs : List PlainFunction) (n : ℕ) (homes : Homes) (frame slots counter 
 done fs n homes frame slots counter ts s m h =
     stmts_run homes (tops fs n) (code_of fs n) (serves fs n) fs n frame slots counter (n * 128)
     (calls_run homes fs n frame slots h.functions.formed h.named (all_serve fs h.functions.constants n h.functions.within h.functions.formed))
-    h.named h.counted h.framed ts h.levels h.formed h.constants h.homed h.stand s m h.room h.follows
+    h.named h.counted ts h.levels h.formed h.constants h.homed h.stand s m h.room h.follows
 
 pub returns-clause-unchanged : goal.returns-clause-unchanged
 unfolding AllServe ServedBy
