@@ -2,10 +2,12 @@ ghost use Rattle.std.specs.Prelude.{◌≡◌, ◌*◌, ◌≤◌, IfOk};
 ghost use Rattle.toml.specs.View.{table_view};
 ghost use Rattle.tc_toml.specs.Fault.{Gives};
 ghost use Rattle.argo_grid.specs.Read as specs;
+ghost use Rattle.slot_arbiter.specs.declared.table.TheConstants.{MOST_CORES};
 
 use crate::entries::entries_of;
 use crate::grid::Grid;
 use crate::job::{GridJob, MOST_PERIOD};
+use slot_arbiter::MOST_CORES;
 use std::alloc::Global;
 use tc_toml::{JobError, JobFault, Section, tree_of};
 use toml::Table;
@@ -30,7 +32,7 @@ fn grid_in(alloc: Global, table: &Table) -> Result<GridJob, JobError>
         task: None,
     };
     knows_keys(&top)?;
-    let columns = top.number("columns", 1, 16)?;
+    let columns = top.number("columns", 1, MOST_CORES)?;
     let rows = rows_in(&top, columns)?;
     let length = top.number("length", 1, MOST_PERIOD)?;
     let entries = top.reported("entries", entries_of(alloc, top.value("entries")))?;
@@ -64,15 +66,15 @@ fn is_key(key: &str) -> bool
 #[tactic(auto, unfolding(crate::specs::Read::rows_in))]
 fn rows_in(top: &Section<'_>, columns: u32) -> Result<u32, JobError>
     requires task { top.now.task ≡ None }
-    requires most { columns ≤ 16 }
+    requires most { columns ≤ MOST_CORES }
     ensures rows { Gives (λ rows. rows) result (specs.rows_in columns (table_view top.now.table.now)) }
     ensures some { IfOk result (λ rows. 1 ≤ rows) }
     ensures least { IfOk result (λ rows. 2 ≤ columns * rows) }
-    ensures most { IfOk result (λ rows. columns * rows ≤ 16) }
+    ensures most { IfOk result (λ rows. columns * rows ≤ MOST_CORES) }
 {
-    let rows = top.number("rows", 1, 16)?;
+    let rows = top.number("rows", 1, MOST_CORES)?;
     let routers = columns * rows;
-    if 2 <= routers && routers <= 16 {
+    if 2 <= routers && routers <= MOST_CORES {
         Ok(rows)
     } else {
         Err(top.fault(JobFault::Range, "rows"))

@@ -1,8 +1,8 @@
 ghost use Rattle.std.specs.Prelude.{◌≡◌, ◌≤◌, ◌++◌, IfOk, OnOk};
-ghost use Rattle.std.specs.Fmt.{decimal};
 ghost use Rattle.argo_grid.specs.Report as specs;
 ghost use Rattle.tc_toml.specs.Fault.{fault_text};
 ghost use Rattle.argo_grid.specs.Check.{checked};
+ghost use Rattle.slot_arbiter.specs.declared.table.TheConstants.{MOST_CORES};
 
 use crate::check::check_grid;
 use crate::fault::GridFault;
@@ -10,9 +10,9 @@ use crate::grid::Grid;
 use crate::job::GridJob;
 use crate::read::read_grid;
 use crate::transfer::latency;
-use itoa::Buffer;
 use local_store::COMM_WORDS;
 use std::alloc::{AllocError, Global};
+use tc_io::{DONE, FAULTY_TEXT, put, put_with};
 use tc_toml::{JobError, JobFault, put_fault};
 use tc_word::{List, OutOfMemory};
 
@@ -48,7 +48,7 @@ fn no_schedule(
     put_fault(&mut text, kind, task, key)?;
     put(&mut text, "\n")?;
     Ok(GridReport {
-        status: 2,
+        status: FAULTY_TEXT,
         text: List::of(text),
     })
 }
@@ -61,12 +61,12 @@ fn schedule_report(alloc: Global, job: &GridJob) -> Result<GridReport, OutOfMemo
     let status = match check_grid(job) {
         Ok(()) => {
             put_right(&mut text, job)?;
-            0
+            DONE
         }
         Err(fault) => {
             put_grid_fault(&mut text, fault)?;
             put(&mut text, "\n")?;
-            2
+            FAULTY_TEXT
         }
     };
     Ok(GridReport {
@@ -126,7 +126,7 @@ fn put_size(text: &mut Vec<u8>, grid: Grid) -> Result<(), OutOfMemory>
 #[tactic(auto, unfolding(crate::specs::Report::latency_line))]
 fn put_latency(text: &mut Vec<u8>, cores: u32, count: u32) -> Result<(), OutOfMemory>
     requires several { 2 ≤ cores }
-    requires most { cores ≤ 16 }
+    requires most { cores ≤ MOST_CORES }
     requires some { 1 ≤ count }
     requires fits { count ≤ COMM_WORDS }
     ensures { OnOk result (text.new.items ≡ text.old.items ++ specs.latency_line cores count) }
@@ -134,13 +134,6 @@ fn put_latency(text: &mut Vec<u8>, cores: u32, count: u32) -> Result<(), OutOfMe
     let bound = latency(cores, count);
     put_two(text, "latency ", u64::from(count), " words ", bound)?;
     put(text, "\n")
-}
-
-/// Appends words.
-fn put(text: &mut Vec<u8>, words: &str) -> Result<(), OutOfMemory>
-    ensures { OnOk result (text.new.items ≡ text.old.items ++ words.now) }
-{
-    text.extend_from_slice(words.as_bytes())
 }
 
 /// Appends words and a number after them, twice.
@@ -155,13 +148,4 @@ fn put_two(
 {
     put_with(text, words, first)?;
     put_with(text, others, second)
-}
-
-/// Appends words, and a number in decimal after them.
-fn put_with(text: &mut Vec<u8>, words: &str, number: u64) -> Result<(), OutOfMemory>
-    ensures { OnOk result (text.new.items ≡ text.old.items ++ (words.now ++ decimal number)) }
-{
-    let mut digits = Buffer::new();
-    put(text, words)?;
-    text.extend_from_slice(digits.format(number).as_bytes())
 }

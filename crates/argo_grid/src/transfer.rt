@@ -3,6 +3,7 @@ ghost use Rattle.argo_ni.specs.declared.event.Started.TheVariants.{Begun};
 ghost use Rattle.argo_ni.specs.Interface.{Interface, IsTarget, port_to};
 ghost use Rattle.argo_ni.specs.Start.{answer_to, started};
 ghost use Rattle.argo_grid.specs.Transfer.{Cycle, IsBrought, IsOneOf, latency_of};
+ghost use Rattle.slot_arbiter.specs.declared.table.TheConstants.{MOST_CORES};
 
 use local_store::COMM_WORDS;
 
@@ -14,7 +15,7 @@ use local_store::COMM_WORDS;
 /// the target's communication memory by cycle t + `latency`.
 pub fn latency(cores: u32, count: u32) -> u64
     requires several { 2 ≤ cores }
-    requires most { cores ≤ 16 }
+    requires most { cores ≤ MOST_CORES }
     requires some { 1 ≤ count }
     requires fits { count ≤ COMM_WORDS }
     ensures bound { result ≡ latency_of cores count }

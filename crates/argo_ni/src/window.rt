@@ -1,6 +1,7 @@
 ghost use Rattle.std.specs.Prelude.{◌≡◌, ◌≢◌, ℕ, ◌+◌, ◌-◌, ◌*◌, ◌/◌, ◌%◌, ◌^◌, ◌<◌, ◌≤◌, false, length, IsNone, IfSome};
 ghost use Rattle.slot_arbiter.specs.Order.{IsNext};
 ghost use Rattle.argo_ni.specs.Window.{target_in, is_used, sends_in};
+ghost use Rattle.slot_arbiter.specs.declared.table.TheConstants.{MOST_CORES};
 
 use crate::port::Port;
 
@@ -20,7 +21,7 @@ pub fn windows_by_cycles()
 /// The core to which a core may send in the given window, counted from cycle 0.
 pub fn target_in(cores: u32, core: u32, window: u64) -> u32
     requires others { 2 ≤ cores }
-    requires most { cores ≤ 16 }
+    requires most { cores ≤ MOST_CORES }
     requires among { core < cores }
     ensures target { result ≡ target_in cores core window }
     ensures bounded { result < cores }
@@ -31,7 +32,7 @@ pub fn target_in(cores: u32, core: u32, window: u64) -> u32
 
 /// The core after this one, and after the last one the first.
 fn core_after(cores: u32, core: u32) -> u32
-    requires most { cores ≤ 16 }
+    requires most { cores ≤ MOST_CORES }
     requires among { core < cores }
     ensures after { result ≡ (core + 1) % cores }
     ensures bounded { result < cores }
@@ -43,7 +44,7 @@ fn core_after(cores: u32, core: u32) -> u32
 #[tactic(auto, using(crate::proofs::Windows::next_in_round, crate::proofs::Windows::past_itself))]
 fn next_target(cores: u32, core: u32, target: u32) -> u32
     requires others { 2 ≤ cores }
-    requires most { cores ≤ 16 }
+    requires most { cores ≤ MOST_CORES }
     requires among { core < cores }
     requires target { target < cores }
     ensures next { (k : ℕ) → target ≡ target_in cores core k → result ≡ target_in cores core (k + 1) }
@@ -61,7 +62,7 @@ fn next_target(cores: u32, core: u32, target: u32) -> u32
 #[tactic(auto, using(crate::proofs::Windows::found, crate::proofs::Windows::used_here, crate::proofs::Windows::unused_here, crate::proofs::Windows::none_used))]
 fn next_window(ports: &[Port], cores: u32, core: u32, first: u64) -> Option<u64>
     requires targets { length ports.now ≡ 16 }
-    requires most { cores ≤ 16 }
+    requires most { cores ≤ MOST_CORES }
     requires among { core < cores }
     requires in_time { first < 2 ^ 62 }
     ensures next { IfSome result (IsNext (is_used cores core ports.now) first) }
@@ -85,7 +86,7 @@ fn next_window(ports: &[Port], cores: u32, core: u32, first: u64) -> Option<u64>
 #[tactic(auto, using(crate::proofs::Windows::sends_next, crate::proofs::Windows::never_sends))]
 pub fn next_send(ports: &[Port], cores: u32, core: u32, from: u64) -> Option<u64>
     requires targets { length ports.now ≡ 16 }
-    requires most { cores ≤ 16 }
+    requires most { cores ≤ MOST_CORES }
     requires among { core < cores }
     requires in_time { from < 2 ^ 62 }
     ensures next { IfSome result (IsNext (sends_in cores core ports.now) (from / 2)) }

@@ -13,7 +13,8 @@ use Rattle.c_tree.specs.Names.{Named}
 use Rattle.c_tree.specs.Plain.{plain_expr}
 use Rattle.c_tree.specs.Sizes.{expr_size, steps_size}
 use Rattle.c_tree.proofs.Leasts.{least_of_both}
-use Rattle.c_tree.proofs.Plains.{steps_of, plain_chain}
+use Rattle.c_tree.specs.Plains.{steps_of}
+use Rattle.c_tree.proofs.Plains.{plain_chain}
 
 pub chain_faulted : (least : Option Fault) (names : List Named) (at : ℕ) (e : Expr) (level : ℕ) (b : Box Expr Global) (steps : List Step) → e ≡ Chain level b steps
     → least_with least (expr_faults names at (plain_expr e))

@@ -20,7 +20,7 @@ use Rattle.c_tree.specs.Checks.{expr_faults, steps_faults, whole_faults, args_fa
 use Rattle.c_tree.specs.Valid.{parameters_faults, with_parameters, item_faults, items_faults, with_item, item_words, words_in, is_main, has_main}
 use Rattle.c_tree.specs.Layout.{item_slots, slots_from}
 use Rattle.c_tree.proofs.Leasts.{least_of_both}
-use Rattle.c_tree.proofs.Plains.{steps_of, block_of, arms_of}
+use Rattle.c_tree.specs.Plains.{steps_of, block_of, arms_of}
 use Rattle.c_check.proofs.Sums.{step_size, next_size}
 
 pub chain_next : (least : Option Fault) (names : List Named) (at : ℕ) (steps : List Step) (i : ℕ) (s : Step) → i < length steps → s ≡ get_or steps i s

@@ -20,7 +20,8 @@ use Rattle.c_tree.specs.Plain.{PlainExpr, plain_expr, plain_right, plain_head, p
 use Rattle.c_tree.specs.Sizes.{expr_size, argument_size, call_size, bound_size, head_size, stmt_size, arms_size, block_size, otherwise_size}
 use Rattle.c_tree.proofs.StmtSizes.{inner_sized, loop_sized}
 use Rattle.c_tree.proofs.Leasts.{least_of_both}
-use Rattle.c_tree.proofs.Plains.{block_of, arms_of, plain_inner, plain_loop, plain_if}
+use Rattle.c_tree.specs.Plains.{block_of, arms_of}
+use Rattle.c_tree.proofs.Plains.{plain_inner, plain_loop, plain_if}
 
 pub declare_faulted : (least : Option Fault) (w : Within) (names : List Named) (at : ℕ) (s : Stmt) (kind : Kind) (name : List ℕ) (r : Option Right) → s ≡ Declare kind name r
     → least_with least (stmt_faults w names at (plain_stmt s)) ≡ least_with least (declare_faults w.outer names at kind name (option_map plain_right r))

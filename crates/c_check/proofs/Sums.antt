@@ -13,7 +13,8 @@ use Rattle.c_tree.specs.Plain.{plain_expr, plain_stmt, plain_item}
 use Rattle.c_tree.specs.Sizes.{expr_size, steps_size, argument_size, call_size, stmt_size, block_size, arms_size, further_size, item_size}
 use Rattle.c_tree.specs.Valid.{item_words, words_in}
 use Rattle.c_tree.specs.Weight.{operator_weight, expr_weight, steps_weight, stmt_weight, block_weight, arms_weight, body_weight, item_weight, items_weight}
-use Rattle.c_tree.proofs.Plains.{steps_of, block_of, arms_of, plain_inner}
+use Rattle.c_tree.specs.Plains.{steps_of, block_of, arms_of}
+use Rattle.c_tree.proofs.Plains.{plain_inner}
 
 pub sum_mapped : {A B : Type 0} (f : B → ℕ) (g : A → B) (xs : List A) → sum_by f (map g xs) ≡ sum_by (λ x. f (g x)) xs
 sum_mapped f g [] = refl

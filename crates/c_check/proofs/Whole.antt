@@ -13,7 +13,7 @@ use Rattle.c_tree.specs.Sizes.{kind_size, stmt_size, item_size}
 use Rattle.c_tree.specs.Checks.{twice_faults, stmt_faults, block_faults, body_faults, after}
 use Rattle.c_tree.specs.Valid.{words_of, global_faults, items_faults, end_faults, fault_of}
 use Rattle.c_tree.proofs.Leasts.{least_of_both}
-use Rattle.c_tree.proofs.Plains.{block_of}
+use Rattle.c_tree.specs.Plains.{block_of}
 
 pub global_told : (least : Option Fault) (names : List Named) (at name_at : ℕ) (g : Global) → name_at ≡ at + (if g.scratch then 1 else 0) + kind_size g.kind
     → least_with least (global_faults names at g)

@@ -3,7 +3,7 @@ ghost use Rattle.std.specs.Prelude.{◌≡◌, nat_lt};
 ghost use Rattle.c_tree.specs.declared.limits.TheConstants.{MOST_DEPTH};
 ghost use Rattle.c_tree.specs.Depth.{expr_depth, steps_depth};
 ghost use Rattle.c_tree.specs.Plain.{plain_expr};
-ghost use Rattle.c_tree.proofs.Plains.{steps_of};
+ghost use Rattle.c_tree.specs.Plains.{steps_of};
 ghost use Rattle.c_check.specs.Capped.{capped};
 
 use c_tree::{Expr, MOST_DEPTH, Step};

@@ -3,7 +3,7 @@ ghost use Rattle.std.specs.Prelude.{◌≡◌, ◌+◌, map, sum_by, OnOk};
 ghost use Rattle.c_tree.specs.Least.{least_with};
 ghost use Rattle.c_tree.specs.Sizes.{expr_size, steps_size, argument_size, call_size, right_size};
 ghost use Rattle.c_tree.specs.Plain.{plain_expr, plain_right};
-ghost use Rattle.c_tree.proofs.Plains.{steps_of};
+ghost use Rattle.c_tree.specs.Plains.{steps_of};
 ghost use Rattle.c_tree.specs.Checks as faults;
 ghost use Rattle.c_tree.specs.Names.{found};
 ghost use Rattle.c_check.specs.Open.{names_of};

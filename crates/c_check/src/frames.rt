@@ -3,7 +3,7 @@ ghost use Rattle.std.specs.Prelude.{◌≡◌, nat_lt, map};
 ghost use Rattle.c_tree.specs.declared.limits.TheConstants.{MOST_FRAME_WORDS};
 ghost use Rattle.c_tree.specs.Frame as frame;
 ghost use Rattle.c_tree.specs.Plain.{plain_stmt};
-ghost use Rattle.c_tree.proofs.Plains.{block_of, arms_of};
+ghost use Rattle.c_tree.specs.Plains.{block_of, arms_of};
 ghost use Rattle.c_check.specs.Capped.{capped};
 
 use c_tree::{Arm, Function, MOST_FRAME_WORDS, Stmt, WORDS_BESIDES};

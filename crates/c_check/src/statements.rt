@@ -6,7 +6,7 @@ ghost use Rattle.c_tree.specs.Sizes.{expr_size, argument_size, bound_size, head_
 ghost use Rattle.c_tree.specs.Sizes as sizes;
 ghost use Rattle.c_tree.specs.Checks as faults;
 ghost use Rattle.c_tree.specs.Names.{declared};
-ghost use Rattle.c_tree.proofs.Plains.{block_of, arms_of};
+ghost use Rattle.c_tree.specs.Plains.{block_of, arms_of};
 ghost use Rattle.c_check.specs.Open.{names_of};
 
 use crate::expressions::{argument, array, call, right, scalar, whole};

@@ -3,7 +3,7 @@ ghost use Rattle.std.specs.Prelude.{◌≡◌, ◌+◌, ◌*◌, nat_lt, map, su
 ghost use Rattle.c_tree.specs.declared.limits.TheConstants.{MOST_FUNCTION_WEIGHT, MOST_TASK_WEIGHT};
 ghost use Rattle.c_tree.specs.Weight as weight;
 ghost use Rattle.c_tree.specs.Plain.{plain_expr, plain_right, plain_head, plain_stmt, plain_item};
-ghost use Rattle.c_tree.proofs.Plains.{steps_of, block_of, arms_of};
+ghost use Rattle.c_tree.specs.Plains.{steps_of, block_of, arms_of};
 ghost use Rattle.c_check.specs.Capped.{capped};
 
 use c_tree::{

@@ -1,8 +1,6 @@
 //! The code of a task's tree.
 ghost use Rattle.std.specs.Prelude.{◌≡◌, ℕ, List, true, IfOk};
-ghost use Rattle.std.specs.List.{AllByRecursion as Each};
 ghost use Rattle.c_compile.specs.Code.{image_of, CarriesOut};
-ghost use Rattle.patmos_model.specs.Range.{IsWord};
 ghost use Rattle.sp_emit.specs.Means.{HoldsWords};
 ghost use Rattle.sp_shape.specs.Formed as shape;
 ghost use Rattle.sp_shape.specs.Shown.{plain_shape};
@@ -15,6 +13,7 @@ ghost use Rattle.tc_link.specs.Fits.{FitsImage};
 
 use bundle_sched::schedule;
 use patmos_code::Image;
+use patmos_model::words_fit;
 use sp_emit::{Shape, emit};
 use sp_tree::SpUnit;
 use std::alloc::Global;
@@ -47,8 +46,3 @@ pub fn code_of(alloc: Global, unit: &SpUnit) -> Result<Code, OutOfMemory>
     let image = link(alloc, &shape)?;
     Ok(Code { shape, image })
 }
-
-// the words that a task begins with are words of 32 bits
-fn words_fit(words: &[u32])
-    ensures { Each IsWord words.now }
-{}

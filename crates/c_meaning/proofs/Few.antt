@@ -30,7 +30,7 @@ use Rattle.c_tree.specs.Tokens.{gives_tokens}
 use Rattle.c_tree.specs.Valid.{IsValid, has_none, function_means, named_faults, parameters_faults, with_parameters, inner_faults, item_faults, items_faults, with_item, means_of}
 use Rattle.c_tree.specs.Weight.{function_weight, item_weight, items_weight}
 use Rattle.c_tree.proofs.Faultless.{none_left, none_right, not_so, not_past, in_items, task_fits}
-use Rattle.c_tree.proofs.Plains.{block_of}
+use Rattle.c_tree.specs.Plains.{block_of}
 use Rattle.c_meaning.specs.Fits.{ArgsFit, RightFits, FirstFits, StmtFits, BlockFits, ArmsFit, OtherwiseFits, BodyFits, ItemFits}
 use Rattle.c_meaning.specs.Meaning.{names_after, parameter_variables}
 use Rattle.c_meaning.specs.Resolve.{resolved_items, names_in}

@@ -12,7 +12,8 @@ use Rattle.c_tree.specs.declared.statements.Right.{Right}
 use Rattle.c_tree.specs.declared.statements.Stmt.{Stmt, Declare, Set, SetElement, Call}
 use Rattle.c_tree.specs.declared.statements.Stmt.TheViews.{If, Loop, Inner}
 use Rattle.c_tree.specs.Plain.{plain_expr, plain_right, plain_stmt}
-use Rattle.c_tree.proofs.Plains.{block_of, arms_of, otherwise_of, plain_inner, plain_loop, plain_if}
+use Rattle.c_tree.specs.Plains.{block_of, arms_of, otherwise_of}
+use Rattle.c_tree.proofs.Plains.{plain_inner, plain_loop, plain_if}
 use Rattle.c_meaning.specs.Fits.{ArgsFit, RightFits, FirstFits, StmtFits, BlockFits, ArmsFit, OtherwiseFits}
 use Rattle.c_meaning.specs.Meaning.{names_after}
 use Rattle.c_meaning.specs.Values.{Names}

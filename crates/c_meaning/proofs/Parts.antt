@@ -8,7 +8,8 @@ use Rattle.c_tree.specs.declared.expressions.Expr.TheViews.{Chain, Unary, Elemen
 use Rattle.c_tree.specs.declared.expressions.Step.{Step}
 use Rattle.c_tree.specs.declared.expressions.UnaryOp.{UnaryOp}
 use Rattle.c_tree.specs.Plain.{plain_expr}
-use Rattle.c_tree.proofs.Plains.{steps_of, plain_chain}
+use Rattle.c_tree.specs.Plains.{steps_of}
+use Rattle.c_tree.proofs.Plains.{plain_chain}
 use Rattle.sp_tree.specs.Plain.{PlainSp, constant}
 use Rattle.c_meaning.specs.Operators.{signs_unsigned, works_unsigned, gives_unsigned}
 use Rattle.c_meaning.specs.Resolve.{resolved, resolved_steps, resolved_signs, resolved_variable, resolved_element, resolved_between}

@@ -5,7 +5,8 @@ use Rattle.c_tree.specs.declared.statements.Stmt.{Stmt}
 use Rattle.c_tree.specs.declared.statements.Stmt.TheViews.{If}
 use Rattle.c_tree.specs.Plain.{plain_stmt}
 use Rattle.c_tree.specs.Sizes.{stmt_size, block_size, arms_size, further_size, otherwise_size}
-use Rattle.c_tree.proofs.Plains.{block_of, arms_of, otherwise_of, plain_if}
+use Rattle.c_tree.specs.Plains.{block_of, arms_of, otherwise_of}
+use Rattle.c_tree.proofs.Plains.{plain_if}
 
 pub if_size : (s : Stmt) (arms : List Arm) (otherwise : Option (List Stmt)) → s ≡ If arms otherwise
     → stmt_size (plain_stmt s) ≡ arms_size (arms_of arms) + otherwise_size (otherwise_of otherwise)

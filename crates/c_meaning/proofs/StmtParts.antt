@@ -13,7 +13,8 @@ use Rattle.c_tree.specs.declared.statements.Stmt.{Stmt, Declare, Set, SetElement
 use Rattle.c_tree.specs.declared.statements.Stmt.TheViews.{If, Loop, Inner}
 use Rattle.c_tree.specs.Plain.{PlainStmt, plain_expr, plain_right, plain_head, plain_stmt}
 use Rattle.c_tree.specs.Plain as tree
-use Rattle.c_tree.proofs.Plains.{block_of, arms_of, otherwise_of, plain_inner, plain_loop, plain_if}
+use Rattle.c_tree.specs.Plains.{block_of, arms_of, otherwise_of}
+use Rattle.c_tree.proofs.Plains.{plain_inner, plain_loop, plain_if}
 use Rattle.c_meaning.specs.Actions.{no_action, transfers, iterations, breaks, continues, returns, branch, one, joined}
 use Rattle.c_meaning.specs.Meaning.{with_variable, names_after, most_iterations}
 use Rattle.c_meaning.specs.Open.{closed}

@@ -1,7 +1,7 @@
 //! Names of expressions, resolved.
 ghost use Rattle.std.specs.Prelude.{◌≡◌, length, map, IfOk};
 ghost use Rattle.c_tree.specs.Plain.{plain_expr};
-ghost use Rattle.c_tree.proofs.Plains.{steps_of};
+ghost use Rattle.c_tree.specs.Plains.{steps_of};
 ghost use Rattle.sp_tree.specs.Plain.{plain_sp};
 ghost use Rattle.c_meaning.specs.Fits.{StandsFits};
 ghost use Rattle.c_meaning.specs.Entries.{found_shown};

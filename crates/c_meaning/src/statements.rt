@@ -4,7 +4,7 @@ ghost use Rattle.c_tree.specs.declared.limits.TheConstants.{MOST_LEVELS, MOST_PA
 ghost use Rattle.c_tree.specs.Layout as layout;
 ghost use Rattle.c_tree.specs.Plain as tree;
 ghost use Rattle.c_tree.specs.Plain.{plain_expr, plain_right, plain_head, plain_stmt};
-ghost use Rattle.c_tree.proofs.Plains.{block_of, arms_of};
+ghost use Rattle.c_tree.specs.Plains.{block_of, arms_of};
 ghost use Rattle.sp_tree.specs.Plain.{plain_sp};
 ghost use Rattle.c_meaning.specs.Actions.{joined, one};
 ghost use Rattle.c_meaning.specs.Actions as plain;

@@ -16,7 +16,8 @@ use Rattle.c_tree.specs.declared.statements.Right.{Right}
 use Rattle.c_tree.specs.declared.statements.Stmt.{Stmt, Declare, Set, SetElement, Call, Send, Break, Continue, Return}
 use Rattle.c_tree.specs.declared.statements.Stmt.TheViews.{If, Loop, Inner}
 use Rattle.c_tree.specs.Plain.{plain_expr, plain_right, plain_head, plain_stmt}
-use Rattle.c_tree.proofs.Plains.{steps_of, plain_chain, block_of, arms_of, otherwise_of, plain_inner, plain_loop, plain_if}
+use Rattle.c_tree.specs.Plains.{steps_of, block_of, arms_of, otherwise_of}
+use Rattle.c_tree.proofs.Plains.{plain_chain, plain_inner, plain_loop, plain_if}
 use Rattle.c_meaning.specs.Meaning.{with_variable, names_after}
 use Rattle.c_meaning.specs.Values.{Names, named}
 use Rattle.c_mentions.specs.Uses.{reads, sets, sends, expr_uses, steps_uses, args_uses, right_uses, first_uses, returned_uses, head_uses, stmt_uses, block_uses, arms_uses, otherwise_uses, body_uses}

@@ -3,12 +3,13 @@ ghost use Rattle.std.specs.Prelude.{◌≡◌, ◌<◌, map};
 ghost use Rattle.c_mentions.specs.Alone as alone_specs;
 ghost use Rattle.c_mentions.specs.Alone.{any_other};
 ghost use Rattle.c_mentions.specs.Tasks.{running};
+ghost use Rattle.slot_arbiter.specs.declared.table.TheConstants.{MOST_CORES};
 
 use crate::tasks::Task;
 
 // whether a task may write into the communication memory of another core
 fn reaches(task: &Task<'_>, core: usize) -> bool
-    requires { core < 16 }
+    requires { core < MOST_CORES }
     ensures { result ≡ alone_specs.reaches core (running task.now) }
 {
     match task {
@@ -31,7 +32,7 @@ fn writes_shared(task: &Task<'_>) -> bool
 
 // whether a task of another core reaches this one
 fn is_reached(core: usize, tasks: &[Task<'_>]) -> bool
-    requires { core < 16 }
+    requires { core < MOST_CORES }
     ensures { result ≡ any_other core (alone_specs.reaches core) 0 (map running tasks.now) }
 {
     for (at, task) in tasks.iter().enumerate() {
@@ -57,7 +58,7 @@ fn is_shared_written(core: usize, tasks: &[Task<'_>]) -> bool
 /// Whether the task of a core, 0 to 15, is a C program that is alone with the data that it uses: no other task can
 /// change what it mentions of `comm` and `shared`. The tasks of a job stand by their cores.
 pub fn is_alone(core: usize, tasks: &[Task<'_>]) -> bool
-    requires { core < 16 }
+    requires { core < MOST_CORES }
     ensures { result ≡ alone_specs.is_alone core (map running tasks.now) }
 {
     let Some(task) = tasks.get(core) else {

@@ -1,7 +1,7 @@
 //! What expressions mention.
 ghost use Rattle.std.specs.Prelude.{map, option_map};
 ghost use Rattle.c_tree.specs.Plain.{plain_expr, plain_right};
-ghost use Rattle.c_tree.proofs.Plains.{steps_of};
+ghost use Rattle.c_tree.specs.Plains.{steps_of};
 ghost use Rattle.c_mentions.specs.Noted.{Notes};
 ghost use Rattle.c_mentions.specs.Uses.{expr_uses, steps_uses, args_uses, right_uses, first_uses, returned_uses};
 

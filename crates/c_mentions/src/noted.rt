@@ -3,6 +3,7 @@ ghost use Rattle.std.specs.Prelude.{◌≡◌, ◌∷◌, []};
 ghost use Rattle.c_meaning.specs.Values.{named};
 
 use crate::arrays::{Arrays, meant};
+use slot_arbiter::MOST_CORES;
 
 /// What was noted of a program up to a place in its text, a flag for each answer.
 #[derive(Clone, Copy, Debug)]
@@ -57,7 +58,7 @@ pub fn note_set(m: &mut Flags, hidden: Arrays, name: &str)
 pub fn note_send(m: &mut Flags, core: u32)
     ensures { m.new ≡ with_use m.old (sends core) }
 {
-    if core < 16 {
+    if core < MOST_CORES {
         m.sends[core as usize] = true;
     }
 }

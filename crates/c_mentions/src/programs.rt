@@ -9,6 +9,7 @@ ghost use Rattle.c_mentions.specs.Hidden.{Hides, declares};
 ghost use Rattle.c_mentions.specs.Mentions.{comm_array, shared_array, mentions, assigns, sends_to};
 ghost use Rattle.c_mentions.specs.Noted.{with_uses, none_noted};
 ghost use Rattle.c_mentions.specs.Uses.{item_uses, program_uses};
+ghost use Rattle.slot_arbiter.specs.declared.table.TheConstants.{MOST_CORES};
 
 use crate::arrays::{Arrays, hidden_behind};
 use crate::mentioned::{Mentions, bits_of};
@@ -83,7 +84,7 @@ pub fn mentions_of(unit: &Unit) -> Mentions
     ensures comm { result.comm ≡ mentions comm_array (plain unit.now) }
     ensures shared { result.shared ≡ mentions shared_array (plain unit.now) }
     ensures assigns_shared { result.assigns_shared ≡ assigns shared_array (plain unit.now) }
-    ensures sends { (core : ℕ) → core < 16 → has_bit core result.sends ≡ sends_to core (plain unit.now) }
+    ensures sends { (core : ℕ) → core < MOST_CORES → has_bit core result.sends ≡ sends_to core (plain unit.now) }
     ensures small { result.sends < 2 ^ 16 }
 {
     let flags = noted(unit);

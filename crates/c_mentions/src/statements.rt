@@ -1,7 +1,7 @@
 //! What statements mention.
 ghost use Rattle.std.specs.Prelude.{◌≡◌, ◌∷◌, ◌++◌};
 ghost use Rattle.c_tree.specs.Plain.{plain_expr, plain_head, plain_stmt};
-ghost use Rattle.c_tree.proofs.Plains.{block_of, arms_of};
+ghost use Rattle.c_tree.specs.Plains.{block_of, arms_of};
 ghost use Rattle.c_meaning.specs.Meaning.{names_after};
 ghost use Rattle.c_meaning.specs.Values.{Names};
 ghost use Rattle.c_mentions.specs.Hidden.{Hides};

@@ -13,13 +13,10 @@ use Rattle.c_tree.specs.declared.statements.Arm.{Arm}
 use Rattle.c_tree.specs.declared.statements.Stmt.{Stmt}
 use Rattle.c_tree.specs.declared.statements.Stmt.TheViews.{Inner, Loop, If}
 use Rattle.c_tree.specs.declared.statements.Stmt.TheBlock.{hidden-the_row-Stmt-0, hidden-the_row-Arm-1}
-use Rattle.c_tree.specs.Plain.{PlainSteps, chain, no_step, step, plain_expr, plain_steps, PlainBlock, PlainArms, PlainOtherwise, no_stmt, stmt, no_arm, arm, no_else, or_else, inner, looped, chosen, plain_head, plain_stmt, plain_block, plain_arms, plain_otherwise}
+use Rattle.c_tree.specs.Plain.{chain, step, plain_expr, plain_steps, stmt, arm, no_else, or_else, inner, looped, chosen, plain_head, plain_stmt, plain_block, plain_arms, plain_otherwise}
+use Rattle.c_tree.specs.Plains.{steps_of, block_of, arms_of, otherwise_of}
 
 -- ---- expressions
-
-abbrev pub steps_of : List Step → PlainSteps
-steps_of [] = no_step
-steps_of (s ∷ steps) = step s.op (plain_expr s.operand) (steps_of steps)
 
 row_steps : (steps : List Step) → plain_steps (hidden-the_row-Step-0 steps) ≡ steps_of steps
 unfolding plain_expr plain_steps hidden-the_row-Step-0 hidden
@@ -31,18 +28,6 @@ unfolding plain_expr
 plain_chain level b steps = ap (chain level (plain_expr b.value)) (row_steps steps)
 
 -- ---- statements
-
-abbrev pub block_of : List Stmt → PlainBlock
-block_of [] = no_stmt
-block_of (s ∷ body) = stmt (plain_stmt s) (block_of body)
-
-abbrev pub arms_of : List Arm → PlainArms
-arms_of [] = no_arm
-arms_of (a ∷ arms) = arm (plain_expr a.condition) (block_of a.body) (arms_of arms)
-
-abbrev pub otherwise_of : Option (List Stmt) → PlainOtherwise
-otherwise_of None = no_else
-otherwise_of (Some body) = or_else (block_of body)
 
 row_block : (body : List Stmt) → plain_block (hidden-the_row-Stmt-0 body) ≡ block_of body
 unfolding plain_stmt plain_block hidden-the_row-Stmt-0 hidden

@@ -6,7 +6,8 @@ use Rattle.c_tree.specs.declared.statements.Stmt.{Stmt}
 use Rattle.c_tree.specs.declared.statements.Stmt.TheViews.{Loop, Inner}
 use Rattle.c_tree.specs.Plain.{plain_head, plain_stmt}
 use Rattle.c_tree.specs.Sizes.{bound_size, head_size, stmt_size, block_size}
-use Rattle.c_tree.proofs.Plains.{block_of, plain_inner, plain_loop}
+use Rattle.c_tree.specs.Plains.{block_of}
+use Rattle.c_tree.proofs.Plains.{plain_inner, plain_loop}
 
 pub inner_sized : (s : Stmt) (body : List Stmt) → s ≡ Inner body → stmt_size (plain_stmt s) ≡ 2 + block_size (block_of body)
 unfolding stmt_size

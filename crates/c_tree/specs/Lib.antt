@@ -7,6 +7,7 @@ pub mod Least
 pub mod Names
 pub mod Places
 pub mod Plain
+pub mod Plains
 pub mod Reading
 pub mod Sizes
 pub mod Small

@@ -12,6 +12,7 @@ ghost use Rattle.clock_board.specs.Record.{clock_of, greatest, empty, with_look,
 ghost use Rattle.clock_board.specs.View.{own, back, todo, maker, given, with_back, IsGiven, IsMaker, IsNext, HasSeen};
 ghost use Rattle.clock_board.specs.Board.{IsPassOf};
 ghost use Rattle.clock_board.specs.End.{IsEnd, AllPast};
+ghost use Rattle.slot_arbiter.specs.declared.table.TheConstants.{MOST_CORES};
 
 use crate::course::Course;
 use crate::known::{Holding, View};
@@ -32,7 +33,7 @@ impl<C: Course> Board<C> {
         cores: u32,
         words: u32,
     ) -> Result<(Board<C>, Pass<C>), OutOfMemory>
-        requires few { cores ≤ 16 }
+        requires few { cores ≤ MOST_CORES }
         requires cores { C.cores course.now ≡ cores }
         requires course { IsCourse cores words (C.all course.now) (C.asked course.now) }
         ensures board { IfOk result (λ b.

@@ -2,8 +2,8 @@ ghost use Rattle.std.specs.Prelude.{◌≡◌, ◌-◌, ◌++◌, OnOk};
 ghost use Rattle.job_gen.specs.Generator as specs;
 
 use crate::draws::Draws;
-use crate::text::{put, put_line, put_line_with, put_pair, put_with};
-use tc_io::put_number;
+use crate::text::{put_line, put_line_with, put_pair};
+use tc_io::{put, put_number, put_with};
 use tc_word::OutOfMemory;
 
 /// How many functions a task has besides its `main`.

@@ -2,23 +2,8 @@ ghost use Rattle.std.specs.Prelude.{◌≡◌, ◌++◌, OnOk};
 ghost use Rattle.std.specs.Fmt.{decimal};
 ghost use Rattle.job_gen.specs.Generator as specs;
 
-use tc_io::put_number;
+use tc_io::{put, put_with};
 use tc_word::OutOfMemory;
-
-/// Appends words.
-pub fn put(text: &mut Vec<u8>, words: &str) -> Result<(), OutOfMemory>
-    ensures { OnOk result (text.new.items ≡ text.old.items ++ words.now) }
-{
-    text.extend_from_slice(words.as_bytes())
-}
-
-/// Appends words, and a number after them.
-pub fn put_with(text: &mut Vec<u8>, words: &str, number: u64) -> Result<(), OutOfMemory>
-    ensures { OnOk result (text.new.items ≡ text.old.items ++ (words.now ++ decimal number)) }
-{
-    put(text, words)?;
-    put_number(text, number)
-}
 
 /// Appends words that end a line.
 pub fn put_line(text: &mut Vec<u8>, words: &str) -> Result<(), OutOfMemory>

@@ -3,6 +3,7 @@ ghost use Rattle.std.specs.Prelude.{◌≡◌, IfOk};
 ghost use Rattle.job_tasks.specs.Answer as specs;
 
 use std::alloc::Global;
+use tc_io::{DONE, FAULTY_TEXT};
 use tc_toml::{JobFault, put_fault};
 use tc_word::{List, OutOfMemory};
 
@@ -32,7 +33,10 @@ pub fn no_job(
     put_fault(&mut text, kind, task, key)?;
     text.extend_from_slice(b"\n")?;
     let text = List::of(text);
-    Ok(Answer { status: 2, text })
+    Ok(Answer {
+        status: FAULTY_TEXT,
+        text,
+    })
 }
 
 /// A whole text.
@@ -40,7 +44,7 @@ pub fn whole(text: Vec<u8>) -> Answer
     ensures { result ≡ specs.whole text.items }
 {
     Answer {
-        status: 0,
+        status: DONE,
         text: List::of(text),
     }
 }

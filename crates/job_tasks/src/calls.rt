@@ -6,19 +6,11 @@ ghost use Rattle.job_tasks.specs.Outcome.{IsSent};
 use std::alloc::{AllocError, Global};
 use std::env;
 use std::io::ErrorKind;
-use tc_io::{Sink, write_all};
+use tc_io::{Sink, WRITE_FAULT, write_all};
 use tc_word::{OutOfMemory, Text};
 
 /// How many bytes the text of a job or of a schedule has at most.
 pub const MOST_BYTES: usize = 1_048_576;
-
-/// The status that says that memory was refused.
-pub const MEMORY: u8 = 7;
-
-const WRITE_FAULT: u8 = 6;
-
-/// The status that says that the source failed.
-pub const READ_FAULT: u8 = 5;
 
 /// What is wrong with a text before it is read as a job or a schedule.
 #[derive(Clone, Copy, Debug, PartialEq, Eq)]

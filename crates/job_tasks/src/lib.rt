@@ -30,7 +30,7 @@ mod refusal;
 mod tasks;
 
 pub use answers::{Answer, READ_FAULT_LINE, TOO_LONG_LINE, no_job, whole};
-pub use calls::{MEMORY, MOST_BYTES, READ_FAULT, TextFault, finish, words_of};
+pub use calls::{MOST_BYTES, TextFault, finish, words_of};
 pub use laws::limits;
 pub use ranged::RangedJob;
 pub use refusal::{CoreRefusal, Halt, Refusal, refusal_answer};

@@ -11,7 +11,7 @@ use c_parse::ParseFault;
 use c_tree::{CheckFault, Fault};
 use patmos_asm::{AsmFault, AsmKind};
 use std::alloc::Global;
-use tc_io::put_number;
+use tc_io::{TASK_REFUSED, put_number};
 use tc_report::put_core_name;
 use tc_word::{List, OutOfMemory};
 
@@ -87,7 +87,10 @@ pub fn refusal_answer(alloc: Global, refused: CoreRefusal) -> Result<Answer, Out
     put_refusal(&mut text, refused.refusal)?;
     text.extend_from_slice(b"\n")?;
     let text = List::of(text);
-    Ok(Answer { status: 4, text })
+    Ok(Answer {
+        status: TASK_REFUSED,
+        text,
+    })
 }
 
 fn put_refusal(text: &mut Vec<u8>, refusal: Refusal) -> Result<(), OutOfMemory>

@@ -14,6 +14,7 @@ use c_compile::compile;
 use c_tree::Checked;
 use patmos_asm::{AsmError, Code, assemble, image_of};
 use patmos_code::Image;
+use patmos_model::{image_fits, words_fit};
 use sp_shape::Shape;
 use std::alloc::Global;
 use tc_job::{Job, Lang, Task};
@@ -122,22 +123,6 @@ fn coded_on<'a>(
         Err(Halt::Refused(refusal)) => Err(Halt::Refused(CoreRefusal { core, refusal })),
         Err(Halt::Memory) => Err(Halt::Memory),
     }
-}
-
-// input is words of 32 bits
-fn words_fit(words: &[u32])
-    ensures { Each IsWord words.now }
-{}
-
-// the code and the first words of an image are words of 32 bits
-#[tactic(auto, using(patmos_model::proofs::HeldWords::each_index))]
-fn image_fits(image: &Image)
-    ensures code { HasCode image.now }
-    ensures initial { Each IsWord image.now.initial }
-{
-    words_fit(image.words());
-    words_fit(image.starts());
-    words_fit(image.initial());
 }
 
 // what a task is made to

@@ -21,6 +21,7 @@
 //!   words a slot and the rest in the last.
 //! - [`core_keeps_ranges`]: a core in range names only words of the board, stores only words of 32 bits, and stays
 //!   in range.
+//! - [`words_fit`] and [`image_fits`]: what is held in types of 32 bits, as the code of an image, is words.
 //! - [`CoreState`], [`Status`], [`Trap`], [`Flow`], [`Goal`], [`Transfer`], [`Then`], [`Fetched`] and
 //!   [`PendingStore`] are the types of a core's state, for code and definitions both.
 //!
@@ -36,6 +37,7 @@ mod range;
 mod state;
 mod transfer;
 mod trap;
+mod words;
 mod worked;
 
 pub use apart::run_apart_is_followed;
@@ -47,6 +49,7 @@ pub use range::core_keeps_ranges;
 pub use state::{CoreState, Status};
 pub use transfer::{Then, Transfer};
 pub use trap::Trap;
+pub use words::{image_fits, words_fit};
 pub use worked::{worked_flows, worked_memory, worked_task, worked_traps};
 
 // The crates below, which do not know one another, mean the same: a function fits the method cache.

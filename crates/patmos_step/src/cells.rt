@@ -4,6 +4,7 @@ ghost use Rattle.argo_ni.specs.Packet as packets;
 ghost use Rattle.patmos_sem.specs.Effects.{store_bytes};
 ghost use Rattle.patmos_model.specs.State.{Core};
 ghost use Rattle.patmos_model.specs.Cells as cells;
+ghost use Rattle.slot_arbiter.specs.declared.table.TheConstants.{MOST_CORES};
 
 use crate::body::Body;
 use crate::values::first;
@@ -133,7 +134,7 @@ impl Body {
 
 /// The number on the board of a word of a core's communication memory.
 pub fn comm_word(core: u32, word: u32) -> u32
-    requires core { core < 16 }
+    requires core { core < MOST_CORES }
     requires word { word < COMM_WORDS }
     ensures { result ≡ packets.comm_word core word }
 {

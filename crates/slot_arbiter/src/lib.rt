@@ -22,7 +22,7 @@ mod table;
 
 pub use event::{Access, Event, MOST_TRACE, WordOp};
 pub use laws::limits;
-pub use place::{LATEST_START, MOST_CYCLES, Place};
+pub use place::{LATEST_START, LEAST_SLOT, MOST_CYCLES, MOST_SLOT, Place};
 pub use stamp::{stamp_of, stamps_in_order};
 pub use start::{gap_of, start_of, starts_in_turn};
 pub use table::{MOST_CORES, Table};

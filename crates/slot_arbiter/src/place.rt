@@ -7,6 +7,12 @@ use crate::table::{self, Table};
 /// The greatest cycle limit of a run, in cycles: no core acts at a later cycle.
 pub const MOST_CYCLES: u64 = 20_000_000;
 
+/// The least length of a slot, in cycles.
+pub const LEAST_SLOT: u32 = 6;
+
+/// The greatest length of a slot, in cycles.
+pub const MOST_SLOT: u32 = 64;
+
 /// The latest cycle at which a task may start.
 pub const LATEST_START: u64 = MOST_CYCLES;
 
@@ -74,7 +80,10 @@ impl Place {
 fn is_in_range(cores: u32, core: u32, slot: u32, start: u64) -> bool
     ensures { IsTrue result ↔ IsPlace cores core slot start }
 {
-    core < cores && cores <= table::MOST_CORES && (6..=64).contains(&slot) && start <= LATEST_START
+    core < cores
+        && cores <= table::MOST_CORES
+        && (LEAST_SLOT..=MOST_SLOT).contains(&slot)
+        && start <= LATEST_START
 }
 
 #[cfg(test)]

@@ -1,4 +1,6 @@
 ghost use Rattle.std.specs.Prelude.{◌≡◌, ℕ, ◌+◌, ◌*◌, ◌%◌, ◌^◌, ◌<◌, ◌≤◌, ◌↔◌, length, IsTrue};
+ghost use Rattle.slot_arbiter.specs.declared.place.TheConstants.{MOST_SLOT};
+ghost use Rattle.slot_arbiter.specs.declared.table.TheConstants.{MOST_ENTRIES};
 ghost use Rattle.slot_arbiter.specs.Table.{has_entry, in_turn, is_owned};
 ghost use Rattle.slot_arbiter.specs.Order.{IsNext, IsGap, OutlastsWaits};
 ghost use Rattle.slot_arbiter.specs.Slot.{is_slot_start, period};
@@ -37,10 +39,10 @@ pub fn starts_in_turn()
 
 /// The first slot start of the core at or after cycle `t`, for slots of `slot` cycles.
 fn next_start(entries: &[u32], slot: u64, core: u32, t: u64) -> u64
-    requires entries { length entries.now ≤ 64 }
+    requires entries { length entries.now ≤ MOST_ENTRIES }
     requires owner { IsTrue (has_entry entries.now core) }
     requires slot_some { 0 < slot }
-    requires slot_most { slot ≤ 64 }
+    requires slot_most { slot ≤ MOST_SLOT }
     requires time { t ≤ 2 ^ 62 }
     ensures next { IsNext (is_slot_start entries.now slot core) t result }
     ensures near { result < t + period entries.now slot }
@@ -69,10 +71,10 @@ fn slots_to(entries: &[u32], core: u32, first: u64) -> u64
 
 /// The gap of the core in cycles, for slots of `slot` cycles.
 fn longest_gap(entries: &[u32], slot: u64, core: u32) -> u64
-    requires entries { length entries.now ≤ 64 }
+    requires entries { length entries.now ≤ MOST_ENTRIES }
     requires owner { IsTrue (has_entry entries.now core) }
     requires slot_some { 0 < slot }
-    requires slot_most { slot ≤ 64 }
+    requires slot_most { slot ≤ MOST_SLOT }
     ensures gap { IsGap (is_slot_start entries.now slot core) result }
     ensures wait { OutlastsWaits (is_slot_start entries.now slot core) result }
     ensures bounded { result ≤ 4096 }

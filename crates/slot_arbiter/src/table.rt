@@ -1,6 +1,7 @@
 ghost use Rattle.std.specs.Prelude.{◌≡◌, ℕ, List, ◌-◌, ◌≤◌, ◌++◌, length, nat_lt, take, replicate, IsTrue};
 ghost use Rattle.std.specs.List.{list_all, range_with_len};
 ghost use Rattle.std.specs.Option.{SomeIff};
+ghost use Rattle.slot_arbiter.specs.declared.table.TheConstants.{MOST_CORES, MOST_ENTRIES};
 ghost use Rattle.slot_arbiter.specs.Table.{has_entry, in_turn, is_size, is_table, IsPadded};
 ghost use Rattle.std.proofs.Common.{ap, sym, ◌∙◌, length-take-le};
 
@@ -87,7 +88,7 @@ fn each_has_entry(entries: &[u32], cores: u32) -> bool
 /// The table with these entries, its other places filled with 0.
 fn padded(entries: &[u32]) -> Table
     requires some { 1 ≤ length entries.now }
-    requires most { length entries.now ≤ 64 }
+    requires most { length entries.now ≤ MOST_ENTRIES }
     ensures { result ≡ entries.now }
 {
     let mut places = [0; MOST_ENTRIES];
@@ -105,7 +106,7 @@ const IN_TURN: [u32; 16] = [0, 1, 2, 3, 4, 5, 6, 7, 8, 9, 10, 11, 12, 13, 14, 15
 /// The table in which the cores follow one another, each with one slot.
 pub fn round_robin(cores: u32) -> Table
     requires some { 1 ≤ cores }
-    requires most { cores ≤ 16 }
+    requires most { cores ≤ MOST_CORES }
     ensures order { result ≡ in_turn cores }
     ensures table { IsTrue (is_table cores result) }
 {

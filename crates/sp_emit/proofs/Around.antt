@@ -20,17 +20,17 @@ use Rattle.sp_emit.proofs.FlagWords.{cleared_all}
 use Rattle.sp_emit.specs.declared.stands.Homes.{Homes}
 
 pub begin_all : (holds : Slots → Bool) (homes : Homes) (f : PlainFunction) → holds (stack_op Sres (frame_words homes.first f)) ≡ true → ((r : ℕ) → holds (set_short always r 0) ≡ true) → ((slot rs : ℕ) → holds (set_word homes.first always slot rs) ≡ true)
-    → holds (with_short always imm.Xor MASK MASK 1) ≡ true → ((p : ℕ) → holds (combine comb.Pxor p 0 0) ≡ true) → ((p : ℕ) → holds (compare_short cmp.Eq p MASK 0) ≡ true) → list_all holds (place_stored homes.first f) ≡ true → list_all holds (function_begin homes f) ≡ true
+    → holds (with_short always imm.Xor MASK MASK 1) ≡ true → ((slot p : ℕ) → flag_of homes.flags slot ≡ Some p → holds (combine comb.Pxor p 0 0) ≡ true) → ((p : ℕ) → flag_of homes.flags f.mask ≡ Some p → holds (compare_short cmp.Eq p MASK 0) ≡ true) → list_all holds (place_stored homes.first f) ≡ true → list_all holds (function_begin homes f) ≡ true
 begin_all holds homes f takes clears sets masks preds tests stores =
     all_append holds (frame_taken homes.first f) (words_cleared homes (slots_of f) ++ (arguments_kept homes.first f.parameters ++ state_kept homes f)) (taken_is (λ bs. list_all holds bs ≡ true) (frame_words homes.first f) refl (and_from _ true takes refl))
     (all_append holds (words_cleared homes (slots_of f)) (arguments_kept homes.first f.parameters ++ state_kept homes f) (cleared_all holds homes (slots_of f) preds clears)
     (all_append holds (arguments_kept homes.first f.parameters) (state_kept homes f) (arguments f.parameters)
-    (all_append holds (mask_kept homes f) (place_kept homes.first f) (mask_there (flag_of homes.flags f.mask))
+    (all_append holds (mask_kept homes f) (place_kept homes.first f) (mask_there (flag_of homes.flags f.mask) refl)
     (kept_is (λ bs. list_all holds bs ≡ true) homes.first f (λ has. stores) refl))))
   where
-    mask_there : (o : Option ℕ) → list_all holds (mask_in o homes.first f.mask) ≡ true
-    mask_there None = and_from (holds (with_short always imm.Xor MASK MASK 1)) _ masks (and_from (holds (set_word homes.first always f.mask MASK)) true (sets f.mask MASK) refl)
-    mask_there (Some p) = and_from (holds (compare_short cmp.Eq p MASK 0)) true (tests p) refl
+    mask_there : (o : Option ℕ) → flag_of homes.flags f.mask ≡ o → list_all holds (mask_in o homes.first f.mask) ≡ true
+    mask_there None is = and_from (holds (with_short always imm.Xor MASK MASK 1)) _ masks (and_from (holds (set_word homes.first always f.mask MASK)) true (sets f.mask MASK) refl)
+    mask_there (Some p) is = and_from (holds (compare_short cmp.Eq p MASK 0)) true (tests p is) refl
 
     arguments : (n : ℕ) → list_all holds (arguments_kept homes.first n) ≡ true
     arguments zero = refl

@@ -7,7 +7,7 @@ use Rattle.sp_tree.specs.Cost.{stmts_cost}
 use Rattle.sp_tree.specs.Statements.{PlainStmts, no_stmt, stmt, PlainFunction}
 use Rattle.sp_emit.specs.Chains.{stmt_calls, stmts_call, stmts_chain}
 use Rattle.sp_emit.specs.Counts.{HasStmtsCounts}
-use Rattle.sp_emit.specs.Flags.{behind_first, begun_body}
+use Rattle.sp_emit.specs.Flags.{behind_first, begun_body, stmts_spared}
 use Rattle.sp_emit.specs.Means.{HasStmtsConstants}
 use Rattle.sp_emit.specs.Places.{flag_of, stmts_least}
 use Rattle.sp_emit.proofs.Uncalled.{neither}
@@ -31,6 +31,10 @@ levels (stmt t rest) = omega arith
 least : (tops : List ℕ) (ts : PlainStmts) → stmts_least tops (behind_first ts) ≤ stmts_least tops ts
 least tops no_stmt = omega arith
 least tops (stmt t rest) = omega arith
+
+spared : (tops : List ℕ) (ts : PlainStmts) → stmts_spared tops (behind_first ts) ≤ stmts_spared tops ts
+spared tops no_stmt = omega arith
+spared tops (stmt t rest) = omega arith
 
 costs : (ts : PlainStmts) → stmts_cost (behind_first ts) ≤ stmts_cost ts
 costs no_stmt = omega arith
@@ -60,6 +64,9 @@ begun_levels flags f = begun_is (λ ts. stmts_levels ts ≤ stmts_levels f.body)
 
 pub begun_least : (flags : Flags) (tops : List ℕ) (f : PlainFunction) → stmts_least tops (begun_body flags f) ≤ stmts_least tops f.body
 begun_least flags tops f = begun_is (λ ts. stmts_least tops ts ≤ stmts_least tops f.body) flags f (omega arith) (least tops f.body)
+
+pub begun_spared : (flags : Flags) (tops : List ℕ) (f : PlainFunction) → stmts_spared tops (begun_body flags f) ≤ stmts_spared tops f.body
+begun_spared flags tops f = begun_is (λ ts. stmts_spared tops ts ≤ stmts_spared tops f.body) flags f (omega arith) (spared tops f.body)
 
 pub begun_costs : (flags : Flags) (f : PlainFunction) → stmts_cost (begun_body flags f) ≤ stmts_cost f.body
 begun_costs flags f = begun_is (λ ts. stmts_cost ts ≤ stmts_cost f.body) flags f (omega arith) (costs f.body)

@@ -1,8 +1,10 @@
 -- The code of each function of a task.
-use Rattle.std.proofs.Common.{◌≡◌, ℕ, zero, suc, ◌<◌, ◌≤◌, ◌⊎◌, inl, inr, Bool, true, false, if◌then◌else◌, List, [], ◌∷◌, ◌++◌, length, slice_index_or, refl, sym, ap, ◌∙◌, arith, ◌+◌, ◌-◌}
-use Rattle.std.proofs.lemmas.Bool.{cases_lt}
+use Rattle.std.proofs.Common.{◌≡◌, ℕ, zero, suc, ◌<◌, ◌≤◌, ◌⊎◌, inl, inr, Bool, true, false, if◌then◌else◌, List, [], ◌∷◌, ◌++◌, length, slice_index_or, nat_lt, refl, sym, ap, ◌∙◌, arith, ◌+◌, ◌-◌}
+use Rattle.std.specs.Prelude.{nat_le}
+use Rattle.std.proofs.lemmas.Bool.{cases_lt, and_parts, leb-true, ltb-true}
 use Rattle.sp_tree.specs.Statements.{PlainFunction, no_function}
 use Rattle.sp_shape.specs.Parts.{PlainParts, no_part}
+use Rattle.sp_shape.specs.Trail.{Step, trails}
 use Rattle.patmos_instr.specs.Bundles.{Slots}
 use Rattle.patmos_instr.specs.declared.functions.StackFunc.TheVariants.{Sres, Sfree}
 use Rattle.sp_emit.specs.Chains.{stmts_call}
@@ -10,74 +12,104 @@ use Rattle.sp_emit.specs.Instructions.{stack_op}
 use Rattle.sp_emit.specs.Functions.{place_stored, place_loaded, place_kept, place_brought, function_code, places_of, functions_code, codes, words_taken, words_freed, base_slot, frame_words}
 use Rattle.sp_emit.specs.Places.{tops, top_of}
 use Rattle.sp_emit.proofs.WordPlaces.{Outside, outside}
-use Rattle.sp_tree.specs.Formed.{slots_of}
+use Rattle.sp_tree.specs.Formed.{stmts_formed, stmts_levels, slots_of, function_formed}
+use Rattle.sp_emit.specs.Flags.{flag_tops, flag_top_of}
 
-length_more : (xs : List PlainParts) (x : PlainParts) → length (xs ++ x ∷ []) ≡ suc (length xs)
+-- ---- lists that grow by one
+
+length_more : {A : Type 0} (xs : List A) (x : A) → length (xs ++ x ∷ []) ≡ suc (length xs)
 length_more [] x = refl
 length_more (y ∷ xs) x = ap suc (length_more xs x)
 
-at_more : (xs : List PlainParts) (x d : PlainParts) (k : ℕ) → k < length xs → slice_index_or (xs ++ x ∷ []) k d ≡ slice_index_or xs k d
+at_more : {A : Type 0} (xs : List A) (x d : A) (k : ℕ) → k < length xs → slice_index_or (xs ++ x ∷ []) k d ≡ slice_index_or xs k d
 at_more [] x d k lt = absurd (omega (arith, lt))
 at_more (y ∷ xs) x d zero lt = refl
 at_more (y ∷ xs) x d (suc k) lt = at_more xs x d k (omega (arith, lt))
 
-at_end : (xs : List PlainParts) (x d : PlainParts) → slice_index_or (xs ++ x ∷ []) (length xs) d ≡ x
+at_end : {A : Type 0} (xs : List A) (x d : A) → slice_index_or (xs ++ x ∷ []) (length xs) d ≡ x
 at_end [] x d = refl
 at_end (y ∷ xs) x d = at_end xs x d
 
-pub functions_length : (fs : List PlainFunction) (n : ℕ) → length (functions_code fs n) ≡ n
-functions_length fs zero = refl
-functions_length fs (suc n) = length_more (functions_code fs n) (function_code (places_of fs n) (slice_index_or fs n no_function)) ∙ ap suc (functions_length fs n)
+grown_length : {A : Type 0} (xs : ℕ → List A) (x : ℕ → A) → xs 0 ≡ [] → ((n : ℕ) → xs (suc n) ≡ xs n ++ x n ∷ []) → (n : ℕ) → length (xs n) ≡ n
+grown_length xs x none one zero = ap length none
+grown_length xs x none one (suc n) = ap length (one n) ∙ length_more (xs n) (x n) ∙ ap suc (grown_length xs x none one n)
+
+grown_at : {A : Type 0} (xs : ℕ → List A) (x : ℕ → A) → xs 0 ≡ [] → ((n : ℕ) → xs (suc n) ≡ xs n ++ x n ∷ []) → (d : A) (n k : ℕ) → k < n → slice_index_or (xs n) k d ≡ x k
+grown_at xs x none one d zero k lt = absurd (omega (arith, lt))
+grown_at {A} xs x none one d (suc n) k lt = ap (λ l. slice_index_or l k d) (one n) ∙ by (λ less. grown_at xs x none one d n k less) (cases_lt k n)
+  where
+    same : length (xs n) ≡ n
+    same = grown_length xs x none one n
+
+    by : (k < n → slice_index_or (xs n) k d ≡ x k) → (k < n) ⊎ (n ≤ k) → slice_index_or (xs n ++ x n ∷ []) k d ≡ x k
+    by earlier (inl less) = at_more (xs n) (x n) d k (let long = same in omega (arith, long, less)) ∙ earlier less
+    by earlier (inr more) =
+        let here : k ≡ n = omega (arith, more, lt) in
+        let is : k ≡ length (xs n) = let long = same in omega (arith, long, here) in
+        ap (λ i. slice_index_or (xs n ++ x n ∷ []) i d) is ∙ at_end (xs n) (x n) d ∙ ap x (sym here)
+
+-- ---- the code of each function
+
+-- the steps of those that are called
+abbrev pub code_of : List PlainFunction → ℕ → ℕ → List Step
+code_of fs n = trails (codes fs) n
+
+abbrev its_code : List PlainFunction → ℕ → PlainParts
+its_code fs k = function_code (places_of fs k) (slice_index_or fs k no_function)
 
 pub codes_length : (fs : List PlainFunction) → length (codes fs) ≡ length fs
-codes_length fs = functions_length fs (length fs)
-
-function_at : (fs : List PlainFunction) (n k : ℕ) → k < n → slice_index_or (functions_code fs n) k no_part ≡ function_code (places_of fs k) (slice_index_or fs k no_function)
-function_at fs zero k lt = absurd (omega (arith, lt))
-function_at fs (suc n) k lt = by (λ less. function_at fs n k less) (cases_lt k n)
-  where
-    last : PlainParts
-    last = function_code (places_of fs n) (slice_index_or fs n no_function)
-
-    by : (k < n → slice_index_or (functions_code fs n) k no_part ≡ function_code (places_of fs k) (slice_index_or fs k no_function)) → (k < n) ⊎ (n ≤ k) → slice_index_or (functions_code fs n ++ last ∷ []) k no_part ≡ function_code (places_of fs k) (slice_index_or fs k no_function)
-    by earlier (inl less) = at_more (functions_code fs n) last no_part k (let same = functions_length fs n in omega (arith, same, less)) ∙ earlier less
-    by earlier (inr more) =
-        let is : k ≡ length (functions_code fs n) = let same = functions_length fs n in omega (arith, same, more, lt) in
-        let here : k ≡ n = omega (arith, more, lt) in
-        ap (λ i. slice_index_or (functions_code fs n ++ last ∷ []) i no_part) is ∙ at_end (functions_code fs n) last no_part ∙ ap (λ i. function_code (places_of fs i) (slice_index_or fs i no_function)) (sym here)
+codes_length fs = grown_length (functions_code fs) (its_code fs) refl (λ n. refl) (length fs)
 
 pub codes_at : (fs : List PlainFunction) (k : ℕ) → k < length fs → slice_index_or (codes fs) k no_part ≡ function_code (places_of fs k) (slice_index_or fs k no_function)
-codes_at fs k lt = function_at fs (length fs) k lt
+codes_at fs k lt = grown_at (functions_code fs) (its_code fs) refl (λ n. refl) no_part (length fs) k lt
 
 -- ---- where windows end
 
-tops_more : (xs : List ℕ) (x d k : ℕ) → k < length xs → slice_index_or (xs ++ x ∷ []) k d ≡ slice_index_or xs k d
-tops_more [] x d k lt = absurd (omega (arith, lt))
-tops_more (y ∷ xs) x d zero lt = refl
-tops_more (y ∷ xs) x d (suc k) lt = tops_more xs x d k (omega (arith, lt))
-
-tops_end : (xs : List ℕ) (x d : ℕ) → slice_index_or (xs ++ x ∷ []) (length xs) d ≡ x
-tops_end [] x d = refl
-tops_end (y ∷ xs) x d = tops_end xs x d
-
-one_top : (xs : List ℕ) (x : ℕ) → length (xs ++ x ∷ []) ≡ suc (length xs)
-one_top [] x = refl
-one_top (y ∷ xs) x = ap suc (one_top xs x)
-
-tops_length : (fs : List PlainFunction) (n : ℕ) → length (tops fs n) ≡ n
-tops_length fs zero = refl
-tops_length fs (suc n) = one_top (tops fs n) (top_of fs n) ∙ ap suc (tops_length fs n)
-
 pub tops_at : (fs : List PlainFunction) (n k : ℕ) → k < n → slice_index_or (tops fs n) k 0 ≡ top_of fs k
-tops_at fs zero k lt = absurd (omega (arith, lt))
-tops_at fs (suc n) k lt = by (λ less. tops_at fs n k less) (cases_lt k n)
-  where
-    by : (k < n → slice_index_or (tops fs n) k 0 ≡ top_of fs k) → (k < n) ⊎ (n ≤ k) → slice_index_or (tops fs n ++ top_of fs n ∷ []) k 0 ≡ top_of fs k
-    by earlier (inl less) = tops_more (tops fs n) (top_of fs n) 0 k (let same = tops_length fs n in omega (arith, same, less)) ∙ earlier less
-    by earlier (inr more) =
-        let is : k ≡ length (tops fs n) = let same = tops_length fs n in omega (arith, same, more, lt) in
-        let here : k ≡ n = omega (arith, more, lt) in
-        ap (λ i. slice_index_or (tops fs n ++ top_of fs n ∷ []) i 0) is ∙ tops_end (tops fs n) (top_of fs n) 0 ∙ ap (top_of fs) (sym here)
+tops_at fs = grown_at (tops fs) (top_of fs) refl (λ n. refl) 0
+
+-- ---- how many of the four predicates code may set
+
+pub flag_tops_at : (fs : List PlainFunction) (n k : ℕ) → k < n → slice_index_or (flag_tops fs n) k 4 ≡ flag_top_of fs k
+flag_tops_at fs = grown_at (flag_tops fs) (flag_top_of fs) refl (λ n. refl) 4
+
+-- those of no function are all
+past_all : (xs : List ℕ) (k d : ℕ) → length xs ≤ k → slice_index_or xs k d ≡ d
+past_all [] k d past = refl
+past_all (x ∷ xs) zero d past = absurd (omega (arith, past))
+past_all (x ∷ xs) (suc k) d past = past_all xs k d (omega (arith, past))
+
+pub flag_tops_past : (fs : List PlainFunction) (n k : ℕ) → n ≤ k → slice_index_or (flag_tops fs n) k 4 ≡ 4
+flag_tops_past fs n k past = past_all (flag_tops fs n) k 4 (let same = grown_length (flag_tops fs) (flag_top_of fs) refl (λ m. refl) n in omega (arith, same, past))
+
+-- ---- what is well formed of a function, part by part
+pub record Parts (fs : List PlainFunction) (number : ℕ) (f : PlainFunction) : Type 0 where
+  pub frame : f.frame ≤ 128
+  pub parameters : f.parameters ≤ 6
+  pub before_mask : f.parameters ≤ f.mask
+  pub mask : f.mask < slots_of f
+  pub result : f.result < slots_of f
+  pub body : stmts_formed fs number (slots_of f) f.body ≡ true
+  pub room : slots_of f + stmts_levels f.body + 2 ≡ f.frame
+
+pub parts_of_function : (fs : List PlainFunction) (number : ℕ) (f : PlainFunction) → function_formed fs number f ≡ true → Parts fs number f
+parts_of_function fs number f formed =
+    let a = and_parts (nat_le f.frame 128) _ formed in
+    let b = and_parts (nat_le f.parameters 6) _ a.1 in
+    let c = and_parts (nat_le f.parameters f.mask) _ b.1 in
+    let d = and_parts (nat_lt f.mask (slots_of f)) _ c.1 in
+    let e = and_parts (nat_le f.parameters f.result) _ d.1 in
+    let g = and_parts (nat_lt f.result (slots_of f)) (stmts_formed fs number (slots_of f) f.body) e.1 in
+    let mask = ltb-true f.mask (slots_of f) d.0 in
+    record {
+      frame = leb-true f.frame 128 a.0;
+      parameters = leb-true f.parameters 6 b.0;
+      before_mask = leb-true f.parameters f.mask c.0;
+      mask = mask;
+      result = ltb-true f.result (slots_of f) g.0;
+      body = g.1;
+      room = omega (arith, mask);
+    }
 
 -- ---- the place to which a function returns is kept, or stays
 

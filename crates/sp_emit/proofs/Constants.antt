@@ -16,7 +16,7 @@ use Rattle.sp_emit.specs.Places.{flag_of, fetched_at, keep_word, seek_word, matc
 use Rattle.sp_emit.proofs.Codes.{codes_at}
 use Rattle.std.proofs.lemmas.Bool.{cases_lt}
 use Rattle.sp_emit.specs.Counts.{HasStmtCounts, HasStmtsCounts, HasCounts}
-use Rattle.sp_emit.specs.Flags.{stmt_hinders, stmts_hinder, behind_first, begun_body, flags_of}
+use Rattle.sp_emit.specs.Flags.{stmt_hinders, stmts_hinder, behind_first, begun_body, flags_of, stmts_spared, flag_tops}
 use Rattle.sp_tree.specs.MaskTests.{is_equal, is_word, tests_mask}
 use Rattle.sp_emit.specs.Truths.{bits_of, is_test, test_of, tested_code, is_same, word_flag, flag_at, joins, is_truth, unless_stands, join, truth_code, before_flag, flag_set, flag_by, flag_code, is_frame_word, seeks, sought, operands_stood, both_of, is_condition, func_in, spares_second, pairs, kept_code, joining_code, paired_code, unjoined_code}
 use Rattle.sp_tree.specs.MaskTests.{is_one}
@@ -346,7 +346,7 @@ functions_words fs h k = by (cases_lt k (length fs))
     by : (k < length fs) ⊎ (length fs ≤ k) → HasStmtsConstants (slice_index_or fs k no_function).body × HasStmtsCounts (slice_index_or fs k no_function).body
     by (inl less) =
         let f = slice_index_or fs k no_function in
-        function_words (places_of fs k) f (stands_of (flags_of f) f (all_stand f)) (subst Wordy (codes_at fs k less) (h k))
+        function_words (places_of fs k) f (stands_of (flags_of fs k) f (all_stand (stmts_spared (flag_tops fs k) f.body) f)) (subst Wordy (codes_at fs k less) (h k))
     by (inr past) = subst (λ f. HasStmtsConstants f.body × HasStmtsCounts f.body) (sym (past_or fs k past)) (tt, tt)
 
 pub constants_are_words : (u : PlainUnit) → ((k : ℕ) → Wordy (slice_index_or (emitted u).functions k no_part)) → HasConstants u.functions

@@ -6,27 +6,29 @@ use Rattle.std.proofs.lemmas.Bool.{and_parts, and_from, eqb-true, leb-true, ltb-
 use Rattle.sp_shape.proofs.Lists.{all_append}
 use Rattle.patmos_instr.specs.Bundles.{Slots}
 use Rattle.patmos_instr.specs.declared.functions.CmpFunc.TheVariants as cmp
+use Rattle.patmos_instr.specs.declared.functions.ImmFunc.TheVariants as imm
 use Rattle.patmos_instr.specs.declared.functions.PredFunc.TheVariants as comb
 use Rattle.patmos_sem.specs.declared.writes.Write.TheVariants as write
 use Rattle.c_world.specs.Numbers.{flag}
 use Rattle.sp_shape.specs.Run.{Run, IsWhole}
 use Rattle.sp_emit.specs.Holding.{held, so, KeepsFrom, KeepsFlags}
-use Rattle.sp_emit.specs.Instructions.{always, under, idle, set_short, compare_short, combine}
+use Rattle.sp_emit.specs.Instructions.{always, under, idle, set_short, compare_short, combine, where_so, with_short}
 use Rattle.sp_emit.specs.Flags.{is_past}
-use Rattle.sp_emit.specs.Places.{is_that, flag_in, flag_words, flag_of, in_register, word_of, held_in, shown_word, fetch_word, fetched_at, seek_op, seek_word, match_op, match_word, mask_test, told_in, told_at, cleared_in, word_cleared, words_cleared, stack_word}
-use Rattle.sp_emit.specs.declared.registers.TheConstants.{OVERRUN, TEST, SECOND}
+use Rattle.sp_emit.specs.Places.{is_that, flag_in, flag_words, flag_of, in_register, word_of, held_in, shown_word, fetch_word, fetched_at, seek_op, seek_word, match_op, match_word, mask_test, told_in, told_at, cleared_in, word_cleared, words_cleared, stack_word, read_word}
+use Rattle.sp_emit.specs.declared.registers.TheConstants.{OVERRUN, TEST, SECOND, MASK}
 use Rattle.sp_emit.specs.declared.stands.Homes.{Homes}
 use Rattle.sp_emit.proofs.Once.{with_written, kept_by_pred, so_got, so_kept}
 use Rattle.sp_emit.proofs.WordPlaces.{Sets, word_still, word_kept}
 use Rattle.sp_emit.specs.declared.stands.Flags.{Flags}
+use Rattle.sp_emit.specs.Statements.{handed_in, mask_handed}
 
 -- ---- each predicate is that of one word
 
-abbrev preds_from : ℕ → ℕ → List ℕ
+abbrev pub preds_from : ℕ → ℕ → List ℕ
 preds_from p zero = []
 preds_from p (suc n) = p ∷ preds_from (p + 1) n
 
-in_range : (n p : ℕ) (words : List (Option ℕ)) (slot q : ℕ) → flag_in (preds_from p n) words slot ≡ Some q → (p ≤ q) × (q < p + n)
+pub in_range : (n p : ℕ) (words : List (Option ℕ)) (slot q : ℕ) → flag_in (preds_from p n) words slot ≡ Some q → (p ≤ q) × (q < p + n)
 in_range zero p words slot q is = absurd cc
 in_range (suc n) p [] slot q is = absurd cc
 in_range (suc n) p (word ∷ words) slot q is = by (in_range n (p + 1) words slot q) (is_that word slot) is
@@ -133,25 +135,35 @@ told_other homes mask = by (flag_of homes.flags mask) refl
     by None is same = omega (arith, same)
     by (Some p) is same = let least = (flag_range homes.flags mask p is).0 in omega (arith, same, least)
 
+-- a mask that is handed to a function
+pub handed_is : (P : List Slots → Type 0) (homes : Homes) (mask : ℕ) → ((p : ℕ) → flag_of homes.flags mask ≡ Some p → P (set_short always MASK 1 ∷ set_short (where_so p) MASK 0 ∷ []))
+    → (flag_of homes.flags mask ≡ None → P (read_word homes.first MASK mask ∷ with_short always imm.Xor MASK MASK 1 ∷ [])) → P (mask_handed homes mask)
+unfolding handed_in
+handed_is P homes mask flagged none = by (flag_of homes.flags mask) refl
+  where
+    by : (o : Option ℕ) → flag_of homes.flags mask ≡ o → P (handed_in o homes.first mask)
+    by None is = none is
+    by (Some p) is = flagged p is
+
 -- words that are cleared
-cleared_one : (holds : Slots → Bool) (homes : Homes) (slot : ℕ) → ((p : ℕ) → holds (combine comb.Pxor p 0 0) ≡ true) → holds (set_short always (homes.first + slot) 0) ≡ true → list_all holds (word_cleared homes slot) ≡ true
+cleared_one : (holds : Slots → Bool) (homes : Homes) (slot : ℕ) → ((p : ℕ) → flag_of homes.flags slot ≡ Some p → holds (combine comb.Pxor p 0 0) ≡ true) → holds (set_short always (homes.first + slot) 0) ≡ true → list_all holds (word_cleared homes slot) ≡ true
 unfolding cleared_in
-cleared_one holds homes slot pred one = by (flag_of homes.flags slot)
+cleared_one holds homes slot pred one = by (flag_of homes.flags slot) refl
   where
     in_it : (b : Bool) → list_all holds (if b then set_short always (homes.first + slot) 0 ∷ [] else []) ≡ true
     in_it true = and_from (holds (set_short always (homes.first + slot) 0)) true one refl
     in_it false = refl
 
-    by : (o : Option ℕ) → list_all holds (cleared_in o homes.first slot) ≡ true
-    by None = in_it (in_register homes.first slot)
-    by (Some p) = and_from (holds (combine comb.Pxor p 0 0)) true (pred p) refl
+    by : (o : Option ℕ) → flag_of homes.flags slot ≡ o → list_all holds (cleared_in o homes.first slot) ≡ true
+    by None is = in_it (in_register homes.first slot)
+    by (Some p) is = and_from (holds (combine comb.Pxor p 0 0)) true (pred p is) refl
 
-pub cleared_within : (holds : Slots → Bool) (homes : Homes) (n : ℕ) → ((p : ℕ) → holds (combine comb.Pxor p 0 0) ≡ true) → ((slot : ℕ) → slot < n → holds (set_short always (homes.first + slot) 0) ≡ true) → list_all holds (words_cleared homes n) ≡ true
+pub cleared_within : (holds : Slots → Bool) (homes : Homes) (n : ℕ) → ((slot p : ℕ) → flag_of homes.flags slot ≡ Some p → holds (combine comb.Pxor p 0 0) ≡ true) → ((slot : ℕ) → slot < n → holds (set_short always (homes.first + slot) 0) ≡ true) → list_all holds (words_cleared homes n) ≡ true
 cleared_within holds homes zero pred each = refl
 cleared_within holds homes (suc n) pred each =
-    all_append holds (words_cleared homes n) (word_cleared homes n) (cleared_within holds homes n pred (λ slot lt. each slot (omega (arith, lt)))) (cleared_one holds homes n pred (each n (omega arith)))
+    all_append holds (words_cleared homes n) (word_cleared homes n) (cleared_within holds homes n pred (λ slot lt. each slot (omega (arith, lt)))) (cleared_one holds homes n (pred n) (each n (omega arith)))
 
-pub cleared_all : (holds : Slots → Bool) (homes : Homes) (n : ℕ) → ((p : ℕ) → holds (combine comb.Pxor p 0 0) ≡ true) → ((r : ℕ) → holds (set_short always r 0) ≡ true) → list_all holds (words_cleared homes n) ≡ true
+pub cleared_all : (holds : Slots → Bool) (homes : Homes) (n : ℕ) → ((slot p : ℕ) → flag_of homes.flags slot ≡ Some p → holds (combine comb.Pxor p 0 0) ≡ true) → ((r : ℕ) → holds (set_short always r 0) ≡ true) → list_all holds (words_cleared homes n) ≡ true
 cleared_all holds homes n pred each = cleared_within holds homes n pred (λ slot lt. each (homes.first + slot))
 
 -- ---- what words hold
@@ -173,12 +185,14 @@ shown_by homes slot m t word flags = by (flag_of homes.flags slot) refl
 pub shown_still : (homes : Homes) (slot : ℕ) (m t : Run) → KeepsFrom homes.first m t → KeepsFlags m t → t.stack ≡ m.stack → t.st ≡ m.st → shown_word homes slot t ≡ shown_word homes slot m
 shown_still homes slot m t high flags stack st = shown_by homes slot m t (word_still homes.first slot m t high stack st) flags
 
--- where no word of a frame stands in a predicate
-pub shown_kept : (homes : Homes) (slot : ℕ) (m t : Run) → list_all is_none (flag_words homes.flags) ≡ true → KeepsFrom homes.first m t → ((a : ℕ) → m.st ≤ a → t.stack a ≡ m.stack a) → t.st ≡ m.st
+-- where only those of the stack from its top on are known to stand, and the predicate of the word
+pub shown_kept : (homes : Homes) (slot : ℕ) (m t : Run) → ((p : ℕ) → flag_of homes.flags slot ≡ Some p → so p t ≡ so p m) → KeepsFrom homes.first m t → ((a : ℕ) → m.st ≤ a → t.stack a ≡ m.stack a) → t.st ≡ m.st
     → shown_word homes slot t ≡ shown_word homes slot m
-shown_kept homes slot m t none high stack st =
-    let is = none_stands homes.flags slot none in
-    shown_plain homes slot t is ∙ word_kept homes.first slot m t high stack st ∙ sym (shown_plain homes slot m is)
+shown_kept homes slot m t flags high stack st = by (flag_of homes.flags slot) refl
+  where
+    by : (o : Option ℕ) → flag_of homes.flags slot ≡ o → held_in o homes.first slot t ≡ held_in o homes.first slot m
+    by None is = word_kept homes.first slot m t high stack st
+    by (Some p) is = ap flag (flags p is)
 
 -- a word that is set in a register or in the stack
 pub shown_set : {most slot v : ℕ} {m t : Run} (homes : Homes) → Sets most homes.first slot v m t → flag_of homes.flags slot ≡ None → shown_word homes slot t ≡ v

@@ -10,7 +10,7 @@ use Rattle.sp_tree.specs.Statements.{PlainSpTarget, to_slot, to_cell, to_array, 
 use Rattle.sp_tree.specs.Straight.{State, Serves, worth, with_slot, stmts_done}
 use Rattle.sp_tree.specs.declared.operators.SpBinary.{SpBinary}
 use Rattle.sp_tree.specs.declared.operators.SpBinary.TheVariants as binary
-use Rattle.sp_emit.specs.Flags.{first_flags, first_choice, is_past, most_flags, target_hinders, stmt_hinders, stmts_hinder, behind_first, begun_body, function_stands, flags_of}
+use Rattle.sp_emit.specs.Flags.{first_flags, first_choice, is_past, most_flags, target_hinders, result_hinders, stmt_hinders, stmts_hinder, behind_first, begun_body, function_stands, moved_up, flags_from}
 use Rattle.sp_tree.specs.MaskTests.{is_equal, is_word, tests_mask}
 use Rattle.sp_emit.specs.Places.{flag_words, flag_of}
 use Rattle.sp_emit.specs.Truths.{is_truth}
@@ -53,11 +53,15 @@ target_beside flags (to_slot slot) none = ap is_some (none_stands flags slot non
 target_beside flags (to_cell cell) none = refl
 target_beside flags (to_array array index) none = refl
 
+result_beside : (flags : Flags) (result : Option ℕ) → list_all is_none (flag_words flags) ≡ true → result_hinders flags result ≡ false
+result_beside flags None none = refl
+result_beside flags (Some slot) none = ap is_some (none_stands flags slot none)
+
 mutual
   stmt_beside : (flags : Flags) (t : PlainStmt) → list_all is_none (flag_words flags) ≡ true → stmt_hinders flags t ≡ false
   stmt_beside flags (masks slot e) none = ap (λ o. is_some o && not (is_truth flags e)) (none_stands flags slot none)
   stmt_beside flags (writes mask target e) none = target_beside flags target none
-  stmt_beside flags (calls mask k args result) none = ap not none
+  stmt_beside flags (calls mask k args result) none = result_beside flags result none
   stmt_beside flags (transfers mask core source target count) none = refl
   stmt_beside flags (overruns mask e) none = refl
   stmt_beside flags (iterations count body) none = stmts_beside flags body none
@@ -83,8 +87,8 @@ most_stand (suc n) flags f = by (function_stands (first_flags (suc n) flags) f) 
     by true is fewer = is
     by false is fewer = fewer
 
-pub all_stand : (f : PlainFunction) → function_stands (flags_of f) f ≡ true
-all_stand f = most_stand 4 (first_choice f (slots_of f)).best f
+pub all_stand : (base : ℕ) (f : PlainFunction) → function_stands (flags_from base f) f ≡ true
+all_stand base f = most_stand 4 (moved_up base (first_choice f (slots_of f)).best) f
 
 -- one step of the choice
 pub more_flags : (count : ℕ) (flags : Flags) (f : PlainFunction) (b : Bool) → (count ≡ 0 → ⊥) → function_stands (first_flags count flags) f ≡ b → most_flags count flags f ≡ (if b then first_flags count flags else most_flags (count - 1) flags f)

@@ -38,7 +38,7 @@ use Rattle.sp_emit.specs.Statements.{cell_write, element_write, target_write, gu
 use Rattle.sp_emit.specs.Flags.{begun_body}
 use Rattle.sp_emit.specs.Truths.{flag_code}
 use Rattle.sp_emit.proofs.BegunBody.{begun_formed}
-use Rattle.sp_emit.proofs.FlagWords.{seek_is, match_is}
+use Rattle.sp_emit.proofs.FlagWords.{seek_is, match_is, handed_is}
 use Rattle.sp_emit.proofs.TruthCode.{is_test_bundle, AreTests, TruthParts, flag_is}
 use Rattle.sp_emit.proofs.Numbers.{number_op_is}
 use Rattle.sp_emit.proofs.Offsets.{AddressAre, address_are}
@@ -200,7 +200,7 @@ behind_calm homes frame mask (Some slot) = rw (seek_flow homes mask, match_flow 
 
 pub call_formed : (homes : Homes) (n frame mask k : ℕ) (result : Option ℕ) → nat_lt k n ≡ true → parts_formed n (call_code homes frame mask k result) ≡ true
 call_formed homes n frame mask k result earlier =
-    both n (one (straight (mask_handed homes.first mask))) (joined (one (way_to k)) (one (straight (behind_call homes frame mask result)))) (lone n (mask_handed homes.first mask) (rw (read_flow homes.first MASK mask) refl))
+    both n (one (straight (mask_handed homes mask))) (joined (one (way_to k)) (one (straight (behind_call homes frame mask result)))) (lone n (mask_handed homes mask) (handed_is (λ bs. are_calm bs ≡ true) homes mask (λ p is. refl) (λ none. rw (read_flow homes.first MASK mask) refl)))
     (and_from (nat_lt k n && true) (parts_formed n (one (straight (behind_call homes frame mask result)))) (and_from (nat_lt k n) true earlier refl)
     (lone n (behind_call homes frame mask result) (behind_calm homes frame mask result)))
 

@@ -23,7 +23,7 @@ use Rattle.sp_shape.proofs.Lists.{all_append, done_append}
 use Rattle.sp_emit.specs.Functions.{codes}
 use Rattle.sp_emit.specs.Flags.{begun_body}
 use Rattle.sp_emit.specs.Places.{flag_of, set_word, words_cleared, tops}
-use Rattle.sp_emit.proofs.Codes.{codes_at, codes_length, taken_is, freed_is, words_few}
+use Rattle.sp_emit.proofs.Codes.{codes_at, codes_length, taken_is, freed_is, words_few, Parts, code_of}
 use Rattle.sp_emit.proofs.FlagWords.{cleared_all}
 use Rattle.sp_emit.proofs.WordPlaces.{read_is, set_op_is}
 use Rattle.sp_emit.specs.Counts.{HasStmtsCounts, HasCounts}
@@ -37,7 +37,7 @@ use Rattle.sp_emit.specs.Chains.{stmts_call}
 use Rattle.sp_emit.proofs.Formed as formed
 use Rattle.sp_emit.proofs.Homing.{SameBack, back_then, keeps_place, done_back, parts_back}
 use Rattle.sp_emit.proofs.Quiet.{each_so}
-use Rattle.sp_emit.proofs.Steady.{is_firm, stmts_firm, place_firm}
+use Rattle.sp_emit.proofs.Steady.{is_firm, body_firm, place_firm}
 use Rattle.sp_emit.proofs.Uncalled.{stmts_uncalled}
 use Rattle.sp_emit.proofs.Leaving.{slot_leaves}
 use Rattle.sp_emit.proofs.LoopIterations.{Callees, iterations_joined, stmts_iteration}
@@ -46,7 +46,7 @@ use Rattle.sp_emit.proofs.Passed.{taken, cleared, entered, worked, enters_frame,
 use Rattle.sp_emit.proofs.BegunBody.{begun_formed, begun_levels, begun_least, begun_uncalled, begun_counts}
 use Rattle.sp_emit.proofs.Passing.{AllPass, passes_done}
 use Rattle.sp_emit.proofs.Returning.{did_return}
-use Rattle.sp_emit.proofs.Serves.{begin_run, Parts, code_of}
+use Rattle.sp_emit.proofs.Serves.{begin_run}
 use Rattle.sp_emit.proofs.Storing.{did_store_slot}
 use Rattle.sp_emit.specs.declared.stands.Homes.{Homes}
 
@@ -92,7 +92,7 @@ masked_back : (homes : Homes) (from : Sources) (f : PlainFunction) (m : Run)
 masked_back homes from f m =
     let t0 = run from (all_done (frame_taken homes.first f)) m in
     let tc = run from (all_done (words_cleared homes (slots_of f))) t0 in
-    back_then (back_then (back_then (done_back from (frame_taken homes.first f) m (taken_is (λ bs. list_all keeps_place bs ≡ true) (frame_words homes.first f) refl refl)) (done_back from (words_cleared homes (slots_of f)) t0 (cleared_all keeps_place homes (slots_of f) (λ p. refl) (λ r. refl))))
+    back_then (back_then (back_then (done_back from (frame_taken homes.first f) m (taken_is (λ bs. list_all keeps_place bs ≡ true) (frame_words homes.first f) refl refl)) (done_back from (words_cleared homes (slots_of f)) t0 (cleared_all keeps_place homes (slots_of f) (λ slot p is. refl) (λ r. refl))))
     (done_back from (arguments_kept homes.first f.parameters) tc (arguments_keep homes.first f.parameters))) (done_back from (mask_kept homes f) (run from (all_done (arguments_kept homes.first f.parameters)) tc) (mask_keeps homes f))
 
 entered_home : (homes : Homes) (from : Sources) (fs : List PlainFunction) (number : ℕ) (f : PlainFunction) (m : Run) → stmts_call f.body ≡ true → Parts fs number f → IsWhole m → Holds (base_slot homes.first f) (offset_slot homes.first f) (back_of m) (entered homes from f m)
@@ -183,7 +183,7 @@ worked_back homes from code fs number f m none p =
     let entered_back = subst (λ b. SameBack m (run from (all_done (mask_kept homes f ++ (if b then place_stored homes.first f else []))) t1)) (sym none) (subst (SameBack m) (sym (state_run homes from f [] t1)) (masked_back homes from f m)) in
     let begun = begun_body homes.flags f in
     back_then entered_back (parts_back from code body (formed.stmts_formed homes fs 0 (slots_of f) (frame_words homes.first f) (first_counter f) begun (stmts_uncalled fs number (slots_of f) begun (begun_uncalled homes.flags f none) (begun_formed homes.flags fs number (slots_of f) f p.body)))
-    (each_so is_firm keeps_place place_firm body (stmts_firm homes (frame_words homes.first f) (first_counter f) begun)) (run from (all_done (state_kept homes f)) t1))
+    (each_so (is_firm 8) keeps_place (place_firm 8) body (body_firm homes f)) (run from (all_done (state_kept homes f)) t1))
 
 stays_home : (homes : Homes) (from : Sources) (f : PlainFunction) (m w : Run) → stmts_call f.body ≡ false → IsWhole w → SameBack m w → Home (back_of m) (run from (all_done (function_end homes.first f)) w)
 stays_home homes from f m w none whole x =

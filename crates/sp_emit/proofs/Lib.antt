@@ -25,6 +25,7 @@ pub mod Factors
 pub mod Fitting
 pub mod FlagCode
 pub mod FlagWords
+pub mod FlagsAbove
 pub mod FlagsStand
 pub mod Formed
 pub mod Frames
@@ -84,5 +85,6 @@ pub mod WithinStack
 pub mod Words
 pub mod Aligned
 pub mod Portless
+pub mod Sparing
 pub mod Standing
 pub mod Starts

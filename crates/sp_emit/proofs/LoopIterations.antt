@@ -127,8 +127,8 @@ call_iterations homes from f Called back tops number slots low frame mask k args
     let first = first_least args FIRST in
     let p = passes_parts from f tops number low homes.first 0 (omega arith) callees.passing (args_code homes args FIRST) (formed.args_formed homes number args FIRST) (args_low tops homes slots homes.first 0 args FIRST most count named least (omega arith)) m whole enough in
     let n = run from (parts_trail f (args_code homes args FIRST)) m in
-    let q = passes_done from homes.first 0 (mask_handed homes.first mask) n (omega arith) p.whole (handed_low homes.first 0 homes.first mask (omega (arith, first, least))) in
-    let u = run from (all_done (mask_handed homes.first mask)) n in
+    let q = passes_done from homes.first 0 (mask_handed homes mask) n (omega arith) p.whole (handed_low homes.first 0 homes mask (omega (arith, first, least))) in
+    let u = run from (all_done (mask_handed homes mask)) n in
     let r = passes_done from homes.first 0 call_tail u (omega arith) q.whole (call_tail_low homes.first 0 (omega (arith, first, least))) in
     let c = run from (all_done call_tail) u in
     let b = passes_begun homes.first 0 c r.whole in

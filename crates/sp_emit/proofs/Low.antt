@@ -9,7 +9,6 @@ use Rattle.patmos_instr.specs.declared.functions.CmpFunc.TheVariants as cmp
 use Rattle.patmos_instr.specs.declared.guards.Guard.{Guard}
 use Rattle.patmos_instr.specs.declared.instructions.Op.{Op}
 use Rattle.patmos_instr.specs.declared.instructions.Op.TheVariants.{AluImm, AluReg, AluLong, FromSpecial, Stack, Load, Store}
-use Rattle.patmos_instr.specs.declared.functions.ImmFunc.TheVariants as imm
 use Rattle.patmos_instr.specs.declared.functions.StackFunc.TheVariants.{Sres, Sens, Sfree}
 use Rattle.patmos_instr.specs.declared.memories.Mem.TheVariants as mem
 use Rattle.patmos_instr.specs.declared.memories.StoreWidth.TheVariants as store
@@ -34,7 +33,7 @@ use Rattle.sp_emit.proofs.Lasts.{Gives, slot_write_is}
 use Rattle.sp_emit.proofs.Numbers.{number_op_is}
 use Rattle.sp_emit.proofs.Offsets.{address_are}
 use Rattle.sp_emit.proofs.Operands.{mask_is}
-use Rattle.sp_emit.proofs.FlagWords.{seek_is, match_is}
+use Rattle.sp_emit.proofs.FlagWords.{seek_is, match_is, handed_is}
 use Rattle.sp_emit.proofs.TruthCode.{is_test_bundle, AreTests, TruthParts, flag_is, Fitting, first_fitting, second_fitting}
 use Rattle.sp_emit.proofs.Passing.{is_outside, outside_low, is_low, passes, part_passes, parts_pass}
 use Rattle.sp_emit.proofs.Values.{before, operands_calm, value_calm}
@@ -209,8 +208,8 @@ target_low tops homes slots top count mask (to_array array index) most out withi
     (own_low tops homes slots top count index (FIRST + 1) most (omega arith) (and_parts (array_formed array) (expr_formed slots index) formed).1 free (omega (arith, within)))
     (low_lone tops top count (element_write homes mask array) (element_write_low top count homes mask array.region array.first array.length (omega (arith, least, within))))
 
-pub handed_low : (top count homes mask : ℕ) → MASK < top → AreLow top count (mask_handed homes mask)
-handed_low top count homes mask own = rw (read_low top count homes MASK mask own, outside_low top MASK own) refl
+pub handed_low : (top count : ℕ) (homes : Homes) (mask : ℕ) → MASK < top → AreLow top count (mask_handed homes mask)
+handed_low top count homes mask own = handed_is (AreLow top count) homes mask (λ p is. rw (outside_low top MASK own) refl) (λ none. rw (read_low top count homes.first MASK mask own, outside_low top MASK own) refl)
 
 pub call_tail_low : (top count : ℕ) → 1 ≤ top → AreLow top count call_tail
 call_tail_low top count some = rw (outside_low top 0 some) refl
@@ -223,8 +222,8 @@ behind_low top count homes slots frame mask (Some slot) own out within formed =
 
 call_low : (tops : List ℕ) (homes : Homes) (slots top count frame mask k : ℕ) (result : Option ℕ) → Outside homes.first slots count → homes.first + slots ≤ top → FIRST ≤ homes.first → slice_index_or tops k 0 ≤ homes.first → result_formed slots result ≡ true → Low tops top count (call_code homes frame mask k result)
 call_low tops homes slots top count frame mask k result out within own window formed =
-    low_joined tops top count (one (straight (mask_handed homes.first mask))) (joined (one (way_to k)) (one (straight (behind_call homes frame mask result))))
-    (low_lone tops top count (mask_handed homes.first mask) (handed_low top count homes.first mask (omega (arith, own, within))))
+    low_joined tops top count (one (straight (mask_handed homes mask))) (joined (one (way_to k)) (one (straight (behind_call homes frame mask result))))
+    (low_lone tops top count (mask_handed homes mask) (handed_low top count homes mask (omega (arith, own, within))))
     (low_joined tops top count (one (way_to k)) (one (straight (behind_call homes frame mask result)))
     (and_from (nat_le (slice_index_or tops k 0) top && list_all (passes top count) call_tail) true
     (and_from (nat_le (slice_index_or tops k 0) top) (list_all (passes top count) call_tail) (le-leb (slice_index_or tops k 0) top (omega (arith, window, within))) (call_tail_low top count (omega (arith, own, within)))) refl)

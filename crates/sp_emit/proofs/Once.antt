@@ -10,7 +10,7 @@ use Rattle.patmos_instr.specs.declared.memories.Width.TheVariants as load
 use Rattle.patmos_sem.specs.Bundles.{arrived}
 use Rattle.patmos_sem.specs.Effects.{address_of, write_of, begun, asked}
 use Rattle.patmos_sem.specs.Registers.{Registers, FitsRegisters, holds}
-use Rattle.patmos_sem.specs.Writes.{after_writes, came, register_after, pred_after}
+use Rattle.patmos_sem.specs.Writes.{pred_by, after_writes, came, register_after, pred_after}
 use Rattle.patmos_instr.specs.declared.specials.WritableSpecial.{WritableSpecial}
 use Rattle.patmos_sem.specs.declared.effects.Effect.{Effect}
 use Rattle.patmos_sem.specs.declared.effects.Effect.TheVariants as effect
@@ -209,17 +209,18 @@ so_got p b m whole some lt = so_written (write.Predicate p b) p m whole lt ∙ r
 stays_true : (w : Write) (m : Run) → IsWhole m → so 0 (with_written w m) ≡ so 0 m
 stays_true w m whole = so_written w 0 m whole (omega arith) ∙ sym whole.fits.always
 
+pub so_left : (w : Write) (q : ℕ) (m : Run) → IsWhole m → q < 8 → ((old : Bool) → pred_by q w old ≡ old) → so q (with_written w m) ≡ so q m
+so_left w zero m whole lt left = stays_true w m whole
+so_left w (suc q) m whole lt left = so_written w (suc q) m whole lt ∙ rw (ne_eqb (suc q) 0 (omega arith)) (left (so (suc q) m))
+
 pub so_kept : (p : ℕ) (b : Bool) (q : ℕ) (m : Run) → IsWhole m → q < 8 → (p ≡ q → ⊥) → so q (with_written (write.Predicate p b) m) ≡ so q m
-so_kept p b zero m whole lt other = stays_true (write.Predicate p b) m whole
-so_kept p b (suc q) m whole lt other = so_written (write.Predicate p b) (suc q) m whole lt ∙ rw (ne_eqb (suc q) 0 (omega arith), ne_eqb p (suc q) other)
+so_kept p b q m whole lt other = so_left (write.Predicate p b) q m whole lt (λ old. rw (ne_eqb p q other) refl)
 
 pub so_by_register : (rd v q : ℕ) (m : Run) → IsWhole m → q < 8 → so q (with_written (write.Register rd v) m) ≡ so q m
-so_by_register rd v zero m whole lt = stays_true (write.Register rd v) m whole
-so_by_register rd v (suc q) m whole lt = so_written (write.Register rd v) (suc q) m whole lt ∙ rw (ne_eqb (suc q) 0 (omega arith))
+so_by_register rd v q m whole lt = so_left (write.Register rd v) q m whole lt (λ old. refl)
 
 pub so_by_product : (low high q : ℕ) (m : Run) → IsWhole m → q < 8 → so q (with_written (write.Product low high) m) ≡ so q m
-so_by_product low high zero m whole lt = stays_true (write.Product low high) m whole
-so_by_product low high (suc q) m whole lt = so_written (write.Product low high) (suc q) m whole lt ∙ rw (ne_eqb (suc q) 0 (omega arith)) refl
+so_by_product low high q m whole lt = so_left (write.Product low high) q m whole lt (λ old. refl)
 
 pub whole_loaded : (from : Sources) (space : Mem) (rd address : ℕ) (m : Run) → IsWhole m → IsWhole (loaded from space rd address m)
 whole_loaded from space rd address m whole =

@@ -20,13 +20,13 @@ use Rattle.sp_emit.specs.Functions.{codes}
 use Rattle.sp_emit.specs.Holding.{KeepsFrom}
 use Rattle.sp_emit.specs.Flags.{begun_body}
 use Rattle.sp_emit.specs.Places.{flag_of, read_word, words_cleared, stmts_least, tops, top_of, stack_word}
-use Rattle.sp_emit.proofs.Codes.{codes_at, tops_at, kept_is, brought_is, words_few, words_called, words_outside}
+use Rattle.sp_emit.proofs.Codes.{codes_at, tops_at, kept_is, brought_is, words_few, words_called, words_outside, Parts, parts_of_function, code_of}
 use Rattle.sp_emit.proofs.BegunBody.{begun_formed, begun_levels, begun_least}
 use Rattle.sp_emit.proofs.FlagWords.{cleared_within}
 use Rattle.sp_emit.proofs.Formed as formed
 use Rattle.sp_emit.proofs.Low.{AreLow, IsHomed, spare_low, read_low, stmts_low, set_low}
 use Rattle.sp_emit.proofs.Passing.{outside_low, AllPass, Passes, passes, passes_then, passes_more, passes_done, passes_parts}
-use Rattle.sp_emit.proofs.Serves.{Parts, parts_of_function, function_run, code_of}
+use Rattle.sp_emit.proofs.Serves.{function_run}
 use Rattle.sp_emit.specs.declared.stands.Homes.{Homes}
 use Rattle.sp_emit.proofs.WordPlaces.{Outside}
 
@@ -111,7 +111,7 @@ enters_frame homes from fs number f m own p whole enough =
     let out = words_outside homes.first f (omega (arith, p.room)) in
     let first = takes_room from top n m whole in
     let c = passes_done from top n (words_cleared homes (slots_of f)) (taken homes from f m) most first.whole
-    (cleared_within (passes top n) homes (slots_of f) (λ p. refl) (λ slot lt. rw (outside_low top (homes.first + slot) (omega (arith, lt, p.room))) refl)) in
+    (cleared_within (passes top n) homes (slots_of f) (λ slot p is. refl) (λ slot lt. rw (outside_low top (homes.first + slot) (omega (arith, lt, p.room))) refl)) in
     let second = in_frame_still (omega arith) room first c in
     let a = passes_done from top n (arguments_kept homes.first f.parameters) (cleared homes from f m) most c.whole (arguments_low homes (slots_of f) top n f.parameters (omega (arith, p.before_mask, p.mask)) (omega (arith, p.room)) out) in
     let third = in_frame_still (omega arith) room second a in

@@ -67,10 +67,10 @@ send_pushed old first second a b c d one two =
 
 -- ---- calls and iterations
 
-pub call_pushed : (homes : Homes) (old first second third : PlainParts) (frame mask k : ℕ) (slot : Option ℕ) → first ≡ joined old (one (straight (mask_handed homes.first mask)))
+pub call_pushed : (homes : Homes) (old first second third : PlainParts) (frame mask k : ℕ) (slot : Option ℕ) → first ≡ joined old (one (straight (mask_handed homes mask)))
     → second ≡ joined first (one (way_to k)) → third ≡ joined second (one (straight (behind_call homes frame mask slot))) → third ≡ joined old (call_code homes frame mask k slot)
 call_pushed homes old first second third frame mask k slot a b c =
-    three_pushed old first second third (one (straight (mask_handed homes.first mask))) (one (way_to k)) (one (straight (behind_call homes frame mask slot))) a b c
+    three_pushed old first second third (one (straight (mask_handed homes mask))) (one (way_to k)) (one (straight (behind_call homes frame mask slot))) a b c
 
 pub iterations_pushed : (homes : Homes) (old first second iteration : PlainParts) (frame counter count : ℕ) (body : PlainStmts) → first ≡ joined old (one (straight (iterations_begin homes.first counter count)))
     → iteration ≡ stmts_code homes frame (counter - 1) body → second ≡ joined first (one (repeats count iteration (iterations_tail homes.first counter))) → second ≡ joined old (stmt_code homes frame counter (iterations count body))

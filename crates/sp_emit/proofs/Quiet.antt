@@ -1,13 +1,15 @@
 -- What is said of each bundle of code; and the code of values, which stores nothing, leaves the stack and the special
--- registers, loads in any case, and has one instruction in each bundle.
-use Rattle.std.proofs.Common.{◌≡◌, ℕ, ◌+◌, Bool, true, false, List, [], ◌∷◌, refl, arith}
+-- registers, loads in any case, sets no predicate of the four, and has one instruction in each bundle.
+use Rattle.std.proofs.Common.{◌≡◌, ℕ, ◌+◌, ◌<◌, ◌≤◌, ◌==◌, Bool, true, false, true≢false, not, ap, sym, ne_eqb, List, [], ◌∷◌, refl, arith}
 use Rattle.std.specs.Prelude.{nat_lt, ◌&&◌, is_none}
 use Rattle.std.specs.List.{list_all}
-use Rattle.std.proofs.lemmas.Bool.{and_parts, and_from}
+use Rattle.std.proofs.lemmas.Bool.{and_parts, and_from, ltb-true}
 use Rattle.patmos_instr.specs.Bundles.{Slots}
 use Rattle.patmos_instr.specs.declared.guards.Guard.{Guard}
 use Rattle.patmos_instr.specs.declared.instructions.Op.{Op}
-use Rattle.patmos_instr.specs.declared.instructions.Op.TheVariants.{ToSpecial, Stack, Load, Store}
+use Rattle.patmos_instr.specs.declared.instructions.Op.TheVariants.{Cmp, CmpImm, Comb, ToSpecial, Stack, Load, Store}
+use Rattle.patmos_instr.specs.declared.memories.Width.TheVariants as load
+use Rattle.patmos_instr.specs.declared.specials.WritableSpecial.TheVariants as special
 use Rattle.sp_tree.specs.Need.{need}
 use Rattle.sp_tree.specs.Plain.{PlainSp, constant, frame_word, cell_word, array_word, before_one, between_two}
 use Rattle.sp_tree.specs.declared.operators.SpBinary.{SpBinary}
@@ -27,7 +29,7 @@ use Rattle.sp_emit.specs.Places.{flag_of, read_op}
 use Rattle.sp_emit.proofs.WordPlaces.{read_op_is}
 use Rattle.sp_emit.proofs.Numbers.{number_op_is}
 use Rattle.sp_emit.proofs.Offsets.{address_are}
-use Rattle.sp_emit.specs.declared.registers.TheConstants.{SPARE, TEST}
+use Rattle.sp_emit.specs.declared.registers.TheConstants.{SPARE, TEST, FLAGS}
 use Rattle.sp_emit.specs.declared.stands.Homes.{Homes}
 
 -- ---- each bundle
@@ -59,7 +61,11 @@ mutual
 -- ---- the code of values
 
 abbrev pub is_quiet_op : Guard → Op → Bool
-is_quiet_op g (Load space width rd ra imm) = is_always g
+is_quiet_op g (Load space load.Word rd ra imm) = is_always g
+is_quiet_op g (Load space width rd ra imm) = false
+is_quiet_op g (Cmp func pd ra rb) = nat_lt pd FLAGS
+is_quiet_op g (CmpImm func pd ra imm) = nat_lt pd FLAGS
+is_quiet_op g (Comb func pd a b) = nat_lt pd FLAGS
 is_quiet_op g (Store space width ra rs imm) = false
 is_quiet_op g (Stack func count) = false
 is_quiet_op g (ToSpecial special ra) = false
@@ -67,6 +73,31 @@ is_quiet_op g _ = true
 
 abbrev pub is_quiet : Slots → Bool
 is_quiet b = is_quiet_op b.first.guard b.first.op && is_none b.second
+
+-- an instruction that does not set a predicate, by its number
+abbrev pub spares_op : ℕ → Op → Bool
+spares_op q (Load space load.Word rd ra imm) = true
+spares_op q (Load space width rd ra imm) = false
+spares_op q (Cmp func pd ra rb) = not (pd == q)
+spares_op q (CmpImm func pd ra imm) = not (pd == q)
+spares_op q (Comb func pd a b) = not (pd == q)
+spares_op q (ToSpecial special.S0 ra) = false
+spares_op q _ = true
+
+pub low_spared : (pd q : ℕ) → pd < FLAGS → FLAGS ≤ q → not (pd == q) ≡ true
+low_spared pd q few from = ap not (ne_eqb pd q (λ same. absurd (omega (arith, same, few, from))))
+
+pub quiet_spares : (q : ℕ) → FLAGS ≤ q → (g : Guard) (op : Op) → is_quiet_op g op ≡ true → spares_op q op ≡ true
+quiet_spares q from g (Cmp func pd ra rb) quiet = low_spared pd q (ltb-true pd FLAGS quiet) from
+quiet_spares q from g (CmpImm func pd ra imm) quiet = low_spared pd q (ltb-true pd FLAGS quiet) from
+quiet_spares q from g (Comb func pd a b) quiet = low_spared pd q (ltb-true pd FLAGS quiet) from
+quiet_spares q from g (Load space load.Word rd ra imm) quiet = refl
+quiet_spares q from g (Load space load.Half rd ra imm) quiet = absurd (true≢false (sym quiet))
+quiet_spares q from g (Load space load.Byte rd ra imm) quiet = absurd (true≢false (sym quiet))
+quiet_spares q from g (Load space load.HalfUnsigned rd ra imm) quiet = absurd (true≢false (sym quiet))
+quiet_spares q from g (Load space load.ByteUnsigned rd ra imm) quiet = absurd (true≢false (sym quiet))
+quiet_spares q from g (ToSpecial s ra) quiet = absurd (true≢false (sym quiet))
+quiet_spares q from g _ quiet = refl
 
 abbrev Quiet : PlainParts → Type 0
 Quiet parts = parts_all is_quiet parts ≡ true

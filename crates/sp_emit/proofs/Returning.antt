@@ -68,7 +68,7 @@ did_return from m whole =
 
 returns_with : (m : Run) → IsWhole m → Begins m (run by_words (all_done return_tail) m)
 returns_with m whole =
-    let c : Begins m (once by_words return m) = subst (Begins m) (sym (did_return by_words m whole)) (record { whole = record { fits = whole.fits; pending = whole.pending }; regs = λ x lt. refl; stack = refl; st = refl; memory = refl }) in
+    let c : Begins m (once by_words return m) = subst (Begins m) (sym (did_return by_words m whole)) (record { whole = record { fits = whole.fits; pending = whole.pending }; regs = λ x lt. refl; preds = λ p lt. refl; stack = refl; st = refl; memory = refl }) in
     idle_begins m _ (idle_begins m _ (idle_begins m _ c))
 
 -- the end of a function whose frame has so many words

@@ -34,11 +34,11 @@ use Rattle.sp_emit.specs.Instructions.{always, where_so, under, set_short, set_n
 use Rattle.sp_emit.specs.Places.{flag_in, flag_words, flag_of, in_register, read_word, set_word, cleared_in, word_cleared, words_cleared, fetch_word, keep_word, fetched_at, seek_word, match_word, mask_test, told_at}
 use Rattle.sp_emit.specs.declared.registers.TheConstants.{RESULT, MASK, FIRST, OVERRUN, TEST, SECOND, SPARE}
 use Rattle.sp_emit.proofs.WordPlaces.{read_is, set_op_is, fetch_is, keep_is}
-use Rattle.sp_emit.specs.Statements.{cell_write, element_write, target_write, guarded_code, args_code, call_code, send_code, overrun_code, slot_set, stmt_code, stmts_code}
+use Rattle.sp_emit.specs.Statements.{cell_write, element_write, target_write, guarded_code, args_code, call_code, send_code, overrun_code, slot_set, stmt_code, stmts_code, mask_handed}
 use Rattle.sp_emit.specs.Flags.{begun_body}
 use Rattle.sp_emit.specs.Truths.{cmp_of, by_two, by_number, test_of, tested_code, flag_at, joins, unless_stands, join, truth_code, before_flag, flag_set, flag_by, flag_code, both_of, bits_of, is_not, is_condition, is_masking, is_frame_word, word_flag, seeks, bit_sought, operands_stood, spares_second, pairs, kept_code, joining_code, paired_code, unjoined_code, func_in}
 use Rattle.sp_emit.proofs.BegunBody.{begun_costs}
-use Rattle.sp_emit.proofs.FlagWords.{seek_is, match_is}
+use Rattle.sp_emit.proofs.FlagWords.{seek_is, match_is, handed_is}
 use Rattle.sp_emit.proofs.Lasts.{Gives, write_is}
 use Rattle.sp_emit.proofs.Numbers.{number_op_is}
 use Rattle.sp_emit.proofs.Offsets.{spare_op_is, below_op_is, scaled_op_is}
@@ -415,9 +415,12 @@ guarded_room homes mask e to op gives =
     let value = ap parts_room gives.is in
     omega (arith, room_both (operands_code homes e FIRST) (one (straight bundles)), value_room homes e FIRST to, value, seek_words homes mask, match_words homes mask)
 
+handed_room : (homes : Homes) (mask : ℕ) → bundles_room (mask_handed homes mask) ≤ 3
+handed_room homes mask = handed_is (λ bs. bundles_room bs ≤ 3) homes mask (λ p is. omega arith) (λ none. omega (arith, read_words homes.first MASK mask))
+
 call_room : (homes : Homes) (frame mask k : ℕ) (result : Option ℕ) → parts_room (call_code homes frame mask k result) ≤ 12
-call_room homes frame mask k None = omega (arith, read_words homes.first MASK mask)
-call_room homes frame mask k (Some slot) = omega (arith, read_words homes.first MASK mask, seek_words homes mask, match_words homes mask, set_words homes.first (where_so (told_at homes mask)) slot RESULT)
+call_room homes frame mask k None = omega (arith, handed_room homes mask)
+call_room homes frame mask k (Some slot) = omega (arith, handed_room homes mask, seek_words homes mask, match_words homes mask, set_words homes.first (where_so (told_at homes mask)) slot RESULT)
 
 mutual
   stmt_room : (homes : Homes) (frame counter : ℕ) (t : PlainStmt) → parts_room (stmt_code homes frame counter t) ≤ stmt_cost t

@@ -1,33 +1,32 @@
 -- The code of functions does what they give, each over the earlier ones.
-use Rattle.std.proofs.Common.{◌≡◌, ℕ, zero, suc, ◌+◌, ◌-◌, ◌*◌, ◌<◌, ◌≤◌, ◌^◌, ◌==◌, ◌⊎◌, inl, inr, Bool, true, false, true≢false, not, ◌&&◌, if◌then◌else◌, Option, None, Some, List, ◌++◌, length, slice_index, slice_index_or, nat_lt, refl, sym, ap, ◌∙◌, subst, arith}
-use Rattle.std.specs.Prelude.{is_none, nat_le, min}
-use Rattle.std.proofs.lemmas.Bool.{cases_lt, and_parts, leb-true, ltb-true, eqb-true, eqb-false}
+use Rattle.std.proofs.Common.{◌≡◌, ℕ, zero, suc, ◌+◌, ◌-◌, ◌*◌, ◌<◌, ◌≤◌, ◌^◌, ◌==◌, ◌⊎◌, inl, inr, Bool, true, false, ◌&&◌, if◌then◌else◌, Option, None, Some, List, ◌++◌, length, slice_index, slice_index_or, nat_lt, refl, sym, ap, ◌∙◌, subst, arith}
+use Rattle.std.specs.Prelude.{min}
+use Rattle.std.proofs.lemmas.Bool.{cases_lt, and_parts, ltb-true, eqb-true, eqb-false}
 use Rattle.c_world.specs.Numbers.{flag}
 use Rattle.c_world.specs.World.{World}
 use Rattle.shared_order.specs.Words.{put}
 use Rattle.sp_tree.proofs.Forms.{earlier_one}
-use Rattle.sp_tree.specs.Formed.{args_formed, result_formed, callee_formed, stmt_formed, stmts_formed, stmts_levels, slots_of, function_formed, functions_formed}
+use Rattle.sp_tree.specs.Formed.{args_formed, result_formed, callee_formed, stmt_formed, slots_of, function_formed, functions_formed}
 use Rattle.sp_tree.specs.Plain.{PlainSp}
 use Rattle.sp_tree.specs.Statements.{PlainFunction, no_function, calls}
 use Rattle.sp_tree.specs.Straight.{State, Outcome, Serves, stmts_done, begun_frame, function_outcome, serves}
 use Rattle.sp_shape.proofs.Whole.{run_append}
 use Rattle.sp_shape.specs.Parts.{no_part, joined}
 use Rattle.sp_shape.specs.Run.{Run, Sources, by_words, run}
-use Rattle.sp_shape.specs.Trail.{Step, all_done, parts_trail, trails}
+use Rattle.sp_shape.specs.Trail.{Step, all_done, parts_trail}
 use Rattle.sp_shape.proofs.Lists.{done_append}
-use Rattle.std.specs.List.{list_all}
 use Rattle.sp_emit.specs.Functions.{arguments_kept, state_kept, frame_taken, function_begin, function_end, function_rest, body_code, function_code, places_of, first_counter, return_tail, base_slot, frame_words}
 use Rattle.sp_emit.specs.Means.{Follows, HasStmtConstants, HasStmtsConstants, HasConstants}
 use Rattle.sp_emit.specs.declared.registers.TheConstants.{OVERRUN}
 use Rattle.sp_emit.specs.Serving.{Carries, CalledWith}
 use Rattle.sp_emit.specs.Functions.{codes}
 use Rattle.sp_emit.specs.Chains.{stmts_call}
-use Rattle.sp_emit.specs.Flags.{stmt_hinders, begun_body, function_stands}
-use Rattle.sp_emit.specs.Places.{flag_words, flag_of, shown_word, words_cleared, homes_over, tops, top_of, stmt_least, homes_of}
-use Rattle.sp_emit.proofs.Codes.{codes_at, tops_at, words_few, words_called, words_outside, base_outside}
+use Rattle.sp_emit.specs.Flags.{stmt_hinders, begun_body, function_stands, AreAbove, stmt_spared, stmts_spared, flag_tops, flag_top_of}
+use Rattle.sp_emit.specs.Places.{flag_of, shown_word, words_cleared, homes_over, tops, top_of, stmt_least, homes_of}
+use Rattle.sp_emit.proofs.Codes.{codes_at, tops_at, words_few, words_called, words_outside, base_outside, flag_tops_at, parts_of_function, code_of}
 use Rattle.sp_emit.proofs.Beginning.{begins_frame}
-use Rattle.sp_emit.proofs.Calling.{Returns, ServedBy, call_is_done}
-use Rattle.sp_emit.proofs.BegunBody.{begun_formed, begun_levels, begun_least, begun_constants}
+use Rattle.sp_emit.proofs.Calling.{Returns, ServedBy, call_is_done, Spares}
+use Rattle.sp_emit.proofs.BegunBody.{begun_formed, begun_levels, begun_least, begun_constants, begun_spared}
 use Rattle.sp_emit.proofs.Entering.{begun_words, enters}
 use Rattle.sp_emit.proofs.FlagsStand.{stands_of, all_stand, begun_state, begun_done}
 use Rattle.sp_emit.proofs.FlagWords.{shown_plain}
@@ -36,35 +35,8 @@ use Rattle.sp_emit.proofs.Returning.{returns_value}
 use Rattle.sp_emit.proofs.Runs.{Runs, CallsRun, stmts_run}
 use Rattle.sp_emit.proofs.Values.{run_joined}
 use Rattle.sp_emit.specs.declared.stands.Homes.{Homes}
-
--- what is well formed of a function, part by part
-pub record Parts (fs : List PlainFunction) (number : ℕ) (f : PlainFunction) : Type 0 where
-  pub frame : f.frame ≤ 128
-  pub parameters : f.parameters ≤ 6
-  pub before_mask : f.parameters ≤ f.mask
-  pub mask : f.mask < slots_of f
-  pub result : f.result < slots_of f
-  pub body : stmts_formed fs number (slots_of f) f.body ≡ true
-  pub room : slots_of f + stmts_levels f.body + 2 ≡ f.frame
-
-pub parts_of_function : (fs : List PlainFunction) (number : ℕ) (f : PlainFunction) → function_formed fs number f ≡ true → Parts fs number f
-parts_of_function fs number f formed =
-    let a = and_parts (nat_le f.frame 128) _ formed in
-    let b = and_parts (nat_le f.parameters 6) _ a.1 in
-    let c = and_parts (nat_le f.parameters f.mask) _ b.1 in
-    let d = and_parts (nat_lt f.mask (slots_of f)) _ c.1 in
-    let e = and_parts (nat_le f.parameters f.result) _ d.1 in
-    let g = and_parts (nat_lt f.result (slots_of f)) (stmts_formed fs number (slots_of f) f.body) e.1 in
-    let mask = ltb-true f.mask (slots_of f) d.0 in
-    record {
-      frame = leb-true f.frame 128 a.0;
-      parameters = leb-true f.parameters 6 b.0;
-      before_mask = leb-true f.parameters f.mask c.0;
-      mask = mask;
-      result = ltb-true f.result (slots_of f) g.0;
-      body = g.1;
-      room = omega (arith, mask);
-    }
+use Rattle.sp_emit.proofs.FlagsAbove.{above_fewer, flags_above}
+use Rattle.sp_emit.proofs.Sparing.{all_leave}
 
 -- what a function begins with, piece by piece
 pub begin_run : (homes : Homes) (from : Sources) (f : PlainFunction) (m : Run) → run from (all_done (function_begin homes f)) m
@@ -123,10 +95,10 @@ follows_begun homes slots f mask args w t x carries shows = by (flag_of homes.fl
         }
 
 -- a function over what the earlier ones do
-pub function_serves : (homes : Homes) (tops : List ℕ) (code : ℕ → List Step) (g : Serves) (fs : List PlainFunction) (number low : ℕ) (f : PlainFunction) → functions_formed fs number ≡ true → function_formed fs number f ≡ true → HasStmtsConstants f.body → homes_over tops f ≤ homes.first → function_stands homes.flags f ≡ true
-    → CallsRun homes tops code g fs number (frame_words homes.first f) (slots_of f) low
+pub function_serves : (homes : Homes) (tops spared : List ℕ) (code : ℕ → List Step) (g : Serves) (fs : List PlainFunction) (number low : ℕ) (f : PlainFunction) → functions_formed fs number ≡ true → function_formed fs number f ≡ true → HasStmtsConstants f.body → homes_over tops f ≤ homes.first → function_stands homes.flags f ≡ true → AreAbove (stmts_spared spared f.body) homes.flags
+    → CallsRun homes tops spared code g fs number (frame_words homes.first f) (slots_of f) low
     → (mask : ℕ) (args : List ℕ) (w : World) (m : Run) → length args ≡ f.parameters → low + 128 ≤ m.st → CalledWith mask args w m → Returns (homes.first + (f.frame - 2)) (function_outcome g f mask args w) m (run by_words (parts_trail code (function_code homes f)) m)
-function_serves homes tops code g fs number low f earlier formed constants least placed others mask args w m count enough x =
+function_serves homes tops spared code g fs number low f earlier formed constants least placed above others mask args w m count enough x =
     let p = parts_of_function fs number f formed in
     let slots = slots_of f in
     let t1 = run by_words (all_done (arguments_kept homes.first f.parameters)) (run by_words (all_done (words_cleared homes slots)) (run by_words (all_done (frame_taken homes.first f)) m)) in
@@ -142,8 +114,8 @@ function_serves homes tops code g fs number low f earlier formed constants least
     let z = stmts_done g (begun_body homes.flags f) (begun_state (flag_of homes.flags f.mask) f.mask s) in
     let levels = begun_levels homes.flags f in
     let fewer = begun_least homes.flags tops f in
-    let d = stmts_run homes tops code g fs number n slots (first_counter f) low others (omega (arith, p.room, p.frame)) (omega (arith, p.room, p.frame, p.mask)) (begun_body homes.flags f) (omega (arith, p.room, p.mask, levels))
-    (begun_formed homes.flags fs number slots f p.body) (begun_constants homes.flags f constants) (omega (arith, least, fewer)) stand.body (begun_state (flag_of homes.flags f.mask) f.mask s) t2 (omega (arith, e.st, few, enough, p.frame)) y in
+    let d = stmts_run homes tops spared code g fs number n slots (first_counter f) low others (omega (arith, p.room, p.frame)) (omega (arith, p.room, p.frame, p.mask)) (begun_body homes.flags f) (omega (arith, p.room, p.mask, levels))
+    (begun_formed homes.flags fs number slots f p.body) (begun_constants homes.flags f constants) (omega (arith, least, fewer)) stand.body (above_fewer homes.flags (stmts_spared spared (begun_body homes.flags f)) (begun_spared homes.flags spared f) above) (begun_state (flag_of homes.flags f.mask) f.mask s) t2 (omega (arith, e.st, few, enough, p.frame)) y in
     let t3 = run by_words (parts_trail code (body_code homes f)) t2 in
     let r = returns_value homes.first z.world n (base_slot homes.first f) f.result (z.frame f.result) (stmts_call f.body) t3 (record { whole = d.follows.whole; has = d.follows.shows.world; words = d.follows.words.world; flag = d.follows.flag })
     (omega (arith, least)) (omega (arith, p.result, p.room, p.frame)) (sym (shown_plain homes f.result t3 stand.result) ∙ d.follows.shows.frame f.result p.result) (d.follows.words.frame f.result p.result) in
@@ -162,24 +134,17 @@ function_serves homes tops code g fs number low f earlier formed constants least
 
 -- ---- all of them, in order
 
-abbrev pub code_of : List PlainFunction → ℕ → ℕ → List Step
-code_of fs n = trails (codes fs) n
-
 unfoldable pub AllServe : List PlainFunction → ℕ → Type 0
 AllServe fs n = (k : ℕ) → k < n → ServedBy (code_of fs n) (serves fs n) k (slice_index_or fs k no_function).parameters ((k + 1) * 128) (top_of fs k)
 
-off_false : (b : Bool) → not b ≡ false → b ≡ true
-off_false true is = refl
-off_false false is = absurd (true≢false is)
-
 -- over the earlier ones, calls do what they mean
-pub calls_run : (homes : Homes) (fs : List PlainFunction) (n frame slots : ℕ) → functions_formed fs n ≡ true → slots ≤ 128 → AllServe fs n → CallsRun homes (tops fs n) (code_of fs n) (serves fs n) fs n frame slots (n * 128)
+pub calls_run : (homes : Homes) (fs : List PlainFunction) (n frame slots : ℕ) → functions_formed fs n ≡ true → slots ≤ 128 → ((k : ℕ) → k < n → Spares (code_of fs n) k (flag_top_of fs k)) → AllServe fs n → CallsRun homes (tops fs n) (flag_tops fs n) (code_of fs n) (serves fs n) fs n frame slots (n * 128)
 unfolding AllServe ServedBy
-calls_run homes fs n frame slots formed most earlier = record { calls = each }
+calls_run homes fs n frame slots formed most leave earlier = record { calls = each }
   where
-    each : (counter mask k : ℕ) (args : List PlainSp) (result : Option ℕ) → slots ≤ counter + 1 → stmt_formed fs n slots (calls mask k args result) ≡ true → HasStmtConstants (calls mask k args result) → stmt_least (tops fs n) (calls mask k args result) ≤ homes.first → stmt_hinders homes.flags (calls mask k args result) ≡ false
+    each : (counter mask k : ℕ) (args : List PlainSp) (result : Option ℕ) → slots ≤ counter + 1 → stmt_formed fs n slots (calls mask k args result) ≡ true → HasStmtConstants (calls mask k args result) → stmt_least (tops fs n) (calls mask k args result) ≤ homes.first → stmt_hinders homes.flags (calls mask k args result) ≡ false → AreAbove (stmt_spared (flag_tops fs n) (calls mask k args result)) homes.flags
         → Runs homes (code_of fs n) (serves fs n) frame counter slots (n * 128) (calls mask k args result)
-    each counter mask k args result fits named constants least stand s m enough x =
+    each counter mask k args result fits named constants least stand above s m enough x =
         let a = and_parts (nat_lt mask slots) (callee_formed fs n k (length args) && (args_formed slots args && result_formed slots result)) named in
         let b = and_parts (callee_formed fs n k (length args)) (args_formed slots args && result_formed slots result) a.1 in
         let callee = and_parts (nat_lt k n) (length args == (slice_index_or fs k no_function).parameters) b.0 in
@@ -187,7 +152,7 @@ calls_run homes fs n frame slots formed most earlier = record { calls = each }
         let less = ltb-true k n callee.0 in
         let count = eqb-true (length args) (slice_index_or fs k no_function).parameters callee.1 in
         let few = (parts_of_function fs k (slice_index_or fs k no_function) (earlier_one fs k n less formed)).parameters in
-        call_is_done homes (code_of fs n) (serves fs n) frame counter slots ((k + 1) * 128) (top_of fs k) mask k args result s m (off_false (list_all is_none (flag_words homes.flags)) stand) most fits (ltb-true mask slots a.0) (omega (arith, count, few)) c.0 constants c.1
+        call_is_done homes (code_of fs n) (serves fs n) frame counter slots ((k + 1) * 128) (top_of fs k) mask k args result (flag_top_of fs k) s m stand (above_fewer homes.flags (flag_top_of fs k) (let top = flag_tops_at fs n k less in omega (arith, top)) above) (leave k less) most fits (ltb-true mask slots a.0) (omega (arith, count, few)) c.0 constants c.1
         (λ word given w t same room called. earlier k less word given w t (same ∙ count) room called)
         (let top = tops_at fs n k less in omega (arith, least, top)) (omega (arith, least)) (omega (arith, less, enough)) x
 
@@ -210,7 +175,8 @@ all_serve fs constants (suc n) within formed k less mask args w m count room cal
     last : AllServe fs n → k ≡ n → Returns (top_of fs n) (function_outcome (serves fs n) f mask args w) m (run by_words (parts_trail (code_of fs n) (function_code (places_of fs n) f)) m)
     last before is =
         let p = parts_of_function fs n f parts.1 in
-        ends_at (function_serves (places_of fs n) (tops fs n) (code_of fs n) (serves fs n) fs n (n * 128) f parts.0 parts.1 (constants n) (omega arith) (all_stand f) (calls_run (places_of fs n) fs n (frame_words (homes_of fs n) f) (slots_of f) parts.0 (omega (arith, p.room, p.frame)) before)
+        let base = stmts_spared (flag_tops fs n) f.body in
+        ends_at (function_serves (places_of fs n) (tops fs n) (flag_tops fs n) (code_of fs n) (serves fs n) fs n (n * 128) f parts.0 parts.1 (constants n) (omega arith) (all_stand base f) (flags_above base f) (calls_run (places_of fs n) fs n (frame_words (homes_of fs n) f) (slots_of f) parts.0 (omega (arith, p.room, p.frame)) (λ i lt p past few t whole. all_leave by_words fs n (omega (arith, within)) parts.0 i lt p past few t whole) before)
         mask args w m (count ∙ ap (λ j. (slice_index_or fs j no_function).parameters) is) (omega (arith, room, is)) called)
 
     by : AllServe fs n → (b : Bool) → (k == n) ≡ b

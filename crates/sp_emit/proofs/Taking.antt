@@ -27,6 +27,6 @@ pub function_takes : (homes : Homes) (f : PlainFunction) → 2 ≤ f.frame → p
 function_takes homes f some =
     let holds = takes_at_most f.frame in
     let body = body_code homes f in
-    and_from (list_all holds (function_begin homes f)) (parts_all holds (joined body (function_rest homes.first f))) (begin_all holds homes f (le-leb (frame_words homes.first f) f.frame (words_few homes.first f some)) (λ r. refl) (λ slot rs. set_takes f.frame homes.first slot rs) refl (λ p. refl) (λ p. refl) refl)
-    (each_joined holds body (function_rest homes.first f) (each_so is_firm holds (takes_firm f.frame) body (body_firm homes f))
+    and_from (list_all holds (function_begin homes f)) (parts_all holds (joined body (function_rest homes.first f))) (begin_all holds homes f (le-leb (frame_words homes.first f) f.frame (words_few homes.first f some)) (λ r. refl) (λ slot rs. set_takes f.frame homes.first slot rs) refl (λ slot p is. refl) (λ p is. refl) refl)
+    (each_joined holds body (function_rest homes.first f) (each_so (is_firm 8) holds (takes_firm f.frame 8) body (body_firm homes f))
     (and_from (list_all holds (function_end homes.first f)) true (end_all holds homes.first f refl (read_takes f.frame homes.first RESULT f.result) refl refl) refl))

@@ -17,7 +17,7 @@ use Rattle.sp_shape.specs.Trail.{Step, all_done, parts_trail, trails, trail}
 use Rattle.sp_emit.specs.Accesses.{AsksOnly}
 use Rattle.sp_emit.specs.Expressions.{operands_code, expr_code}
 use Rattle.sp_emit.specs.Functions.{first_counter, function_begin, function_end, function_rest, function_code, return_tail, places_of, emitted, frame_words}
-use Rattle.sp_emit.specs.Statements.{slot_write, cell_write, element_write, target_write, args_code, call_code, send_code, overrun_code, slot_set, iterations_begin, iterations_tail, stmt_code, stmts_code}
+use Rattle.sp_emit.specs.Statements.{slot_write, cell_write, element_write, target_write, args_code, call_code, send_code, overrun_code, slot_set, iterations_begin, iterations_tail, stmt_code, stmts_code, mask_handed}
 use Rattle.sp_emit.specs.Instructions.{always, where_so, under}
 use Rattle.sp_emit.specs.declared.registers.TheConstants.{RESULT, MASK, FIRST, OVERRUN}
 use Rattle.sp_emit.proofs.Accessing.{asks_append, asks_nothing, asks_copies, is_near, near_asks, near_parts, near_read, near_set, near_fetch, near_seek, near_match, near_keep, near_number}
@@ -26,9 +26,8 @@ use Rattle.sp_emit.specs.Places.{set_word, fetched_at, mask_test, told_at}
 use Rattle.sp_emit.specs.Functions.{codes}
 use Rattle.sp_emit.proofs.Around.{begin_all, end_all}
 use Rattle.sp_emit.proofs.BegunBody.{begun_is, begun_formed}
-use Rattle.sp_emit.proofs.Codes.{codes_at, codes_length}
+use Rattle.sp_emit.proofs.Codes.{codes_at, codes_length, parts_of_function, code_of}
 use Rattle.sp_emit.proofs.Formed.{call_formed}
-use Rattle.sp_emit.proofs.Serves.{parts_of_function, code_of}
 use Rattle.sp_emit.proofs.StoreAsks.{cell_write_asks, element_write_asks, send_asks}
 use Rattle.sp_emit.proofs.ValueAsks.{AreNamed, are_named, named_left, named_right, asks_joined, asks_lone, operands_ask, expr_asks, flag_asks}
 use Rattle.sp_emit.proofs.Fitting.{expr_fits}
@@ -36,6 +35,7 @@ use Rattle.sp_emit.proofs.Lasts.{is_alu, write_is}
 use Rattle.sp_emit.proofs.Operands.{mask_is}
 use Rattle.sp_emit.specs.declared.stands.Homes.{Homes}
 use Rattle.sp_emit.specs.declared.stands.Flags.{Flags}
+use Rattle.sp_emit.proofs.FlagWords.{handed_is}
 
 -- ---- values
 
@@ -66,9 +66,12 @@ target_asks homes Named f slots mask (to_array array index) most formed named =
 
 -- ---- statements, over what earlier functions ask for
 
+near_handed : (homes : Homes) (mask : ℕ) → list_all is_near (mask_handed homes mask) ≡ true
+near_handed homes mask = handed_is (λ bs. list_all is_near bs ≡ true) homes mask (λ p is. refl) (λ none. rw (near_read homes.first MASK mask) refl)
+
 call_near : (homes : Homes) (frame mask k : ℕ) (result : Option ℕ) → parts_all is_near (call_code homes frame mask k result) ≡ true
-call_near homes frame mask k None = rw (near_read homes.first MASK mask) refl
-call_near homes frame mask k (Some slot) = rw (near_read homes.first MASK mask, near_seek homes mask, near_match homes mask, near_set homes.first (where_so (told_at homes mask)) slot RESULT) refl
+call_near homes frame mask k None = rw (near_handed homes mask) refl
+call_near homes frame mask k (Some slot) = rw (near_handed homes mask, near_seek homes mask, near_match homes mask, near_set homes.first (where_so (told_at homes mask)) slot RESULT) refl
 
 mutual
   stmt_asks : (homes : Homes) (Named : Use → Type 0) (f : ℕ → List Step) (fs : List PlainFunction) (number slots frame counter : ℕ) → ((k : ℕ) → k < number → AsksOnly Named (f k)) → functions_formed fs number ≡ true → slots ≤ 128 → 1 ≤ homes.first
@@ -140,7 +143,7 @@ function_asks : (homes : Homes) (Named : Use → Type 0) (code : ℕ → List St
 function_asks homes Named code fs number f called earlier formed some named =
     let p = parts_of_function fs number f formed in
     let body = begun_body homes.flags f in
-    asks_append (near_asks Named (function_begin homes f) (begin_all is_near homes f refl (λ r. refl) (λ slot rs. near_set homes.first always slot rs) refl (λ p. refl) (λ p. refl) refl))
+    asks_append (near_asks Named (function_begin homes f) (begin_all is_near homes f refl (λ r. refl) (λ slot rs. near_set homes.first always slot rs) refl (λ slot p is. refl) (λ p is. refl) refl))
     (asks_joined code (stmts_code homes (frame_words homes.first f) (first_counter f) body) (function_rest homes.first f) (stmts_ask homes Named code fs number (slots_of f) (frame_words homes.first f) (first_counter f) called earlier (omega (arith, p.room, p.frame)) some body (begun_formed homes.flags fs number (slots_of f) f p.body) (begun_named Named homes.flags f named))
     (asks_append (near_asks Named (function_end homes.first f) (end_all is_near homes.first f refl (near_read homes.first RESULT f.result) refl refl)) (asks_append (near_asks Named return_tail refl) (asks_nothing Named))))
 

@@ -39,7 +39,7 @@ use Rattle.sp_emit.proofs.Pointing.{Points, points_then, points_none, points_one
 use Rattle.sp_emit.proofs.Quiet.{each_joined, each_lone}
 use Rattle.sp_emit.proofs.Values.{run_joined, run_lone}
 use Rattle.sp_emit.specs.Truths.{flag_code, bit_sought}
-use Rattle.sp_emit.proofs.FlagWords.{seek_is, match_is}
+use Rattle.sp_emit.proofs.FlagWords.{seek_is, match_is, handed_is}
 use Rattle.sp_emit.proofs.TruthCode.{is_test_bundle, AreTests, TruthParts, flag_is}
 use Rattle.sp_shape.proofs.Lists.{all_weaker}
 use Rattle.sp_emit.proofs.Lasts.{is_alu, write_is, guarded_each}
@@ -235,8 +235,8 @@ call_stays : (homes : Homes) (from : Sources) (f : ℕ → List Step) (number fr
     → (m : Run) → Framed frame m → 49152 + g k ≤ m.st → Stays frame m (run from (parts_trail f (call_code homes frame mask k result)) m)
 call_stays homes from f number frame slots mask k g result callees earlier out masked is m framed enough =
     let in_frame = read_inside frame homes.first MASK mask (out mask masked) in
-    let handed = inside_done from frame (mask_handed homes.first mask) m framed (rw in_frame refl) in
-    let n = run from (all_done (mask_handed homes.first mask)) m in
+    let handed = inside_done from frame (mask_handed homes mask) m framed (handed_is (AreInside frame) homes mask (λ p is. refl) (λ none. rw in_frame refl)) in
+    let n = run from (all_done (mask_handed homes mask)) m in
     let tail = inside_done from frame call_tail n handed.framed refl in
     let c = run from (all_done call_tail) n in
     let before = stays_then handed tail in

@@ -16,7 +16,7 @@ use Rattle.sp_shape.proofs.Lists.{all_append}
 use Rattle.sp_emit.specs.Functions.{codes}
 use Rattle.sp_emit.specs.Flags.{begun_body}
 use Rattle.sp_emit.specs.Places.{flag_of, words_cleared}
-use Rattle.sp_emit.proofs.Codes.{codes_at, codes_length, kept_is, brought_is, words_few, words_called, words_outside}
+use Rattle.sp_emit.proofs.Codes.{codes_at, codes_length, kept_is, brought_is, words_few, words_called, words_outside, parts_of_function, code_of}
 use Rattle.sp_emit.proofs.BegunBody.{begun_formed, begun_levels, begun_chain}
 use Rattle.sp_emit.proofs.FlagWords.{cleared_all}
 use Rattle.sp_emit.specs.Chains.{stmts_call, stmts_chain, chains}
@@ -26,7 +26,7 @@ use Rattle.sp_emit.specs.declared.registers.TheConstants.{RESULT, MASK, FIRST}
 use Rattle.sp_emit.proofs.Arguments.{did_stack}
 use Rattle.sp_emit.proofs.Passed.{result_read, given_back, end_run}
 use Rattle.sp_emit.proofs.Pointing.{Points, points_then, points_none, points_one, is_inside, Framed, Stays, inside_done}
-use Rattle.sp_emit.proofs.Serves.{parts_of_function, function_run, code_of}
+use Rattle.sp_emit.proofs.Serves.{function_run}
 use Rattle.sp_emit.proofs.WithinFrames.{GivesBack, CalleesStay, stmts_stay, read_inside, set_inside}
 use Rattle.sp_emit.specs.declared.stands.Homes.{Homes}
 use Rattle.sp_emit.proofs.WordPlaces.{Outside}
@@ -99,7 +99,7 @@ function_stays homes from code g fs number f formed callees m whole high held en
     let calls : stmts_call f.body ≡ true → base_slot homes.first f + 2 ≤ n = λ has. let is = words_called homes.first f has in omega (arith, is) in
     let t0 = run from (all_done (frame_taken homes.first f)) m in
     let x0 = takes from n m whole (omega (arith, few, p.frame)) high held (omega (arith, few, enough)) in
-    let c = inside_done from n (words_cleared homes (slots_of f)) t0 x0.stays (cleared_all (is_inside n) homes (slots_of f) (λ p. refl) (λ r. refl)) in
+    let c = inside_done from n (words_cleared homes (slots_of f)) t0 x0.stays (cleared_all (is_inside n) homes (slots_of f) (λ slot p is. refl) (λ r. refl)) in
     let xc = entered_then x0 c in
     let tc = run from (all_done (words_cleared homes (slots_of f))) t0 in
     let x1 = entered_then xc (inside_done from n (arguments_kept homes.first f.parameters) tc xc.stays (arguments_inside homes (slots_of f) n f.parameters (omega (arith, p.before_mask, p.mask)) out)) in

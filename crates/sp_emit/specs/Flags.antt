@@ -1,28 +1,32 @@
 -- To be believed. Which words of a function's frame stand in predicates: such as are set to truths alone, and by no write.
-use Rattle.std.specs.Prelude.{ℕ, zero, suc, ◌+◌, ◌*◌, ◌==◌, ◌&&◌, ◌||◌, nat_le, nat_lt, Bool, true, false, not, if◌then◌else◌, Option, None, Some, is_none, is_some}
+use Rattle.std.specs.Prelude.{◌≡◌, ◌≤◌, ℕ, zero, suc, ◌+◌, ◌*◌, ◌==◌, ◌&&◌, ◌||◌, nat_le, nat_lt, Bool, true, false, not, if◌then◌else◌, List, [], ◌∷◌, ◌++◌, Option, None, Some, is_none, is_some, slice_index_or, max}
 use Rattle.std.specs.List.{list_all}
 use Rattle.sp_tree.specs.Formed.{slots_of}
 use Rattle.sp_tree.specs.MaskTests.{tests_mask}
 use Rattle.sp_tree.specs.Plain.{PlainSp, constant, frame_word, cell_word, array_word, before_one, between_two}
-use Rattle.sp_tree.specs.Statements.{PlainSpTarget, to_slot, PlainStmt, masks, writes, calls, transfers, overruns, iterations, PlainStmts, no_stmt, stmt, PlainFunction}
+use Rattle.sp_tree.specs.Statements.{PlainSpTarget, to_slot, PlainStmt, masks, writes, calls, transfers, overruns, iterations, PlainStmts, no_stmt, stmt, PlainFunction, no_function}
 use Rattle.sp_emit.specs.Places.{flag_of, flag_words, capped}
 use Rattle.sp_emit.specs.Truths.{bits_of, is_test, is_truth}
 use Rattle.sp_emit.specs.declared.flags.Choice.{Choice}
+use Rattle.sp_emit.specs.declared.registers.TheConstants.{FLAGS}
 use Rattle.sp_emit.specs.declared.stands.Flags.{Flags}
 
 -- ---- when they may
 
--- a statement hinders them: it writes one, sets one to what is no truth, or calls a function, whose code may set the same
--- predicates
+-- a statement hinders them: it writes one, sets one to what is no truth, or sets one to what a function gives
 abbrev pub target_hinders : Flags → PlainSpTarget → Bool
 target_hinders flags (to_slot slot) = is_some (flag_of flags slot)
 target_hinders flags _ = false
+
+abbrev pub result_hinders : Flags → Option ℕ → Bool
+result_hinders flags None = false
+result_hinders flags (Some slot) = is_some (flag_of flags slot)
 
 abbrev mutual
   pub stmt_hinders : Flags → PlainStmt → Bool
   stmt_hinders flags (masks slot e) = is_some (flag_of flags slot) && not (is_truth flags e)
   stmt_hinders flags (writes mask target e) = target_hinders flags target
-  stmt_hinders flags (calls mask k args result) = not (list_all is_none (flag_words flags))
+  stmt_hinders flags (calls mask k args result) = result_hinders flags result
   stmt_hinders flags (iterations count body) = stmts_hinder flags body
   stmt_hinders flags _ = false
 
@@ -157,5 +161,59 @@ most_flags zero flags f = first_flags 0 flags
 most_flags (suc n) flags f =
     if function_stands (first_flags (suc n) flags) f then first_flags (suc n) flags else most_flags n flags f
 
-abbrev pub flags_of : PlainFunction → Flags
-flags_of f = most_flags 4 (first_choice f (slots_of f)).best f
+-- ---- from which predicate on: after those that the code of the functions that are called may set
+
+-- how many of the four these are, where so many are the most that each function's code may set, the first ones of them
+abbrev mutual
+  pub stmt_spared : List ℕ → PlainStmt → ℕ
+  stmt_spared tops (calls mask k args result) = slice_index_or tops k 4
+  stmt_spared tops (iterations count body) = stmts_spared tops body
+  stmt_spared tops _ = 0
+
+  pub stmts_spared : List ℕ → PlainStmts → ℕ
+  stmts_spared tops no_stmt = 0
+  stmts_spared tops (stmt t rest) = max (stmt_spared tops t) (stmts_spared tops rest)
+
+-- the words of a function stand after the first so many of the four
+abbrev pub AreAbove : ℕ → Flags → Type 0
+AreAbove n flags = (slot p : ℕ) → flag_of flags slot ≡ Some p → FLAGS + n ≤ p
+
+-- four words so many predicates further on
+abbrev pub moved_up : ℕ → Flags → Flags
+moved_up n flags =
+    if n == 0 then flags
+    else if n == 1 then record { first = None; second = flags.first; third = flags.second; fourth = flags.third }
+    else if n == 2 then record { first = None; second = None; third = flags.first; fourth = flags.second }
+    else if n == 3 then record { first = None; second = None; third = None; fourth = flags.first }
+    else no_flags
+
+-- how many of the four there are up to the last one that holds a word
+abbrev pub flags_end : Flags → ℕ
+flags_end flags =
+    if is_some flags.fourth then 4
+    else if is_some flags.third then 3
+    else if is_some flags.second then 2
+    else if is_some flags.first then 1
+    else 0
+
+-- the words of a function over the earlier ones
+abbrev pub flags_from : ℕ → PlainFunction → Flags
+flags_from base f = most_flags 4 (moved_up base (first_choice f (slots_of f)).best) f
+
+abbrev pub flags_over : List ℕ → PlainFunction → Flags
+flags_over tops f = flags_from (stmts_spared tops f.body) f
+
+-- how many of the four its code may set, with those that it calls
+abbrev pub flag_top : List ℕ → PlainFunction → ℕ
+flag_top tops f = max (stmts_spared tops f.body) (flags_end (flags_over tops f))
+
+-- the same of the first so many functions, each over the earlier ones
+abbrev pub flag_tops : List PlainFunction → ℕ → List ℕ
+flag_tops fs zero = []
+flag_tops fs (suc n) = flag_tops fs n ++ flag_top (flag_tops fs n) (slice_index_or fs n no_function) ∷ []
+
+abbrev pub flags_of : List PlainFunction → ℕ → Flags
+flags_of fs k = flags_over (flag_tops fs k) (slice_index_or fs k no_function)
+
+abbrev pub flag_top_of : List PlainFunction → ℕ → ℕ
+flag_top_of fs k = flag_top (flag_tops fs k) (slice_index_or fs k no_function)

@@ -123,7 +123,7 @@ function_code homes f =
 
 -- where the words of a function stand
 abbrev pub places_of : List PlainFunction → ℕ → Homes
-places_of fs k = record { first = homes_of fs k; flags = flags_of (slice_index_or fs k no_function) }
+places_of fs k = record { first = homes_of fs k; flags = flags_of fs k }
 
 -- the code of the first so many functions
 abbrev pub functions_code : List PlainFunction → ℕ → List PlainParts

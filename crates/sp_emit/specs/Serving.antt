@@ -10,11 +10,11 @@ use Rattle.sp_shape.specs.Run.{Run, IsWhole, by_words, run}
 use Rattle.sp_shape.specs.Trail.{parts_trail, trails}
 use Rattle.sp_emit.specs.Functions.{codes}
 use Rattle.sp_emit.specs.Statements.{stmts_code}
-use Rattle.sp_emit.specs.Holding.{held}
+use Rattle.sp_emit.specs.Holding.{held, so}
 use Rattle.sp_emit.specs.Means.{Follows, HasConstants, HasStmtsConstants, HasWords, HoldsWords, KeepsBehind}
-use Rattle.sp_emit.specs.Flags.{stmts_hinder}
+use Rattle.sp_emit.specs.Flags.{AreAbove, stmts_hinder, stmts_spared, flag_tops, flag_top_of}
 use Rattle.sp_emit.specs.Places.{stack_word, word_of, shown_word, stmts_least, tops, top_of}
-use Rattle.sp_emit.specs.declared.registers.TheConstants.{RESULT, MASK, FIRST, OVERRUN}
+use Rattle.sp_emit.specs.declared.registers.TheConstants.{RESULT, MASK, FIRST, OVERRUN, FLAGS}
 use Rattle.sp_emit.specs.declared.stands.Homes.{Homes}
 
 -- the words of a world, and its flag
@@ -60,6 +60,7 @@ pub record AreStatements (fs : List PlainFunction) (n : ℕ) (homes : Homes) (fr
   pub room : n * MOST_FRAME ≤ m.st
   pub homed : stmts_least (tops fs n) ts ≤ homes.first
   pub stand : stmts_hinder homes.flags ts ≡ false
+  pub spared : AreAbove (stmts_spared (flag_tops fs n) ts) homes.flags
   pub follows : Follows homes slots s m
 
 -- ---- where a tree changes nothing of its world, as all do under a mask of 0 that set what they set under their masks
@@ -73,13 +74,15 @@ pub record WorldStands (m t : Run) : Type 0 where
   pub starts : t.memory.starts ≡ m.memory.starts
   pub flag : held OVERRUN t ≡ held OVERRUN m
 
--- a function whose window ends before a register: the stack stands from the caller's frame on, and so do the words that
--- trees name in the frames of its callers, in registers or in the stack
-pub record Unchanged (top : ℕ) (m t : Run) : Type 0 where
+-- a function whose window ends before a register, and that may set so many of the four predicates: the stack stands from
+-- the caller's frame on, and so do the words that trees name in the frames of its callers, in registers, in the stack or
+-- in predicates
+pub record Unchanged (top used : ℕ) (m t : Run) : Type 0 where
   pub world : WorldStands m t
   pub st : t.st ≡ m.st
   pub stack : (a : ℕ) → m.st ≤ a → t.stack a ≡ m.stack a
   pub callers : (homes slot : ℕ) → top ≤ homes → word_of homes slot t ≡ word_of homes slot m
+  pub predicates : (p : ℕ) → FLAGS + used ≤ p → p < 8 → so p t ≡ so p m
 
 -- statements: a word of the own frame stands where the tree's does, the same after as before
 pub record OwnUnchanged (homes : Homes) (slots count : ℕ) (before after : ℕ → ℕ) (m t : Run) : Type 0 where
@@ -91,7 +94,7 @@ pub record OwnUnchanged (homes : Homes) (slots count : ℕ) (before after : ℕ 
 pub record ChangeNoMore (fs : List PlainFunction) (n : ℕ) : Type 0 where
   pub functions : (k mask : ℕ) (args : List ℕ) (w : World) (m : Run) → k < n
       → length args ≡ (slice_index_or fs k no_function).parameters → (k + 1) * MOST_FRAME ≤ m.st → CalledWith mask args w m
-      → (serves fs n k mask args w).world ≡ w → Unchanged (top_of fs k) m (run by_words (trails (codes fs) n k) m)
+      → (serves fs n k mask args w).world ≡ w → Unchanged (top_of fs k) (flag_top_of fs k) m (run by_words (trails (codes fs) n k) m)
   pub statements : (homes : Homes) (frame slots counter : ℕ) (ts : PlainStmts) (s : State) (m : Run)
       → AreStatements fs n homes frame slots counter ts s m → (stmts_done (serves fs n) ts s).world ≡ s.world
       → OwnUnchanged homes slots (counter + 1) s.frame (stmts_done (serves fs n) ts s).frame m

@@ -81,8 +81,13 @@ abbrev pub args_code : Homes → List PlainSp → ℕ → PlainParts
 args_code homes [] rd = no_part
 args_code homes (e ∷ args) rd = joined (expr_code homes e rd) (args_code homes args (rd + 1))
 
-abbrev pub mask_handed : ℕ → ℕ → List Slots
-mask_handed homes mask = read_word homes MASK mask ∷ with_short always imm.Xor MASK MASK 1 ∷ []
+-- the word of a mask is handed with its lowest bit inverted
+unfoldable pub handed_in : Option ℕ → ℕ → ℕ → List Slots
+handed_in (Some p) homes mask = set_short always MASK 1 ∷ set_short (where_so p) MASK 0 ∷ []
+handed_in None homes mask = read_word homes MASK mask ∷ with_short always imm.Xor MASK MASK 1 ∷ []
+
+abbrev pub mask_handed : Homes → ℕ → List Slots
+mask_handed homes mask = handed_in (flag_of homes.flags mask) homes.first mask
 
 abbrev pub call_tail : List Slots
 call_tail = call ∷ idle ∷ idle ∷ idle ∷ []
@@ -100,7 +105,7 @@ way_to k = calls_to k call_tail
 
 abbrev pub call_code : Homes → ℕ → ℕ → ℕ → Option ℕ → PlainParts
 call_code homes frame mask k result =
-    joined (one (straight (mask_handed homes.first mask)))
+    joined (one (straight (mask_handed homes mask)))
     (joined (one (way_to k)) (one (straight (behind_call homes frame mask result))))
 
 -- ---- sends

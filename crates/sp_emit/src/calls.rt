@@ -4,13 +4,16 @@ ghost use Rattle.sp_emit.specs.Places as places;
 ghost use Rattle.sp_emit.specs.Statements as specs;
 ghost use Rattle.sp_shape.specs.Parts.{straight, repeats, one, joined};
 ghost use Rattle.sp_shape.specs.Shown.{parts_of};
+ghost use Rattle.slot_arbiter.specs.declared.table.TheConstants.{MOST_CORES};
 
 use crate::instructions::{
     always, branch, call, combine, compare, compare_short, compute, idle, set_long, set_number,
     set_short, stack_op, store_to, where_so, with_short,
 };
 use crate::parts::{listed, push, push_straight};
-use crate::places::{fetch_word, fetched_at, keep_word, mask_test, read_word, set_word, told_at};
+use crate::places::{
+    fetch_word, fetched_at, flag_of, keep_word, mask_test, read_word, set_word, told_at,
+};
 use crate::registers::{
     FIRST, MASK, MORE, OVERRUN, RESULT, SECOND, SPARE, TEST, behind, pred, reg,
 };
@@ -20,16 +23,23 @@ use sp_shape::Part;
 use tc_word::{List, OutOfMemory};
 
 // the mask is handed to the function that is called
-fn hand_mask(out: &mut Vec<Part>, homes: u32, mask: u32) -> Result<(), OutOfMemory>
+#[tactic(auto, unfolding(crate::specs::Statements::handed_in))]
+fn hand_mask(out: &mut Vec<Part>, homes: Homes, mask: u32) -> Result<(), OutOfMemory>
     requires { mask < 128 }
     ensures { OnOk result (parts_of out.new.items
         ≡ joined (parts_of out.old.items) (one (straight (specs.mask_handed homes mask)))) }
 {
     let handed = reg(MASK);
-    let bundles = [
-        read_word(homes, handed, mask),
-        with_short(always(), ImmFunc::Xor, handed, handed, 1),
-    ];
+    let bundles = match flag_of(homes.flags, mask) {
+        Some(p) => [
+            set_short(always(), handed, 1),
+            set_short(where_so(p), handed, 0),
+        ],
+        None => [
+            read_word(homes.first, handed, mask),
+            with_short(always(), ImmFunc::Xor, handed, handed, 1),
+        ],
+    };
     push_straight(out, &bundles)
 }
 
@@ -88,7 +98,7 @@ pub fn call_of(
     ensures { OnOk result (parts_of out.new.items
         ≡ joined (parts_of out.old.items) (specs.call_code homes frame mask function slot)) }
 {
-    hand_mask(out, homes.first, mask)?;
+    hand_mask(out, homes, mask)?;
     push_call(out, function)?;
     come_back(out, homes, frame, mask, slot)
 }
@@ -121,7 +131,7 @@ fn send_test(homes: Homes, mask: u32) -> [Bundle; 11]
 
 // the registers of the interface are set
 fn send_start(core: u32) -> [Bundle; 4]
-    requires { core < 16 }
+    requires { core < MOST_CORES }
     ensures { result ≡ specs.send_start core }
 {
     let source = reg(FIRST);
@@ -139,7 +149,7 @@ fn send_start(core: u32) -> [Bundle; 4]
 /// A send, whose source, target and count stand in registers. It is `Err` where memory runs out.
 pub fn send(out: &mut Vec<Part>, homes: Homes, mask: u32, core: u32) -> Result<(), OutOfMemory>
     requires mask { mask < 128 }
-    requires core { core < 16 }
+    requires core { core < MOST_CORES }
     ensures { OnOk result (parts_of out.new.items
         ≡ joined (parts_of out.old.items) (one (straight (specs.send_code homes mask core)))) }
 {

@@ -1,5 +1,5 @@
 //! Which words of a function's frame stand in predicates.
-ghost use Rattle.std.specs.Prelude.{◌≡◌, is_none};
+ghost use Rattle.std.specs.Prelude.{◌≡◌, is_none, slice_index_or};
 ghost use Rattle.std.specs.List.{list_all};
 ghost use Rattle.sp_emit.specs.Places.{flag_words, capped};
 ghost use Rattle.sp_emit.specs.Fits.{FunctionFits};
@@ -15,16 +15,6 @@ use sp_tree::{SpBinary, SpExpr, SpFunction, SpStmt, SpTarget, tests_mask};
 
 // ---- when they may
 
-// whether no word does
-fn has_none(flags: Flags) -> bool
-    ensures { result ≡ list_all is_none (flag_words flags) }
-{
-    flags.first.is_none()
-        && flags.second.is_none()
-        && flags.third.is_none()
-        && flags.fourth.is_none()
-}
-
 fn target_hinders(flags: Flags, target: &SpTarget) -> bool
     ensures { result ≡ specs.target_hinders flags (plain_sp_target target.now) }
 {
@@ -34,7 +24,17 @@ fn target_hinders(flags: Flags, target: &SpTarget) -> bool
     }
 }
 
-// whether a statement writes one, sets one to what is no truth, or calls a function
+// whether the result of a call goes to one
+fn result_hinders(flags: Flags, slot: Option<u32>) -> bool
+    ensures { result ≡ specs.result_hinders flags slot }
+{
+    match slot {
+        None => false,
+        Some(slot) => flag_of(flags, slot).is_some(),
+    }
+}
+
+// whether a statement writes one, sets one to what is no truth, or has a call whose result goes to one
 #[cycle(hinders)]
 #[tactic(auto, unfolding(sp_tree::specs::Shown::plain_stmt))]
 fn statement_hinders(flags: Flags, t: &SpStmt) -> bool
@@ -43,7 +43,7 @@ fn statement_hinders(flags: Flags, t: &SpStmt) -> bool
     match t {
         SpStmt::Mask { slot, value } => flag_of(flags, *slot).is_some() && !is_truth(flags, value),
         SpStmt::Write { target, .. } => target_hinders(flags, target),
-        SpStmt::Call { .. } => !has_none(flags),
+        SpStmt::Call { result, .. } => result_hinders(flags, *result),
         SpStmt::Iterations { body, .. } => statements_hinder(flags, body.as_slice()),
         _ => false,
     }
@@ -388,10 +388,104 @@ fn most_flags(count: u32, flags: Flags, f: &SpFunction) -> Flags
     }
 }
 
-/// The words of a function that stand in predicates.
-pub fn flags_of(f: &SpFunction) -> Flags
-    requires fits { FunctionFits (plain_function f.now) }
-    ensures { result ≡ specs.flags_of (plain_function f.now) }
+// ---- from which predicate on
+
+// how many of the four the code of an earlier function may set
+fn spared_at(tops: &[u32], function: u32) -> u32
+    ensures { result ≡ slice_index_or tops.now function 4 }
 {
-    most_flags(4, choice_in(f).best, f)
+    match tops.get(function as usize) {
+        Some(top) => *top,
+        None => 4,
+    }
+}
+
+#[cycle(spared)]
+#[tactic(auto, unfolding(sp_tree::specs::Shown::plain_stmt))]
+fn statement_spared(tops: &[u32], t: &SpStmt) -> u32
+    ensures { result ≡ specs.stmt_spared tops.now (plain_stmt t.now) }
+{
+    match t {
+        SpStmt::Call { function, .. } => spared_at(tops, *function),
+        SpStmt::Iterations { body, .. } => statements_spared(tops, body.as_slice()),
+        _ => 0,
+    }
+}
+
+/// How many of the four predicates the code may set of the functions that statements call, where it is told of each earlier
+/// function how many its code may set.
+#[cycle(spared)]
+#[tactic(auto)]
+pub fn statements_spared(tops: &[u32], stmts: &[SpStmt]) -> u32
+    ensures { result ≡ specs.stmts_spared tops.now (stmts_of stmts.now) }
+{
+    let mut most = 0;
+    for t in stmts {
+        let spared = statement_spared(tops, t);
+        most = spared.max(most);
+    }
+    most
+}
+
+// words so many predicates further on
+fn moved_up(count: u32, flags: Flags) -> Flags
+    ensures { result ≡ specs.moved_up count flags }
+{
+    let Flags {
+        first,
+        second,
+        third,
+        ..
+    } = flags;
+    if count == 0 {
+        flags
+    } else if count == 1 {
+        Flags {
+            first: None,
+            second: first,
+            third: second,
+            fourth: third,
+        }
+    } else if count == 2 {
+        Flags {
+            first: None,
+            second: None,
+            third: first,
+            fourth: second,
+        }
+    } else if count == 3 {
+        Flags {
+            first: None,
+            second: None,
+            third: None,
+            fourth: first,
+        }
+    } else {
+        no_flags()
+    }
+}
+
+/// How many of the four predicates there are up to the last one that holds a word.
+pub fn flags_end(flags: Flags) -> u32
+    ensures { result ≡ specs.flags_end flags }
+{
+    if flags.fourth.is_some() {
+        4
+    } else if flags.third.is_some() {
+        3
+    } else if flags.second.is_some() {
+        2
+    } else if flags.first.is_some() {
+        1
+    } else {
+        0
+    }
+}
+
+/// The words of a function that stand in predicates, after so many of the four.
+pub fn flags_from(base: u32, f: &SpFunction) -> Flags
+    requires fits { FunctionFits (plain_function f.now) }
+    ensures { result ≡ specs.flags_from base (plain_function f.now) }
+{
+    most_flags(4, moved_up(base, choice_in(f).best), f)
 }

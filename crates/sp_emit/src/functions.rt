@@ -21,7 +21,7 @@ ghost use Rattle.sp_tree.specs.Statements.{no_function};
 ghost use Rattle.sp_tree.specs.Shown.{plain_function, plain_unit};
 ghost use Rattle.sp_tree.specs.Shown as trees;
 
-use crate::flags::{begun_body, flags_of};
+use crate::flags::{begun_body, flags_end, flags_from, statements_spared};
 use crate::instructions::{
     always, combine, compare_short, copy, from_special, idle, load_slot, returning, set_short,
     stack_op, store_slot, to_special, with_short,
@@ -218,10 +218,13 @@ fn functions(alloc: Global, fs: &[SpFunction]) -> Result<List<List<Part>>, OutOf
 {
     let mut made = Vec::new(alloc);
     let mut tops = Vec::new(alloc);
+    let mut spared = Vec::new(alloc);
     for f in fs {
         let first = homes_over(tops.as_slice(), f);
         tops.push(top_from(first, f))?;
-        let flags = flags_of(f);
+        let base = statements_spared(spared.as_slice(), f.body.as_slice());
+        let flags = flags_from(base, f);
+        spared.push(base.max(flags_end(flags)))?;
         let parts = function(alloc, Homes { first, flags }, f)?;
         made.push(parts)?;
     }

@@ -1,17 +1,14 @@
 //! Laws of code.
-ghost use Rattle.std.specs.Prelude.{◌≡◌, ◌+◌, ◌*◌, ◌<◌, ◌≤◌, ℕ, List, [], true, length, slice_index_or};
+ghost use Rattle.std.specs.Prelude.{◌≡◌, ◌+◌, ◌*◌, ◌<◌, ◌≤◌, ℕ, List, true, length, slice_index_or};
 ghost use Rattle.c_world.specs.World.{World};
 ghost use Rattle.std.specs.List.{Contains};
 ghost use Rattle.patmos_instr.specs.declared.memories.Mem.TheVariants as mem;
 ghost use Rattle.patmos_instr.specs.declared.memories.StoreWidth.{StoreWidth};
 ghost use Rattle.patmos_instr.specs.declared.memories.Width.{Width};
 ghost use Rattle.patmos_sem.specs.declared.effects.Effect.TheVariants as effect;
-ghost use Rattle.sp_tree.specs.Begun.{begun, straight};
 ghost use Rattle.sp_tree.specs.Formed.{is_formed};
-ghost use Rattle.sp_tree.specs.Need.{need};
-ghost use Rattle.sp_tree.specs.Plain.{PlainSp};
 ghost use Rattle.sp_tree.specs.Statements.{PlainFunction, PlainStmts, PlainUnit, no_function};
-ghost use Rattle.sp_tree.specs.Straight.{State, serves, stmts_done, worth};
+ghost use Rattle.sp_tree.specs.Straight.{State, serves, stmts_done};
 ghost use Rattle.sp_tree.specs.Uses.{Use, uses_of, are_apart};
 ghost use Rattle.sp_shape.specs.Bundles.{has_word, parts_all};
 ghost use Rattle.sp_shape.specs.Memory.{Memory};
@@ -19,50 +16,27 @@ ghost use Rattle.sp_shape.specs.Parts.{no_part};
 ghost use Rattle.stack_cache.specs.declared.stack.TheConstants.{STACK_END, STACK_LOWEST};
 ghost use Rattle.sp_shape.specs.Pointers.{pointers_of, AreWithinStack};
 ghost use Rattle.sp_shape.specs.Run.{Run, IsWhole, Back, Sources, at_begin, by_words, run};
-ghost use Rattle.sp_shape.specs.Trail.{Step, parts_trail, trail, trails};
+ghost use Rattle.sp_shape.specs.Trail.{parts_trail, trail, trails};
 ghost use Rattle.sp_shape.specs.Iterating.{ShapeIterations};
 ghost use Rattle.sp_emit.specs.Accesses.{MayAsk, AsksOnly};
 ghost use Rattle.sp_emit.specs.Chains.{chains};
 ghost use Rattle.sp_emit.specs.Counts.{HasCounts};
-ghost use Rattle.sp_emit.specs.Expressions.{expr_code};
-ghost use Rattle.sp_emit.specs.Fits.{ExprFits};
 ghost use Rattle.sp_emit.specs.Functions.{emitted, codes};
-ghost use Rattle.sp_emit.specs.Holding.{held, Keeps};
-ghost use Rattle.sp_emit.specs.Means.{Follows, IsReady, KeepsBehind, HoldsWords, HasConstants};
+ghost use Rattle.sp_emit.specs.Flags.{flag_top_of};
+ghost use Rattle.sp_emit.specs.Holding.{so};
+ghost use Rattle.sp_emit.specs.Means.{Follows, KeepsBehind, HasConstants};
 ghost use Rattle.sp_emit.specs.Places.{stack_word, word_of, top_of};
-ghost use Rattle.sp_emit.specs.Ran.{begun_memory, ran};
 ghost use Rattle.sp_emit.specs.Serving.{Answers, AreFunctions, AreStatements, CalledWith, ChangeNoMore};
 ghost use Rattle.sp_emit.specs.Statements.{stmts_code};
 ghost use Rattle.sp_tree.specs.declared.limits.TheConstants.{MOST_FRAME};
 ghost use Rattle.sp_emit.specs.declared.stands.Homes.{Homes};
 ghost use Rattle.sp_emit.specs.declared.registers.TheConstants.{RESULT, MASK, FIRST, SPARE, DIVIDEND, DIVISOR, REMAINDER, DIGITS, OVERRUN, TEST, SECOND, MORE, FLAGS};
 
-/// What the code of an expression leaves, from a register on. Whatever loads give, the registers below that one, those
-/// in which the words of a frame stand, the flag of loops, the stack and all memories are as they were. Where each load
-/// gives what was stored last in its word, the register holds the expression's value.
-pub fn expressions_are_worked_out()
-    ensures keeps { (from : Sources) (f : ℕ → List Step) (homes : Homes) (e : PlainSp) (rd : ℕ) (m : Run)
-        → ExprFits e rd → rd + need e ≤ homes.first → IsWhole m
-        → Keeps rd homes.first m (run from (parts_trail f (expr_code homes e rd)) m) }
-    ensures value { (f : ℕ → List Step) (homes : Homes) (slots : ℕ) (e : PlainSp) (rd : ℕ) (s : State) (m : Run)
-        → IsReady homes slots e rd s m
-        → held rd (run by_words (parts_trail f (expr_code homes e rd)) m) ≡ worth e s }
-{}
-
-/// What comes of a well-formed task's code, where each load gives what was stored last in its word: what the task's
-/// tree means, to whatever places its calls are said to return. Its result, the words of all memories but word 0, the
-/// transfers that it started and the flag are those of the tree, and the stack is as it was.
-pub fn tasks_do_what_they_mean()
-    ensures { (u : PlainUnit) (input : List ℕ) (shared comm : ℕ → ℕ) (backs : List Back) → is_formed u ≡ true
-        → HasConstants u.functions → HoldsWords (begun u input shared comm)
-        → Answers (straight u input shared comm) (at_begin (begun_memory u input shared comm) [] backs)
-        (ran u input shared comm backs) }
-{}
-
 /// What comes of the code of a function and of its statements, under whatever mask they are run, where each load gives
 /// what was stored last in its word. A function gives what its tree gives, and the words of the stack from its caller's
 /// frame on are as they were, so that the frames of its callers stand. So do the words of its callers wherever they
 /// stand, in registers or in the stack: each word of a window that begins at the end of the function's own, or after it.
+/// And so does each predicate after the last of the four that its code may set, where its callers have words.
 /// Statements leave the run where they leave the tree's state: the words of the frame that the tree names, all memories
 /// but word 0, the transfers and the flag; besides these they change registers below the window, and of the frame and its
 /// window the words up to a counter of iterations alone.
@@ -81,6 +55,8 @@ pub fn functions_do_what_they_give()
         → length args ≡ (slice_index_or fs k no_function).parameters → (k + 1) * MOST_FRAME ≤ m.st
         → CalledWith mask args w m → (homes slot : ℕ) → top_of fs k ≤ homes
         → word_of homes slot (run by_words (trails (codes fs) n k) m) ≡ word_of homes slot m }
+    ensures predicates { (fs : List PlainFunction) (n k : ℕ) (m : Run) → AreFunctions fs n → k < n → IsWhole m
+        → (p : ℕ) → FLAGS + flag_top_of fs k ≤ p → p < 8 → so p (run by_words (trails (codes fs) n k) m) ≡ so p m }
     ensures unchanged { (fs : List PlainFunction) (n : ℕ) → AreFunctions fs n → ChangeNoMore fs n }
     ensures statements { (fs : List PlainFunction) (n : ℕ) (homes : Homes) (frame slots counter : ℕ) (ts : PlainStmts) (s : State)
         (m : Run) → AreStatements fs n homes frame slots counter ts s m

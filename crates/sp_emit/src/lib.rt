@@ -11,10 +11,9 @@
 //! function has at most as many words as its tree costs, and that it takes at most as many words of the stack as its
 //! tree's frame has.
 //!
-//! [`tasks_do_what_they_mean`] says that what comes of a task's code is what its tree means, where each load
-//! gives what was stored last in its word. [`expressions_are_worked_out`] says it of an expression, and what
-//! its code keeps whatever loads give. [`loops_make_all_iterations`] says that the branches and returns of a task's
-//! code go where its trail goes on, and [`tasks_ask_for_what_they_name`] which words it may read and store, and
+//! What comes of a task's code is what its tree means, where each load gives what was stored last in its word: so
+//! [`emit`] promises, and [`functions_do_what_they_give`] says it of each function and of its statements.
+//! [`loops_make_all_iterations`] says that the branches and returns of a task's code go where its trail goes on, and [`tasks_ask_for_what_they_name`] which words it may read and store, and
 //! [`tasks_stay_within_the_stack`] that it never leaves the stack: all three whatever is loaded from outside
 //! the stack. Where these want the constants and the counts of a tree to be words, [`code_holds_the_constants`]
 //! says that they are if the constants of its code are.
@@ -55,9 +54,8 @@ mod writes;
 
 pub use functions::emit;
 pub use laws::{
-    code_holds_the_constants, expressions_are_worked_out, functions_do_what_they_give,
-    loops_make_all_iterations, registers_numbered, tasks_ask_for_what_they_name,
-    tasks_do_what_they_mean, tasks_stay_within_the_stack,
+    code_holds_the_constants, functions_do_what_they_give, loops_make_all_iterations,
+    registers_numbered, tasks_ask_for_what_they_name, tasks_stay_within_the_stack,
 };
 pub use registers::{
     DIGITS, DIVIDEND, DIVISOR, FIRST, FLAGS, MASK, MORE, OVERRUN, REMAINDER, RESULT, SECOND, SPARE,

@@ -9,6 +9,7 @@ ghost use Rattle.sp_tree.specs.Shown.{plain_sp_target, plain_stmt, stmts_of};
 ghost use Rattle.sp_tree.specs.Statements as plain;
 ghost use Rattle.sp_emit.specs.Expressions.{expr_code};
 ghost use Rattle.sp_emit.specs.declared.registers.TheConstants.{FIRST};
+ghost use Rattle.slot_arbiter.specs.declared.table.TheConstants.{MOST_CORES};
 
 use crate::calls::{begin_iterations, call_of, overrun, repeat, send};
 use crate::expressions::{expression, expression_to, operands};
@@ -154,7 +155,7 @@ fn send_of(
     count: &SpExpr,
 ) -> Result<(), OutOfMemory>
     requires mask { mask < 128 }
-    requires core { core < 16 }
+    requires core { core < MOST_CORES }
     requires source { ExprFits (plain_sp source.now) FIRST }
     requires target { ExprFits (plain_sp target.now) (FIRST + 1) }
     requires count { ExprFits (plain_sp count.now) (FIRST + 2) }

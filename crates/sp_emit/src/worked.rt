@@ -2,7 +2,7 @@
 ghost use Rattle.std.specs.Prelude.{◌≡◌, ◌-◌, ◌+◌, ◌^◌, [], ◌∷◌, None, Some};
 ghost use Rattle.patmos_sem.specs.Registers.{word_in};
 ghost use Rattle.sp_emit.specs.Arms.{arm, in_arm};
-ghost use Rattle.sp_emit.specs.Flags.{flags_of};
+ghost use Rattle.sp_emit.specs.Flags.{flags_from};
 ghost use Rattle.sp_emit.specs.Ran.{ran_alone};
 ghost use Rattle.sp_tree.specs.Plain.{constant, frame_word, array_word, between_two};
 ghost use Rattle.sp_tree.specs.Small as small;
@@ -15,7 +15,7 @@ use sp_tree::Region;
 /// `else`.
 #[tactic(auto, unfolding(crate::specs::Places::read_op, crate::specs::Places::fetch_op, crate::specs::Places::set_op, crate::specs::Places::cleared_in, crate::specs::Places::flag_of, crate::specs::Places::seek_op, crate::specs::Places::match_op, crate::specs::Instructions::number_op))]
 pub fn worked_masks()
-    ensures words { flags_of (small.entry_of (arm (between_two binary.Less (constant 3) (constant 4)) 2))
+    ensures words { flags_from 0 (small.entry_of (arm (between_two binary.Less (constant 3) (constant 4)) 2))
         ≡ record { first = Some 0; second = Some 2; third = Some 3; fourth = None } }
     ensures taken { word_in (ran_alone (in_arm (between_two binary.Less (constant 3) (constant 4)) 2) []).regs 1 ≡ 7 }
     ensures left { word_in (ran_alone (in_arm (between_two binary.Less (constant 4) (constant 3)) 2) []).regs 1 ≡ 0 }
@@ -33,7 +33,7 @@ pub fn worked_masks()
 {}
 
 /// A call that gives the difference of two words of the input, and its effect; nothing of the stack is left.
-#[tactic(auto, unfolding(crate::specs::Places::read_op, crate::specs::Places::fetch_op, crate::specs::Places::set_op, crate::specs::Places::cleared_in, crate::specs::Places::flag_of, crate::specs::Places::seek_op, crate::specs::Places::match_op, crate::specs::Instructions::number_op, crate::specs::Expressions::spare_op, crate::specs::Expressions::below_op, crate::specs::Expressions::scaled_op))]
+#[tactic(auto, unfolding(crate::specs::Places::read_op, crate::specs::Places::fetch_op, crate::specs::Places::set_op, crate::specs::Places::cleared_in, crate::specs::Places::flag_of, crate::specs::Places::seek_op, crate::specs::Places::match_op, crate::specs::Instructions::number_op, crate::specs::Statements::handed_in, crate::specs::Expressions::spare_op, crate::specs::Expressions::below_op, crate::specs::Expressions::scaled_op))]
 pub fn worked_calls()
     ensures value { word_in (ran_alone small.difference_unit (9 ∷ 4 ∷ [])).regs 1 ≡ 5 }
     ensures flag { word_in (ran_alone small.difference_unit (9 ∷ 4 ∷ [])).regs 2 ≡ 0 }

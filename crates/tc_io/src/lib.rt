@@ -9,6 +9,8 @@
 //! [`Bytes`], [`SureBytes`], [`Gather`] and [`SureGather`] are sources and sinks in memory;
 //! [`StdSource`] and [`StdSink`] are the edge to the real world, which no proof sees past.
 //!
+//! [`put`], [`put_with`] and the like append to a text. [`statuses`] has the numbers with which a program ends.
+//!
 //! What its words mean stands in [the glossary](../../../docs/GLOSSARY.md).
 #![tactic(auto)]
 
@@ -20,6 +22,7 @@ mod gate;
 mod read_all_bytes;
 mod sink;
 mod source;
+mod status;
 mod sure_bytes;
 mod sure_gather;
 mod text;
@@ -32,7 +35,11 @@ pub use gate::{FreeGate, Gate};
 pub use read_all_bytes::{ReadError, read_all};
 pub use sink::Sink;
 pub use source::{Failed, Source};
+pub use status::{
+    DONE, FAULTY_TEXT, MEMORY, NO_COMMAND, READ_FAULT, TASK_EARLY, TASK_REFUSED, WRITE_FAULT,
+    statuses,
+};
 pub use sure_bytes::SureBytes;
 pub use sure_gather::SureGather;
-pub use text::{put_decimal, put_hex8, put_number};
+pub use text::{put, put_decimal, put_hex8, put_number, put_with};
 pub use write_all_bytes::{Stopped, write_all};

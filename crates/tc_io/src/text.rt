@@ -23,6 +23,22 @@ pub fn put_number(text: &mut Vec<u8>, number: u64) -> Result<(), OutOfMemory>
     text.extend_from_slice(digits.format(number).as_bytes())
 }
 
+/// Appends words.
+pub fn put(text: &mut Vec<u8>, words: &str) -> Result<(), OutOfMemory>
+    ensures appended { OnOk result (text.new.items ≡ text.old.items ++ words.now) }
+    ensures unchanged { OnErr result (text.new.items ≡ text.old.items) }
+{
+    text.extend_from_slice(words.as_bytes())
+}
+
+/// Appends words, and a number without a sign in decimal after them.
+pub fn put_with(text: &mut Vec<u8>, words: &str, number: u64) -> Result<(), OutOfMemory>
+    ensures { OnOk result (text.new.items ≡ text.old.items ++ (words.now ++ decimal number)) }
+{
+    put(text, words)?;
+    put_number(text, number)
+}
+
 /// Appends a word as eight lower-case hexadecimal digits, the highest first.
 pub fn put_hex8(text: &mut Vec<u8>, value: u32) -> Result<(), OutOfMemory>
     ensures appended { OnOk result (text.new.items ≡ text.old.items ++ hex8 value) }

@@ -6,8 +6,11 @@ ghost use Rattle.tc_toml.specs.Fault.{Gives};
 ghost use Rattle.tc_job.specs.Job as specs;
 ghost use Rattle.tc_job.specs.Ranges.{IsPlatform};
 ghost use Rattle.tc_toml.specs.Values.{Reads};
+ghost use Rattle.slot_arbiter.specs.declared.place.TheConstants.{LEAST_SLOT, MOST_SLOT};
+ghost use Rattle.slot_arbiter.specs.declared.table.TheConstants.{MOST_CORES};
 
 use crate::slots::{slot_table, table_in_turn};
+use slot_arbiter::{LEAST_SLOT, MOST_CORES, MOST_SLOT};
 use tc_toml::{JobError, Refusal, Section};
 use tc_word::List;
 
@@ -29,7 +32,7 @@ pub fn platform_in(top: &Section<'_>) -> Result<Platform, JobError>
 {
     let version = top.number("version", 1, 2)?;
     let cores = top.number("cores", 1, most_cores(version))?;
-    let slot = top.number("slot", 6, 64)?;
+    let slot = top.number("slot", LEAST_SLOT, MOST_SLOT)?;
     let table = top.reported("table", table_in(top, version, cores, slot))?;
     Ok(Platform {
         version,
@@ -42,17 +45,17 @@ pub fn platform_in(top: &Section<'_>) -> Result<Platform, JobError>
 /// The most cores of a job of a version.
 fn most_cores(version: u32) -> u32
     ensures value { result ≡ specs.most_cores version }
-    ensures most { result ≤ 16 }
+    ensures most { result ≤ MOST_CORES }
 {
-    if version == 2 { 16 } else { 8 }
+    if version == 2 { MOST_CORES } else { 8 }
 }
 
 /// The slot table of a job: stated in version 2, and the cores in turn in version 1.
 fn table_in(top: &Section<'_>, version: u32, cores: u32, slot: u32) -> Result<List<u32>, Refusal>
     requires some { 1 ≤ cores }
-    requires most { cores ≤ 16 }
-    requires slot_least { 6 ≤ slot }
-    requires slot_most { slot ≤ 64 }
+    requires most { cores ≤ MOST_CORES }
+    requires slot_least { LEAST_SLOT ≤ slot }
+    requires slot_most { slot ≤ MOST_SLOT }
     ensures table { Reads (λ entries. entries) result
         (specs.table_in version cores (get_member (codes "table") (table_view top.now.table.now))) }
     ensures fits { IfOk result (λ entries. IsTrue (is_table cores entries)) }

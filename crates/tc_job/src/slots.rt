@@ -3,6 +3,8 @@ ghost use Rattle.slot_arbiter.specs.Table.{in_turn, is_table};
 ghost use Rattle.toml.specs.View.{view};
 ghost use Rattle.tc_job.specs.SlotTable as specs;
 ghost use Rattle.tc_toml.specs.Values.{Reads, each_of, given};
+ghost use Rattle.slot_arbiter.specs.declared.place.TheConstants.{LEAST_SLOT, MOST_SLOT};
+ghost use Rattle.slot_arbiter.specs.declared.table.TheConstants.{MOST_CORES};
 
 use slot_arbiter::{Place, Table};
 use std::alloc::Global;
@@ -57,9 +59,9 @@ fn core_of(integer: i64, cores: u32) -> Option<u32>
 /// The slot table of a platform that states none, as the arbiter has it.
 pub fn table_in_turn(alloc: Global, cores: u32, slot: u32) -> Result<List<u32>, OutOfMemory>
     requires some { 1 ≤ cores }
-    requires most { cores ≤ 16 }
-    requires slot_least { 6 ≤ slot }
-    requires slot_most { slot ≤ 64 }
+    requires most { cores ≤ MOST_CORES }
+    requires slot_least { LEAST_SLOT ≤ slot }
+    requires slot_most { slot ≤ MOST_SLOT }
     ensures order { IfOk result (λ entries. entries ≡ in_turn cores) }
     ensures fits { IfOk result (λ entries. IsTrue (is_table cores entries)) }
 {

@@ -5,6 +5,7 @@ ghost use Rattle.tc_toml.specs.Fault.{Gives, at_key};
 ghost use Rattle.tc_job.specs.Ranges.{IsTaskAmong};
 ghost use Rattle.tc_job.specs.Task as specs;
 ghost use Rattle.tc_toml.specs.Values.{Reads};
+ghost use Rattle.slot_arbiter.specs.declared.table.TheConstants.{MOST_CORES};
 
 use crate::input::input_of;
 use crate::keys::{Level, know_keys};
@@ -41,7 +42,7 @@ pub struct Task {
 #[tactic(auto, using(crate::proofs::Tasks::more_tasks, crate::proofs::Tasks::no_task, crate::proofs::Tasks::all_tasks, crate::proofs::Tasks::cores_push, crate::proofs::Tasks::among_push, crate::proofs::Tasks::few_tasks, crate::proofs::Tasks::apart_tasks))]
 pub fn tasks_of(alloc: Global, tables: &[&Table], cores: u32) -> Result<List<Task>, JobError>
     requires some { 1 ≤ cores }
-    requires most { cores ≤ 16 }
+    requires most { cores ≤ MOST_CORES }
     ensures tasks { Gives (λ tasks. tasks) result (specs.tasks_from cores [] (map (λ t. table_view t.now) tables.now)) }
     ensures among { IfOk result (All (IsTaskAmong cores)) }
     ensures apart { IfOk result (AllPairs (λ s t. s.core ≢ t.core)) }

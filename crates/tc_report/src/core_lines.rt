@@ -4,9 +4,9 @@ ghost use Rattle.tc_report.specs.Line as specs;
 ghost use Rattle.tc_report.specs.Report.{out_lines, state_line};
 
 use crate::rows::{Row, RowState};
-use crate::text::{put, put_about, put_signed, put_with};
+use crate::text::{put_about, put_signed};
 use slot_arbiter::Access;
-use tc_io::put_number;
+use tc_io::{put, put_number, put_with};
 use tc_word::OutOfMemory;
 
 /// Appends the line that tells what became of a core's task.

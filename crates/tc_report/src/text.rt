@@ -1,24 +1,8 @@
 ghost use Rattle.std.specs.Prelude.{◌≡◌, ◌++◌, OnOk};
-ghost use Rattle.std.specs.Fmt.{decimal};
 ghost use Rattle.tc_report.specs.Line as specs;
 
-use tc_io::{put_decimal, put_number};
+use tc_io::{put, put_decimal, put_with};
 use tc_word::OutOfMemory;
-
-/// Appends words.
-pub fn put(text: &mut Vec<u8>, words: &str) -> Result<(), OutOfMemory>
-    ensures { OnOk result (text.new.items ≡ text.old.items ++ words.now) }
-{
-    text.extend_from_slice(words.as_bytes())
-}
-
-/// Appends words, and a number after them.
-pub fn put_with(text: &mut Vec<u8>, words: &str, number: u64) -> Result<(), OutOfMemory>
-    ensures { OnOk result (text.new.items ≡ text.old.items ++ (words.now ++ decimal number)) }
-{
-    put(text, words)?;
-    put_number(text, number)
-}
 
 /// Appends a word in decimal, read as signed.
 pub fn put_signed(text: &mut Vec<u8>, word: u32) -> Result<(), OutOfMemory>

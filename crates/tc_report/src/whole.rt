@@ -3,8 +3,8 @@ ghost use Rattle.tc_report.specs.Report as specs;
 
 use crate::core_lines::{add_state_line, put_accesses, put_dropped, put_out_lines};
 use crate::rows::{Row, Rows};
-use crate::text::{put, put_with};
 use std::alloc::Global;
+use tc_io::{put, put_with};
 use tc_word::OutOfMemory;
 
 /// The report of a machine's end, one row for each core.

@@ -1,5 +1,6 @@
 ghost use Rattle.std.specs.Prelude.{◌≡◌, ◌≤◌, ◌<◌, length, IfOk};
 ghost use Rattle.tc_run.specs.Begun.{IsBegun};
+ghost use Rattle.slot_arbiter.specs.declared.table.TheConstants.{MOST_CORES};
 
 use global_step::{Loaded, LoadedCore};
 use patmos_core::Core;
@@ -20,7 +21,7 @@ pub(crate) fn core_of(alloc: Global, loaded: &LoadedCore, trace: u32) -> Result<
 pub(crate) fn count_of(machine: &Loaded) -> usize
     ensures count { result ≡ length machine.now.cores }
     ensures some { 0 < result }
-    ensures few { result ≤ 16 }
+    ensures few { result ≤ MOST_CORES }
 {
     let cores = machine.cores();
     let _most = cores[0].place.cores;

@@ -1,11 +1,9 @@
 ghost use Rattle.std.specs.Prelude.{◌≡◌, ℕ, ◌≤◌, length, IfSome};
-ghost use Rattle.std.specs.List.{AllByRecursion as Each};
-ghost use Rattle.patmos_model.specs.Range.{IsWord, HasCode};
 ghost use Rattle.global_step.specs.Range.{HoldsWords, IsOfWords};
 
 use crate::begin::count_of;
 use global_step::{Loaded, LoadedCore};
-use patmos_code::Image;
+use patmos_model::{image_fits, words_fit};
 
 /// A machine is loaded with words of 32 bits, as its types say. It looks at each core and changes nothing.
 pub fn loaded_with_words(machine: &Loaded)
@@ -23,22 +21,6 @@ fn core_of_words(core: &LoadedCore)
 {
     words_fit(core.input.as_slice());
     if let Some(image) = &core.image {
-        image_of_words(image);
+        image_fits(image);
     }
 }
-
-// the code and the first words of an image are words of 32 bits
-#[tactic(auto, using(patmos_model::proofs::HeldWords::each_index))]
-fn image_of_words(image: &Image)
-    ensures code { HasCode image.now }
-    ensures initial { Each IsWord image.now.initial }
-{
-    words_fit(image.words());
-    words_fit(image.starts());
-    words_fit(image.initial());
-}
-
-// the numbers of a slice of `u32` are words
-fn words_fit(words: &[u32])
-    ensures { Each IsWord words.now }
-{}

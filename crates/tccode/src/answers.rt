@@ -9,6 +9,7 @@ ghost use Rattle.tccode.specs.Codes.{TellsCodes, TellsJob};
 use crate::texts::job_text;
 use job_tasks::{Answer, Halt, RangedJob, coded_tasks, no_job, refusal_answer, whole};
 use std::alloc::{AllocError, Global};
+use tc_io::NO_COMMAND;
 use tc_job::read_job;
 use tc_toml::JobError;
 use tc_word::{List, OutOfMemory};
@@ -48,7 +49,7 @@ pub fn usage_answer(alloc: Global) -> Result<Answer, OutOfMemory>
     ensures { IfOk result (λ answer. answer ≡ specs.usage) }
 {
     Ok(Answer {
-        status: 1,
+        status: NO_COMMAND,
         text: List::of(Vec::from_slice(alloc, USAGE)?),
     })
 }

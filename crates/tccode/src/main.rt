@@ -13,10 +13,10 @@ mod tests;
 mod texts;
 mod top;
 
-use job_tasks::{MEMORY, words_of};
+use job_tasks::words_of;
 use std::io;
 use std::process::ExitCode;
-use tc_io::{StdSink, StdSource};
+use tc_io::{MEMORY, StdSink, StdSource};
 use top::tccode;
 
 fn main(rt: HostRuntime) -> ExitCode {

@@ -5,9 +5,9 @@ ghost use Rattle.tccode.specs.Answer.{answer, bytes_answer, usage};
 ghost use Rattle.tccode.specs.Codes.{TellsJob};
 
 use crate::answers::{text_answer, usage_answer};
-use job_tasks::{MEMORY, MOST_BYTES, READ_FAULT, READ_FAULT_LINE, TOO_LONG_LINE, finish};
+use job_tasks::{MOST_BYTES, READ_FAULT_LINE, TOO_LONG_LINE, finish};
 use std::alloc::Global;
-use tc_io::{ReadError, Sink, Source, read_all};
+use tc_io::{MEMORY, READ_FAULT, ReadError, Sink, Source, read_all};
 use tc_word::Text;
 
 /// Reads a job from `source`, writes the code of its C tasks to `sink`, core after core, and returns the status.

@@ -1,5 +1,5 @@
 -- For proofs. What `pipe` tells of its core, as the code makes it.
-use Rattle.std.specs.Prelude.{ℕ, false, [], ◌∷◌, None, Some}
+use Rattle.std.specs.Prelude.{ℕ, [], ◌∷◌, Some}
 use Rattle.c_mentions.specs.Alone.{is_alone}
 use Rattle.patmos_model.specs.Outcome.{state_at}
 use Rattle.patmos_model.specs.State.{Core}
@@ -10,25 +10,13 @@ use Rattle.tc_report.specs.declared.rows.Row.{Row}
 use Rattle.job_tasks.specs.declared.answers.Answer.{Answer}
 use Rattle.job_tasks.specs.Tasks.{Runs, nothing, assembly, program}
 use Rattle.tcrest.specs.Pipe.{pipe_of}
-use Rattle.tcrest.specs.Rows.{is_flagged, row_state, running}
+use Rattle.tcrest.specs.Rows.{bare_row, is_flagged, running}
 
 -- the row has no words, starts or transactions
-abbrev pub silent_row : CoreState → Row
-silent_row s = record {
-  state = row_state s;
-  bound = None;
-  alone = false;
-  overrun = false;
-  outs = [];
-  outs_unsigned = false;
-  dropped = 0;
-  accesses = [];
-}
-
 abbrev pub told_row : Runs → CoreState → Row
-told_row nothing s = silent_row s
-told_row assembly s = silent_row s
-told_row (program p) s = record (silent_row s) {
+told_row nothing s = bare_row s
+told_row assembly s = bare_row s
+told_row (program p) s = record (bare_row s) {
   bound = Some p.bound;
   alone = is_alone 0 (running (program p) ∷ []);
   overrun = is_flagged s;

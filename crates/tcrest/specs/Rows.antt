@@ -57,30 +57,34 @@ is_unsigned_out (Some s) = s.unsigned
 
 -- ---- rows
 
--- a core without a program: what became of it at the limit, and so many of its transactions
-abbrev pub plain_row : ℕ → ℕ → Core → Row
-plain_row limit trace x = record {
-  state = row_state (state_at limit x.plain);
+-- how a core without a program ended, and nothing else
+abbrev pub bare_row : CoreState → Row
+bare_row s = record {
+  state = row_state s;
   bound = None;
   alone = false;
   overrun = false;
   outs = [];
   outs_unsigned = false;
+  dropped = 0;
+  accesses = [];
+}
+
+-- a core without a program: what became of it at the limit, and so many of its transactions
+abbrev pub plain_row : ℕ → ℕ → Core → Row
+plain_row limit trace x = record (bare_row (state_at limit x.plain)) {
   dropped = x.plain.interface.dropped;
   accesses = take trace x.seen.accesses;
 }
 
 -- a core with a program, among what all cores run
 abbrev pub program_row : ℕ → ℕ → List Running → ℕ → Bounded → Core → Row
-program_row limit trace all core p x = record {
-  state = row_state (state_at limit x.plain);
+program_row limit trace all core p x = record (plain_row limit trace x) {
   bound = Some p.bound;
   alone = is_alone core all;
   overrun = is_flagged (state_at limit x.plain);
   outs = words_out (own_world x.plain) (output_slot p.items);
   outs_unsigned = is_unsigned_out (output_slot p.items);
-  dropped = x.plain.interface.dropped;
-  accesses = take trace x.seen.accesses;
 }
 
 abbrev pub row_of : ℕ → ℕ → List Running → ℕ → Runs → Core → Row

@@ -26,7 +26,7 @@ use job_tasks::{Answer, CodedTask, Halt, RangedJob, coded_tasks, no_job, refusal
 use std::alloc::{AllocError, Global};
 use std::sync::Wait;
 use std::thread::Threads;
-use tc_io::Gate;
+use tc_io::{Gate, NO_COMMAND};
 use tc_job::{Job, read_job};
 use tc_report::Row;
 use tc_run::{loaded_with_words, run_machine};
@@ -108,7 +108,7 @@ fn usage_answer(alloc: Global) -> Result<Answer, OutOfMemory>
     ensures { IfOk result (λ answer. answer ≡ specs.usage) }
 {
     Ok(Answer {
-        status: 1,
+        status: NO_COMMAND,
         text: List::of(Vec::from_slice(alloc, USAGE)?),
     })
 }

@@ -25,10 +25,10 @@ mod tests;
 mod thread_tests;
 mod top;
 
-use job_tasks::{MEMORY, words_of};
+use job_tasks::words_of;
 use std::io;
 use std::process::ExitCode;
-use tc_io::{FreeGate, StdSink, StdSource};
+use tc_io::{FreeGate, MEMORY, StdSink, StdSource};
 use top::tcrest;
 
 fn main(rt: HostRuntime) -> ExitCode {

@@ -11,7 +11,7 @@ ghost use Rattle.tcrest.specs.PipeTold.{pipe_told, told_row};
 ghost use Rattle.tcrest.specs.Pipe as specs;
 ghost use Rattle.tcrest.specs.Rows as rows_specs;
 
-use crate::rows::{all_running, is_flagged, row_state, status_of};
+use crate::rows::{all_running, bare_row, is_flagged, status_of};
 use c_mentions::is_alone;
 use job_tasks::{Answer, CodedTask, CoreTask, RangedJob};
 use patmos_code::Image;
@@ -20,6 +20,7 @@ use pipe_five::{Beat, PipeCore};
 use slot_arbiter::{MOST_CYCLES, Place};
 use std::alloc::Global;
 use std::slice;
+use tc_io::FAULTY_TEXT;
 use tc_job::Job;
 use tc_report::{Row, put_platform_line, put_state_line, put_step_line};
 use tc_word::{List, OutOfMemory};
@@ -67,7 +68,10 @@ pub fn fault_answer(alloc: Global, fault: PipeFault) -> Result<Answer, OutOfMemo
     text.extend_from_slice(fault.name())?;
     text.extend_from_slice(b"\n")?;
     let text = List::of(text);
-    Ok(Answer { status: 2, text })
+    Ok(Answer {
+        status: FAULTY_TEXT,
+        text,
+    })
 }
 
 /// The answer about the five stages of the only core of a job, whose task is made, if it has one.
@@ -159,16 +163,7 @@ fn end_row(alloc: Global, task: &CoreTask, state: CoreState) -> Result<Row, OutO
     ensures { IfOk result (λ row. row ≡ told_row (runs task.now) state) }
 {
     let all = all_running(alloc, slice::from_ref(task))?;
-    let row = Row {
-        state: row_state(state),
-        bound: None,
-        alone: false,
-        overrun: false,
-        outs: List::of(Vec::new(alloc)),
-        outs_unsigned: false,
-        dropped: 0,
-        accesses: List::of(Vec::new(alloc)),
-    };
+    let row = bare_row(alloc, state);
     match task {
         CoreTask::Idle => Ok(row),
         CoreTask::Assembly => Ok(row),

@@ -10,6 +10,7 @@ ghost use Rattle.tc_run.specs.Final.{IsFinalCore, AreFinal};
 ghost use Rattle.job_tasks.specs.Coding.{runs};
 ghost use Rattle.tcrest.specs.Meanings.{output_slot};
 ghost use Rattle.tcrest.specs.Rows as specs;
+ghost use Rattle.slot_arbiter.specs.declared.table.TheConstants.{MOST_CORES};
 
 use crate::output::{Output, output_in};
 use c_mentions as mentions;
@@ -17,13 +18,14 @@ use c_mentions::is_alone;
 use job_tasks::{CoreTask, Program, RangedJob};
 use patmos_core::{Core, CoreState};
 use std::alloc::Global;
+use tc_io::{DONE, TASK_EARLY};
 use tc_report::{Row, RowState, Rows, report};
 use tc_run::{accesses_of, dropped_of, outcome_of};
 use tc_word::{List, OutOfMemory};
 
 /// The rows of the cores of a machine at its limit, which run these tasks.
 pub fn rows_of(alloc: Global, cores: &[Core], tasks: &[CoreTask]) -> Result<Vec<Row>, OutOfMemory>
-    requires few { length cores.now ≤ 16 }
+    requires few { length cores.now ≤ MOST_CORES }
     requires count { length tasks.now ≡ length cores.now }
     ensures { IfOk result (λ rows. (m : Machine) → AreFinal m cores.now
         → rows.items ≡ specs.rows_of m.limit m.trace (map runs tasks.now) (at_limit m)) }
@@ -70,7 +72,7 @@ fn row_of(
     task: &CoreTask,
     core: &Core,
 ) -> Result<Row, OutOfMemory>
-    requires few { number < 16 }
+    requires few { number < MOST_CORES }
     ensures { IfOk result (λ row. (m : Machine) (k : ℕ) → IsFinalCore m k core.now
         → row ≡ specs.row_of m.limit m.trace (map mentioned all.now) number (runs task.now) ((at_limit m).cores k)) }
 {
@@ -89,15 +91,26 @@ fn plain_row(alloc: Global, core: &Core) -> Result<Row, OutOfMemory>
 {
     let accesses = Vec::from_slice(alloc, accesses_of(core))?;
     Ok(Row {
-        state: row_state(outcome_of(core)),
+        dropped: dropped_of(core),
+        accesses: List::of(accesses),
+        ..bare_row(alloc, outcome_of(core))
+    })
+}
+
+/// A row that tells how a core without a program ended, and nothing else.
+pub fn bare_row(alloc: Global, outcome: CoreState) -> Row
+    ensures { result ≡ specs.bare_row outcome }
+{
+    Row {
+        state: row_state(outcome),
         bound: None,
         alone: false,
         overrun: false,
         outs: List::of(Vec::new(alloc)),
         outs_unsigned: false,
-        dropped: dropped_of(core),
-        accesses: List::of(accesses),
-    })
+        dropped: 0,
+        accesses: List::of(Vec::new(alloc)),
+    }
 }
 
 // the row with what is reported of a program besides
@@ -158,7 +171,7 @@ pub fn row_state(outcome: CoreState) -> RowState
 pub fn status_of(rows: &[Row]) -> u8
     ensures { result ≡ specs.status_of rows.now }
 {
-    if has_early(rows) { 3 } else { 0 }
+    if has_early(rows) { TASK_EARLY } else { DONE }
 }
 
 fn has_early(rows: &[Row]) -> bool

@@ -12,11 +12,11 @@ ghost use Rattle.job_tasks.specs.Outcome.{Ends, IsAnswered, HasWritten};
 
 use crate::answers::{text_answer, unread_answer};
 use crate::command::{Command, command_of};
-use job_tasks::{MEMORY, MOST_BYTES, READ_FAULT, READ_FAULT_LINE, TOO_LONG_LINE, finish};
+use job_tasks::{MOST_BYTES, READ_FAULT_LINE, TOO_LONG_LINE, finish};
 use std::alloc::Global;
 use std::sync::Wait;
 use std::thread::Threads;
-use tc_io::{Gate, ReadError, Sink, Source, read_all};
+use tc_io::{Gate, MEMORY, READ_FAULT, ReadError, Sink, Source, read_all};
 use tc_word::Text;
 
 /// Does what the words ask for: reads the text from `source` where they are a command that reads one,

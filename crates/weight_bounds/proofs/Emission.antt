@@ -29,11 +29,11 @@ use Rattle.sp_emit.specs.Functions.{first_counter, frame_words, argument_kept, a
 use Rattle.sp_emit.specs.Instructions.{always, where_so, under, set_number, combine}
 use Rattle.sp_emit.specs.Places.{flag_of, mask_test, seek_word, match_word, told_at, read_word, fetch_word, fetched_at, keep_word, set_word, words_cleared}
 use Rattle.sp_emit.specs.Truths.{bit_sought}
-use Rattle.sp_emit.specs.Statements.{cell_write, element_write, target_write, guarded_code, args_code, call_code, send_code, overrun_code, iterations_begin, iterations_tail, slot_set, stmt_code, stmts_code}
+use Rattle.sp_emit.specs.Statements.{cell_write, element_write, target_write, guarded_code, args_code, call_code, send_code, overrun_code, iterations_begin, iterations_tail, slot_set, stmt_code, stmts_code, mask_handed}
 use Rattle.sp_emit.specs.declared.registers.TheConstants.{RESULT, MASK, FIRST, SPARE, TEST, SECOND}
 use Rattle.sp_emit.proofs.BegunBody.{begun_is}
 use Rattle.sp_emit.proofs.Codes.{kept_is, brought_is, taken_is, freed_is}
-use Rattle.sp_emit.proofs.FlagWords.{seek_is, match_is, cleared_all}
+use Rattle.sp_emit.proofs.FlagWords.{seek_is, match_is, cleared_all, handed_is}
 use Rattle.sp_emit.proofs.Held.{held_is}
 use Rattle.sp_emit.proofs.Lasts.{is_alu, write_is}
 use Rattle.sp_emit.proofs.Numbers.{number_op_is}
@@ -228,13 +228,16 @@ guarded_few most homes mask e op some within alu =
     few_both most 0 0 (operands_code homes e FIRST) (one (straight (mask_test homes mask ++ under (where_so (told_at homes mask)) op ∷ []))) (operands_few most homes e FIRST some within)
     (few_straight most 0 (mask_test homes mask ++ under (where_so (told_at homes mask)) op ∷ []) some (omega (arith, seek_past homes mask, match_past homes mask, alu_past (where_so (told_at homes mask)) op alu)))
 
+handed_past : (homes : Homes) (mask : ℕ) → bundles_past (mask_handed homes mask) ≤ 0
+handed_past homes mask = handed_is (λ bs. bundles_past bs ≤ 0) homes mask (λ p is. omega arith) (λ none. omega (arith, read_past homes.first MASK mask))
+
 call_few : (most : ℕ) (homes : Homes) (frame mask k : ℕ) (result : Option ℕ) → 1 ≤ most → IsFew most 1 (call_code homes frame mask k result)
-call_few most homes frame mask k None some = record { some = some; iterations = omega (arith, some); calls = omega arith; past = omega (arith, read_past homes.first MASK mask) }
+call_few most homes frame mask k None some = record { some = some; iterations = omega (arith, some); calls = omega arith; past = omega (arith, handed_past homes mask) }
 call_few most homes frame mask k (Some slot) some = record {
   some = some;
   iterations = omega (arith, some);
   calls = omega arith;
-  past = omega (arith, read_past homes.first MASK mask, seek_past homes mask, match_past homes mask, set_past homes.first (where_so (told_at homes mask)) slot RESULT);
+  past = omega (arith, handed_past homes mask, seek_past homes mask, match_past homes mask, set_past homes.first (where_so (told_at homes mask)) slot RESULT);
 }
 
 repeated_few : (homes count counter most made : ℕ) (body : PlainParts) → IsFew most made body
@@ -314,7 +317,7 @@ begin_past homes f =
       past_append (words_cleared homes (slots_of f)) (arguments_kept homes.first f.parameters ++ state_kept homes f),
       past_append (arguments_kept homes.first f.parameters) (state_kept homes f),
       taken_is (λ bs. bundles_past bs ≤ 31) (frame_words homes.first f) (omega arith) (omega arith),
-      none_past (words_cleared homes (slots_of f)) (cleared_all (λ b. bundle_past b == 0) homes (slots_of f) (λ p. refl) (λ r. refl)),
+      none_past (words_cleared homes (slots_of f)) (cleared_all (λ b. bundle_past b == 0) homes (slots_of f) (λ slot p is. refl) (λ r. refl)),
       arguments_past homes.first f.parameters,
       past_append (mask_kept homes f) (place_kept homes.first f),
       mask_past homes f,

@@ -1,7 +1,8 @@
 use Rattle.std.proofs.Common.{◌≡◌, ◌∙◌, max, ap, arith}
 use Rattle.c_tree.specs.Depth.{expr_depth, steps_depth}
 use Rattle.c_tree.specs.Plain.{plain_expr}
-use Rattle.c_tree.proofs.Plains.{steps_of, plain_chain}
+use Rattle.c_tree.specs.Plains.{steps_of}
+use Rattle.c_tree.proofs.Plains.{plain_chain}
 use Rattle.c_check.specs.Capped.{capped}
 use Rattle.c_check.proofs.depths.+expression.Goals as goal
 

@@ -1,6 +1,6 @@
 use Rattle.std.proofs.Common.{◌≡◌, max, drop}
 use Rattle.c_tree.specs.Depth.{steps_depth}
-use Rattle.c_tree.proofs.Plains.{steps_of}
+use Rattle.c_tree.specs.Plains.{steps_of}
 use Rattle.c_check.specs.Capped.{capped}
 use Rattle.c_check.proofs.depths.+expression.Given as goal
 

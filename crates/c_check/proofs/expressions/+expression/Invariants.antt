@@ -2,7 +2,7 @@ use Rattle.std.proofs.Common.{◌≡◌, ◌+◌, take, drop}
 use Rattle.std.specs.Prelude.{sum_by}
 use Rattle.c_tree.specs.Least.{least_with}
 use Rattle.c_tree.specs.Checks.{steps_faults}
-use Rattle.c_tree.proofs.Plains.{steps_of}
+use Rattle.c_tree.specs.Plains.{steps_of}
 use Rattle.c_check.specs.Open.{names_of}
 use Rattle.c_check.proofs.Sums.{step_size}
 use Rattle.c_check.proofs.expressions.+expression.Given as goal

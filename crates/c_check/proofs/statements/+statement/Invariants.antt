@@ -2,7 +2,7 @@ use Rattle.std.proofs.Common.{◌≡◌, ◌+◌, length, take, drop}
 use Rattle.std.specs.Prelude.{sum_by}
 use Rattle.c_tree.specs.Least.{least_with}
 use Rattle.c_tree.specs.Checks.{block_faults, arms_faults}
-use Rattle.c_tree.proofs.Plains.{block_of, arms_of}
+use Rattle.c_tree.specs.Plains.{block_of, arms_of}
 use Rattle.c_check.specs.Open.{names_of}
 use Rattle.c_check.proofs.Sums.{statement_size, next_size}
 use Rattle.c_check.proofs.statements.+statement.Given as goal

@@ -1,7 +1,8 @@
 use Rattle.std.proofs.Common.{◌≡◌, ◌+◌, ◌∙◌, ap, sym, arith}
 use Rattle.c_tree.specs.Weight.{expr_weight, steps_weight}
 use Rattle.c_tree.specs.Plain.{plain_expr}
-use Rattle.c_tree.proofs.Plains.{steps_of, plain_chain}
+use Rattle.c_tree.specs.Plains.{steps_of}
+use Rattle.c_tree.proofs.Plains.{plain_chain}
 use Rattle.c_check.specs.Capped.{capped}
 use Rattle.std.specs.Prelude.{sum_by}
 use Rattle.std.proofs.lemmas.List.{take_all}

@@ -1,7 +1,8 @@
 use Rattle.std.proofs.Common.{◌≡◌, ◌+◌, ◌∙◌, ap, sym, arith}
 use Rattle.c_tree.specs.Weight.{stmt_weight, block_weight, arms_weight, head_weight, otherwise_weight}
 use Rattle.c_tree.specs.Plain.{plain_stmt, plain_head}
-use Rattle.c_tree.proofs.Plains.{block_of, arms_of, otherwise_of, plain_if, plain_loop}
+use Rattle.c_tree.specs.Plains.{block_of, arms_of, otherwise_of}
+use Rattle.c_tree.proofs.Plains.{plain_if, plain_loop}
 use Rattle.c_check.specs.Capped.{capped}
 use Rattle.std.specs.Prelude.{sum_by}
 use Rattle.std.proofs.lemmas.List.{take_all}

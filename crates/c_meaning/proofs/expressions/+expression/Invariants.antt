@@ -1,5 +1,5 @@
 use Rattle.std.proofs.Common.{◌≡◌, drop}
-use Rattle.c_tree.proofs.Plains.{steps_of}
+use Rattle.c_tree.specs.Plains.{steps_of}
 use Rattle.sp_tree.specs.Plain.{plain_sp}
 use Rattle.c_meaning.specs.Open.{names_of}
 use Rattle.c_meaning.specs.Resolve.{resolved_steps}

@@ -1,5 +1,5 @@
 use Rattle.std.proofs.Common.{◌≡◌, ◌++◌, sym, subst, ap, ap₂, ◌∙◌}
-use Rattle.c_tree.proofs.Plains.{block_of}
+use Rattle.c_tree.specs.Plains.{block_of}
 use Rattle.c_meaning.specs.Actions.{joined}
 use Rattle.c_meaning.specs.Fits.{BlockFits}
 use Rattle.c_meaning.specs.Meaning.{parameter_variables}

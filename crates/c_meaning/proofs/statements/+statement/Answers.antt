@@ -4,7 +4,7 @@ use Rattle.std.proofs.Math.ListN.{length-map}
 use Rattle.std.proofs.lemmas.List.{drop_all}
 use Rattle.c_tree.specs.declared.statements.Stmt.{Stmt}
 use Rattle.c_tree.specs.Plain.{plain_expr, plain_right, plain_head, plain_stmt}
-use Rattle.c_tree.proofs.Plains.{block_of, arms_of}
+use Rattle.c_tree.specs.Plains.{block_of, arms_of}
 use Rattle.c_meaning.specs.declared.actions.Branch.{Branch}
 use Rattle.c_meaning.specs.declared.actions.Action.TheViews.{Loop}
 use Rattle.c_meaning.specs.Actions.{PlainAction, PlainActions, iterations, returns, branch, one, joined}

@@ -1,7 +1,7 @@
 use Rattle.std.proofs.Common.{◌≡◌, ◌+◌, ◌*◌, length, drop}
 use Rattle.c_tree.specs.Plain.{plain_stmt}
 use Rattle.c_tree.specs.Sizes.{stmt_size, block_size, arms_size}
-use Rattle.c_tree.proofs.Plains.{block_of, arms_of}
+use Rattle.c_tree.specs.Plains.{block_of, arms_of}
 use Rattle.c_meaning.specs.Actions.{joined}
 use Rattle.c_meaning.specs.Fits.{BlockFits, ArmsFit}
 use Rattle.c_meaning.specs.Open.{names_of, functions_of, closed}

@@ -1,6 +1,6 @@
 use Rattle.std.proofs.Common.{[], ◌∷◌, ◌++◌, ◌+◌, drop, ap, ap₂, sym, ◌∙◌, arith}
 use Rattle.c_tree.specs.Plain.{plain_expr}
-use Rattle.c_tree.proofs.Plains.{steps_of}
+use Rattle.c_tree.specs.Plains.{steps_of}
 use Rattle.c_meaning.specs.Values.{named}
 use Rattle.c_mentions.specs.Uses.{reads, expr_uses, steps_uses}
 use Rattle.c_mentions.proofs.Uses.{chain_used, unary_used, number_used, name_used, element_used, paren_used, steps_next}

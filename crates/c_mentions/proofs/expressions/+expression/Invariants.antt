@@ -1,5 +1,5 @@
 use Rattle.std.proofs.Common.{drop}
-use Rattle.c_tree.proofs.Plains.{steps_of}
+use Rattle.c_tree.specs.Plains.{steps_of}
 use Rattle.c_mentions.specs.Uses.{steps_uses}
 use Rattle.c_mentions.proofs.Walks.{Left}
 use Rattle.c_mentions.proofs.expressions.+expression.Given as goal

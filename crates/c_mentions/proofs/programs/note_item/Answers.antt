@@ -1,7 +1,7 @@
 use Rattle.std.proofs.Common.{List, ap, ap₂, sym, ◌∙◌}
 use Rattle.c_tree.specs.declared.units.Parameter.{Parameter}
 use Rattle.c_tree.specs.Plain.{plain_item}
-use Rattle.c_tree.proofs.Plains.{block_of}
+use Rattle.c_tree.specs.Plains.{block_of}
 use Rattle.c_meaning.specs.Meaning.{parameter_variables}
 use Rattle.c_meaning.specs.Values.{Names}
 use Rattle.c_mentions.specs.Noted.{with_uses}

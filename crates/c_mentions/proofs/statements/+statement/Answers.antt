@@ -3,7 +3,7 @@ use Rattle.std.specs.Prelude.{bytes_eq, codes}
 use Rattle.std.proofs.lemmas.List.{take_more, drop_all}
 use Rattle.c_tree.specs.Layout.{is_unsigned}
 use Rattle.c_tree.specs.Plain.{plain_expr, plain_right, plain_head, plain_stmt}
-use Rattle.c_tree.proofs.Plains.{block_of, arms_of, otherwise_of}
+use Rattle.c_tree.specs.Plains.{block_of, arms_of, otherwise_of}
 use Rattle.c_meaning.specs.Meaning.{with_variable, names_after}
 use Rattle.c_meaning.specs.Scope.{Variable}
 use Rattle.c_meaning.specs.Values.{named}

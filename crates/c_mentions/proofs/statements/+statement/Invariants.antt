@@ -1,5 +1,5 @@
 use Rattle.std.proofs.Common.{take, drop}
-use Rattle.c_tree.proofs.Plains.{block_of, arms_of}
+use Rattle.c_tree.specs.Plains.{block_of, arms_of}
 use Rattle.c_meaning.specs.Values.{Names}
 use Rattle.c_mentions.specs.Hidden.{Hides}
 use Rattle.c_mentions.specs.Uses.{block_uses, arms_uses}

@@ -1,4 +1,5 @@
 use Rattle.std.proofs.Common.{ℕ, ◌+◌, ◌*◌, List, sym, ◌∙◌, arith}
+use Rattle.sp_emit.specs.Flags.{flag_tops}
 use Rattle.sp_emit.specs.Places.{tops}
 use Rattle.sp_emit.proofs.WordPlaces.{word_kept}
 use Rattle.sp_tree.specs.Statements.{PlainFunction, PlainStmts}
@@ -10,7 +11,9 @@ use Rattle.sp_emit.specs.Statements.{stmts_code}
 use Rattle.sp_emit.proofs.Calling.{ServedBy}
 use Rattle.sp_emit.proofs.Masks.{Done}
 use Rattle.sp_emit.proofs.Runs.{stmts_run}
-use Rattle.sp_emit.proofs.Serves.{AllServe, all_serve, calls_run, code_of}
+use Rattle.sp_emit.proofs.Serves.{AllServe, all_serve, calls_run}
+use Rattle.sp_emit.proofs.Codes.{code_of}
+use Rattle.sp_emit.proofs.Sparing.{all_leave}
 use Rattle.sp_emit.proofs.Standing.{world_stands}
 use Rattle.sp_emit.specs.declared.stands.Homes.{Homes}
 use Rattle.sp_emit.proofs.laws.functions_do_what_they_give.Goals as goal
@@ -19,6 +22,9 @@ pub returns-clause-function : goal.returns-clause-function
 unfolding AllServe ServedBy
 returns-clause-function c fs n k mask args w m are less count room called =
     (all_serve fs are.constants n are.within are.formed k less mask args w m count room called).answers
+
+pub returns-clause-predicates : goal.returns-clause-predicates
+returns-clause-predicates c fs n k m are less whole p past few = all_leave by_words fs n are.within are.formed k less p past few m whole
 
 pub returns-clause-callers : goal.returns-clause-callers
 unfolding AllServe ServedBy
@@ -29,9 +35,9 @@ returns-clause-callers c fs n k mask args w m are less count room called homes s
 done : (fs : List PlainFunction) (n : ℕ) (homes : Homes) (frame slots counter : ℕ) (ts : PlainStmts) (s : State) (m : Run) → AreStatements fs n homes frame slots counter ts s m
     → Done homes slots (counter + 1) (stmts_done (serves fs n) ts s) m (run by_words (parts_trail (code_of fs n) (stmts_code homes frame counter ts)) m)
 done fs n homes frame slots counter ts s m h =
-    stmts_run homes (tops fs n) (code_of fs n) (serves fs n) fs n frame slots counter (n * 128)
-    (calls_run homes fs n frame slots h.functions.formed h.named (all_serve fs h.functions.constants n h.functions.within h.functions.formed))
-    h.named h.counted ts h.levels h.formed h.constants h.homed h.stand s m h.room h.follows
+    stmts_run homes (tops fs n) (flag_tops fs n) (code_of fs n) (serves fs n) fs n frame slots counter (n * 128)
+    (calls_run homes fs n frame slots h.functions.formed h.named (λ k less p past few t whole. all_leave by_words fs n h.functions.within h.functions.formed k less p past few t whole) (all_serve fs h.functions.constants n h.functions.within h.functions.formed))
+    h.named h.counted ts h.levels h.formed h.constants h.homed h.stand h.spared s m h.room h.follows
 
 pub returns-clause-unchanged : goal.returns-clause-unchanged
 unfolding AllServe ServedBy
@@ -44,6 +50,7 @@ returns-clause-unchanged c fs n are = record {
         st = r.answers.st;
         stack = r.answers.stack;
         callers = λ homes slot top. word_kept homes slot m t (λ q from lt. r.high q (omega (arith, top, from)) lt) r.answers.stack r.answers.st;
+        predicates = λ p past few. all_leave by_words fs n are.within are.formed k less p past few m called.carries.whole;
       };
   statements = λ homes frame slots counter ts s m h same.
       let d = done fs n homes frame slots counter ts s m h in

@@ -1,0 +1,11 @@
+use Rattle.std.proofs.Common.{ap, sym, ◌∙◌}
+use Rattle.sp_tree.proofs.Forms.{plain_iterations}
+use Rattle.sp_tree.specs.Shown.{plain_stmt, stmts_of}
+use Rattle.sp_tree.specs.Statements.{iterations}
+use Rattle.sp_emit.specs.Flags.{stmt_spared}
+use Rattle.sp_emit.proofs.flags.+spared.Goals as goal
+
+pub statement_spared-returns-in-Iterations : goal.statement_spared-returns-in-Iterations
+statement_spared-returns-in-Iterations t c =
+    let is = ap plain_stmt c.in-Iterations.is ∙ plain_iterations c.in-Iterations.count c.in-Iterations.body ∙ ap (λ ts. iterations c.in-Iterations.count (stmts_of ts)) (sym c.as_slice.ensures) in
+    c.statements_spared.ensures ∙ ap (stmt_spared c.args.tops.now) (sym is)
