@@ -81,9 +81,7 @@ ways_apart : (from : Sources) (on : Bool) (op : Op) (regs : Registers) (m : Run)
 ways_apart from false op regs m ways early calm = refl
 ways_apart from true (Load space width rd ra imm) regs m ways early calm = absurd (true≢false early)
 ways_apart from true (Store mem.S width ra rs imm) regs m ways early calm = refl
-ways_apart from true (Store mem.L width ra rs imm) regs m ways early calm = refl
-ways_apart from true (Store mem.C width ra rs imm) regs m ways early calm = refl
-ways_apart from true (Store mem.M width ra rs imm) regs m ways early calm = refl
+ways_apart from true (Store _ width ra rs imm) regs m ways early calm = refl
 ways_apart from true (Stack Sres count) regs m ways early calm = refl
 ways_apart from true (Stack Sens count) regs m ways early calm = refl
 ways_apart from true (Stack Sfree count) regs m ways early calm = refl

@@ -94,11 +94,7 @@ left_pending from _ m p = p
 
 -- what is asked for looks at no register
 pub effect_regs : (from : Sources) (e : Effect) (m : Run) (regs : Registers) → effected from e (with_regs m regs) ≡ with_regs (effected from e m) (with_pending regs (left_pending from e m regs.pending))
-effect_regs from effect.Nothing m regs = refl
 effect_regs from (effect.Load mem.S width rd address) m regs = refl
-effect_regs from (effect.Load mem.L width rd address) m regs = refl
-effect_regs from (effect.Load mem.C width rd address) m regs = refl
-effect_regs from (effect.Load mem.M width rd address) m regs = refl
 effect_regs from (effect.Store mem.S width address value) m regs = refl
 effect_regs from (effect.Store mem.L width address value) m regs = refl
 effect_regs from (effect.Store mem.C width address value) m regs = refl
@@ -106,13 +102,11 @@ effect_regs from (effect.Store mem.M width address value) m regs = refl
 effect_regs from (effect.StackOp Sres count) m regs = refl
 effect_regs from (effect.StackOp Sens count) m regs = refl
 effect_regs from (effect.StackOp Sfree count) m regs = refl
-effect_regs from (effect.Flow flow) m regs = refl
+effect_regs from _ m regs = refl
 
 pub pending_regs : (from : Sources) (e : Effect) (m : Run) (regs : Registers) (p : Pending) → left_pending from e (with_regs m regs) p ≡ left_pending from e m p
 pending_regs from (effect.Load mem.S width rd address) m regs p = refl
-pending_regs from (effect.Load mem.L width rd address) m regs p = refl
-pending_regs from (effect.Load mem.C width rd address) m regs p = refl
-pending_regs from (effect.Load mem.M width rd address) m regs p = refl
+pending_regs from (effect.Load _ width rd address) m regs p = refl
 pending_regs from _ m regs p = refl
 
 -- three writes, one after another

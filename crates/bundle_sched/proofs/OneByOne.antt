@@ -33,12 +33,5 @@ spares_all _ p = refl
 
 -- a predicate is one of all
 pub one_of_all : (pd : ℕ) → pd < 8 → apart (pd ∷ []) all_preds ≡ nat_lt 7 pd
-one_of_all zero h = refl
-one_of_all (suc zero) h = refl
-one_of_all (suc (suc zero)) h = refl
-one_of_all (suc (suc (suc zero))) h = refl
-one_of_all (suc (suc (suc (suc zero)))) h = refl
-one_of_all (suc (suc (suc (suc (suc zero))))) h = refl
-one_of_all (suc (suc (suc (suc (suc (suc zero)))))) h = refl
-one_of_all (suc (suc (suc (suc (suc (suc (suc zero))))))) h = refl
 one_of_all (suc (suc (suc (suc (suc (suc (suc (suc n)))))))) h = absurd (omega (arith, h))
+one_of_all _ h = refl

@@ -47,9 +47,7 @@ calm_asked : (from : Sources) (on : Bool) (op : Op) (regs : Registers) (m : Run)
 calm_asked from false op regs m calm = refl
 calm_asked from true (Load space width rd ra imm) regs m calm = refl
 calm_asked from true (Store mem.S width ra rs imm) regs m calm = refl
-calm_asked from true (Store mem.L width ra rs imm) regs m calm = refl
-calm_asked from true (Store mem.C width ra rs imm) regs m calm = refl
-calm_asked from true (Store mem.M width ra rs imm) regs m calm = refl
+calm_asked from true (Store _ width ra rs imm) regs m calm = refl
 calm_asked from true (Stack Sres count) regs m calm = refl
 calm_asked from true (Stack Sens count) regs m calm = refl
 calm_asked from true (Stack Sfree count) regs m calm = refl

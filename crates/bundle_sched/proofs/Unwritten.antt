@@ -89,10 +89,7 @@ second_spared (Some i) st ss regs p x h = pred_spared (holds regs i.guard) i.op 
 
 spares_rest : (op : Op) (p : ℕ) (ps : List ℕ) → spares op (p ∷ ps) ≡ true → spares op ps ≡ true
 spares_rest (ToSpecial special.S0 ra) p ps h = h
-spares_rest (ToSpecial special.Sl ra) p ps h = h
-spares_rest (ToSpecial special.Sh ra) p ps h = h
-spares_rest (ToSpecial special.Srb ra) p ps h = h
-spares_rest (ToSpecial special.Sro ra) p ps h = h
+spares_rest (ToSpecial _ ra) p ps h = h
 spares_rest (Cmp func pd ra rb) p ps h = (and_parts (lacks (pd ∷ []) p) (list_all (lacks (pd ∷ [])) ps) h).1
 spares_rest (CmpImm func pd ra imm) p ps h = (and_parts (lacks (pd ∷ []) p) (list_all (lacks (pd ∷ [])) ps) h).1
 spares_rest (Comb func pd a b) p ps h = (and_parts (lacks (pd ∷ []) p) (list_all (lacks (pd ∷ [])) ps) h).1
@@ -108,10 +105,7 @@ spares_each op (p ∷ ps) h = and_from (spares op (p ∷ [])) (list_all (λ q. s
 
     first : (op : Op) → spares op (p ∷ ps) ≡ true → spares op (p ∷ []) ≡ true
     first (ToSpecial special.S0 ra) h = h
-    first (ToSpecial special.Sl ra) h = refl
-    first (ToSpecial special.Sh ra) h = refl
-    first (ToSpecial special.Srb ra) h = refl
-    first (ToSpecial special.Sro ra) h = refl
+    first (ToSpecial _ ra) h = refl
     first (Cmp func pd ra rb) h = one pd h
     first (CmpImm func pd ra imm) h = one pd h
     first (Comb func pd a b) h = one pd h

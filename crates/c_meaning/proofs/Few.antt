@@ -65,16 +65,7 @@ declared_few (n ∷ names) text m few one = (few.0, declared_few names text m fe
 
 after_few : (names : List Named) (s : PlainStmt) → FewIn names → FewIn (after names s)
 after_few names (plain.declared kind text r) few = declared_few names text meaning.Scalar few tt
-after_few names (plain.set text r) few = few
-after_few names (plain.set_element text index r) few = few
-after_few names (plain.called text args) few = few
-after_few names (plain.sent core core_unsigned source target count) few = few
-after_few names (plain.chosen arms otherwise) few = few
-after_few names (plain.looped bound head body) few = few
-after_few names plain.broken few = few
-after_few names plain.continued few = few
-after_few names (plain.returned e) few = few
-after_few names (plain.inner body) few = few
+after_few names _ few = few
 
 -- ---- calls
 
@@ -118,16 +109,7 @@ unfolding stmt_frame
 after_open open_names (plain.declared kind text r) =
     let v : Variable = record { name = text; unsigned = is_unsigned kind } in
     omega (arith, length-append open_names.variables (v ∷ []))
-after_open open_names (plain.set text r) = omega arith
-after_open open_names (plain.set_element text index r) = omega arith
-after_open open_names (plain.called text args) = omega arith
-after_open open_names (plain.sent core core_unsigned source target count) = omega arith
-after_open open_names (plain.chosen arms otherwise) = omega arith
-after_open open_names (plain.looped bound head body) = omega arith
-after_open open_names plain.broken = omega arith
-after_open open_names plain.continued = omega arith
-after_open open_names (plain.returned e) = omega arith
-after_open open_names (plain.inner body) = omega arith
+after_open open_names _ = omega arith
 
 mutual
   unfolding stmt_faults block_faults arms_faults otherwise_faults stmt_frame block_frame arms_frame otherwise_frame
@@ -142,7 +124,6 @@ mutual
       right_few names (at + 2 + expr_size index + 2) r few
       (none_right (whole_faults names (at + 2) index) rest (none_right (array_faults names at text) (whole_faults names (at + 2) index ++ rest) none))
   stmt_fits w names at o (plain.called text args) few none room = call_few false names at text args few none
-  stmt_fits w names at o (plain.sent core core_unsigned source target count) few none room = tt
   stmt_fits w names at o (plain.chosen arms otherwise) few none room =
       let first = arms_faults w names at arms in
       let rest = otherwise_faults w names (at + arms_size arms) otherwise in (
@@ -156,10 +137,8 @@ mutual
       block_fits (looped w (length names)) names body_at o body few
       (none_right (head_faults names behind head) rest (none_right (bound_faults at bound) (head_faults names behind head ++ rest) none))
       (omega (arith, room))
-  stmt_fits w names at o plain.broken few none room = tt
-  stmt_fits w names at o plain.continued few none room = tt
-  stmt_fits w names at o (plain.returned e) few none room = tt
   stmt_fits w names at o (plain.inner body) few none room = block_fits (opened w (length names)) names (at + 1) o body few none room
+  stmt_fits w names at o _ few none room = tt
 
   block_fits : (w : Within) (names : List Named) (at : ℕ) (o : Names) (b : PlainBlock) → FewIn names → IsTrue (has_none (block_faults w names at b))
       → length o.variables + block_frame b ≤ MOST_LEVELS → BlockFits o b

@@ -24,9 +24,7 @@ then_none g d = by d.way d.state
   where
     by : (w : Way) (s : State) → then_done (actions_done g no_action) (record { way = w; state = s }) ≡ record { way = w; state = s }
     by way.On s = refl
-    by way.Broken s = refl
-    by way.Continued s = refl
-    by (way.Returned given) s = refl
+    by _ s = refl
 
 then_then : (f h : State → Done) (d : Done) → then_done h (then_done f d) ≡ then_done (λ s. then_done h (f s)) d
 then_then f h d = by d.way d.state
@@ -34,9 +32,7 @@ then_then f h d = by d.way d.state
     by : (w : Way) (s : State)
         → then_done h (then_done f (record { way = w; state = s })) ≡ then_done (λ t. then_done h (f t)) (record { way = w; state = s })
     by way.On s = refl
-    by way.Broken s = refl
-    by way.Continued s = refl
-    by (way.Returned given) s = refl
+    by _ s = refl
 
 pub done_joined : (g : Serves) (xs ys : PlainActions) (s : State)
     → actions_done g (joined xs ys) s ≡ then_done (actions_done g ys) (actions_done g xs s)

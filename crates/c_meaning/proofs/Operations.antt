@@ -12,13 +12,6 @@ use Rattle.c_meaning.specs.Values.{State}
 
 pub between_worth : (op : BinaryOp) (u : Bool) (a b : PlainSp) (s : State)
     → worth (resolved_between op u a b) s ≡ between_value op u (worth a s) (worth b s)
-between_worth binary.Or u a b s = refl
-between_worth binary.And u a b s = refl
-between_worth binary.BitOr u a b s = refl
-between_worth binary.BitXor u a b s = refl
-between_worth binary.BitAnd u a b s = refl
-between_worth binary.Equal u a b s = refl
-between_worth binary.NotEqual u a b s = refl
 between_worth binary.Less true a b s = refl
 between_worth binary.Less false a b s = refl
 between_worth binary.Greater true a b s = refl
@@ -27,22 +20,17 @@ between_worth binary.LessEqual true a b s = refl
 between_worth binary.LessEqual false a b s = refl
 between_worth binary.GreaterEqual true a b s = refl
 between_worth binary.GreaterEqual false a b s = refl
-between_worth binary.ShiftLeft u a b s = refl
 between_worth binary.ShiftRight true a b s = refl
 between_worth binary.ShiftRight false a b s = refl
-between_worth binary.Plus u a b s = refl
-between_worth binary.Minus u a b s = refl
-between_worth binary.Times u a b s = refl
 between_worth binary.Divide true a b s = refl
 between_worth binary.Divide false a b s = refl
 between_worth binary.Remainder true a b s = refl
 between_worth binary.Remainder false a b s = refl
+between_worth _ u a b s = refl
 
 sign_worth : (op : UnaryOp) (e : PlainSp) (s : State) → worth (resolved_sign op e) s ≡ signed_value op (worth e s)
 sign_worth unary.Minus e s = refl
-sign_worth unary.Complement e s = refl
-sign_worth unary.Not e s = refl
-sign_worth unary.Plus e s = refl
+sign_worth _ e s = refl
 
 pub signs_worth : (ops : List UnaryOp) (e : PlainSp) (s : State) → worth (resolved_signs ops e) s ≡ signs_value ops (worth e s)
 signs_worth [] e s = refl

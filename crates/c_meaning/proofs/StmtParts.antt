@@ -164,13 +164,4 @@ kept_behind first names more kept =
 pub kept_after : (first names : Names) (s : PlainStmt) → closed (length first.variables) names ≡ first
     → closed (length first.variables) (names_after names s) ≡ first
 kept_after first names (tree.declared kind text r) kept = kept_behind first names _ kept
-kept_after first names (tree.set text r) kept = kept
-kept_after first names (tree.set_element text index r) kept = kept
-kept_after first names (tree.called text args) kept = kept
-kept_after first names (tree.sent core u a b c) kept = kept
-kept_after first names (tree.chosen arms otherwise) kept = kept
-kept_after first names (tree.looped bound head body) kept = kept
-kept_after first names tree.broken kept = kept
-kept_after first names tree.continued kept = kept
-kept_after first names (tree.returned e) kept = kept
-kept_after first names (tree.inner body) kept = kept
+kept_after first names _ kept = kept

@@ -87,44 +87,12 @@ ends_comma ts = record { no_index = refl; no_call = refl; no_tail = lit< tt }
 pub operator_no_bracket : (op : BinaryOp) → is_sign sign.OpenBracket (one (binary_sign op)) ≡ false
 unfolding is_sign
 operator_no_bracket binary.Or = refl
-operator_no_bracket binary.And = refl
-operator_no_bracket binary.BitOr = refl
-operator_no_bracket binary.BitXor = refl
-operator_no_bracket binary.BitAnd = refl
-operator_no_bracket binary.Equal = refl
-operator_no_bracket binary.NotEqual = refl
-operator_no_bracket binary.Less = refl
-operator_no_bracket binary.Greater = refl
-operator_no_bracket binary.LessEqual = refl
-operator_no_bracket binary.GreaterEqual = refl
-operator_no_bracket binary.ShiftLeft = refl
-operator_no_bracket binary.ShiftRight = refl
-operator_no_bracket binary.Plus = refl
-operator_no_bracket binary.Minus = refl
-operator_no_bracket binary.Times = refl
-operator_no_bracket binary.Divide = refl
-operator_no_bracket binary.Remainder = refl
+operator_no_bracket _ = refl
 
 pub operator_no_call : (op : BinaryOp) → is_sign sign.OpenParenthesis (one (binary_sign op)) ≡ false
 unfolding is_sign
 operator_no_call binary.Or = refl
-operator_no_call binary.And = refl
-operator_no_call binary.BitOr = refl
-operator_no_call binary.BitXor = refl
-operator_no_call binary.BitAnd = refl
-operator_no_call binary.Equal = refl
-operator_no_call binary.NotEqual = refl
-operator_no_call binary.Less = refl
-operator_no_call binary.Greater = refl
-operator_no_call binary.LessEqual = refl
-operator_no_call binary.GreaterEqual = refl
-operator_no_call binary.ShiftLeft = refl
-operator_no_call binary.ShiftRight = refl
-operator_no_call binary.Plus = refl
-operator_no_call binary.Minus = refl
-operator_no_call binary.Times = refl
-operator_no_call binary.Divide = refl
-operator_no_call binary.Remainder = refl
+operator_no_call _ = refl
 
 -- after an operand: no bracket
 abbrev NoIndex : List Token → Type 0
@@ -141,29 +109,11 @@ prefixes_go limit n (op ∷ ops) xs ts = and_on (prefix_step limit n op xs _) (p
   where
     prefix_step : (limit n : ℕ) (op : UnaryOp) (xs : List Expected) (ts : List Token) → Goes limit n (Operand ∷ xs) (one (unary_sign op) ∷ ts) n (Operand ∷ xs) ts
     prefix_step limit n unary.Minus xs ts = step (operand_prefix limit n unary.Minus ts xs)
-    prefix_step limit n unary.Complement xs ts = step (operand_prefix limit n unary.Complement ts xs)
-    prefix_step limit n unary.Not xs ts = step (operand_prefix limit n unary.Not ts xs)
-    prefix_step limit n unary.Plus xs ts = step (operand_prefix limit n unary.Plus ts xs)
+    prefix_step limit n other xs ts = step (operand_prefix limit n other ts xs)
 
 operator_step : (limit n : ℕ) (op : BinaryOp) (xs : List Expected) (ts : List Token) → Goes limit n (Tail ∷ xs) (one (binary_sign op) ∷ ts) n (Operand ∷ Tail ∷ xs) ts
 operator_step limit n binary.Or xs ts = step (tail_operator limit n binary.Or ts xs)
-operator_step limit n binary.And xs ts = step (tail_operator limit n binary.And ts xs)
-operator_step limit n binary.BitOr xs ts = step (tail_operator limit n binary.BitOr ts xs)
-operator_step limit n binary.BitXor xs ts = step (tail_operator limit n binary.BitXor ts xs)
-operator_step limit n binary.BitAnd xs ts = step (tail_operator limit n binary.BitAnd ts xs)
-operator_step limit n binary.Equal xs ts = step (tail_operator limit n binary.Equal ts xs)
-operator_step limit n binary.NotEqual xs ts = step (tail_operator limit n binary.NotEqual ts xs)
-operator_step limit n binary.Less xs ts = step (tail_operator limit n binary.Less ts xs)
-operator_step limit n binary.Greater xs ts = step (tail_operator limit n binary.Greater ts xs)
-operator_step limit n binary.LessEqual xs ts = step (tail_operator limit n binary.LessEqual ts xs)
-operator_step limit n binary.GreaterEqual xs ts = step (tail_operator limit n binary.GreaterEqual ts xs)
-operator_step limit n binary.ShiftLeft xs ts = step (tail_operator limit n binary.ShiftLeft ts xs)
-operator_step limit n binary.ShiftRight xs ts = step (tail_operator limit n binary.ShiftRight ts xs)
-operator_step limit n binary.Plus xs ts = step (tail_operator limit n binary.Plus ts xs)
-operator_step limit n binary.Minus xs ts = step (tail_operator limit n binary.Minus ts xs)
-operator_step limit n binary.Times xs ts = step (tail_operator limit n binary.Times ts xs)
-operator_step limit n binary.Divide xs ts = step (tail_operator limit n binary.Divide ts xs)
-operator_step limit n binary.Remainder xs ts = step (tail_operator limit n binary.Remainder ts xs)
+operator_step limit n other xs ts = step (tail_operator limit n other ts xs)
 
 -- after so many brackets and one more, one closes
 pub closes : (limit n : ℕ) (s : Sign) (xs : List Expected) (ts : List Token) → open_after (one s) (n + 1) ≡ n → opens_none s ≡ true → Goes limit (n + 1) (Only s ∷ xs) (one s ∷ ts) n xs ts
@@ -224,10 +174,8 @@ expr_begins s h (Chain' level p first l row) f rest =
     ap (begins (is_sign s)) (append_assoc (expr_tokens first) (steps_tokens row) rest) ∙ expr_begins s h first f.4 (steps_tokens row ++ rest)
 expr_begins s h (Unary' [] p of) f rest = absurd (omega (arith, f.0))
 expr_begins s h (Unary' (op ∷ ops) p of) f rest = h.1 op
-expr_begins s h (Number value unsigned) f rest = refl
-expr_begins s h (Name name) f rest = refl
-expr_begins s h (Element' name p index) f rest = refl
 expr_begins s h (Paren' p inner) f rest = h.0
+expr_begins s h _ f rest = refl
 
 pub end_parenthesis : is_end sign.CloseParenthesis
 unfolding is_sign
@@ -235,9 +183,7 @@ end_parenthesis = (refl, prefix)
   where
     prefix : (op : UnaryOp) → is_sign sign.CloseParenthesis (one (unary_sign op)) ≡ false
     prefix unary.Minus = refl
-    prefix unary.Complement = refl
-    prefix unary.Not = refl
-    prefix unary.Plus = refl
+    prefix _ = refl
 
 pub end_semicolon : is_end sign.Semicolon
 unfolding is_sign
@@ -245,9 +191,7 @@ end_semicolon = (refl, prefix)
   where
     prefix : (op : UnaryOp) → is_sign sign.Semicolon (one (unary_sign op)) ≡ false
     prefix unary.Minus = refl
-    prefix unary.Complement = refl
-    prefix unary.Not = refl
-    prefix unary.Plus = refl
+    prefix _ = refl
 
 pub steps_no_call : {k : _} (row : Row_of-Step k) (rest : List Token) → begins (is_sign sign.OpenParenthesis) rest ≡ false
     → begins (is_sign sign.OpenParenthesis) (steps_tokens row ++ rest) ≡ false

@@ -75,26 +75,17 @@ module _ (P : List Token → List Token → Type 0) where
   pub on_name : (t : Token) {m n : Move} → ((w : List ℕ) → Gives P (token.Word w) m) → Gives P t n → Gives P t (if is_name t then m else n)
   unfolding is_name
   on_name (token.Word w) g h = g w
-  on_name (token.Number v u) g h = h
-  on_name (token.Bound a b) g h = h
-  on_name (token.Keyword k) g h = h
-  on_name (token.Sign s) g h = h
+  on_name _ g h = h
 
   pub on_number : (t : Token) {m n : Move} → ((v : ℕ) (u : Bool) → Gives P (token.Number v u) m) → Gives P t n → Gives P t (if is_number t then m else n)
   unfolding is_number
   on_number (token.Number v u) g h = g v u
-  on_number (token.Word w) g h = h
-  on_number (token.Bound a b) g h = h
-  on_number (token.Keyword k) g h = h
-  on_number (token.Sign s) g h = h
+  on_number _ g h = h
 
   pub on_bound : (t : Token) {m n : Move} → ((a b : ℕ) → Gives P (token.Bound a b) m) → Gives P t n → Gives P t (if is_bound t then m else n)
   unfolding is_bound
   on_bound (token.Bound a b) g h = g a b
-  on_bound (token.Word w) g h = h
-  on_bound (token.Number v u) g h = h
-  on_bound (token.Keyword k) g h = h
-  on_bound (token.Sign s) g h = h
+  on_bound _ g h = h
 
   pub on_prefix : (t : Token) {m n : Move} → ((op : UnaryOp) → Gives P (one (unary_sign op)) m) → Gives P t n → Gives P t (if is_prefix t then m else n)
   unfolding is_prefix
@@ -102,11 +93,7 @@ module _ (P : List Token → List Token → Type 0) where
   on_prefix (token.Sign sign.Tilde) g h = g unary.Complement
   on_prefix (token.Sign sign.Exclamation) g h = g unary.Not
   on_prefix (token.Sign sign.Plus) g h = g unary.Plus
-  on_prefix (token.Sign s) g h = h
-  on_prefix (token.Word w) g h = h
-  on_prefix (token.Number v u) g h = h
-  on_prefix (token.Bound a b) g h = h
-  on_prefix (token.Keyword k) g h = h
+  on_prefix _ g h = h
 
   pub on_operator : (t : Token) {m n : Move} → ((op : BinaryOp) → Gives P (one (binary_sign op)) m) → Gives P t n → Gives P t (if nat_lt 0 (level_at t) then m else n)
   unfolding level_at
@@ -128,11 +115,7 @@ module _ (P : List Token → List Token → Type 0) where
   on_operator (token.Sign sign.Star) g h = g binary.Times
   on_operator (token.Sign sign.Slash) g h = g binary.Divide
   on_operator (token.Sign sign.Percent) g h = g binary.Remainder
-  on_operator (token.Sign s) g h = h
-  on_operator (token.Word w) g h = h
-  on_operator (token.Number v u) g h = h
-  on_operator (token.Bound a b) g h = h
-  on_operator (token.Keyword k) g h = h
+  on_operator _ g h = h
 
 -- one place after another, and further places
 pub through_join : (xs ys : List Expected) (ts rest : List Token) → Through (xs ++ ys) ts rest → (mid : List Token) × Through xs ts mid × Through ys mid rest

@@ -45,23 +45,7 @@ operator_of s = elim s as (λ _. BinaryOp) [
 operator_again : (op : BinaryOp) → (operator_of (binary_sign op) ≡ op) × (level_at (one (binary_sign op)) ≡ level_of op)
 unfolding operator_of level_at
 operator_again binary.Or = (refl, refl)
-operator_again binary.And = (refl, refl)
-operator_again binary.BitOr = (refl, refl)
-operator_again binary.BitXor = (refl, refl)
-operator_again binary.BitAnd = (refl, refl)
-operator_again binary.Equal = (refl, refl)
-operator_again binary.NotEqual = (refl, refl)
-operator_again binary.Less = (refl, refl)
-operator_again binary.Greater = (refl, refl)
-operator_again binary.LessEqual = (refl, refl)
-operator_again binary.GreaterEqual = (refl, refl)
-operator_again binary.ShiftLeft = (refl, refl)
-operator_again binary.ShiftRight = (refl, refl)
-operator_again binary.Plus = (refl, refl)
-operator_again binary.Minus = (refl, refl)
-operator_again binary.Times = (refl, refl)
-operator_again binary.Divide = (refl, refl)
-operator_again binary.Remainder = (refl, refl)
+operator_again _ = (refl, refl)
 
 same_operator : (a b : BinaryOp) → binary_sign a ≡ binary_sign b → a ≡ b
 same_operator a b e = sym (operator_again a).0 ∙ ap operator_of e ∙ (operator_again b).0
@@ -72,18 +56,14 @@ prefix_of s = elim s as (λ _. UnaryOp) [ sign.Minus ↦ unary.Minus | sign.Tild
 prefix_again : (op : UnaryOp) → prefix_of (unary_sign op) ≡ op
 unfolding prefix_of
 prefix_again unary.Minus = refl
-prefix_again unary.Complement = refl
-prefix_again unary.Not = refl
-prefix_again unary.Plus = refl
+prefix_again _ = refl
 
 same_prefix : (a b : UnaryOp) → unary_sign a ≡ unary_sign b → a ≡ b
 same_prefix a b e = sym (prefix_again a) ∙ ap prefix_of e ∙ prefix_again b
 
 no_parenthesis : (op : UnaryOp) → one sign.OpenParenthesis ≡ one (unary_sign op) → ⊥
 no_parenthesis unary.Minus e = cc
-no_parenthesis unary.Complement e = cc
-no_parenthesis unary.Not e = cc
-no_parenthesis unary.Plus e = cc
+no_parenthesis _ e = cc
 
 -- ---- what is after an expression
 
@@ -156,20 +136,13 @@ from_all e m few above base (Chain' level p first l row) f least a b r q eq x y 
     by_level true h inner = let less : level < m = grind (arith, common_steps) in absurd (apart level least row f.2 f.5 b r q (inner less).1 x)
     by_level false h inner = let most : m ≤ level = grind (arith, common_steps) in base (Chain' level p first l row) f most least a b r q eq x y
 from_all e m few above base (Unary' ops p of) f least a b r q eq x y = base (Unary' ops p of) f few least a b r q eq x y
-from_all e m few above base (Number v u) f least a b r q eq x y = base (Number v u) f (up m few) least a b r q eq x y
-from_all e m few above base (Name w) f least a b r q eq x y = base (Name w) f (up m few) least a b r q eq x y
-from_all e m few above base (Element' w p index) f least a b r q eq x y = base (Element' w p index) f (up m few) least a b r q eq x y
-from_all e m few above base (Paren' p inner) f least a b r q eq x y = base (Paren' p inner) f (up m few) least a b r q eq x y
+from_all e m few above base other f least a b r q eq x y = base other f (up m few) least a b r q eq x y
 
 -- every fitting expression has a rank
 pub some_rank : (e : Expr) → ExprFits e → 1 ≤ rank e
 unfolding ExprFits
 some_rank (Chain' level p first l row) f = f.0
-some_rank (Unary' ops p of) f = lit≤ tt
-some_rank (Number v u) f = lit≤ tt
-some_rank (Name w) f = lit≤ tt
-some_rank (Element' w p index) f = lit≤ tt
-some_rank (Paren' p inner) f = lit≤ tt
+some_rank _ f = lit≤ tt
 
 pub behind_bracket : Behind 1 (one sign.CloseBracket ∷ [])
 unfolding is_sign level_at
@@ -211,10 +184,7 @@ chain_one level p first l row f one_first one_row = from_all (Chain' level p fir
             let j : (plain_steps row ≡ plain_steps row') × (r ≡ q) = one_row _ row' fits least a r q i.1 x y in
             (cc, j.1)
     by_rank (Unary' ops p' of) g above least a b r q eq x y = absurd (higher (Unary' ops p' of) g (over_chain level _ f.1 (lit≤ tt)) least a r q eq y)
-    by_rank (Number v u) g above least a b r q eq x y = absurd (higher (Number v u) g (over_chain level _ f.1 (lit≤ tt)) least a r q eq y)
-    by_rank (Name w) g above least a b r q eq x y = absurd (higher (Name w) g (over_chain level _ f.1 (lit≤ tt)) least a r q eq y)
-    by_rank (Element' w p' index) g above least a b r q eq x y = absurd (higher (Element' w p' index) g (over_chain level _ f.1 (lit≤ tt)) least a r q eq y)
-    by_rank (Paren' p' inner) g above least a b r q eq x y = absurd (higher (Paren' p' inner) g (over_chain level _ f.1 (lit≤ tt)) least a r q eq y)
+    by_rank other g above least a b r q eq x y = absurd (higher other g (over_chain level _ f.1 (lit≤ tt)) least a r q eq y)
 
 no_steps_one : {n : _} (level level' : ℕ) (row : Row_of-Step n) → StepsFit level' row → level ≤ level' → (r q : List Token) → r ≡ steps_tokens row ++ q → Behind level r → (no_step ≡ plain_steps row) × (r ≡ q)
 unfolding steps_tokens StepsFit plain_steps

@@ -150,11 +150,9 @@ if_begins (more_of-Arm c l body row) some ts r = refl
 
 sort_begins : (s : Stmt) → StmtFits s → (r : List Token) → begun (stmt_tokens s ++ r) ≡ sort_of s
 unfolding stmt_tokens StmtFits
-sort_begins (Declare kind.Int w None) f r = refl
 sort_begins (Declare kind.Int w (Some a)) f r = refl
-sort_begins (Declare kind.Unsigned w None) f r = refl
 sort_begins (Declare kind.Unsigned w (Some a)) f r = refl
-sort_begins (Declare kind.UnsignedInt w None) f r = refl
+sort_begins (Declare _ w None) f r = refl
 sort_begins (Declare kind.UnsignedInt w (Some a)) f r = refl
 sort_begins (If' l arms otherwise) f r = if_begins arms f.0 (otherwise_tokens otherwise) r
 sort_begins (Loop' None (head.While c) l body) f r = refl

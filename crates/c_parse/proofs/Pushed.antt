@@ -21,23 +21,7 @@ boxed e = record { ptr = null_ptr; alloc = record { memory = record { seal = tt 
 
 level_within : (op : BinaryOp) → (1 ≤ level_of op) × (level_of op ≤ 10)
 level_within binary.Or = (lit≤ tt, lit≤ tt)
-level_within binary.And = (lit≤ tt, lit≤ tt)
-level_within binary.BitOr = (lit≤ tt, lit≤ tt)
-level_within binary.BitXor = (lit≤ tt, lit≤ tt)
-level_within binary.BitAnd = (lit≤ tt, lit≤ tt)
-level_within binary.Equal = (lit≤ tt, lit≤ tt)
-level_within binary.NotEqual = (lit≤ tt, lit≤ tt)
-level_within binary.Less = (lit≤ tt, lit≤ tt)
-level_within binary.Greater = (lit≤ tt, lit≤ tt)
-level_within binary.LessEqual = (lit≤ tt, lit≤ tt)
-level_within binary.GreaterEqual = (lit≤ tt, lit≤ tt)
-level_within binary.ShiftLeft = (lit≤ tt, lit≤ tt)
-level_within binary.ShiftRight = (lit≤ tt, lit≤ tt)
-level_within binary.Plus = (lit≤ tt, lit≤ tt)
-level_within binary.Minus = (lit≤ tt, lit≤ tt)
-level_within binary.Times = (lit≤ tt, lit≤ tt)
-level_within binary.Divide = (lit≤ tt, lit≤ tt)
-level_within binary.Remainder = (lit≤ tt, lit≤ tt)
+level_within _ = (lit≤ tt, lit≤ tt)
 
 -- an expression that is written so, of at least this rank
 pub record Fitting (least : ℕ) (ts : List Token) : Type 0 where
@@ -131,10 +115,7 @@ mutual
       by_level false false c d inner =
           whole (steps_then level row f.5 behind (one_step level op x (expr_tokens x) (same c d) (omega (arith, above, f.1)) g refl))
   pushed (Unary' ops p of) f least low op within x above g = alone least (Unary' ops p of) op x f (omega (arith, level_within op)) above g within
-  pushed (Number value unsigned) f least low op within x above g = alone least (Number value unsigned) op x f (omega (arith, level_within op)) above g within
-  pushed (Name name) f least low op within x above g = alone least (Name name) op x f (omega (arith, level_within op)) above g within
-  pushed (Element' name p index) f least low op within x above g = alone least (Element' name p index) op x f (omega (arith, level_within op)) above g within
-  pushed (Paren' p inner) f least low op within x above g = alone least (Paren' p inner) op x f (omega (arith, level_within op)) above g within
+  pushed other f least low op within x above g = alone least other op x f (omega (arith, level_within op)) above g within
 
   -- The operator binds closer than the steps: it goes into the last operand.
   pushed_row : {k : _} (level : ℕ) (row : Row_of-Step k) → has_step row → StepsFit level row → (op : BinaryOp) (x : Expr) → 11 ≤ rank x → ExprFits x

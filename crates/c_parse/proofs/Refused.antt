@@ -20,14 +20,10 @@ OpensNone t = (is_sign sign.OpenParenthesis t ≡ false) × (is_sign sign.OpenBr
 
 opens_no : (t : Token) (n : ℕ) → open_after t n ≤ n → OpensNone t
 unfolding is_sign
-opens_no (token.Word w) n h = (refl, refl, refl)
-opens_no (token.Number v u) n h = (refl, refl, refl)
-opens_no (token.Bound a b) n h = (refl, refl, refl)
-opens_no (token.Keyword k) n h = (refl, refl, refl)
 opens_no (token.Sign sign.OpenParenthesis) n h = absurd (omega (arith, h))
 opens_no (token.Sign sign.OpenBracket) n h = absurd (omega (arith, h))
 opens_no (token.Sign sign.OpenBrace) n h = absurd (omega (arith, h))
-opens_no (token.Sign s) n h = (refl, refl, refl)
+opens_no _ n h = (refl, refl, refl)
 
 no_opening : (s : Sign) → opens_none s ≡ false → (t : Token) → OpensNone t → is_sign s t ≡ false
 no_opening sign.OpenParenthesis o t h = h.0

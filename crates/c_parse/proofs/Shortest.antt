@@ -88,15 +88,12 @@ shortest (Only s) = only s
 shortest Name = λ rest. (token.Word [] ∷ rest, ([], refl))
 shortest Number = λ rest. (nought ∷ rest, (0, false, refl))
 shortest Operand = operand
-shortest Index = empty Index nought refl
 shortest Tail = tail
 shortest Right = by Right nought (Tail ∷ []) refl (behind Tail [] tail nothing)
-shortest RightName = empty RightName nought refl
 shortest Arguments = by Arguments (one sign.CloseParenthesis) [] refl nothing
 shortest MoreArguments = by MoreArguments (one sign.CloseParenthesis) [] refl nothing
 shortest Statements = by Statements (one sign.CloseBrace) [] refl nothing
 shortest Statement = by Statement (word keyword.Break) (Only sign.Semicolon ∷ []) refl (signed sign.Semicolon)
-shortest PerhapsInt = empty PerhapsInt nought refl
 shortest Initial = by Initial (one sign.Semicolon) [] refl nothing
 shortest AfterName = by AfterName (one sign.OpenParenthesis) (Arguments ∷ Only sign.Semicolon ∷ []) refl called
 shortest Condition = condition
@@ -106,9 +103,7 @@ shortest Test = by Test (one sign.Semicolon) (Operand ∷ Tail ∷ Only sign.Sem
 shortest Further = by Further (one sign.Comma) (Operand ∷ Tail ∷ []) refl (expression [] nothing)
 shortest Loop = by Loop (word keyword.While) (Condition ∷ Block ∷ []) refl (behind Condition (Block ∷ []) condition (behind Block [] block nothing))
 shortest Given = by Given (one sign.Semicolon) [] refl nothing
-shortest Else = empty Else nought refl
 shortest Branch = by Branch (one sign.OpenBrace) (Statements ∷ []) refl statements
-shortest Items = empty Items nought refl
 shortest Kind = by Kind (word keyword.Int) [] refl nothing
 shortest Outside = by Outside (one sign.Semicolon) [] refl nothing
 shortest Variable = by Variable (one sign.Semicolon) [] refl nothing
@@ -117,6 +112,7 @@ shortest Constant = by Constant nought [] refl nothing
 shortest MoreConstants = by MoreConstants (one sign.CloseBrace) [] refl nothing
 shortest Parameters = by Parameters (one sign.CloseParenthesis) [] refl nothing
 shortest MoreParameters = by MoreParameters (one sign.CloseParenthesis) [] refl nothing
+shortest other = empty other nought refl
 
 -- what may stay empty, does
 pub stays_empty : (x : Expected) (rest : List Token) → may_be_empty x ≡ true → Written x rest rest

@@ -148,34 +148,7 @@ level_small (token.Sign s ∷ ts) = sign_small s
   where
     sign_small : (s : Sign) → sign_level s < 11
     sign_small sign.OpenParenthesis = lit< tt
-    sign_small sign.CloseParenthesis = lit< tt
-    sign_small sign.OpenBracket = lit< tt
-    sign_small sign.CloseBracket = lit< tt
-    sign_small sign.OpenBrace = lit< tt
-    sign_small sign.CloseBrace = lit< tt
-    sign_small sign.Semicolon = lit< tt
-    sign_small sign.Comma = lit< tt
-    sign_small sign.Assign = lit< tt
-    sign_small sign.Or = lit< tt
-    sign_small sign.And = lit< tt
-    sign_small sign.BitOr = lit< tt
-    sign_small sign.BitXor = lit< tt
-    sign_small sign.BitAnd = lit< tt
-    sign_small sign.Equal = lit< tt
-    sign_small sign.NotEqual = lit< tt
-    sign_small sign.Less = lit< tt
-    sign_small sign.Greater = lit< tt
-    sign_small sign.LessEqual = lit< tt
-    sign_small sign.GreaterEqual = lit< tt
-    sign_small sign.ShiftLeft = lit< tt
-    sign_small sign.ShiftRight = lit< tt
-    sign_small sign.Plus = lit< tt
-    sign_small sign.Minus = lit< tt
-    sign_small sign.Star = lit< tt
-    sign_small sign.Slash = lit< tt
-    sign_small sign.Percent = lit< tt
-    sign_small sign.Tilde = lit< tt
-    sign_small sign.Exclamation = lit< tt
+    sign_small _ = lit< tt
 
 -- nothing is to come any more
 pub none_behind : (limit n : ℕ) (ts : List Token) → ts ≢ [] → drive_to limit n [] ts ≡ Some (length ts)

@@ -17,52 +17,14 @@ numbered_sign n = (if n == 0 then sign.OpenParenthesis else (if n == 1 then sign
 
 sign_again : (s : Sign) → numbered_sign (sign_number s) ≡ s
 sign_again sign.OpenParenthesis = refl
-sign_again sign.CloseParenthesis = refl
-sign_again sign.OpenBracket = refl
-sign_again sign.CloseBracket = refl
-sign_again sign.OpenBrace = refl
-sign_again sign.CloseBrace = refl
-sign_again sign.Semicolon = refl
-sign_again sign.Comma = refl
-sign_again sign.Assign = refl
-sign_again sign.Or = refl
-sign_again sign.And = refl
-sign_again sign.BitOr = refl
-sign_again sign.BitXor = refl
-sign_again sign.BitAnd = refl
-sign_again sign.Equal = refl
-sign_again sign.NotEqual = refl
-sign_again sign.Less = refl
-sign_again sign.Greater = refl
-sign_again sign.LessEqual = refl
-sign_again sign.GreaterEqual = refl
-sign_again sign.ShiftLeft = refl
-sign_again sign.ShiftRight = refl
-sign_again sign.Plus = refl
-sign_again sign.Minus = refl
-sign_again sign.Star = refl
-sign_again sign.Slash = refl
-sign_again sign.Percent = refl
-sign_again sign.Tilde = refl
-sign_again sign.Exclamation = refl
+sign_again _ = refl
 
 abbrev numbered_keyword : ℕ → Keyword
 numbered_keyword n = (if n == 0 then keyword.Int else (if n == 1 then keyword.Unsigned else (if n == 2 then keyword.Void else (if n == 3 then keyword.Scratchpad else (if n == 4 then keyword.Send else (if n == 5 then keyword.If else (if n == 6 then keyword.Else else (if n == 7 then keyword.While else (if n == 8 then keyword.For else (if n == 9 then keyword.Break else (if n == 10 then keyword.Continue else (if n == 11 then keyword.Return else keyword.Other))))))))))))
 
 keyword_again : (k : Keyword) → numbered_keyword (keyword_number k) ≡ k
 keyword_again keyword.Int = refl
-keyword_again keyword.Unsigned = refl
-keyword_again keyword.Void = refl
-keyword_again keyword.Scratchpad = refl
-keyword_again keyword.Send = refl
-keyword_again keyword.If = refl
-keyword_again keyword.Else = refl
-keyword_again keyword.While = refl
-keyword_again keyword.For = refl
-keyword_again keyword.Break = refl
-keyword_again keyword.Continue = refl
-keyword_again keyword.Return = refl
-keyword_again keyword.Other = refl
+keyword_again _ = refl
 
 number_tested : (b : Bool) (m n : ℕ) → (IsTrue b → m ≡ n) → (m ≡ n → IsTrue b) → b ≡ nat_eq m n
 number_tested b m n to from = grind (arith, common_steps)
@@ -119,18 +81,12 @@ same_number m n h = grind (arith, common_steps)
 pub sign_is : (s : Sign) (t : Token) → is_sign s t ≡ true → t ≡ one s
 unfolding is_sign
 sign_is s (token.Sign u) h = ap one (sym (sign_again u) ∙ ap numbered_sign (sym (same_number (sign_number s) (sign_number u) h)) ∙ sign_again s)
-sign_is s (token.Word w) h = absurd (cc)
-sign_is s (token.Number v u) h = absurd (cc)
-sign_is s (token.Bound a b) h = absurd (cc)
-sign_is s (token.Keyword k) h = absurd (cc)
+sign_is s _ h = absurd (cc)
 
 pub keyword_is : (k : Keyword) (t : Token) → is_keyword k t ≡ true → t ≡ word k
 unfolding is_keyword
 keyword_is k (token.Keyword u) h = ap word (sym (keyword_again u) ∙ ap numbered_keyword (sym (same_number (keyword_number k) (keyword_number u) h)) ∙ keyword_again k)
-keyword_is k (token.Word w) h = absurd (cc)
-keyword_is k (token.Number v u) h = absurd (cc)
-keyword_is k (token.Bound a b) h = absurd (cc)
-keyword_is k (token.Sign s) h = absurd (cc)
+keyword_is k _ h = absurd (cc)
 
 -- ---- this sign, where it opens a bracket or not
 

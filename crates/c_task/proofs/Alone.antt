@@ -53,9 +53,7 @@ same_itself r s same = subst (λ k. same_region s k ≡ true) (sym same) (by s)
   where
     by : (s : Region) → same_region s s ≡ true
     by region.Scratch = refl
-    by region.Comm = refl
-    by region.Private = refl
-    by region.Shared = refl
+    by _ = refl
 
 pub mentioned : (items : List PlainItem) (a : Array) → ReadsIn (Contains (uses_of (single items))) (memory_of a) → mentions a items ≡ true
 mentioned items a (inl (c, (at, is))) = taken_reads a items (any_of (reads_region (memory_of a)) (uses_of (single items)) (reads_cell c) at (same_itself c.region (memory_of a) is))

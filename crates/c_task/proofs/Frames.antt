@@ -35,17 +35,12 @@ mutual
   stmt_weighs : (s : PlainStmt) → 2 * stmt_frame s ≤ stmt_weight s
   stmt_weighs (plain.declared kind text None) = omega arith
   stmt_weighs (plain.declared kind text (Some r)) = omega arith
-  stmt_weighs (plain.set text r) = omega arith
-  stmt_weighs (plain.set_element text index r) = omega arith
-  stmt_weighs (plain.called text args) = omega arith
-  stmt_weighs (plain.sent core core_unsigned source target count) = omega arith
   stmt_weighs (plain.chosen arms otherwise) = omega (arith, arms_weigh arms, otherwise_weighs otherwise)
   stmt_weighs (plain.looped bound head body) = omega (arith, head_weighs head, block_weighs body)
-  stmt_weighs plain.broken = omega arith
-  stmt_weighs plain.continued = omega arith
   stmt_weighs (plain.returned None) = omega arith
   stmt_weighs (plain.returned (Some e)) = omega arith
   stmt_weighs (plain.inner body) = let b = block_weighs body in omega (arith, b)
+  stmt_weighs _ = omega arith
 
   block_weighs : (body : PlainBlock) → 2 * block_frame body ≤ block_weight body
   block_weighs plain.no_stmt = omega arith
@@ -98,10 +93,7 @@ mutual
   stmt_below : (g : ℕ → ℕ) (most : ℕ) → ((k : ℕ) → g k ≤ most) → (s : tree.PlainStmt) → stmt_chain g s ≤ most
   stmt_below g most below (tree.calls mask k args result) = below k
   stmt_below g most below (tree.iterations count body) = stmts_below g most below body
-  stmt_below g most below (tree.writes mask place e) = omega arith
-  stmt_below g most below (tree.masks slot m) = omega arith
-  stmt_below g most below (tree.overruns mask m) = omega arith
-  stmt_below g most below (tree.transfers mask core source target count) = omega arith
+  stmt_below g most below _ = omega arith
 
   stmts_below : (g : ℕ → ℕ) (most : ℕ) → ((k : ℕ) → g k ≤ most) → (ss : PlainStmts) → stmts_chain g ss ≤ most
   stmts_below g most below no_stmt = omega arith

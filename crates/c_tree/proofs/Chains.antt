@@ -20,11 +20,7 @@ tokens_of_steps (s ∷ steps) = one (binary_sign s.op) ∷ (expr_tokens s.operan
 -- what a chain has after its first operand
 unfoldable behind : Expr → List Token
 behind (Chain' level p first l rest) = steps_tokens rest
-behind (Unary' ops p of) = []
-behind (Number value unsigned) = []
-behind (Name name) = []
-behind (Element' name p index) = []
-behind (Paren' p inner) = []
+behind _ = []
 
 behind_chain : (level : ℕ) (b : Box Expr Global) (steps : List Step) → behind (Chain level b steps) ≡ tokens_of_steps steps
 unfolding expr_tokens steps_tokens behind hidden-the_row-Step-0 hidden
@@ -55,11 +51,7 @@ steps_fit_push level (t ∷ steps) s h a b c = (h.0, h.1, h.2, steps_fit_push le
 -- what a chain has after its first operand fits
 unfoldable BehindFits : Expr → Type 0
 BehindFits (Chain' level p first l rest) = StepsFit level rest
-BehindFits (Unary' ops p of) = ⊤
-BehindFits (Number value unsigned) = ⊤
-BehindFits (Name name) = ⊤
-BehindFits (Element' name p index) = ⊤
-BehindFits (Paren' p inner) = ⊤
+BehindFits _ = ⊤
 
 behind_fits : (level : ℕ) (b : Box Expr Global) (steps : List Step) → AllStepsFit level steps → BehindFits (Chain level b steps)
 unfolding ExprFits StepsFit BehindFits hidden-the_row-Step-0 hidden

@@ -119,11 +119,9 @@ mutual
         size_of_head h,
         size_of_block body,
       )
-  size_of_stmt Break = refl
-  size_of_stmt Continue = refl
-  size_of_stmt (Return None) = refl
   size_of_stmt (Return (Some e)) = ended_size (word keyword.Return ∷ expr_tokens e) ∙ omega (arith, size_of_expr e)
   size_of_stmt (Inner' l body) = omega (arith, braced_size (block_tokens body), size_of_block body)
+  size_of_stmt _ = refl
 
   pub size_of_block : {n : _} (row : Row_of-Stmt n) → length (block_tokens row) ≡ block_size (plain_block row)
   size_of_block end_of-Stmt = refl

@@ -17,9 +17,7 @@ use Rattle.code_core.specs.Sound.{IsSound, AreSound}
 pub effected_asked : (from : Sources) (e : Effect) (m : Run) → (effected from e m).asked ≡ m.asked ++ asked_of e
 effected_asked from effect.Nothing m = sym (append-nil m.asked)
 effected_asked from (effect.Flow flow) m = sym (append-nil m.asked)
-effected_asked from (effect.Load space width rd address) m = refl
-effected_asked from (effect.Store space width address value) m = refl
-effected_asked from (effect.StackOp func count) m = refl
+effected_asked from _ m = refl
 
 pub asked_is : (from : Sources) (steps : List Step) (m : Run) → (run_late from steps m).asked ≡ m.asked ++ asks_in from steps m
 asked_is from [] m = sym (append-nil m.asked)
@@ -30,16 +28,12 @@ asked_is from (does b ∷ steps) m =
 asked_is from (begins ∷ steps) m = asked_is from steps (begun m)
 
 effected_pointers : (from : Sources) (e : Effect) (m : Run) → pointers_of (effected from e m) ≡ moved e (pointers_of m)
-effected_pointers from effect.Nothing m = refl
-effected_pointers from (effect.Flow flow) m = refl
-effected_pointers from (effect.Load space width rd address) m = refl
 effected_pointers from (effect.Store mem.S width address value) m = refl
-effected_pointers from (effect.Store mem.L width address value) m = refl
-effected_pointers from (effect.Store mem.C width address value) m = refl
-effected_pointers from (effect.Store mem.M width address value) m = refl
+effected_pointers from (effect.Store _ width address value) m = refl
 effected_pointers from (effect.StackOp Sres count) m = refl
 effected_pointers from (effect.StackOp Sens count) m = refl
 effected_pointers from (effect.StackOp Sfree count) m = refl
+effected_pointers from _ m = refl
 
 -- over what is known of each effect that is asked for
 module _ (site : Site) (Ok : Effect → Type 0) (each : (e : Effect) (p : Pointers) (k : Memory) → Ok e → IsWithinStack e p → MaySend site e k → IsSound site e p k) where
@@ -52,9 +46,7 @@ module _ (site : Site) (Ok : Effect → Type 0) (each : (e : Effect) (p : Pointe
   parts : (e : Effect) (p : Pointers) (k : Memory) (rest : List Effect) → Each Ok (asked_of e ++ rest) → AreWithinStack (asked_of e ++ rest) p → MaySend site e k → Parts e p k rest
   parts effect.Nothing p k rest ok within sends = record { sound = tt; ok = ok; within = within }
   parts (effect.Flow flow) p k rest ok within sends = record { sound = tt; ok = ok; within = within }
-  parts (effect.Load space width rd address) p k rest ok within sends = record { sound = each (effect.Load space width rd address) p k ok.0 within.0 sends; ok = ok.1; within = within.1 }
-  parts (effect.Store space width address value) p k rest ok within sends = record { sound = each (effect.Store space width address value) p k ok.0 within.0 sends; ok = ok.1; within = within.1 }
-  parts (effect.StackOp func count) p k rest ok within sends = record { sound = each (effect.StackOp func count) p k ok.0 within.0 sends; ok = ok.1; within = within.1 }
+  parts other p k rest ok within sends = record { sound = each other p k ok.0 within.0 sends; ok = ok.1; within = within.1 }
 
   pub all_sound : (from : Sources) (steps : List Step) (m : Run) → Each Ok (asks_in from steps m) → AreWithinStack (asks_in from steps m) (pointers_of m) → AllSend site from steps m → AreSound site from steps m
   all_sound from [] m ok within sends = tt

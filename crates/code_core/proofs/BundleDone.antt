@@ -60,9 +60,7 @@ effected_regs : (e : Effect) (m : Run) (value : ℕ) → IsTaken e m value → (
 effected_regs effect.Nothing m value t = refl
 effected_regs (effect.Flow kind) m value t = refl
 effected_regs (effect.Load mem.S width rd address) m value t = ap (λ v. arrived rd (picked width address v) m.regs) (sym t)
-effected_regs (effect.Load mem.L width rd address) m value t = ap (λ v. arrived rd (picked width address v) m.regs) t
-effected_regs (effect.Load mem.C width rd address) m value t = ap (λ v. arrived rd (picked width address v) m.regs) t
-effected_regs (effect.Load mem.M width rd address) m value t = ap (λ v. arrived rd (picked width address v) m.regs) t
+effected_regs (effect.Load _ width rd address) m value t = ap (λ v. arrived rd (picked width address v) m.regs) t
 effected_regs (effect.Store mem.S width address value') m value t = refl
 effected_regs (effect.Store mem.L width address value') m value t = refl
 effected_regs (effect.Store mem.C width address value') m value t = refl
@@ -83,27 +81,22 @@ same_stack m t x st ss stack h = record {
 
 effected_stack : (e : Effect) (m : Run) (x : Plain) → HoldsStack (stack_behind e m) x.stack x.private → HoldsStack (effected by_stack e m) x.stack x.private
 effected_stack effect.Nothing m x h = h
-effected_stack (effect.Flow kind) m x h = same_stack m (effected by_stack (effect.Flow kind) m) x refl refl refl h
 effected_stack (effect.Load mem.S width rd address) m x h = same_stack m (effected by_stack (effect.Load mem.S width rd address) m) x refl refl refl h
 effected_stack (effect.Load mem.L width rd address) m x h = same_stack m (effected by_stack (effect.Load mem.L width rd address) m) x refl refl refl h
 effected_stack (effect.Load mem.C width rd address) m x h = same_stack m (effected by_stack (effect.Load mem.C width rd address) m) x refl refl refl h
 effected_stack (effect.Load mem.M width rd address) m x h = same_stack m (effected by_stack (effect.Load mem.M width rd address) m) x refl refl refl h
 effected_stack (effect.Store mem.S width address value) m x h = same_stack (run.stored mem.S width address value m) (effected by_stack (effect.Store mem.S width address value) m) x refl refl refl h
-effected_stack (effect.Store mem.L width address value) m x h = same_stack m (effected by_stack (effect.Store mem.L width address value) m) x refl refl refl h
-effected_stack (effect.Store mem.C width address value) m x h = same_stack m (effected by_stack (effect.Store mem.C width address value) m) x refl refl refl h
-effected_stack (effect.Store mem.M width address value) m x h = same_stack m (effected by_stack (effect.Store mem.M width address value) m) x refl refl refl h
 effected_stack (effect.StackOp Sres count) m x h = same_stack (run.stacked Sres count m) (effected by_stack (effect.StackOp Sres count) m) x refl refl refl h
 effected_stack (effect.StackOp Sens count) m x h = same_stack (run.stacked Sens count m) (effected by_stack (effect.StackOp Sens count) m) x refl refl refl h
 effected_stack (effect.StackOp Sfree count) m x h = same_stack (run.stacked Sfree count m) (effected by_stack (effect.StackOp Sfree count) m) x refl refl refl h
+effected_stack other m x h = same_stack m (effected by_stack other m) x refl refl refl h
 
 -- the loads that are left
 effected_loads : (e : Effect) (m : Run) (regs : Registers) (rest : List ℕ) → m.loads ≡ given_by e regs ++ rest → (effected by_stack e m).loads ≡ rest
 effected_loads effect.Nothing m regs rest is = is
 effected_loads (effect.Flow kind) m regs rest is = is
 effected_loads (effect.Load mem.S width rd address) m regs rest is = ap other_loads is
-effected_loads (effect.Load mem.L width rd address) m regs rest is = ap other_loads is
-effected_loads (effect.Load mem.C width rd address) m regs rest is = ap other_loads is
-effected_loads (effect.Load mem.M width rd address) m regs rest is = ap other_loads is
+effected_loads (effect.Load _ width rd address) m regs rest is = ap other_loads is
 effected_loads (effect.Store mem.S width address value) m regs rest is = is
 effected_loads (effect.Store mem.L width address value) m regs rest is = is
 effected_loads (effect.Store mem.C width address value) m regs rest is = is
@@ -119,17 +112,13 @@ word_taken width rd address value loads rest regs regs' old is list same came =
     ap first_load list ∙ ap pending_value same ∙ ap (λ (r : Registers). pending_value r.pending) came ∙ ap (λ w. picked w address value) is
 
 taken_so : (e : Effect) (m : Run) (d : Plain) (c : Core) (regs : Registers) (rest : List ℕ) (h : Comes e m d c) → (site : Site) → IsSound site e (pointers_of m) m.memory → regs.pending ≡ c.plain.regs.pending → m.loads ≡ given_by e regs ++ rest → IsTaken e m h.value
-taken_so effect.Nothing m d c regs rest h site s same list = tt
-taken_so (effect.Flow kind) m d c regs rest h site s same list = tt
 taken_so (effect.Load mem.S width rd address) m d c regs rest h site s same list = h.is_given
-taken_so (effect.Load mem.L width rd address) m d c regs rest h site s same list = word_taken width rd address h.value m.loads rest c.plain.regs regs d.regs s.0 list same h.regs
-taken_so (effect.Load mem.C width rd address) m d c regs rest h site s same list = word_taken width rd address h.value m.loads rest c.plain.regs regs d.regs s.0 list same h.regs
-taken_so (effect.Load mem.M width rd address) m d c regs rest h site s same list = word_taken width rd address h.value m.loads rest c.plain.regs regs d.regs s.0 list same h.regs
+taken_so (effect.Load _ width rd address) m d c regs rest h site s same list = word_taken width rd address h.value m.loads rest c.plain.regs regs d.regs s.0 list same h.regs
 taken_so (effect.Store mem.S width address value) m d c regs rest h site s same list = tt
 taken_so (effect.Store mem.L width address value) m d c regs rest h site s same list = tt
 taken_so (effect.Store mem.C width address value) m d c regs rest h site s same list = tt
 taken_so (effect.Store mem.M width address value) m d c regs rest h site s same list = tt
-taken_so (effect.StackOp func count) m d c regs rest h site s same list = tt
+taken_so _ m d c regs rest h site s same list = tt
 
 -- ---- the bundle
 

@@ -32,28 +32,19 @@ holds_so : (b : Bool) (fault : Trap) (later : Option Trap) → b ≡ true → la
 holds_so b fault later e l = ap (λ t. check t fault later) e ∙ l
 
 local_loadable : (site : Site) (width : Width) (place : Option Cell) → IsLocalLoadable place → load_cell_fault site width place ≡ None
-local_loadable site width None s = absurd s
 local_loadable site width (Some (cell.Scratch word)) s = refl
 local_loadable site width (Some (cell.Comm word)) s = refl
-local_loadable site width (Some (cell.Port core register)) s = absurd s
-local_loadable site width (Some (cell.Private word)) s = absurd s
-local_loadable site width (Some (cell.Shared word)) s = absurd s
+local_loadable site width _ s = absurd s
 
 main_loadable : (site : Site) (width : Width) (place : Option Cell) → IsMainLoadable place → load_cell_fault site width place ≡ None
-main_loadable site width None s = absurd s
-main_loadable site width (Some (cell.Scratch word)) s = absurd s
-main_loadable site width (Some (cell.Comm word)) s = absurd s
-main_loadable site width (Some (cell.Port core register)) s = absurd s
 main_loadable site width (Some (cell.Private word)) s = refl
 main_loadable site width (Some (cell.Shared word)) s = refl
+main_loadable site width _ s = absurd s
 
 main_storable : (x : Plain) (width : StoreWidth) (value : ℕ) (place : Option Cell) → IsMainStorable place → store_cell_fault x width value place ≡ None
-main_storable x width value None s = absurd s
-main_storable x width value (Some (cell.Scratch word)) s = absurd s
-main_storable x width value (Some (cell.Comm word)) s = absurd s
-main_storable x width value (Some (cell.Port core register)) s = absurd s
 main_storable x width value (Some (cell.Private word)) s = refl
 main_storable x width value (Some (cell.Shared word)) s = refl
+main_storable x width value _ s = absurd s
 
 local_storable : (m : Memory) (x : Plain) (width : StoreWidth) (value : ℕ) (place : Option Cell) → width ≡ store.Word → HoldsPorts m x.interface → IsLocalStorable x.site m value place → store_cell_fault x width value place ≡ None
 local_storable m x width value None is h s = absurd s

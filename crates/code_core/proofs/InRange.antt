@@ -122,10 +122,7 @@ module _ (n core words : ℕ) where
 
   given_words : (e : Effect) (regs : Registers) → PendingFits regs.pending → Each IsWord (given_by e regs)
   given_words (effect.Load space width rd address) regs h = (pending_word regs.pending h, tt)
-  given_words effect.Nothing regs h = tt
-  given_words (effect.Flow kind) regs h = tt
-  given_words (effect.Store space width address value) regs h = tt
-  given_words (effect.StackOp func count) regs h = tt
+  given_words _ regs h = tt
 
   pub loads_fit : (count : ℕ) (m : Moment) → FitsAt m → Each IsWord (loads_from n core count m)
   loads_fit zero m h = tt

@@ -49,9 +49,7 @@ gone_rests (goal.Return base offset) c r = fetch_rests c.seen.misses (method_at 
 
 gone_pending : (to : Goal) (c : Core) → (model.gone to c).plain.regs.pending ≡ c.plain.regs.pending
 gone_pending (goal.Within offset) c = refl
-gone_pending (goal.Call target) c = refl
-gone_pending (goal.Fill target) c = refl
-gone_pending (goal.Return base offset) c = refl
+gone_pending _ c = refl
 
 -- what is pending stays so
 pub record KeepsPending (p : Pending) (c : Core) : Type 0 where
@@ -207,28 +205,20 @@ module _ (site : Site) (u : ℕ) where
       ]) (free_test w c h) ∙ no_event c.plain.flow waits_there
 
   gone_stack : (to : Goal) (w : Walk) (c : Core) → HoldsStack w.run c.plain.stack c.plain.private → HoldsStack (gone to w).run (model.gone to c).plain.stack (model.gone to c).plain.private
-  gone_stack (goal.Within offset) w c h = h
   gone_stack (goal.Call target) w c h = record { is_stack = h.is_stack; st = h.st; ss = h.ss; held = h.held; spilled = h.spilled }
-  gone_stack (goal.Fill target) w c h = h
-  gone_stack (goal.Return base offset) w c h = h
+  gone_stack _ w c h = h
 
   gone_ports : (to : Goal) (w : Walk) (c : Core) → HoldsPorts w.run.memory c.plain.interface → HoldsPorts (gone to w).run.memory (model.gone to c).plain.interface
   gone_ports (goal.Within offset) w c h = h
-  gone_ports (goal.Call target) w c h = h
-  gone_ports (goal.Fill target) w c h = h
-  gone_ports (goal.Return base offset) w c h = h
+  gone_ports _ w c h = h
 
   gone_kept : (to : Goal) (c : Core) → ((model.gone to c).plain.site ≡ c.plain.site) × ((model.gone to c).plain.status ≡ c.plain.status)
   gone_kept (goal.Within offset) c = (refl, refl)
-  gone_kept (goal.Call target) c = (refl, refl)
-  gone_kept (goal.Fill target) c = (refl, refl)
-  gone_kept (goal.Return base offset) c = (refl, refl)
+  gone_kept _ c = (refl, refl)
 
   gone_flow : (to : Goal) (w : Walk) → is_due_flow (gone to w).flow ≡ false
   gone_flow (goal.Within offset) w = refl
-  gone_flow (goal.Call target) w = refl
-  gone_flow (goal.Fill target) w = refl
-  gone_flow (goal.Return base offset) w = refl
+  gone_flow _ w = refl
 
   -- of a goal that is a place
   events_of : (to : Goal) (x : Plain) → x.site.image ≡ site.image → is_end (record { goal = to; slots = 0 }) ≡ false → goal_event to x ≡ goal_events site.image (Some to)

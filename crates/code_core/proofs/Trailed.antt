@@ -42,9 +42,7 @@ flowed_again w = by (due_case w.flow)
   where
     gone_once : (to : Goal) → flowed (gone to w) ≡ gone to w
     gone_once (goal.Within offset) = refl
-    gone_once (goal.Call target) = refl
-    gone_once (goal.Fill target) = refl
-    gone_once (goal.Return base offset) = refl
+    gone_once _ = refl
 
     by : DueCase w.flow → flowed (flowed w) ≡ flowed w
     by (none_due none waits) = let same : flowed w ≡ w = ap (λ o. gone_if o w) none in ap flowed same
@@ -52,9 +50,7 @@ flowed_again w = by (due_case w.flow)
 
 gone_loads : (to : Goal) (w : Walk) → (gone to w).run.loads ≡ w.run.loads
 gone_loads (goal.Within offset) w = refl
-gone_loads (goal.Call target) w = refl
-gone_loads (goal.Fill target) w = refl
-gone_loads (goal.Return base offset) w = refl
+gone_loads _ w = refl
 
 pub flowed_loads : (w : Walk) → (flowed w).run.loads ≡ w.run.loads
 flowed_loads w = by (due w.flow)
@@ -68,9 +64,7 @@ placed_again image w = by (due_case w.flow)
   where
     there : (to : Goal) → IsPlaced image (gone to w)
     there (goal.Within offset) = tt
-    there (goal.Call target) = tt
-    there (goal.Fill target) = tt
-    there (goal.Return base offset) = tt
+    there _ = tt
 
     by : DueCase w.flow → IsPlaced image (flowed w)
     by (none_due none waits) = subst (λ o. IsPlaced image (gone_if o w)) (sym none) (subst (HasPlace image w.base) (sym none) tt)

@@ -29,9 +29,7 @@ steps_bound each (begins ∷ steps) = steps_bound each steps
 
 kind_bare : (each address : ℕ) (op : Op) → bare each (kind_of op address) ≡ cost each (kind_of op address)
 kind_bare each address (Load mem.S width rd ra imm) = refl
-kind_bare each address (Load mem.L width rd ra imm) = refl
-kind_bare each address (Load mem.C width rd ra imm) = refl
-kind_bare each address (Load mem.M width rd ra imm) = refl
+kind_bare each address (Load _ width rd ra imm) = refl
 kind_bare each address (Store mem.S width ra rs imm) = refl
 kind_bare each address (Store mem.L width ra rs imm) = refl
 kind_bare each address (Store mem.C width ra rs imm) = refl

@@ -61,9 +61,7 @@ module _ (image : Parts) (all : List Method) where
 
   kind_among : (op : Op) (address : ℕ) (es : List Event) → AreAmong all es → AreAmong all (kind_of op address ∷ es)
   kind_among (Load mem.S width rd ra imm) address es h = h
-  kind_among (Load mem.L width rd ra imm) address es h = h
-  kind_among (Load mem.C width rd ra imm) address es h = h
-  kind_among (Load mem.M width rd ra imm) address es h = h
+  kind_among (Load _ width rd ra imm) address es h = h
   kind_among (Store mem.S width ra rs imm) address es h = h
   kind_among (Store mem.L width ra rs imm) address es h = h
   kind_among (Store mem.C width ra rs imm) address es h = h

@@ -27,10 +27,8 @@ use Rattle.code_text.proofs.Standing.{Stand, Rise, AreInline, inline_both}
 -- the labels of loops, with the offsets of their bodies
 abbrev mutual
   pub marks_in : ℕ → ℕ → PlainPart → Places
-  marks_in at loop (straight bs) = []
   marks_in at loop (repeats count body tail) = (label_name loop, at) ∷ all_marks at (loop + 1) body
-  marks_in at loop (calls_to k tail) = []
-  marks_in at loop (leaves tail) = []
+  marks_in at loop _ = []
 
   pub all_marks : ℕ → ℕ → PlainParts → Places
   all_marks at loop no_part = []
@@ -56,14 +54,12 @@ nothing_more loop before pass = subst (IsPassed (loop + 0)) (sym (append-nil bef
 
 mutual
   passed_part : (at loop : ℕ) (p : PlainPart) (before : Places) → IsPassed loop before → loop + part_loops p ≤ 2 ^ 63 → IsPassed (loop + part_loops p) (before ++ marks_in at loop p)
-  passed_part at loop (straight bs) before pass small = nothing_more loop before pass
   passed_part at loop (repeats count body tail) before pass small =
       let one : IsPassed (loop + 1) (before ++ (label_name loop, at) ∷ []) = passed_one loop loop at before pass (omega arith) (omega (arith, small)) in
       let more = passed_parts at (loop + 1) body (before ++ (label_name loop, at) ∷ []) one (omega (arith, small)) in
       subst (λ ps. IsPassed (loop + (1 + parts_loops body)) ps) (append_assoc before ((label_name loop, at) ∷ []) (all_marks at (loop + 1) body))
       (passed_later (loop + 1 + parts_loops body) (loop + (1 + parts_loops body)) (before ++ (label_name loop, at) ∷ [] ++ all_marks at (loop + 1) body) more (omega arith))
-  passed_part at loop (calls_to k tail) before pass small = nothing_more loop before pass
-  passed_part at loop (leaves tail) before pass small = nothing_more loop before pass
+  passed_part at loop _ before pass small = nothing_more loop before pass
 
   passed_parts : (at loop : ℕ) (ps : PlainParts) (before : Places) → IsPassed loop before → loop + parts_loops ps ≤ 2 ^ 63 → IsPassed (loop + parts_loops ps) (before ++ all_marks at loop ps)
   passed_parts at loop no_part before pass small = nothing_more loop before pass
@@ -78,7 +74,6 @@ found_first name at more = let same = bytes_eq_refl name in rw same refl
 
 mutual
   known_part : (at loop : ℕ) (p : PlainPart) (before later : Places) → IsPassed loop before → loop + part_loops p ≤ 2 ^ 63 → IsKnown (place_of (before ++ (marks_in at loop p ++ later))) at loop p
-  known_part at loop (straight bs) before later pass small = tt
   known_part at loop (repeats count body tail) before later pass small =
       let one : IsPassed (loop + 1) (before ++ (label_name loop, at) ∷ []) = passed_one loop loop at before pass (omega arith) (omega (arith, small)) in (
         pass loop ((label_name loop, at) ∷ (all_marks at (loop + 1) body ++ later)) (omega arith) (omega (arith, small)) ∙ found_first (label_name loop) at (all_marks at (loop + 1) body ++ later),
@@ -86,8 +81,7 @@ mutual
         subst (λ ps. AreKnown (place_of ps) at (loop + 1) body) (append_assoc before ((label_name loop, at) ∷ []) (all_marks at (loop + 1) body ++ later))
             (known_parts at (loop + 1) body (before ++ (label_name loop, at) ∷ []) later one (omega (arith, small))),
       )
-  known_part at loop (calls_to k tail) before later pass small = tt
-  known_part at loop (leaves tail) before later pass small = tt
+  known_part at loop _ before later pass small = tt
 
   known_parts : (at loop : ℕ) (ps : PlainParts) (before later : Places) → IsPassed loop before → loop + parts_loops ps ≤ 2 ^ 63 → AreKnown (place_of (before ++ (all_marks at loop ps ++ later))) at loop ps
   known_parts at loop no_part before later pass small = tt
@@ -272,13 +266,11 @@ iteration_some (b ∷ bs) e = grind arith
 
 mutual
   few_part : (number : ℕ) (p : PlainPart) → part_formed number p ≡ true → part_loops p ≤ part_words p
-  few_part number (straight bs) e = omega arith
   few_part number (repeats count body tail) e =
       let t = and_parts (nat_lt 0 count) (parts_formed number body && is_iteration tail) e in
       let u = and_parts (parts_formed number body) (is_iteration tail) t.1 in
       omega (arith, few_parts number body u.0, iteration_some tail u.1)
-  few_part number (calls_to k tail) e = omega arith
-  few_part number (leaves tail) e = omega arith
+  few_part number _ e = omega arith
 
   few_parts : (number : ℕ) (ps : PlainParts) → parts_formed number ps ≡ true → parts_loops ps ≤ parts_words ps
   few_parts number no_part e = omega arith

@@ -26,10 +26,8 @@ use Rattle.code_text.proofs.Standing.{StandsFor, Stand, stand_both}
 -- the labels of loops are known: of the first loop in parts this is the number
 abbrev mutual
   pub IsKnown : Lookup → ℕ → ℕ → PlainPart → Type 0
-  IsKnown labels at loop (straight bs) = Unit {0}
   IsKnown labels at loop (repeats count body tail) = (labels (label_name loop) ≡ Some at) × (loop < 2 ^ 63) × AreKnown labels at (loop + 1) body
-  IsKnown labels at loop (calls_to k tail) = Unit {0}
-  IsKnown labels at loop (leaves tail) = Unit {0}
+  IsKnown labels at loop _ = Unit {0}
 
   pub AreKnown : Lookup → ℕ → ℕ → PlainParts → Type 0
   AreKnown labels at loop no_part = Unit {0}

@@ -118,9 +118,7 @@ clock_costs site (e ∷ es) p slots few none small =
 
 pub kind_cost : (each address : ℕ) (op : Op) → cost each (kind_of op address) ≡ 1 + each * op_moves op
 kind_cost each address (Load mem.S width rd ra imm) = omega arith
-kind_cost each address (Load mem.L width rd ra imm) = omega arith
-kind_cost each address (Load mem.C width rd ra imm) = omega arith
-kind_cost each address (Load mem.M width rd ra imm) = omega arith
+kind_cost each address (Load _ width rd ra imm) = omega arith
 kind_cost each address (Store mem.S width ra rs imm) = omega arith
 kind_cost each address (Store mem.L width ra rs imm) = omega arith
 kind_cost each address (Store mem.C width ra rs imm) = omega arith

@@ -44,12 +44,7 @@ use Rattle.code_times.proofs.Bounded.{clock_costs, fixed_cost, shape_costs}
 -- ---- stack instructions are few
 
 few_event : (site : Site) (e : Effect) (p : Pointers) (k : Memory) (es : List Event) → IsSound site e p k → AreFew es → AreFew (event_of e ∷ es)
-few_event site effect.Nothing p k es s few = few
-few_event site (effect.Flow flow) p k es s few = few
 few_event site (effect.Load mem.S width rd address) p k es s few = few
-few_event site (effect.Load mem.L width rd address) p k es s few = few
-few_event site (effect.Load mem.C width rd address) p k es s few = few
-few_event site (effect.Load mem.M width rd address) p k es s few = few
 few_event site (effect.Store mem.S width address value) p k es s few = few
 few_event site (effect.Store mem.L width address value) p k es s few = few
 few_event site (effect.Store mem.C width address value) p k es s few = few
@@ -57,6 +52,7 @@ few_event site (effect.Store mem.M width address value) p k es s few = few
 few_event site (effect.StackOp Sres count) p k es s few = (s.0, few)
 few_event site (effect.StackOp Sens count) p k es s few = (s.0, few)
 few_event site (effect.StackOp Sfree count) p k es s few = (s.0, few)
+few_event site _ p k es s few = few
 
 few_goal : (image : Parts) (d : Option Goal) (es : List Event) → AreFew es → AreFew (goal_events image d ++ es)
 few_goal image None es few = few

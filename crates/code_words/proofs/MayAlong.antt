@@ -46,9 +46,7 @@ use Rattle.code_words.proofs.Saying.{OfLoad}
 module _ (Loads Stores To : ℕ → Type 0) where
   gone_well : (to : Goal) (c : Core) (ops : List Operation) → Well Loads Stores To c ops → Well Loads Stores To (model.gone to c) ops
   gone_well (goal.Within offset) c ops h = h
-  gone_well (goal.Call target) c ops h = h
-  gone_well (goal.Fill target) c ops h = h
-  gone_well (goal.Return base offset) c ops h = h
+  gone_well _ c ops h = h
 
   landed_well : (u : ℕ) (c : Core) (ops : List Operation) → Well Loads Stores To c ops → Well Loads Stores To (landed u c) ops
   landed_well u c ops h = by (is_running c.plain) refl
@@ -76,9 +74,7 @@ silent (effect.Load space width rd address) m value = by space
   where
     by : (s : Mem) → OfLoad Nothing_said (effect.Load s width rd address) m value
     by mem.S = tt
-    by mem.L = tt
-    by mem.C = tt
-    by mem.M = tt
+    by _ = tt
 silent (effect.Store space width address v) m value = tt
 silent (effect.StackOp func count) m value = tt
 

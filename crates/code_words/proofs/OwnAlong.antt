@@ -42,9 +42,7 @@ module _ (Cached : ℕ → Type 0) (k : Memory) where
 
   gone_own : (to : Goal) (c : Core) → HoldsOwn Cached k c → HoldsOwn Cached k (model.gone to c)
   gone_own (goal.Within offset) c h = record { scratch = h.scratch; sent = h.sent; private = h.private; fresh = h.fresh }
-  gone_own (goal.Call target) c h = record { scratch = h.scratch; sent = h.sent; private = h.private; fresh = h.fresh }
-  gone_own (goal.Fill target) c h = record { scratch = h.scratch; sent = h.sent; private = h.private; fresh = h.fresh }
-  gone_own (goal.Return base offset) c h = record { scratch = h.scratch; sent = h.sent; private = h.private; fresh = h.fresh }
+  gone_own _ c h = record { scratch = h.scratch; sent = h.sent; private = h.private; fresh = h.fresh }
 
   landed_own : (u : ℕ) (c : Core) → Rests c.plain.transfer → HoldsOwn Cached k c → HoldsOwn Cached k (landed u c) × Rests (landed u c).plain.transfer
   landed_own u c r h = by (is_running c.plain) refl

@@ -52,22 +52,14 @@ module _ (Says : Option Cell → Memory → ℕ → Type 0) where
   -- what is said of the value that came is said of the one that is pending
   pub of_pending : (site : Site) (e : Effect) (r : Run) (value : ℕ) (regs regs' old : Registers) → IsSound site e (pointers_of r) r.memory → regs'.pending ≡ regs.pending → regs ≡ regs_with e value old
       → OfLoad e r.memory value → OfLoad e r.memory (pending_value regs'.pending)
-  of_pending site effect.Nothing r value regs regs' old s same came said = tt
-  of_pending site (effect.Flow flow) r value regs regs' old s same came said = tt
-  of_pending site (effect.Load mem.S width rd address) r value regs regs' old s same came said = tt
   of_pending site (effect.Load mem.L width rd address) r value regs regs' old s same came said = of_word width rd address value (cell_of mem.L address) r.memory regs regs' old s.0 same came said
   of_pending site (effect.Load mem.C width rd address) r value regs regs' old s same came said = of_word width rd address value (cell_of mem.C address) r.memory regs regs' old s.0 same came said
   of_pending site (effect.Load mem.M width rd address) r value regs regs' old s same came said = of_word width rd address value (cell_of mem.M address) r.memory regs regs' old s.0 same came said
-  of_pending site (effect.Store space width address v) r value regs regs' old s same came said = tt
-  of_pending site (effect.StackOp func count) r value regs regs' old s same came said = tt
+  of_pending site _ r value regs regs' old s same came said = tt
 
   -- and of the first of the list
   pub of_first : (e : Effect) (m : Memory) (regs : Registers) (loads rest : List ℕ) → loads ≡ given_by e regs ++ rest → OfLoad e m (pending_value regs.pending) → OfLoad e m (first_load loads)
-  of_first effect.Nothing m regs loads rest is said = tt
-  of_first (effect.Flow flow) m regs loads rest is said = tt
-  of_first (effect.Load mem.S width rd address) m regs loads rest is said = tt
   of_first (effect.Load mem.L width rd address) m regs loads rest is said = subst (Says (cell_of mem.L address) m) (sym (ap first_load is)) said
   of_first (effect.Load mem.C width rd address) m regs loads rest is said = subst (Says (cell_of mem.C address) m) (sym (ap first_load is)) said
   of_first (effect.Load mem.M width rd address) m regs loads rest is said = subst (Says (cell_of mem.M address) m) (sym (ap first_load is)) said
-  of_first (effect.Store space width address v) m regs loads rest is said = tt
-  of_first (effect.StackOp func count) m regs loads rest is said = tt
+  of_first _ m regs loads rest is said = tt

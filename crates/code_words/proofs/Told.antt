@@ -18,25 +18,16 @@ use Rattle.code_words.proofs.Saying.{IsOwnWord, IsBoardWord, OfLoad, OfLoads}
 use Rattle.code_core.specs.Sound.{IsSound, AreSound, IsLocalLoadable, IsMainLoadable}
 
 local_told : (place : Option Cell) (m : Memory) (value : ℕ) → IsLocalLoadable place → IsOwnWord place m value → IsBoardWord place m value → value ≡ word_at place m
-local_told None m value s own board = absurd s
 local_told (Some (cell.Scratch word)) m value s own board = own
 local_told (Some (cell.Comm word)) m value s own board = board
-local_told (Some (cell.Port core register)) m value s own board = absurd s
-local_told (Some (cell.Private word)) m value s own board = absurd s
-local_told (Some (cell.Shared word)) m value s own board = absurd s
+local_told _ m value s own board = absurd s
 
 main_told : (place : Option Cell) (m : Memory) (value : ℕ) → IsMainLoadable place → IsOwnWord place m value → IsBoardWord place m value → value ≡ word_at place m
-main_told None m value s own board = absurd s
-main_told (Some (cell.Scratch word)) m value s own board = absurd s
-main_told (Some (cell.Comm word)) m value s own board = absurd s
-main_told (Some (cell.Port core register)) m value s own board = absurd s
 main_told (Some (cell.Private word)) m value s own board = own
 main_told (Some (cell.Shared word)) m value s own board = board
+main_told _ m value s own board = absurd s
 
 effected_told : (site : Site) (e : Effect) (m : Run) → IsSound site e (pointers_of m) m.memory → OfLoad IsOwnWord e m.memory (first_load m.loads) → OfLoad IsBoardWord e m.memory (first_load m.loads) → effected by_stack e m ≡ effected by_words e m
-effected_told site effect.Nothing m s own board = refl
-effected_told site (effect.Flow flow) m s own board = refl
-effected_told site (effect.Load mem.S width rd address) m s own board = refl
 effected_told site (effect.Load mem.L width rd address) m s own board =
     ap (λ v. record m { regs = arrived rd (picked width address v) m.regs; loads = other_loads m.loads; asked = m.asked ++ effect.Load mem.L width rd address ∷ [] }) (local_told (cell_of mem.L address) m.memory (first_load m.loads) s.2 own board)
 effected_told site (effect.Load mem.C width rd address) m s own board =
@@ -44,12 +35,11 @@ effected_told site (effect.Load mem.C width rd address) m s own board =
 effected_told site (effect.Load mem.M width rd address) m s own board =
     ap (λ v. record m { regs = arrived rd (picked width address v) m.regs; loads = other_loads m.loads; asked = m.asked ++ effect.Load mem.M width rd address ∷ [] }) (main_told (cell_of mem.M address) m.memory (first_load m.loads) s.2 own board)
 effected_told site (effect.Store mem.S width address value) m s own board = refl
-effected_told site (effect.Store mem.L width address value) m s own board = refl
-effected_told site (effect.Store mem.C width address value) m s own board = refl
-effected_told site (effect.Store mem.M width address value) m s own board = refl
+effected_told site (effect.Store _ width address value) m s own board = refl
 effected_told site (effect.StackOp Sres count) m s own board = refl
 effected_told site (effect.StackOp Sens count) m s own board = refl
 effected_told site (effect.StackOp Sfree count) m s own board = refl
+effected_told site _ m s own board = refl
 
 pub told : (site : Site) (steps : List Step) (m : Run) → AreSound site by_stack steps m → OfLoads IsOwnWord by_stack steps m → OfLoads IsBoardWord by_stack steps m → run_late by_stack steps m ≡ run_late by_words steps m
 told site [] m s own board = refl
@@ -67,9 +57,7 @@ effected_but : (e : Effect) (m : Run) (loads : List ℕ) → ButLoads (effected 
 effected_but effect.Nothing m loads = record { loads = loads; is = refl }
 effected_but (effect.Flow flow) m loads = record { loads = loads; is = refl }
 effected_but (effect.Load mem.S width rd address) m loads = record { loads = other_loads loads; is = refl }
-effected_but (effect.Load mem.L width rd address) m loads = record { loads = other_loads loads; is = refl }
-effected_but (effect.Load mem.C width rd address) m loads = record { loads = other_loads loads; is = refl }
-effected_but (effect.Load mem.M width rd address) m loads = record { loads = other_loads loads; is = refl }
+effected_but (effect.Load _ width rd address) m loads = record { loads = other_loads loads; is = refl }
 effected_but (effect.Store mem.S width address value) m loads = record { loads = loads; is = refl }
 effected_but (effect.Store mem.L width address value) m loads = record { loads = loads; is = refl }
 effected_but (effect.Store mem.C width address value) m loads = record { loads = loads; is = refl }

@@ -99,9 +99,7 @@ asked_accesses (effect.Load mem.C width rd address) p = by (is_loaded address p.
     by false = refl
 asked_accesses (effect.Load mem.M width rd address) p = refl
 asked_accesses (effect.Store mem.S width address value) p = refl
-asked_accesses (effect.Store mem.L width address value) p = refl
-asked_accesses (effect.Store mem.C width address value) p = refl
-asked_accesses (effect.Store mem.M width address value) p = refl
+asked_accesses (effect.Store _ width address value) p = refl
 asked_accesses (effect.StackOp Sres count) p = asks_accesses true (count + p.held - STACK_CACHE_WORDS) (record p { held = min STACK_CACHE_WORDS (count + p.held) })
 asked_accesses (effect.StackOp Sens count) p = asks_accesses false (count - p.held) (record p { held = p.held + (count - p.held) })
 asked_accesses (effect.StackOp Sfree count) p = refl
@@ -139,9 +137,7 @@ running_accesses c u = by (is_running c.plain)
 
 gone_accesses : (goal : Goal) (c : Core) → (gone goal c).seen.accesses ≡ c.seen.accesses
 gone_accesses (Within offset) c = refl
-gone_accesses (Call target) c = refl
-gone_accesses (Fill target) c = refl
-gone_accesses (Return base offset) c = refl
+gone_accesses _ c = refl
 
 flowed_accesses : (c : Core) (u : ℕ) → (flowed u c).seen.accesses ≡ c.seen.accesses
 flowed_accesses c u = by (lands c u)

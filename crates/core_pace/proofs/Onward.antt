@@ -231,15 +231,11 @@ module _ (n core : ℕ) where
 
 pub gone_site : (goal : Goal) (c : Core) → (gone goal c).plain.site ≡ c.plain.site
 gone_site (Within offset) c = refl
-gone_site (Call target) c = refl
-gone_site (Fill target) c = refl
-gone_site (Return base offset) c = refl
+gone_site _ c = refl
 
 gone_free : (goal : Goal) (c : Core) → (gone goal c).plain.free ≡ c.plain.free
 gone_free (Within offset) c = refl
-gone_free (Call target) c = refl
-gone_free (Fill target) c = refl
-gone_free (Return base offset) c = refl
+gone_free _ c = refl
 
 -- a function that is gone to is an event
 entered_pace : (base offset : ℕ) (c : Core) → pace_of (entered base offset c) ≡ asks_method (method_at c.plain.site.image base) (pace_of c)

@@ -260,15 +260,11 @@ lands c u = by_free (is_free u c.plain) refl
 -- what is left where a goal is
 pub gone_status : (goal : Goal) (c : Core) → (gone goal c).plain.status ≡ c.plain.status
 gone_status (Within offset) c = refl
-gone_status (Call target) c = refl
-gone_status (Fill target) c = refl
-gone_status (Return base offset) c = refl
+gone_status _ c = refl
 
 pub gone_flow : (goal : Goal) (c : Core) → (gone goal c).plain.flow ≡ None
 gone_flow (Within offset) c = refl
-gone_flow (Call target) c = refl
-gone_flow (Fill target) c = refl
-gone_flow (Return base offset) c = refl
+gone_flow _ c = refl
 
 pub running_status : (x : Plain) → is_running x ≡ true → x.status ≡ Running
 running_status x runs = by x.status runs

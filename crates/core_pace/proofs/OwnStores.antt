@@ -91,12 +91,9 @@ module _ (core : ℕ) where
   fine_reading (Some (cell.Port target register)) x go_on h = h (port_to x.interface target).channel.left
 
   fine_line : (place : Option Cell) (x : Plain) (go_on : List ℕ → Prog Acted) → ((words : List ℕ) → Fine (go_on words)) → Fine (reading_line place x go_on)
-  fine_line None x go_on h = h no_line
-  fine_line (Some (cell.Scratch word)) x go_on h = h no_line
   fine_line (Some (cell.Private word)) x go_on h = h (x.private word ∷ x.private (word + 1) ∷ x.private (word + 2) ∷ x.private (word + 3) ∷ [])
-  fine_line (Some (cell.Comm word)) x go_on h = h no_line
   fine_line (Some (cell.Shared word)) x go_on h = λ a b c d. h (a ∷ b ∷ c ∷ d ∷ [])
-  fine_line (Some (cell.Port target register)) x go_on h = h no_line
+  fine_line _ x go_on h = h no_line
 
   fine_storing : (word : ℕ) (width : StoreWidth) (address value : ℕ) (c : Core) → c.plain.site.core ≡ core → IsOwnWord core word → Fine (storing word width address value c)
   fine_storing word store.Word address value c e there = (there, fine_now c e)
@@ -167,19 +164,13 @@ module _ (core : ℕ) where
       by (Some word) = record { place = e; pending = tt }
 
   fine_answered : (asked : Effect) (u : ℕ) (c : Core) → c.plain.site.core ≡ core → Fine (answered asked u c)
-  fine_answered effect.Nothing u c e = record { place = e; pending = tt }
-  fine_answered (effect.Flow kind) u c e = record { place = e; pending = tt }
-  fine_answered (effect.Load mem.S width rd address) u c e = record { place = e; pending = tt }
   fine_answered (effect.Load mem.L width rd address) u c e =
       fine_reading (cell_of Local address) c.plain (λ word. now (with_plain (λ x. ends u (with_value rd width address word x)) c)) (λ word. record { place = e; pending = tt })
   fine_answered (effect.Load mem.C width rd address) u c e = fine_cached rd width address u c e
-  fine_answered (effect.Load mem.M width rd address) u c e = record { place = e; pending = tt }
-  fine_answered (effect.Store mem.S width address value) u c e = record { place = e; pending = tt }
   fine_answered (effect.Store mem.L width address value) u c e =
       fine_writing (cell_of Local address) width address value (with_plain (ends u) c) e (cell_in_range Local address)
-  fine_answered (effect.Store mem.C width address value) u c e = record { place = e; pending = tt }
-  fine_answered (effect.Store mem.M width address value) u c e = record { place = e; pending = tt }
   fine_answered (effect.StackOp func count) u c e = fine_stacked func count u c e
+  fine_answered _ u c e = record { place = e; pending = tt }
 
   fine_done : (fetched : Fetched) (u : ℕ) (c : Core) → c.plain.site.core ≡ core → Fine (done_as fetched u c)
   fine_done Outside u c e = record { place = e; pending = tt }

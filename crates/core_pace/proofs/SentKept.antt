@@ -100,12 +100,10 @@ module _ (F : Interface → List Sending → Type 0) (k : IsKept F) where
       }) value h
 
   sent_writing : (place : Option Cell) (width : StoreWidth) (address value : ℕ) (c : Core) → Fair c → Leaves Sent (writing place width address value c)
-  sent_writing None width address value c h = h
-  sent_writing (Some (cell.Scratch word)) width address value c h = h
-  sent_writing (Some (cell.Private word)) width address value c h = h
   sent_writing (Some (cell.Comm word)) width address value c h = sent_storing (comm_word c.plain.site.core word) width address value c h
   sent_writing (Some (cell.Shared word)) width address value c h = sent_storing word width address value c h
   sent_writing (Some (cell.Port target register)) width address value c h = sent_port target register value c h
+  sent_writing _ width address value c h = h
 
   sent_moves : (t : Transfer) (u : ℕ) (c : Core) → Fair c → Fair (with_plain (moves t u) c)
   sent_moves t u c h = by (t.words == 0)
@@ -136,18 +134,12 @@ module _ (F : Interface → List Sending → Type 0) (k : IsKept F) where
       by (Some word) = h
 
   sent_answered : (asked : Effect) (u : ℕ) (c : Core) → Fair c → Leaves Sent (answered asked u c)
-  sent_answered effect.Nothing u c h = h
-  sent_answered (effect.Flow kind) u c h = h
-  sent_answered (effect.Load mem.S width rd address) u c h = h
   sent_answered (effect.Load mem.L width rd address) u c h =
       leaves_reading Sent (cell_of Local address) c.plain (λ word. now (with_plain (λ z. ends u (with_value rd width address word z)) c)) (λ word. h)
   sent_answered (effect.Load mem.C width rd address) u c h = sent_cached rd width address u c h
-  sent_answered (effect.Load mem.M width rd address) u c h = h
-  sent_answered (effect.Store mem.S width address value) u c h = h
   sent_answered (effect.Store mem.L width address value) u c h = sent_writing (cell_of Local address) width address value (with_plain (ends u) c) h
-  sent_answered (effect.Store mem.C width address value) u c h = h
-  sent_answered (effect.Store mem.M width address value) u c h = h
   sent_answered (effect.StackOp func count) u c h = sent_stacked func count u c h
+  sent_answered _ u c h = h
 
   sent_done : (fetched : Fetched) (u : ℕ) (c : Core) → Fair c → Leaves Sent (done_as fetched u c)
   sent_done Outside u c h = h
@@ -195,9 +187,7 @@ module _ (F : Interface → List Sending → Type 0) (k : IsKept F) where
 
   sent_gone : (goal : Goal) (c : Core) → Fair c → Fair (gone goal c)
   sent_gone (Within offset) c h = h
-  sent_gone (Call target) c h = h
-  sent_gone (Fill target) c h = h
-  sent_gone (Return base offset) c h = h
+  sent_gone _ c h = h
 
   sent_flowed : (u : ℕ) (c : Core) → Fair c → Fair (flowed u c)
   sent_flowed u c h = by (lands c u)

@@ -183,19 +183,14 @@ room_of func count x e = check_holds (has_room func count x.stack) e
 
 held_answered : (asked : Effect) (u : ℕ) (x : Plain) (c : Core) → fault_of x asked ≡ None → c.plain.stack ≡ x.stack → IsStack c.plain.stack → Leaves Held (answered asked u c)
 unfolding Held
-held_answered effect.Nothing u x c e same h = h
-held_answered (effect.Flow kind) u x c e same h = h
-held_answered (effect.Load mem.S width rd address) u x c e same h = h
 held_answered (effect.Load mem.L width rd address) u x c e same h =
     leaves_reading Held (cell_of Local address) c.plain (λ word. now (with_plain (λ z. ends u (with_value rd width address word z)) c)) (λ word. h)
 held_answered (effect.Load mem.C width rd address) u x c e same h = held_cached rd width address u c h
-held_answered (effect.Load mem.M width rd address) u x c e same h = h
 held_answered (effect.Store mem.S width address value) u x c e same h = set_is_stack width address value c.plain.stack h
 held_answered (effect.Store mem.L width address value) u x c e same h = held_writing (cell_of Local address) width address value (with_plain (ends u) c) h
-held_answered (effect.Store mem.C width address value) u x c e same h = h
-held_answered (effect.Store mem.M width address value) u x c e same h = h
 held_answered (effect.StackOp func count) u x c e same h =
     held_stacked func count u c h (ap (has_room func count) same ∙ room_of func count x e)
+held_answered _ u x c e same h = h
 
 held_done : (fetched : Fetched) (u : ℕ) (c : Core) → IsStack c.plain.stack → Leaves Held (done_as fetched u c)
 unfolding Held
@@ -244,9 +239,7 @@ held_slot u y h = by (is_due u y.core.plain)
 
 gone_stack : (goal : Goal) (c : Core) → (gone goal c).plain.stack ≡ c.plain.stack
 gone_stack (Within offset) c = refl
-gone_stack (Call target) c = refl
-gone_stack (Fill target) c = refl
-gone_stack (Return base offset) c = refl
+gone_stack _ c = refl
 
 flowed_stack : (u : ℕ) (c : Core) → (flowed u c).plain.stack ≡ c.plain.stack
 flowed_stack u c = by (lands c u)

@@ -68,13 +68,10 @@ forgets_reading (Some (cell.Shared word)) c go_on go_on' h = λ i. get word (λ 
 forgets_reading (Some (cell.Port core register)) c go_on go_on' h = h (port_to c.plain.interface core).channel.left
 
 forgets_line : (place : Option Cell) (c : Core) (go_on go_on' : List ℕ → Prog Acted) → ((words : List ℕ) → Forgets (go_on' words) (go_on words)) → Forgets (reading_line place (unsent c).plain go_on') (reading_line place c.plain go_on)
-forgets_line None c go_on go_on' h = h no_line
-forgets_line (Some (cell.Scratch word)) c go_on go_on' h = h no_line
 forgets_line (Some (cell.Private word)) c go_on go_on' h =
     h (c.plain.private word ∷ c.plain.private (word + 1) ∷ c.plain.private (word + 2) ∷ c.plain.private (word + 3) ∷ [])
-forgets_line (Some (cell.Comm word)) c go_on go_on' h = h no_line
 forgets_line (Some (cell.Shared word)) c go_on go_on' h = λ i. get word (λ a. get (word + 1) (λ b. get (word + 1 + 1) (λ d. get (word + 1 + 1 + 1) (λ e. h (a ∷ b ∷ d ∷ e ∷ []) i))))
-forgets_line (Some (cell.Port core register)) c go_on go_on' h = h no_line
+forgets_line _ c go_on go_on' h = h no_line
 
 forgets_storing : (word : ℕ) (width : StoreWidth) (address value : ℕ) (c : Core) → Forgets (storing word width address value (unsent c)) (storing word width address value c)
 forgets_storing word store.Word address value c = refl
@@ -128,12 +125,10 @@ forgets_port target register value c = by (register == 0) (register == 4)
     }) (forgets_start target value c.plain.interface)
 
 forgets_writing : (place : Option Cell) (width : StoreWidth) (address value : ℕ) (c : Core) → Forgets (writing place width address value (unsent c)) (writing place width address value c)
-forgets_writing None width address value c = refl
-forgets_writing (Some (cell.Scratch word)) width address value c = refl
-forgets_writing (Some (cell.Private word)) width address value c = refl
 forgets_writing (Some (cell.Comm word)) width address value c = forgets_storing (comm_word c.plain.site.core word) width address value c
 forgets_writing (Some (cell.Shared word)) width address value c = forgets_storing word width address value c
 forgets_writing (Some (cell.Port target register)) width address value c = ap now (forgets_port target register value c)
+forgets_writing _ width address value c = refl
 
 -- ---- a bundle
 
@@ -170,19 +165,13 @@ forgets_cached rd width address u c = by (cache.cached_word c.seen.cached addres
     by (Some word) = refl
 
 forgets_answered : (asked : Effect) (u : ℕ) (c : Core) → Forgets (answered asked u (unsent c)) (answered asked u c)
-forgets_answered effect.Nothing u c = refl
-forgets_answered (effect.Flow kind) u c = refl
-forgets_answered (effect.Load mem.S width rd address) u c = refl
 forgets_answered (effect.Load mem.L width rd address) u c =
     forgets_reading (cell_of Local address) c (λ word. now (with_plain (λ x. ends u (with_value rd width address word x)) c))
     (λ word. now (with_plain (λ x. ends u (with_value rd width address word x)) (unsent c))) (λ word. refl)
 forgets_answered (effect.Load mem.C width rd address) u c = ap now (forgets_cached rd width address u c)
-forgets_answered (effect.Load mem.M width rd address) u c = refl
-forgets_answered (effect.Store mem.S width address value) u c = refl
 forgets_answered (effect.Store mem.L width address value) u c = forgets_writing (cell_of Local address) width address value (with_plain (ends u) c)
-forgets_answered (effect.Store mem.C width address value) u c = refl
-forgets_answered (effect.Store mem.M width address value) u c = refl
 forgets_answered (effect.StackOp func count) u c = ap now (forgets_stacked func count u c)
+forgets_answered _ u c = refl
 
 forgets_fault : (asked : Effect) (c : Core) → fault_of (unsent c).plain asked ≡ fault_of c.plain asked
 unfolding fault_of

@@ -16,12 +16,9 @@ in_front ts front = option_map (λ f. (ts ++ f.0, f.1)) front
 
 -- a piece with a byte at least, and what comes after it
 abbrev pub cut_piece : (List ℕ → Front) → List ℕ → Piece → Front
-cut_piece more bs (Between zero) = None
 cut_piece more bs (Between (suc count)) = more (drop (suc count) bs)
-cut_piece more bs (Is t zero) = None
 cut_piece more bs (Is t (suc count)) = in_front (t ∷ []) (more (drop (suc count) bs))
-cut_piece more bs Bad = None
-cut_piece more bs (Wide further) = None
+cut_piece more bs _ = None
 
 -- So many pieces at the front of a text. Only `#` asks for what stands before it, and here none is let through.
 abbrev pub cut : ℕ → List ℕ → Front
@@ -49,12 +46,9 @@ in_front_none None = refl
 in_front_none (Some f) = refl
 
 piece_by_piece : (m : ℕ) (f g : List ℕ → Front) (bs : List ℕ) (p : Piece) → ((cs : List ℕ) → f cs ≡ cut_behind m (g cs)) → cut_piece f bs p ≡ cut_behind m (cut_piece g bs p)
-piece_by_piece m f g bs (Between zero) same = refl
 piece_by_piece m f g bs (Between (suc count)) same = same (drop (suc count) bs)
-piece_by_piece m f g bs (Is t zero) same = refl
 piece_by_piece m f g bs (Is t (suc count)) same = ap (in_front (t ∷ [])) (same (drop (suc count) bs)) ∙ sym (in_front_behind m t (g (drop (suc count) bs)))
-piece_by_piece m f g bs Bad same = refl
-piece_by_piece m f g bs (Wide further) same = refl
+piece_by_piece m f g bs _ same = refl
 
 cut_more : (n m : ℕ) (bs : List ℕ) → cut (n + m) bs ≡ cut_behind m (cut n bs)
 cut_more zero m bs = let same : 0 + m ≡ m = omega arith in rw same (in_front_none (cut m bs))
@@ -117,15 +111,12 @@ preceded_by n lexes t bs ts text at pieces (Some f) is told left room =
 -- by the piece that comes first
 by_piece : (n : ℕ) → Lexes n → (bs : List ℕ) (ts : List Token) (text : List ℕ) (at pieces : ℕ) (p : Piece) → cut_piece (cut n) bs p ≡ Some (ts, []) → drop at text ≡ bs
     → length bs ≤ suc pieces → behind_piece at (lexed_from pieces text) p ≡ tokens ts
-by_piece n lexes bs ts text at pieces (Between zero) is left room = absurd (grind (arith, common_steps))
 by_piece n lexes bs ts text at pieces (Between (suc count)) is left room =
     lexes (drop (suc count) bs) ts text (at + suc count) pieces is (sym (drop-drop (suc count) at text) ∙ ap (drop (suc count)) left) (omega (arith, room, length-drop (suc count) bs))
-by_piece n lexes bs ts text at pieces (Is t zero) is left room = absurd (grind (arith, common_steps))
 by_piece n lexes bs ts text at pieces (Is t (suc count)) is left room =
     preceded_by n lexes t (drop (suc count) bs) ts text (at + suc count) pieces (cut n (drop (suc count) bs)) refl is
     (sym (drop-drop (suc count) at text) ∙ ap (drop (suc count)) left) (omega (arith, room, length-drop (suc count) bs))
-by_piece n lexes bs ts text at pieces Bad is left room = absurd (grind (arith, common_steps))
-by_piece n lexes bs ts text at pieces (Wide further) is left room = absurd (grind (arith, common_steps))
+by_piece n lexes bs ts text at pieces _ is left room = absurd (grind (arith, common_steps))
 
 lexed_so : (n : ℕ) → Lexes n
 lexed_so zero bs ts text at pieces is left room =

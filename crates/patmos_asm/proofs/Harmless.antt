@@ -127,10 +127,7 @@ op_harmless (op.Load m w d a n) h =
     form_harmless (Load w m) (d ∷ a ∷ n ∷ []) (reg d (omega (arith, h.0)), (refl, (refl, (reg a (omega (arith, h.1)), (off n (omega (arith, h.2)), (refl, tt))))))
 op_harmless (op.Store m w a s n) h =
     form_harmless (Store w m) (a ∷ n ∷ s ∷ []) (refl, (reg a (omega (arith, h.0)), (off n (omega (arith, h.2)), (refl, (refl, (reg s (omega (arith, h.1)), tt))))))
-op_harmless (op.Branch z) h = refl
-op_harmless (op.Call n) h = refl
-op_harmless (op.BranchFill n) h = refl
-op_harmless op.Return h = refl
+op_harmless _ h = refl
 
 flow_harmless : (f : Flow) → AreHarmless (flow_name f)
 flow_harmless Branch = refl

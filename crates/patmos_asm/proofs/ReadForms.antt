@@ -59,13 +59,10 @@ is_mnemonic (Mul unsigned) = elim unsigned as (λ y. IsMnemonic (Mul y)) [ true 
 is_mnemonic (Cmp f) = elim f as (λ y. IsMnemonic (Cmp y)) [ cmp.Eq ↦ found (Cmp cmp.Eq) refl refl (omega arith) refl refl | cmp.Neq ↦ found (Cmp cmp.Neq) refl refl (omega arith) refl refl | cmp.Lt ↦ found (Cmp cmp.Lt) refl refl (omega arith) refl refl | cmp.Le ↦ found (Cmp cmp.Le) refl refl (omega arith) refl refl | cmp.Ult ↦ found (Cmp cmp.Ult) refl refl (omega arith) refl refl | cmp.Ule ↦ found (Cmp cmp.Ule) refl refl (omega arith) refl refl | cmp.Btest ↦ found (Cmp cmp.Btest) refl refl (omega arith) refl refl ]
 is_mnemonic (CmpImm f) = elim f as (λ y. IsMnemonic (CmpImm y)) [ cmp.Eq ↦ found (CmpImm cmp.Eq) refl refl (omega arith) refl refl | cmp.Neq ↦ found (CmpImm cmp.Neq) refl refl (omega arith) refl refl | cmp.Lt ↦ found (CmpImm cmp.Lt) refl refl (omega arith) refl refl | cmp.Le ↦ found (CmpImm cmp.Le) refl refl (omega arith) refl refl | cmp.Ult ↦ found (CmpImm cmp.Ult) refl refl (omega arith) refl refl | cmp.Ule ↦ found (CmpImm cmp.Ule) refl refl (omega arith) refl refl | cmp.Btest ↦ found (CmpImm cmp.Btest) refl refl (omega arith) refl refl ]
 is_mnemonic (Comb f) = elim f as (λ y. IsMnemonic (Comb y)) [ comb.Por ↦ found (Comb comb.Por) refl refl (omega arith) refl refl | comb.Pand ↦ found (Comb comb.Pand) refl refl (omega arith) refl refl | comb.Pxor ↦ found (Comb comb.Pxor) refl refl (omega arith) refl refl ]
-is_mnemonic ToSpecial = found ToSpecial refl refl (omega arith) refl refl
-is_mnemonic FromSpecial = found FromSpecial refl refl (omega arith) refl refl
 is_mnemonic (Stack f) = elim f as (λ y. IsMnemonic (Stack y)) [ stack.Sres ↦ found (Stack stack.Sres) refl refl (omega arith) refl refl | stack.Sens ↦ found (Stack stack.Sens) refl refl (omega arith) refl refl | stack.Sfree ↦ found (Stack stack.Sfree) refl refl (omega arith) refl refl ]
 is_mnemonic (Load w m) = elim w as (λ y. IsMnemonic (Load y m)) [ load.Word ↦ elim m as (λ y. IsMnemonic (Load load.Word y)) [ mem.S ↦ found (Load load.Word mem.S) refl refl (omega arith) refl refl | mem.L ↦ found (Load load.Word mem.L) refl refl (omega arith) refl refl | mem.C ↦ found (Load load.Word mem.C) refl refl (omega arith) refl refl | mem.M ↦ found (Load load.Word mem.M) refl refl (omega arith) refl refl ] | load.Half ↦ elim m as (λ y. IsMnemonic (Load load.Half y)) [ mem.S ↦ found (Load load.Half mem.S) refl refl (omega arith) refl refl | mem.L ↦ found (Load load.Half mem.L) refl refl (omega arith) refl refl | mem.C ↦ found (Load load.Half mem.C) refl refl (omega arith) refl refl | mem.M ↦ found (Load load.Half mem.M) refl refl (omega arith) refl refl ] | load.Byte ↦ elim m as (λ y. IsMnemonic (Load load.Byte y)) [ mem.S ↦ found (Load load.Byte mem.S) refl refl (omega arith) refl refl | mem.L ↦ found (Load load.Byte mem.L) refl refl (omega arith) refl refl | mem.C ↦ found (Load load.Byte mem.C) refl refl (omega arith) refl refl | mem.M ↦ found (Load load.Byte mem.M) refl refl (omega arith) refl refl ] | load.HalfUnsigned ↦ elim m as (λ y. IsMnemonic (Load load.HalfUnsigned y)) [ mem.S ↦ found (Load load.HalfUnsigned mem.S) refl refl (omega arith) refl refl | mem.L ↦ found (Load load.HalfUnsigned mem.L) refl refl (omega arith) refl refl | mem.C ↦ found (Load load.HalfUnsigned mem.C) refl refl (omega arith) refl refl | mem.M ↦ found (Load load.HalfUnsigned mem.M) refl refl (omega arith) refl refl ] | load.ByteUnsigned ↦ elim m as (λ y. IsMnemonic (Load load.ByteUnsigned y)) [ mem.S ↦ found (Load load.ByteUnsigned mem.S) refl refl (omega arith) refl refl | mem.L ↦ found (Load load.ByteUnsigned mem.L) refl refl (omega arith) refl refl | mem.C ↦ found (Load load.ByteUnsigned mem.C) refl refl (omega arith) refl refl | mem.M ↦ found (Load load.ByteUnsigned mem.M) refl refl (omega arith) refl refl ] ]
 is_mnemonic (Store w m) = elim w as (λ y. IsMnemonic (Store y m)) [ store.Word ↦ elim m as (λ y. IsMnemonic (Store store.Word y)) [ mem.S ↦ found (Store store.Word mem.S) refl refl (omega arith) refl refl | mem.L ↦ found (Store store.Word mem.L) refl refl (omega arith) refl refl | mem.C ↦ found (Store store.Word mem.C) refl refl (omega arith) refl refl | mem.M ↦ found (Store store.Word mem.M) refl refl (omega arith) refl refl ] | store.Half ↦ elim m as (λ y. IsMnemonic (Store store.Half y)) [ mem.S ↦ found (Store store.Half mem.S) refl refl (omega arith) refl refl | mem.L ↦ found (Store store.Half mem.L) refl refl (omega arith) refl refl | mem.C ↦ found (Store store.Half mem.C) refl refl (omega arith) refl refl | mem.M ↦ found (Store store.Half mem.M) refl refl (omega arith) refl refl ] | store.Byte ↦ elim m as (λ y. IsMnemonic (Store store.Byte y)) [ mem.S ↦ found (Store store.Byte mem.S) refl refl (omega arith) refl refl | mem.L ↦ found (Store store.Byte mem.L) refl refl (omega arith) refl refl | mem.C ↦ found (Store store.Byte mem.C) refl refl (omega arith) refl refl | mem.M ↦ found (Store store.Byte mem.M) refl refl (omega arith) refl refl ] ]
-is_mnemonic Return = found Return refl refl (omega arith) refl refl
-is_mnemonic Nop = found Nop refl refl (omega arith) refl refl
+is_mnemonic other = found other refl refl (omega arith) refl refl
 
 pub flow_back : (f : Flow) → (list_all is_in_word (flow_name f) ≡ true) × (0 < length (flow_name f)) × (flow_of (flow_name f) ≡ Some f)
 flow_back Branch = (refl, omega arith, refl)
@@ -183,9 +180,7 @@ op_back trail op.Return t h j =
       ends = t.word;
       draft = plain_read Return trail op.Return (let end = t.end in rw end refl);
     }
-op_back trail (op.Branch z) t h j = cc
-op_back trail (op.Call n) t h j = cc
-op_back trail (op.BranchFill n) t h j = cc
+op_back trail _ t h j = cc
 
 -- so is a jump to a name
 first_in_word : (b : ℕ) → begins_name b ≡ true → is_in_word b ≡ true

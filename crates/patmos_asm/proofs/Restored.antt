@@ -40,10 +40,8 @@ equal_itself n = grind (arith, nat_tests)
 
 marked_first : (functions labels : Lookup) (branched : ℕ → Bool) (off : ℕ) (d : Draft) (b : Slots) (rest : List Placed) → b.first.op ≡ placed_op functions labels off d →
     ((n : ℕ) → is_target n (targets_of ((off, b) ∷ rest)) ≡ true → branched n ≡ true) → IsMarked labels branched d
-marked_first functions labels branched off (ready o) b rest e all = tt
 marked_first functions labels branched off (to Branch name) b rest e all = λ p h. all p (rw (e, h, way_back p off, equal_itself p) refl)
-marked_first functions labels branched off (to Call name) b rest e all = tt
-marked_first functions labels branched off (to BranchFill name) b rest e all = tt
+marked_first functions labels branched off _ b rest e all = tt
 
 any_more : (o : Option ℕ) (n : ℕ) (ts : List ℕ) → list_any (λ t. n == t) ts ≡ true → list_any (λ t. n == t) (cons_option o ts) ≡ true
 any_more None n ts e = e

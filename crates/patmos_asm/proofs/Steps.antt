@@ -28,10 +28,8 @@ size_small : (b : DraftBundle) → size_of b ≤ 2
 size_small b = grind arith
 
 grows : (before : Before) (item : Item) → ((after before item).size ≤ before.size + 2) × ((after before item).image ≤ before.image + 2)
-grows before (function _ name) = (omega arith, omega arith)
-grows before (label _ name) = (omega arith, omega arith)
 grows before (bundle _ b) = let s : size_of b ≤ 2 = size_small b in (omega arith, omega arith)
-grows before (faulty _ _) = (omega arith, omega arith)
+grows before _ = (omega arith, omega arith)
 
 -- a statement adds at most two words
 pub grown : (before before' : Before) (item : Item) → before' ≡ after before item → (before'.size ≤ before.size + 2) × (before'.image ≤ before.image + 2)

@@ -136,11 +136,8 @@ pending_word e acts word (Some o) asks leaves = ap last_of asks ∙ last_of_end 
 
 -- a store is pending only where a part of a word is stored, whose load comes last
 ends_before : (e : Event) (acts : List WordOp) (ask : Ask) (pending_store : Option PendingStore) → asked_of e ≡ acts ++ ops_of ask → LeavesPending ask pending_store → EndsBefore e pending_store
-ends_before e acts asks.Nothing pending_store is leaves = none_pending e pending_store leaves
-ends_before e acts (asks.Load word) pending_store is leaves = none_pending e pending_store leaves
-ends_before e acts (asks.Line word) pending_store is leaves = none_pending e pending_store leaves
-ends_before e acts (asks.Store word value) pending_store is leaves = none_pending e pending_store leaves
 ends_before e acts (asks.Change word) pending_store is leaves = pending_word e acts word pending_store is leaves
+ends_before e acts _ pending_store is leaves = none_pending e pending_store leaves
 
 pub act_leaves : (cycle : ℕ) (y : Core) (e : Event) (window : Option Window) (ask : Ask) (phase : Phase) → phase ≡ Act → SendsIn y.plain.interface cycle window
     → ((i : Interface) → HasRegisters i y.plain.interface → FollowsAsk ask (own cycle (with_interface y i)))

@@ -55,10 +55,7 @@ idle_at_limit place limit x made rests =
 -- an idle core's words are all 0
 no_words : (c : Cell) (site : Site) → word_in c (idle site).plain ≡ 0
 no_words (cell.Scratch word) site = refl
-no_words (cell.Private word) site = refl
-no_words (cell.Comm word) site = refl
-no_words (cell.Port core register) site = refl
-no_words (cell.Shared word) site = refl
+no_words _ site = refl
 
 -- what a core stands for, that it is through, and the room of its trace, by what is at its place
 abbrev StandsIn : Core → List Operation → Kind → Type 0

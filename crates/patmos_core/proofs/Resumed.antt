@@ -115,10 +115,8 @@ gets_left s (suc count) word h (v ∷ vs) = gets_left s count (word + 1) (λ us.
 -- one or two loads look at the first two values alone
 gets_first : {X : Type 0} (s count word : ℕ) (h : List ℕ → X) (a b : ℕ) (values : List ℕ) → count ≤ 2
     → (fed s (gets count word (λ vs. done (h vs))) (a ∷ b ∷ values)).core ≡ (fed s (gets count word (λ vs. done (h vs))) (a ∷ b ∷ [])).core
-gets_first s zero word h a b values few = refl
-gets_first s (suc zero) word h a b values few = refl
-gets_first s (suc (suc zero)) word h a b values few = refl
 gets_first s (suc (suc (suc count))) word h a b values few = absurd (omega (arith, few))
+gets_first s _ word h a b values few = refl
 
 -- so the packet takes the first values, and leaves the others
 pub packet_left : (x : Interface) (s cycle target first count : ℕ) (values : List ℕ) → IsInjection x cycle target first count

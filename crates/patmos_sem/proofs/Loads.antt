@@ -18,22 +18,8 @@ begins_nothing b regs left same = by (holds regs b.first.guard) b.first.op same
     by : (guard : Bool) (op : Op) → left ≡ (if guard then begun regs op else pending.Nothing)
         → OnLoad (if guard then asked regs op else effect.Nothing) (left ≡ pending.Nothing)
     by false op h = tt
-    by true (AluImm func rd ra imm) h = tt
-    by true (AluReg func rd ra rb) h = tt
-    by true (AluLong func rd ra constant) h = tt
-    by true (Mul unsigned ra rb) h = tt
-    by true (Cmp func pd ra rb) h = tt
-    by true (CmpImm func pd ra imm) h = tt
-    by true (Comb func pd a b) h = tt
-    by true (ToSpecial special ra) h = tt
-    by true (FromSpecial rd special) h = tt
-    by true (Stack func count) h = tt
     by true (Load space width rd ra imm) h = h
-    by true (Store space width ra rs imm) h = tt
-    by true (Branch offset) h = tt
-    by true (Call target) h = tt
-    by true (BranchFill target) h = tt
-    by true Return h = tt
+    by true _ h = tt
 
 -- an operation that is no product leaves nothing pending, whether or not its guard is true
 pub none_begun : (regs : Registers) (i : Instr) → begun regs i.op ≡ pending.Nothing → slot_begun regs i ≡ pending.Nothing
@@ -49,15 +35,7 @@ asking_writes st ss regs i asks = by (holds regs i.guard) i.op asks
   where
     by : (guard : Bool) (op : Op) → (if guard then asked regs op else effect.Nothing) ≢ effect.Nothing → (if guard then write_of st ss regs op else write.Nothing) ≡ write.Nothing
     by false op h = refl
-    by true (AluImm func rd ra imm) h = absurd (h refl)
-    by true (AluReg func rd ra rb) h = absurd (h refl)
-    by true (AluLong func rd ra constant) h = absurd (h refl)
     by true (Mul unsigned ra rb) h = refl
-    by true (Cmp func pd ra rb) h = absurd (h refl)
-    by true (CmpImm func pd ra imm) h = absurd (h refl)
-    by true (Comb func pd a b) h = absurd (h refl)
-    by true (ToSpecial special ra) h = absurd (h refl)
-    by true (FromSpecial rd special) h = absurd (h refl)
     by true (Stack func count) h = refl
     by true (Load space width rd ra imm) h = refl
     by true (Store space width ra rs imm) h = refl
@@ -65,6 +43,7 @@ asking_writes st ss regs i asks = by (holds regs i.guard) i.op asks
     by true (Call target) h = refl
     by true (BranchFill target) h = refl
     by true Return h = refl
+    by true _ h = absurd (h refl)
 
 pub asking_begins : (regs : Registers) (i : Instr) → slot_asked regs i ≢ effect.Nothing → slot_begun regs i ≡ pending.Nothing
 asking_begins regs i asks = by (holds regs i.guard) i.op asks
@@ -72,18 +51,4 @@ asking_begins regs i asks = by (holds regs i.guard) i.op asks
     by : (guard : Bool) (op : Op) → (if guard then asked regs op else effect.Nothing) ≢ effect.Nothing → (if guard then begun regs op else pending.Nothing) ≡ pending.Nothing
     by false op h = refl
     by true (Mul unsigned ra rb) h = absurd (h refl)
-    by true (AluImm func rd ra imm) h = refl
-    by true (AluReg func rd ra rb) h = refl
-    by true (AluLong func rd ra constant) h = refl
-    by true (Cmp func pd ra rb) h = refl
-    by true (CmpImm func pd ra imm) h = refl
-    by true (Comb func pd a b) h = refl
-    by true (ToSpecial special ra) h = refl
-    by true (FromSpecial rd special) h = refl
-    by true (Stack func count) h = refl
-    by true (Load space width rd ra imm) h = refl
-    by true (Store space width ra rs imm) h = refl
-    by true (Branch offset) h = refl
-    by true (Call target) h = refl
-    by true (BranchFill target) h = refl
-    by true Return h = refl
+    by true _ h = refl

@@ -57,21 +57,7 @@ silent_class bundle h = by (is_silent bundle.first.op) bundle.second (branch_of 
 
 branch_is : (o : Op) (jump : ℤ) → branch_of o ≡ Some jump → o ≡ op.Branch jump
 branch_is (op.AluImm func rd ra imm) jump h = cc
-branch_is (op.AluReg func rd ra rb) jump h = cc
-branch_is (op.AluLong func rd ra constant) jump h = cc
-branch_is (op.Mul unsigned ra rb) jump h = cc
-branch_is (op.Cmp func pd ra rb) jump h = cc
-branch_is (op.CmpImm func pd ra imm) jump h = cc
-branch_is (op.Comb func pd a b) jump h = cc
-branch_is (op.ToSpecial special ra) jump h = cc
-branch_is (op.FromSpecial rd special) jump h = cc
-branch_is (op.Stack func count) jump h = cc
-branch_is (op.Load space width rd ra imm) jump h = cc
-branch_is (op.Store space width ra rs imm) jump h = cc
-branch_is (op.Branch offset) jump h = cc
-branch_is (op.Call target) jump h = cc
-branch_is (op.BranchFill target) jump h = cc
-branch_is op.Return jump h = cc
+branch_is _ jump h = cc
 
 branch_class : (bundle : Slots) (guard : Guard) (jump : ℤ) → class_in bundle ≡ classes.Branch guard jump → bundle ≡ branch_alone guard jump
 branch_class bundle guard jump h = by (is_silent bundle.first.op) bundle.second (branch_of bundle.first.op) refl refl h

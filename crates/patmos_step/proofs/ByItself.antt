@@ -48,15 +48,6 @@ silent_asks b regs silent = by (holds regs b.first.guard) b.first.op silent
   where
     by : (guard : Bool) (op : Op) → is_silent op ≡ true → effect.Nothing ≡ (if guard then asked regs op else effect.Nothing)
     by false op h = refl
-    by true (op.AluImm func rd ra imm) h = refl
-    by true (op.AluReg func rd ra rb) h = refl
-    by true (op.AluLong func rd ra constant) h = refl
-    by true (op.Mul unsigned ra rb) h = refl
-    by true (op.Cmp func pd ra rb) h = refl
-    by true (op.CmpImm func pd ra imm) h = refl
-    by true (op.Comb func pd a b) h = refl
-    by true (op.ToSpecial special ra) h = refl
-    by true (op.FromSpecial rd special) h = refl
     by true (op.Stack func count) h = cc
     by true (op.Load space width rd ra imm) h = cc
     by true (op.Store space width ra rs imm) h = cc
@@ -64,39 +55,27 @@ silent_asks b regs silent = by (holds regs b.first.guard) b.first.op silent
     by true (op.Call target) h = cc
     by true (op.BranchFill target) h = cc
     by true op.Return h = cc
+    by true _ h = refl
 
 -- an access to the core's own stack or scratchpad asks for nothing of the board
 loads_scratch : (place : Option Cell) (rd : ℕ) (width : Width) (address cycle : ℕ) (c : Core) → IsScratch place
     → reading place c.plain (λ word. now (with_plain (λ x. ends cycle (with_value rd width address word x)) c))
     ≡ now (with_plain (λ x. ends cycle (with_value rd width address (scratch_at place x) x)) c)
-loads_scratch None rd width address cycle c own = absurd own
 loads_scratch (Some (cell.Scratch word)) rd width address cycle c own = refl
-loads_scratch (Some (cell.Comm word)) rd width address cycle c own = absurd own
-loads_scratch (Some (cell.Port core register)) rd width address cycle c own = absurd own
-loads_scratch (Some (cell.Private word)) rd width address cycle c own = absurd own
-loads_scratch (Some (cell.Shared word)) rd width address cycle c own = absurd own
+loads_scratch _ rd width address cycle c own = absurd own
 
 stores_scratch : (place : Option Cell) (width : StoreWidth) (address value cycle : ℕ) (c : Core) → IsScratch place
     → writing place width address value (with_plain (ends cycle) c) ≡ now (with_plain (λ x. ends cycle (scratch_set place width address value x)) c)
-stores_scratch None width address value cycle c own = absurd own
 stores_scratch (Some (cell.Scratch word)) width address value cycle c own = refl
-stores_scratch (Some (cell.Comm word)) width address value cycle c own = absurd own
-stores_scratch (Some (cell.Port core register)) width address value cycle c own = absurd own
-stores_scratch (Some (cell.Private word)) width address value cycle c own = absurd own
-stores_scratch (Some (cell.Shared word)) width address value cycle c own = absurd own
+stores_scratch _ width address value cycle c own = absurd own
 
 answered_alone : (asked : Effect) (cycle : ℕ) (c : Core) → AsksOwn asked → answered asked cycle c ≡ now (with_plain (finished asked cycle) c)
-answered_alone effect.Nothing cycle c own = refl
-answered_alone (effect.Flow kind) cycle c own = refl
-answered_alone (effect.Load mem.S width rd address) cycle c own = refl
 answered_alone (effect.Load mem.L width rd address) cycle c own = loads_scratch (cell_of Local address) rd width address cycle c own
 answered_alone (effect.Load mem.C width rd address) cycle c own = absurd own
-answered_alone (effect.Load mem.M width rd address) cycle c own = refl
-answered_alone (effect.Store mem.S width address value) cycle c own = refl
 answered_alone (effect.Store mem.L width address value) cycle c own = stores_scratch (cell_of Local address) width address value cycle c own
 answered_alone (effect.Store mem.C width address value) cycle c own = absurd own
-answered_alone (effect.Store mem.M width address value) cycle c own = refl
 answered_alone (effect.StackOp func count) cycle c own = absurd own
+answered_alone _ cycle c own = refl
 
 -- once a branch that was due has taken effect, no check of the bundle fails
 no_flow : (flow : Option Flow) → no_slot_left flow ≡ true → check (is_none (left flow)) trap.Flow None ≡ None
@@ -217,25 +196,19 @@ slot_waits cycle x waits = none_right (nat_lt 0 x.transfer.words) (nat_le x.free
 
 scratch_due : (place : Option Cell) (width : StoreWidth) (address value cycle : ℕ) (x : Plain) → x.transfer.words ≡ 0
     → is_due cycle (ends cycle (scratch_set place width address value x)) ≡ false
-scratch_due None width address value cycle x none = none_due cycle (ends cycle x) none
 scratch_due (Some (cell.Scratch word)) width address value cycle x none = none_due cycle (ends cycle (scratch_set (Some (cell.Scratch word)) width address value x)) none
-scratch_due (Some (cell.Comm word)) width address value cycle x none = none_due cycle (ends cycle x) none
-scratch_due (Some (cell.Port core register)) width address value cycle x none = none_due cycle (ends cycle x) none
-scratch_due (Some (cell.Private word)) width address value cycle x none = none_due cycle (ends cycle x) none
-scratch_due (Some (cell.Shared word)) width address value cycle x none = none_due cycle (ends cycle x) none
+scratch_due _ width address value cycle x none = none_due cycle (ends cycle x) none
 
 not_due : (asked : Effect) (cycle : ℕ) (x : Plain) → x.transfer.words ≡ 0 → CanWait asked cycle x.site → is_due cycle (finished asked cycle x) ≡ false
 not_due effect.Nothing cycle x none waits = none_due cycle (ends cycle x) none
 not_due (effect.Flow kind) cycle x none waits = none_due cycle (ends cycle x) none
-not_due (effect.Load mem.S width rd address) cycle x none waits = none_due cycle (finished (effect.Load mem.S width rd address) cycle x) none
-not_due (effect.Load mem.L width rd address) cycle x none waits = none_due cycle (finished (effect.Load mem.L width rd address) cycle x) none
 not_due (effect.Load mem.C width rd address) cycle x none waits = none_due cycle x none
 not_due (effect.Load mem.M width rd address) cycle x none waits = slot_waits cycle (finished (effect.Load mem.M width rd address) cycle x) waits
-not_due (effect.Store mem.S width address value) cycle x none waits = none_due cycle (finished (effect.Store mem.S width address value) cycle x) none
 not_due (effect.Store mem.L width address value) cycle x none waits = scratch_due (cell_of Local address) width address value cycle x none
 not_due (effect.Store mem.C width address value) cycle x none waits = none_due cycle x none
 not_due (effect.Store mem.M width address value) cycle x none waits = slot_waits cycle (finished (effect.Store mem.M width address value) cycle x) waits
 not_due (effect.StackOp func count) cycle x none waits = none_due cycle x none
+not_due other cycle x none waits = none_due cycle (finished other cycle x) none
 
 -- the parts of the core's own act in a cycle
 own_as : (cycle : ℕ) (c landed_core last : Core) → is_running c.plain ≡ true → flowed cycle c ≡ landed_core → is_running landed_core.plain ≡ true
@@ -338,10 +311,7 @@ granted_after asked words offset b x y granted same = subst (IsGranted asked) (s
   where
     by : (asked : Effect) → IsGranted asked x → IsGranted asked (passed words asked (landed offset (with_registers b x)))
     by effect.Nothing h = h
-    by (effect.Flow kind) h = h
-    by (effect.Load space width rd address) h = h
-    by (effect.Store space width address value) h = h
-    by (effect.StackOp func count) h = h
+    by _ h = h
 
 -- a flow's slots leave a place to land
 pub lands_here : (offset : ℕ) (x : Plain) → x.flow ≡ None → x.offset ≡ offset → CanLand offset x

@@ -25,10 +25,7 @@ granted_before (effect.StackOp func count) x h = passed (has_room func count x.s
 
 same_grant : (asked : Effect) (x : Plain) (regs : Registers) (offset : ℕ) (flow : Option Flow) → IsGranted asked x → IsGranted asked (record x { regs = regs; offset = offset; flow = flow })
 same_grant effect.Nothing x regs offset flow h = h
-same_grant (effect.Flow kind) x regs offset flow h = h
-same_grant (effect.Load space width rd address) x regs offset flow h = h
-same_grant (effect.Store space width address value) x regs offset flow h = h
-same_grant (effect.StackOp func count) x regs offset flow h = h
+same_grant _ x regs offset flow h = h
 
 -- it is still granted when the registers, the offset and the flow have changed
 pub is_granted : (asked : Effect) (x y : Plain) (regs : Registers) (offset : ℕ) (flow : Option Flow) → fault_of x asked ≡ None → y ≡ record x { regs = regs; offset = offset; flow = flow } → IsGranted asked y

@@ -98,15 +98,11 @@ runs_on (Trapped trap at) ended h = h
 -- a core that has gone to a place runs on
 gone_runs : (goal : Goal) (c : Core) → is_running c.plain ≡ true → is_running (gone goal c).plain ≡ true
 gone_runs (Within offset) c h = runs_on c.plain.status (has_ended c.plain) h
-gone_runs (Call target) c h = runs_on c.plain.status (has_ended c.plain) h
-gone_runs (Fill target) c h = runs_on c.plain.status (has_ended c.plain) h
-gone_runs (Return base offset) c h = runs_on c.plain.status (has_ended c.plain) h
+gone_runs _ c h = runs_on c.plain.status (has_ended c.plain) h
 
 gone_settled : (cycle : ℕ) (goal : Goal) (c : Core) → IsSettled cycle (gone goal c).plain
 gone_settled cycle (Within offset) c free = tt
-gone_settled cycle (Call target) c free = tt
-gone_settled cycle (Fill target) c free = tt
-gone_settled cycle (Return base offset) c free = tt
+gone_settled cycle _ c free = tt
 
 -- after a flow that was due has taken effect, none is due where the core runs
 pub flowed_settled : (cycle : ℕ) (c : Core) → is_running (flowed cycle c).plain ≡ true → IsSettled cycle (flowed cycle c).plain
@@ -125,9 +121,7 @@ flowed_waits cycle c running = flowed_has (λ d. is_running d.plain ≡ false �
 
 gone_with : (goal : Goal) (c : Core) (i : Interface) → gone goal (with_interface c i) ≡ with_interface (gone goal c) i
 gone_with (Within offset) c i = refl
-gone_with (Call target) c i = refl
-gone_with (Fill target) c i = refl
-gone_with (Return base offset) c i = refl
+gone_with _ c i = refl
 
 taken_with : (cycle : ℕ) (goal : Goal) (c : Core) (i : Interface) (placed : Bool) →
     elim placed [ true ↦ gone goal (with_interface c i) | false ↦ with_plain (stopped trap.Flow cycle) (with_interface c i) ]

@@ -29,21 +29,13 @@ after_move cycle c = record { plain = moved_by c.plain.transfer.then (moved cycl
 loads_private : (place : Option Cell) (rd : ℕ) (width : Width) (address cycle : ℕ) (c : Core) → IsPrivateCell place
     → reading place c.plain (λ word. now (with_plain (with_value rd width address word) (counted cycle c)))
     ≡ now (with_plain (λ x. with_value rd width address (private_at place x) x) (counted cycle c))
-loads_private None rd width address cycle c own = absurd own
-loads_private (Some (cell.Scratch word)) rd width address cycle c own = absurd own
-loads_private (Some (cell.Comm word)) rd width address cycle c own = absurd own
-loads_private (Some (cell.Port core register)) rd width address cycle c own = absurd own
 loads_private (Some (cell.Private word)) rd width address cycle c own = refl
-loads_private (Some (cell.Shared word)) rd width address cycle c own = absurd own
+loads_private _ rd width address cycle c own = absurd own
 
 stores_private : (place : Option Cell) (width : StoreWidth) (address value : ℕ) (c : Core) → IsPrivateCell place
     → writing place width address value c ≡ now (with_plain (private_set place width address value) c)
-stores_private None width address value c own = absurd own
-stores_private (Some (cell.Scratch word)) width address value c own = absurd own
-stores_private (Some (cell.Comm word)) width address value c own = absurd own
-stores_private (Some (cell.Port core register)) width address value c own = absurd own
 stores_private (Some (cell.Private word)) width address value c own = refl
-stores_private (Some (cell.Shared word)) width address value c own = absurd own
+stores_private _ width address value c own = absurd own
 
 moves_alone : (then : Then) (cycle : ℕ) (c : Core) → MovesOwn then → transaction_then then cycle c
     ≡ now (record { plain = moved_by then (moved cycle c.plain); seen = accessed c.plain.transfer cycle c.seen })

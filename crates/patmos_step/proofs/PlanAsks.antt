@@ -109,13 +109,9 @@ reading_asks words (Some (cell.Port core register)) x go_on next = next (port_to
 
 -- a line is read
 line_asks : (words : ℕ) (place : Option Cell) (x : Plain) (go_on : List ℕ → Prog Acted) → ((line : List ℕ) → Ends (Leaves asks.Nothing words) (go_on line)) → AsksFor (Leaves (line_ask place) words) (line_ask place) (reading_line place x go_on)
-line_asks words None x go_on next = next _
-line_asks words (Some (cell.Scratch word)) x go_on next = next _
-line_asks words (Some (cell.Private word)) x go_on next = next _
-line_asks words (Some (cell.Comm word)) x go_on next = next _
 line_asks words (Some (cell.Shared word)) x go_on next =
     (refl, λ a. (refl, λ b. (omega arith, λ c. (omega arith, λ d. next _))))
-line_asks words (Some (cell.Port core register)) x go_on next = next _
+line_asks words _ x go_on next = next _
 
 -- a register of the interface is stored in: nothing is to be moved for it
 port_moves : (target register value : ℕ) (c : Core) → (port_set target register value c).plain.transfer.words ≡ c.plain.transfer.words
@@ -129,12 +125,10 @@ storing_asks word store.Byte address value c = (refl, λ old. (refl, refl))
 
 -- a cell is stored in
 writing_asks : (place : Option Cell) (width : StoreWidth) (address value : ℕ) (c : Core) → AsksFor (Leaves (store_ask c.plain.site place width value) c.plain.transfer.words) (store_ask c.plain.site place width value) (writing place width address value c)
-writing_asks None width address value c = (refl, refl)
-writing_asks (Some (cell.Scratch word)) width address value c = (refl, refl)
-writing_asks (Some (cell.Private word)) width address value c = (refl, refl)
 writing_asks (Some (cell.Comm word)) width address value c = storing_asks (comm_word c.plain.site.core word) width address value c
 writing_asks (Some (cell.Shared word)) width address value c = storing_asks word width address value c
 writing_asks (Some (cell.Port target register)) width address value c = (refl, port_moves target register value c)
+writing_asks _ width address value c = (refl, refl)
 
 -- words that are moved
 then_asks : (then : Then) (cycle : ℕ) (c : Core) → FollowsAsk (then_ask c.plain.site then) (transaction_then then cycle c)
@@ -300,25 +294,17 @@ range_same p q value source target =
 -- so the checks on a store's cell, and all checks, are the same at another standing of the channels
 cell_fault_same : (x : Plain) (i : Interface) (width : StoreWidth) (value : ℕ) (place : Option Cell) → HasRegisters i x.interface
     → store_cell_fault (record x { interface = i }) width value place ≡ store_cell_fault x width value place
-cell_fault_same x i width value None same = refl
-cell_fault_same x i width value (Some (cell.Scratch word)) same = refl
-cell_fault_same x i width value (Some (cell.Private word)) same = refl
-cell_fault_same x i width value (Some (cell.Comm word)) same = refl
-cell_fault_same x i width value (Some (cell.Shared word)) same = refl
 cell_fault_same x i width value (Some (cell.Port target register)) same =
     ap (λ fits. check (is_other x.site target && (is_store_word width && (not (register == 12) && elim (register == 8) [ true ↦ fits | false ↦ true ]))) trap.Interface None)
     (range_same (port_to i target) (port_to x.interface target) value (same.source target) (same.target target))
+cell_fault_same x i width value _ same = refl
 
 fault_same : (x : Plain) (i : Interface) (asked : Effect) → HasRegisters i x.interface → fault_of (record x { interface = i }) asked ≡ fault_of x asked
 unfolding fault_of
-fault_same x i effect.Nothing same = refl
-fault_same x i (effect.Flow kind) same = refl
-fault_same x i (effect.Load space width rd address) same = refl
-fault_same x i (effect.StackOp func count) same = refl
-fault_same x i (effect.Store mem.S width address value) same = refl
 fault_same x i (effect.Store mem.L width address value) same = ap (check (address % store_bytes width == 0) trap.Align) (cell_fault_same x i width value (cell_of Local address) same)
 fault_same x i (effect.Store mem.C width address value) same = ap (check (address % store_bytes width == 0) trap.Align) (cell_fault_same x i width value (cell_of Main address) same)
 fault_same x i (effect.Store mem.M width address value) same = ap (check (address % store_bytes width == 0) trap.Align) (cell_fault_same x i width value (cell_of Main address) same)
+fault_same x i _ same = refl
 
 -- a bundle, by the check that fails
 performed_asks : (fault : Option Trap) (asked : Effect) (words : ℕ) (b : Slots) (cycle : ℕ) (c : Core) (cached : ℕ → Option ℕ) → is_free cycle c.plain ≡ true
@@ -370,28 +356,18 @@ word_fits words word store.Byte value h = h
 
 -- a load, a line and a store
 load_fits : (site : Site) (place : Option Cell) → site.core < site.cores → IfSome place IsInRange → AskFits (comm_word site.cores 0) (load_ask site place)
-load_fits site None among here = tt
-load_fits site (Some (cell.Scratch word)) among here = tt
-load_fits site (Some (cell.Private word)) among here = tt
 load_fits site (Some (cell.Comm word)) among here = omega (arith, among, here)
 load_fits site (Some (cell.Shared word)) among here = omega (arith, here)
-load_fits site (Some (cell.Port core register)) among here = tt
+load_fits site _ among here = tt
 
 line_ask_fits : (cores : ℕ) (place : Option Cell) → IfSome place LineFits → AskFits (comm_word cores 0) (line_ask place)
-line_ask_fits cores None here = tt
-line_ask_fits cores (Some (cell.Scratch word)) here = tt
-line_ask_fits cores (Some (cell.Private word)) here = tt
-line_ask_fits cores (Some (cell.Comm word)) here = tt
 line_ask_fits cores (Some (cell.Shared word)) here = omega (arith, here)
-line_ask_fits cores (Some (cell.Port core register)) here = tt
+line_ask_fits cores _ here = tt
 
 store_fits : (site : Site) (place : Option Cell) (width : StoreWidth) (value : ℕ) → site.core < site.cores → IfSome place IsInRange → AskFits (comm_word site.cores 0) (store_ask site place width value)
-store_fits site None width value among here = tt
-store_fits site (Some (cell.Scratch word)) width value among here = tt
-store_fits site (Some (cell.Private word)) width value among here = tt
 store_fits site (Some (cell.Comm word)) width value among here = word_fits (comm_word site.cores 0) (comm_word site.core word) width value (omega (arith, among, here))
 store_fits site (Some (cell.Shared word)) width value among here = word_fits (comm_word site.cores 0) word width value (omega (arith, here))
-store_fits site (Some (cell.Port core register)) width value among here = tt
+store_fits site _ width value among here = tt
 
 -- words that are moved
 then_fits : (site : Site) (then : Then) → site.core < site.cores → AskFits (comm_word site.cores 0) (then_ask site then)
@@ -414,17 +390,13 @@ cached_fits cycle site (Some word) rd width address among = tt
 
 -- what comes of a bundle
 effect_fits : (cycle : ℕ) (site : Site) (cached : ℕ → Option ℕ) (asked : Effect) → site.core < site.cores → AskFits (comm_word site.cores 0) (effect_ask cycle site cached asked)
-effect_fits cycle site cached effect.Nothing among = tt
-effect_fits cycle site cached (effect.Flow kind) among = tt
-effect_fits cycle site cached (effect.StackOp func count) among = tt
-effect_fits cycle site cached (effect.Load mem.S width rd address) among = tt
 effect_fits cycle site cached (effect.Load mem.L width rd address) among = load_fits site (cell_of Local address) among (cell_in_range Local address)
 effect_fits cycle site cached (effect.Load mem.C width rd address) among = cached_fits cycle site (cached address) rd width address among
 effect_fits cycle site cached (effect.Load mem.M width rd address) among = slot_fits cycle site (then_on.Load rd width address) among
-effect_fits cycle site cached (effect.Store mem.S width address value) among = tt
 effect_fits cycle site cached (effect.Store mem.L width address value) among = store_fits site (cell_of Local address) width value among (cell_in_range Local address)
 effect_fits cycle site cached (effect.Store mem.C width address value) among = slot_fits cycle site (then_on.Store true width address value) among
 effect_fits cycle site cached (effect.Store mem.M width address value) among = slot_fits cycle site (then_on.Store false width address value) among
+effect_fits cycle site cached _ among = tt
 
 checked_fits : (fault : Option Trap) (cycle : ℕ) (site : Site) (cached : ℕ → Option ℕ) (asked : Effect) → site.core < site.cores
     → AskFits (comm_word site.cores 0) (elim fault [ None ↦ effect_ask cycle site cached asked | Some trap ↦ asks.Nothing ])
@@ -433,11 +405,9 @@ checked_fits (Some trap) cycle site cached asked among = tt
 
 -- all that a plan asks for
 plan_ask_fits : (plan : Plan) (cycle : ℕ) (x : Plain) (cached : ℕ → Option ℕ) → x.site.core < x.site.cores → AskFits (comm_word x.site.cores 0) (plan_ask plan cycle x cached)
-plan_ask_fits Nothing cycle x cached among = tt
 plan_ask_fits Waits cycle x cached among = either_fits (is_due cycle x) x.site x.transfer.then among
-plan_ask_fits (Does Outside) cycle x cached among = tt
-plan_ask_fits (Does NoBundle) cycle x cached among = tt
 plan_ask_fits (Does (Found b words)) cycle x cached among = checked_fits (fault_of x (effect_of b x.regs)) cycle x.site cached (effect_of b x.regs) among
+plan_ask_fits _ cycle x cached among = tt
 
 -- what the words of a core ask for is on the board
 pub moved_within : (b : Body) (asked : Ask) → asked ≡ then_ask (plain_of b).site b.transfer.then → b.place.core < b.place.cores → AskFits (comm_word b.place.cores 0) asked

@@ -46,40 +46,28 @@ storing_short word store.Half address value c none = λ old. none
 storing_short word store.Byte address value c none = λ old. none
 
 writing_short : (place : Option Cell) (width : StoreWidth) (address value : ℕ) (c : Core) → c.plain.transfer.words ≡ 0 → IsShort (writing place width address value c)
-writing_short None width address value c none = tt
-writing_short (Some (cell.Scratch word)) width address value c none = tt
-writing_short (Some (cell.Private word)) width address value c none = tt
 writing_short (Some (cell.Comm word)) width address value c none = storing_short _ width address value c none
 writing_short (Some (cell.Shared word)) width address value c none = storing_short word width address value c none
-writing_short (Some (cell.Port core register)) width address value c none = tt
+writing_short _ width address value c none = tt
 
 reading_short : (place : Option Cell) (x : Plain) (go_on : ℕ → Core) → ((word : ℕ) → (go_on word).plain.transfer.words ≡ 0) → IsShort (reading place x (λ word. now (go_on word)))
-reading_short None x go_on none = tt
-reading_short (Some (cell.Scratch word)) x go_on none = tt
-reading_short (Some (cell.Private word)) x go_on none = tt
 reading_short (Some (cell.Comm word)) x go_on none = none
 reading_short (Some (cell.Shared word)) x go_on none = none
-reading_short (Some (cell.Port core register)) x go_on none = tt
+reading_short _ x go_on none = tt
 
 loaded_short : (space : Mem) (width : Width) (rd address cycle : ℕ) (c : Core) → c.plain.transfer.words ≡ 0 → IsShort (loaded space width rd address cycle c)
-loaded_short mem.S width rd address cycle c none = tt
 loaded_short mem.L width rd address cycle c none =
     reading_short (cell_of Local address) c.plain (λ word. with_plain (λ x. ends cycle (with_value rd width address word x)) c) (λ word. none)
-loaded_short mem.C width rd address cycle c none = tt
-loaded_short mem.M width rd address cycle c none = tt
+loaded_short _ width rd address cycle c none = tt
 
 stored_short : (space : Mem) (width : StoreWidth) (address value cycle : ℕ) (c : Core) → c.plain.transfer.words ≡ 0 → IsShort (stored space width address value cycle c)
-stored_short mem.S width address value cycle c none = tt
 stored_short mem.L width address value cycle c none = writing_short (cell_of Local address) width address value _ none
-stored_short mem.C width address value cycle c none = tt
-stored_short mem.M width address value cycle c none = tt
+stored_short _ width address value cycle c none = tt
 
 answered_short : (asked : Effect) (cycle : ℕ) (c : Core) → c.plain.transfer.words ≡ 0 → IsShort (answered asked cycle c)
-answered_short effect.Nothing cycle c none = tt
-answered_short (effect.Flow kind) cycle c none = tt
 answered_short (effect.Load space width rd address) cycle c none = loaded_short space width rd address cycle c none
 answered_short (effect.Store space width address value) cycle c none = stored_short space width address value cycle c none
-answered_short (effect.StackOp func count) cycle c none = tt
+answered_short _ cycle c none = tt
 
 checked_short : (fault : Option Trap) (p : Prog Acted) (cycle : ℕ) (c : Core) → IsShort p →
     IsShort (elim fault [ None ↦ p | Some fault ↦ now (with_plain (stopped fault cycle) c) ])

@@ -93,12 +93,10 @@ module _ (Q : Site → ℕ → Status → Type 0) where
   ]
 
   keeps_writing : (place : Option Cell) (width : StoreWidth) (address value : ℕ) (c : Core) → Of Q c.plain → Leaves (Left Q) (writing place width address value c)
-  keeps_writing None width address value c h = h
-  keeps_writing (Some (cell.Scratch word)) width address value c h = h
-  keeps_writing (Some (cell.Private word)) width address value c h = h
   keeps_writing (Some (cell.Comm word)) width address value c h = keeps_storing _ width address value c h
   keeps_writing (Some (cell.Shared word)) width address value c h = keeps_storing word width address value c h
   keeps_writing (Some (cell.Port target register)) width address value c h = keeps_port target register value c h
+  keeps_writing _ width address value c h = h
 
   keeps_moves : (transfer : Transfer) (cycle : ℕ) (x : Plain) → Of Q x → Of Q (moves transfer cycle x)
   keeps_moves transfer cycle x h = elim (transfer.words == 0) as (λ b. Of Q (elim b as (λ _. Plain) [
@@ -124,18 +122,12 @@ module _ (Q : Site → ℕ → Status → Type 0) where
   ]).plain) [ None ↦ h | Some word ↦ h ]
 
   keeps_answered : (asked : Effect) (cycle : ℕ) (c : Core) → Of Q c.plain → Leaves (Left Q) (answered asked cycle c)
-  keeps_answered effect.Nothing cycle c h = h
-  keeps_answered (effect.Flow kind) cycle c h = h
-  keeps_answered (effect.Load mem.S width rd address) cycle c h = h
   keeps_answered (effect.Load mem.L width rd address) cycle c h =
       leaves_reading (Left Q) (cell_of Local address) c.plain (λ word. now (with_plain (λ x. ends cycle (with_value rd width address word x)) c)) (λ word. h)
   keeps_answered (effect.Load mem.C width rd address) cycle c h = keeps_cached rd width address cycle c h
-  keeps_answered (effect.Load mem.M width rd address) cycle c h = h
-  keeps_answered (effect.Store mem.S width address value) cycle c h = h
   keeps_answered (effect.Store mem.L width address value) cycle c h = keeps_writing (cell_of Local address) width address value (with_plain (ends cycle) c) h
-  keeps_answered (effect.Store mem.C width address value) cycle c h = h
-  keeps_answered (effect.Store mem.M width address value) cycle c h = h
   keeps_answered (effect.StackOp func count) cycle c h = keeps_stacked func count cycle c.plain h
+  keeps_answered _ cycle c h = h
 
   keeps_then : (moved_on : Then) (cycle : ℕ) (c : Core) → Of Q c.plain → Leaves (Left Q) (transaction_then moved_on cycle c)
   keeps_then then_on.Nothing cycle c h = h

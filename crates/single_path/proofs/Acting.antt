@@ -68,14 +68,10 @@ next_went g quiet gc n p a rest s t m o further w acted = by (ends a) refl w act
     by : (ended : Bool) → ends a ≡ ended → (w : Way) → Acted a n p s (record { way = w; state = m }) t
         → Went n p s (then_done (resolved.actions_done gc rest) (record { way = w; state = m })) (stmts_done g (if ended then no_stmt else next) t)
     by true is way.On acted = absurd (acted.ended is refl)
-    by true is way.Broken acted = acted.went
-    by true is way.Continued acted = acted.went
-    by true is (way.Returned v) acted = acted.went
     by false is way.On acted = went_on n p s m t (resolved.actions_done gc rest m) (stmts_done g next t) acted.went
         (further (went_live n p s m t acted.went) acted.went.same)
-    by false is way.Broken acted = stays way.Broken (λ e. absurd (cc)) acted is
-    by false is way.Continued acted = stays way.Continued (λ e. absurd (cc)) acted is
-    by false is (way.Returned v) acted = stays (way.Returned v) (λ e. absurd (cc)) acted is
+    by true is _ acted = acted.went
+    by false is other acted = stays other (λ e. absurd (cc)) acted is
 
 mutual
   live_action : (Fit : ℕ → ℕ → Type 0) (gc : resolved.Serves) (g : Serves) → Serving Fit gc g → (n : ℕ) (a : PlainAction) (inside : Bool) (known : Option Start)

@@ -59,11 +59,9 @@ cell_kept items c cell [] kept = refl
 cell_kept items c cell (u ∷ us) kept = ap (λ b. b && list_all (cell_apart c) us) (one u kept.0) ∙ cell_kept items c cell us kept.1
   where
     one : (u : Use) → Kept items u → cell_apart c u ≡ true
-    one (reads_cell other) k = refl
     one (reads_array a) k = not_inside items c a cell k
-    one (writes_cell other) k = refl
     one (writes_array a) k = not_inside items c a cell k
-    one (sends_to core) k = refl
+    one _ k = refl
 
 pub kept_apart : (items : List PlainItem) (all us : List Use) → Each (Kept items) all → Each (Kept items) us → list_all (use_apart all) us ≡ true
 kept_apart items all [] kept these = refl
@@ -71,10 +69,8 @@ kept_apart items all (u ∷ us) kept these = ap (λ b. b && list_all (use_apart 
   where
     one : (u : Use) → Kept items u → use_apart all u ≡ true
     one (reads_cell c) k = cell_kept items c k all kept
-    one (reads_array a) k = refl
     one (writes_cell c) k = cell_kept items c k all kept
-    one (writes_array a) k = refl
-    one (sends_to core) k = refl
+    one _ k = refl
 
 -- ---- the slots of variables and arrays
 

@@ -35,16 +35,12 @@ use Rattle.c_tree.proofs.Faultless.{none_left, none_right}
 -- ---- names
 
 scalar_found : (at : ℕ) (f : Option Meaning) → IsTrue (has_none (use_faults is_scalar at f)) → f ≡ Some means.Scalar
-scalar_found at None none = absurd (cc)
 scalar_found at (Some means.Scalar) none = refl
-scalar_found at (Some means.Array) none = absurd (cc)
-scalar_found at (Some (means.Function c gives inside)) none = absurd (cc)
+scalar_found at _ none = absurd (cc)
 
 array_found : (at : ℕ) (f : Option Meaning) → IsTrue (has_none (use_faults is_array at f)) → f ≡ Some means.Array
-array_found at None none = absurd (cc)
-array_found at (Some means.Scalar) none = absurd (cc)
 array_found at (Some means.Array) none = refl
-array_found at (Some (means.Function c gives inside)) none = absurd (cc)
+array_found at _ none = absurd (cc)
 
 -- ---- expressions and arguments
 
@@ -194,12 +190,10 @@ mutual
         ),
         tt,
       )
-  stmt_checked P fs names of k w at plain.broken none = (tt, tt)
-  stmt_checked P fs names of k w at plain.continued none = (tt, tt)
-  stmt_checked P fs names of k w at (plain.returned None) none = (tt, tt)
   stmt_checked P fs names of k w at (plain.returned (Some e)) none =
       (whole_checked P names of k None (at + 1) e (none_right (where_so (not w.gives) at fault.WrongType) (whole_faults names (at + 1) e) none), tt)
   stmt_checked P fs names of k w at (plain.inner body) none = block_checked P fs names of k (opened w (length names)) (at + 1) body none
+  stmt_checked P fs names of k w at _ none = (tt, tt)
 
   block_checked : (P : Use → Type 0) (fs : List (List ℕ)) (names : List Named) (of : Names) → Keeps P names of → (w : Within) (at : ℕ) (b : PlainBlock)
       → IsTrue (has_none (block_faults w names at b)) → Do P (resolved_block fs of b)

@@ -61,9 +61,7 @@ between_cost op u a b = by (is_exchanged op)
 
 sign_cost : (op : UnaryOp) (e : PlainSp) → expr_cost (resolved_sign op e) ≤ 6 + expr_cost e
 sign_cost unary.Minus e = omega arith
-sign_cost unary.Complement e = omega arith
-sign_cost unary.Not e = omega arith
-sign_cost unary.Plus e = omega arith
+sign_cost _ e = omega arith
 
 signs_cost : (ops : List UnaryOp) (e : PlainSp) → expr_cost (resolved_signs ops e) ≤ 6 * length ops + expr_cost e
 signs_cost [] e = omega arith

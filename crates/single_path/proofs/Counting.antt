@@ -46,23 +46,13 @@ Begins (Some s) l = l.locals s.level ≡ s.value
 
 started : (target : PlainTarget) (e : PlainSp) (l : values.State) → Begins (start_at target e) (resolved.with_target target (resolved.worth e l) l)
 started (to_level at) (constant n) l = put_here at n l.locals
-started (to_level at) (frame_word slot) l = tt
-started (to_level at) (cell_word cell) l = tt
-started (to_level at) (array_word array index) l = tt
-started (to_level at) (before_one op of) l = tt
-started (to_level at) (between_two op a b) l = tt
 started (actions.to_cell cell) e l = tt
 started (actions.to_array array index) e l = tt
+started (to_level at) _ l = tt
 
 pub begins_after : (gc : resolved.Serves) (a : PlainAction) (l : values.State) → Begins (start_of a) (resolved.action_done gc a l).state
 begins_after gc (sets a) l = started a.target a.value l
-begins_after gc (actions.calls k args result) l = tt
-begins_after gc (actions.transfers core source target count) l = tt
-begins_after gc (actions.chooses branches otherwise) l = tt
-begins_after gc (actions.iterations most condition body step) l = tt
-begins_after gc actions.breaks l = tt
-begins_after gc actions.continues l = tt
-begins_after gc (actions.returns e) l = tt
+begins_after gc _ l = tt
 
 -- ---- the condition and the step
 
@@ -88,11 +78,7 @@ picked false n some = absurd (omega (arith, some))
 
 variable_worth : (level : ℕ) (e : PlainSp) (l : values.State) → is_variable level e ≡ true → resolved.worth e l ≡ l.locals level
 variable_worth level (frame_word at) l is = ap l.locals (eqb-true at level is)
-variable_worth level (constant n) l is = absurd (true≢false (sym is))
-variable_worth level (cell_word cell) l is = absurd (true≢false (sym is))
-variable_worth level (array_word array index) l is = absurd (true≢false (sym is))
-variable_worth level (before_one op of) l is = absurd (true≢false (sym is))
-variable_worth level (between_two op a b) l is = absurd (true≢false (sym is))
+variable_worth level _ l is = absurd (true≢false (sym is))
 
 limited : (op : SpBinary) (n v : ℕ) → v < 2 ^ 31 → 1 ≤ limit_by (Some n) op → limit_by (Some n) op < 2 ^ 31
     → is_true (binary_value op v n) ≡ nat_lt v (limit_by (Some n) op)

@@ -19,15 +19,11 @@ Avoids q (way.Returned v) = q.returns ≡ false
 
 pub on_only : (w : Way) → Avoids any_exit w → w ≡ way.On
 on_only way.On h = refl
-on_only way.Broken h = absurd (true≢false h)
-on_only way.Continued h = absurd (true≢false h)
-on_only (way.Returned v) h = absurd (true≢false h)
+on_only _ h = absurd (true≢false h)
 
 pub no_continue : (w : Way) → Avoids by_continue w → w ≢ way.Continued
-no_continue way.On h e = absurd (cc)
-no_continue way.Broken h e = absurd (cc)
 no_continue way.Continued h e = true≢false h
-no_continue (way.Returned v) h e = absurd (cc)
+no_continue _ h e = absurd (cc)
 
 -- after what always goes elsewhere nothing is done
 ends_away : (gc : resolved.Serves) (a : PlainAction) (l : values.State) → ends a ≡ true → (resolved.action_done gc a l).way ≢ way.On
@@ -43,9 +39,7 @@ ends_away gc (returns v) l is e = absurd (cc)
 then_avoids : (q : Exits) (next : values.State → Done) (w : Way) (m : values.State) → Avoids q w → (w ≡ way.On → Avoids q (next m).way)
     → Avoids q (then_done next (record { way = w; state = m })).way
 then_avoids q next way.On m h more = more refl
-then_avoids q next way.Broken m h more = h
-then_avoids q next way.Continued m h more = h
-then_avoids q next (way.Returned v) m h more = h
+then_avoids q next _ m h more = h
 
 iteration_avoids : (q : Exits) (more : values.State → Done) (step : values.State → values.State) (w : Way) (m : values.State) → Avoids (out_of_loop q) w
     → ((l : values.State) → Avoids q (more l).way) → Avoids q (iteration_done more step (record { way = w; state = m })).way

@@ -32,9 +32,7 @@ Keeps level change = (l : values.State) → (change l).state.locals level ≡ l.
 then_keeps : (level : ℕ) (next : values.State → Done) (w : Way) (m : values.State) → Keeps level next
     → (then_done next (record { way = w; state = m })).state.locals level ≡ m.locals level
 then_keeps level next way.On m each = each m
-then_keeps level next way.Broken m each = refl
-then_keeps level next way.Continued m each = refl
-then_keeps level next (way.Returned v) m each = refl
+then_keeps level next _ m each = refl
 
 iteration_keeps : (level : ℕ) (more : values.State → Done) (step : values.State → values.State) (w : Way) (m : values.State) → Keeps level more
     → ((l : values.State) → (step l).locals level ≡ l.locals level)

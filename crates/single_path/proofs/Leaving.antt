@@ -72,11 +72,7 @@ record Results (n : ℕ) (p : PartWords) (v : ℕ) (s t : State) (l : values.Sta
 
 zero_worth : (e : PlainSp) (l : values.State) → is_zero e ≡ true → resolved.worth e l ≡ 0
 zero_worth (constant n) l is = eqb-true n 0 is
-zero_worth (frame_word at) l is = absurd (cc)
-zero_worth (cell_word cell) l is = absurd (cc)
-zero_worth (array_word array index) l is = absurd (cc)
-zero_worth (before_one op of) l is = absurd (cc)
-zero_worth (between_two op a b) l is = absurd (cc)
+zero_worth _ l is = absurd (cc)
 
 result_set : (g : Serves) (n : ℕ) (p : PartWords) (e : PlainSp) (zero_value : Bool) (s : State) (l : values.State) → is_zero e ≡ zero_value → n ≤ p.result → Live p s
     → Agrees n s l → expr_words e ≤ n
@@ -200,15 +196,11 @@ idle_alone counted (way.Returned v) other = gone
 
 pub own_word : (w : Way) → (own_of w ≡ 1) ⊎ ((own_of w ≡ 0) × (w ≢ way.On))
 own_word way.On = inl refl
-own_word way.Broken = inr (refl, λ e. absurd (cc))
-own_word way.Continued = inr (refl, λ e. absurd (cc))
-own_word (way.Returned v) = inr (refl, λ e. absurd (cc))
+own_word _ = inr (refl, λ e. absurd (cc))
 
 own_small : (w : Way) → own_of w ≢ 2
 own_small way.On = omega arith
-own_small way.Broken = omega arith
-own_small way.Continued = omega arith
-own_small (way.Returned v) = omega arith
+own_small _ = omega arith
 
 -- what does not go elsewhere leaves masks that stand
 pub stays_acted : (a : PlainAction) (n : ℕ) (p : PartWords) (s : State) (d : Done) (t : State) → ends a ≡ false → d.way ≡ way.On → Went n p s d t → Acted a n p s d t

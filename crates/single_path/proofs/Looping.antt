@@ -268,9 +268,7 @@ behind_loop a g n p returned s d u stays on o live h = by returned on
 
     word_in : (w : Way) → bit_and 1 (difference_of 0 (function_of w)) ≡ function_of w
     word_in way.On = refl
-    word_in way.Broken = refl
-    word_in way.Continued = refl
-    word_in (way.Returned v) = refl
+    word_in _ = refl
 
     repaired : (outside : Bool) → (p.function == p.iteration) ≡ outside → Went n p s d (stmts_done g (outer outside) u)
     repaired true is = went (ap u.frame (sym (eqb-true p.function p.iteration is)) ∙ h.function ∙ h.settled)

@@ -47,9 +47,7 @@ between_ranged op u a b ha hb = by (is_exchanged op)
 
 sign_ranged : (op : UnaryOp) (e : PlainSp) → Ranged e → Ranged (resolved_sign op e)
 sign_ranged unary.Minus e h = h
-sign_ranged unary.Complement e h = h
-sign_ranged unary.Not e h = h
-sign_ranged unary.Plus e h = h
+sign_ranged _ e h = h
 
 signs_ranged : (ops : List UnaryOp) (e : PlainSp) → Ranged e → Ranged (resolved_signs ops e)
 signs_ranged [] e h = h
@@ -122,9 +120,7 @@ between_need op u a b = by (is_exchanged op)
 
 sign_need : (op : UnaryOp) (e : PlainSp) → need (resolved_sign op e) ≤ need e
 sign_need unary.Minus e = omega arith
-sign_need unary.Complement e = omega arith
-sign_need unary.Not e = omega arith
-sign_need unary.Plus e = omega arith
+sign_need _ e = omega arith
 
 signs_need : (ops : List UnaryOp) (e : PlainSp) → need (resolved_signs ops e) ≤ need e
 signs_need [] e = omega arith

@@ -82,16 +82,7 @@ keeps_variable P names of kind name k = record {
 -- after a statement
 pub keeps_after : (P : Use → Type 0) (names : List Named) (of : Names) (s : PlainStmt) → Keeps P names of → Keeps P (after names s) (names_after of s)
 keeps_after P names of (plain.declared kind text r) k = keeps_variable P names of kind text k
-keeps_after P names of (plain.set text r) k = k
-keeps_after P names of (plain.set_element text index r) k = k
-keeps_after P names of (plain.called text args) k = k
-keeps_after P names of (plain.sent core core_unsigned source target count) k = k
-keeps_after P names of (plain.chosen arms otherwise) k = k
-keeps_after P names of (plain.looped bound head body) k = k
-keeps_after P names of plain.broken k = k
-keeps_after P names of plain.continued k = k
-keeps_after P names of (plain.returned e) k = k
-keeps_after P names of (plain.inner body) k = k
+keeps_after P names of _ k = k
 
 -- ---- names after a function's name, and after its parameters
 

@@ -75,9 +75,7 @@ between_does P op u a b left right = by (is_exchanged op)
 
 sign_does : (P : Use → Type 0) (op : UnaryOp) (e : PlainSp) → ExprDoes P e → ExprDoes P (resolved_sign op e)
 sign_does P unary.Minus e does = does
-sign_does P unary.Complement e does = does
-sign_does P unary.Not e does = does
-sign_does P unary.Plus e does = does
+sign_does P _ e does = does
 
 pub signs_do : (P : Use → Type 0) (ops : List UnaryOp) (e : PlainSp) → ExprDoes P e → ExprDoes P (resolved_signs ops e)
 signs_do P [] e does = does

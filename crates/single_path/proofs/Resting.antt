@@ -208,13 +208,9 @@ arm_rests g n p condition arm exits nothing rest o still inside behind s d =
 
 mutual
   action_rests : (g : Serves) → Quiet g → (n : ℕ) (a : PlainAction) (known : Option Start) (p : PartWords) (s : State) → Order n p → Dead p s → AllRest g (made_action known p a) s
-  action_rests g quiet n (actions.sets a) known p s o d = (off p s d, tt)
-  action_rests g quiet n (actions.calls k args None) known p s o d = (off p s d, tt)
-  action_rests g quiet n (actions.calls k args (Some (to_level at))) known p s o d = (off p s d, tt)
   action_rests g quiet n (actions.calls k args (Some (actions.to_cell cell))) known p s o d = given_rests g quiet p k args (tree.to_cell cell) s n o d
   action_rests g quiet n (actions.calls k args (Some (actions.to_array array index))) known p s o d =
       given_rests g quiet p k args (tree.to_array array index) s n o d
-  action_rests g quiet n (actions.transfers core source target count) known p s o d = (off p s d, tt)
   action_rests g quiet n (actions.chooses branches otherwise) known p s o d =
       joined_rest g (made_branches p branches (is_no_action otherwise) (λ q. made None q otherwise))
       (made_after p (branches_exit any_exit branches || actions_exit any_exit otherwise)) s
@@ -233,6 +229,7 @@ mutual
   action_rests g quiet n actions.breaks known p s o d = (tt, tt)
   action_rests g quiet n actions.continues known p s o d = (tt, tt)
   action_rests g quiet n (actions.returns e) known p s o d = return_rests g p e s d
+  action_rests g quiet n _ known p s o d = (off p s d, tt)
 
   pub actions_rest : (g : Serves) → Quiet g → (n : ℕ) (all : PlainActions) (known : Option Start) (p : PartWords) (s : State) → Order n p → Dead p s → AllRest g (made known p all) s
   actions_rest g quiet n no_action known p s o d = tt

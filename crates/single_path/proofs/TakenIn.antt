@@ -14,12 +14,12 @@ use Rattle.sp_tree.specs.Cost.{cost}
 use Rattle.sp_tree.specs.Formed.{is_formed}
 use Rattle.sp_tree.specs.Statements.{PlainFunction, no_function}
 use Rattle.sp_tree.specs.Uses.{Use, uses_of}
-use Rattle.sp_tree.proofs.Forms.{earlier_one}
+use Rattle.sp_tree.proofs.Forms.{parts_of_function, earlier_one}
 use Rattle.sp_inline.specs.Taken.{first_taken}
 use Rattle.sp_inline.proofs.Taking.{first_at, first_length, taken_straight}
 use Rattle.sp_inline.proofs.Limits.{function_kept}
 use Rattle.sp_inline.proofs.Used.{uses_each}
-use Rattle.sp_inline.proofs.Forms.{Roomy, parts_of, taken_grown, unit_formed}
+use Rattle.sp_inline.proofs.Forms.{Roomy, taken_grown, unit_formed}
 use Rattle.c_meaning.specs.Begun.{meaning}
 use Rattle.c_mentions.specs.Mentions.{Array, mentions, assigns, sends_to}
 use Rattle.single_path.specs.Meant.{IsMeant}
@@ -78,7 +78,7 @@ kept_at cores own items few valid k below =
     let before = first_taken (weights_in items) (frames_in items) fs k in
     let f = slice_index_or fs k no_function in
     let formed = earlier_one fs k (length fs) below (functions_are_formed cores own items few valid) in
-    let kept = function_kept before most room f (parts_of fs k f formed).mask in
+    let kept = function_kept before most room f (parts_of_function fs k f formed).mask in
     let is = first_at (weights_in items) (frames_in items) fs (length fs) k below ∙ taken_grown before fs k most room f (first_length (weights_in items) (frames_in items) fs k) formed in
     let light = kept.cost (costs_within (layout_of items) [] items k below) in
     let small = kept.frame (frames_within (layout_of items) [] items k below) in

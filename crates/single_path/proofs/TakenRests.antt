@@ -37,12 +37,9 @@ times_window g o body (suc k) s =
 mutual
   moved_rests : (g : Serves) (o : ℕ) (t : PlainStmt) (s : State) → Rests g t (window o s) → Rests g (stmt_moved o t) s
   moved_rests g o (masks slot e) s h = tt
-  moved_rests g o (writes mask target e) s h = h
-  moved_rests g o (calls mask k args result) s h = h
-  moved_rests g o (transfers mask core source target count) s h = h
-  moved_rests g o (overruns mask e) s h = h
   moved_rests g o (iterations count body) s h =
       λ k. all_moved g o body (times k (stmts_done g (stmts_moved o body)) s) (subst (AllRest g body) (sym (times_window g o body k s)) (h k))
+  moved_rests g o _ s h = h
 
   all_moved : (g : Serves) (o : ℕ) (ts : PlainStmts) (s : State) → AllRest g ts (window o s) → AllRest g (stmts_moved o ts) s
   all_moved g o no_stmt s h = tt

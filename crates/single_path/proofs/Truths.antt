@@ -31,12 +31,9 @@ between_again binary.LessEqualUnsigned a b is = flag_again _
 between_again _ a b is = absurd (cc)
 
 truth_again : (e : PlainSp) (s : State) → is_truth e ≡ true → worth e s ≡ flag (is_true (worth e s))
-truth_again (constant n) s is = absurd (cc)
-truth_again (frame_word at) s is = absurd (cc)
-truth_again (cell_word cell) s is = absurd (cc)
-truth_again (array_word array index) s is = absurd (cc)
 truth_again (before_one op of) s is = before_again op (worth of s) is
 truth_again (between_two op a b) s is = between_again op (worth a s) (worth b s) is
+truth_again _ s is = absurd (cc)
 
 pub truth_worth : (e : PlainSp) (s : State) → worth (truth e) s ≡ flag (is_true (worth e s))
 truth_worth e s = by (is_truth e) refl

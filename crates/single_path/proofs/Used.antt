@@ -131,11 +131,9 @@ mutual
       actions_joined P (maybe_sets (resolved_begin names head))
       (actions.one (actions.iterations (most_iterations bound) (resolved_condition names head) (resolved_block fs names body) (resolved_next names head)))
       parts.0 ((parts.1, block_used P fs names body (each_rest (Allows P) (head_uses names head) (block_uses names body) all), parts.2), tt)
-  stmt_used P fs names plain.broken all = (tt, tt)
-  stmt_used P fs names plain.continued all = (tt, tt)
-  stmt_used P fs names (plain.returned None) all = (tt, tt)
   stmt_used P fs names (plain.returned (Some e)) all = (expr_used P names None e all, tt)
   stmt_used P fs names (plain.inner body) all = block_used P fs names body all
+  stmt_used P fs names _ all = (tt, tt)
 
   block_used : (P : Use → Type 0) (fs : List (List ℕ)) (names : Names) (body : PlainBlock) → Each (Allows P) (block_uses names body)
       → Do P (resolved_block fs names body)
@@ -185,13 +183,10 @@ items_used P slots fs (plain.function kind its_name void_word parameters body �
 -- ---- each use of the tree comes from one of the program
 
 allowed : (P : Use → Type 0) (s : source.Use) → ((u : Use) → IsMadeTo s u → P u) → Allows P s
-allowed P (reads (level at unsigned)) all = (tt, tt)
 allowed P (reads (outside slot)) all = (all (reads_cell (slot_cell slot)) (slot, refl, refl), all (reads_array (slot_array slot)) (slot, refl, refl))
-allowed P (reads scope.nothing) all = (tt, tt)
-allowed P (sets (level at unsigned)) all = (tt, tt)
 allowed P (sets (outside slot)) all = (all (writes_cell (slot_cell slot)) (slot, refl, refl), all (writes_array (slot_array slot)) (slot, refl, refl))
-allowed P (sets scope.nothing) all = (tt, tt)
 allowed P (sends core) all = all (tree.sends_to core) refl
+allowed P _ all = (tt, tt)
 
 -- each of some uses allows what comes from them, where all that comes from them has a property
 each_allowed : (P : Use → Type 0) (ss : List source.Use) → ((u : Use) → ComesFrom ss u → P u) → Each (Allows P) ss

@@ -64,16 +64,7 @@ scalar_hides c gives e = absurd (cc)
 
 knows_after : (names : List Named) (fs : List (List ℕ)) (counts : List ℕ) (s : PlainStmt) → Knows names fs counts → Knows (after names s) fs counts
 knows_after names fs counts (plain.declared kind text r) k = knows_more names fs counts text means.Scalar scalar_hides k
-knows_after names fs counts (plain.set text r) k = k
-knows_after names fs counts (plain.set_element text index r) k = k
-knows_after names fs counts (plain.called text args) k = k
-knows_after names fs counts (plain.sent core core_unsigned source target count) k = k
-knows_after names fs counts (plain.chosen arms otherwise) k = k
-knows_after names fs counts (plain.looped bound head body) k = k
-knows_after names fs counts plain.broken k = k
-knows_after names fs counts plain.continued k = k
-knows_after names fs counts (plain.returned e) k = k
-knows_after names fs counts (plain.inner body) k = k
+knows_after names fs counts _ k = k
 
 -- ---- actions one after another
 
@@ -107,9 +98,6 @@ callee names fs counts k is_right at text arguments none = by (found text names)
         same false e = absurd (cc)
 
     by : (f : Option Meaning) → found text names ≡ f → IsTrue (has_none (callee_faults is_right at arguments f)) → Callee fs counts text arguments
-    by None h none = absurd (cc)
-    by (Some means.Scalar) h none = absurd (cc)
-    by (Some means.Array) h none = absurd (cc)
     by (Some (means.Function c gives inside)) h none =
         let wrong = where_so (is_right && not gives) at fault.WrongType in
         let recursive = where_so inside at fault.Recursion in
@@ -117,6 +105,7 @@ callee names fs counts k is_right at text arguments none = by (found text names)
         let rest = none_right wrong (recursive ++ counted) none in
         named_so c gives inside h (not_so inside at fault.Recursion (none_left recursive counted rest))
         (not_so (not (arguments == c)) at fault.Params (none_right recursive counted rest))
+    by _ h none = absurd (cc)
 
 numbered_fits : (fs : List (List ℕ)) (counts : List ℕ) (inside : Bool) (text : List ℕ) (args : List PlainSp) (result : Option PlainTarget)
     → Callee fs counts text (length args) → Fits (Callable counts (length fs)) inside (numbered_call (number_of text fs) args result)

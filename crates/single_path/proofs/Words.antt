@@ -52,9 +52,7 @@ between_words op u a b = by (is_exchanged op)
 
 sign_words : (op : UnaryOp) (e : PlainSp) → expr_words (resolved_sign op e) ≤ expr_words e
 sign_words unary.Minus e = omega arith
-sign_words unary.Complement e = omega arith
-sign_words unary.Not e = omega arith
-sign_words unary.Plus e = omega arith
+sign_words _ e = omega arith
 
 signs_words : (ops : List UnaryOp) (e : PlainSp) → expr_words (resolved_signs ops e) ≤ expr_words e
 signs_words [] e = omega arith

@@ -82,9 +82,7 @@ is_near_op (Load mem.S load.Half rd ra imm) = false
 is_near_op (Load mem.S load.Byte rd ra imm) = false
 is_near_op (Load mem.S load.HalfUnsigned rd ra imm) = false
 is_near_op (Load mem.S load.ByteUnsigned rd ra imm) = false
-is_near_op (Load mem.L width rd ra imm) = false
-is_near_op (Load mem.C width rd ra imm) = false
-is_near_op (Load mem.M width rd ra imm) = false
+is_near_op (Load _ width rd ra imm) = false
 is_near_op (Store mem.S store.Word ra rs imm) = ra == 0
 is_near_op (Store mem.S store.Half ra rs imm) = false
 is_near_op (Store mem.S store.Byte ra rs imm) = false
@@ -121,22 +119,11 @@ near_effect Named from true (Call target) regs m zero_is near = asks_none Named 
 near_effect Named from true (BranchFill target) regs m zero_is near = asks_none Named m _ refl
 near_effect Named from true Return regs m zero_is near = asks_none Named m _ refl
 near_effect Named from true (Load mem.S load.Word rd ra imm) regs m zero_is near = asks_one Named (asked regs (Load mem.S load.Word rd ra imm)) m _ refl (refl, slot_aligned ra imm regs zero_is near) refl
-near_effect Named from true (Load mem.S load.Half rd ra imm) regs m zero_is near = absurd (true≢false (sym near))
-near_effect Named from true (Load mem.S load.Byte rd ra imm) regs m zero_is near = absurd (true≢false (sym near))
-near_effect Named from true (Load mem.S load.HalfUnsigned rd ra imm) regs m zero_is near = absurd (true≢false (sym near))
-near_effect Named from true (Load mem.S load.ByteUnsigned rd ra imm) regs m zero_is near = absurd (true≢false (sym near))
-near_effect Named from true (Load mem.L width rd ra imm) regs m zero_is near = absurd (true≢false (sym near))
-near_effect Named from true (Load mem.C width rd ra imm) regs m zero_is near = absurd (true≢false (sym near))
-near_effect Named from true (Load mem.M width rd ra imm) regs m zero_is near = absurd (true≢false (sym near))
 near_effect Named from true (Store mem.S store.Word ra rs imm) regs m zero_is near = asks_one Named (asked regs (Store mem.S store.Word ra rs imm)) m _ refl (refl, slot_aligned ra imm regs zero_is near) refl
-near_effect Named from true (Store mem.S store.Half ra rs imm) regs m zero_is near = absurd (true≢false (sym near))
-near_effect Named from true (Store mem.S store.Byte ra rs imm) regs m zero_is near = absurd (true≢false (sym near))
-near_effect Named from true (Store mem.L width ra rs imm) regs m zero_is near = absurd (true≢false (sym near))
-near_effect Named from true (Store mem.C width ra rs imm) regs m zero_is near = absurd (true≢false (sym near))
-near_effect Named from true (Store mem.M width ra rs imm) regs m zero_is near = absurd (true≢false (sym near))
 near_effect Named from true (Stack Sres n) regs m zero_is near = asks_one Named (effect.StackOp Sres n) m _ refl tt refl
 near_effect Named from true (Stack Sens n) regs m zero_is near = asks_one Named (effect.StackOp Sens n) m _ refl tt refl
 near_effect Named from true (Stack Sfree n) regs m zero_is near = asks_one Named (effect.StackOp Sfree n) m _ refl tt refl
+near_effect Named from true _ regs m zero_is near = absurd (true≢false (sym near))
 
 near_once : (Named : Use → Type 0) (from : Sources) (b : Slots) (m : Run) → IsWhole m → is_near b ≡ true → Asks Named [] m (once from b m)
 near_once Named from b m whole near =

@@ -9,9 +9,7 @@ use Rattle.sp_emit.specs.Expressions.{base_of}
 
 base_aligned : (r : Region) → base_of r % 4 ≡ 0
 base_aligned region.Scratch = refl
-base_aligned region.Comm = refl
-base_aligned region.Private = refl
-base_aligned region.Shared = refl
+base_aligned _ = refl
 
 pub read_aligned : (Named : Use → Type 0) (space : Mem) (address : ℕ) → IsReadPlace Named space address → address % 4 ≡ 0
 read_aligned Named space address (inl v) = omega (arith, v.2.address_is, base_aligned v.0.region)

@@ -39,9 +39,7 @@ cached_variable c address v = by c.region refl v.space_is v.address_is v.formed
           at ∙ ap (λ r. address_of r c.word) is ∙ omega arith,
           subst (λ r. c.word < room_in r all_rooms) is (ltb-true c.word (room_in c.region all_rooms) parts.1),
         )
-    by region.Scratch is space at formed = absurd cc
-    by region.Comm is space at formed = absurd cc
-    by region.Shared is space at formed = absurd cc
+    by _ is space at formed = absurd cc
 
 -- no element is loaded by the data cache
 no_cached_array : (a : SpArray) → mem.C ≡ array_space a.region → ⊥
@@ -49,9 +47,7 @@ no_cached_array a is = by a.region is
   where
     by : (r : Region) → mem.C ≡ array_space r → ⊥
     by region.Scratch is = cc
-    by region.Comm is = cc
-    by region.Private is = cc
-    by region.Shared is = cc
+    by _ is = cc
 
 -- a variable that is stored past the data cache is shared
 stored_variable : (c : SpCell) (address : ℕ) → IsVariable c mem.M address → 0x1000000 ≤ address
@@ -59,9 +55,7 @@ stored_variable c address v = by c.region refl v.space_is v.address_is
   where
     by : (r : Region) → c.region ≡ r → mem.M ≡ cell_space r → address ≡ address_of c.region c.word → 0x1000000 ≤ address
     by region.Shared is space at = let e = at ∙ ap (λ r. address_of r c.word) is in omega (arith, e)
-    by region.Scratch is space at = absurd cc
-    by region.Comm is space at = absurd cc
-    by region.Private is space at = absurd cc
+    by _ is space at = absurd cc
 
 -- an element of a private array is not where a private variable is that stands outside it
 element_elsewhere : (c : SpCell) (a : SpArray) (address : ℕ) → c.region ≡ region.Private → address ≡ 4 * c.word → c.word < 49152 → not (stands_inside c a) ≡ true → IsElement a mem.M address → ⊥

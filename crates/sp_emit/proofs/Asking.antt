@@ -24,20 +24,7 @@ use Rattle.sp_emit.proofs.Once.{did_nothing, did_branch, got, so_got}
 
 no_way : (from : Sources) (on : Bool) (op : Op) (regs : Registers) (m : Run) → is_flow op ≡ false → (effected from (if on then asked regs op else effect.Nothing) m).ways ≡ m.ways
 no_way from false op regs m calm = refl
-no_way from true (AluImm func rd ra imm) regs m calm = refl
-no_way from true (AluReg func rd ra rb) regs m calm = refl
-no_way from true (AluLong func rd ra constant) regs m calm = refl
-no_way from true (Mul unsigned ra rb) regs m calm = refl
-no_way from true (Cmp func pd ra rb) regs m calm = refl
-no_way from true (CmpImm func pd ra imm) regs m calm = refl
-no_way from true (Comb func pd a b) regs m calm = refl
-no_way from true (ToSpecial special ra) regs m calm = refl
-no_way from true (FromSpecial rd special) regs m calm = refl
-no_way from true (Load space width rd ra imm) regs m calm = refl
 no_way from true (Store mem.S width ra rs imm) regs m calm = refl
-no_way from true (Store mem.L width ra rs imm) regs m calm = refl
-no_way from true (Store mem.C width ra rs imm) regs m calm = refl
-no_way from true (Store mem.M width ra rs imm) regs m calm = refl
 no_way from true (Stack Sres n) regs m calm = refl
 no_way from true (Stack Sens n) regs m calm = refl
 no_way from true (Stack Sfree n) regs m calm = refl
@@ -45,6 +32,7 @@ no_way from true (Branch offset) regs m calm = absurd (true≢false calm)
 no_way from true (Call target) regs m calm = absurd (true≢false calm)
 no_way from true (BranchFill target) regs m calm = absurd (true≢false calm)
 no_way from true Return regs m calm = absurd (true≢false calm)
+no_way from true _ regs m calm = refl
 
 pub same_ways : (from : Sources) (bs : List Slots) (m : Run) → are_calm bs ≡ true → (run from (all_done bs) m).ways ≡ m.ways
 same_ways from [] m calm = refl

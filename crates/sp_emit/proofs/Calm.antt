@@ -1,5 +1,5 @@
 -- Calm bundles keep what they are to keep, whatever their guards are.
-use Rattle.std.proofs.Common.{◌≡◌, ℕ, zero, suc, ◌<◌, ◌≤◌, ◌==◌, Bool, true, false, not, ◌&&◌, ◌||◌, ◌⊎◌, inl, inr, is_none, Option, None, Some, List, [], ◌∷◌, ◌++◌, refl, sym, ◌∙◌, subst, arith, true≢false}
+use Rattle.std.proofs.Common.{◌≡◌, ℕ, zero, suc, ◌<◌, ◌≤◌, ◌==◌, Bool, true, false, not, ◌&&◌, ◌||◌, ◌⊎◌, inl, inr, is_none, Option, None, Some, List, [], ◌∷◌, ◌++◌, refl, sym, ◌∙◌, subst, arith, true≢false, ap, ne_eqb, if◌then◌else◌}
 use Rattle.std.specs.Prelude.{nat_le, nat_lt}
 use Rattle.std.specs.List.{list_all}
 use Rattle.std.proofs.lemmas.Bool.{and_parts, and_from, or_cases, not-true, leb-true, ltb-true, eqb-true, eqb-false}
@@ -10,15 +10,20 @@ use Rattle.patmos_instr.specs.declared.instructions.Op.{Op}
 use Rattle.patmos_instr.specs.declared.instructions.Op.TheVariants.{AluImm, AluReg, AluLong, Mul, Cmp, CmpImm, Comb, ToSpecial, FromSpecial, Stack, Load, Store, Branch, Call, BranchFill, Return}
 use Rattle.patmos_instr.specs.declared.memories.Mem.{Mem}
 use Rattle.patmos_instr.specs.declared.memories.Width.TheVariants as load
-use Rattle.patmos_sem.specs.Registers.{holds}
+use Rattle.patmos_sem.specs.Registers.{Registers, holds}
 use Rattle.patmos_sem.specs.declared.writes.Write.TheVariants as write
-use Rattle.sp_shape.specs.Run.{Run, Sources, word_given, once, run, IsWhole}
+use Rattle.sp_shape.specs.Run.{Run, Sources, once, effected, run, IsWhole}
+use Rattle.patmos_sem.specs.Bundles.{effect_of}
+use Rattle.patmos_sem.specs.Effects.{asked}
+use Rattle.patmos_sem.specs.declared.effects.Effect.TheVariants as effect
 use Rattle.sp_shape.specs.Parts.{PlainPart, straight, repeats, calls_to, leaves, PlainParts, no_part, part}
 use Rattle.sp_shape.specs.Trail.{Step, does, begins, all_done, copies, part_trail, parts_trail}
 use Rattle.sp_emit.specs.Holding.{held, Keeps, KeepsFrom}
 use Rattle.sp_emit.specs.Instructions.{under}
 use Rattle.sp_emit.specs.declared.registers.TheConstants.{OVERRUN, FLAGS}
-use Rattle.sp_emit.proofs.Once.{with_written, loaded, did_write, did_nothing, did_multiply, did_branch, did_load, whole_written, stays_zero, kept, kept_by_pred, kept_by_product, so_kept, so_by_register, so_by_product}
+use Rattle.sp_emit.proofs.Once.{with_written, whole_written, stays_zero, kept, so_by_register}
+use Rattle.sp_emit.proofs.Untouched.{Operand, register, predicate, IsThere, Same, no_register, no_predicate, leaves_op, left_once}
+use Rattle.sp_shape.proofs.Whole.{behind, once_whole}
 
 -- ---- calm instructions and code
 
@@ -146,6 +151,7 @@ free_high rd homes r x free at some lt same = by (free_cases rd homes r free)
 
 -- ---- writes
 
+-- a register that is free
 pub keeps_register : (rd homes r v : ℕ) (m : Run) → rd < 32 → IsWhole m → is_free rd homes r ≡ true → Keeps rd homes m (with_written (write.Register r v) m)
 keeps_register rd homes r v m few whole free = record {
   whole = whole_written (write.Register r v) m whole;
@@ -166,76 +172,65 @@ keeps_register rd homes r v m few whole free = record {
     high zero at lt = stays_zero (write.Register r v) m whole
     high (suc x) at lt = kept r v (suc x) m whole (omega (arith, lt)) (free_high rd homes r (suc x) free at (omega arith) lt)
 
-keeps_pred : (rd homes p : ℕ) (b : Bool) (m : Run) → rd < 32 → IsWhole m → is_passing p ≡ true → Keeps rd homes m (with_written (write.Predicate p b) m)
-keeps_pred rd homes p b m few whole passing = record {
-  whole = whole_written (write.Predicate p b) m whole;
-  low = λ x lt. kept_by_pred p b x m whole (omega (arith, lt, few));
-  high = λ x at lt. kept_by_pred p b x m whole (omega (arith, lt));
-  flags = λ q from lt. so_kept p b q m whole lt (λ same. absurd (omega (arith, same, from, ltb-true p FLAGS passing)));
-  flag = kept_by_pred p b OVERRUN m whole (omega arith);
-  stack = refl;
-  st = refl;
-  memory = refl;
-}
-
-keeps_product : (rd homes low high : ℕ) (m : Run) → rd < 32 → IsWhole m → Keeps rd homes m (with_written (write.Product low high) m)
-keeps_product rd homes low high m few whole = record {
-  whole = whole_written (write.Product low high) m whole;
-  low = λ x lt. kept_by_product low high x m whole (omega (arith, lt, few));
-  high = λ x at lt. kept_by_product low high x m whole (omega (arith, lt));
-  flags = λ q from lt. so_by_product low high q m whole lt;
-  flag = kept_by_product low high OVERRUN m whole (omega arith);
-  stack = refl;
-  st = refl;
-  memory = refl;
-}
-
-keeps_load : (from : Sources) (space : Mem) (rd homes r address : ℕ) (m : Run) → rd < 32 → IsWhole m → is_free rd homes r ≡ true → Keeps rd homes m (loaded from space r address m)
-keeps_load from space rd homes r address m few whole free =
-    let a = keeps_register rd homes r (word_given from space address m) m few whole free in
-    record { whole = record { fits = a.whole.fits; pending = a.whole.pending }; low = a.low; high = a.high; flags = a.flags; flag = a.flag; stack = refl; st = refl; memory = refl }
-
 -- ---- bundles
 
--- one whose guard is true
-calm_on : (from : Sources) (rd homes : ℕ) (g : Guard) (op : Op) (m : Run) → rd < 32 → IsWhole m → is_calm_op rd homes op ≡ true → holds m.regs g ≡ true → Keeps rd homes m (once from (under g op) m)
-calm_on from rd homes g (AluImm func r ra imm) m few whole calm on = subst (Keeps rd homes m) (sym (did_write from g (AluImm func r ra imm) m whole on refl refl)) (keeps_register rd homes r _ m few whole calm)
-calm_on from rd homes g (AluReg func r ra rb) m few whole calm on = subst (Keeps rd homes m) (sym (did_write from g (AluReg func r ra rb) m whole on refl refl)) (keeps_register rd homes r _ m few whole calm)
-calm_on from rd homes g (AluLong func r ra constant) m few whole calm on = subst (Keeps rd homes m) (sym (did_write from g (AluLong func r ra constant) m whole on refl refl)) (keeps_register rd homes r _ m few whole calm)
-calm_on from rd homes g (FromSpecial r special) m few whole calm on = subst (Keeps rd homes m) (sym (did_write from g (FromSpecial r special) m whole on refl refl)) (keeps_register rd homes r _ m few whole calm)
-calm_on from rd homes g (Cmp func pd ra rb) m few whole calm on = subst (Keeps rd homes m) (sym (did_write from g (Cmp func pd ra rb) m whole on refl refl)) (keeps_pred rd homes pd _ m few whole calm)
-calm_on from rd homes g (CmpImm func pd ra imm) m few whole calm on = subst (Keeps rd homes m) (sym (did_write from g (CmpImm func pd ra imm) m whole on refl refl)) (keeps_pred rd homes pd _ m few whole calm)
-calm_on from rd homes g (Comb func pd a b) m few whole calm on = subst (Keeps rd homes m) (sym (did_write from g (Comb func pd a b) m whole on refl refl)) (keeps_pred rd homes pd _ m few whole calm)
-calm_on from rd homes g (Mul unsigned ra rb) m few whole calm on = subst (Keeps rd homes m) (sym (did_multiply from g unsigned ra rb m whole on)) (keeps_product rd homes _ _ m few whole)
-calm_on from rd homes g (Load space load.Word r ra imm) m few whole calm on = subst (Keeps rd homes m) (sym (did_load from g space r ra imm m whole on)) (keeps_load from space rd homes r _ m few whole calm)
-calm_on from rd homes g (Branch offset) m few whole calm on =
-    subst (Keeps rd homes m) (sym (did_branch from g offset m whole on)) (record { whole = record { fits = whole.fits; pending = whole.pending }; low = λ r lt. refl; high = λ r at lt. refl; flags = λ p from lt. refl; flag = refl; stack = refl; st = refl; memory = refl })
-calm_on from rd homes g (Load space load.Half r ra imm) m few whole calm on = absurd (true≢false (sym calm))
-calm_on from rd homes g (Load space load.Byte r ra imm) m few whole calm on = absurd (true≢false (sym calm))
-calm_on from rd homes g (Load space load.HalfUnsigned r ra imm) m few whole calm on = absurd (true≢false (sym calm))
-calm_on from rd homes g (Load space load.ByteUnsigned r ra imm) m few whole calm on = absurd (true≢false (sym calm))
-calm_on from rd homes g (ToSpecial special ra) m few whole calm on = absurd (true≢false (sym calm))
-calm_on from rd homes g (Stack func count) m few whole calm on = absurd (true≢false (sym calm))
-calm_on from rd homes g (Store space width ra rs imm) m few whole calm on = absurd (true≢false (sym calm))
-calm_on from rd homes g (Call target) m few whole calm on = absurd (true≢false (sym calm))
-calm_on from rd homes g (BranchFill target) m few whole calm on = absurd (true≢false (sym calm))
-calm_on from rd homes g Return m few whole calm on = absurd (true≢false (sym calm))
+-- a register or a predicate is left that calm instructions do not set
+calm_leaves : (rd homes : ℕ) (x : Operand) → ((r : ℕ) → is_free rd homes r ≡ true → no_register x r ≡ true) → ((p : ℕ) → is_passing p ≡ true → no_predicate x p ≡ true) → (op : Op) → is_calm_op rd homes op ≡ true → leaves_op x op ≡ true
+calm_leaves rd homes x free passing (AluImm func r ra imm) calm = free r calm
+calm_leaves rd homes x free passing (AluReg func r ra rb) calm = free r calm
+calm_leaves rd homes x free passing (AluLong func r ra constant) calm = free r calm
+calm_leaves rd homes x free passing (FromSpecial r special) calm = free r calm
+calm_leaves rd homes x free passing (Load space load.Word r ra imm) calm = free r calm
+calm_leaves rd homes x free passing (Load space _ r ra imm) calm = absurd (true≢false (sym calm))
+calm_leaves rd homes x free passing (Cmp func pd ra rb) calm = passing pd calm
+calm_leaves rd homes x free passing (CmpImm func pd ra imm) calm = passing pd calm
+calm_leaves rd homes x free passing (Comb func pd a b) calm = passing pd calm
+calm_leaves rd homes x free passing (ToSpecial special ra) calm = absurd (true≢false (sym calm))
+calm_leaves rd homes x free passing _ calm = refl
 
-calm_under : (from : Sources) (rd homes : ℕ) (g : Guard) (op : Op) (m : Run) → rd < 32 → IsWhole m → is_calm_op rd homes op ≡ true → Keeps rd homes m (once from (under g op) m)
-calm_under from rd homes g op m few whole calm = by (holds m.regs g) refl
-  where
-    by : (on : Bool) → holds m.regs g ≡ on → Keeps rd homes m (once from (under g op) m)
-    by true on = calm_on from rd homes g op m few whole calm on
-    by false off = subst (Keeps rd homes m) (sym (did_nothing from g op m whole off)) (keeps_all rd homes m whole)
+-- the stack and all memories are as they were
+record SameMemories (m t : Run) : Type 0 where
+  stack : t.stack ≡ m.stack
+  st : t.st ≡ m.st
+  memory : t.memory ≡ m.memory
+
+calm_effect : (from : Sources) (rd homes : ℕ) (on : Bool) (op : Op) (regs : Registers) (m : Run) → is_calm_op rd homes op ≡ true → SameMemories m (effected from (if on then asked regs op else effect.Nothing) m)
+calm_effect from rd homes false op regs m calm = record { stack = refl; st = refl; memory = refl }
+calm_effect from rd homes true (Store space width ra rs imm) regs m calm = absurd (true≢false (sym calm))
+calm_effect from rd homes true (Stack func count) regs m calm = absurd (true≢false (sym calm))
+calm_effect from rd homes true _ regs m calm = record { stack = refl; st = refl; memory = refl }
 
 calm_bundle : (from : Sources) (rd homes : ℕ) (b : Slots) (m : Run) → rd < 32 → IsWhole m → is_calm rd homes b ≡ true → Keeps rd homes m (once from b m)
-calm_bundle from rd homes b m few whole calm =
-    let both = and_parts (is_calm_op rd homes b.first.op) (is_none b.second) calm in
-    by b.second both.1 (calm_under from rd homes b.first.guard b.first.op m few whole both.0)
+calm_bundle from rd homes b m few whole calm = record {
+  whole = after;
+  low = low;
+  high = high;
+  flags = λ p at lt. left (predicate p) lt (λ r free. refl) (λ q passing. ap not (ne_eqb q p (λ same. absurd (omega (arith, same, at, ltb-true q FLAGS passing)))));
+  flag = left (register OVERRUN) (omega arith) (λ r free. ap not (ne_eqb r OVERRUN (free_flag rd homes r free))) (λ p passing. refl);
+  stack = still.stack;
+  st = still.st;
+  memory = still.memory;
+}
   where
-    by : (second : Option Instr) → is_none second ≡ true → Keeps rd homes m (once from (under b.first.guard b.first.op) m) → Keeps rd homes m (once from (record { first = b.first; second = second }) m)
-    by None none h = h
-    by (Some i) none h = absurd (true≢false (sym none))
+    both : (is_calm_op rd homes b.first.op ≡ true) × (is_none b.second ≡ true)
+    both = and_parts (is_calm_op rd homes b.first.op) (is_none b.second) calm
+
+    after : IsWhole (once from b m)
+    after = once_whole from b m whole
+
+    still : SameMemories m (effected from (effect_of b m.regs) (behind b m))
+    still = let e = calm_effect from rd homes (holds m.regs b.first.guard) b.first.op m.regs (behind b m) both.0 in record { stack = e.stack; st = e.st; memory = e.memory }
+
+    left : (x : Operand) → IsThere x → ((r : ℕ) → is_free rd homes r ≡ true → no_register x r ≡ true) → ((p : ℕ) → is_passing p ≡ true → no_predicate x p ≡ true) → Same x m (once from b m)
+    left x there free passing = left_once from x b m there whole (and_from (leaves_op x b.first.op) (is_none b.second) (calm_leaves rd homes x free passing b.first.op both.0) both.1)
+
+    low : (x : ℕ) → x < rd → held x (once from b m) ≡ held x m
+    low zero lt = after.fits.zero ∙ sym whole.fits.zero
+    low (suc x) lt = left (register (suc x)) (omega (arith, lt, few)) (λ r free. ap not (ne_eqb r (suc x) (free_apart rd homes r (suc x) free lt (omega arith)))) (λ p passing. refl)
+
+    high : KeepsFrom homes m (once from b m)
+    high zero at lt = after.fits.zero ∙ sym whole.fits.zero
+    high (suc x) at lt = left (register (suc x)) (omega (arith, lt)) (λ r free. ap not (ne_eqb r (suc x) (free_high rd homes r (suc x) free at (omega arith) lt))) (λ p passing. refl)
 
 -- ---- trails
 

@@ -54,9 +54,7 @@ holds_word_set region.Shared word v w below x = record { scratch = x.scratch; co
 
 overrun_stands : (r : Region) (word v : ℕ) (w : World) → w.overrun ≡ (with_word r word v w).overrun
 overrun_stands region.Scratch word v w = refl
-overrun_stands region.Comm word v w = refl
-overrun_stands region.Private word v w = refl
-overrun_stands region.Shared word v w = refl
+overrun_stands _ word v w = refl
 
 -- ---- stores
 

@@ -50,28 +50,20 @@ cell_found region.Shared word few = shared_at word ((0x1000000 + 4 * word) / 4 *
 
 pub element_found : (r : Region) (word : ℕ) → word < room_in r all_rooms → cell_of (array_space r) (address_of r word) ≡ Some (cell_in r word)
 element_found region.Scratch word few = cell_found region.Scratch word few
-element_found region.Comm word few = cell_found region.Comm word few
-element_found region.Private word few = cell_found region.Private word few
-element_found region.Shared word few = cell_found region.Shared word few
+element_found other word few = cell_found other word few
 
 pub few_words : (r : Region) → room_in r all_rooms ≤ 49152
 few_words region.Scratch = omega arith
-few_words region.Comm = omega arith
-few_words region.Private = omega arith
-few_words region.Shared = omega arith
+few_words _ = omega arith
 
 pub first_small : (r : Region) (word : ℕ) → word ≤ room_in r all_rooms → address_of r word < 2 ^ 32
 first_small region.Scratch word few = omega (arith, few)
-first_small region.Comm word few = omega (arith, few)
-first_small region.Private word few = omega (arith, few)
-first_small region.Shared word few = omega (arith, few)
+first_small _ word few = omega (arith, few)
 
 -- so many words after the first
 pub element_address : (r : Region) (first index : ℕ) → first + index < room_in r all_rooms → address_by ((4 * index + address_of r first) % 2 ^ 32) 0 4 ≡ address_of r (first + index)
 element_address region.Scratch first index few = omega (arith, few)
-element_address region.Comm first index few = omega (arith, few)
-element_address region.Private first index few = omega (arith, few)
-element_address region.Shared first index few = omega (arith, few)
+element_address _ first index few = omega (arith, few)
 
 -- ---- what is in it
 
@@ -83,15 +75,11 @@ shown_word region.Shared word w m shows from = shows.shared word
 
 given_cell : (r : Region) (address : ℕ) (m : Run) → word_given by_words (cell_space r) address m ≡ word_at (cell_of (cell_space r) address) m.memory
 given_cell region.Scratch address m = refl
-given_cell region.Comm address m = refl
-given_cell region.Private address m = refl
-given_cell region.Shared address m = refl
+given_cell _ address m = refl
 
 given_element : (r : Region) (address : ℕ) (m : Run) → word_given by_words (array_space r) address m ≡ word_at (cell_of (array_space r) address) m.memory
 given_element region.Scratch address m = refl
-given_element region.Comm address m = refl
-given_element region.Private address m = refl
-given_element region.Shared address m = refl
+given_element _ address m = refl
 
 pub cell_given : (r : Region) (word : ℕ) (w : world.World) (m : Run) → HasWords w m.memory → first_of r ≤ word → word < room_in r all_rooms
     → word_given by_words (cell_space r) (address_of r word) m ≡ world.word_at r word w

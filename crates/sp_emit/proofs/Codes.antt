@@ -82,35 +82,6 @@ past_all (x ∷ xs) (suc k) d past = past_all xs k d (omega (arith, past))
 pub flag_tops_past : (fs : List PlainFunction) (n k : ℕ) → n ≤ k → slice_index_or (flag_tops fs n) k 4 ≡ 4
 flag_tops_past fs n k past = past_all (flag_tops fs n) k 4 (let same = grown_length (flag_tops fs) (flag_top_of fs) refl (λ m. refl) n in omega (arith, same, past))
 
--- ---- what is well formed of a function, part by part
-pub record Parts (fs : List PlainFunction) (number : ℕ) (f : PlainFunction) : Type 0 where
-  pub frame : f.frame ≤ 128
-  pub parameters : f.parameters ≤ 6
-  pub before_mask : f.parameters ≤ f.mask
-  pub mask : f.mask < slots_of f
-  pub result : f.result < slots_of f
-  pub body : stmts_formed fs number (slots_of f) f.body ≡ true
-  pub room : slots_of f + stmts_levels f.body + 2 ≡ f.frame
-
-pub parts_of_function : (fs : List PlainFunction) (number : ℕ) (f : PlainFunction) → function_formed fs number f ≡ true → Parts fs number f
-parts_of_function fs number f formed =
-    let a = and_parts (nat_le f.frame 128) _ formed in
-    let b = and_parts (nat_le f.parameters 6) _ a.1 in
-    let c = and_parts (nat_le f.parameters f.mask) _ b.1 in
-    let d = and_parts (nat_lt f.mask (slots_of f)) _ c.1 in
-    let e = and_parts (nat_le f.parameters f.result) _ d.1 in
-    let g = and_parts (nat_lt f.result (slots_of f)) (stmts_formed fs number (slots_of f) f.body) e.1 in
-    let mask = ltb-true f.mask (slots_of f) d.0 in
-    record {
-      frame = leb-true f.frame 128 a.0;
-      parameters = leb-true f.parameters 6 b.0;
-      before_mask = leb-true f.parameters f.mask c.0;
-      mask = mask;
-      result = ltb-true f.result (slots_of f) g.0;
-      body = g.1;
-      room = omega (arith, mask);
-    }
-
 -- ---- the place to which a function returns is kept, or stays
 
 pub kept_is : (P : List Slots → Type 0) (homes : ℕ) (f : PlainFunction) → (stmts_call f.body ≡ true → P (place_stored homes f)) → P [] → P (place_kept homes f)

@@ -89,11 +89,7 @@ OwnWord _ = Unit {0}
 
 own_word : (homes : Homes) (e : PlainSp) (rd to : ℕ) → Wordy (value_code homes e rd to) → OwnWord e
 own_word homes (constant n) rd to v = number_word to n (and_parts (has_word (set_number to n)) true (and_parts (has_word (set_number to n) && true) true v).0).0
-own_word homes (frame_word slot) rd to v = tt
-own_word homes (cell_word cell) rd to v = tt
-own_word homes (array_word array index) rd to v = tt
-own_word homes (before_one op of) rd to v = tt
-own_word homes (between_two op a b) rd to v = tt
+own_word homes _ rd to v = tt
 
 parts_words : (homes : Homes) (e : PlainSp) (rd : ℕ) → Wordy (operands_code homes e rd) → OwnWord e → HasWordConstants e
 parts_words homes (constant n) rd h own = own
@@ -153,11 +149,8 @@ joined_words flags op a b joins_them = by (flag_at flags a) refl (and_parts (is_
   where
     word : (a : PlainSp) → is_frame_word a ≡ true → HasWordConstants a
     word (frame_word slot) is = tt
-    word (constant n) is = absurd (true≢false (sym is))
     word (cell_word cell) is = tt
-    word (array_word array index) is = absurd (true≢false (sym is))
-    word (before_one inner of) is = absurd (true≢false (sym is))
-    word (between_two inner c d) is = absurd (true≢false (sym is))
+    word _ is = absurd (true≢false (sym is))
 
     by : (o : Option ℕ) → flag_at flags a ≡ o → (is_some o || seeks flags op a b) ≡ true → HasWordConstants a
     by (Some p) there is = at_words flags a (ap is_some there)
@@ -166,11 +159,7 @@ joined_words flags op a b joins_them = by (flag_at flags a) refl (and_parts (is_
 -- a constant that is tested is 0
 test_word : (e : PlainSp) → is_test e ≡ true → OwnWord e
 test_word (constant n) test = let none = eqb-true n 0 test in omega (arith, none)
-test_word (frame_word slot) test = tt
-test_word (cell_word cell) test = tt
-test_word (array_word array index) test = tt
-test_word (before_one op of) test = tt
-test_word (between_two op a b) test = tt
+test_word _ test = tt
 
 tested_words : (homes : Homes) (e : PlainSp) → is_test e ≡ true → Wordy (tested_code homes e) → HasWordConstants e
 tested_words homes e test h = parts_words homes e FIRST (split (operands_code homes e FIRST) (one (straight (test_of homes e))) h).0 (test_word e test)

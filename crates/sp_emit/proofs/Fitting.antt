@@ -8,7 +8,7 @@ use Rattle.sp_tree.specs.Plain.{PlainSp}
 use Rattle.sp_tree.specs.Statements.{PlainSpTarget, to_slot, to_cell, to_array, PlainStmt, masks, writes, calls, transfers, overruns, iterations, PlainStmts, PlainFunction, no_function}
 use Rattle.sp_tree.specs.declared.expressions.SpArray.{SpArray}
 use Rattle.sp_tree.specs.declared.expressions.SpCell.{SpCell}
-use Rattle.sp_tree.proofs.Forms.{function_at, earlier_one, earlier_ones, few_arguments, item_part}
+use Rattle.sp_tree.proofs.Forms.{FunctionParts, parts_of_function, function_at, earlier_one, earlier_ones, few_arguments, item_part}
 use Rattle.sp_tree.specs.Shown.{plain_stmt, plain_function, stmts_of, functions_of}
 use Rattle.sp_tree.specs.declared.statements.SpFunction.{SpFunction}
 use Rattle.sp_tree.specs.declared.statements.SpStmt.{SpStmt}
@@ -198,41 +198,23 @@ room_behind {rd} e args f = omega (arith, f.registers)
 
 -- ---- functions
 
-record Sizes (f : PlainFunction) : Type 0 where
-  frame : f.frame ≤ 128
-  parameters : f.parameters ≤ 6
-  mask : f.mask < slots_of f
-  result : f.result < slots_of f
-
-sizes : {f : PlainFunction} → FunctionFits f → Sizes f
-sizes {f} h =
-    let a = and_parts (nat_le f.frame 128) _ h.formed in
-    let b = and_parts (nat_le f.parameters 6) _ a.1 in
-    let c = and_parts (nat_le f.parameters f.mask) _ b.1 in
-    let d = and_parts (nat_lt f.mask (slots_of f)) _ c.1 in
-    let e = and_parts (nat_le f.parameters f.result) _ d.1 in
-    let g = and_parts (nat_lt f.result (slots_of f)) (stmts_formed h.functions h.number (slots_of f) f.body) e.1 in
-    record {
-      frame = leb-true f.frame 128 a.0;
-      parameters = leb-true f.parameters 6 b.0;
-      mask = ltb-true f.mask (slots_of f) d.0;
-      result = ltb-true f.result (slots_of f) g.0;
-    }
+parts : {f : PlainFunction} (h : FunctionFits f) → FunctionParts h.functions h.number f
+parts {f} h = parts_of_function h.functions h.number f h.formed
 
 pub frame_most : {f : PlainFunction} → FunctionFits f → f.frame ≤ 128
-frame_most h = (sizes h).frame
+frame_most h = (parts h).frame
 
 pub frame_least : {f : PlainFunction} → FunctionFits f → 3 ≤ f.frame
-frame_least h = omega (arith, (sizes h).mask)
+frame_least h = omega (arith, (parts h).mask)
 
 pub few_parameters : {f : PlainFunction} → FunctionFits f → f.parameters ≤ 6
-few_parameters h = (sizes h).parameters
+few_parameters h = (parts h).parameters
 
 pub mask_fits : {f : PlainFunction} → FunctionFits f → f.mask < 128
-mask_fits h = omega (arith, (sizes h).mask, (sizes h).frame)
+mask_fits h = omega (arith, (parts h).mask, (parts h).frame)
 
 pub result_fits : {f : PlainFunction} → FunctionFits f → f.result < 128
-result_fits h = omega (arith, (sizes h).result, (sizes h).frame)
+result_fits h = omega (arith, (parts h).result, (parts h).frame)
 
 pub body_fits : {f : PlainFunction} (flags : Flags) {frame : ℕ} → frame ≤ 128 → FunctionFits f → StmtsFit frame (first_counter f) (begun_body flags f)
 body_fits {f} flags few h = record {
@@ -240,21 +222,12 @@ body_fits {f} flags few h = record {
   number = h.number;
   earlier = h.earlier;
   slots = slots_of f;
-  some = omega (arith, (sizes h).mask);
-  formed = begun_formed flags h.functions h.number (slots_of f) f formed;
-  counters = omega (arith, (sizes h).mask, begun_levels flags f);
-  counted = omega (arith, (sizes h).mask, (sizes h).frame);
+  some = omega (arith, (parts h).mask);
+  formed = begun_formed flags h.functions h.number (slots_of f) f (parts h).body;
+  counters = omega (arith, (parts h).mask, begun_levels flags f);
+  counted = omega (arith, (parts h).mask, (parts h).frame);
   most = few;
 }
-  where
-    formed : stmts_formed h.functions h.number (slots_of f) f.body ≡ true
-    formed =
-        let a = and_parts (nat_le f.frame 128) _ h.formed in
-        let b = and_parts (nat_le f.parameters 6) _ a.1 in
-        let c = and_parts (nat_le f.parameters f.mask) _ b.1 in
-        let d = and_parts (nat_lt f.mask (slots_of f)) _ c.1 in
-        let e = and_parts (nat_le f.parameters f.result) _ d.1 in
-        (and_parts (nat_lt f.result (slots_of f)) (stmts_formed h.functions h.number (slots_of f) f.body) e.1).1
 
 pub function_fits : (functions : List SpFunction) (k : ℕ) (f : SpFunction) → k < length functions → f ≡ get_or functions k f
     → functions_formed (functions_of functions) (length functions) ≡ true → FunctionFits (plain_function f)

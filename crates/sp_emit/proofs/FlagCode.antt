@@ -108,9 +108,6 @@ test_told : {homes : Homes} {slots : ℕ} {s : State} {m : Run} (f : ℕ → Lis
 test_told {homes} {slots} {s} {m} f (constant n) r test =
     ap (λ t. flag (so TEST t)) (did_combine by_words comb.Pxor TEST 0 0 m r.whole) ∙ ap flag (so_got TEST (pred_value comb.Pxor (so 0 m) (so 0 m)) m r.whole (omega arith) (omega arith))
     ∙ ap (λ b. flag (pred_value comb.Pxor b b)) r.whole.fits.always ∙ sym (eqb-true n 0 test)
-test_told f (frame_word slot) r test = absurd (true≢false (sym test))
-test_told f (cell_word cell) r test = absurd (true≢false (sym test))
-test_told f (array_word array index) r test = absurd (true≢false (sym test))
 test_told f (before_one unary.Minus of) r test = absurd (true≢false (sym test))
 test_told f (before_one unary.Complement of) r test = absurd (true≢false (sym test))
 test_told {homes} {slots} {s} {m} f (before_one unary.Not of) r test =
@@ -128,11 +125,6 @@ test_told {homes} {slots} {s} {m} f (between_two op a b) r test = by b r test (i
         let t = run by_words (parts_trail f (operand_code homes a FIRST)) m in
         let x = one_stands f op a (constant n) (left_anywhere homes slots f a s) FIRST m r (FIRST + 2) t (omega arith) (keeps_all (FIRST + 2) homes.first t whole) in
         number_told op (value_at homes a FIRST) n t test is whole ∙ ap (λ v. binary_value op v n) x.is
-    by (frame_word slot) r test true is less less_is whole = absurd (true≢false (sym is))
-    by (cell_word cell) r test true is less less_is whole = absurd (true≢false (sym is))
-    by (array_word array index) r test true is less less_is whole = absurd (true≢false (sym is))
-    by (before_one other of) r test true is less less_is whole = absurd (true≢false (sym is))
-    by (between_two other c d) r test true is less less_is whole = absurd (true≢false (sym is))
     by b r test false is true less_is whole =
         let t = run by_words (parts_trail f (joined (operand_code homes b FIRST) (operand_code homes a (FIRST + 1)))) m in
         let x = second_stands f op a b (left_anywhere homes slots f a s) (left_anywhere homes slots f b s) FIRST m r less_is (FIRST + 2) t (omega arith) (keeps_all (FIRST + 2) homes.first t whole) in
@@ -143,6 +135,8 @@ test_told {homes} {slots} {s} {m} f (between_two op a b) r test = by b r test (i
         let x = first_stands f op a b (left_anywhere homes slots f a s) (left_anywhere homes slots f b s) FIRST m r less_is (FIRST + 2) t (omega arith) (keeps_all (FIRST + 2) homes.first t whole) in
         let low = x.1.low in
         two_told op (value_at homes a FIRST) (value_at homes b (FIRST + 1)) t (condition_of op b test is) whole (omega (arith, low)) ∙ ap₂ (binary_value op) x.0.is x.1.is
+    by _ r test true is less less_is whole = absurd (true≢false (sym is))
+test_told f _ r test = absurd (true≢false (sym test))
 
 -- ---- truths that stand in predicates
 
@@ -180,11 +174,7 @@ word_stood {homes} {slots} {s} {m} slot p shows named is =
 
 one_is : (b : PlainSp) (s : State) → is_one b ≡ true → sp_value s.frame s.world b ≡ 1
 one_is (constant n) s is = eqb-true n 1 is
-one_is (frame_word slot) s is = absurd (true≢false (sym is))
-one_is (cell_word cell) s is = absurd (true≢false (sym is))
-one_is (array_word array index) s is = absurd (true≢false (sym is))
-one_is (before_one op of) s is = absurd (true≢false (sym is))
-one_is (between_two op a b) s is = absurd (true≢false (sym is))
+one_is _ s is = absurd (true≢false (sym is))
 
 pub stood : {homes : Homes} {slots : ℕ} {s : State} {m : Run} (e : PlainSp) (p : ℕ) → Shows homes slots s m → IsWhole m → names_words slots e ≡ true → flag_at homes.flags e ≡ Some p → Stood homes e p s m
 stood {homes} {slots} {s} {m} (constant n) p shows whole named is = by (n == 1) refl is
@@ -205,11 +195,7 @@ stood {homes} {slots} {s} {m} (between_two op a b) p shows whole named is = by (
 
     word : (a : PlainSp) → names_words slots a ≡ true → word_flag homes.flags a ≡ Some p → Stood homes a p s m
     word (frame_word slot) named is = word_stood slot p shows (ltb-true slot slots named) is
-    word (constant n) named is = absurd cc
-    word (cell_word cell) named is = absurd cc
-    word (array_word array index) named is = absurd cc
-    word (before_one op of) named is = absurd cc
-    word (between_two op a b) named is = absurd cc
+    word _ named is = absurd cc
 
     by : (c : Bool) → (is_same op && is_one b) ≡ c → (if c then word_flag homes.flags a else None) ≡ Some p → Stood homes (between_two op a b) p s m
     by false other is = absurd cc
@@ -325,11 +311,7 @@ truth_apart homes (between_two op a b) = by a (is_same op && is_one b)
     by : (a : PlainSp) (c : Bool) → Apart (told_in (if c then word_flag homes.flags a else None))
     by a false = test_apart
     by (frame_word slot) true = word_apart homes slot
-    by (constant n) true = test_apart
-    by (cell_word cell) true = test_apart
-    by (array_word array index) true = test_apart
-    by (before_one inner of) true = test_apart
-    by (between_two inner c d) true = test_apart
+    by _ true = test_apart
 
 -- what is left where the lowest bit of a word is sought
 record Sought (homes : Homes) (slot : ℕ) (m t : Run) : Type 0 where
@@ -381,11 +363,7 @@ operands_told {homes} {slots} {s} {m} f op a b r joins_them told =
         let shown = sym (shown_plain homes slot m none) ∙ r.shows.frame slot (ltb-true slot slots named) in
         ap₂ (λ x y. flag (pred_value (func_in (bits_of op)) x y)) x.bit (x.others q (truth_apart homes b))
         ∙ masked_value op (word_of homes.first slot n) (so q n) masking ∙ ap₂ (binary_value op) (word_still homes.first slot m n second.keeps.high second.keeps.stack second.keeps.st ∙ shown) second.value
-    word (constant k) is none named masking = absurd (true≢false (sym is))
-    word (cell_word cell) is none named masking = absurd (true≢false (sym is))
-    word (array_word array index) is none named masking = absurd (true≢false (sym is))
-    word (before_one inner of) is none named masking = absurd (true≢false (sym is))
-    word (between_two inner c d) is none named masking = absurd (true≢false (sym is))
+    word _ is none named masking = absurd (true≢false (sym is))
 
     by : (o : Option ℕ) → flag_at homes.flags a ≡ o → Joined homes op a b s m (run by_words (parts_trail f (unless_stands o (one (straight (bit_sought homes.first (slot_number a)))))) n)
     by (Some p) is =
@@ -505,15 +483,12 @@ first_is_ready {homes} {slots} {s} {m} op a b r =
 
 condition_told : {homes : Homes} {slots : ℕ} {s : State} {m : Run} (f : ℕ → List Step) (e : PlainSp) → IsReady homes slots e FIRST s m → is_condition e ≡ true
     → flag (so TEST (run by_words (parts_trail f (truth_code homes e)) m)) ≡ sp_value s.frame s.world e
-condition_told f (constant n) r is = absurd (true≢false (sym is))
-condition_told f (frame_word slot) r is = absurd (true≢false (sym is))
-condition_told f (cell_word cell) r is = absurd (true≢false (sym is))
-condition_told f (array_word array index) r is = absurd (true≢false (sym is))
 condition_told f (before_one op of) r is = tested_told f (before_one op of) r is
 condition_told {homes} {slots} {s} {m} f (between_two op a b) r is =
     ap (λ (c : Bool). flag (so TEST (run by_words (parts_trail f (if c then joined (operands_stood homes a b (truth_code homes b)) (one (straight (join homes.flags TEST op a b ∷ []))) else unjoined_code homes op a b (truth_code homes a))) m)))
     (no_joins homes.flags op a b is)
     ∙ unjoined_told f op a b r (condition_tests (between_two op a b) is) (condition_told f a (first_is_ready op a b r))
+condition_told f _ r is = absurd (true≢false (sym is))
 
 truth_told : {homes : Homes} {slots : ℕ} {s : State} {m : Run} (f : ℕ → List Step) (e : PlainSp) → IsReady homes slots e FIRST s m → is_truth homes.flags e ≡ true → flag_at homes.flags e ≡ None
     → flag (so TEST (run by_words (parts_trail f (truth_code homes e)) m)) ≡ sp_value s.frame s.world e

@@ -10,6 +10,7 @@ use Rattle.c_world.specs.declared.region.Region.TheVariants as region
 use Rattle.patmos_instr.specs.declared.functions.CmpFunc.TheVariants as cmp
 use Rattle.patmos_instr.specs.declared.functions.ImmFunc.TheVariants as imm
 use Rattle.sp_tree.specs.Formed as tree
+use Rattle.sp_tree.proofs.Forms.{parts_of_function}
 use Rattle.sp_tree.specs.Need.{need}
 use Rattle.sp_tree.specs.Plain.{PlainSp, constant, frame_word, cell_word, array_word, before_one, between_two}
 use Rattle.sp_tree.specs.Statements.{PlainSpTarget, to_slot, to_cell, to_array, PlainStmt, masks, writes, calls, transfers, overruns, iterations, PlainStmts, no_stmt, stmt, PlainFunction, no_function, PlainUnit}
@@ -67,26 +68,7 @@ unary_calm unary.Not rd ra = refl
 pub binary_formed : (n : ℕ) (op : SpBinary) (rd ra rb : ℕ) → parts_formed n (binary_code op rd ra rb) ≡ true
 unfolding unsigned_quotient_to
 binary_formed n binary.Or rd ra rb = refl
-binary_formed n binary.And rd ra rb = refl
-binary_formed n binary.BitOr rd ra rb = refl
-binary_formed n binary.BitXor rd ra rb = refl
-binary_formed n binary.BitAnd rd ra rb = refl
-binary_formed n binary.Equal rd ra rb = refl
-binary_formed n binary.NotEqual rd ra rb = refl
-binary_formed n binary.Less rd ra rb = refl
-binary_formed n binary.LessUnsigned rd ra rb = refl
-binary_formed n binary.LessEqual rd ra rb = refl
-binary_formed n binary.LessEqualUnsigned rd ra rb = refl
-binary_formed n binary.ShiftLeft rd ra rb = refl
-binary_formed n binary.ShiftRight rd ra rb = refl
-binary_formed n binary.ShiftRightUnsigned rd ra rb = refl
-binary_formed n binary.Plus rd ra rb = refl
-binary_formed n binary.Minus rd ra rb = refl
-binary_formed n binary.Times rd ra rb = refl
-binary_formed n binary.Divide rd ra rb = refl
-binary_formed n binary.DivideUnsigned rd ra rb = refl
-binary_formed n binary.Remainder rd ra rb = refl
-binary_formed n binary.RemainderUnsigned rd ra rb = refl
+binary_formed n _ rd ra rb = refl
 
 held_calm : (op : SpBinary) (rd ra n : ℕ) → are_calm (held_code op rd ra n) ≡ true
 unfolding factor_rest_to
@@ -165,9 +147,7 @@ flag_formed homes n to e = flag_is (truths_formed homes n) to (λ func a b. refl
 
 cell_calm : (homes : Homes) (mask : ℕ) (r : Region) (word : ℕ) → are_calm (cell_write homes mask (record { region = r; word = word })) ≡ true
 cell_calm homes mask region.Scratch word = rw (seek_flow homes mask, match_flow homes mask, number_flow SPARE (address_of region.Scratch word)) refl
-cell_calm homes mask region.Comm word = rw (seek_flow homes mask, match_flow homes mask, number_flow SPARE (address_of region.Comm word)) refl
-cell_calm homes mask region.Private word = rw (seek_flow homes mask, match_flow homes mask, number_flow SPARE (address_of region.Private word)) refl
-cell_calm homes mask region.Shared word = rw (seek_flow homes mask, match_flow homes mask, number_flow SPARE (address_of region.Shared word)) refl
+cell_calm homes mask other word = rw (seek_flow homes mask, match_flow homes mask, number_flow SPARE (address_of other word)) refl
 
 element_calm : (homes : Homes) (mask : ℕ) (r : Region) (first length : ℕ) → are_calm (element_write homes mask (record { region = r; first = first; length = length })) ≡ true
 element_calm homes mask r first length = by r (address_flow (record { region = r; first = first; length = length }) SECOND (FIRST + 1) (FIRST + 1))
@@ -175,9 +155,7 @@ element_calm homes mask r first length = by r (address_flow (record { region = r
     by : (r : Region) → AddressAre (λ b. is_flow b.first.op ≡ false) (record { region = r; first = first; length = length }) SECOND (FIRST + 1) (FIRST + 1)
         → are_calm (element_write homes mask (record { region = r; first = first; length = length })) ≡ true
     by region.Scratch a = rw (seek_flow homes mask, match_flow homes mask, a.length, a.below, a.base, a.scaled) refl
-    by region.Comm a = rw (seek_flow homes mask, match_flow homes mask, a.length, a.below, a.base, a.scaled) refl
-    by region.Private a = rw (seek_flow homes mask, match_flow homes mask, a.length, a.below, a.base, a.scaled) refl
-    by region.Shared a = rw (seek_flow homes mask, match_flow homes mask, a.length, a.below, a.base, a.scaled) refl
+    by _ a = rw (seek_flow homes mask, match_flow homes mask, a.length, a.below, a.base, a.scaled) refl
 
 target_formed : (homes : Homes) (n mask : ℕ) (target : PlainSpTarget) → parts_formed n (target_write homes mask target) ≡ true
 target_formed homes n mask (to_slot slot) = rw (seek_flow homes mask, match_flow homes mask, set_flow homes.first slot FIRST) refl
@@ -288,22 +266,12 @@ ends n (part (leaves tail) a) b fa fb = absurd cc
 
 function_is_formed : (homes : Homes) (fs : List PlainFunction) (n : ℕ) (f : PlainFunction) → tree.function_formed fs n f ≡ true → function_formed n (function_code homes f) ≡ true
 function_is_formed homes fs n f h =
-    let b = tree_body fs n f h in
+    let b = (parts_of_function fs n f h).body in
     and_from (are_calm (function_begin homes f)) (function_formed n (joined (body_code homes f) (function_rest homes.first f))) (begin_calm homes f)
     (ends n (body_code homes f) (function_rest homes.first f)
     (stmts_formed homes fs n (tree.slots_of f) (frame_words homes.first f) (first_counter f) (begun_body homes.flags f) (begun_formed homes.flags fs n (tree.slots_of f) f b))
     (and_from (are_calm (function_end homes.first f)) true (calm_append (place_brought homes.first f) (result_given homes.first f) (brought_is (λ bs. are_calm bs ≡ true) homes.first f (λ has. refl) refl)
     (rw (read_flow homes.first RESULT f.result) (freed_is (λ bs. are_calm bs ≡ true) (frame_words homes.first f) refl refl))) refl))
-  where
-    tree_body : (fs : List PlainFunction) (n : ℕ) (f : PlainFunction) → tree.function_formed fs n f ≡ true → tree.stmts_formed fs n (tree.slots_of f) f.body ≡ true
-    tree_body fs n f h =
-        let a = and_parts (nat_le f.frame 128) _ h in
-        let b = and_parts (nat_le f.parameters 6) _ a.1 in
-        let c = and_parts (nat_le f.parameters f.mask) _ b.1 in
-        let d = and_parts (nat_lt f.mask (tree.slots_of f)) _ c.1 in
-        let e = and_parts (nat_le f.parameters f.result) _ d.1 in
-        let g = and_parts (nat_lt f.result (tree.slots_of f)) (tree.stmts_formed fs n (tree.slots_of f) f.body) e.1 in
-        g.1
 
 functions_are_formed : (fs : List PlainFunction) (n : ℕ) → n ≤ length fs → tree.functions_formed fs n ≡ true → functions_formed (codes fs) n ≡ true
 functions_are_formed fs zero within h = refl

@@ -23,7 +23,8 @@ use Rattle.sp_shape.proofs.Lists.{all_append, done_append}
 use Rattle.sp_emit.specs.Functions.{codes}
 use Rattle.sp_emit.specs.Flags.{begun_body}
 use Rattle.sp_emit.specs.Places.{flag_of, set_word, words_cleared, tops}
-use Rattle.sp_emit.proofs.Codes.{codes_at, codes_length, taken_is, freed_is, words_few, Parts, code_of}
+use Rattle.sp_emit.proofs.Codes.{codes_at, codes_length, taken_is, freed_is, words_few, code_of}
+use Rattle.sp_tree.proofs.Forms.{FunctionParts}
 use Rattle.sp_emit.proofs.FlagWords.{cleared_all}
 use Rattle.sp_emit.proofs.WordPlaces.{read_is, set_op_is}
 use Rattle.sp_emit.specs.Counts.{HasStmtsCounts, HasCounts}
@@ -95,7 +96,7 @@ masked_back homes from f m =
     back_then (back_then (back_then (done_back from (frame_taken homes.first f) m (taken_is (λ bs. list_all keeps_place bs ≡ true) (frame_words homes.first f) refl refl)) (done_back from (words_cleared homes (slots_of f)) t0 (cleared_all keeps_place homes (slots_of f) (λ slot p is. refl) (λ r. refl))))
     (done_back from (arguments_kept homes.first f.parameters) tc (arguments_keep homes.first f.parameters))) (done_back from (mask_kept homes f) (run from (all_done (arguments_kept homes.first f.parameters)) tc) (mask_keeps homes f))
 
-entered_home : (homes : Homes) (from : Sources) (fs : List PlainFunction) (number : ℕ) (f : PlainFunction) (m : Run) → stmts_call f.body ≡ true → Parts fs number f → IsWhole m → Holds (base_slot homes.first f) (offset_slot homes.first f) (back_of m) (entered homes from f m)
+entered_home : (homes : Homes) (from : Sources) (fs : List PlainFunction) (number : ℕ) (f : PlainFunction) (m : Run) → stmts_call f.body ≡ true → FunctionParts fs number f → IsWhole m → Holds (base_slot homes.first f) (offset_slot homes.first f) (back_of m) (entered homes from f m)
 unfolding entered cleared taken
 entered_home homes from fs number f m has p whole =
     let t0 = run from (all_done (frame_taken homes.first f)) m in
@@ -175,7 +176,7 @@ brings_home homes from f back m has told few_base few_offset whole h =
 
 -- ---- or it stays set, where no function is called
 
-worked_back : (homes : Homes) (from : Sources) (code : ℕ → List Step) (fs : List PlainFunction) (number : ℕ) (f : PlainFunction) (m : Run) → stmts_call f.body ≡ false → Parts fs number f → SameBack m (worked homes from code f m)
+worked_back : (homes : Homes) (from : Sources) (code : ℕ → List Step) (fs : List PlainFunction) (number : ℕ) (f : PlainFunction) (m : Run) → stmts_call f.body ≡ false → FunctionParts fs number f → SameBack m (worked homes from code f m)
 unfolding worked entered cleared taken
 worked_back homes from code fs number f m none p =
     let body = body_code homes f in

@@ -60,8 +60,6 @@ held_leaves from binary.Less rd ra n m whole some few low word is = held_compare
 held_leaves from binary.LessUnsigned rd ra n m whole some few low word is = held_compared_leaves from cmp.Ult rd ra n m whole some few
 held_leaves from binary.LessEqual rd ra n m whole some few low word is = held_compared_leaves from cmp.Le rd ra n m whole some few
 held_leaves from binary.LessEqualUnsigned rd ra n m whole some few low word is = held_compared_leaves from cmp.Ule rd ra n m whole some few ∙ ap flag (not_lt (held ra m) n)
-held_leaves from binary.Or rd ra n m whole some few low word is = absurd (none_below binary.Or n refl is)
-held_leaves from binary.And rd ra n m whole some few low word is = absurd (none_below binary.And n refl is)
 held_leaves from binary.BitOr rd ra n m whole some few low word is = held_computed_leaves from imm.Or rd ra n m whole some few
 held_leaves from binary.BitXor rd ra n m whole some few low word is = held_computed_leaves from imm.Xor rd ra n m whole some few
 held_leaves from binary.ShiftLeft rd ra n m whole some few low word is = held_computed_leaves from imm.Sl rd ra n m whole some few
@@ -69,7 +67,6 @@ held_leaves from binary.ShiftRight rd ra n m whole some few low word is = held_c
 held_leaves from binary.ShiftRightUnsigned rd ra n m whole some few low word is = held_computed_leaves from imm.Sr rd ra n m whole some few
 held_leaves from binary.Plus rd ra n m whole some few low word is = held_computed_leaves from imm.Add rd ra n m whole some few
 held_leaves from binary.Minus rd ra n m whole some few low word is = held_computed_leaves from imm.Sub rd ra n m whole some few
-held_leaves from binary.Times rd ra n m whole some few low word is = absurd (none_below binary.Times n refl is)
 held_leaves from binary.Divide rd ra n m whole some few low word is =
     divides_signed from rd ra n m whole some few low word (short_below binary.Divide n is) (is_power n) refl (λ long. exact_else binary.Divide n is long)
 held_leaves from binary.DivideUnsigned rd ra n m whole some few low word is = divides_unsigned from rd ra n m whole some few low word (is_power n) refl (λ long. exact_else binary.DivideUnsigned n is long)
@@ -77,3 +74,4 @@ held_leaves from binary.Remainder rd ra n m whole some few low word is =
     leaves_signed from rd ra n m whole some few low word (short_below binary.Remainder n is) (is_power n && nat_le n 4096) (λ held. (and_parts (is_power n) (nat_le n 4096) held).0) (λ long. exact_else binary.Remainder n is long)
 held_leaves from binary.RemainderUnsigned rd ra n m whole some few low word is =
     leaves_unsigned from rd ra n m whole some few low word (short_below binary.RemainderUnsigned n is) (is_power n && nat_le n 4096) (λ held. (and_parts (is_power n) (nat_le n 4096) held).0) (λ long. exact_else binary.RemainderUnsigned n is long)
+held_leaves from other rd ra n m whole some few low word is = absurd (none_below other n refl is)

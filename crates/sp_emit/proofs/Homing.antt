@@ -39,18 +39,12 @@ is_special (write.Special special value) = true
 is_special _ = false
 
 base_same : (w : Write) (old : ℕ) → is_special w ≡ false → base_by w old ≡ old
-base_same write.Nothing old none = refl
-base_same (write.Register rd value) old none = refl
-base_same (write.Predicate pd value) old none = refl
-base_same (write.Product low high) old none = refl
 base_same (write.Special special value) old none = absurd (true≢false none)
+base_same _ old none = refl
 
 offset_same : (w : Write) (old : ℕ) → is_special w ≡ false → offset_by w old ≡ old
-offset_same write.Nothing old none = refl
-offset_same (write.Register rd value) old none = refl
-offset_same (write.Predicate pd value) old none = refl
-offset_same (write.Product low high) old none = refl
 offset_same (write.Special special value) old none = absurd (true≢false none)
+offset_same _ old none = refl
 
 came_none : (p : Pending) → is_special (came p) ≡ false
 came_none pending.Nothing = refl
@@ -58,16 +52,12 @@ came_none (pending.Value rd value) = refl
 came_none (pending.Product low high) = refl
 
 back_effected : (from : Sources) (e : Effect) (m : Run) → SameBack m (effected from e m)
-back_effected from effect.Nothing m = record { base = refl; offset = refl }
-back_effected from (effect.Load space width rd address) m = record { base = refl; offset = refl }
 back_effected from (effect.Store mem.S width address value) m = record { base = refl; offset = refl }
-back_effected from (effect.Store mem.L width address value) m = record { base = refl; offset = refl }
-back_effected from (effect.Store mem.C width address value) m = record { base = refl; offset = refl }
-back_effected from (effect.Store mem.M width address value) m = record { base = refl; offset = refl }
+back_effected from (effect.Store _ width address value) m = record { base = refl; offset = refl }
 back_effected from (effect.StackOp Sres count) m = record { base = refl; offset = refl }
 back_effected from (effect.StackOp Sens count) m = record { base = refl; offset = refl }
 back_effected from (effect.StackOp Sfree count) m = record { base = refl; offset = refl }
-back_effected from (effect.Flow kind) m = record { base = refl; offset = refl }
+back_effected from _ m = record { base = refl; offset = refl }
 
 -- nor does an instruction that writes no special register
 abbrev pub sets_none : Op → Bool
@@ -79,22 +69,8 @@ keeps_place b = sets_none b.first.op && is_none b.second
 
 written_none : (st ss : ℕ) (regs : Registers) (on : Bool) (op : Op) → sets_none op ≡ true → is_special (if on then write_of st ss regs op else write.Nothing) ≡ false
 written_none st ss regs false op none = refl
-written_none st ss regs true (AluImm func rd ra imm) none = refl
-written_none st ss regs true (AluReg func rd ra rb) none = refl
-written_none st ss regs true (AluLong func rd ra constant) none = refl
-written_none st ss regs true (Mul unsigned ra rb) none = refl
-written_none st ss regs true (Cmp func pd ra rb) none = refl
-written_none st ss regs true (CmpImm func pd ra imm) none = refl
-written_none st ss regs true (Comb func pd a b) none = refl
-written_none st ss regs true (FromSpecial rd special) none = refl
-written_none st ss regs true (Stack func count) none = refl
-written_none st ss regs true (Load space width rd ra imm) none = refl
-written_none st ss regs true (Store space width ra rs imm) none = refl
-written_none st ss regs true (Branch offset) none = refl
-written_none st ss regs true (Call target) none = refl
-written_none st ss regs true (BranchFill target) none = refl
-written_none st ss regs true Return none = refl
 written_none st ss regs true (ToSpecial special ra) none = absurd (true≢false (sym none))
+written_none st ss regs true _ none = refl
 
 second_none : (st ss : ℕ) (regs : Registers) (second : Option Instr) → is_none second ≡ true → is_special (second_write st ss regs second) ≡ false
 second_none st ss regs None none = refl

@@ -39,14 +39,11 @@ unfolding unsigned_quotient_to
 binary_idle op rd ra rb = grind arith
 
 value_idle : (homes : Homes) (e : PlainSp) (rd to : ℕ) → Idles (value_code homes e rd to)
-value_idle homes (constant v) rd to = refl
 value_idle homes (frame_word slot) rd to = word_code_is (λ bs. Idles (one (straight bs))) homes to slot (λ p. refl) refl
-value_idle homes (cell_word cell) rd to = refl
-value_idle homes (array_word array index) rd to = refl
-value_idle homes (before_one op of) rd to = refl
 value_idle homes (between_two op a b) rd to =
     one_of Idles (is_immediate op b) (nat_lt (need a) (need b)) (one (straight (held_code op to (value_at homes a rd) (number_of b)))) (binary_code op to (value_at homes a (rd + 1)) (value_at homes b rd)) (binary_code op to (value_at homes a rd) (value_at homes b (rd + 1)))
     refl (λ less. binary_idle op to (value_at homes a (rd + 1)) (value_at homes b rd)) (λ more. binary_idle op to (value_at homes a rd) (value_at homes b (rd + 1)))
+value_idle homes _ rd to = refl
 
 operands_idle : (homes : Homes) (e : PlainSp) (rd : ℕ) → Idles (operands_code homes e rd)
 operands_idle homes e rd = each_operands_are Idles homes refl both (value_idle homes) e rd

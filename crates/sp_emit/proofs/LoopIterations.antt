@@ -49,23 +49,7 @@ binary_iterations from f Called back binary.Divide rd ra rb m whole = signed_div
 binary_iterations from f Called back binary.DivideUnsigned rd ra rb m whole = division_iterations from f Called back ra rb (unsigned_quotient_to rd ra) m whole
 binary_iterations from f Called back binary.Remainder rd ra rb m whole = signed_division_iterations from f Called back SECOND TEST ra rb (signed_rest_to rd) m whole
 binary_iterations from f Called back binary.RemainderUnsigned rd ra rb m whole = division_iterations from f Called back ra rb (unsigned_rest_to rd ra) m whole
-binary_iterations from f Called back binary.Or rd ra rb m whole = (tt, tt)
-binary_iterations from f Called back binary.And rd ra rb m whole = (tt, tt)
-binary_iterations from f Called back binary.BitOr rd ra rb m whole = (tt, tt)
-binary_iterations from f Called back binary.BitXor rd ra rb m whole = (tt, tt)
-binary_iterations from f Called back binary.BitAnd rd ra rb m whole = (tt, tt)
-binary_iterations from f Called back binary.Equal rd ra rb m whole = (tt, tt)
-binary_iterations from f Called back binary.NotEqual rd ra rb m whole = (tt, tt)
-binary_iterations from f Called back binary.Less rd ra rb m whole = (tt, tt)
-binary_iterations from f Called back binary.LessUnsigned rd ra rb m whole = (tt, tt)
-binary_iterations from f Called back binary.LessEqual rd ra rb m whole = (tt, tt)
-binary_iterations from f Called back binary.LessEqualUnsigned rd ra rb m whole = (tt, tt)
-binary_iterations from f Called back binary.ShiftLeft rd ra rb m whole = (tt, tt)
-binary_iterations from f Called back binary.ShiftRight rd ra rb m whole = (tt, tt)
-binary_iterations from f Called back binary.ShiftRightUnsigned rd ra rb m whole = (tt, tt)
-binary_iterations from f Called back binary.Plus rd ra rb m whole = (tt, tt)
-binary_iterations from f Called back binary.Minus rd ra rb m whole = (tt, tt)
-binary_iterations from f Called back binary.Times rd ra rb m whole = (tt, tt)
+binary_iterations from f Called back _ rd ra rb m whole = (tt, tt)
 
 -- where this holds of code at each state
 abbrev Iteration : Sources → (ℕ → List Step) → (ℕ → Run → Type 0) → Back → PlainParts → Type 0
@@ -78,14 +62,10 @@ bundles : (from : Sources) (f : ℕ → List Step) (Called : ℕ → Run → Typ
 bundles from f Called back bs m whole = (tt, tt)
 
 value_iterations : (homes : Homes) (from : Sources) (f : ℕ → List Step) (Called : ℕ → Run → Type 0) (back : Back) (e : PlainSp) (rd to : ℕ) → Iteration from f Called back (value_code homes e rd to)
-value_iterations homes from f Called back (constant n) rd to m whole = (tt, tt)
-value_iterations homes from f Called back (frame_word slot) rd to m whole = (tt, tt)
-value_iterations homes from f Called back (cell_word cell) rd to m whole = (tt, tt)
-value_iterations homes from f Called back (array_word array index) rd to m whole = (tt, tt)
-value_iterations homes from f Called back (before_one op of) rd to m whole = (tt, tt)
 value_iterations homes from f Called back (between_two op a b) rd to m whole =
     one_of (Iteration from f Called back) (is_immediate op b) (nat_lt (need a) (need b)) (one (straight (held_code op to (value_at homes a rd) (number_of b)))) (binary_code op to (value_at homes a (rd + 1)) (value_at homes b rd)) (binary_code op to (value_at homes a rd) (value_at homes b (rd + 1)))
     (bundles from f Called back (held_code op to (value_at homes a rd) (number_of b))) (λ less. binary_iterations from f Called back op to (value_at homes a (rd + 1)) (value_at homes b rd)) (λ more. binary_iterations from f Called back op to (value_at homes a rd) (value_at homes b (rd + 1))) m whole
+value_iterations homes from f Called back _ rd to m whole = (tt, tt)
 
 operands_iteration : (homes : Homes) (from : Sources) (f : ℕ → List Step) (Called : ℕ → Run → Type 0) (back : Back) (e : PlainSp) (rd : ℕ) → Iteration from f Called back (operands_code homes e rd)
 operands_iteration homes from f Called back e rd = each_operands_are (Iteration from f Called back) homes (λ m whole. tt) (two_parts from f Called back) (value_iterations homes from f Called back) e rd

@@ -74,10 +74,7 @@ calm_op_low rd homes top count some le (AluReg func r ra rb) calm = free_outside
 calm_op_low rd homes top count some le (AluLong func r ra constant) calm = free_outside rd homes top r some le calm
 calm_op_low rd homes top count some le (FromSpecial r special) calm = free_outside rd homes top r some le calm
 calm_op_low rd homes top count some le (Load space load.Word r ra imm) calm = free_outside rd homes top r some le calm
-calm_op_low rd homes top count some le (Load space load.Half r ra imm) calm = absurd (true≢false (sym calm))
-calm_op_low rd homes top count some le (Load space load.Byte r ra imm) calm = absurd (true≢false (sym calm))
-calm_op_low rd homes top count some le (Load space load.HalfUnsigned r ra imm) calm = absurd (true≢false (sym calm))
-calm_op_low rd homes top count some le (Load space load.ByteUnsigned r ra imm) calm = absurd (true≢false (sym calm))
+calm_op_low rd homes top count some le (Load space _ r ra imm) calm = absurd (true≢false (sym calm))
 calm_op_low rd homes top count some le (Store space width ra rs imm) calm = absurd (true≢false (sym calm))
 calm_op_low rd homes top count some le (Stack func n) calm = absurd (true≢false (sym calm))
 calm_op_low rd homes top count some le _ calm = refl
@@ -293,10 +290,7 @@ op_more top higher count more le fewer (AluReg func rd ra rb) low = outside_more
 op_more top higher count more le fewer (AluLong func rd ra constant) low = outside_more top higher rd le low
 op_more top higher count more le fewer (FromSpecial rd special) low = outside_more top higher rd le low
 op_more top higher count more le fewer (Load space load.Word rd ra imm) low = outside_more top higher rd le low
-op_more top higher count more le fewer (Load space load.Half rd ra imm) low = low
-op_more top higher count more le fewer (Load space load.Byte rd ra imm) low = low
-op_more top higher count more le fewer (Load space load.HalfUnsigned rd ra imm) low = low
-op_more top higher count more le fewer (Load space load.ByteUnsigned rd ra imm) low = low
+op_more top higher count more le fewer (Load space _ rd ra imm) low = low
 op_more top higher count more le fewer (Store mem.S store.Word ra rs imm) low =
     let both = and_parts (ra == 0) (nat_lt imm count) low in
     and_from (ra == 0) (nat_lt imm more) both.0 (lt-ltb imm more (omega (arith, fewer, ltb-true imm count both.1)))

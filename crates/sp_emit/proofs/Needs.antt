@@ -46,12 +46,8 @@ pub word_named : {rd : ℕ} (slot : ℕ) → ExprFits (frame_word slot) rd → s
 word_named slot f = omega (arith, f.most, ltb-true slot f.slots f.names)
 
 pub slot_few : {rd : ℕ} (e : PlainSp) → ExprFits e rd → slot_number e < 128
-slot_few (constant n) f = omega arith
 slot_few (frame_word slot) f = word_named slot f
-slot_few (cell_word cell) f = omega arith
-slot_few (array_word array index) f = omega arith
-slot_few (before_one op of) f = omega arith
-slot_few (between_two op a b) f = omega arith
+slot_few _ f = omega arith
 
 pub cell_named : {rd : ℕ} (cell : SpCell) → ExprFits (cell_word cell) rd → cell_formed cell ≡ true
 cell_named cell f = f.names

@@ -111,16 +111,12 @@ is_load _ = false
 
 regs_asked : (from : Sources) (e : Effect) (m : Run) (regs : Registers) → is_load e ≡ false → (effected from e (with_regs m regs)).regs ≡ regs
 unfolding with_regs
-regs_asked from effect.Nothing m regs other = refl
 regs_asked from (effect.Load space width rd address) m regs other = absurd (true≢false other)
 regs_asked from (effect.Store mem.S width address value) m regs other = refl
-regs_asked from (effect.Store mem.L width address value) m regs other = refl
-regs_asked from (effect.Store mem.C width address value) m regs other = refl
-regs_asked from (effect.Store mem.M width address value) m regs other = refl
 regs_asked from (effect.StackOp Sres count) m regs other = refl
 regs_asked from (effect.StackOp Sens count) m regs other = refl
 regs_asked from (effect.StackOp Sfree count) m regs other = refl
-regs_asked from (effect.Flow kind) m regs other = refl
+regs_asked from _ m regs other = refl
 
 pub regs_stay : (from : Sources) (g : Guard) (op : Op) (m : Run) → IsWhole m → holds m.regs g ≡ true → is_load (asked m.regs op) ≡ false → begun m.regs op ≡ pending.Nothing → write_of m.st m.ss m.regs op ≡ write.Nothing
     → (once from (under g op) m).regs ≡ m.regs
@@ -139,9 +135,7 @@ regs_stay from g op m whole on other nothing none =
 given_same : (from : Sources) (space : Mem) (address : ℕ) (m : Run) (regs : Registers) → word_given from space address (with_regs m regs) ≡ word_given from space address m
 unfolding with_regs
 given_same from mem.S address m regs = refl
-given_same from mem.L address m regs = refl
-given_same from mem.C address m regs = refl
-given_same from mem.M address m regs = refl
+given_same from _ address m regs = refl
 
 -- a word that is loaded is there after its bundle
 pub did_load : (from : Sources) (g : Guard) (space : Mem) (rd ra imm : ℕ) (m : Run) → IsWhole m → holds m.regs g ≡ true

@@ -26,11 +26,7 @@ word_below homes slot is = ltb-true (homes.first + slot) OVERRUN (and_parts (is_
 
 pub home_below : (homes : Homes) (e : PlainSp) → is_home homes e ≡ true → home_of homes e < OVERRUN
 home_below homes (frame_word slot) is = word_below homes slot is
-home_below homes (constant n) is = omega arith
-home_below homes (cell_word cell) is = omega arith
-home_below homes (array_word array index) is = omega arith
-home_below homes (before_one op of) is = omega arith
-home_below homes (between_two op a b) is = omega arith
+home_below homes _ is = omega arith
 
 -- one of two, as a word of the frame stands in a predicate or not
 pub word_code_is : (P : List Slots → Type 0) (homes : Homes) (to slot : ℕ) → ((p : ℕ) → P (truth_of p to)) → P (read_word homes.first to slot ∷ []) → P (word_code (flag_of homes.flags slot) homes.first to slot)
@@ -111,9 +107,6 @@ both_handed {A} {B} x y = record {
 
 pub operands_are : (P : PlainParts → Type 0) (homes : Homes) (Holds : PlainSp → ℕ → Type 0) → P no_part → ((x y : PlainParts) → P x → P y → P (joined x y)) → Handed Holds → ((e : PlainSp) (rd : ℕ) → Holds e rd → P (value_code homes e rd rd))
     → (e : PlainSp) (rd : ℕ) → Holds e rd → P (operands_code homes e rd)
-operands_are P homes Holds none both handed value (constant n) rd h = none
-operands_are P homes Holds none both handed value (frame_word slot) rd h = none
-operands_are P homes Holds none both handed value (cell_word cell) rd h = none
 operands_are P homes Holds none both handed value (array_word array index) rd h =
     let x = handed.index array index rd h in
     operand_is P homes index rd none (both (operands_code homes index rd) (value_code homes index rd rd) (operands_are P homes Holds none both handed value index rd x) (value index rd x))
@@ -130,6 +123,7 @@ operands_are P homes Holds none both handed value (between_two op a b) rd h =
     first_out
     (λ less. let x = handed.first_behind op a b rd less h in both (operand_code homes b rd) (operand_code homes a (rd + 1)) second_out (out a (rd + 1) x (operands_are P homes Holds none both handed value a (rd + 1) x)))
     (λ more. let x = handed.second_behind op a b rd more h in both (operand_code homes a rd) (operand_code homes b (rd + 1)) first_out (out b (rd + 1) x (operands_are P homes Holds none both handed value b (rd + 1) x)))
+operands_are P homes Holds none both handed value _ rd h = none
 
 -- what holds of the code of all values
 pub each_operands_are : (P : PlainParts → Type 0) (homes : Homes) → P no_part → ((x y : PlainParts) → P x → P y → P (joined x y)) → ((e : PlainSp) (rd to : ℕ) → P (value_code homes e rd to)) → (e : PlainSp) (rd : ℕ) → P (operands_code homes e rd)

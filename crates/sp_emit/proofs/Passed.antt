@@ -20,7 +20,8 @@ use Rattle.sp_emit.specs.Functions.{codes}
 use Rattle.sp_emit.specs.Holding.{KeepsFrom}
 use Rattle.sp_emit.specs.Flags.{begun_body}
 use Rattle.sp_emit.specs.Places.{flag_of, read_word, words_cleared, stmts_least, tops, top_of, stack_word}
-use Rattle.sp_emit.proofs.Codes.{codes_at, tops_at, kept_is, brought_is, words_few, words_called, words_outside, Parts, parts_of_function, code_of}
+use Rattle.sp_emit.proofs.Codes.{codes_at, tops_at, kept_is, brought_is, words_few, words_called, words_outside, code_of}
+use Rattle.sp_tree.proofs.Forms.{FunctionParts, parts_of_function}
 use Rattle.sp_emit.proofs.BegunBody.{begun_formed, begun_levels, begun_least}
 use Rattle.sp_emit.proofs.FlagWords.{cleared_within}
 use Rattle.sp_emit.proofs.Formed as formed
@@ -100,7 +101,7 @@ takes_room from top (suc n) m whole = subst (InFrame top (suc n) m) (sym (did_st
   high = λ r at lt. refl;
 })
 
-pub enters_frame : (homes : Homes) (from : Sources) (fs : List PlainFunction) (number : ℕ) (f : PlainFunction) (m : Run) → FIRST ≤ homes.first → Parts fs number f → IsWhole m → f.frame ≤ m.st → InFrame (window_end homes.first f) (frame_words homes.first f) m (entered homes from f m)
+pub enters_frame : (homes : Homes) (from : Sources) (fs : List PlainFunction) (number : ℕ) (f : PlainFunction) (m : Run) → FIRST ≤ homes.first → FunctionParts fs number f → IsWhole m → f.frame ≤ m.st → InFrame (window_end homes.first f) (frame_words homes.first f) m (entered homes from f m)
 unfolding entered cleared taken
 enters_frame homes from fs number f m own p whole enough =
     let n = frame_words homes.first f in
@@ -121,7 +122,7 @@ enters_frame homes from fs number f m own p whole enough =
 
 -- a function whose window begins after all that its code and what it calls use
 pub record InWindow (homes : Homes) (tops : List ℕ) (fs : List PlainFunction) (number : ℕ) (f : PlainFunction) : Type 0 where
-  pub parts : Parts fs number f
+  pub parts : FunctionParts fs number f
   pub homed : IsHomed homes fs number (slots_of f)
   pub least : stmts_least tops f.body ≤ homes.first
 

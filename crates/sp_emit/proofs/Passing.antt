@@ -1,8 +1,8 @@
 -- What code leaves of the stack after the first words of a frame, and of the registers from one on, whatever its loads give.
-use Rattle.std.proofs.Common.{◌≡◌, ℕ, zero, suc, ◌+◌, ◌*◌, ◌/◌, ◌%◌, ◌^◌, ◌<◌, ◌≤◌, ◌==◌, ◌⊎◌, inl, inr, Bool, true, false, ◌&&◌, ◌||◌, if◌then◌else◌, is_none, Option, None, Some, List, [], ◌∷◌, ◌++◌, nat_lt, slice_index_or, refl, sym, ap, ◌∙◌, subst, arith, true≢false}
+use Rattle.std.proofs.Common.{◌≡◌, ℕ, zero, suc, ◌+◌, ◌*◌, ◌/◌, ◌%◌, ◌^◌, ◌<◌, ◌≤◌, ◌==◌, ◌⊎◌, inl, inr, Bool, true, false, ◌&&◌, ◌||◌, if◌then◌else◌, is_none, Option, None, Some, List, [], ◌∷◌, ◌++◌, nat_lt, slice_index_or, refl, sym, ap, ◌∙◌, subst, arith, true≢false, not, ne_eqb}
 use Rattle.std.specs.Prelude.{nat_le}
 use Rattle.std.specs.List.{list_all}
-use Rattle.std.proofs.lemmas.Bool.{and_parts, or_cases, leb-true, lt-ltb, ltb-true, eqb-true}
+use Rattle.std.proofs.lemmas.Bool.{and_parts, and_from, or_cases, leb-true, lt-ltb, ltb-true, eqb-true}
 use Rattle.shared_order.specs.Words.{put}
 use Rattle.patmos_instr.specs.Bundles.{Slots}
 use Rattle.patmos_instr.specs.declared.functions.StackFunc.TheVariants.{Sres, Sens, Sfree}
@@ -29,7 +29,7 @@ use Rattle.sp_emit.specs.Instructions.{under}
 use Rattle.sp_emit.specs.Means.{KeepsBehind}
 use Rattle.sp_emit.specs.declared.registers.TheConstants.{OVERRUN}
 use Rattle.sp_emit.proofs.Frames.{put_other}
-use Rattle.sp_emit.proofs.Once.{with_written, did_write, did_nothing, did_multiply, did_load, regs_stay, kept, kept_by_pred, kept_by_product, kept_by_special}
+use Rattle.sp_emit.proofs.Untouched.{register, leaves_op, left_once}
 
 -- ---- what an instruction may change
 
@@ -62,68 +62,30 @@ pub record Passes (top count : ℕ) (m t : Run) : Type 0 where
 
 -- ---- registers
 
-outside_apart : (top rd r : ℕ) → is_outside top rd ≡ true → top ≤ r → r < OVERRUN → rd ≡ r → ⊥
-outside_apart top rd r out from few same = by (or_cases (nat_lt rd top) (nat_le OVERRUN rd) out)
+outside_apart : (top rd r : ℕ) → is_outside top rd ≡ true → top ≤ r → r < OVERRUN → not (rd == r) ≡ true
+outside_apart top rd r out from few = ap not (ne_eqb rd r (λ same. by same (or_cases (nat_lt rd top) (nat_le OVERRUN rd) out)))
   where
-    by : (nat_lt rd top ≡ true) ⊎ (nat_le OVERRUN rd ≡ true) → ⊥
-    by (inl before) = omega (arith, same, from, ltb-true rd top before)
-    by (inr past) = omega (arith, same, few, leb-true OVERRUN rd past)
+    by : rd ≡ r → (nat_lt rd top ≡ true) ⊎ (nat_le OVERRUN rd ≡ true) → ⊥
+    by same (inl before) = omega (arith, same, from, ltb-true rd top before)
+    by same (inr past) = omega (arith, same, few, leb-true OVERRUN rd past)
 
 pub outside_low : (top r : ℕ) → r < top → is_outside top r ≡ true
 outside_low top r lt = rw (lt-ltb r top lt) refl
 
-by_write : (top rd v : ℕ) (m : Run) → IsWhole m → is_outside top rd ≡ true → KeepsFrom top m (with_written (write.Register rd v) m)
-by_write top rd v m whole out = λ r from lt. kept rd v r m whole (omega (arith, lt)) (outside_apart top rd r out from lt)
-
-abbrev is_register : Write → Bool
-is_register (write.Register rd value) = true
-is_register _ = false
-
-by_other : (top : ℕ) (w : Write) (m : Run) → IsWhole m → is_register w ≡ false → KeepsFrom top m (with_written w m)
-by_other top (write.Register rd value) m whole other = absurd (true≢false other)
-by_other top write.Nothing m whole other = λ r from lt. kept_by_pred 1 false r m whole (omega (arith, lt))
-by_other top (write.Predicate pd value) m whole other = λ r from lt. kept_by_pred pd value r m whole (omega (arith, lt))
-by_other top (write.Product low high) m whole other = λ r from lt. kept_by_product low high r m whole (omega (arith, lt))
-by_other top (write.Special special value) m whole other = λ r from lt. kept_by_special special value r m whole (omega (arith, lt))
-
-by_none : (top : ℕ) (m t : Run) → t.regs ≡ m.regs → KeepsFrom top m t
-by_none top m t is = λ r from lt. ap (λ regs. word_in regs r) is
-
-high_on : (from : Sources) (top count : ℕ) (g : Guard) (op : Op) (m : Run) → IsWhole m → holds m.regs g ≡ true → is_low top count op ≡ true → KeepsFrom top m (once from (under g op) m)
-high_on from top count g (AluImm func rd ra imm) m whole on low = subst (KeepsFrom top m) (sym (did_write from g (AluImm func rd ra imm) m whole on refl refl)) (by_write top rd _ m whole low)
-high_on from top count g (AluReg func rd ra rb) m whole on low = subst (KeepsFrom top m) (sym (did_write from g (AluReg func rd ra rb) m whole on refl refl)) (by_write top rd _ m whole low)
-high_on from top count g (AluLong func rd ra constant) m whole on low = subst (KeepsFrom top m) (sym (did_write from g (AluLong func rd ra constant) m whole on refl refl)) (by_write top rd _ m whole low)
-high_on from top count g (FromSpecial rd special) m whole on low = subst (KeepsFrom top m) (sym (did_write from g (FromSpecial rd special) m whole on refl refl)) (by_write top rd _ m whole low)
-high_on from top count g (Load space load.Word rd ra imm) m whole on low =
-    subst (KeepsFrom top m) (sym (did_load from g space rd ra imm m whole on)) (by_write top rd (word_given from space (address_of (held ra m) imm 4) m) m whole low)
-high_on from top count g (Load space load.Half rd ra imm) m whole on low = absurd (true≢false (sym low))
-high_on from top count g (Load space load.Byte rd ra imm) m whole on low = absurd (true≢false (sym low))
-high_on from top count g (Load space load.HalfUnsigned rd ra imm) m whole on low = absurd (true≢false (sym low))
-high_on from top count g (Load space load.ByteUnsigned rd ra imm) m whole on low = absurd (true≢false (sym low))
-high_on from top count g (Mul unsigned ra rb) m whole on low = subst (KeepsFrom top m) (sym (did_multiply from g unsigned ra rb m whole on)) (by_other top (came (begun_by m.regs (Mul unsigned ra rb))) m whole refl)
-high_on from top count g (Cmp func pd ra rb) m whole on low = subst (KeepsFrom top m) (sym (did_write from g (Cmp func pd ra rb) m whole on refl refl)) (by_other top (write_of m.st m.ss m.regs (Cmp func pd ra rb)) m whole refl)
-high_on from top count g (CmpImm func pd ra imm) m whole on low = subst (KeepsFrom top m) (sym (did_write from g (CmpImm func pd ra imm) m whole on refl refl)) (by_other top (write_of m.st m.ss m.regs (CmpImm func pd ra imm)) m whole refl)
-high_on from top count g (Comb func pd a b) m whole on low = subst (KeepsFrom top m) (sym (did_write from g (Comb func pd a b) m whole on refl refl)) (by_other top (write_of m.st m.ss m.regs (Comb func pd a b)) m whole refl)
-high_on from top count g (ToSpecial special ra) m whole on low = subst (KeepsFrom top m) (sym (did_write from g (ToSpecial special ra) m whole on refl refl)) (by_other top (write_of m.st m.ss m.regs (ToSpecial special ra)) m whole refl)
-high_on from top count g (Store space width ra rs imm) m whole on low = by_none top m (once from (under g (Store space width ra rs imm)) m) (regs_stay from g (Store space width ra rs imm) m whole on refl refl refl)
-high_on from top count g (Stack func n) m whole on low = by_none top m (once from (under g (Stack func n)) m) (regs_stay from g (Stack func n) m whole on refl refl refl)
-high_on from top count g (Branch offset) m whole on low = by_none top m (once from (under g (Branch offset)) m) (regs_stay from g (Branch offset) m whole on refl refl refl)
-high_on from top count g (Call target) m whole on low = by_none top m (once from (under g (Call target)) m) (regs_stay from g (Call target) m whole on refl refl refl)
-high_on from top count g (BranchFill target) m whole on low = by_none top m (once from (under g (BranchFill target)) m) (regs_stay from g (BranchFill target) m whole on refl refl refl)
-high_on from top count g Return m whole on low = by_none top m (once from (under g Return) m) (regs_stay from g Return m whole on refl refl refl)
+-- an instruction that sets no register from one on leaves each of them
+low_leaves : (top count r : ℕ) → top ≤ r → r < OVERRUN → (op : Op) → is_low top count op ≡ true → leaves_op (register r) op ≡ true
+low_leaves top count r from few (AluImm func rd ra imm) low = outside_apart top rd r low from few
+low_leaves top count r from few (AluReg func rd ra rb) low = outside_apart top rd r low from few
+low_leaves top count r from few (AluLong func rd ra constant) low = outside_apart top rd r low from few
+low_leaves top count r from few (FromSpecial rd special) low = outside_apart top rd r low from few
+low_leaves top count r from few (Load space load.Word rd ra imm) low = outside_apart top rd r low from few
+low_leaves top count r from few (Load space _ rd ra imm) low = absurd (true≢false (sym low))
+low_leaves top count r from few _ low = refl
 
 high_once : (from : Sources) (top count : ℕ) (b : Slots) (m : Run) → IsWhole m → passes top count b ≡ true → KeepsFrom top m (once from b m)
-high_once from top count b m whole low =
+high_once from top count b m whole low = λ r at lt.
     let both = and_parts (is_low top count b.first.op) (is_none b.second) low in
-    by b.second both.1 (alone both.0 (holds m.regs b.first.guard) refl)
-  where
-    alone : is_low top count b.first.op ≡ true → (on : Bool) → holds m.regs b.first.guard ≡ on → KeepsFrom top m (once from (under b.first.guard b.first.op) m)
-    alone own true on = high_on from top count b.first.guard b.first.op m whole on own
-    alone own false off = subst (KeepsFrom top m) (sym (did_nothing from b.first.guard b.first.op m whole off)) (λ r at lt. refl)
-
-    by : (second : Option Instr) → is_none second ≡ true → KeepsFrom top m (once from (under b.first.guard b.first.op) m) → KeepsFrom top m (once from (record { first = b.first; second = second }) m)
-    by None none h = h
-    by (Some i) none h = absurd (true≢false (sym none))
+    left_once from (register r) b m (omega (arith, lt)) whole (and_from (leaves_op (register r) b.first.op) (is_none b.second) (low_leaves top count r at lt b.first.op both.0) both.1)
 
 -- ---- the stack
 
@@ -146,31 +108,15 @@ slot_stored count ra imm value regs m few zero_is base named a above =
 passes_effect : (from : Sources) (top count : ℕ) (on : Bool) (op : Op) (regs : Registers) (m : Run) → count ≤ 128 → word_in regs 0 ≡ 0 → is_low top count op ≡ true
     → KeepsStack count m (effected from (if on then asked regs op else effect.Nothing) m)
 passes_effect from top count false op regs m few zero_is low = stays count m _ refl refl
-passes_effect from top count true (AluImm func rd ra imm) regs m few zero_is low = stays count m _ refl refl
-passes_effect from top count true (AluReg func rd ra rb) regs m few zero_is low = stays count m _ refl refl
-passes_effect from top count true (AluLong func rd ra constant) regs m few zero_is low = stays count m _ refl refl
-passes_effect from top count true (Mul unsigned ra rb) regs m few zero_is low = stays count m _ refl refl
-passes_effect from top count true (Cmp func pd ra rb) regs m few zero_is low = stays count m _ refl refl
-passes_effect from top count true (CmpImm func pd ra imm) regs m few zero_is low = stays count m _ refl refl
-passes_effect from top count true (Comb func pd a b) regs m few zero_is low = stays count m _ refl refl
-passes_effect from top count true (ToSpecial special ra) regs m few zero_is low = stays count m _ refl refl
-passes_effect from top count true (FromSpecial rd special) regs m few zero_is low = stays count m _ refl refl
-passes_effect from top count true (Load space width rd ra imm) regs m few zero_is low = stays count m _ refl refl
 passes_effect from top count true (Store mem.S store.Word ra rs imm) regs m few zero_is low =
     let both = and_parts (ra == 0) (nat_lt imm count) low in
     record { st = refl; stack = slot_stored count ra imm _ regs m few zero_is (eqb-true ra 0 both.0) (ltb-true imm count both.1) }
 passes_effect from top count true (Store mem.S store.Half ra rs imm) regs m few zero_is low = absurd (true≢false (sym low))
 passes_effect from top count true (Store mem.S store.Byte ra rs imm) regs m few zero_is low = absurd (true≢false (sym low))
-passes_effect from top count true (Store mem.L width ra rs imm) regs m few zero_is low = stays count m _ refl refl
-passes_effect from top count true (Store mem.C width ra rs imm) regs m few zero_is low = stays count m _ refl refl
-passes_effect from top count true (Store mem.M width ra rs imm) regs m few zero_is low = stays count m _ refl refl
+passes_effect from top count true (Store _ width ra rs imm) regs m few zero_is low = stays count m _ refl refl
 passes_effect from top count true (Stack Sres n) regs m few zero_is low = absurd (true≢false (sym low))
-passes_effect from top count true (Stack Sens n) regs m few zero_is low = stays count m _ refl refl
 passes_effect from top count true (Stack Sfree n) regs m few zero_is low = absurd (true≢false (sym low))
-passes_effect from top count true (Branch offset) regs m few zero_is low = stays count m _ refl refl
-passes_effect from top count true (Call target) regs m few zero_is low = stays count m _ refl refl
-passes_effect from top count true (BranchFill target) regs m few zero_is low = stays count m _ refl refl
-passes_effect from top count true Return regs m few zero_is low = stays count m _ refl refl
+passes_effect from top count true _ regs m few zero_is low = stays count m _ refl refl
 
 pub passes_once : (from : Sources) (top count : ℕ) (b : Slots) (m : Run) → count ≤ 128 → IsWhole m → passes top count b ≡ true → Passes top count m (once from b m)
 passes_once from top count b m few whole low =

@@ -52,10 +52,7 @@ points_one e m t is within same = record { news = e ∷ []; is = is; within = (w
 
 abbrev is_inside_op : ℕ → Op → Bool
 is_inside_op frame (Load mem.S load.Word rd ra imm) = (ra == 0) && nat_lt imm frame
-is_inside_op frame (Load mem.S load.Half rd ra imm) = false
-is_inside_op frame (Load mem.S load.Byte rd ra imm) = false
-is_inside_op frame (Load mem.S load.HalfUnsigned rd ra imm) = false
-is_inside_op frame (Load mem.S load.ByteUnsigned rd ra imm) = false
+is_inside_op frame (Load mem.S _ rd ra imm) = false
 is_inside_op frame (Store mem.S store.Word ra rs imm) = (ra == 0) && nat_lt imm frame
 is_inside_op frame (Store mem.S store.Half ra rs imm) = false
 is_inside_op frame (Store mem.S store.Byte ra rs imm) = false
@@ -95,19 +92,6 @@ slot_within ra imm frame regs m few held zero_is inside =
 inside_effect : (from : Sources) (frame : ℕ) (on : Bool) (op : Op) (regs : Registers) (m : Run) → frame ≤ 128 → m.st + frame ≤ m.ss → word_in regs 0 ≡ 0 → is_inside_op frame op ≡ true
     → Points m (effected from (if on then asked regs op else effect.Nothing) m)
 inside_effect from frame false op regs m few held zero_is inside = points_none m _ refl refl
-inside_effect from frame true (AluImm func rd ra imm) regs m few held zero_is inside = points_none m _ refl refl
-inside_effect from frame true (AluReg func rd ra rb) regs m few held zero_is inside = points_none m _ refl refl
-inside_effect from frame true (AluLong func rd ra constant) regs m few held zero_is inside = points_none m _ refl refl
-inside_effect from frame true (Mul unsigned ra rb) regs m few held zero_is inside = points_none m _ refl refl
-inside_effect from frame true (Cmp func pd ra rb) regs m few held zero_is inside = points_none m _ refl refl
-inside_effect from frame true (CmpImm func pd ra imm) regs m few held zero_is inside = points_none m _ refl refl
-inside_effect from frame true (Comb func pd a b) regs m few held zero_is inside = points_none m _ refl refl
-inside_effect from frame true (ToSpecial special ra) regs m few held zero_is inside = points_none m _ refl refl
-inside_effect from frame true (FromSpecial rd special) regs m few held zero_is inside = points_none m _ refl refl
-inside_effect from frame true (Branch offset) regs m few held zero_is inside = points_none m _ refl refl
-inside_effect from frame true (Call target) regs m few held zero_is inside = points_none m _ refl refl
-inside_effect from frame true (BranchFill target) regs m few held zero_is inside = points_none m _ refl refl
-inside_effect from frame true Return regs m few held zero_is inside = points_none m _ refl refl
 inside_effect from frame true (Load mem.S load.Word rd ra imm) regs m few held zero_is inside =
     points_one (asked regs (Load mem.S load.Word rd ra imm)) m _ refl (slot_within ra imm frame regs m few held zero_is inside) refl
 inside_effect from frame true (Load mem.S load.Half rd ra imm) regs m few held zero_is inside = absurd (true≢false (sym inside))
@@ -125,15 +109,14 @@ inside_effect from frame true (Store mem.L width ra rs imm) regs m few held zero
 inside_effect from frame true (Store mem.C width ra rs imm) regs m few held zero_is inside = points_one (asked regs (Store mem.C width ra rs imm)) m _ refl tt refl
 inside_effect from frame true (Store mem.M width ra rs imm) regs m few held zero_is inside = points_one (asked regs (Store mem.M width ra rs imm)) m _ refl tt refl
 inside_effect from frame true (Stack func n) regs m few held zero_is inside = absurd (true≢false (sym inside))
+inside_effect from frame true _ regs m few held zero_is inside = points_none m _ refl refl
 
 -- such an instruction moves no pointer
 same_pointers : (from : Sources) (frame : ℕ) (on : Bool) (op : Op) (regs : Registers) (m : Run) → is_inside_op frame op ≡ true → pointers_of (effected from (if on then asked regs op else effect.Nothing) m) ≡ pointers_of m
 same_pointers from frame false op regs m inside = refl
 same_pointers from frame true (Stack func n) regs m inside = absurd (true≢false (sym inside))
 same_pointers from frame true (Store mem.S width ra rs imm) regs m inside = refl
-same_pointers from frame true (Store mem.L width ra rs imm) regs m inside = refl
-same_pointers from frame true (Store mem.C width ra rs imm) regs m inside = refl
-same_pointers from frame true (Store mem.M width ra rs imm) regs m inside = refl
+same_pointers from frame true (Store _ width ra rs imm) regs m inside = refl
 same_pointers from frame true (Load space width rd ra imm) regs m inside = refl
 same_pointers from frame true _ regs m inside = refl
 

@@ -35,10 +35,8 @@ is_portless b = is_portless_op b.first.op
 
 portless_well : (on : Bool) (op : Op) (regs : Registers) (k : Memory) → is_portless_op op ≡ true → StartsWell (if on then asked regs op else effect.Nothing) k
 portless_well false op regs k e = tt
-portless_well true (Store mem.S width ra rs imm) regs k e = tt
 portless_well true (Store mem.L width ra rs imm) regs k e = absurd (true≢false (sym e))
-portless_well true (Store mem.C width ra rs imm) regs k e = tt
-portless_well true (Store mem.M width ra rs imm) regs k e = tt
+portless_well true (Store _ width ra rs imm) regs k e = tt
 portless_well true _ regs k e = tt
 
 pub portless_start : (from : Sources) (bs : List Slots) (m : Run) → list_all is_portless bs ≡ true → AllStart from (all_done bs) m

@@ -20,6 +20,7 @@ use Rattle.sp_shape.specs.Parts.{PlainPart, straight, repeats, calls_to, leaves,
 use Rattle.sp_shape.proofs.Lists.{all_weaker}
 use Rattle.sp_emit.proofs.Operands.{one_of, word_code_is, each_operands_are, each_expr_is}
 use Rattle.sp_emit.proofs.Held.{held_is}
+use Rattle.sp_emit.proofs.Untouched.{predicate, leaves_op}
 use Rattle.sp_emit.specs.Division.{unsigned_quotient_to}
 use Rattle.sp_emit.specs.Divisors.{factor_rest_to}
 use Rattle.sp_emit.specs.Expressions.{unary_code, binary_code, held_code, number_of, word_code, value_code, operands_code, expr_to, expr_code, value_at, is_immediate, address_of}
@@ -74,28 +75,16 @@ is_quiet_op g _ = true
 abbrev pub is_quiet : Slots → Bool
 is_quiet b = is_quiet_op b.first.guard b.first.op && is_none b.second
 
--- an instruction that does not set a predicate, by its number
-abbrev pub spares_op : ℕ → Op → Bool
-spares_op q (Load space load.Word rd ra imm) = true
-spares_op q (Load space width rd ra imm) = false
-spares_op q (Cmp func pd ra rb) = not (pd == q)
-spares_op q (CmpImm func pd ra imm) = not (pd == q)
-spares_op q (Comb func pd a b) = not (pd == q)
-spares_op q (ToSpecial special.S0 ra) = false
-spares_op q _ = true
-
 pub low_spared : (pd q : ℕ) → pd < FLAGS → FLAGS ≤ q → not (pd == q) ≡ true
 low_spared pd q few from = ap not (ne_eqb pd q (λ same. absurd (omega (arith, same, few, from))))
 
-pub quiet_spares : (q : ℕ) → FLAGS ≤ q → (g : Guard) (op : Op) → is_quiet_op g op ≡ true → spares_op q op ≡ true
+-- it does not set a predicate of the four
+pub quiet_spares : (q : ℕ) → FLAGS ≤ q → (g : Guard) (op : Op) → is_quiet_op g op ≡ true → leaves_op (predicate q) op ≡ true
 quiet_spares q from g (Cmp func pd ra rb) quiet = low_spared pd q (ltb-true pd FLAGS quiet) from
 quiet_spares q from g (CmpImm func pd ra imm) quiet = low_spared pd q (ltb-true pd FLAGS quiet) from
 quiet_spares q from g (Comb func pd a b) quiet = low_spared pd q (ltb-true pd FLAGS quiet) from
 quiet_spares q from g (Load space load.Word rd ra imm) quiet = refl
-quiet_spares q from g (Load space load.Half rd ra imm) quiet = absurd (true≢false (sym quiet))
-quiet_spares q from g (Load space load.Byte rd ra imm) quiet = absurd (true≢false (sym quiet))
-quiet_spares q from g (Load space load.HalfUnsigned rd ra imm) quiet = absurd (true≢false (sym quiet))
-quiet_spares q from g (Load space load.ByteUnsigned rd ra imm) quiet = absurd (true≢false (sym quiet))
+quiet_spares q from g (Load space _ rd ra imm) quiet = absurd (true≢false (sym quiet))
 quiet_spares q from g (ToSpecial s ra) quiet = absurd (true≢false (sym quiet))
 quiet_spares q from g _ quiet = refl
 

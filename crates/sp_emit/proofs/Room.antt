@@ -10,6 +10,7 @@ use Rattle.patmos_instr.specs.declared.functions.PredFunc.TheVariants as comb
 use Rattle.patmos_instr.specs.declared.instructions.Op.TheVariants.{AluImm, AluLong}
 use Rattle.sp_tree.specs.Cost.{constant_cost, unary_cost, binary_cost, held_below, is_held, expr_cost, args_cost, target_cost, stmt_cost, stmts_cost, cost}
 use Rattle.sp_tree.specs.Formed as tree
+use Rattle.sp_tree.proofs.Forms.{parts_of_function}
 use Rattle.sp_tree.specs.Need.{need}
 use Rattle.sp_tree.specs.Plain.{PlainSp, constant, frame_word, cell_word, array_word, before_one, between_two}
 use Rattle.sp_tree.specs.Statements.{PlainSpTarget, to_slot, to_cell, to_array, PlainStmt, masks, writes, calls, transfers, overruns, iterations, PlainStmts, no_stmt, stmt, PlainFunction}
@@ -118,11 +119,9 @@ some_constant n = by (nat_lt n 4096)
 
 some_cost : (e : PlainSp) → 1 ≤ expr_cost e
 some_cost (constant n) = some_constant n
-some_cost (frame_word slot) = omega arith
-some_cost (cell_word cell) = omega arith
-some_cost (array_word array index) = omega arith
 some_cost (before_one op of) = omega (arith, some_unary op)
 some_cost (between_two op a b) = omega (arith, some_binary op)
+some_cost _ = omega arith
 
 -- what the cost counts as held by an instruction is
 held_counted : (op : SpBinary) (n words : ℕ) → (if is_immediate op (constant n) then 0 else words) ≤ (if nat_lt n (held_below op) then 0 else words)
@@ -242,11 +241,7 @@ both_cost op a b is = grind (arith, is)
 
 word_cost : (e : PlainSp) → is_frame_word e ≡ true → 2 ≤ expr_cost e
 word_cost (frame_word slot) is = omega arith
-word_cost (constant n) is = absurd (true≢false (sym is))
-word_cost (cell_word cell) is = absurd (true≢false (sym is))
-word_cost (array_word array index) is = absurd (true≢false (sym is))
-word_cost (before_one op of) is = absurd (true≢false (sym is))
-word_cost (between_two op a b) is = absurd (true≢false (sym is))
+word_cost _ is = absurd (true≢false (sym is))
 
 unless_room : (most : ℕ) (o : Option ℕ) (code : PlainParts) → parts_room code ≤ most → parts_room (unless_stands o code) ≤ most
 unless_room most None code few = few
@@ -257,10 +252,8 @@ second_room : (homes : Homes) (op : SpBinary) (b : PlainSp) → parts_room (trut
     → parts_room (unless_stands (flag_at homes.flags b) (truth_code homes b)) ≤ 1 + (if is_held op b then 0 else expr_cost b)
 second_room homes op (constant n) few = omega (arith, unless_room 1 (flag_at homes.flags (constant n)) (truth_code homes (constant n)) (omega arith))
 second_room homes op (frame_word slot) few = omega (arith, unless_room _ (flag_at homes.flags (frame_word slot)) (truth_code homes (frame_word slot)) few)
-second_room homes op (cell_word cell) few = omega (arith, few)
-second_room homes op (array_word array index) few = omega (arith, few)
-second_room homes op (before_one f of) few = omega (arith, few)
 second_room homes op (between_two f c d) few = omega (arith, unless_room _ (flag_at homes.flags (between_two f c d)) (truth_code homes (between_two f c d)) few)
+second_room homes op _ few = omega (arith, few)
 
 -- the second one, where the lowest bit of the first is sought
 second_saved : (homes : Homes) (op : SpBinary) (b : PlainSp) → parts_room (truth_code homes b) + saved_by (is_condition b) ≤ expr_cost b → (is_some (word_flag homes.flags b) || is_condition b) ≡ true
@@ -385,9 +378,7 @@ cell_room homes mask r word = by r (seek_words homes mask) (match_words homes ma
   where
     by : (r : Region) → bundle_room (seek_word homes mask) ≤ 2 → bundle_room (match_word homes mask) ≤ 1 → bundle_room (set_number SPARE (address_of r word)) ≤ 2 → bundles_room (cell_write homes mask (record { region = r; word = word })) ≤ 7
     by region.Scratch read test address = omega (arith, read, test, address)
-    by region.Comm read test address = omega (arith, read, test, address)
-    by region.Private read test address = omega (arith, read, test, address)
-    by region.Shared read test address = omega (arith, read, test, address)
+    by _ read test address = omega (arith, read, test, address)
 
 element_room : (homes : Homes) (mask : ℕ) (r : Region) (first length : ℕ) → bundles_room (element_write homes mask (record { region = r; first = first; length = length })) ≤ 12
 element_room homes mask r first length =
@@ -398,9 +389,7 @@ element_room homes mask r first length =
         → bundle_room (under always (base_op (record { region = r; first = first; length = length }))) ≤ 2 → bundle_room (under always (scaled_op (record { region = r; first = first; length = length }) (FIRST + 1) (FIRST + 1))) ≤ 1
         → bundles_room (element_write homes mask (record { region = r; first = first; length = length })) ≤ 12
     by region.Scratch read test size below base scaled = omega (arith, read, test, size, below, base, scaled)
-    by region.Comm read test size below base scaled = omega (arith, read, test, size, below, base, scaled)
-    by region.Private read test size below base scaled = omega (arith, read, test, size, below, base, scaled)
-    by region.Shared read test size below base scaled = omega (arith, read, test, size, below, base, scaled)
+    by _ read test size below base scaled = omega (arith, read, test, size, below, base, scaled)
 
 target_room : (homes : Homes) (mask : ℕ) (target : PlainSpTarget) → parts_room (target_write homes mask target) ≤ target_cost target
 target_room homes mask (to_slot slot) = omega (arith, seek_words homes mask, match_words homes mask, set_words homes.first (where_so (told_at homes mask)) slot FIRST)
@@ -535,8 +524,6 @@ cleared_room homes (suc n) =
 -- with its size word
 pub function_room : (homes : Homes) (fs : List PlainFunction) (n : ℕ) (f : PlainFunction) → tree.function_formed fs n f ≡ true → FIRST ≤ homes.first → 1 + parts_room (function_code homes f) ≤ cost f
 function_room homes fs n f h before =
-    let a = and_parts (nat_le f.frame 128) _ h in
-    let few = and_parts (nat_le f.parameters 6) _ a.1 in
     omega (
       arith,
       taken_is (λ bs. bundles_room bs ≤ 1) (frame_words homes.first f) (omega arith) (omega arith),
@@ -546,7 +533,7 @@ function_room homes fs n f h before =
       brought_is (λ bs. bundles_room (bs ++ result_given homes.first f) ≤ 10) homes.first f (λ has. omega (arith, freed_is (λ bs. bundles_room bs ≤ 1) (frame_words homes.first f) (omega arith) (omega arith), read_words homes.first RESULT f.result))
           (omega (arith, freed_is (λ bs. bundles_room bs ≤ 1) (frame_words homes.first f) (omega arith) (omega arith), read_words homes.first RESULT f.result)),
       room_append (frame_taken homes.first f) (words_cleared homes (tree.slots_of f) ++ (arguments_kept homes.first f.parameters ++ state_kept homes f)),
-      leb-true f.parameters 6 few.0,
+      (parts_of_function fs n f h).parameters,
       before,
       kept_room homes.first f.parameters,
       (cleared_room homes (tree.slots_of f)).least,

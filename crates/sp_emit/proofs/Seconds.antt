@@ -35,49 +35,15 @@ use Rattle.sp_emit.proofs.Numbers.{number_op_is}
 use Rattle.sp_emit.proofs.Offsets.{address_are}
 use Rattle.sp_emit.proofs.Operands.{one_of, Handed, operands_are, word_code_is}
 use Rattle.sp_emit.proofs.Once.{did_load, did_nothing, so_by_register}
-use Rattle.sp_emit.proofs.Untouched.{predicate, leaves, left_once}
+use Rattle.sp_emit.proofs.Untouched.{predicate, leaves, left_run}
 use Rattle.sp_emit.proofs.Values.{run_joined, run_lone}
 use Rattle.sp_emit.proofs.WordPlaces.{read_is}
 
 -- ---- bundles
 
--- a load, or a bundle that does not write it
-abbrev is_load_op : Op → Bool
-is_load_op (Load space load.Word rd ra imm) = true
-is_load_op _ = false
-
+-- a bundle that does not write it
 abbrev spares : Slots → Bool
-spares b = leaves (predicate SECOND) b || (is_load_op b.first.op && is_none b.second)
-
-load_spares : (op : Op) (g : Guard) (m : Run) → IsWhole m → is_load_op op ≡ true → so SECOND (once by_words (under g op) m) ≡ so SECOND m
-load_spares (Load space load.Word rd ra imm) g m whole is = by (holds m.regs g) refl
-  where
-    by : (on : Bool) → holds m.regs g ≡ on → so SECOND (once by_words (under g (Load space load.Word rd ra imm)) m) ≡ so SECOND m
-    by true on =
-        ap (so SECOND) (did_load by_words g space rd ra imm m whole on)
-        ∙ so_by_register rd (word_given by_words space (address_by (held ra m) imm 4) m) SECOND m whole (omega arith)
-    by false off = ap (so SECOND) (did_nothing by_words g (Load space load.Word rd ra imm) m whole off)
-load_spares _ g m whole is = absurd (true≢false (sym is))
-
-spared_once : (b : Slots) (m : Run) → IsWhole m → spares b ≡ true → so SECOND (once by_words b m) ≡ so SECOND m
-spared_once b m whole is = by (or_cases (leaves (predicate SECOND) b) (is_load_op b.first.op && is_none b.second) is)
-  where
-    alone : (second : Option Instr) → is_none second ≡ true → so SECOND (once by_words (under b.first.guard b.first.op) m) ≡ so SECOND m
-        → so SECOND (once by_words (record { first = b.first; second = second }) m) ≡ so SECOND m
-    alone None none h = h
-    alone (Some i) none h = absurd (true≢false (sym none))
-
-    by : (leaves (predicate SECOND) b ≡ true) ⊎ ((is_load_op b.first.op && is_none b.second) ≡ true) → so SECOND (once by_words b m) ≡ so SECOND m
-    by (inl left) = left_once by_words (predicate SECOND) b m (omega arith) whole left
-    by (inr loads) =
-        let both = and_parts (is_load_op b.first.op) (is_none b.second) loads in
-        alone b.second both.1 (load_spares b.first.op b.first.guard m whole both.0)
-
-spared_run : (bs : List Slots) (m : Run) → IsWhole m → list_all spares bs ≡ true → so SECOND (run by_words (all_done bs) m) ≡ so SECOND m
-spared_run [] m whole all = refl
-spared_run (b ∷ bs) m whole all =
-    let both = and_parts (spares b) (list_all spares bs) all in
-    spared_run bs (once by_words b m) (once_whole by_words b m whole) both.1 ∙ spared_once b m whole both.0
+spares = leaves (predicate SECOND)
 
 -- ---- parts
 
@@ -85,7 +51,7 @@ pub record Spares (ps : PlainParts) : Type 0 where
   pub kept : (f : ℕ → List Step) (m : Run) → IsWhole m → so SECOND (run by_words (parts_trail f ps) m) ≡ so SECOND m
 
 lone : {bs : List Slots} → list_all spares bs ≡ true → Spares (one (straight bs))
-lone {bs} all = record { kept = λ f m whole. ap (so SECOND) (run_lone by_words f bs m) ∙ spared_run bs m whole all }
+lone {bs} all = record { kept = λ f m whole. ap (so SECOND) (run_lone by_words f bs m) ∙ left_run by_words (predicate SECOND) bs m (omega arith) whole all }
 
 none : Spares no_part
 none = record { kept = λ f m whole. refl }

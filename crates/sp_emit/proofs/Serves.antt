@@ -5,7 +5,7 @@ use Rattle.std.proofs.lemmas.Bool.{cases_lt, and_parts, ltb-true, eqb-true, eqb-
 use Rattle.c_world.specs.Numbers.{flag}
 use Rattle.c_world.specs.World.{World}
 use Rattle.shared_order.specs.Words.{put}
-use Rattle.sp_tree.proofs.Forms.{earlier_one}
+use Rattle.sp_tree.proofs.Forms.{earlier_one, parts_of_function}
 use Rattle.sp_tree.specs.Formed.{args_formed, result_formed, callee_formed, stmt_formed, slots_of, function_formed, functions_formed}
 use Rattle.sp_tree.specs.Plain.{PlainSp}
 use Rattle.sp_tree.specs.Statements.{PlainFunction, no_function, calls}
@@ -23,7 +23,7 @@ use Rattle.sp_emit.specs.Functions.{codes}
 use Rattle.sp_emit.specs.Chains.{stmts_call}
 use Rattle.sp_emit.specs.Flags.{stmt_hinders, begun_body, function_stands, AreAbove, stmt_spared, stmts_spared, flag_tops, flag_top_of}
 use Rattle.sp_emit.specs.Places.{flag_of, shown_word, words_cleared, homes_over, tops, top_of, stmt_least, homes_of}
-use Rattle.sp_emit.proofs.Codes.{codes_at, tops_at, words_few, words_called, words_outside, base_outside, flag_tops_at, parts_of_function, code_of}
+use Rattle.sp_emit.proofs.Codes.{codes_at, tops_at, words_few, words_called, words_outside, base_outside, flag_tops_at, code_of}
 use Rattle.sp_emit.proofs.Beginning.{begins_frame}
 use Rattle.sp_emit.proofs.Calling.{Returns, ServedBy, call_is_done, Spares}
 use Rattle.sp_emit.proofs.BegunBody.{begun_formed, begun_levels, begun_least, begun_constants, begun_spared}

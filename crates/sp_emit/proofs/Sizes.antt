@@ -3,9 +3,7 @@ use Rattle.std.proofs.Common.{ℕ, ◌+◌}
 use Rattle.sp_tree.specs.Plain.{PlainSp, constant, frame_word, cell_word, array_word, before_one, between_two}
 
 abbrev pub size : PlainSp → ℕ
-size (constant n) = 1
-size (frame_word slot) = 1
-size (cell_word cell) = 1
 size (array_word array index) = 1 + size index
 size (before_one op of) = 1 + size of
 size (between_two op a b) = 2 + size a + size b
+size _ = 1

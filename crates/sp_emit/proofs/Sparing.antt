@@ -29,59 +29,13 @@ use Rattle.sp_emit.specs.Statements.{args_code, call_code, stmt_code, stmts_code
 use Rattle.sp_emit.specs.declared.registers.TheConstants.{FIRST, FLAGS}
 use Rattle.sp_emit.specs.declared.stands.Homes.{Homes}
 use Rattle.sp_emit.proofs.BegunBody.{begun_formed, begun_spared}
-use Rattle.sp_emit.proofs.Codes.{codes_at, flag_tops_at, flag_tops_past, parts_of_function, code_of}
+use Rattle.sp_emit.proofs.Codes.{codes_at, flag_tops_at, flag_tops_past, code_of}
+use Rattle.sp_tree.proofs.Forms.{parts_of_function}
 use Rattle.sp_emit.proofs.FlagsAbove.{flags_within}
 use Rattle.sp_emit.proofs.Formed as formed
-use Rattle.sp_emit.proofs.Once.{did_write, did_nothing, did_multiply, did_load, regs_stay, so_left, so_by_register}
-use Rattle.sp_emit.proofs.Quiet.{spares_op}
-use Rattle.sp_emit.proofs.Steady.{spares, function_spares}
-
--- ---- bundles
-
-spared_on : (from : Sources) (q : ℕ) (g : Guard) (op : Op) (m : Run) → q < 8 → IsWhole m → spares_op q op ≡ true → holds m.regs g ≡ true → so q (once from (under g op) m) ≡ so q m
-spared_on from q g (AluImm func rd ra imm) m few whole left on = ap (so q) (did_write from g (AluImm func rd ra imm) m whole on refl refl) ∙ so_left (write_of m.st m.ss m.regs (AluImm func rd ra imm)) q m whole few (λ old. refl)
-spared_on from q g (AluReg func rd ra rb) m few whole left on = ap (so q) (did_write from g (AluReg func rd ra rb) m whole on refl refl) ∙ so_left (write_of m.st m.ss m.regs (AluReg func rd ra rb)) q m whole few (λ old. refl)
-spared_on from q g (AluLong func rd ra constant) m few whole left on = ap (so q) (did_write from g (AluLong func rd ra constant) m whole on refl refl) ∙ so_left (write_of m.st m.ss m.regs (AluLong func rd ra constant)) q m whole few (λ old. refl)
-spared_on from q g (FromSpecial rd special) m few whole left on = ap (so q) (did_write from g (FromSpecial rd special) m whole on refl refl) ∙ so_left (write_of m.st m.ss m.regs (FromSpecial rd special)) q m whole few (λ old. refl)
-spared_on from q g (Load space load.Word rd ra imm) m few whole left on = ap (so q) (did_load from g space rd ra imm m whole on) ∙ so_by_register rd (word_given from space (address_of (held ra m) imm 4) m) q m whole few
-spared_on from q g (Load space load.Half rd ra imm) m few whole left on = absurd (true≢false (sym left))
-spared_on from q g (Load space load.Byte rd ra imm) m few whole left on = absurd (true≢false (sym left))
-spared_on from q g (Load space load.HalfUnsigned rd ra imm) m few whole left on = absurd (true≢false (sym left))
-spared_on from q g (Load space load.ByteUnsigned rd ra imm) m few whole left on = absurd (true≢false (sym left))
-spared_on from q g (Mul unsigned ra rb) m few whole left on = ap (so q) (did_multiply from g unsigned ra rb m whole on) ∙ so_left (came (begun_by m.regs (Mul unsigned ra rb))) q m whole few (λ old. refl)
-spared_on from q g (Cmp func pd ra rb) m few whole left on = ap (so q) (did_write from g (Cmp func pd ra rb) m whole on refl refl) ∙ so_left (write_of m.st m.ss m.regs (Cmp func pd ra rb)) q m whole few (λ old. rw (not-true (pd == q) left) refl)
-spared_on from q g (CmpImm func pd ra imm) m few whole left on = ap (so q) (did_write from g (CmpImm func pd ra imm) m whole on refl refl) ∙ so_left (write_of m.st m.ss m.regs (CmpImm func pd ra imm)) q m whole few (λ old. rw (not-true (pd == q) left) refl)
-spared_on from q g (Comb func pd a b) m few whole left on = ap (so q) (did_write from g (Comb func pd a b) m whole on refl refl) ∙ so_left (write_of m.st m.ss m.regs (Comb func pd a b)) q m whole few (λ old. rw (not-true (pd == q) left) refl)
-spared_on from q g (ToSpecial special.S0 ra) m few whole left on = absurd (true≢false (sym left))
-spared_on from q g (ToSpecial special.Sl ra) m few whole left on = ap (so q) (did_write from g (ToSpecial special.Sl ra) m whole on refl refl) ∙ so_left (write_of m.st m.ss m.regs (ToSpecial special.Sl ra)) q m whole few (λ old. refl)
-spared_on from q g (ToSpecial special.Sh ra) m few whole left on = ap (so q) (did_write from g (ToSpecial special.Sh ra) m whole on refl refl) ∙ so_left (write_of m.st m.ss m.regs (ToSpecial special.Sh ra)) q m whole few (λ old. refl)
-spared_on from q g (ToSpecial special.Srb ra) m few whole left on = ap (so q) (did_write from g (ToSpecial special.Srb ra) m whole on refl refl) ∙ so_left (write_of m.st m.ss m.regs (ToSpecial special.Srb ra)) q m whole few (λ old. refl)
-spared_on from q g (ToSpecial special.Sro ra) m few whole left on = ap (so q) (did_write from g (ToSpecial special.Sro ra) m whole on refl refl) ∙ so_left (write_of m.st m.ss m.regs (ToSpecial special.Sro ra)) q m whole few (λ old. refl)
-spared_on from q g (Store space width ra rs imm) m few whole left on = ap (λ regs. pred_in regs q) (regs_stay from g (Store space width ra rs imm) m whole on refl refl refl)
-spared_on from q g (Stack func n) m few whole left on = ap (λ regs. pred_in regs q) (regs_stay from g (Stack func n) m whole on refl refl refl)
-spared_on from q g (Branch offset) m few whole left on = ap (λ regs. pred_in regs q) (regs_stay from g (Branch offset) m whole on refl refl refl)
-spared_on from q g (Call target) m few whole left on = ap (λ regs. pred_in regs q) (regs_stay from g (Call target) m whole on refl refl refl)
-spared_on from q g (BranchFill target) m few whole left on = ap (λ regs. pred_in regs q) (regs_stay from g (BranchFill target) m whole on refl refl refl)
-spared_on from q g Return m few whole left on = ap (λ regs. pred_in regs q) (regs_stay from g Return m whole on refl refl refl)
-
-spared_once : (from : Sources) (q : ℕ) (b : Slots) (m : Run) → q < 8 → IsWhole m → spares q b ≡ true → so q (once from b m) ≡ so q m
-spared_once from q b m few whole left =
-    let both = and_parts (spares_op q b.first.op) (is_none b.second) left in
-    by b.second both.1 (alone both.0 (holds m.regs b.first.guard) refl)
-  where
-    alone : spares_op q b.first.op ≡ true → (on : Bool) → holds m.regs b.first.guard ≡ on → so q (once from (under b.first.guard b.first.op) m) ≡ so q m
-    alone own true on = spared_on from q b.first.guard b.first.op m few whole own on
-    alone own false off = ap (so q) (did_nothing from b.first.guard b.first.op m whole off)
-
-    by : (second : Option Instr) → is_none second ≡ true → so q (once from (under b.first.guard b.first.op) m) ≡ so q m → so q (once from (record { first = b.first; second = second }) m) ≡ so q m
-    by None none h = h
-    by (Some i) none h = absurd (true≢false (sym none))
-
-spared_done : (from : Sources) (q : ℕ) (bs : List Slots) (m : Run) → q < 8 → IsWhole m → list_all (spares q) bs ≡ true → so q (run from (all_done bs) m) ≡ so q m
-spared_done from q [] m few whole left = refl
-spared_done from q (b ∷ bs) m few whole left =
-    let both = and_parts (spares q b) (list_all (spares q) bs) left in
-    spared_done from q bs (once from b m) few (once_whole from b m whole) both.1 ∙ spared_once from q b m few whole both.0
+use Rattle.sp_emit.proofs.Steady.{function_spares}
+use Rattle.sp_emit.proofs.Untouched.{predicate, left_run}
+use Rattle.sp_emit.proofs.Untouched as untouched
 
 -- ---- code that calls some functions alone
 
@@ -128,23 +82,23 @@ spared_copies from q (suc n) iteration one m whole =
     ap (so q) (run_append from iteration (copies n iteration) m) ∙ spared_copies from q n iteration one (run from iteration m) (run_whole from iteration m whole) ∙ one m whole
 
 mutual
-  spared_part : (from : Sources) (f : ℕ → List Step) (may : ℕ → Bool) (q : ℕ) → q < 8 → AllLeave from f may q → (p : PlainPart) → part_calls may p ≡ true → part_all (spares q) p ≡ true → (m : Run) → IsWhole m → so q (run from (part_trail f p) m) ≡ so q m
-  spared_part from f may q few others (straight bs) may_be each m whole = spared_done from q bs m few whole each
+  spared_part : (from : Sources) (f : ℕ → List Step) (may : ℕ → Bool) (q : ℕ) → q < 8 → AllLeave from f may q → (p : PlainPart) → part_calls may p ≡ true → part_all (untouched.leaves (predicate q)) p ≡ true → (m : Run) → IsWhole m → so q (run from (part_trail f p) m) ≡ so q m
+  spared_part from f may q few others (straight bs) may_be each m whole = left_run from (predicate q) bs m few whole each
   spared_part from f may q few others (repeats n body tail) may_be each m whole =
-      let both = and_parts (parts_all (spares q) body) (list_all (spares q) tail) each in
+      let both = and_parts (parts_all (untouched.leaves (predicate q)) body) (list_all (untouched.leaves (predicate q)) tail) each in
       spared_copies from q n (parts_trail f body ++ all_done tail) (λ t rest. ap (so q) (run_append from (parts_trail f body) (all_done tail) t)
-      ∙ spared_done from q tail (run from (parts_trail f body) t) few (run_whole from (parts_trail f body) t rest) both.1 ∙ spared_parts from f may q few others body may_be both.0 t rest) m whole
+      ∙ left_run from (predicate q) tail (run from (parts_trail f body) t) few (run_whole from (parts_trail f body) t rest) both.1 ∙ spared_parts from f may q few others body may_be both.0 t rest) m whole
   spared_part from f may q few others (calls_to k tail) may_be each m whole =
       let n = run from (all_done tail) m in
       let h = run_whole from (all_done tail) m whole in
-      ap (so q) (run_append from (all_done tail) (begins ∷ f k) m) ∙ others k may_be (begun n) (begun_whole n h) ∙ spared_done from q tail m few whole each
-  spared_part from f may q few others (leaves tail) may_be each m whole = spared_done from q tail m few whole each
+      ap (so q) (run_append from (all_done tail) (begins ∷ f k) m) ∙ others k may_be (begun n) (begun_whole n h) ∙ left_run from (predicate q) tail m few whole each
+  spared_part from f may q few others (leaves tail) may_be each m whole = left_run from (predicate q) tail m few whole each
 
-  spared_parts : (from : Sources) (f : ℕ → List Step) (may : ℕ → Bool) (q : ℕ) → q < 8 → AllLeave from f may q → (ps : PlainParts) → parts_call may ps ≡ true → parts_all (spares q) ps ≡ true → (m : Run) → IsWhole m → so q (run from (parts_trail f ps) m) ≡ so q m
+  spared_parts : (from : Sources) (f : ℕ → List Step) (may : ℕ → Bool) (q : ℕ) → q < 8 → AllLeave from f may q → (ps : PlainParts) → parts_call may ps ≡ true → parts_all (untouched.leaves (predicate q)) ps ≡ true → (m : Run) → IsWhole m → so q (run from (parts_trail f ps) m) ≡ so q m
   spared_parts from f may q few others no_part may_be each m whole = refl
   spared_parts from f may q few others (part p rest) may_be each m whole =
       let a = and_parts (part_calls may p) (parts_call may rest) may_be in
-      let c = and_parts (part_all (spares q) p) (parts_all (spares q) rest) each in
+      let c = and_parts (part_all (untouched.leaves (predicate q)) p) (parts_all (untouched.leaves (predicate q)) rest) each in
       ap (so q) (run_append from (part_trail f p) (parts_trail f rest) m)
       ∙ spared_parts from f may q few others rest a.1 c.1 (run from (part_trail f p) m) (run_whole from (part_trail f p) m whole) ∙ spared_part from f may q few others p a.0 c.0 m whole
 
@@ -155,17 +109,15 @@ may_call tops most k = nat_le (slice_index_or tops k 4) most
 
 mutual
   stmt_calls_few : (tops : List ℕ) (most : ℕ) (homes : Homes) (fs : List PlainFunction) (number slots frame counter : ℕ) (t : PlainStmt) → stmt_spared tops t ≤ most → stmt_formed fs number slots t ≡ true → parts_call (may_call tops most) (stmt_code homes frame counter t) ≡ true
-  stmt_calls_few tops most homes fs number slots frame counter (masks slot e) le is = calls_none (may_call tops most) (stmt_code homes frame counter (masks slot e)) (formed.stmt_formed homes fs 0 slots frame counter (masks slot e) is)
-  stmt_calls_few tops most homes fs number slots frame counter (writes mask target e) le is = calls_none (may_call tops most) (stmt_code homes frame counter (writes mask target e)) (formed.stmt_formed homes fs 0 slots frame counter (writes mask target e) is)
   stmt_calls_few tops most homes fs number slots frame counter (calls mask k args result) le is =
       calls_joined (may_call tops most) (args_code homes args FIRST) (call_code homes frame mask k result) (calls_none (may_call tops most) (args_code homes args FIRST) (formed.args_formed homes 0 args FIRST))
       (and_from (may_call tops most k) true (le-leb (slice_index_or tops k 4) most le) refl)
   stmt_calls_few tops most homes fs number slots frame counter (transfers mask core source target count) le is =
       calls_none (may_call tops most) (stmt_code homes frame counter (transfers mask core source target count)) (formed.stmt_formed homes fs 0 slots frame counter (transfers mask core source target count) is)
-  stmt_calls_few tops most homes fs number slots frame counter (overruns mask e) le is = calls_none (may_call tops most) (stmt_code homes frame counter (overruns mask e)) (formed.stmt_formed homes fs 0 slots frame counter (overruns mask e) is)
   stmt_calls_few tops most homes fs number slots frame counter (iterations count body) le is =
       let parts = and_parts (nat_lt 0 count) (stmts_formed fs number slots body) is in
       and_from (parts_call (may_call tops most) (stmts_code homes frame (counter - 1) body)) true (stmts_call_few tops most homes fs number slots frame (counter - 1) body le parts.1) refl
+  stmt_calls_few tops most homes fs number slots frame counter other le is = calls_none (may_call tops most) (stmt_code homes frame counter other) (formed.stmt_formed homes fs 0 slots frame counter other is)
 
   stmts_call_few : (tops : List ℕ) (most : ℕ) (homes : Homes) (fs : List PlainFunction) (number slots frame counter : ℕ) (ts : PlainStmts) → stmts_spared tops ts ≤ most → stmts_formed fs number slots ts ≡ true → parts_call (may_call tops most) (stmts_code homes frame counter ts) ≡ true
   stmts_call_few tops most homes fs number slots frame counter no_stmt le is = refl

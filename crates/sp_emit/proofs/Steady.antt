@@ -25,7 +25,8 @@ use Rattle.sp_emit.specs.Places.{read_word, set_word, fetch_word, keep_word, fet
 use Rattle.sp_emit.specs.declared.registers.TheConstants.{RESULT, MASK, FIRST, SECOND, SPARE, TEST, MORE, FLAGS}
 use Rattle.sp_emit.proofs.WordPlaces.{read_is, set_op_is, fetch_is, keep_is}
 use Rattle.sp_emit.specs.Statements.{cell_write, element_write, target_write, args_code, call_code, send_code, overrun_code, slot_set, stmt_code, stmts_code, iterations_begin, iterations_tail, mask_handed}
-use Rattle.sp_emit.proofs.Quiet.{each_joined, each_lone, each_so, is_quiet, operands_quiet, expr_quiet, args_quiet, is_quiet_op, spares_op, low_spared, quiet_spares}
+use Rattle.sp_emit.proofs.Quiet.{each_joined, each_lone, each_so, is_quiet, operands_quiet, expr_quiet, args_quiet, is_quiet_op, low_spared, quiet_spares}
+use Rattle.sp_emit.proofs.Untouched.{predicate, leaves_op, leaves}
 use Rattle.sp_emit.proofs.Lasts.{alu_quiet, write_is, guarded_each}
 use Rattle.sp_emit.proofs.FlagWords.{seek_is, match_is, flag_range, handed_is}
 use Rattle.sp_emit.proofs.Operands.{mask_is}
@@ -44,7 +45,7 @@ takes_none _ = true
 -- such a bundle is one instruction, which sets no special register, takes no words of the stack, and does not set a
 -- predicate, by its number
 abbrev pub is_firm : ℕ → Slots → Bool
-is_firm q b = is_steady b && (keeps_place b && (takes_none b.first.op && spares_op q b.first.op))
+is_firm q b = is_steady b && (keeps_place b && (takes_none b.first.op && leaves_op (predicate q) b.first.op))
 
 abbrev Firm : ℕ → PlainParts → Type 0
 Firm q parts = parts_all (is_firm q) parts ≡ true
@@ -177,10 +178,10 @@ pub body_firm : (homes : Homes) (f : PlainFunction) → Firm 8 (body_code homes 
 body_firm homes f = stmts_firm 8 (omega arith) homes (λ slot p is. let r = (flag_range homes.flags slot p is).1 in ap not (ne_eqb p 8 (λ same. absurd (omega (arith, same, r))))) (frame_words homes.first f) (first_counter f) (begun_body homes.flags f)
 
 pub place_firm : (q : ℕ) (b : Slots) → is_firm q b ≡ true → keeps_place b ≡ true
-place_firm q b firm = (and_parts (keeps_place b) (takes_none b.first.op && spares_op q b.first.op) (and_parts (is_steady b) (keeps_place b && (takes_none b.first.op && spares_op q b.first.op)) firm).1).0
+place_firm q b firm = (and_parts (keeps_place b) (takes_none b.first.op && leaves_op (predicate q) b.first.op) (and_parts (is_steady b) (keeps_place b && (takes_none b.first.op && leaves_op (predicate q) b.first.op)) firm).1).0
 
 pub takes_firm : (most q : ℕ) (b : Slots) → is_firm q b ≡ true → takes_at_most most b ≡ true
-takes_firm most q b firm = none b.first.op (and_parts (takes_none b.first.op) (spares_op q b.first.op) (and_parts (keeps_place b) (takes_none b.first.op && spares_op q b.first.op) (and_parts (is_steady b) (keeps_place b && (takes_none b.first.op && spares_op q b.first.op)) firm).1).1).0
+takes_firm most q b firm = none b.first.op (and_parts (takes_none b.first.op) (leaves_op (predicate q) b.first.op) (and_parts (keeps_place b) (takes_none b.first.op && leaves_op (predicate q) b.first.op) (and_parts (is_steady b) (keeps_place b && (takes_none b.first.op && leaves_op (predicate q) b.first.op)) firm).1).1).0
   where
     none : (op : Op) → takes_none op ≡ true → takes_at_most most (under always op) ≡ true
     none op taken = grind (arith, taken)
@@ -188,7 +189,7 @@ takes_firm most q b firm = none b.first.op (and_parts (takes_none b.first.op) (s
 -- ---- functions
 
 steady_firm : (q : ℕ) (b : Slots) → is_firm q b ≡ true → is_steady b ≡ true
-steady_firm q b firm = (and_parts (is_steady b) (keeps_place b && (takes_none b.first.op && spares_op q b.first.op)) firm).0
+steady_firm q b firm = (and_parts (is_steady b) (keeps_place b && (takes_none b.first.op && leaves_op (predicate q) b.first.op)) firm).0
 
 pub function_steady : (homes : Homes) (f : PlainFunction) → parts_all is_steady (function_code homes f) ≡ true
 function_steady homes f =
@@ -199,20 +200,17 @@ function_steady homes f =
 
 -- ---- predicates
 
-abbrev pub spares : ℕ → Slots → Bool
-spares q b = spares_op q b.first.op && is_none b.second
-
-firm_spares : (q : ℕ) (b : Slots) → is_firm q b ≡ true → spares q b ≡ true
+firm_spares : (q : ℕ) (b : Slots) → is_firm q b ≡ true → leaves (predicate q) b ≡ true
 firm_spares q b firm =
-    let a = (and_parts (is_steady b) (keeps_place b && (takes_none b.first.op && spares_op q b.first.op)) firm).1 in
-    let place = and_parts (keeps_place b) (takes_none b.first.op && spares_op q b.first.op) a in
-    and_from (spares_op q b.first.op) (is_none b.second) (and_parts (takes_none b.first.op) (spares_op q b.first.op) place.1).1 (and_parts (sets_none b.first.op) (is_none b.second) place.0).1
+    let a = (and_parts (is_steady b) (keeps_place b && (takes_none b.first.op && leaves_op (predicate q) b.first.op)) firm).1 in
+    let place = and_parts (keeps_place b) (takes_none b.first.op && leaves_op (predicate q) b.first.op) a in
+    and_from (leaves_op (predicate q) b.first.op) (is_none b.second) (and_parts (takes_none b.first.op) (leaves_op (predicate q) b.first.op) place.1).1 (and_parts (sets_none b.first.op) (is_none b.second) place.0).1
 
 -- a function does not set one of the four in which none of its words stands
-pub function_spares : (homes : Homes) (f : PlainFunction) (q : ℕ) → FLAGS ≤ q → ((slot p : ℕ) → flag_of homes.flags slot ≡ Some p → not (p == q) ≡ true) → parts_all (spares q) (function_code homes f) ≡ true
+pub function_spares : (homes : Homes) (f : PlainFunction) (q : ℕ) → FLAGS ≤ q → ((slot p : ℕ) → flag_of homes.flags slot ≡ Some p → not (p == q) ≡ true) → parts_all (leaves (predicate q)) (function_code homes f) ≡ true
 function_spares homes f q from beside =
     let body = body_code homes f in
-    and_from (list_all (spares q) (function_begin homes f)) (parts_all (spares q) (joined body (function_rest homes.first f)))
-    (begin_all (spares q) homes f refl (λ r. refl) (λ slot rs. firm_spares q (set_word homes.first always slot rs) (set_firm q from homes.first always slot rs)) refl (λ slot p is. rw (beside slot p is) refl) (λ p is. rw (beside f.mask p is) refl) refl)
-    (each_joined (spares q) body (function_rest homes.first f) (each_so (is_firm q) (spares q) (firm_spares q) body (stmts_firm q from homes beside (frame_words homes.first f) (first_counter f) (begun_body homes.flags f)))
-    (and_from (list_all (spares q) (function_end homes.first f)) true (end_all (spares q) homes.first f refl (firm_spares q (read_word homes.first RESULT f.result) (read_firm q from homes.first RESULT f.result)) refl refl) refl))
+    and_from (list_all (leaves (predicate q)) (function_begin homes f)) (parts_all (leaves (predicate q)) (joined body (function_rest homes.first f)))
+    (begin_all (leaves (predicate q)) homes f refl (λ r. refl) (λ slot rs. firm_spares q (set_word homes.first always slot rs) (set_firm q from homes.first always slot rs)) refl (λ slot p is. rw (beside slot p is) refl) (λ p is. rw (beside f.mask p is) refl) refl)
+    (each_joined (leaves (predicate q)) body (function_rest homes.first f) (each_so (is_firm q) (leaves (predicate q)) (firm_spares q) body (stmts_firm q from homes beside (frame_words homes.first f) (first_counter f) (begun_body homes.flags f)))
+    (and_from (list_all (leaves (predicate q)) (function_end homes.first f)) true (end_all (leaves (predicate q)) homes.first f refl (firm_spares q (read_word homes.first RESULT f.result) (read_firm q from homes.first RESULT f.result)) refl refl) refl))

@@ -55,16 +55,12 @@ asks_store Named space address value m t is may = record { news = effect.Store s
 
 may_store : (Named : Use → Type 0) (space : Mem) (address value : ℕ) → IsStoredPlace Named space address → MayAsk Named (effect.Store space store.Word address value)
 may_store Named mem.S address value place = (refl, stored_aligned Named mem.S address place)
-may_store Named mem.L address value place = (refl, place)
-may_store Named mem.C address value place = (refl, place)
-may_store Named mem.M address value place = (refl, place)
+may_store Named _ address value place = (refl, place)
 
 -- a store of a word asks for itself, and leaves the registers
 asked_by_store : (space : Mem) (address value : ℕ) (m : Run) → (with_store space address value m).asked ≡ m.asked ++ effect.Store space store.Word address value ∷ []
 asked_by_store mem.S address value m = refl
-asked_by_store mem.L address value m = refl
-asked_by_store mem.C address value m = refl
-asked_by_store mem.M address value m = refl
+asked_by_store _ address value m = refl
 
 -- a store that is always made, at an address
 store_asks : (Named : Use → Type 0) (from : Sources) (space : Mem) (at words address : ℕ) (m : Run) → IsWhole m → address_by (held at m) words 4 ≡ address → IsStoredPlace Named space address → Asks Named [] m (once from (store_to always space at FIRST words) m)
@@ -112,17 +108,11 @@ NoPort _ = Unit {0}
 
 no_port : (r : Region) (word : ℕ) → NoPort (Some (cell_in r word))
 no_port region.Scratch word = tt
-no_port region.Comm word = tt
-no_port region.Private word = tt
-no_port region.Shared word = tt
+no_port _ word = tt
 
 no_start : (k : Memory) (value : ℕ) (c : Option Cell) → NoPort c → StartsAt k value c
 no_start k value (Some (cell.Port core register)) none = absurd none
-no_start k value (Some (cell.Scratch word)) none = tt
-no_start k value (Some (cell.Comm word)) none = tt
-no_start k value (Some (cell.Private word)) none = tt
-no_start k value (Some (cell.Shared word)) none = tt
-no_start k value None none = tt
+no_start k value _ none = tt
 
 store_starts : (told at words address : ℕ) (b : Bool) (m : Run) → so told m ≡ b → (b ≡ true → address_by (held at m) words 4 ≡ address) → (b ≡ true → NoPort (cell_of mem.L address))
     → StartsWell (effect_of (store_to (where_so told) mem.L at FIRST words) m.regs) m.memory

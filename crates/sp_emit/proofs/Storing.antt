@@ -22,16 +22,12 @@ with_store space address value m = record (stored space store.Word address value
 stored_apart : (space : Mem) (address value : ℕ) (m : Run) (regs : Registers) → with_settled (with_store space address value (with_regs m regs)) ≡ with_regs (with_store space address value m) (settled regs)
 unfolding with_regs
 stored_apart mem.S address value m regs = refl
-stored_apart mem.L address value m regs = refl
-stored_apart mem.C address value m regs = refl
-stored_apart mem.M address value m regs = refl
+stored_apart _ address value m regs = refl
 
 stored_keeps : (space : Mem) (address value : ℕ) (m : Run) → with_regs (with_store space address value m) m.regs ≡ with_store space address value m
 unfolding with_regs
 stored_keeps mem.S address value m = refl
-stored_keeps mem.L address value m = refl
-stored_keeps mem.C address value m = refl
-stored_keeps mem.M address value m = refl
+stored_keeps _ address value m = refl
 
 pub did_store : (from : Sources) (g : Guard) (space : Mem) (ra rs imm : ℕ) (m : Run) → IsWhole m → holds m.regs g ≡ true
     → once from (under g (Store space store.Word ra rs imm)) m ≡ with_store space (address_by (held ra m) imm 4) (held rs m) m

@@ -71,11 +71,9 @@ cell_stored homes slots count told region.Shared word at words v b s m x =
 
 element_stored : (homes : Homes) (slots count told : ℕ) (r : Region) (word at words v : ℕ) (b : Bool) (s : State) (m : Run) → Stores homes slots count told r word at words v b s m
     → Done homes slots count (with_where b r word v s) m (run by_words (all_done (masked_store told (array_space r) at words)) m)
-element_stored homes slots count told region.Scratch word at words v b s m x = cell_stored homes slots count told region.Scratch word at words v b s m x
-element_stored homes slots count told region.Comm word at words v b s m x = cell_stored homes slots count told region.Comm word at words v b s m x
 element_stored homes slots count told region.Private word at words v b s m x =
     main_store homes slots count told mem.M main_is_plain region.Private word at words v b s m x.follows x.test x.value x.below x.above x.apart x.few x.near x.some (λ on. ap (cell_of mem.M) (x.address on) ∙ element_found region.Private word (x.lies on)) refl
-element_stored homes slots count told region.Shared word at words v b s m x = cell_stored homes slots count told region.Shared word at words v b s m x
+element_stored homes slots count told other word at words v b s m x = cell_stored homes slots count told other word at words v b s m x
 
 same_address : (r : Region) (word : ℕ) → word < room_in r all_rooms → address_by (address_of r word) 0 4 ≡ address_of r word
 same_address r word lies = omega (arith, first_small r word (omega (arith, lies)))

@@ -6,7 +6,7 @@ use Rattle.std.proofs.lemmas.Bool.{cases_lt, and_parts, ltb-true, eqb-true, eqb-
 use Rattle.patmos_instr.specs.Bundles.{Slots}
 use Rattle.patmos_instr.specs.declared.guards.Guard.{Guard}
 use Rattle.patmos_instr.specs.declared.instructions.Op.{Op}
-use Rattle.sp_tree.proofs.Forms.{earlier_one}
+use Rattle.sp_tree.proofs.Forms.{earlier_one, parts_of_function}
 use Rattle.sp_tree.specs.Formed.{send_formed, target_formed, array_formed, expr_formed, callee_formed, args_formed, result_formed, stmt_formed, stmts_formed, function_formed, functions_formed, entry_formed, is_formed, slots_of}
 use Rattle.sp_tree.specs.Plain.{PlainSp}
 use Rattle.sp_tree.specs.Statements.{PlainSpTarget, to_slot, to_cell, to_array, PlainStmt, masks, writes, calls, transfers, overruns, iterations, PlainStmts, no_stmt, stmt, PlainFunction, no_function, PlainUnit}
@@ -26,7 +26,7 @@ use Rattle.sp_emit.specs.Places.{set_word, fetched_at, mask_test, told_at}
 use Rattle.sp_emit.specs.Functions.{codes}
 use Rattle.sp_emit.proofs.Around.{begin_all, end_all}
 use Rattle.sp_emit.proofs.BegunBody.{begun_is, begun_formed}
-use Rattle.sp_emit.proofs.Codes.{codes_at, codes_length, parts_of_function, code_of}
+use Rattle.sp_emit.proofs.Codes.{codes_at, codes_length, code_of}
 use Rattle.sp_emit.proofs.Formed.{call_formed}
 use Rattle.sp_emit.proofs.StoreAsks.{cell_write_asks, element_write_asks, send_asks}
 use Rattle.sp_emit.proofs.ValueAsks.{AreNamed, are_named, named_left, named_right, asks_joined, asks_lone, operands_ask, expr_asks, flag_asks}

@@ -4,20 +4,14 @@ use Rattle.sp_tree.specs.Plain.{PlainSp, constant, frame_word, cell_word, array_
 use Rattle.sp_tree.specs.declared.operators.SpBinary.{SpBinary}
 
 abbrev pub size : PlainSp → ℕ
-size (constant n) = 1
-size (frame_word slot) = 1
-size (cell_word cell) = 1
 size (array_word array index) = 1 + size index
 size (before_one op of) = 1 + size of
 size (between_two op a b) = 1 + (size a + size b)
+size _ = 1
 
 pub some_size : (e : PlainSp) → 1 ≤ size e
 some_size (constant n) = omega arith
-some_size (frame_word slot) = omega arith
-some_size (cell_word cell) = omega arith
-some_size (array_word array index) = omega arith
-some_size (before_one op of) = omega arith
-some_size (between_two op a b) = omega arith
+some_size _ = omega arith
 
 pub operands_less : (e : PlainSp) (op : SpBinary) (a b : PlainSp) → e ≡ between_two op a b → size a + size b < size e
 operands_less e op a b is = let same = ap size is in omega (arith, same)

@@ -81,10 +81,7 @@ by_case P false is x y px py = subst (λ b. P (if b then x else y)) (sym is) py
 pub condition_tests : (e : PlainSp) → is_condition e ≡ true → is_test e ≡ true
 condition_tests (before_one op of) is = is
 condition_tests (between_two op a b) is = ap (λ c. c || (is_masking op && is_one b)) is
-condition_tests (constant n) is = absurd (true≢false (sym is))
-condition_tests (frame_word slot) is = absurd (true≢false (sym is))
-condition_tests (cell_word cell) is = absurd (true≢false (sym is))
-condition_tests (array_word array index) is = absurd (true≢false (sym is))
+condition_tests _ is = absurd (true≢false (sym is))
 
 -- a condition joins no truths that stand already
 pub no_joins : (flags : Flags) (op : SpBinary) (a b : PlainSp) → (is_some (cmp_of op) || is_some (both_of op)) ≡ true → joins flags op a b ≡ false
@@ -131,11 +128,7 @@ sought_is {P} {homes} {Holds} x op a b joins_them h = by (flag_at homes.flags a)
   where
     word : (a : PlainSp) → is_frame_word a ≡ true → Holds a → P (one (straight (bit_sought homes.first (slot_number a))))
     word (frame_word slot) is h = x.bits slot h
-    word (constant n) is h = absurd (true≢false (sym is))
-    word (cell_word cell) is h = absurd (true≢false (sym is))
-    word (array_word array index) is h = absurd (true≢false (sym is))
-    word (before_one op of) is h = absurd (true≢false (sym is))
-    word (between_two op c d) is h = absurd (true≢false (sym is))
+    word _ is h = absurd (true≢false (sym is))
 
     by : (o : Option ℕ) → (is_some o || seeks homes.flags op a b) ≡ true → P (unless_stands o (one (straight (bit_sought homes.first (slot_number a)))))
     by (Some p) is = x.none
@@ -158,25 +151,19 @@ unjoined_is {P} {homes} x op a b h code =
 
 pub truth_is : {P : PlainParts → Type 0} {homes : Homes} {Holds : PlainSp → Type 0} → TruthParts P homes Holds → (e : PlainSp) → Holds e → P (truth_code homes e)
 truth_is x (constant n) h = tested_is x (constant n) h
-truth_is x (frame_word slot) h = tested_is x (frame_word slot) h
-truth_is x (cell_word cell) h = tested_is x (cell_word cell) h
-truth_is x (array_word array index) h = tested_is x (array_word array index) h
-truth_is x (before_one op of) h = tested_is x (before_one op of) h
 truth_is {P} {homes} x (between_two op a b) h =
     by_case P (joins homes.flags op a b) refl _ (unjoined_code homes op a b (truth_code homes a))
     (λ is. x.both (operands_stood homes a b (truth_code homes b)) (one (straight (join homes.flags TEST op a b ∷ [])))
     (operands_are x op a b is h (truth_is x b (x.second op a b h))) (x.tests (join homes.flags TEST op a b ∷ []) refl))
     (unjoined_is x op a b h (truth_is x a (x.first op a b h)))
+truth_is x other h = tested_is x other h
 
 pub before_is : {P : PlainParts → Type 0} {homes : Homes} {Holds : PlainSp → Type 0} → TruthParts P homes Holds → (e : PlainSp) → Holds e → P (before_flag homes e)
 before_is x (constant n) h = x.none
-before_is x (frame_word slot) h = tested_is x (frame_word slot) h
-before_is x (cell_word cell) h = tested_is x (cell_word cell) h
-before_is x (array_word array index) h = tested_is x (array_word array index) h
-before_is x (before_one op of) h = tested_is x (before_one op of) h
 before_is {P} {homes} x (between_two op a b) h =
     by_case P (joins homes.flags op a b) refl (operands_stood homes a b (truth_code homes b)) (unjoined_code homes op a b (truth_code homes a))
     (λ is. operands_are x op a b is h (truth_is x b (x.second op a b h))) (unjoined_is x op a b h (truth_is x a (x.first op a b h)))
+before_is x other h = tested_is x other h
 
 -- the bundle that sets the predicate
 set_is : (P : Slots → Type 0) (flags : Flags) (to : ℕ) (e : PlainSp) → ((func : PredFunc) (a b : ℕ) → P (combine func to a b)) → P (flag_set flags to e)

@@ -65,9 +65,7 @@ asks_load Named space rd address m t is may = record { news = word_load space rd
 
 variable_read : (Named : Use → Type 0) (r : Region) (word rd : ℕ) → cell_formed (record { region = r; word = word }) ≡ true → Named (reads_cell (record { region = r; word = word })) → MayAsk Named (word_load (cell_space r) rd (address_of r word))
 variable_read Named region.Scratch word rd formed named = (refl, inl (record { region = region.Scratch; word = word }, named, record { formed = formed; space_is = refl; address_is = refl }))
-variable_read Named region.Comm word rd formed named = (refl, inl (record { region = region.Comm; word = word }, named, record { formed = formed; space_is = refl; address_is = refl }))
-variable_read Named region.Private word rd formed named = (refl, inl (record { region = region.Private; word = word }, named, record { formed = formed; space_is = refl; address_is = refl }))
-variable_read Named region.Shared word rd formed named = (refl, inl (record { region = region.Shared; word = word }, named, record { formed = formed; space_is = refl; address_is = refl }))
+variable_read Named other word rd formed named = (refl, inl (record { region = other; word = word }, named, record { formed = formed; space_is = refl; address_is = refl }))
 
 pub cell_asks : (Named : Use → Type 0) (c : SpCell) (rd : ℕ) → 1 ≤ rd → rd < 32 → cell_formed c ≡ true → Named (reads_cell c) → AsksOnly Named (all_done (cell_code c rd))
 cell_asks Named c rd some few formed named = record {
@@ -120,9 +118,7 @@ no_element_read Named a rd named = by a.region refl
 -- elements are not loaded by the data cache
 not_cached : (r : Region) (rd address : ℕ) → cached_address (word_load (array_space r) rd address) ≡ []
 not_cached region.Scratch rd address = refl
-not_cached region.Comm rd address = refl
-not_cached region.Private rd address = refl
-not_cached region.Shared rd address = refl
+not_cached _ rd address = refl
 
 asks_element : (Named : Use → Type 0) (a : SpArray) (rd address : ℕ) (m t : Run) → t.asked ≡ m.asked ++ word_load (array_space a.region) rd address ∷ [] → MayAsk Named (word_load (array_space a.region) rd address) → Asks Named [] m t
 asks_element Named a rd address m t is may = subst (λ l. Asks Named l m t) (not_cached a.region rd address) (asks_load Named (array_space a.region) rd address m t is may)

@@ -229,19 +229,12 @@ home_left homes slots (frame_word slot) s m whole names shows is =
     let both = and_parts (is_none (flag_of homes.flags slot)) (in_register homes.first slot) is in
     sym (shown_plain homes slot m (is_none_of (flag_of homes.flags slot) both.0) ∙ in_place homes.first slot m both.1) ∙ shows.frame slot (ltb-true slot slots names)
 home_left homes slots (constant n) s m whole names shows is = whole.fits.zero ∙ sym (eqb-true n 0 is)
-home_left homes slots (cell_word cell) s m whole names shows is = absurd (true≢false (sym is))
-home_left homes slots (array_word array index) s m whole names shows is = absurd (true≢false (sym is))
-home_left homes slots (before_one op of) s m whole names shows is = absurd (true≢false (sym is))
-home_left homes slots (between_two op a b) s m whole names shows is = absurd (true≢false (sym is))
+home_left homes slots _ s m whole names shows is = absurd (true≢false (sym is))
 
 -- code from a later register on leaves it there
 home_stays : {from : ℕ} (homes : Homes) (e : PlainSp) (m t : Run) → 1 ≤ from → Keeps from homes.first m t → is_home homes e ≡ true → held (home_of homes e) t ≡ held (home_of homes e) m
 home_stays homes (frame_word slot) m t some keeps is = keeps.high (homes.first + slot) (omega arith) (word_below homes slot is)
-home_stays homes (constant n) m t some keeps is = keeps.low 0 some
-home_stays homes (cell_word cell) m t some keeps is = keeps.low 0 some
-home_stays homes (array_word array index) m t some keeps is = keeps.low 0 some
-home_stays homes (before_one op of) m t some keeps is = keeps.low 0 some
-home_stays homes (between_two op a b) m t some keeps is = keeps.low 0 some
+home_stays homes _ m t some keeps is = keeps.low 0 some
 
 pub operand_left : {homes : Homes} {slots rd : ℕ} {s : State} {m : Run} (f : ℕ → List Step) (e : PlainSp) → IsReady homes slots e rd s m → LeavesAnywhere homes slots f e s
     → held (value_at homes e rd) (operand_behind homes f e rd m) ≡ sp_value s.frame s.world e
@@ -341,10 +334,6 @@ both_go {homes} {slots} {s} f op a (constant n) va vb rd m r true less is_it les
     ∙ held_leaves by_words op to (value_at homes a rd) n t keeps.whole some (omega (arith, few)) x.low (subst (λ v. v < 2 ^ 32) (sym x.is) small) is_it
     ∙ ap (λ v. binary_value op v n) x.is
 both_go f op a (frame_word slot) va vb rd m r true less is_it less_is from t past keeps to some few = absurd (true≢false (sym is_it))
-both_go f op a (cell_word cell) va vb rd m r true less is_it less_is from t past keeps to some few = absurd (true≢false (sym is_it))
-both_go f op a (array_word array index) va vb rd m r true less is_it less_is from t past keeps to some few = absurd (true≢false (sym is_it))
-both_go f op a (before_one other of) va vb rd m r true less is_it less_is from t past keeps to some few = absurd (true≢false (sym is_it))
-both_go f op a (between_two other c d) va vb rd m r true less is_it less_is from t past keeps to some few = absurd (true≢false (sym is_it))
 both_go {homes} {slots} {s} f op a b va vb rd m r false true is_it less_is from t past keeps to some few =
     let x = second_stands f op a b va vb rd m r less_is from t past keeps in
     let first = x.0 in
@@ -357,6 +346,7 @@ both_go {homes} {slots} {s} f op a b va vb rd m r false false is_it less_is from
     let second = x.1 in
     applied f op to (value_at homes a rd) (value_at homes b (rd + 1)) (sp_value s.frame s.world a) (sp_value s.frame s.world b) t keeps.whole some (omega (arith, few)) first.low second.low
     (value_word slots s a (operands_named op a b r).0 r.constants.0 r.words) (value_word slots s b (operands_named op a b r).1 r.constants.1 r.words) first.is second.is
+both_go f op a _ va vb rd m r true less is_it less_is from t past keeps to some few = absurd (true≢false (sym is_it))
 
 -- a word of the frame, wherever it stands
 word_leaves : (homes : Homes) (to slot : ℕ) (t : Run) → IsWhole t → 1 ≤ to → to < 32 → slot < 128 → shown_word homes slot t < 2 ^ 32 → held to (run by_words (all_done (word_code (flag_of homes.flags slot) homes.first to slot)) t) ≡ shown_word homes slot t

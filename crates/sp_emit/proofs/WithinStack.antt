@@ -16,7 +16,8 @@ use Rattle.sp_shape.proofs.Lists.{all_append}
 use Rattle.sp_emit.specs.Functions.{codes}
 use Rattle.sp_emit.specs.Flags.{begun_body}
 use Rattle.sp_emit.specs.Places.{flag_of, words_cleared}
-use Rattle.sp_emit.proofs.Codes.{codes_at, codes_length, kept_is, brought_is, words_few, words_called, words_outside, parts_of_function, code_of}
+use Rattle.sp_emit.proofs.Codes.{codes_at, codes_length, kept_is, brought_is, words_few, words_called, words_outside, code_of}
+use Rattle.sp_tree.proofs.Forms.{parts_of_function}
 use Rattle.sp_emit.proofs.BegunBody.{begun_formed, begun_levels, begun_chain}
 use Rattle.sp_emit.proofs.FlagWords.{cleared_all}
 use Rattle.sp_emit.specs.Chains.{stmts_call, stmts_chain, chains}

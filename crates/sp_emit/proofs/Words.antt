@@ -40,17 +40,9 @@ unary_word unary.Complement a word = omega arith
 unary_word unary.Not a word = flag_word _
 
 pub binary_word : (op : SpBinary) (a b : ℕ) → a < 2 ^ 32 → b < 2 ^ 32 → binary_value op a b < 2 ^ 32
-binary_word binary.Or a b wa wb = flag_word _
-binary_word binary.And a b wa wb = flag_word _
 binary_word binary.BitOr a b wa wb = or_lt 32 a b wa wb
 binary_word binary.BitXor a b wa wb = xor_lt 32 a b wa wb
 binary_word binary.BitAnd a b wa wb = omega (arith, wa, and_le_l a b)
-binary_word binary.Equal a b wa wb = flag_word _
-binary_word binary.NotEqual a b wa wb = flag_word _
-binary_word binary.Less a b wa wb = flag_word _
-binary_word binary.LessUnsigned a b wa wb = flag_word _
-binary_word binary.LessEqual a b wa wb = flag_word _
-binary_word binary.LessEqualUnsigned a b wa wb = flag_word _
 binary_word binary.ShiftLeft a b wa wb = mod-lt (a * 2 ^ (b % 32)) (lit< tt)
 binary_word binary.ShiftRight a b wa wb = signed_down_word a b wa
 binary_word binary.ShiftRightUnsigned a b wa wb = down_word a b wa
@@ -61,6 +53,7 @@ binary_word binary.Divide a b wa wb = quotient_word a b wa wb
 binary_word binary.DivideUnsigned a b wa wb = quotient_unsigned_word a b wa
 binary_word binary.Remainder a b wa wb = rest_word a b wa wb
 binary_word binary.RemainderUnsigned a b wa wb = rest_unsigned_word a b wa
+binary_word _ a b wa wb = flag_word _
 
 region_word : (r : Region) (at : ℕ) (w : World) → HoldsWords w → world.word_at r at w < 2 ^ 32
 region_word region.Scratch at w words = words.scratch at

@@ -13,10 +13,10 @@
 //!
 //! What comes of a task's code is what its tree means, where each load gives what was stored last in its word: so
 //! [`emit`] promises, and [`functions_do_what_they_give`] says it of each function and of its statements.
-//! [`loops_make_all_iterations`] says that the branches and returns of a task's code go where its trail goes on, and [`tasks_ask_for_what_they_name`] which words it may read and store, and
-//! [`tasks_stay_within_the_stack`] that it never leaves the stack: all three whatever is loaded from outside
-//! the stack. Where these want the constants and the counts of a tree to be words, [`code_holds_the_constants`]
-//! says that they are if the constants of its code are.
+//! [`loops_make_all_iterations`] says that the branches and returns of a task's code go where its trail goes on,
+//! [`tasks_ask_for_what_they_name`] which words it may read and store, and [`tasks_stay_within_the_stack`] that it
+//! never leaves the stack: all three whatever is loaded from outside the stack. Where these want the constants and
+//! the counts of a tree to be words, [`code_holds_the_constants`] says that they are if the constants of its code are.
 //!
 //! - `specs/Instructions.antt` has the bundles, `src/registers.rt` which registers they use for what, and
 //!   `specs/Places.antt` where the words of a frame stand: in a window of registers, or in the stack.

@@ -8,7 +8,7 @@ use Rattle.sp_tree.specs.Need.{need, both_need}
 use Rattle.sp_tree.specs.Plain.{PlainSp, constant, frame_word, cell_word, array_word, before_one, between_two}
 use Rattle.sp_tree.specs.Statements.{PlainSpTarget, to_slot, to_cell, to_array, PlainStmt, masks, writes, calls, transfers, overruns, iterations, PlainStmts, no_stmt, stmt, one, joined, PlainFunction, no_function, PlainUnit}
 use Rattle.sp_tree.specs.Uses.{uses_of, are_apart}
-use Rattle.sp_tree.proofs.Forms.{more_stmts, earlier_one}
+use Rattle.sp_tree.proofs.Forms.{FunctionParts, parts_of_function, more_stmts, earlier_one}
 use Rattle.sp_tree.proofs.Joins.{joined_formed}
 use Rattle.sp_inline.specs.Moved.{moved, args_moved, target_moved, result_moved, stmt_moved, stmts_moved}
 use Rattle.sp_inline.specs.Reach.{expr_reach, args_reach, target_reach, result_reach, stmt_reach, stmts_reach, stmt_calls, stmts_calls}
@@ -24,12 +24,10 @@ use Rattle.sp_inline.proofs.Used.{still_apart}
 -- ---- words of a frame from a place on
 
 moved_need : (o : ℕ) (e : PlainSp) → need (moved o e) ≡ need e
-moved_need o (constant n) = refl
-moved_need o (frame_word slot) = refl
-moved_need o (cell_word cell) = refl
 moved_need o (array_word array index) = moved_need o index
 moved_need o (before_one op of) = moved_need o of
 moved_need o (between_two op a b) = ap₂ both_need (moved_need o a) (moved_need o b)
+moved_need o _ = refl
 
 -- over the words from a place on, and others behind them
 record Inside (o slots width : ℕ) : Type 0 where
@@ -190,36 +188,8 @@ given_formed fs number width mask (Some slot) word mask_in h word_in =
     (and_from (nat_lt mask width) _ (lt-ltb mask width mask_in)
     (and_from (nat_lt slot width) _ h (and_from (nat_lt word width) true (lt-ltb word width word_in) refl))) refl
 
--- what is known of a function
-pub record Parts (fs : List PlainFunction) (number : ℕ) (f : PlainFunction) : Type 0 where
-  pub frame : f.frame ≤ 128
-  pub parameters : nat_le f.parameters 6 ≡ true
-  pub before_mask : nat_le f.parameters f.mask ≡ true
-  pub before_result : nat_le f.parameters f.result ≡ true
-  pub mask : f.mask < slots_of f
-  pub result : f.result < slots_of f
-  pub body : stmts_formed fs number (slots_of f) f.body ≡ true
-
-pub parts_of : (fs : List PlainFunction) (number : ℕ) (f : PlainFunction) → function_formed fs number f ≡ true → Parts fs number f
-parts_of fs number f formed =
-    let a = and_parts (nat_le f.frame 128) _ formed in
-    let b = and_parts (nat_le f.parameters 6) _ a.1 in
-    let c = and_parts (nat_le f.parameters f.mask) _ b.1 in
-    let d = and_parts (nat_lt f.mask (slots_of f)) _ c.1 in
-    let e = and_parts (nat_le f.parameters f.result) _ d.1 in
-    let h = and_parts (nat_lt f.result (slots_of f)) (stmts_formed fs number (slots_of f) f.body) e.1 in
-    record {
-      frame = leb-true f.frame 128 a.0;
-      parameters = b.0;
-      before_mask = c.0;
-      before_result = e.0;
-      mask = ltb-true f.mask (slots_of f) d.0;
-      result = ltb-true f.result (slots_of f) h.0;
-      body = h.1;
-    }
-
 -- without the mask that it sets last all of it still is
-short_parts : (fs : List PlainFunction) (number : ℕ) (f : PlainFunction) → Parts fs number f → Parts fs number (shortened f)
+short_parts : (fs : List PlainFunction) (number : ℕ) (f : PlainFunction) → FunctionParts fs number f → FunctionParts fs number (shortened f)
 short_parts fs number f p =
     let same = short_slots f in
     record {
@@ -233,9 +203,10 @@ short_parts fs number f p =
           (short_is (λ xs. stmts_formed fs number (slots_of f) xs ≡ true) f.result f.body p.body
           (λ h. (and_parts (stmts_formed fs number (slots_of f) (front f.body)) _ (sym (joined_formed fs number (slots_of f) (front f.body) (one (masks h.slot h.value)))
           ∙ ap (stmts_formed fs number (slots_of f)) h.is ∙ p.body)).0));
+      room = omega (arith, same, p.mask);
     }
 
-call_formed : (gs : List PlainFunction) (number k o width : ℕ) (f : PlainFunction) (mask : ℕ) (args : List PlainSp) (result : Option ℕ) → k ≤ number → Parts gs k f
+call_formed : (gs : List PlainFunction) (number k o width : ℕ) (f : PlainFunction) (mask : ℕ) (args : List PlainSp) (result : Option ℕ) → k ≤ number → FunctionParts gs k f
     → o + slots_of f ≤ width → mask < o → args_formed o args ≡ true → result_formed width result ≡ true
     → stmts_formed gs number width (call_statements o f mask args result) ≡ true
 call_formed gs number k o width f mask args result below p fits mask_in h into =
@@ -267,12 +238,9 @@ call_words c depth r mask k args result = by (is_taken c depth r k more args)
 
 mutual
   stmt_words : (c : PlainCaller) (depth : ℕ) (r : Room) (t : PlainStmt) → r.words ≤ (stmt_taken c depth r t).room.words
-  stmt_words c depth r (masks slot e) = omega arith
-  stmt_words c depth r (writes mask target e) = omega arith
   stmt_words c depth r (calls mask k args result) = call_words c depth r mask k args result
-  stmt_words c depth r (transfers mask core source target count) = omega arith
-  stmt_words c depth r (overruns mask e) = omega arith
   stmt_words c depth r (iterations count body) = stmts_words c (depth + 1) r body
+  stmt_words c depth r _ = omega arith
 
   stmts_words : (c : PlainCaller) (depth : ℕ) (r : Room) (ts : PlainStmts) → r.words ≤ (stmts_taken c depth r ts).room.words
   stmts_words c depth r no_stmt = omega arith
@@ -285,7 +253,7 @@ kept_formed : (gs : List PlainFunction) (number slots width : ℕ) (t : PlainStm
     → stmts_formed gs number width (one t) ≡ true
 kept_formed gs number slots width t more h = more_stmts gs number slots width (one t) more (and_from (stmt_formed gs number slots t) true h refl)
 
-taken_call_formed : (c : PlainCaller) (fs gs : List PlainFunction) (number : ℕ) → SameCounts number fs gs → ((k : ℕ) → k < number → Parts gs k (callee c k))
+taken_call_formed : (c : PlainCaller) (fs gs : List PlainFunction) (number : ℕ) → SameCounts number fs gs → ((k : ℕ) → k < number → FunctionParts gs k (callee c k))
     → (depth : ℕ) (r : Room) (mask k : ℕ) (args : List PlainSp) (result : Option ℕ) (width : ℕ) → stmt_formed fs number c.words (calls mask k args result) ≡ true
     → c.words ≤ width → (call_taken c depth r mask k args result).room.words ≤ width → stmts_formed gs number width (call_taken c depth r mask k args result).body ≡ true
 taken_call_formed c fs gs number counts each depth r mask k args result width h more fits = by (is_taken c depth r k statements args) fits
@@ -316,22 +284,20 @@ taken_call_formed c fs gs number counts each depth r mask k args result width h 
         (and_from (nat_lt mask c.words) _ p.0 (and_from (callee_formed gs number k (length args)) _ (counted_callee fs gs number k (length args) counts q.0) q.1))
 
 mutual
-  stmt_taken_formed : (c : PlainCaller) (fs gs : List PlainFunction) (number : ℕ) → SameCounts number fs gs → ((k : ℕ) → k < number → Parts gs k (callee c k))
+  stmt_taken_formed : (c : PlainCaller) (fs gs : List PlainFunction) (number : ℕ) → SameCounts number fs gs → ((k : ℕ) → k < number → FunctionParts gs k (callee c k))
       → (depth : ℕ) (r : Room) (t : PlainStmt) (width : ℕ) → stmt_formed fs number c.words t ≡ true → c.words ≤ width
       → (stmt_taken c depth r t).room.words ≤ width → stmts_formed gs number width (stmt_taken c depth r t).body ≡ true
-  stmt_taken_formed c fs gs number counts each depth r (masks slot e) width h more fits = kept_formed gs number c.words width (masks slot e) more h
-  stmt_taken_formed c fs gs number counts each depth r (writes mask target e) width h more fits = kept_formed gs number c.words width (writes mask target e) more h
   stmt_taken_formed c fs gs number counts each depth r (calls mask k args result) width h more fits =
       taken_call_formed c fs gs number counts each depth r mask k args result width h more fits
   stmt_taken_formed c fs gs number counts each depth r (transfers mask core source target count) width h more fits =
       kept_formed gs number c.words width (transfers mask core source target count) more h
-  stmt_taken_formed c fs gs number counts each depth r (overruns mask e) width h more fits = kept_formed gs number c.words width (overruns mask e) more h
   stmt_taken_formed c fs gs number counts each depth r (iterations count body) width h more fits =
       let p = and_parts (nat_lt 0 count) (stmts_formed fs number c.words body) h in
       and_from (stmt_formed gs number width (iterations count (stmts_taken c (depth + 1) r body).body)) true
       (and_from (nat_lt 0 count) _ p.0 (stmts_taken_formed c fs gs number counts each (depth + 1) r body width p.1 more fits)) refl
+  stmt_taken_formed c fs gs number counts each depth r other width h more fits = kept_formed gs number c.words width other more h
 
-  stmts_taken_formed : (c : PlainCaller) (fs gs : List PlainFunction) (number : ℕ) → SameCounts number fs gs → ((k : ℕ) → k < number → Parts gs k (callee c k))
+  stmts_taken_formed : (c : PlainCaller) (fs gs : List PlainFunction) (number : ℕ) → SameCounts number fs gs → ((k : ℕ) → k < number → FunctionParts gs k (callee c k))
       → (depth : ℕ) (r : Room) (ts : PlainStmts) (width : ℕ) → stmts_formed fs number c.words ts ≡ true → c.words ≤ width
       → (stmts_taken c depth r ts).room.words ≤ width → stmts_formed gs number width (stmts_taken c depth r ts).body ≡ true
   stmts_taken_formed c fs gs number counts each depth r no_stmt width h more fits = refl
@@ -351,10 +317,10 @@ pub record Roomy (frames : List ℕ) (fs : List PlainFunction) (number : ℕ) : 
   pub small : (k : ℕ) → k < number → slice_index frames k ≤ 128
 
 grown_formed : (before fs gs : List PlainFunction) (number most frame : ℕ) (f : PlainFunction) → SameCounts number fs gs
-    → ((k : ℕ) → k < number → Parts gs k (slice_index_or before k no_function)) → f.frame ≤ frame → frame ≤ 128 → function_formed fs number f ≡ true
+    → ((k : ℕ) → k < number → FunctionParts gs k (slice_index_or before k no_function)) → f.frame ≤ frame → frame ≤ 128 → function_formed fs number f ≡ true
     → function_formed gs number (grown f (body_taken before most frame f)) ≡ true
 grown_formed before fs gs number most frame f counts each within small formed =
-    let p = parts_of fs number f formed in
+    let p = parts_of_function fs number f formed in
     let k = function_kept before most frame f p.mask in
     let g = grown f (body_taken before most frame f) in
     let kept_frame = k.frame within in
@@ -363,10 +329,10 @@ grown_formed before fs gs number most frame f counts each within small formed =
     let mask = p.mask in
     let result = p.result in
     and_from (nat_le g.frame 128) _ (le-leb g.frame 128 (omega (arith, kept_frame, small)))
-    (and_from (nat_le f.parameters 6) _ p.parameters
-    (and_from (nat_le f.parameters f.mask) _ p.before_mask
+    (and_from (nat_le f.parameters 6) _ (le-leb f.parameters 6 p.parameters)
+    (and_from (nat_le f.parameters f.mask) _ (le-leb f.parameters f.mask p.before_mask)
     (and_from (nat_lt f.mask (slots_of g)) _ (lt-ltb f.mask (slots_of g) (omega (arith, mask, words, more)))
-    (and_from (nat_le f.parameters f.result) _ p.before_result
+    (and_from (nat_le f.parameters f.result) _ (le-leb f.parameters f.result p.before_result)
     (and_from (nat_lt f.result (slots_of g)) _ (lt-ltb f.result (slots_of g) (omega (arith, result, words, more)))
     (stmts_taken_formed (record { functions = before; words = slots_of f; frame = frame }) fs gs number counts each 0 _ f.body (slots_of g) p.body
     (omega (arith, words, more)) (omega (arith, words))))))))
@@ -448,7 +414,7 @@ mutual
 
 formed_whole : (fs : List PlainFunction) (number : ℕ) (f : PlainFunction) → function_formed fs number f ≡ true → is_whole number f ≡ true
 formed_whole fs number f h =
-    let p = parts_of fs number f h in
+    let p = parts_of_function fs number f h in
     let named = formed_stmts fs number (slots_of f) f.body p.body in
     and_from (nat_lt f.result (slots_of f)) _ (lt-ltb f.result (slots_of f) p.result)
     (and_from (nat_le (stmts_reach f.body) (slots_of f)) _ (le-leb (stmts_reach f.body) (slots_of f) named.0)
@@ -494,8 +460,8 @@ taken_formed most frames fs all (suc n) within roomy formed =
           same = λ k below. ap (λ f. f.parameters) (first_at most frames fs all k (omega (arith, below, within)))
               ∙ same_parameters (first_taken most frames fs k) (slice_index most k) (slice_index frames k) (slice_index_or fs k no_function);
         })
-        (λ k below. subst (Parts gs k) (sym (first_before most frames fs n all k below (omega (arith, below, within))))
-        (parts_of gs k (slice_index_or gs k no_function) (earlier_one gs k n below earlier)))
+        (λ k below. subst (FunctionParts gs k) (sym (first_before most frames fs n all k below (omega (arith, below, within))))
+        (parts_of_function gs k (slice_index_or gs k no_function) (earlier_one gs k n below earlier)))
         (roomy.within n (omega arith)) (roomy.small n (omega arith)) own)
 
 -- ---- units
@@ -542,7 +508,7 @@ limited most frames u k formed below =
     let f = slice_index_or fs k no_function in
     let each = (and_parts (functions_formed fs all) _ (and_parts (nat_le all 512) _ formed).1).0 in
     let own = earlier_one fs k all below each in
-    let kept = function_kept before (slice_index most k) (slice_index frames k) f (parts_of fs k f own).mask in
+    let kept = function_kept before (slice_index most k) (slice_index frames k) f (parts_of_function fs k f own).mask in
     let is = first_at most frames fs all k below
     ∙ taken_grown before fs k (slice_index most k) (slice_index frames k) f (first_length most frames fs k) own in
     record {

@@ -26,21 +26,15 @@ use Rattle.sp_tree.specs.MaskTests.{tests_mask}
 
 moved_held : (o : ℕ) (op : SpBinary) (e : PlainSp) → is_held op (moved o e) ≡ is_held op e
 moved_held o op (constant n) = refl
-moved_held o op (frame_word slot) = refl
-moved_held o op (cell_word cell) = refl
-moved_held o op (array_word array index) = refl
-moved_held o op (before_one inner of) = refl
-moved_held o op (between_two inner a b) = refl
+moved_held o op _ = refl
 
 moved_cost : (o : ℕ) (e : PlainSp) → expr_cost (moved o e) ≡ expr_cost e
-moved_cost o (constant n) = refl
-moved_cost o (frame_word slot) = refl
-moved_cost o (cell_word cell) = refl
 moved_cost o (array_word array index) = ap (λ n. 12 + n) (moved_cost o index)
 moved_cost o (before_one op of) = ap (λ n. unary_cost op + n) (moved_cost o of)
 moved_cost o (between_two op a b) =
     ap₂ (λ m n. binary_cost op + m + n) (moved_cost o a)
     (ap₂ (λ (held : Bool) n. if held then 0 else n) (moved_held o op b) (moved_cost o b))
+moved_cost o _ = refl
 
 moved_args_cost : (o : ℕ) (args : List PlainSp) → args_cost (args_moved o args) ≡ args_cost args
 moved_args_cost o [] = refl

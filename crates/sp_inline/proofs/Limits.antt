@@ -18,12 +18,8 @@ use Rattle.sp_tree.specs.MaskTests.{tests_mask}
 
 mutual
   moved_level : (o : ℕ) (t : PlainStmt) → stmt_levels (stmt_moved o t) ≡ stmt_levels t
-  moved_level o (masks slot e) = refl
-  moved_level o (writes mask target e) = refl
-  moved_level o (calls mask k args result) = refl
-  moved_level o (transfers mask core source target count) = refl
-  moved_level o (overruns mask e) = refl
   moved_level o (iterations count body) = ap (λ n. 1 + n) (moved_levels o body)
+  moved_level o _ = refl
 
   pub moved_levels : (o : ℕ) (ts : PlainStmts) → stmts_levels (stmts_moved o ts) ≡ stmts_levels ts
   moved_levels o no_stmt = refl
@@ -102,12 +98,9 @@ call_within c depth r mask k args result above = by (is_taken c depth r k more a
 
 mutual
   pub stmt_within : (c : PlainCaller) (depth : ℕ) (r : Room) (t : PlainStmt) → depth + stmt_levels t ≤ r.levels → Within c depth r (stmt_cost t) (stmt_taken c depth r t)
-  stmt_within c depth r (masks slot e) above = kept_within c depth r (masks slot e) refl (omega (arith, above))
-  stmt_within c depth r (writes mask target e) above = kept_within c depth r (writes mask target e) refl (omega (arith, above))
   stmt_within c depth r (calls mask k args result) above = call_within c depth r mask k args result (omega (arith, above))
   stmt_within c depth r (transfers mask core source target count) above =
       kept_within c depth r (transfers mask core source target count) refl (omega (arith, above))
-  stmt_within c depth r (overruns mask e) above = kept_within c depth r (overruns mask e) refl (omega (arith, above))
   stmt_within c depth r (iterations count body) above =
       let h = stmts_within c (depth + 1) r body (omega (arith, above)) in
       record {
@@ -117,6 +110,7 @@ mutual
         inside = omega (arith, h.inside);
         frame = h.frame;
       }
+  stmt_within c depth r other above = kept_within c depth r other refl (omega (arith, above))
 
   pub stmts_within : (c : PlainCaller) (depth : ℕ) (r : Room) (ts : PlainStmts) → depth + stmts_levels ts ≤ r.levels → Within c depth r (stmts_cost ts) (stmts_taken c depth r ts)
   stmts_within c depth r no_stmt above = record { cost = omega arith; words = omega arith; levels = omega arith; inside = above; frame = omega arith }

@@ -30,10 +30,7 @@ lone result (masks slot e) is = record { slot = slot; value = e; other = eqb-fal
     denied true is = absurd (true≢false (sym is))
     denied false is = refl
 lone result (writes mask target e) is = absurd (true≢false (sym is))
-lone result (calls mask k args given) is = absurd (true≢false (sym is))
-lone result (transfers mask core source target count) is = absurd (true≢false (sym is))
-lone result (overruns mask e) is = absurd (true≢false (sym is))
-lone result (iterations count body) is = absurd (true≢false (sym is))
+lone result _ is = absurd (true≢false (sym is))
 
 pub split : (result : ℕ) (t : PlainStmt) (rest : PlainStmts) → ends_so result (is_other_mask result t) rest ≡ true → Split result (stmt t rest)
 split result t no_stmt is = lone result t is

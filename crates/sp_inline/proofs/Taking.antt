@@ -247,17 +247,13 @@ mutual
   pub stmt_taken_alike : (c : PlainCaller) (g old : Serves) → Served c g old → (depth : ℕ) (r : Room) (t : PlainStmt) (s u : State)
       → stmt_reach t ≤ c.words → Alike c.words s u → Alike c.words (stmts_done g (stmt_taken c depth r t).body s) (stmt_done old t u)
   stmt_taken_alike c g old served depth r (masks slot e) s u within a = stmt_alike 0 g old (no_calls g old) c.words (masks slot e) s u within (omega arith) a
-  stmt_taken_alike c g old served depth r (writes mask target e) s u within a =
-      stmt_alike 0 g old (no_calls g old) c.words (writes mask target e) s u within (omega arith) a
   stmt_taken_alike c g old served depth r (calls mask k args result) s u within a =
       call_by c g old served depth r mask k args result s u (omega (arith, within)) (omega (arith, within)) a
-  stmt_taken_alike c g old served depth r (transfers mask core source target count) s u within a =
-      stmt_alike 0 g old (no_calls g old) c.words (transfers mask core source target count) s u within (omega arith) a
-  stmt_taken_alike c g old served depth r (overruns mask e) s u within a =
-      stmt_alike 0 g old (no_calls g old) c.words (overruns mask e) s u within (omega arith) a
   stmt_taken_alike c g old served depth r (iterations count body) s u within a =
       times_alike c.words (stmts_done g (stmts_taken c (depth + 1) r body).body) (stmts_done old body)
       (λ x y b. stmts_taken_alike c g old served (depth + 1) r body x y within b) count s u a
+  stmt_taken_alike c g old served depth r other s u within a =
+      stmt_alike 0 g old (no_calls g old) c.words other s u within (omega arith) a
 
   pub stmts_taken_alike : (c : PlainCaller) (g old : Serves) → Served c g old → (depth : ℕ) (r : Room) (ts : PlainStmts) (s u : State)
       → stmts_reach ts ≤ c.words → Alike c.words s u → Alike c.words (stmts_done g (stmts_taken c depth r ts).body s) (stmts_done old ts u)

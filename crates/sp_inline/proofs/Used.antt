@@ -19,12 +19,10 @@ use Rattle.sp_tree.specs.MaskTests.{tests_mask}
 -- ---- words of a frame from a place on
 
 moved_expr : (o : ℕ) (e : PlainSp) → expr_uses (moved o e) ≡ expr_uses e
-moved_expr o (constant n) = refl
-moved_expr o (frame_word slot) = refl
-moved_expr o (cell_word cell) = refl
 moved_expr o (array_word array index) = ap (λ us. reads_array array ∷ us) (moved_expr o index)
 moved_expr o (before_one op of) = moved_expr o of
 moved_expr o (between_two op a b) = ap₂ (λ us vs. us ++ vs) (moved_expr o a) (moved_expr o b)
+moved_expr o _ = refl
 
 moved_args : (o : ℕ) (args : List PlainSp) → args_uses (args_moved o args) ≡ args_uses args
 moved_args o [] = refl
@@ -185,10 +183,8 @@ still_apart most frames u h =
 
     one : (x : Use) → use_apart (uses_of u) x ≡ true → use_apart now x ≡ true
     one (reads_cell c) is = cell c is
-    one (reads_array a) is = refl
     one (writes_cell c) is = cell c is
-    one (writes_array a) is = refl
-    one (sends_to core) is = refl
+    one _ is = refl
 
 pub all_uses : (q : Use → Bool) (most frames : List ℕ) (u : PlainUnit) → list_all q (uses_of u) ≡ true → list_all q (uses_of (unit_taken most frames u)) ≡ true
 all_uses q most frames u h = each_all q (uses_of (unit_taken most frames u)) (uses_each (λ x. q x ≡ true) most frames u (all_each q (uses_of u) h))

@@ -36,12 +36,10 @@ put_window o slot v f = λ i x. cond (same_place o slot x i) v (f (o + x))
 -- ---- expressions
 
 pub moved_value : (o : ℕ) (e : PlainSp) (f : ℕ → ℕ) (w : World) → sp_value f w (moved o e) ≡ sp_value (λ x. f (o + x)) w e
-moved_value o (constant n) f w = refl
-moved_value o (frame_word slot) f w = refl
-moved_value o (cell_word cell) f w = refl
 moved_value o (array_word array index) f w = ap (λ i. array_value array i w) (moved_value o index f w)
 moved_value o (before_one op of) f w = ap (unary_value op) (moved_value o of f w)
 moved_value o (between_two op a b) f w = ap₂ (binary_value op) (moved_value o a f w) (moved_value o b f w)
+moved_value o _ f w = refl
 
 moved_worth : (o : ℕ) (e : PlainSp) (s : State) → worth (moved o e) s ≡ worth e (window o s)
 moved_worth o e s = moved_value o e s.frame s.world

@@ -25,7 +25,5 @@ each_formed fs k (suc n) below h =
 
 -- a part before those of a function
 pub function_then : (n : ℕ) (p : PlainPart) (rest : PlainParts) → part_formed n p ≡ true → function_formed n rest ≡ true → function_formed n (part p rest) ≡ true
-function_then n (straight bs) rest hp h = and_from (part_formed n (straight bs)) (function_formed n rest) hp h
-function_then n (repeats count body tail) rest hp h = and_from (part_formed n (repeats count body tail)) (function_formed n rest) hp h
-function_then n (calls_to k tail) rest hp h = and_from (part_formed n (calls_to k tail)) (function_formed n rest) hp h
 function_then n (leaves tail) rest hp h = absurd (true≢false (sym hp))
+function_then n other rest hp h = and_from (part_formed n other) (function_formed n rest) hp h

@@ -35,9 +35,7 @@ writes_fit ws p regs fits = record {
 
 pub stored_regs : (space : Mem) (width : StoreWidth) (address value : ℕ) (m : Run) → (stored space width address value m).regs ≡ m.regs
 stored_regs mem.S width address value m = refl
-stored_regs mem.L width address value m = refl
-stored_regs mem.C width address value m = refl
-stored_regs mem.M width address value m = refl
+stored_regs _ width address value m = refl
 
 pub stacked_regs : (func : StackFunc) (count : ℕ) (m : Run) → (stacked func count m).regs ≡ m.regs
 stacked_regs Sres count m = refl

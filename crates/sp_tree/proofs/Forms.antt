@@ -9,7 +9,7 @@ use Rattle.sp_tree.specs.declared.statements.SpFunction.{SpFunction}
 use Rattle.sp_tree.specs.declared.statements.SpStmt.{SpStmt, Mask, Write, Call}
 use Rattle.sp_tree.specs.declared.statements.SpStmt.TheViews.{Iterations}
 use Rattle.sp_tree.specs.declared.statements.SpStmt.TheBlock.{hidden-the_row-SpStmt-0}
-use Rattle.sp_tree.specs.Formed.{names_words, expr_formed, args_formed, target_formed, result_formed, callee_formed, send_formed, stmt_formed, stmts_formed, slots_of, function_formed, functions_formed, array_formed}
+use Rattle.sp_tree.specs.Formed.{names_words, expr_formed, args_formed, target_formed, result_formed, callee_formed, send_formed, stmt_formed, stmts_formed, stmts_levels, slots_of, function_formed, functions_formed, array_formed}
 use Rattle.sp_tree.specs.Need.{need}
 use Rattle.sp_tree.specs.Plain.{PlainSp, constant, frame_word, cell_word, array_word, before_one, between_two, plain_sp}
 use Rattle.sp_tree.specs.Shown.{plain_stmt, plain_row, plain_sp_target, stmts_of, plain_function, functions_of}
@@ -193,42 +193,54 @@ earlier_ones fs k (suc n) below h =
       | inr more ↦ let same : k ≡ suc n = omega arith in ap (functions_formed fs) same ∙ h
     ]
 
--- what is known of a function
+-- what is well formed of a function, part by part
+pub record FunctionParts (fs : List PlainFunction) (number : ℕ) (f : PlainFunction) : Type 0 where
+  pub frame : f.frame ≤ 128
+  pub parameters : f.parameters ≤ 6
+  pub before_mask : f.parameters ≤ f.mask
+  pub mask : f.mask < slots_of f
+  pub before_result : f.parameters ≤ f.result
+  pub result : f.result < slots_of f
+  pub body : stmts_formed fs number (slots_of f) f.body ≡ true
+  pub room : slots_of f + stmts_levels f.body + 2 ≡ f.frame
+
+pub parts_of_function : (fs : List PlainFunction) (number : ℕ) (f : PlainFunction) → function_formed fs number f ≡ true → FunctionParts fs number f
+parts_of_function fs number f formed =
+    let a = and_parts (nat_le f.frame 128) _ formed in
+    let b = and_parts (nat_le f.parameters 6) _ a.1 in
+    let c = and_parts (nat_le f.parameters f.mask) _ b.1 in
+    let d = and_parts (nat_lt f.mask (slots_of f)) _ c.1 in
+    let e = and_parts (nat_le f.parameters f.result) _ d.1 in
+    let g = and_parts (nat_lt f.result (slots_of f)) (stmts_formed fs number (slots_of f) f.body) e.1 in
+    let mask = ltb-true f.mask (slots_of f) d.0 in
+    record {
+      frame = leb-true f.frame 128 a.0;
+      parameters = leb-true f.parameters 6 b.0;
+      before_mask = leb-true f.parameters f.mask c.0;
+      mask = mask;
+      before_result = leb-true f.parameters f.result e.0;
+      result = ltb-true f.result (slots_of f) g.0;
+      body = g.1;
+      room = omega (arith, mask);
+    }
+
+-- and what of that holds with as many words as any frame has
 pub record FunctionFormed (fs : List PlainFunction) (number : ℕ) (f : PlainFunction) : Type 0 where
   pub few : f.parameters ≤ 6
   pub mask : f.mask < 128
   pub body : stmts_formed fs number 128 f.body ≡ true
 
-function_parts : (fs : List PlainFunction) (number : ℕ) (f : PlainFunction) → function_formed fs number f ≡ true → FunctionFormed fs number f
-function_parts fs number f h =
-    let g5 = nat_lt f.result (slots_of f) && stmts_formed fs number (slots_of f) f.body in
-    let g4 = nat_le f.parameters f.result && g5 in
-    let g3 = nat_lt f.mask (slots_of f) && g4 in
-    let g2 = nat_le f.parameters f.mask && g3 in
-    let g1 = nat_le f.parameters 6 && g2 in
-    let a = and_parts (nat_le f.frame 128) g1 h in
-    let b = and_parts (nat_le f.parameters 6) g2 a.1 in
-    let c = and_parts (nat_le f.parameters f.mask) g3 b.1 in
-    let d = and_parts (nat_lt f.mask (slots_of f)) g4 c.1 in
-    let e = and_parts (nat_le f.parameters f.result) g5 d.1 in
-    let k = and_parts (nat_lt f.result (slots_of f)) (stmts_formed fs number (slots_of f) f.body) e.1 in
-    let frame = leb-true f.frame 128 a.0 in
-    let own = ltb-true f.mask (slots_of f) d.0 in
-    record {
-      few = leb-true f.parameters 6 b.0;
-      mask = omega (arith, frame, own);
-      body = more_stmts fs number (slots_of f) 128 f.body (omega (arith, frame)) k.1;
-    }
+in_any_frame : {fs : List PlainFunction} {number : ℕ} {f : PlainFunction} → FunctionParts fs number f → FunctionFormed fs number f
+in_any_frame {fs} {number} {f} p = record { few = p.parameters; mask = omega (arith, p.frame, p.mask); body = more_stmts fs number (slots_of f) 128 f.body (omega (arith, p.frame)) p.body }
 
 pub known_function : (functions : List SpFunction) (k n : ℕ) (f : SpFunction) → k < n → k < length functions → f ≡ get_or functions k f
     → functions_formed (functions_of functions) n ≡ true → FunctionFormed (functions_of functions) k (plain_function f)
 known_function functions k n f below within is h =
-    function_parts (functions_of functions) k (plain_function f)
-    (ap (function_formed (functions_of functions) k) (sym (function_at functions k f within is)) ∙ earlier_one (functions_of functions) k n below h)
+    in_any_frame (parts_of_function (functions_of functions) k (plain_function f) (ap (function_formed (functions_of functions) k) (sym (function_at functions k f within is)) ∙ earlier_one (functions_of functions) k n below h))
 
 -- as many arguments as an earlier function has parameters are few
 pub few_arguments : (fs : List PlainFunction) (k n : ℕ) → k < n → functions_formed fs n ≡ true → (slice_index_or fs k no_function).parameters ≤ 6
-few_arguments fs k n below h = (function_parts fs k (slice_index_or fs k no_function) (earlier_one fs k n below h)).few
+few_arguments fs k n below h = (parts_of_function fs k (slice_index_or fs k no_function) (earlier_one fs k n below h)).parameters
 
 -- ---- a call goes to something smaller
 

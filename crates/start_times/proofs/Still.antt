@@ -24,27 +24,16 @@ use Rattle.start_times.specs.Later.{IsSameCore}
 
 module _ (site other : Site) (cores : other.cores ≡ site.cores) (core : other.core ≡ site.core) where
   storable_still : (m : Memory) (value : ℕ) (c : Option Cell) → IsLocalStorable site m value c → IsLocalStorable other m value c
-  storable_still m value None h = h
-  storable_still m value (Some (cell.Scratch word)) h = h
-  storable_still m value (Some (cell.Comm word)) h = h
   storable_still m value (Some (cell.Port target register)) h =
       let same : is_other other target ≡ is_other site target = λ i. nat_lt target (cores i) && not (target == core i) in
       (h.0, (same ∙ h.1.0, h.1.1))
-  storable_still m value (Some (cell.Private word)) h = h
-  storable_still m value (Some (cell.Shared word)) h = h
+  storable_still m value _ h = h
 
   sound_still : (e : Effect) (p : Pointers) (m : Memory) → IsSound site e p m → IsSound other e p m
-  sound_still effect.Nothing p m h = h
-  sound_still (effect.Flow kind) p m h = h
   sound_still (effect.Load mem.S width rd address) p m h = h
-  sound_still (effect.Load mem.L width rd address) p m h = h
-  sound_still (effect.Load mem.C width rd address) p m h = h
-  sound_still (effect.Load mem.M width rd address) p m h = h
-  sound_still (effect.Store mem.S width address value) p m h = h
+  sound_still (effect.Load _ width rd address) p m h = h
   sound_still (effect.Store mem.L width address value) p m h = (h.0, h.1, storable_still m value (cell_of mem.L address) h.2)
-  sound_still (effect.Store mem.C width address value) p m h = h
-  sound_still (effect.Store mem.M width address value) p m h = h
-  sound_still (effect.StackOp func count) p m h = h
+  sound_still _ p m h = h
 
   all_still : (from : Sources) (steps : List Step) (m : Run) → AreSound site from steps m → AreSound other from steps m
   all_still from [] m h = h

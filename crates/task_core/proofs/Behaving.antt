@@ -236,14 +236,9 @@ module _ (Named : Use → Type 0) where
 -- ---- addresses
 
 cached_by : (e : Effect) (rest : List Effect) → cached_in e ++ cached_addresses rest ≡ cached_addresses (asked_of e ++ rest)
-cached_by effect.Nothing rest = refl
-cached_by (effect.Flow flow) rest = refl
 cached_by (effect.Load mem.S width rd address) rest = refl
-cached_by (effect.Load mem.L width rd address) rest = refl
-cached_by (effect.Load mem.C width rd address) rest = refl
-cached_by (effect.Load mem.M width rd address) rest = refl
-cached_by (effect.Store space width address value) rest = refl
-cached_by (effect.StackOp func count) rest = refl
+cached_by (effect.Load _ width rd address) rest = refl
+cached_by _ rest = refl
 
 addresses_of : (from : Sources) (steps : List Step) (m : Run) → addresses_in from steps m ≡ cached_addresses (asks_in from steps m)
 addresses_of from [] m = refl

@@ -43,16 +43,12 @@ StartIn [] k = Unit {0}
 StartIn (e ∷ es) k = StartsWell e k × StartIn es (stored_in e k)
 
 effected_memory : (from : Sources) (e : Effect) (m : Run) → (effected from e m).memory ≡ stored_in e m.memory
-effected_memory from effect.Nothing m = refl
-effected_memory from (effect.Flow flow) m = refl
-effected_memory from (effect.Load space width rd address) m = refl
 effected_memory from (effect.Store mem.S width address value) m = refl
-effected_memory from (effect.Store mem.L width address value) m = refl
-effected_memory from (effect.Store mem.C width address value) m = refl
-effected_memory from (effect.Store mem.M width address value) m = refl
+effected_memory from (effect.Store _ width address value) m = refl
 effected_memory from (effect.StackOp Sres count) m = refl
 effected_memory from (effect.StackOp Sens count) m = refl
 effected_memory from (effect.StackOp Sfree count) m = refl
+effected_memory from _ m = refl
 
 -- ---- a trail that is read at once
 
@@ -94,9 +90,7 @@ sends_alike m core count h =
 module _ (Named : Use → Type 0) (site : Site) (others : (core : ℕ) → Named (sends_to core) → (core < 16) × ((core < site.cores) × (core ≡ site.core → ⊥))) where
   cell_sends : (k : Memory) (value : ℕ) (r : Region) (word : ℕ) → MaySendAt site k value (Some (cell_in r word))
   cell_sends k value region.Scratch word = tt
-  cell_sends k value region.Comm word = tt
-  cell_sends k value region.Private word = tt
-  cell_sends k value region.Shared word = tt
+  cell_sends k value _ word = tt
 
   no_local : (mem.L ≡ mem.C) ⊎ (mem.L ≡ mem.M) → ⊥
   no_local (inl is) = cc
@@ -132,12 +126,8 @@ module _ (Named : Use → Type 0) (site : Site) (others : (core : ℕ) → Named
   first_sends : (e : Effect) (k : Memory) (rest : List Effect) → Each (MayAsk Named) (asked_of e ++ rest) → StartIn (asked_of e ++ rest) k → First e k rest
   first_sends effect.Nothing k rest may starts = record { sends = tt; may = may; more = starts }
   first_sends (effect.Flow flow) k rest may starts = record { sends = tt; may = may; more = starts }
-  first_sends (effect.Load space width rd address) k rest may starts = record { sends = tt; may = may.1; more = starts.1 }
-  first_sends (effect.Store mem.S width address value) k rest may starts = record { sends = tt; may = may.1; more = starts.1 }
   first_sends (effect.Store mem.L width address value) k rest may starts = record { sends = store_sends k value address may.0.1 starts.0; may = may.1; more = starts.1 }
-  first_sends (effect.Store mem.C width address value) k rest may starts = record { sends = tt; may = may.1; more = starts.1 }
-  first_sends (effect.Store mem.M width address value) k rest may starts = record { sends = tt; may = may.1; more = starts.1 }
-  first_sends (effect.StackOp func count) k rest may starts = record { sends = tt; may = may.1; more = starts.1 }
+  first_sends _ k rest may starts = record { sends = tt; may = may.1; more = starts.1 }
 
   pub all_send : (from : Sources) (steps : List Step) (m : Run) → Each (MayAsk Named) (asks_in from steps m) → StartIn (asks_in from steps m) m.memory → AllSend site from steps m
   all_send from [] m may starts = tt

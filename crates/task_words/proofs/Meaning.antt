@@ -103,10 +103,8 @@ module _ (u : PlainUnit) (apart_uses : are_apart (uses_of u) ≡ true) where
   cached_stored_low address (inr (inr (inr v))) = absurd (let e : mem.C ≡ mem.L = v.2.space_is in cc)
 
   below_cell : (r : Region) (word : ℕ) → word < room_in r all_rooms → IsBelow (Some (cell_in r word))
-  below_cell region.Scratch word within = tt
-  below_cell region.Comm word within = tt
   below_cell region.Private word within = within
-  below_cell region.Shared word within = tt
+  below_cell _ word within = tt
 
   main_below : (address : ℕ) → IsReadPlace Named mem.M address → IsBelow (cell_of mem.M address)
   main_below address (inl v) =
@@ -128,10 +126,8 @@ module _ (u : PlainUnit) (apart_uses : are_apart (uses_of u) ≡ true) where
       cached_apart (uses_of u) load.Word 0 store.Word 0 address apart_uses (refl, subst (IsReadPlace Named mem.C) is cached) (refl, stored)
 
   uncached_cell : (r : Region) (word address : ℕ) → address ≡ address_of r word → IsStoredPlace Named mem.M address → IsUncached Cached (Some (cell_in r word))
-  uncached_cell region.Scratch word address at stored = tt
-  uncached_cell region.Comm word address at stored = tt
   uncached_cell region.Private word address at stored = λ other cached same. other_word address other stored cached (omega (arith, at, same))
-  uncached_cell region.Shared word address at stored = tt
+  uncached_cell _ word address at stored = tt
 
   main_uncached : (address : ℕ) → IsStoredPlace Named mem.M address → IsUncached Cached (cell_of mem.M address)
   main_uncached address (inl v) =
@@ -149,17 +145,11 @@ module _ (u : PlainUnit) (apart_uses : are_apart (uses_of u) ≡ true) where
   main_uncached address (inr (inr (inr v))) = absurd (let e : mem.M ≡ mem.L = v.2.space_is in cc)
 
   pub apart_ask : (e : Effect) → MayAsk Named e → KeepsApart Cached e
-  apart_ask effect.Nothing may = tt
-  apart_ask (effect.Flow flow) may = tt
-  apart_ask (effect.Load mem.S width rd address) may = tt
-  apart_ask (effect.Load mem.L width rd address) may = tt
   apart_ask (effect.Load mem.C width rd address) may = may.1
   apart_ask (effect.Load mem.M width rd address) may = main_below address may.1
-  apart_ask (effect.Store mem.S width address value) may = tt
-  apart_ask (effect.Store mem.L width address value) may = tt
   apart_ask (effect.Store mem.C width address value) may = cached_stored_low address may.1
   apart_ask (effect.Store mem.M width address value) may = main_uncached address may.1
-  apart_ask (effect.StackOp func count) may = tt
+  apart_ask _ may = tt
 
   -- each bundle of a trail
   pub all_apart : (from : Sources) (steps : List Step) (m : Run) → Each (MayAsk Named) (asks_in from steps m) → AllApart Cached from steps m

@@ -14,9 +14,7 @@ module _ (Asks Passes : Effect → Type 0) (each : (e : Effect) → Asks e → P
   pass_first : (e : Effect) (rest : List Effect) → Each Asks (asked_of e ++ rest) → Passes e × Each Asks rest
   pass_first effect.Nothing rest may = (nothing, may)
   pass_first (effect.Flow kind) rest may = (flow kind, may)
-  pass_first (effect.Load space width rd address) rest may = (each (effect.Load space width rd address) may.0, may.1)
-  pass_first (effect.Store space width address value) rest may = (each (effect.Store space width address value) may.0, may.1)
-  pass_first (effect.StackOp func count) rest may = (each (effect.StackOp func count) may.0, may.1)
+  pass_first other rest may = (each other may.0, may.1)
 
   pub all_pass : (from : Sources) (steps : List Step) (m : Run) → Each Asks (asks_in from steps m) → AllPass Passes from steps m
   all_pass from [] m may = tt

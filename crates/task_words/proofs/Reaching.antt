@@ -50,9 +50,7 @@ module _ (Named : Use → Type 0) (few : (core : ℕ) → Named (sends_to core) 
   -- word 0 of a memory is no word that others reach
   nothing_read : (r : Region) → MayLoadCell Load Store To core (cell_of (array_space r) 0)
   nothing_read region.Scratch = tt
-  nothing_read region.Comm = tt
-  nothing_read region.Private = tt
-  nothing_read region.Shared = tt
+  nothing_read _ = tt
 
   read_place : (space : Mem) (address : ℕ) → IsReadPlace Named space address → MayLoadCell Load Store To core (cell_of space address)
   read_place space address (inl v) =
@@ -92,17 +90,13 @@ module _ (Named : Use → Type 0) (few : (core : ℕ) → Named (sends_to core) 
       subst (MayStoreCell Load Store To core) (sym (ap (λ s. cell_of s address) v.2.space_is ∙ there)) v.1
 
   reach_ask : (e : Effect) → MayAsk Named e → MayReach Load Store To core e
-  reach_ask effect.Nothing may = tt
-  reach_ask (effect.Flow flow) may = tt
-  reach_ask (effect.Load mem.S width rd address) may = tt
   reach_ask (effect.Load mem.L width rd address) may = read_place mem.L address may.1
   reach_ask (effect.Load mem.C width rd address) may = read_place mem.C address may.1
   reach_ask (effect.Load mem.M width rd address) may = read_place mem.M address may.1
-  reach_ask (effect.Store mem.S width address value) may = tt
   reach_ask (effect.Store mem.L width address value) may = stored_place mem.L address may.1
   reach_ask (effect.Store mem.C width address value) may = stored_place mem.C address may.1
   reach_ask (effect.Store mem.M width address value) may = stored_place mem.M address may.1
-  reach_ask (effect.StackOp func count) may = tt
+  reach_ask _ may = tt
 
   pub all_reach : (from : Sources) (steps : List Step) (m : Run) → Each (MayAsk Named) (asks_in from steps m) → AllReach Load Store To core from steps m
   all_reach = all_pass (MayAsk Named) (MayReach Load Store To core) reach_ask tt (λ kind. tt)

@@ -9,10 +9,8 @@ use Rattle.sp_shape.specs.declared.parts.Part.TheViews.{Repeat}
 
 abbrev mutual
   pub part_size : PlainPart → ℕ
-  part_size (straight bs) = 1
   part_size (repeats count body tail) = 1 + parts_size body
-  part_size (calls_to k tail) = 1
-  part_size (leaves tail) = 1
+  part_size _ = 1
 
   pub parts_size : PlainParts → ℕ
   parts_size no_part = 0

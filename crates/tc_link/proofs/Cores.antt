@@ -19,9 +19,7 @@ use Rattle.tc_link.specs.Walk.{Walk, is_place, gone, bundle_done, IsAlone, IsAs}
 
 pub placed_alike : (to : Goal) (x : Plain) → model.is_placed to x ≡ is_place x.site.image x.base to
 placed_alike (goal.Within offset) x = refl
-placed_alike (goal.Call target) x = refl
-placed_alike (goal.Fill target) x = refl
-placed_alike (goal.Return base offset) x = refl
+placed_alike _ x = refl
 
 pub gone_alike : (to : Goal) (c : Core) (w : Walk) → IsAs w c.plain → IsAs (gone to w) (model.gone to c).plain
 gone_alike (goal.Within offset) c w at = record { regs = at.regs; base = at.base; offset = refl; flow = refl }

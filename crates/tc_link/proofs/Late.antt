@@ -49,15 +49,11 @@ calm_asks offset b regs calm = asks_none offset regs (holds regs b.first.guard) 
 
 stored_backs : (space : Mem) (width : StoreWidth) (address value : ℕ) (m : Run) → (stored space width address value m).backs ≡ m.backs
 stored_backs mem.S width address value m = refl
-stored_backs mem.L width address value m = refl
-stored_backs mem.C width address value m = refl
-stored_backs mem.M width address value m = refl
+stored_backs _ width address value m = refl
 
 stored_ways : (space : Mem) (width : StoreWidth) (address value : ℕ) (m : Run) → (stored space width address value m).ways ≡ m.ways
 stored_ways mem.S width address value m = refl
-stored_ways mem.L width address value m = refl
-stored_ways mem.C width address value m = refl
-stored_ways mem.M width address value m = refl
+stored_ways _ width address value m = refl
 
 stacked_backs : (func : StackFunc) (count : ℕ) (m : Run) → (stacked func count m).backs ≡ m.backs
 stacked_backs Sres count m = refl
@@ -70,11 +66,9 @@ stacked_ways Sens count m = refl
 stacked_ways Sfree count m = refl
 
 effected_backs : (from : Sources) (e : Effect) (m : Run) → (effected from e m).backs ≡ m.backs
-effected_backs from effect.Nothing m = refl
-effected_backs from (effect.Load space width rd address) m = refl
 effected_backs from (effect.Store space width address value) m = stored_backs space width address value m
 effected_backs from (effect.StackOp func count) m = stacked_backs func count m
-effected_backs from (effect.Flow flow) m = refl
+effected_backs from _ m = refl
 
 effected_ways : (from : Sources) (offset : ℕ) (e : Effect) (m : Run) → asked_flow offset e ≡ None → (effected from e m).ways ≡ m.ways
 effected_ways from offset effect.Nothing m calm = refl

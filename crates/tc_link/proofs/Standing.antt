@@ -62,14 +62,12 @@ has_back words at (b ∷ us) vs h = subst (λ n. HasAt words n vs) (omega arith)
 
 mutual
   part_at : (words : List ℕ) (start : ℕ → ℕ) (at : ℕ) (p : PlainPart) → HasAt words at (flat_part start p) → PartAt words start at p
-  part_at words start at (straight bs) h = h
   part_at words start at (repeats count body tail) h =
       let iteration = turned (parts_words body) tail in (
         parts_at words start at body (has_front words at (flat_parts start body) iteration h),
         subst (λ n. HasAt words (at + n) iteration) (flat_words start body) (has_back words at (flat_parts start body) iteration h),
       )
-  part_at words start at (calls_to k tail) h = h
-  part_at words start at (leaves tail) h = h
+  part_at words start at _ h = h
 
   pub parts_at : (words : List ℕ) (start : ℕ → ℕ) (at : ℕ) (ps : PlainParts) → HasAt words at (flat_parts start ps) → PartsAt words start at ps
   parts_at words start at no_part h = tt

@@ -53,12 +53,7 @@ status_of-is rows = by (list_any (λ r. is_early r.state) rows)
 -- no fault of a job is reported as the length of its text is: at the latest their eighth bytes differ
 differs_from_long : (kind : JobFault) (task : Option ℕ) (key : List ℕ) → slice_index (no_job (record { kind = kind; task = task; key = key })).text 7 ≢ slice_index too_long.text 7
 differs_from_long faults.Toml task key = omega arith
-differs_from_long faults.Key task key = omega arith
-differs_from_long faults.Missing task key = omega arith
-differs_from_long faults.Kind task key = omega arith
-differs_from_long faults.Range task key = omega arith
-differs_from_long faults.CoreTwice task key = omega arith
-differs_from_long faults.Input task key = omega arith
+differs_from_long _ task key = omega arith
 
 -- the answer to a text that is not too long
 record IsOfInput (a : Answer) : Type 0 where
@@ -146,9 +141,7 @@ grid_answer-is (Err fault) = record {
 text_answer-is : (command : Command) (bytes : List ℕ) → (ReadsNothing command → ⊥) → IsOfInput (text_answer command bytes)
 text_answer-is (OfJob command) bytes reads = job_answer-is command (job_of bytes)
 text_answer-is Grid bytes reads = grid_answer-is (schedule_of bytes)
-text_answer-is (Gen number) bytes reads = absurd (reads tt)
-text_answer-is (Bench number) bytes reads = absurd (reads tt)
-text_answer-is Usage bytes reads = absurd (reads tt)
+text_answer-is _ bytes reads = absurd (reads tt)
 
 text_answer-not_long : (command : Command) (bytes : List ℕ) → text_answer command bytes ≢ too_long
 text_answer-not_long (OfJob command) bytes = (job_answer-is command (job_of bytes)).not_long

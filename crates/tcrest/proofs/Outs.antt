@@ -23,9 +23,7 @@ use Rattle.tcrest.specs.Rows.{own_world, words_out}
 abbrev IsOwnCell : Cell → Type 0
 IsOwnCell (cell.Scratch word) = Unit {0}
 IsOwnCell (cell.Private word) = Unit {0}
-IsOwnCell (cell.Comm word) = ⊥
-IsOwnCell (cell.Port core register) = ⊥
-IsOwnCell (cell.Shared word) = ⊥
+IsOwnCell _ = ⊥
 
 placed_own : (scratch : Bool) (first at : ℕ) → IsOwnCell (if scratch then cell.Scratch at else cell.Private first)
 placed_own true first at = tt
@@ -77,9 +75,7 @@ module _ (x : Plain) (w : World) (scratch : (word : ℕ) → x.scratch word ≡ 
       → words_from (words_in (region_of c) (own_world x)) (word_of c) n ≡ words_from (words_in (region_of c) w) (word_of c) n
   own_words (cell.Scratch word) n own first last = words_same x.scratch w.scratch word n (λ i below. scratch (word + i))
   own_words (cell.Private word) n own first last = words_same x.private w.private word n (λ i below. private (word + i) (omega (arith, first)) (omega (arith, last, below)))
-  own_words (cell.Comm word) n own first last = absurd own
-  own_words (cell.Port core register) n own first last = absurd own
-  own_words (cell.Shared word) n own first last = absurd own
+  own_words _ n own first last = absurd own
 
   at_slot : (slots : List Slot) (k : ℕ) → Each SlotFits slots → IfSome (slice_get slots k) (λ s. IsOwnCell s.cell) → words_out (own_world x) (slice_get slots k) ≡ words_out w (slice_get slots k)
   at_slot [] k fit own = refl

@@ -261,12 +261,8 @@ ok_is a b same = ap (λ r. elim r as (λ _. _) [ Ok x ↦ x | Err e ↦ a ]) sam
 
 -- of a job that a command does not take nothing is told
 pub untaken : (command : JobCommand) (job : Job) (coded : List (Option Coded)) → is_taken command job ≡ false → TellsOf command job coded
-untaken Run job coded refused = absurd (let bad : true ≡ false = refused in cc)
-untaken Bound job coded refused = absurd (let bad : true ≡ false = refused in cc)
-untaken Asm job coded refused = absurd (let bad : true ≡ false = refused in cc)
-untaken Mean job coded refused = absurd (let bad : true ≡ false = refused in cc)
 untaken Pipe job coded refused = λ lone. absurd (let bad : true ≡ false = sym lone ∙ refused in cc)
-untaken Persist job coded refused = absurd (let bad : true ≡ false = refused in cc)
+untaken _ job coded refused = absurd (let bad : true ≡ false = refused in cc)
 
 -- the tasks that are made are those of the job
 pub told_of : {X E : Type 0} (job : Job) (command : JobCommand) (coded : List (Option Coded)) (result : Result X E) → coded_from job 0 job.cores ≡ Ok coded

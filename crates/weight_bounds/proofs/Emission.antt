@@ -110,9 +110,7 @@ alu_past g _ alu = absurd (true≢false (sym alu))
 
 cell_past : (homes : Homes) (mask : ℕ) (r : Region) (word : ℕ) → bundles_past (cell_write homes mask (record { region = r; word = word })) ≤ 0
 cell_past homes mask region.Scratch word = omega (arith, seek_past homes mask, match_past homes mask, number_past SPARE (address_of region.Scratch word))
-cell_past homes mask region.Comm word = omega (arith, seek_past homes mask, match_past homes mask, number_past SPARE (address_of region.Comm word))
-cell_past homes mask region.Private word = omega (arith, seek_past homes mask, match_past homes mask, number_past SPARE (address_of region.Private word))
-cell_past homes mask region.Shared word = omega (arith, seek_past homes mask, match_past homes mask, number_past SPARE (address_of region.Shared word))
+cell_past homes mask other word = omega (arith, seek_past homes mask, match_past homes mask, number_past SPARE (address_of other word))
 
 address_past : (a : SpArray) (pd rd ra : ℕ) → AddressAre (λ b. bundle_past b ≤ 0) a pd rd ra
 address_past a pd rd ra = address_are (λ b. bundle_past b ≤ 0) a pd rd ra (omega arith) (number_past SPARE) (omega arith) (omega arith) (omega arith) (omega arith)
@@ -123,15 +121,11 @@ element_past homes mask r first length = by r (address_past (record { region = r
     by : (r : Region) → AddressAre (λ b. bundle_past b ≤ 0) (record { region = r; first = first; length = length }) SECOND (FIRST + 1) (FIRST + 1)
         → bundles_past (element_write homes mask (record { region = r; first = first; length = length })) ≤ 0
     by region.Scratch a = omega (arith, seek_past homes mask, match_past homes mask, a.length, a.below, a.base, a.scaled)
-    by region.Comm a = omega (arith, seek_past homes mask, match_past homes mask, a.length, a.below, a.base, a.scaled)
-    by region.Private a = omega (arith, seek_past homes mask, match_past homes mask, a.length, a.below, a.base, a.scaled)
-    by region.Shared a = omega (arith, seek_past homes mask, match_past homes mask, a.length, a.below, a.base, a.scaled)
+    by _ a = omega (arith, seek_past homes mask, match_past homes mask, a.length, a.below, a.base, a.scaled)
 
 load_past : (space : Mem) → access_moves space - 1 ≤ 0
 load_past mem.S = omega arith
-load_past mem.L = omega arith
-load_past mem.C = omega arith
-load_past mem.M = omega arith
+load_past _ = omega arith
 
 -- ---- expressions
 

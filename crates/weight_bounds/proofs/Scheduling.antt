@@ -161,16 +161,12 @@ function_keeps ps =
 
 mutual
   part_placed_iterations : (p : PlainPart) → part_iterations (part_placed p) ≤ part_iterations p
-  part_placed_iterations (straight bs) = omega arith
   part_placed_iterations (repeats count body tail) = let times = mul-le-mul_left count (parts_placed_keep body).iterations in omega (arith, times)
-  part_placed_iterations (calls_to k tail) = omega arith
-  part_placed_iterations (leaves tail) = omega arith
+  part_placed_iterations _ = omega arith
 
   part_placed_calls : (p : PlainPart) → part_calls (part_placed p) ≤ part_calls p
-  part_placed_calls (straight bs) = omega arith
   part_placed_calls (repeats count body tail) = omega (arith, (parts_placed_keep body).calls)
-  part_placed_calls (calls_to k tail) = omega arith
-  part_placed_calls (leaves tail) = omega arith
+  part_placed_calls _ = omega arith
 
   part_placed_past : (p : PlainPart) → part_past (part_placed p) ≤ part_past p
   part_placed_past (straight bs) = omega (arith, spaced_past bs)

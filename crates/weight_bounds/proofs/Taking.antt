@@ -18,12 +18,10 @@ use Rattle.weight_bounds.proofs.Trees.{some_expr, some_args, some_stmt, joined_i
 -- ---- over further words of the frame all counts are the same
 
 expr_same : (o : ℕ) (e : PlainSp) → expr_iterations (moved o e) ≡ expr_iterations e
-expr_same o (constant n) = refl
-expr_same o (frame_word slot) = refl
-expr_same o (cell_word cell) = refl
 expr_same o (array_word array index) = expr_same o index
 expr_same o (before_one op of) = expr_same o of
 expr_same o (between_two op a b) = omega (arith, expr_same o a, expr_same o b)
+expr_same o _ = refl
 
 args_same : (o : ℕ) (args : List PlainSp) → args_iterations (args_moved o args) ≡ args_iterations args
 args_same o [] = refl
@@ -49,12 +47,8 @@ mutual
 
 mutual
   call_same : (o : ℕ) (t : PlainStmt) → stmt_call_count (stmt_moved o t) ≡ stmt_call_count t
-  call_same o (masks slot e) = refl
-  call_same o (writes mask target e) = refl
-  call_same o (calls mask k args result) = refl
-  call_same o (transfers mask core source target count) = refl
-  call_same o (overruns mask e) = refl
   call_same o (iterations count body) = calls_same o body
+  call_same o _ = refl
 
   calls_same : (o : ℕ) (ts : PlainStmts) → stmts_call_count (stmts_moved o ts) ≡ stmts_call_count ts
   calls_same o no_stmt = refl
@@ -142,15 +136,12 @@ module _ (c : PlainCaller) (leaves : (k : ℕ) → k < length c.functions → Is
 
   mutual
     stmt_within : (depth : ℕ) (r : Room) (t : PlainStmt) → IsWithin (stmt_iterations t) (stmt_call_count t) (stmt_taken c depth r t).body
-    stmt_within depth r (masks slot e) = kept_within (masks slot e)
-    stmt_within depth r (writes mask target e) = kept_within (writes mask target e)
     stmt_within depth r (calls mask k args result) = call_within depth r mask k args result
-    stmt_within depth r (transfers mask core source target count) = kept_within (transfers mask core source target count)
-    stmt_within depth r (overruns mask e) = kept_within (overruns mask e)
     stmt_within depth r (iterations count body) =
         let x = stmts_within (depth + 1) r body in
         let times = mul-le-mul_left count x.iterations in
         record { iterations = omega (arith, times); calls = omega (arith, x.calls) }
+    stmt_within depth r other = kept_within other
 
     stmts_within : (depth : ℕ) (r : Room) (ts : PlainStmts) → IsWithin (stmts_iterations ts) (stmts_call_count ts) (stmts_taken c depth r ts).body
     stmts_within depth r no_stmt = record { iterations = omega arith; calls = omega arith }

@@ -6,12 +6,10 @@ use Rattle.sp_tree.specs.Statements.{PlainStmt, masks, writes, calls, transfers,
 use Rattle.weight_bounds.specs.Trees.{expr_iterations, args_iterations, stmt_iterations, stmts_iterations, stmts_call_count}
 
 pub some_expr : (e : PlainSp) → 1 ≤ expr_iterations e
-some_expr (constant n) = omega arith
-some_expr (frame_word slot) = omega arith
-some_expr (cell_word cell) = omega arith
 some_expr (array_word array index) = some_expr index
 some_expr (before_one op of) = some_expr of
 some_expr (between_two op a b) = omega (arith, some_expr a)
+some_expr _ = omega arith
 
 pub some_args : (args : List PlainSp) → 1 ≤ args_iterations args
 some_args [] = omega arith
