@@ -1,5 +1,5 @@
 -- A task's core begins where its walk does.
-use Rattle.std.proofs.Common.{◌≡◌, ℕ, zero, suc, ◌+◌, ◌-◌, false, List, [], ◌∷◌, ◌++◌, Option, Some, refl, sym, ap, ◌∙◌, subst, arith, true≢false, append_assoc, append-nil}
+use Rattle.std.proofs.Common.{◌≡◌, ℕ, zero, suc, ◌-◌, false, List, [], ◌∷◌, ◌++◌, Option, Some, refl, sym, ap, ◌∙◌, subst, arith, true≢false, append_assoc, append-nil}
 use Rattle.patmos_model.specs.Begin.{begun, entry}
 use Rattle.patmos_model.specs.Site.{Site, method_at}
 use Rattle.patmos_model.specs.State.{Core, has_ended}
@@ -24,7 +24,9 @@ use Rattle.code_core.proofs.Trailed.{Comes, along}
 use Rattle.code_core.proofs.Landing.{Rests, StartsBehind, waits_on, fetch_rests}
 use Rattle.code_core.specs.Held.{HoldsPorts}
 use Rattle.code_core.proofs.Ports.{still_waited, still_interfaced}
-use Rattle.code_core.proofs.Settled.{OfTask, settled, all_settles}
+use Rattle.core_pace.proofs.Listed.{waited_own}
+use Rattle.shared_order.specs.declared.operation.Operation.{Operation}
+use Rattle.code_core.proofs.Settled.{OfBoth, settled_by, all_settles_by, of_task}
 use Rattle.code_core.proofs.BundleDone.{lies_of_task}
 
 module _ (n core : ℕ) (site : Site) (input values : List ℕ) where
@@ -47,19 +49,24 @@ module _ (n core : ℕ) (site : Site) (input values : List ℕ) where
     ports = ports;
   }
 
+  -- what neither the interface nor a transfer changes is so before the first bundle, if it is at first
+  pub holds_first : (P : Core → List Operation → Type 0) → OfBoth P → P (begun site input) [] → P (core_in (first)) (first).told.own
+  holds_first P o h =
+      let z : Moment = before n core (begun site input) values 0 in
+      let m0 : Moment = interfaced n core z in
+      let m1 : Moment = freed n core m0 in
+      let wait : ℕ = (core_in m0).plain.free - m0.cycle in
+      let h0 : P (core_in m0) [] = o.same (core_in z) (core_in m0) [] (still_interfaced n core z (interface_apart n core z)) h in
+      let h1 : P (core_in m1) [] = o.same (core_in m0) (core_in m1) [] (still_waited n core wait m0) h0 in
+      let transfer : (core_in m1).plain.transfer ≡ (begun site input).plain.transfer =
+      ap (λ (c : Core). c.plain.transfer) (waited_same n core wait m0) ∙ ap (λ (c : Core). c.plain.transfer) (interface_apart n core z) in
+      all_settles_by n core P o m1 (settled_by (subst (P (core_in m1)) (sym (waited_own n core wait m0)) h1) (subst Rests (sym transfer) (fetch_rests [] (method_at site.image (entry site.image)))))
+
   begins_there : (memory : Memory) (loads : List ℕ) (backs : List Back) → HoldsPorts memory (begun site input).plain.interface → Goes (walk memory loads backs) (core_in first).plain × (((core_in first).plain.site ≡ site) × ((core_in first).plain.status ≡ Running))
   begins_there memory loads backs ports =
       let w : Walk = walk memory loads backs in
       let P : Core → Type 0 = λ (c : Core). Goes w c.plain × ((c.plain.site ≡ site) × (c.plain.status ≡ Running)) in
-      let o : OfTask P = lies_of_task n core (begun site input) values w in
-      let z : Moment = before n core (begun site input) values 0 in
-      let m0 : Moment = interfaced n core z in
-      let m1 : Moment = freed n core m0 in
-      let h0 : P (core_in m0) = o.same (core_in z) (core_in m0) (still_interfaced n core z (interface_apart n core z)) (goes_first memory loads backs ports, (refl, refl)) in
-      let wait = waited_same n core ((core_in m0).plain.free - m0.cycle) m0 in
-      let h1 : P (core_in m1) = o.same (core_in m0) (core_in m1) (still_waited n core ((core_in m0).plain.free - m0.cycle) m0) h0 in
-      let transfer : (core_in m1).plain.transfer ≡ (begun site input).plain.transfer = ap (λ (c : Core). c.plain.transfer) wait ∙ ap (λ (c : Core). c.plain.transfer) (interface_apart n core z) in
-      all_settles n core P o m1 (settled h1 (subst Rests (sym transfer) (fetch_rests [] (method_at site.image (entry site.image)))))
+      holds_first (λ c ops. P c) (of_task P (lies_of_task n core (begun site input) values w)) (goes_first memory loads backs ports, (refl, refl))
 
   pub stands_first : (memory : Memory) (loads : List ℕ) (backs : List Back) → HoldsPorts memory (begun site input).plain.interface → IsSlotted site → Stands n core (begun site input) values (walk memory loads backs) first
   stands_first memory loads backs ports slots = record {

@@ -1,6 +1,8 @@
 -- A bundle of a core against the same bundle of a walk.
-use Rattle.std.proofs.Common.{◌≡◌, ℕ, ◌+◌, ◌-◌, ◌/◌, ◌==◌, true, false, List, [], ◌∷◌, ◌++◌, None, Some, inl, refl, sym, ap, ◌∙◌, subst, true≢false}
+use Rattle.std.proofs.Common.{◌≡◌, ℕ, ◌+◌, ◌/◌, ◌==◌, arith, true, false, List, [], ◌∷◌, ◌++◌, None, Some, inl, refl, sym, ap, ◌∙◌, subst, true≢false}
 use Rattle.std.proofs.lemmas.Bool.{eqb-true, and_parts}
+use Rattle.slot_arbiter.specs.Stamp.{stamp}
+use Rattle.shared_order.specs.declared.operation.Operation.{Operation}
 use Rattle.shared_order.specs.Program.{Prog}
 use Rattle.patmos_instr.specs.Bundles.{Slots}
 use Rattle.patmos_instr.specs.declared.functions.StackFunc.TheVariants.{Sres, Sens, Sfree}
@@ -13,7 +15,6 @@ use Rattle.patmos_sem.specs.Registers.{Registers}
 use Rattle.patmos_sem.specs.declared.effects.Effect.{Effect}
 use Rattle.patmos_sem.specs.declared.effects.Effect.TheVariants as effect
 use Rattle.patmos_model.specs.declared.fetched.Fetched.TheVariants.{Found}
-use Rattle.patmos_model.specs.declared.flow.Flow.{Flow}
 use Rattle.patmos_model.specs.declared.flow.Goal.TheVariants as goal
 use Rattle.patmos_model.specs.declared.state.Status.TheVariants.{Running, Trapped}
 use Rattle.patmos_model.specs.Bundle.{fetched_at, advanced, answered, bundle, done_as}
@@ -23,7 +24,6 @@ use Rattle.patmos_model.specs.Cycle.{with_interface}
 use Rattle.patmos_model.specs.Transaction.{counted}
 use Rattle.patmos_model.specs.Site.{Site}
 use Rattle.patmos_model.specs.State.{Plain, Core, with_plain, stopped, has_ended}
-use Rattle.patmos_model.proofs.Leaves.{Leaves}
 use Rattle.core_pace.specs.Moment.{Moment, core_in, fetched_in, landed}
 use Rattle.core_pace.specs.Next.{IsAboutTo, ComesTo, about_to, ended, trapped, is_due_flow, bundled, landing, all_moved, next}
 use Rattle.core_pace.specs.Pace.{Event, event_of, bundle_event, landing_event, events_in}
@@ -32,7 +32,6 @@ use Rattle.core_pace.proofs.OwnActs.{running_status}
 use Rattle.core_pace.specs.Run.{done_with}
 use Rattle.core_pace.proofs.Listed.{next_bundles}
 use Rattle.core_pace.proofs.Onward.{GoesOnward, goes_onward, IsBehind, is_behind}
-use Rattle.core_pace.proofs.Waits.{acting_leaves}
 use Rattle.sp_shape.specs.Pointers.{pointers_of}
 use Rattle.sp_shape.specs.Run as run
 use Rattle.sp_shape.specs.Run.{Run, first_load, other_loads, effected, late}
@@ -43,10 +42,11 @@ use Rattle.code_core.specs.Followed.{IsDoneAs, done_at}
 use Rattle.code_core.specs.Held.{HoldsStack, HoldsPorts}
 use Rattle.code_core.proofs.Ports.{holds_still}
 use Rattle.code_core.specs.Sound.{IsSound}
-use Rattle.code_core.proofs.Effects.{regs_with, stack_behind, Comes, comes_of_task, answers}
+use Rattle.code_core.proofs.Effects.{run_stack, stack_held, held_like, ports_held}
+use Rattle.code_core.proofs.Outcome.{regs_with, port_with, did, Given, Outcome, outcome_of_both, outcome}
 use Rattle.code_core.proofs.Faults.{sound_passes}
 use Rattle.code_core.proofs.Landing.{KeepsPending, landed_pending, waits_on, StartsBehind, Meets, LiesBy, lands_as, ends_there}
-use Rattle.code_core.proofs.Settled.{OfTask, Settles, settled, all_settles}
+use Rattle.code_core.proofs.Settled.{LeavesBy, Done, SettlesBy, acting_by, all_settles_by, OfTask, rests_settles}
 
 -- ---- what a run has after a bundle
 
@@ -79,7 +79,7 @@ same_stack m t x st ss stack h = record {
   spilled = λ a past below. h.spilled a past below ∙ ap (λ f. f a) (sym stack);
 }
 
-effected_stack : (e : Effect) (m : Run) (x : Plain) → HoldsStack (stack_behind e m) x.stack x.private → HoldsStack (effected by_stack e m) x.stack x.private
+effected_stack : (e : Effect) (m : Run) (x : Plain) → HoldsStack (run_stack e m) x.stack x.private → HoldsStack (effected by_stack e m) x.stack x.private
 effected_stack effect.Nothing m x h = h
 effected_stack (effect.Load mem.S width rd address) m x h = same_stack m (effected by_stack (effect.Load mem.S width rd address) m) x refl refl refl h
 effected_stack (effect.Load mem.L width rd address) m x h = same_stack m (effected by_stack (effect.Load mem.L width rd address) m) x refl refl refl h
@@ -111,14 +111,13 @@ word_taken : (width : Width) (rd address value : ℕ) (loads rest : List ℕ) (r
 word_taken width rd address value loads rest regs regs' old is list same came =
     ap first_load list ∙ ap pending_value same ∙ ap (λ (r : Registers). pending_value r.pending) came ∙ ap (λ w. picked w address value) is
 
-taken_so : (e : Effect) (m : Run) (d : Plain) (c : Core) (regs : Registers) (rest : List ℕ) (h : Comes e m d c) → (site : Site) → IsSound site e (pointers_of m) m.memory → regs.pending ≡ c.plain.regs.pending → m.loads ≡ given_by e regs ++ rest → IsTaken e m h.value
-taken_so (effect.Load mem.S width rd address) m d c regs rest h site s same list = h.is_given
-taken_so (effect.Load _ width rd address) m d c regs rest h site s same list = word_taken width rd address h.value m.loads rest c.plain.regs regs d.regs s.0 list same h.regs
-taken_so (effect.Store mem.S width address value) m d c regs rest h site s same list = tt
-taken_so (effect.Store mem.L width address value) m d c regs rest h site s same list = tt
-taken_so (effect.Store mem.C width address value) m d c regs rest h site s same list = tt
-taken_so (effect.Store mem.M width address value) m d c regs rest h site s same list = tt
-taken_so _ m d c regs rest h site s same list = tt
+taken_so : (site : Site) (e : Effect) (m : Run) (d : Plain) (value : ℕ) (came regs : Registers) (rest : List ℕ) → IsSound site e (pointers_of m) m.memory → HoldsStack m d.stack d.private → Given e d value
+    → came ≡ regs_with e value d.regs → regs.pending ≡ came.pending → m.loads ≡ given_by e regs ++ rest → IsTaken e m value
+taken_so site (effect.Load mem.S width rd address) m d value came regs rest s h given is same list = given ∙ h.held (address / 4) (omega (arith, s.1, h.st, h.ss, h.is_stack))
+taken_so site (effect.Load _ width rd address) m d value came regs rest s h given is same list = word_taken width rd address value m.loads rest came regs d.regs s.0 list same is
+taken_so site (effect.Store mem.S width address stored) m d value came regs rest s h given is same list = tt
+taken_so site (effect.Store _ width address stored) m d value came regs rest s h given is same list = tt
+taken_so site _ m d value came regs rest s h given is same list = tt
 
 -- ---- the bundle
 
@@ -133,18 +132,21 @@ bundle_event_is x b words found none =
     ap (λ f. bundle_event f x) found ∙ ap (λ t. elim t as (λ _. List Event) [ None ↦ event_of (effect_of b x.regs) ∷ [] | Some fault ↦ [] ]) none
 
 module _ (n core : ℕ) where
-  comes_by : (m : Moment) (r : Run) (b : Slots) (words : ℕ) → IsAboutTo m → fetched_in (core_in m).plain ≡ Found b words
-      → HoldsStack r (core_in m).plain.stack (core_in m).plain.private → HoldsPorts r.memory (core_in m).plain.interface → IsSound (core_in m).plain.site (effect_of b (core_in m).plain.regs) (pointers_of r) r.memory → fault_of (core_in m).plain (effect_of b (core_in m).plain.regs) ≡ None
-      → Comes (effect_of b (core_in m).plain.regs) r (advanced words b (core_in m).plain) (core_in (all_moved n core (bundled n core m)))
-  comes_by m r b words about found h ports sound none =
+  -- what comes of a bundle whose checks pass, its words being moved
+  pub comes_by : (m : Moment) (r : Run) (b : Slots) (words : ℕ) → IsAboutTo m → fetched_in (core_in m).plain ≡ Found b words
+      → IsSound (core_in m).plain.site (effect_of b (core_in m).plain.regs) (pointers_of r) r.memory → fault_of (core_in m).plain (effect_of b (core_in m).plain.regs) ≡ None
+      → Outcome (effect_of b (core_in m).plain.regs) (with_plain (advanced words b) (core_in m)) m.told.own
+      (core_in (all_moved n core (bundled n core m))) (all_moved n core (bundled n core m)).told.own
+  comes_by m r b words about found sound none =
       let c : Core = core_in m in
       let d : Core = with_plain (advanced words b) c in
       let e : Effect = effect_of b c.plain.regs in
-      let P : Core → Type 0 = Settles (Comes e r d.plain) in
+      let P : Core → List Operation → Type 0 = Outcome e d m.told.own in
       let idle : c.plain.transfer.words ≡ 0 = eqb-true c.plain.transfer.words 0 (and_parts (c.plain.transfer.words == 0) (c.plain.free == m.cycle) about.free).0 in
-      all_settles n core (Comes e r d.plain) (comes_of_task e r d.plain) (bundled n core m)
-      (acting_leaves n core P (bundle m.cycle c) m
-      (subst (Leaves (λ (y : Acted). P y.core)) (sym (bundle_is c m.cycle b words found none)) (answers c.plain.site m.cycle r d h ports idle e sound)))
+      all_settles_by n core P (outcome_of_both e d m.told.own) (bundled n core m)
+      (acting_by n core (SettlesBy P) (bundle m.cycle c) m
+      (subst (λ p. LeavesBy (Done (SettlesBy P)) (stamp n core m.cycle 1) p m.told.own) (sym (bundle_is c m.cycle b words found none))
+      (outcome c.plain.site m.cycle (stamp n core m.cycle 1) (pointers_of r) r.memory d m.told.own idle e sound)))
 
   -- what is pending after a bundle's transfer is so at the next moment
   pub next_pending : (m : Moment) → (core_in (all_moved n core (bundled n core m))).plain.transfer.words ≡ 0
@@ -154,7 +156,7 @@ module _ (n core : ℕ) where
       let p = (core_in a).plain.regs.pending in
       let P : Core → Type 0 = λ (c : Core). c.plain.regs.pending ≡ p in
       let k : KeepsPending p (landed a.cycle (core_in a)) = landed_pending a.cycle (core_in a) (inl none) in
-      all_settles n core P (record { same = λ c d is h. ap (λ (z : Core). z.plain.regs.pending) is.task ∙ h; counts = λ u c h. h }) (landing a) (settled k.pending k.rests)
+      rests_settles n core P (record { same = λ c d is h. ap (λ (z : Core). z.plain.regs.pending) is.task ∙ h; counts = λ u c h. h }) (landing a) k.pending k.rests
 
   -- ---- after the bundle
 
@@ -172,16 +174,16 @@ module _ (n core : ℕ) where
       meets = record {
         goes = record {
           is_as = record {
-            regs = ap (λ (z : Run). z.regs) late_is ∙ effected_regs e r' comes.value taken ∙ sym comes.regs;
-            base = is_as.base ∙ sym comes.base;
-            offset = ap (λ k. k + f.words) is_as.offset ∙ sym comes.offset;
-            flow = flow_alike by_stack f.bundle f.words v c.plain is_as ∙ sym comes.flow;
+            regs = ap (λ (z : Run). z.regs) late_is ∙ effected_regs e r' comes.value taken ∙ sym comes.is_like.regs;
+            base = is_as.base ∙ sym comes.is_like.base;
+            offset = ap (λ k. k + f.words) is_as.offset ∙ sym comes.is_like.offset;
+            flow = flow_alike by_stack f.bundle f.words v c.plain is_as ∙ sym comes.is_like.flow;
           };
-          stack = subst (λ z. HoldsStack z c'.plain.stack c'.plain.private) (sym late_is) (effected_stack e r' c'.plain comes.stack);
-          ports = subst (λ (z : Run). HoldsPorts z.memory c'.plain.interface) (sym late_is) comes.ports;
+          stack = subst (λ z. HoldsStack z c'.plain.stack c'.plain.private) (sym late_is) (effected_stack e r' c'.plain (held_like (run_stack e r') (did e comes.value d) c' comes.is_like (stack_held c.plain.site e r' d.plain sound_there h')));
+          ports = subst (λ (z : Run). HoldsPorts z.memory c'.plain.interface) (sym late_is) (holds_still (effected by_stack e r').memory (port_with e d).plain.interface c'.plain.interface comes.is_like.ports (ports_held c.plain.site e r' d sound_there st.goes.ports));
         };
-        site_is = comes.site ∙ st.site_is;
-        status = comes.status ∙ running_status c.plain st.at.about.running;
+        site_is = comes.is_like.site ∙ st.site_is;
+        status = comes.is_like.status ∙ running_status c.plain st.at.about.running;
         words = after.words;
         free = after.free;
       };
@@ -207,6 +209,9 @@ module _ (n core : ℕ) where
         asks : effect_of f.bundle v.run.regs ≡ e
         asks = ap (effect_of f.bundle) is_as.regs
 
+        d : Core
+        d = with_plain (advanced f.words f.bundle) c
+
         c' : Core
         c' = core_in (all_moved n core (bundled n core m))
 
@@ -231,8 +236,8 @@ module _ (n core : ℕ) where
         h' : HoldsStack r' c.plain.stack c.plain.private
         h' = same_stack v.run r' c.plain refl refl refl h
 
-        comes : Comes e r' (advanced f.words f.bundle c.plain) c'
-        comes = comes_by m r' f.bundle f.words st.at.about found h' st.goes.ports sound_there none
+        comes : Outcome e d m.told.own c' (all_moved n core (bundled n core m)).told.own
+        comes = comes_by m r' f.bundle f.words st.at.about found sound_there none
 
         after : IsBehind n core m
         after = is_behind n core x values m st.at
@@ -241,7 +246,7 @@ module _ (n core : ℕ) where
         list_there = list ∙ ap (λ g. given_by (asked_in g c.plain.regs) next_regs ++ rest) found
 
         taken : IsTaken e r' comes.value
-        taken = taken_so e r' (advanced f.words f.bundle c.plain) c' next_regs rest comes c.plain.site sound_there (next_pending m after.words) list_there
+        taken = taken_so c.plain.site e r' d.plain comes.value c'.plain.regs next_regs rest sound_there h' comes.given comes.is_like.regs (next_pending m after.words) list_there
 
         late_is : late by_stack f.bundle v.run ≡ effected by_stack e r'
         late_is = λ i. effected by_stack (effect_of f.bundle (is_as.regs i)) (record v.run { regs = after_bundle (h.st i) (h.ss i) f.bundle (is_as.regs i) })
@@ -315,8 +320,8 @@ module _ (n core : ℕ) where
         on = goes_onward n core x values m st.at
 
         there : Goes (flowed w') (core_in (next n core m)).plain × (((core_in (next n core m)).plain.site ≡ x.plain.site) × ((core_in (next n core m)).plain.status ≡ Running))
-        there = all_settles n core (λ (c : Core). Goes (flowed w') c.plain × ((c.plain.site ≡ x.plain.site) × (c.plain.status ≡ Running))) (lies_of_task (flowed w')) (landing a)
-            (settled (lies.lies.goes, (lies.lies.site_is, lies.lies.status)) lies.lies.rests)
+        there = rests_settles n core (λ (c : Core). Goes (flowed w') c.plain × ((c.plain.site ≡ x.plain.site) × (c.plain.status ≡ Running))) (lies_of_task (flowed w')) (landing a)
+            (lies.lies.goes, (lies.lies.site_is, lies.lies.status)) lies.lies.rests
 
         not_ended : has_ended (core_in (next n core m)).plain ≡ false
         not_ended = waits_on (core_in (next n core m)).plain (ap is_due_flow (sym there.0.is_as.flow) ∙ lies.settled)
@@ -367,7 +372,7 @@ module _ (n core : ℕ) where
         here = subst P (sym ends.1.0) (one.meets.goes, (one.meets.site_is, one.meets.status))
 
         there : P (core_in (next n core m))
-        there = all_settles n core P (lies_of_task w') (landing a) (settled here (inl (ap (λ (c : Core). c.plain.transfer.words) ends.1.0 ∙ one.meets.words)))
+        there = rests_settles n core P (lies_of_task w') (landing a) here (inl (ap (λ (c : Core). c.plain.transfer.words) ends.1.0 ∙ one.meets.words))
 
         on : GoesOnward n core x values m
         on = goes_onward n core x values m st.at

@@ -1,6 +1,7 @@
 pub mod StackHeld
 pub mod Ports
 pub mod Settled
+pub mod Outcome
 pub mod Effects
 pub mod Faults
 pub mod Landing

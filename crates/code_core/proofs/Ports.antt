@@ -1,8 +1,8 @@
 -- The registers of a core's interface: what the interface itself does leaves them, and what the task sets is what its run set.
-use Rattle.std.proofs.Common.{◌≡◌, if◌then◌else◌, ℕ, zero, suc, ◌+◌, ◌-◌, ◌≤◌, ◌==◌, cond, Bool, true, false, List, [], ◌∷◌, ◌++◌, length, filter, get_or, set, inl, inr, refl, sym, ap, ◌∙◌, subst, arith, length-set, get_or-set_same, get_or-set_other}
+use Rattle.std.proofs.Common.{◌≡◌, if◌then◌else◌, ℕ, zero, suc, ◌≤◌, ◌==◌, cond, Bool, true, false, List, [], ◌∷◌, ◌++◌, length, filter, get_or, set, inl, inr, refl, sym, ap, ◌∙◌, subst, arith, length-set, get_or-set_same, get_or-set_other}
 use Rattle.std.proofs.lemmas.Bool.{cases_eq, cases_lt, eq-eqb, ne_eqb}
 use Rattle.slot_arbiter.specs.Stamp.{stamp}
-use Rattle.shared_order.specs.Program.{Prog, done, gets, sets}
+use Rattle.shared_order.specs.Program.{Prog, done, gets}
 use Rattle.shared_order.specs.Words.{put}
 use Rattle.argo_ni.specs.Interface.{Interface, port_to}
 use Rattle.argo_ni.specs.Packet.{comm_word, written}
@@ -10,11 +10,12 @@ use Rattle.argo_ni.specs.declared.port.Port.{Port}
 use Rattle.argo_ni.specs.declared.event.Started.{Started}
 use Rattle.argo_ni.specs.declared.event.Started.TheVariants.{Begun, Dropped, Refused}
 use Rattle.argo_ni.specs.Port.{unused}
-use Rattle.argo_ni.specs.Start.{with_port, with_source, with_target, started, started_by, answer_to}
+use Rattle.argo_ni.specs.Start.{with_port, with_source, with_target, started_by, answer_to}
 use Rattle.argo_ni.specs.Turn.{comes, sends, target_at, packet_size, moved_on, delivered, delivery, injected, injection}
-use Rattle.patmos_model.specs.State.{Core, with_plain}
+use Rattle.patmos_model.specs.State.{Core}
 use Rattle.patmos_model.specs.Cells.{port_set}
 use Rattle.patmos_model.specs.Apart.{Followed, after_delivery}
+use Rattle.patmos_model.proofs.Acts.{port_cases}
 use Rattle.patmos_model.proofs.Leaves.{Leaves, leaves_written, leaves_gets}
 use Rattle.core_pace.specs.Growth.{IsSameTask}
 use Rattle.core_pace.specs.Moment.{Moment, core_in, interfaced}
@@ -133,31 +134,17 @@ put_there : (f : ℕ → ℕ) (at v d : ℕ) → (d ≡ at → ⊥) → put at v
 put_there f at v d away = ap (λ b. cond b v (f d)) (ne_eqb at d (λ e. away (sym e)))
 
 pub sets_port : (t register value : ℕ) (m : Memory) (c : Core) → HoldsPorts m c.plain.interface → HoldsPorts (run.with_port t register value m) (port_set t register value c).plain.interface
-sets_port t register value m c h = by (register == 0) (register == 4)
+sets_port t register value m c h =
+    let begun = start (answer_to (port_to x t) value) in
+    port_cases (λ a b d. HoldsPorts (if a then record m { source = put t value m.source } else (if b then record m { target = put t value m.target }
+    else record m { starts = m.starts ++ record { core = t; source = m.source t; target = m.target t; count = value } ∷ [] })) d.plain.interface) t register value c (λ b. source) target
+    (record { count = begun.count; source = begun.source; target = begun.target })
   where
     x : Interface
     x = c.plain.interface
 
-    by : (a b : Bool) → HoldsPorts (if a then record m { source = put t value m.source } else (if b then record m { target = put t value m.target }
-        else record m { starts = m.starts ++ record { core = t; source = m.source t; target = m.target t; count = value } ∷ [] }))
-        (elim a as (λ _. Core) [
-          | true ↦ with_plain (λ x. record x { interface = with_source t value x.interface }) c
-          | false ↦ elim b as (λ _. Core) [
-            | true ↦ with_plain (λ x. record x { interface = with_target t value x.interface }) c
-            | false ↦ record {
-              plain = record c.plain { interface = started t value c.plain.interface };
-              seen = record c.seen {
-                sendings = c.seen.sendings ++ record {
-                  target = t;
-                  from = (port_to c.plain.interface t).source;
-                  to = (port_to c.plain.interface t).target;
-                  count = value;
-                } ∷ [];
-              };
-            }
-          ]
-        ]).plain.interface
-    by true b = record {
+    source : HoldsPorts (record m { source = put t value m.source }) (with_source t value x)
+    source = record {
       count = length-set x.ports t _ ∙ h.count;
       source = λ d few. elim (cases_eq d t) [
         | inl here ↦ ap (λ k. (port_to (with_source t value x) k).source) here
@@ -167,7 +154,9 @@ sets_port t register value m c h = by (register == 0) (register == 4)
       ];
       target = λ d few. port_kept (λ (p : Port). p.target) x t (record (port_to x t) { source = value }) d refl ∙ h.target d few;
     }
-    by false true = record {
+
+    target : HoldsPorts (record m { target = put t value m.target }) (with_target t value x)
+    target = record {
       count = length-set x.ports t _ ∙ h.count;
       source = λ d few. port_kept (λ (p : Port). p.source) x t (record (port_to x t) { target = value }) d refl ∙ h.source d few;
       target = λ d few. elim (cases_eq d t) [
@@ -177,9 +166,8 @@ sets_port t register value m c h = by (register == 0) (register == 4)
         | inr other ↦ ap (λ (p : Port). p.target) (get_or-set_other x.ports t d (record (port_to x t) { target = value }) unused other) ∙ h.target d few ∙ sym (put_there m.target t value d other)
       ];
     }
-    by false false = let k = start (answer_to (port_to x t) value) in record { count = k.count; source = k.source; target = k.target }
-      where
-        start : (a : Started) → HoldsPorts m (started_by a t value x)
-        start Begun = holds_still m x (started_by Begun t value x) (swapped x t _ refl refl) h
-        start Dropped = record { count = h.count; source = h.source; target = h.target }
-        start Refused = h
+
+    start : (a : Started) → HoldsPorts m (started_by a t value x)
+    start Begun = holds_still m x (started_by Begun t value x) (swapped x t _ refl refl) h
+    start Dropped = record { count = h.count; source = h.source; target = h.target }
+    start Refused = h

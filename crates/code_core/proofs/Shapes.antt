@@ -1,5 +1,5 @@
 -- The core of a task does what its shape says, whatever is put in and read; and always in the same times.
-use Rattle.std.proofs.Common.{◌≡◌, ℕ, zero, ◌+◌, ◌-◌, ◌<◌, ◌==◌, ◌||◌, Bool, true, false, if◌then◌else◌, List, [], ◌∷◌, map, refl, sym, ap, ◌∙◌, arith}
+use Rattle.std.proofs.Common.{◌≡◌, ℕ, ◌+◌, ◌<◌, ◌==◌, ◌||◌, Bool, true, false, if◌then◌else◌, List, [], ◌∷◌, map, refl, sym, ap, ◌∙◌, arith}
 use Rattle.std.specs.List.{list_any, AllByRecursion as Each}
 use Rattle.std.proofs.lemmas.Bool.{ne_eqb}
 use Rattle.slot_arbiter.specs.declared.place.Place.{Place}
@@ -9,7 +9,6 @@ use Rattle.patmos_model.specs.Begin.{begun, entry}
 use Rattle.core_pace.specs.Moment.{core_in}
 use Rattle.core_pace.specs.Run.{first_event, first_moment, after_bundles, past}
 use Rattle.core_pace.specs.Spans.{IsSlotted}
-use Rattle.core_pace.specs.Times.{times}
 use Rattle.sp_shape.specs.Parts.{PlainShape}
 use Rattle.sp_shape.specs.Run.{Run}
 use Rattle.sp_shape.specs.Trail.{trail}

@@ -1,5 +1,5 @@
 -- To be believed. A core is where a walk is; what its loads gave; and its events, told of the walk.
-use Rattle.std.specs.Prelude.{◌≡◌, ℕ, zero, suc, ◌+◌, true, false, List, [], ◌∷◌, ◌++◌, Option, None, Some, ◌==◌, if◌then◌else◌}
+use Rattle.std.specs.Prelude.{◌≡◌, ℕ, zero, suc, true, false, List, [], ◌∷◌, ◌++◌, Option, None, Some, ◌==◌, if◌then◌else◌}
 use Rattle.patmos_code.specs.Images.{Parts}
 use Rattle.patmos_sem.specs.Bundles.{effect_of}
 use Rattle.patmos_sem.specs.Registers.{Registers}

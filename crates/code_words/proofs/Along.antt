@@ -1,6 +1,5 @@
 -- Along a walk: what holds of a run beside its core holds after each bundle, and of each load is said what is said of its word.
-use Rattle.std.proofs.Common.{◌≡◌, ℕ, ◌==◌, true, false, List, [], ◌∷◌, ◌++◌, Option, Some, refl, sym, ap, ◌∙◌, subst}
-use Rattle.std.proofs.lemmas.Bool.{eqb-true, and_parts}
+use Rattle.std.proofs.Common.{◌≡◌, ℕ, true, false, List, [], ◌∷◌, ◌++◌, Option, Some, refl, sym, ap, ◌∙◌, subst}
 use Rattle.local_store.specs.declared.map.Cell.{Cell}
 use Rattle.patmos_instr.specs.Bundles.{Slots}
 use Rattle.patmos_sem.specs.Bundles.{after_bundle, effect_of}
@@ -10,7 +9,7 @@ use Rattle.patmos_sem.specs.declared.effects.FlowKind.{FlowKind}
 use Rattle.patmos_model.specs.declared.fetched.Fetched.TheVariants.{Found}
 use Rattle.patmos_model.specs.declared.flow.Goal.{Goal}
 use Rattle.patmos_model.specs.declared.flow.Goal.TheVariants as goal
-use Rattle.patmos_model.specs.Bundle.{fetched_at, advanced, answered, bundle}
+use Rattle.patmos_model.specs.Bundle.{fetched_at, advanced}
 use Rattle.patmos_model.specs.State.{Core, with_plain}
 use Rattle.core_pace.specs.Moment.{Moment, core_in, fetched_in}
 use Rattle.core_pace.specs.Next.{bundled, all_moved, next}
@@ -26,9 +25,10 @@ use Rattle.tc_link.specs.Walk.{Walk, Does, Fetches, due, flowed, bundle_done, Is
 use Rattle.code_core.specs.Goes.{by_stack, Goes, pending_value, asked_in, given_by, given, loads_from, onwards, Stands}
 use Rattle.code_core.specs.Held.{HoldsStack}
 use Rattle.code_core.specs.Sound.{IsSound, AreSound, bundles_in}
-use Rattle.code_core.proofs.BundleDone.{Steps, steps, same_stack, bundle_is}
+use Rattle.code_core.proofs.BundleDone.{Steps, steps, same_stack, comes_by}
 use Rattle.code_core.proofs.Faults.{sound_passes}
 use Rattle.code_core.proofs.Landing.{StartsBehind}
+use Rattle.code_core.proofs.Outcome.{Outcome}
 use Rattle.code_core.proofs.Trailed.{flowed_again, flowed_loads, placed_again, placed_first, said_same, sound_same, no_place}
 use Rattle.code_words.specs.Own.{AllPass}
 use Rattle.code_words.proofs.Saying.{OfLoad, OfLoads, of_first}
@@ -47,9 +47,9 @@ module _ (n core : ℕ) (x : Core) (values : List ℕ) where
   pub record Doing (w : Walk) (b : Slots) (words : ℕ) (m : Moment) : Type 0 where
     pub asks : effect_of b (flowed w).run.regs ≡ effect_of b (core_in m).plain.regs
     pub sound : IsSound (core_in m).plain.site (effect_of b (core_in m).plain.regs) (pointers_of (flowed w).run) (flowed w).run.memory
-    pub acts : bundle m.cycle (core_in m) ≡ answered (effect_of b (core_in m).plain.regs) m.cycle (with_plain (advanced words b) (core_in m))
     pub stack : HoldsStack (entered (flowed w).run b (core_in m)) (core_in m).plain.stack (core_in m).plain.private
-    pub idle : (core_in m).plain.transfer.words ≡ 0
+    pub comes : Outcome (effect_of b (core_in m).plain.regs) (with_plain (advanced words b) (core_in m)) m.told.own (core_in (all_moved n core (bundled n core m)))
+        (all_moved n core (bundled n core m)).told.own
     pub late_is : late by_stack b (flowed w).run ≡ effected by_stack (effect_of b (core_in m).plain.regs) (entered (flowed w).run b (core_in m))
     pub moved : (core_in (all_moved n core (bundled n core m))).plain.transfer.words ≡ 0
 
@@ -61,10 +61,9 @@ module _ (n core : ℕ) (x : Core) (values : List ℕ) where
   doing w b m st f sound = record {
     asks = asks;
     sound = sound_there;
-    acts = bundle_is c m.cycle f.bundle f.words (found_there w b m st f)
-        (sound_passes (effect_of f.bundle c.plain.regs) v.run c.plain s st.goes.ports sound_there (λ flow is. no_fault f.bundle flow v c.plain st.goes.is_as f.alone is));
     stack = same_stack v.run (entered v.run f.bundle c) c.plain refl refl refl s;
-    idle = eqb-true c.plain.transfer.words 0 (and_parts (c.plain.transfer.words == 0) (c.plain.free == m.cycle) st.at.about.free).0;
+    comes = comes_by n core m (entered v.run f.bundle c) f.bundle f.words st.at.about (found_there w b m st f) sound_there
+        (sound_passes (effect_of f.bundle c.plain.regs) v.run c.plain s st.goes.ports sound_there (λ flow is. no_fault f.bundle flow v c.plain st.goes.is_as f.alone is));
     late_is = λ i. effected by_stack (effect_of f.bundle (st.goes.is_as.regs i)) (record v.run { regs = after_bundle (s.st i) (s.ss i) f.bundle (st.goes.is_as.regs i) });
     moved = (is_behind n core x values m st.at).words;
   }

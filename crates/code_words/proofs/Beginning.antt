@@ -1,19 +1,14 @@
--- From a task's begin on: what is so of its core at first is so before its first bundle, and is carried along all of its bundles.
-use Rattle.std.proofs.Common.{◌≡◌, ℕ, ◌-◌, List, [], Option, Some, refl, sym, ap, ◌∙◌, subst}
+-- From a task's begin on: what holds before its first bundle is carried along all of its bundles.
+use Rattle.std.proofs.Common.{◌≡◌, ℕ, List, Option, Some, refl, sym, subst}
 use Rattle.local_store.specs.declared.map.Cell.{Cell}
-use Rattle.shared_order.specs.declared.operation.Operation.{Operation}
 use Rattle.patmos_sem.specs.declared.effects.Effect.{Effect}
-use Rattle.patmos_model.specs.Begin.{begun, entry}
-use Rattle.patmos_model.specs.Site.{Site, method_at}
-use Rattle.patmos_model.specs.State.{Core}
+use Rattle.patmos_model.specs.Begin.{begun}
+use Rattle.patmos_model.specs.Site.{Site}
 use Rattle.patmos_model.specs.declared.flow.Goal.{Goal}
 use Rattle.patmos_model.specs.declared.flow.Goal.TheVariants as goal
-use Rattle.core_pace.specs.Moment.{Moment, core_in, interfaced, before}
-use Rattle.core_pace.specs.Next.{freed}
+use Rattle.core_pace.specs.Moment.{Moment}
 use Rattle.core_pace.specs.Run.{after_bundles}
 use Rattle.core_pace.specs.Spans.{IsSlotted}
-use Rattle.core_pace.proofs.Listed.{waited_own}
-use Rattle.core_pace.proofs.Waits.{interface_apart, waited_same}
 use Rattle.sp_shape.specs.Memory.{Memory}
 use Rattle.sp_shape.specs.Run.{Run, Back, at_begin}
 use Rattle.sp_shape.specs.Trail.{Step}
@@ -22,26 +17,12 @@ use Rattle.code_core.specs.Goes.{by_stack, loads_from}
 use Rattle.code_core.specs.Held.{HoldsPorts}
 use Rattle.code_core.specs.Sound.{AreSound, bundles_in}
 use Rattle.code_core.proofs.Beginning.{first, walk, stands_first, after_is}
-use Rattle.code_core.proofs.Landing.{Rests, StartsBehind, fetch_rests}
-use Rattle.code_core.proofs.Ports.{still_waited, still_interfaced}
+use Rattle.code_core.proofs.Landing.{StartsBehind}
 use Rattle.code_words.specs.Own.{AllPass}
-use Rattle.code_words.proofs.Acting.{OfBoth, settled_by, all_settles_by}
 use Rattle.code_words.proofs.Along.{Carries, Carried, along}
 use Rattle.code_words.proofs.Saying.{OfLoads}
 
 module _ (n core : ℕ) (site : Site) (input values : List ℕ) where
-  pub holds_first : (P : Core → List Operation → Type 0) → OfBoth P → P (begun site input) [] → P (core_in (first n core site input values)) (first n core site input values).told.own
-  holds_first P o h =
-      let z : Moment = before n core (begun site input) values 0 in
-      let m0 : Moment = interfaced n core z in
-      let m1 : Moment = freed n core m0 in
-      let wait : ℕ = (core_in m0).plain.free - m0.cycle in
-      let h0 : P (core_in m0) [] = o.same (core_in z) (core_in m0) [] (still_interfaced n core z (interface_apart n core z)) h in
-      let h1 : P (core_in m1) [] = o.same (core_in m0) (core_in m1) [] (still_waited n core wait m0) h0 in
-      let transfer : (core_in m1).plain.transfer ≡ (begun site input).plain.transfer =
-      ap (λ (c : Core). c.plain.transfer) (waited_same n core wait m0) ∙ ap (λ (c : Core). c.plain.transfer) (interface_apart n core z) in
-      all_settles_by n core P o m1 (settled_by (subst (P (core_in m1)) (sym (waited_own n core wait m0)) h1) (subst Rests (sym transfer) (fetch_rests [] (method_at site.image (entry site.image)))))
-
   module _ (Passes : Effect → Type 0) (Says : Option Cell → Memory → ℕ → Type 0) (Beside : Run → Moment → Type 0) (Ends : Moment → Type 0) where
     -- after the last bundle of the task, whose loads gave these
     pub record CarriedTo (steps : List Step) (m : Run) (e : Walk) : Type 0 where

@@ -1,17 +1,24 @@
 -- Along a walk the words that other cores reach too are the run's, where each of the task's own loads of them is true.
-use Rattle.std.proofs.Common.{◌≡◌, ℕ, zero, suc, Bool, true, false, List, [], inl, refl, sym, ap, ◌∙◌, subst, append-nil}
+use Rattle.std.proofs.Common.{◌≡◌, ℕ, zero, suc, ◌-◌, Bool, true, false, List, [], ◌++◌, inl, refl, sym, ap, ◌∙◌, subst, append_assoc, append-nil}
 use Rattle.slot_arbiter.specs.Stamp.{stamp}
 use Rattle.shared_order.specs.declared.operation.Operation.{Operation}
+use Rattle.shared_order.specs.Program.{Prog, and_then, fed}
 use Rattle.shared_order.specs.Words.{after, Sees}
 use Rattle.shared_order.proofs.Words.{sees_first}
 use Rattle.patmos_instr.specs.Bundles.{Slots}
 use Rattle.patmos_sem.specs.Bundles.{effect_of}
 use Rattle.patmos_sem.specs.declared.effects.Effect.{Effect}
 use Rattle.patmos_model.specs.Bundle.{advanced, bundle}
+use Rattle.patmos_model.specs.Bursts.{slots_of}
+use Rattle.patmos_model.specs.Cells.{Acted}
+use Rattle.patmos_model.specs.Cycle.{settled}
+use Rattle.patmos_model.specs.Transaction.{transaction}
 use Rattle.patmos_model.specs.Site.{Site}
 use Rattle.patmos_model.specs.State.{Core, with_plain, is_running}
 use Rattle.core_pace.specs.Moment.{Moment, core_in}
-use Rattle.core_pace.specs.Next.{bundled, landing, all_moved, next}
+use Rattle.core_pace.specs.Next.{acting, bundled, landing, transacted, waited, until, moved_once, moved, freed, all_moved, next}
+use Rattle.core_pace.specs.Spans.{start_in}
+use Rattle.core_pace.proofs.Listed.{waited_own}
 use Rattle.core_pace.specs.Run.{onward}
 use Rattle.sp_shape.specs.Pointers.{pointers_of}
 use Rattle.sp_shape.specs.Run.{Run, effected, late}
@@ -23,10 +30,11 @@ use Rattle.code_core.proofs.BundleDone.{next_pending}
 use Rattle.code_core.proofs.Landing.{landed_pending}
 use Rattle.code_words.specs.Board.{HoldsBoard}
 use Rattle.code_words.specs.Own.{AreOwn, KeepsApart}
-use Rattle.code_words.proofs.Acting.{LeavesBy, Done, OfBoth, SettlesBy, settled_by, all_settles_by, acting_by, IsPrefix, prefix_then, all_moved_grows, bundled_grows}
+use Rattle.code_core.proofs.Settled.{OfBoth, settled_by, all_settles_by}
 use Rattle.code_words.proofs.Along.{entered, Doing, doing, Behind, Carries}
-use Rattle.code_words.proofs.Beginning.{holds_first}
-use Rattle.code_words.proofs.BoardWords.{ComesBoard, Told, told_of_both, answers_board}
+use Rattle.code_core.proofs.Beginning.{holds_first}
+use Rattle.code_core.proofs.Outcome.{Made}
+use Rattle.code_words.proofs.BoardWords.{Tells, board_left}
 use Rattle.code_words.proofs.Saying.{IsBoardWord, OfLoad, of_pending}
 
 -- the operations depend on no transfer
@@ -40,23 +48,49 @@ none_made n core site input values = holds_first n core site input values (λ c 
 -- ---- what was made stays made
 
 module _ (n core : ℕ) where
-  next_grows : (m : Moment) → IsPrefix n core m.told.own (next n core m).told.own
+  abbrev IsPrefix : List Operation → List Operation → Type 0
+  IsPrefix xs ys = (more : List Operation) × (ys ≡ xs ++ more)
+
+  prefix_then : (xs ys zs : List Operation) → IsPrefix xs ys → IsPrefix ys zs → IsPrefix xs zs
+  prefix_then xs ys zs a b = (a.0 ++ b.0, b.1 ∙ ap (λ l. l ++ b.0) a.1 ∙ append_assoc xs a.0 b.0)
+
+  acting_grows : (p : Prog Acted) (m : Moment) → IsPrefix m.told.own (acting n core p m).told.own
+  acting_grows p m = ((fed (stamp n core m.cycle 1) (and_then p settled) m.told.run.left).ops, refl)
+
+  waited_grows : (d : ℕ) (m : Moment) → IsPrefix m.told.own (waited n core d m).told.own
+  waited_grows d m = ([], waited_own n core d m ∙ sym (append-nil m.told.own))
+
+  moved_grows : (count : ℕ) (m : Moment) → IsPrefix m.told.own (moved n core count m).told.own
+  moved_grows zero m = ([], sym (append-nil m.told.own))
+  moved_grows (suc count) m =
+      let wait : ℕ = start_in (core_in m).plain.site m.cycle - m.cycle in
+      let at : Moment = until n core (start_in (core_in m).plain.site m.cycle) m in
+      let a = prefix_then m.told.own at.told.own (transacted n core at).told.own (waited_grows wait m) (acting_grows (transaction at.cycle (core_in at)) at) in
+      let b = prefix_then m.told.own (transacted n core at).told.own (moved_once n core m).told.own a (waited_grows (core_in m).plain.site.slot (transacted n core at)) in
+      prefix_then m.told.own (moved_once n core m).told.own (moved n core count (moved_once n core m)).told.own b (moved_grows count (moved_once n core m))
+
+  all_moved_grows : (m : Moment) → IsPrefix m.told.own (all_moved n core m).told.own
+  all_moved_grows m =
+      let z : Moment = moved n core (slots_of (core_in m).plain.transfer.words) m in
+      prefix_then m.told.own z.told.own (freed n core z).told.own (moved_grows (slots_of (core_in m).plain.transfer.words) m) (waited_grows ((core_in z).plain.free - z.cycle) z)
+
+  next_grows : (m : Moment) → IsPrefix m.told.own (next n core m).told.own
   next_grows m =
       let b : Moment = bundled n core m in
       let a : Moment = all_moved n core b in
-      prefix_then n core m.told.own a.told.own (next n core m).told.own
-      (prefix_then n core m.told.own b.told.own a.told.own (bundled_grows n core (bundle m.cycle (core_in m)) m) (all_moved_grows n core b)) (all_moved_grows n core (landing a))
+      prefix_then m.told.own a.told.own (next n core m).told.own
+      (prefix_then m.told.own b.told.own a.told.own (acting_grows (bundle m.cycle (core_in m)) m) (all_moved_grows b)) (all_moved_grows (landing a))
 
-  onward_grows : (m : Moment) → IsPrefix n core m.told.own (onward n core m).told.own
+  onward_grows : (m : Moment) → IsPrefix m.told.own (onward n core m).told.own
   onward_grows m = by (is_running (core_in m).plain)
     where
-      by : (b : Bool) → IsPrefix n core m.told.own (elim b as (λ _. Moment) [ true ↦ next n core m | false ↦ m ]).told.own
+      by : (b : Bool) → IsPrefix m.told.own (elim b as (λ _. Moment) [ true ↦ next n core m | false ↦ m ]).told.own
       by true = next_grows m
       by false = ([], sym (append-nil m.told.own))
 
-  onwards_grows : (count : ℕ) (m : Moment) → IsPrefix n core m.told.own (onwards n core count m).told.own
+  onwards_grows : (count : ℕ) (m : Moment) → IsPrefix m.told.own (onwards n core count m).told.own
   onwards_grows zero m = ([], sym (append-nil m.told.own))
-  onwards_grows (suc count) m = prefix_then n core m.told.own (onward n core m).told.own (onwards n core count (onward n core m)).told.own (onward_grows m) (onwards_grows count (onward n core m))
+  onwards_grows (suc count) m = prefix_then m.told.own (onward n core m).told.own (onwards n core count (onward n core m)).told.own (onward_grows m) (onwards_grows count (onward n core m))
 
 module _ (n core : ℕ) (x : Core) (values : List ℕ) (Cached : ℕ → Type 0) (are_own : AreOwn Cached) (world : ℕ → ℕ) (board : ℕ) (place_is : x.plain.site.core ≡ board) where
   -- a run's words are those that the task's own stores left of the world
@@ -74,9 +108,9 @@ module _ (n core : ℕ) (x : Core) (values : List ℕ) (Cached : ℕ → Type 0)
       → BoardBeside (flowed w).run m → TrueSoFar (next n core m)
       → Behind n core x values (KeepsApart Cached) IsBoardWord BoardBeside TrueSoFar (effect_of f.bundle (flowed w).run.regs) (flowed w).run (late by_stack f.bundle (flowed w).run) m
   board_behind w b m st f sound apart h so = record {
-    beside = subst (λ (z : Run). BoardBeside z (next n core m)) (sym k.late_is) (subst (λ ops. HoldsBoard board r.memory (after ops world)) (sym own_is) comes.holds_board);
+    beside = subst (λ (z : Run). BoardBeside z (next n core m)) (sym k.late_is) (subst (λ ops. HoldsBoard board r.memory (after ops world)) (sym own_is) told.holds_board);
     says = subst (λ e. OfLoad IsBoardWord e (flowed w).run.memory (pending_value (core_in (next n core m)).plain.regs.pending)) (sym k.asks)
-        (of_pending IsBoardWord c.plain.site e (entered (flowed w).run f.bundle c) comes.value (core_in a).plain.regs (core_in (next n core m)).plain.regs d.plain.regs k.sound (next_pending n core m k.moved) comes.regs comes.own);
+        (of_pending IsBoardWord c.plain.site e (entered (flowed w).run f.bundle c) k.comes.value (core_in a).plain.regs (core_in (next n core m)).plain.regs d.plain.regs k.sound (next_pending n core m k.moved) k.comes.is_like.regs told.own);
   }
     where
       k : Doing n core x values w f.bundle f.words m
@@ -97,20 +131,13 @@ module _ (n core : ℕ) (x : Core) (values : List ℕ) (Cached : ℕ → Type 0)
       r : Run
       r = effected by_stack e (entered (flowed w).run f.bundle c)
 
-      Q : Core → List Operation → Type 0
-      Q = Told world board (OfLoad IsBoardWord e (flowed w).run.memory) e r.memory d.plain.regs
-
-      told : Q (core_in a) a.told.own
-      told = all_settles_by n core Q (told_of_both world board (OfLoad IsBoardWord e (flowed w).run.memory) e r.memory d.plain.regs) (bundled n core m)
-          (acting_by n core (SettlesBy Q) (bundle m.cycle c) m
-          (subst (λ p. LeavesBy (Done (SettlesBy Q)) (stamp n core m.cycle 1) p m.told.own) (sym k.acts)
-          (answers_board world board Cached are_own c.plain.site m.cycle (stamp n core m.cycle 1) (entered (flowed w).run f.bundle c) d (ap (λ (z : Site). z.core) st.site_is ∙ place_is) m.told.own (λ told. h) k.idle e k.sound (subst (KeepsApart Cached) k.asks apart))))
-
       own_is : (next n core m).told.own ≡ a.told.own
       own_is = all_settles_by n core (λ z ops. ops ≡ a.told.own) (made_of_both a.told.own) (landing a) (settled_by refl (landed_pending a.cycle (core_in a) (inl k.moved)).rests)
 
-      comes : ComesBoard board (OfLoad IsBoardWord e (flowed w).run.memory) e r.memory d.plain.regs (after a.told.own world) (core_in a)
-      comes = told (subst (λ ops. Sees world ops) own_is so)
+      told : Tells world board (OfLoad IsBoardWord e (flowed w).run.memory k.comes.value) r.memory a.told.own
+      told =
+          board_left world board Cached are_own c.plain.site (entered (flowed w).run f.bundle c) m.told.own (λ told. h) e k.comes.value a.told.own k.sound (subst (KeepsApart Cached) k.asks apart)
+          (subst (λ b. Made e b k.comes.value m.told.own a.told.own) (ap (λ (z : Site). z.core) st.site_is ∙ place_is) k.comes.made) (subst (λ ops. Sees world ops) own_is so)
 
   pub carries_board : Carries n core x values (KeepsApart Cached) IsBoardWord BoardBeside TrueSoFar
   carries_board = record { flows = λ f g. refl; begins = λ r m h. h; before = true_still; behind = board_behind }

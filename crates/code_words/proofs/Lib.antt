@@ -1,7 +1,6 @@
 pub mod Saying
 pub mod Lines
 pub mod OwnWords
-pub mod Acting
 pub mod BoardWords
 pub mod MayMake
 pub mod Along

@@ -17,7 +17,7 @@ use Rattle.sp_shape.specs.Run.{Run, Sources, first_load, late, begun}
 use Rattle.sp_shape.specs.Trail.{Step, does, begins}
 use Rattle.code_core.specs.Goes.{pending_value, given_by}
 use Rattle.code_core.specs.Sound.{IsSound}
-use Rattle.code_core.proofs.Effects.{regs_with}
+use Rattle.code_core.proofs.Outcome.{regs_with}
 
 -- where only the core itself can reach it, it is the run's
 abbrev pub IsOwnWord : Option Cell → Memory → ℕ → Type 0

@@ -11,7 +11,6 @@ use Rattle.local_store.specs.declared.map.Cell.TheVariants as cell
 use Rattle.stack_cache.specs.declared.slots.TheConstants.{STACK_CACHE_WORDS}
 use Rattle.stack_cache.specs.Stack.{Stack, reserved, spilled, missing, grown}
 use Rattle.argo_ni.specs.Interface.{port_to}
-use Rattle.argo_ni.specs.Start.{with_source, with_target, started}
 use Rattle.patmos_instr.specs.declared.functions.StackFunc.{StackFunc}
 use Rattle.patmos_instr.specs.declared.functions.StackFunc.TheVariants.{Sres, Sens, Sfree}
 use Rattle.patmos_instr.specs.declared.memories.Mem.TheVariants as mem
@@ -37,6 +36,7 @@ use Rattle.patmos_model.specs.Cells.{Acted, now, cell_of, reading, reading_line,
 use Rattle.patmos_model.specs.Checks.{fault_of}
 use Rattle.patmos_model.specs.Bundle.{ends, moves, advanced, words_from, with_words, refilled, stacked, cache_loaded, answered, done_as}
 use Rattle.patmos_model.specs.Transaction.{counted, moved, with_store, line_taken, line_address, transaction_then, transaction}
+use Rattle.patmos_model.proofs.Acts.{port_cases}
 use Rattle.patmos_model.proofs.Leaves.{Leaves}
 use Rattle.core_pace.specs.Next.{line_in}
 use Rattle.core_pace.specs.Pace.{Pace, Event, addresses, is_loaded, pace_of, asks, asks_cached, asks_stack, asked_by, with_line, event_of, bundle_event}
@@ -125,31 +125,11 @@ module _ (Few : Type 0) where
 
   -- the registers of the interface are none of the pace
   leaves_port : (target register value : ℕ) (c : Core) → LeavesOf Few c (pace_of c) (record { core = port_set target register value c; pending_store = None })
-  leaves_port target register value c = by (register == 0) (register == 4)
-    where
-      by : (b d : Bool) → LeavesOf Few c (pace_of c) (record {
-        core = elim b as (λ _. Core) [
-          | true ↦ with_plain (λ x. record x { interface = with_source target value x.interface }) c
-          | false ↦ elim d as (λ _. Core) [
-            | true ↦ with_plain (λ x. record x { interface = with_target target value x.interface }) c
-            | false ↦ record {
-              plain = record c.plain { interface = started target value c.plain.interface };
-              seen = record c.seen {
-                sendings = c.seen.sendings ++ record {
-                  target = target;
-                  from = (port_to c.plain.interface target).source;
-                  to = (port_to c.plain.interface target).target;
-                  count = value;
-                } ∷ [];
-              };
-            }
-          ]
-        ];
-        pending_store = None;
-      })
-      by true d = record { site_is = refl; status_is = refl; flow_is = refl; pace = refl; pending = λ few some. refl }
-      by false true = record { site_is = refl; status_is = refl; flow_is = refl; pace = refl; pending = λ few some. refl }
-      by false false = record { site_is = refl; status_is = refl; flow_is = refl; pace = refl; pending = λ few some. refl }
+  leaves_port target register value c =
+      port_cases (λ b e d. LeavesOf Few c (pace_of c) (record { core = d; pending_store = None })) target register value c
+      (λ e. record { site_is = refl; status_is = refl; flow_is = refl; pace = refl; pending = λ few some. refl })
+      (record { site_is = refl; status_is = refl; flow_is = refl; pace = refl; pending = λ few some. refl })
+      (record { site_is = refl; status_is = refl; flow_is = refl; pace = refl; pending = λ few some. refl })
 
   leaves_writing : (place : Option Cell) (width : StoreWidth) (address value : ℕ) (c : Core) → (Few → c.plain.transfer.words ≡ 0) → Leaves (LeavesOf Few c (pace_of c)) (writing place width address value c)
   leaves_writing None width address value c few = as_it_is c

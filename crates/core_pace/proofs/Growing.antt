@@ -12,7 +12,7 @@ use Rattle.patmos_instr.specs.declared.memories.Mem.TheVariants as mem
 use Rattle.patmos_sem.specs.declared.effects.Effect.{Effect}
 use Rattle.patmos_sem.specs.declared.effects.Effect.TheVariants as effect
 use Rattle.patmos_model.specs.declared.flow.Goal.{Goal}
-use Rattle.patmos_model.specs.declared.flow.Goal.TheVariants.{Within, Call, Fill, Return}
+use Rattle.patmos_model.specs.declared.flow.Goal.TheVariants.{Within}
 use Rattle.patmos_model.specs.State.{Core, is_running, is_free}
 use Rattle.patmos_model.specs.Cells.{Acted, now}
 use Rattle.patmos_model.specs.Flows.{flowed, gone}
@@ -20,14 +20,15 @@ use Rattle.patmos_model.specs.Bundle.{bundle, done_as}
 use Rattle.patmos_model.specs.Transaction.{transaction, is_due}
 use Rattle.patmos_model.specs.Cycle.{own, bundle_step, slot_step, if_running, settled, turn}
 use Rattle.patmos_model.specs.Apart.{Followed, followed, after_delivery, after_injection, after_own}
+use Rattle.patmos_model.proofs.Acts.{flow_kept}
 use Rattle.patmos_model.proofs.Leaves.{Leaves}
 use Rattle.patmos_model.proofs.Parts.{followed-run}
 use Rattle.core_pace.specs.Moment.{Done, Moment, core_in, landed, fetched_in, passes, interfaced, finished, before, Passes}
-use Rattle.core_pace.specs.Pace.{Pace, Event, pace_of, is_loaded, asks, asked_by, event_of, bundle_event, flow_event}
+use Rattle.core_pace.specs.Pace.{Pace, Event, pace_of, is_loaded, asks, asked_by, event_of, bundle_event}
 use Rattle.core_pace.specs.Growth.{below, IsSameTask}
 use Rattle.core_pace.specs.Run.{done_below}
 use Rattle.core_pace.proofs.Parts.{leaves_map, leaves_then, fed_leaves}
-use Rattle.core_pace.proofs.OwnActs.{Lands, stays, halts, goes, lands, asleep}
+use Rattle.core_pace.proofs.OwnActs.{asleep}
 use Rattle.core_pace.proofs.Answered.{LeavesAs, Bundles, traps, does, leaves_bundle, bursted, leaves_transaction}
 use Rattle.core_pace.proofs.Waits.{same_again, interface_apart, settled_leaves}
 
@@ -140,12 +141,8 @@ gone_accesses (Within offset) c = refl
 gone_accesses _ c = refl
 
 flowed_accesses : (c : Core) (u : ℕ) → (flowed u c).seen.accesses ≡ c.seen.accesses
-flowed_accesses c u = by (lands c u)
-  where
-    by : Lands u c (flowed u c) (flow_event u c.plain) → (flowed u c).seen.accesses ≡ c.seen.accesses
-    by (stays is none not_due) = ap (λ (d : Core). d.seen.accesses) is
-    by (halts free is none) = ap (λ (d : Core). d.seen.accesses) is
-    by (goes goal free is event) = ap (λ (d : Core). d.seen.accesses) is ∙ gone_accesses goal c
+flowed_accesses c u =
+    flow_kept (λ (d : Core). d.seen.accesses ≡ c.seen.accesses) (record { stops = λ d fault cycle h. h; goes = λ d goal h placed. gone_accesses goal d ∙ h }) u c refl
 
 -- the transactions grew so
 abbrev AccessesGrew : ℕ → Core → Acted → Type 0

@@ -5,7 +5,7 @@ use Rattle.slot_arbiter.specs.Slot.{is_slot_start}
 use Rattle.shared_order.specs.Program.{Prog, done, set, and_then}
 use Rattle.patmos_model.specs.declared.flow.Flow.{Flow}
 use Rattle.patmos_model.specs.declared.flow.Goal.{Goal}
-use Rattle.patmos_model.specs.declared.flow.Goal.TheVariants.{Within, Call, Fill, Return}
+use Rattle.patmos_model.specs.declared.flow.Goal.TheVariants.{Within}
 use Rattle.patmos_model.specs.declared.trap.Trap.TheVariants as trap
 use Rattle.patmos_model.specs.declared.state.Status.{Status}
 use Rattle.patmos_model.specs.declared.state.Status.TheVariants.{Idle, Running, Trapped}
@@ -16,6 +16,7 @@ use Rattle.patmos_model.specs.Bundle.{bundle}
 use Rattle.patmos_model.specs.Transaction.{transaction, is_due}
 use Rattle.patmos_model.specs.Flows.{flowed, taken, gone, is_placed}
 use Rattle.patmos_model.specs.Cycle.{own, bundle_step, slot_step, if_running, settled}
+use Rattle.patmos_model.proofs.Acts.{Turns, flow_kept}
 use Rattle.patmos_model.proofs.Leaves.{Leaves}
 use Rattle.patmos_model.proofs.Parts.{in_line}
 use Rattle.patmos_model.proofs.Waits.{none_right, none_left, words_test, stopped_own, flow_waits, bundle_waits, bundle_if_running, slot_waits}
@@ -62,6 +63,14 @@ landed_stopped c u is = ap (λ b. elim b as (λ _. Core) [ true ↦ flowed u c |
 
 pub landed_running : (c : Core) (u : ℕ) → is_running c.plain ≡ true → landed u c ≡ flowed u c
 landed_running c u is = ap (λ b. elim b as (λ _. Core) [ true ↦ flowed u c | false ↦ c ]) is
+
+-- what traps and flows keep holds once one has taken effect
+pub landed_kept : (P : Core → Type 0) → Turns P → (u : ℕ) (c : Core) → P c → P (landed u c)
+landed_kept P t u c h = by (is_running c.plain)
+  where
+    by : (b : Bool) → P (elim b as (λ _. Core) [ true ↦ flowed u c | false ↦ c ])
+    by true = flow_kept P t u c h
+    by false = h
 
 landed_busy : (c : Core) (u : ℕ) → is_free u c.plain ≡ false → landed u c ≡ c
 landed_busy c u busy = by (is_running c.plain) refl

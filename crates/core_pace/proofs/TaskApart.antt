@@ -1,5 +1,5 @@
 -- The task by itself is the run apart without what its interface reads.
-use Rattle.std.proofs.Common.{◌≡◌, ℕ, zero, suc, ◌+◌, ◌==◌, Bool, true, false, List, [], ◌++◌, filter, refl, sym, ap, ◌∙◌, append_assoc, append-nil}
+use Rattle.std.proofs.Common.{◌≡◌, ℕ, zero, suc, ◌==◌, Bool, true, false, List, [], ◌++◌, filter, refl, sym, ap, ◌∙◌, append_assoc, append-nil}
 use Rattle.slot_arbiter.specs.Stamp.{stamp}
 use Rattle.shared_order.specs.Operation.{loads}
 use Rattle.shared_order.specs.Program.{Prog, done, gets, and_then, Fed, fed}

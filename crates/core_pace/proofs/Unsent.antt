@@ -9,7 +9,7 @@ use Rattle.argo_ni.specs.declared.event.Started.{Started}
 use Rattle.argo_ni.specs.declared.event.Started.TheVariants.{Begun, Dropped, Refused}
 use Rattle.argo_ni.specs.Interface.{Interface, port_to}
 use Rattle.argo_ni.specs.Packet.{comm_word}
-use Rattle.argo_ni.specs.Start.{with_source, with_target, answer_to, started_by, started}
+use Rattle.argo_ni.specs.Start.{answer_to, started_by, started}
 use Rattle.patmos_instr.specs.declared.functions.StackFunc.{StackFunc}
 use Rattle.patmos_instr.specs.declared.functions.StackFunc.TheVariants.{Sres, Sens, Sfree}
 use Rattle.patmos_instr.specs.declared.memories.Mem.TheVariants as mem
@@ -38,6 +38,7 @@ use Rattle.patmos_model.specs.Checks.{fault_of}
 use Rattle.patmos_model.specs.Bundle.{ends, moves, advanced, with_words, refilled, stacked, cache_loaded, answered, done_as, bundle}
 use Rattle.patmos_model.specs.Transaction.{counted, moved, with_store, line_taken, line_address, transaction_then, transaction, is_due}
 use Rattle.patmos_model.specs.Cycle.{own, bundle_step, slot_step, if_running, settled}
+use Rattle.patmos_model.proofs.Acts.{with_start, port_by}
 use Rattle.patmos_model.proofs.Leaves.{Leaves}
 use Rattle.stack_cache.specs.Stack.{reserved, spilled, missing}
 use Rattle.patmos_model.proofs.Parts.{in_line}
@@ -90,39 +91,11 @@ forgets_start target value x = by (answer_to (port_to x target) value)
 forgets_port : (target register value : ℕ) (c : Core) → port_set target register value (unsent c) ≡ unsent (port_set target register value c)
 forgets_port target register value c = by (register == 0) (register == 4)
   where
-    set_by : Bool → Bool → Core → Core
-    set_by b d z = elim b as (λ _. Core) [
-      | true ↦ with_plain (λ x. record x { interface = with_source target value x.interface }) z
-      | false ↦ elim d as (λ _. Core) [
-        | true ↦ with_plain (λ x. record x { interface = with_target target value x.interface }) z
-        | false ↦ record {
-          plain = record z.plain { interface = started target value z.plain.interface };
-          seen = record z.seen {
-            sendings = z.seen.sendings ++ record {
-              target = target;
-              from = (port_to z.plain.interface target).source;
-              to = (port_to z.plain.interface target).target;
-              count = value;
-            } ∷ [];
-          };
-        }
-      ]
-    ]
-
-    by : (b d : Bool) → set_by b d (unsent c) ≡ unsent (set_by b d c)
+    by : (b d : Bool) → port_by b d target value (unsent c) ≡ unsent (port_by b d target value c)
     by true d = refl
     by false true = refl
-    by false false = ap (λ (i : Interface). record {
-      plain = record c.plain { interface = i };
-      seen = record c.seen {
-        sendings = c.seen.sendings ++ record {
-          target = target;
-          from = (port_to c.plain.interface target).source;
-          to = (port_to c.plain.interface target).target;
-          count = value;
-        } ∷ [];
-      };
-    }) (forgets_start target value c.plain.interface)
+    by false false =
+        ap (λ (i : Interface). let z : Core = with_start target value c in record z { plain = record z.plain { interface = i } }) (forgets_start target value c.plain.interface)
 
 forgets_writing : (place : Option Cell) (width : StoreWidth) (address value : ℕ) (c : Core) → Forgets (writing place width address value (unsent c)) (writing place width address value c)
 forgets_writing (Some (cell.Comm word)) width address value c = forgets_storing (comm_word c.plain.site.core word) width address value c

@@ -1,10 +1,10 @@
 -- What the caches and memories of a core hold stays words.
-use Rattle.std.proofs.Common.{◌≡◌, ℕ, zero, suc, ◌+◌, ◌-◌, ◌/◌, ◌==◌, ◌&&◌, Bool, true, false, nat_le, nat_lt, List, [], ◌∷◌, length, reverse, take, drop, replicate, Some, None, slice_index, slice_set, if◌then◌else◌, subst, sym, arith}
+use Rattle.std.proofs.Common.{◌≡◌, ℕ, zero, suc, ◌+◌, ◌-◌, ◌/◌, ◌==◌, ◌&&◌, Bool, true, false, nat_le, nat_lt, List, [], ◌∷◌, length, reverse, replicate, Some, None, slice_index, if◌then◌else◌, subst, sym, arith}
 use Rattle.std.specs.List.{AllByRecursion as Each}
 use Rattle.std.proofs.lemmas.Grind.{reverse_onto}
 use Rattle.std.proofs.lemmas.Option.{cond_some}
 use Rattle.shared_order.specs.Words.{put}
-use Rattle.shared_order.proofs.Lists.{each-append, each_take, each_drop, each_set}
+use Rattle.shared_order.proofs.Lists.{each-append, each_take, each_drop}
 use Rattle.data_cache.specs.Accesses as cache
 use Rattle.stack_cache.specs.Stack.{Stack, grown, reserved, spilled, freed}
 use Rattle.patmos_model.specs.Range.{IsWord, AccessFits}

@@ -7,5 +7,6 @@ pub mod HeldWords
 pub mod NarrowWords
 pub mod RegisterWords
 pub mod CellRanges
+pub mod Acts
 pub mod CoreRanges
 pub mod Moved
